@@ -1,0 +1,155 @@
+-- The orders of keys, stamps and ranks are strict and total, and the tests decide them.
+use Rattle.std.proofs.Common.{◌≡◌, ℕ, ◌<◌, ◌⊎◌, inl, inr, arith, true, sym, ◌∙◌}
+use Rattle.std.proofs.lemmas.Bool.Decides.{nat_tests}
+use Rattle.std.proofs.lemmas.Bool.{cases_order}
+use Rattle.vt_key.specs.declared.order.Key.{Key}
+use Rattle.vt_key.specs.declared.order.Stamp.{Stamp}
+use Rattle.vt_key.specs.declared.order.Rank.{Rank}
+use Rattle.vt_key.specs.Order.{KeyBefore, StampBefore, RankBefore, key_before, key_same, stamp_before, stamp_same, IsStrictTotal}
+
+-- ---- keys
+
+pub key-irreflexive : (a : Key) → KeyBefore a a → ⊥
+key-irreflexive a h = grind arith
+
+pub key-transitive : (a b c : Key) → KeyBefore a b → KeyBefore b c → KeyBefore a c
+key-transitive a b c h k = grind arith
+
+pub key-asymmetric : (a b : Key) → KeyBefore a b → KeyBefore b a → ⊥
+key-asymmetric a b h k = grind arith
+
+-- of two numbers one is less, or they are one
+apart : (a b : ℕ) → (a < b) ⊎ ((a ≡ b) ⊎ (b < a))
+apart a b = elim (cases_order a b) [ inl e ↦ inr (inl e) | inr h ↦ elim h [ inl l ↦ inl l | inr l ↦ inr (inr l) ] ]
+
+same_fields : (a b : Key) → a.time ≡ b.time → a.source ≡ b.source → a.number ≡ b.number → a ≡ b
+same_fields a b e f g = λ i. record { time = e i; source = f i; number = g i }
+
+pub key-total : (a b : Key) → KeyBefore a b ⊎ ((a ≡ b) ⊎ KeyBefore b a)
+key-total a b =
+    elim (apart a.time b.time) [
+      | inl h ↦ inl (inl h)
+      | inr h ↦ elim h [
+        | inr k ↦ inr (inr (inl k))
+        | inl e ↦
+            elim (apart a.source b.source) [
+              | inl h ↦ inl (inr (e, inl h))
+              | inr h ↦ elim h [
+                | inr k ↦ inr (inr (inr (sym e, inl k)))
+                | inl f ↦
+                    elim (apart a.number b.number) [
+                      | inl h ↦ inl (inr (e, inr (f, h)))
+                      | inr h ↦ elim h [
+                        | inr k ↦ inr (inr (inr (sym e, inr (sym f, k))))
+                        | inl g ↦
+                            inr (inl (same_fields a b e f g))
+                      ]
+                    ]
+              ]
+            ]
+      ]
+    ]
+
+pub key_before-true : (a b : Key) → key_before a b ≡ true → KeyBefore a b
+unfolding key_before
+key_before-true a b h = grind (arith, nat_tests)
+
+pub before-key_before : (a b : Key) → KeyBefore a b → key_before a b ≡ true
+unfolding key_before
+before-key_before a b h = grind (arith, nat_tests)
+
+pub key_same-true : (a b : Key) → key_same a b ≡ true → a ≡ b
+unfolding key_same
+key_same-true a b h =
+    let e : a.time ≡ b.time = grind (arith, nat_tests) in
+    let f : a.source ≡ b.source = grind (arith, nat_tests) in
+    let g : a.number ≡ b.number = grind (arith, nat_tests) in
+    same_fields a b e f g
+
+pub same-key_same : (a : Key) → key_same a a ≡ true
+unfolding key_same
+same-key_same a = grind (arith, nat_tests)
+
+-- ---- stamps
+
+pub stamp-irreflexive : (a : Stamp) → StampBefore a a → ⊥
+stamp-irreflexive a h = grind arith
+
+pub stamp-transitive : (a b c : Stamp) → StampBefore a b → StampBefore b c → StampBefore a c
+stamp-transitive a b c h k = grind arith
+
+pub stamp-total : (a b : Stamp) → StampBefore a b ⊎ ((a ≡ b) ⊎ StampBefore b a)
+stamp-total a b =
+    elim (apart a.worker b.worker) [
+      | inl h ↦ inl (inl h)
+      | inr h ↦ elim h [
+        | inr k ↦ inr (inr (inl k))
+        | inl e ↦
+            elim (apart a.serial b.serial) [
+              | inl h ↦ inl (inr (e, h))
+              | inr h ↦ elim h [
+                | inr k ↦ inr (inr (inr (sym e, k)))
+                | inl f ↦
+                    inr (inl (λ i. record { worker = e i; serial = f i }))
+              ]
+            ]
+      ]
+    ]
+
+pub stamp_before-true : (a b : Stamp) → stamp_before a b ≡ true → StampBefore a b
+unfolding stamp_before
+stamp_before-true a b h = grind (arith, nat_tests)
+
+pub before-stamp_before : (a b : Stamp) → StampBefore a b → stamp_before a b ≡ true
+unfolding stamp_before
+before-stamp_before a b h = grind (arith, nat_tests)
+
+pub stamp_same-true : (a b : Stamp) → stamp_same a b ≡ true → a ≡ b
+unfolding stamp_same
+stamp_same-true a b h =
+    let e : a.worker ≡ b.worker = grind (arith, nat_tests) in
+    let f : a.serial ≡ b.serial = grind (arith, nat_tests) in
+    λ i. record { worker = e i; serial = f i }
+
+pub same-stamp_same : (a : Stamp) → stamp_same a a ≡ true
+unfolding stamp_same
+same-stamp_same a = grind (arith, nat_tests)
+
+-- ---- ranks
+
+pub rank-irreflexive : (a : Rank) → RankBefore a a → ⊥
+rank-irreflexive a h = grind arith
+
+pub rank-transitive : (a b c : Rank) → RankBefore a b → RankBefore b c → RankBefore a c
+rank-transitive a b c h k = elim h [
+  | inl l ↦ elim k [ inl m ↦ inl (key-transitive a.key b.key c.key l m) | inr m ↦ inl (rw (sym m.0) l) ]
+  | inr l ↦ elim k [ inl m ↦ inl (rw l.0 m) | inr m ↦ inr (l.0 ∙ m.0, stamp-transitive a.stamp b.stamp c.stamp l.1 m.1) ]
+]
+
+pub rank-total : (a b : Rank) → RankBefore a b ⊎ ((a ≡ b) ⊎ RankBefore b a)
+rank-total a b = elim (key-total a.key b.key) [
+  | inl h ↦ inl (inl h)
+  | inr h ↦ elim h [
+    | inr k ↦ inr (inr (inl k))
+    | inl e ↦
+        elim (stamp-total a.stamp b.stamp) [
+          | inl l ↦ inl (inr (e, l))
+          | inr l ↦ elim l [
+            | inr m ↦ inr (inr (inr (sym e, m)))
+            | inl f ↦
+                inr (inl (λ i. record { key = e i; stamp = f i }))
+          ]
+        ]
+  ]
+]
+
+-- ---- the three laws
+
+pub keys : IsStrictTotal KeyBefore
+keys = record { irreflexive = key-irreflexive; transitive = key-transitive; total = key-total }
+
+pub stamps : IsStrictTotal StampBefore
+stamps = record { irreflexive = stamp-irreflexive; transitive = stamp-transitive; total = stamp-total }
+
+pub ranks : IsStrictTotal RankBefore
+ranks = record { irreflexive = rank-irreflexive; transitive = rank-transitive; total = rank-total }

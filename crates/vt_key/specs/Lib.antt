@@ -1,0 +1,4 @@
+pub mod Faults
+pub mod Letters
+pub mod Order
+pub mod Times

@@ -1,0 +1,16 @@
+//! What all of the simulator speaks of: virtual times, keys, stamps, ranks, events, letters, mail, and the faults of
+//! its calls.
+#![tactic(auto)]
+
+mod fault;
+mod letter;
+mod order;
+
+pub use fault::Fault;
+pub use letter::{Colour, Event, Letter, Mail, Ranked, Sign};
+pub use order::{Key, Rank, Stamp, orders_are_total};
+
+/// A virtual time: a whole number of ticks from 0. An event is executed at its receive time.
+///
+/// Virtual time is Jefferson's (Virtual Time, ACM TOPLAS 7(3), 1985).
+pub type Time = u64;
