@@ -6,7 +6,7 @@ use Rattle.vt_model.specs.Sequential.{after_steps, events_of, whole_run, numbers
 use Rattle.vt_model.proofs.LawLemmas.{lawful_of}
 use Rattle.vt_seq.proofs.StepLemmas.{nothing_left, nil_of}
 use Rattle.vt_model.proofs.EndLemmas.{executed_all}
-use Rattle.vt_seq.proofs.run.Sequential.finals.Goals as goal
+use Rattle.vt_seq.proofs.engine.Engine.finals.Goals as goal
 
 pub returns-clause-values : goal.returns-clause-values
 returns-clause-values g c =

@@ -2,7 +2,7 @@ use Rattle.std.proofs.Common.{◌≡◌, ℕ, map}
 use Rattle.vt_model.specs.Simulation.{simulation_of, after}
 use Rattle.vt_model.specs.Sequential.{after_steps, events_of, numbers_below}
 use Rattle.vt_seq.specs.StandsFor.{StandsAt}
-use Rattle.vt_seq.proofs.run.Sequential.finals.Given as goal
+use Rattle.vt_seq.proofs.engine.Engine.finals.Given as goal
 
 abbrev pub invariant-loop-p : goal.invariant-loop-p
 invariant-loop-p g l =

@@ -3,7 +3,7 @@ use Rattle.vt_model.specs.Simulation.{simulation_of}
 use Rattle.vt_key.specs.declared.limits.TheConstants.{MAX_COUNT}
 use Rattle.vt_model.specs.Process.{IsProcessStream}
 use Rattle.vt_seq.proofs.StartLemmas.{AllStarted}
-use Rattle.vt_seq.proofs.run.Sequential.new.Given as goal
+use Rattle.vt_seq.proofs.engine.Engine.new.Given as goal
 
 abbrev pub invariant-loop-p : goal.invariant-loop-p
 invariant-loop-p g l = record {
