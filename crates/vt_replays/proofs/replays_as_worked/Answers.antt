@@ -1,0 +1,17 @@
+use Rattle.vt_replays.proofs.Computed.{computed}
+use Rattle.vt_replays.proofs.replays_as_worked.Goals as goal
+
+pub returns-clause-straggler_at_equal_time : goal.returns-clause-straggler_at_equal_time
+returns-clause-straggler_at_equal_time c = computed.0
+
+pub returns-clause-anti_message_before_its_event : goal.returns-clause-anti_message_before_its_event
+returns-clause-anti_message_before_its_event c = computed.1
+
+pub returns-clause-new_event_before_anti_message_and_old_event : goal.returns-clause-new_event_before_anti_message_and_old_event
+returns-clause-new_event_before_anti_message_and_old_event c = computed.2
+
+pub returns-clause-unequal_counts : goal.returns-clause-unequal_counts
+returns-clause-unequal_counts c = computed.3
+
+pub returns-clause-travelling_letter_of_the_new_colour_is_the_least : goal.returns-clause-travelling_letter_of_the_new_colour_is_the_least
+returns-clause-travelling_letter_of_the_new_colour_is_the_least c = computed.4
