@@ -6,3 +6,7 @@ pub mod Changes
 pub mod Shape
 pub mod Balance
 pub mod Everywhere
+pub mod CellLemmas
+pub mod Refusals
+pub mod Locals
+pub mod Annihilation
