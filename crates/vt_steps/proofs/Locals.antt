@@ -9,7 +9,7 @@ use Rattle.vt_steps.specs.PartSteps.{execute, undo, cancel, home, accept}
 use Rattle.vt_steps.specs.Next.{Outcome, done_or_refused, with_part, locally, next}
 use Rattle.vt_steps.specs.Cells.{worker_of, is_local}
 use Rattle.vt_steps.specs.Laws.{ChangesOnePart}
-use Rattle.vt_steps.proofs.Sums.{get_put_other}
+use Rattle.vt_steps.proofs.Places.{get-put_other}
 
 -- only the part of w is another
 record OnlyPart {P : Type 0} (world : World P) (w : ℕ) (new : World P) : Type 0 where
@@ -23,7 +23,7 @@ locally-only {P = P} world w step = by_result (option_and_then step (slice_get w
   where
     by_result : (o : Option (Part P)) → OnlyPart world w (done_or_refused world (option_map (with_part world w) o)).world
     by_result None = record { others = λ v apart. refl; inboxes = refl; board = refl; book = refl }
-    by_result (Some new) = record { others = λ v apart. get_put_other world.parts w v new apart; inboxes = refl; board = refl; book = refl }
+    by_result (Some new) = record { others = λ v apart. get-put_other world.parts w v new apart; inboxes = refl; board = refl; book = refl }
 
 changes : {S P : Type 0} (sim : Simulation S P) (world : World P) (step : Step) (w : ℕ) → worker_of sim step ≡ Some w → OnlyPart world w (next sim world step).world → ChangesOnePart sim world step
 changes sim world step w whose only = record {
