@@ -11,3 +11,4 @@ pub mod Refusals
 pub mod Locals
 pub mod Annihilation
 pub mod MailLemmas
+pub mod LetterLemmas

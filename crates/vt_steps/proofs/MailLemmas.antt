@@ -1,6 +1,6 @@
 -- Mail is neither made nor lost: what each step does to the sums of what was sent, got and travels.
-use Rattle.std.proofs.Common.{◌≡◌, ℕ, zero, suc, ◌+◌, Bool, true, false, cond, List, [], ◌∷◌, ◌++◌, map, length, refl, sym, ◌∙◌, ap, subst, arith, add-zero, Some, slice_get, slice_set}
-use Rattle.std.specs.List.{sum_by, remove}
+use Rattle.std.proofs.Common.{◌≡◌, ℕ, suc, ◌+◌, true, false, cond, List, [], ◌∷◌, ◌++◌, map, length, refl, sym, ◌∙◌, ap, arith, add-zero, Some, slice_get, slice_set}
+use Rattle.std.specs.List.{sum_by}
 use Rattle.std.proofs.lemmas.List.Sums.{sum_by-cons, sum_by-append}
 use Rattle.vt_key.specs.declared.letter.Letter.{Letter}
 use Rattle.vt_key.specs.declared.letter.Mail.{Mail}
@@ -9,10 +9,10 @@ use Rattle.vt_key.specs.declared.letter.Colour.TheVariants.{White, Red}
 use Rattle.vt_model.specs.Simulation.{Simulation}
 use Rattle.vt_steps.specs.declared.step.Step.{Step}
 use Rattle.vt_steps.specs.Letters.{Counts, is_colour, count_of, raised, count_colour}
-use Rattle.vt_steps.specs.World.{Part, World, travelling}
+use Rattle.vt_steps.specs.World.{Part, World}
 use Rattle.vt_steps.specs.PartSteps.{letters_for, part_after_send, mail_of_send, part_after_fetch, part_after_cut, part_after_commit}
 use Rattle.vt_steps.specs.Next.{next, report_lawful}
-use Rattle.vt_steps.specs.Laws.{mail_sent, mail_got, IsMailKept}
+use Rattle.vt_steps.specs.Laws.{IsMailKept}
 use Rattle.vt_steps.proofs.Sums.{sum_by-put}
 use Rattle.vt_steps.proofs.Changes.{Leaves, homes, arrives, Local, acts, takes, Change, stays, local, sends, fetches, cuts, reports, commits, closes, next_changes}
 
