@@ -23,14 +23,15 @@ pub computed :
     × Replays until_one no_events no_events_shown
     × Replays two_hops_run undo_without_cause undo_without_cause_shown
 unfolding opening_world effect_of_execute effect_of_undo cancel_process accept_process part_after_send mail_of_send part_after_fetch part_after_cut part_after_commit rows_of_commit with_open_round with_report after_pass board_after_report report_reply with_rows send fetch cut report report_lawful commit close next run answers key_before key_same stamp_before stamp_same rank_before rank_same sent_events requested_records start_of fire_of rows_of
-computed =
-    ( record { answered = refl; shows = refl }
-    , record { answered = refl; shows = refl }
-    , record { answered = refl; shows = refl }
-    , record { answered = refl; shows = refl }
-    , record { answered = refl; shows = refl }
-    , record { answered = refl; shows = refl }
-    , record { answered = refl; shows = refl }
-    , record { answered = refl; shows = refl }
-    , record { answered = refl; shows = refl }
-    , record { answered = refl; shows = refl } )
+computed = (
+  record { answered = refl; shows = refl },
+  record { answered = refl; shows = refl },
+  record { answered = refl; shows = refl },
+  record { answered = refl; shows = refl },
+  record { answered = refl; shows = refl },
+  record { answered = refl; shows = refl },
+  record { answered = refl; shows = refl },
+  record { answered = refl; shows = refl },
+  record { answered = refl; shows = refl },
+  record { answered = refl; shows = refl },
+)

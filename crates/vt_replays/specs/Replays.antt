@@ -267,14 +267,21 @@ pub record EndsWith {P : Type 0} (sim : Simulation ℕ P) (p state number : ℕ)
 abbrev pub two_hops_run : Simulation ℕ Token
 two_hops_run = simulation_of (hop_handlers two_hops) one_worker
 
+abbrev pub one_worker_to_4 : Config
+one_worker_to_4 = config_of 2 1 4 (lit≤ tt) (lit≤ tt) (lit≤ tt) (lit≤ tt) (lit≤ tt) (lit≤ tt)
+
 abbrev pub two_hops_run_to_4 : Simulation ℕ Token
-two_hops_run_to_4 = simulation_of (hop_handlers two_hops) (config_of 2 1 4 (lit≤ tt) (lit≤ tt) (lit≤ tt) (lit≤ tt) (lit≤ tt) (lit≤ tt))
+two_hops_run_to_4 = simulation_of (hop_handlers two_hops) one_worker_to_4
 
 -- three processes, one hop two processes further in one tick, and an end at 3
+abbrev pub two_further : Hop
+two_further = hop_of 1 2 1 (lit≤ tt) (lit≤ tt) (lit≤ tt) (lit≤ tt)
+
+abbrev pub three_processes : Config
+three_processes = config_of 3 1 3 (lit≤ tt) (lit≤ tt) (lit≤ tt) (lit≤ tt) (lit≤ tt) (lit≤ tt)
+
 abbrev pub three_processes_run : Simulation ℕ Token
-three_processes_run =
-    simulation_of (hop_handlers (hop_of 1 2 1 (lit≤ tt) (lit≤ tt) (lit≤ tt) (lit≤ tt)))
-    (config_of 3 1 3 (lit≤ tt) (lit≤ tt) (lit≤ tt) (lit≤ tt) (lit≤ tt) (lit≤ tt))
+three_processes_run = simulation_of (hop_handlers two_further) three_processes
 
 abbrev pub six_records : List Record
 six_records =
