@@ -12,3 +12,4 @@ pub mod Locals
 pub mod Annihilation
 pub mod MailLemmas
 pub mod LetterLemmas
+pub mod MemoryLemmas
