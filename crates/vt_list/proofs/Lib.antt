@@ -1,0 +1,4 @@
+mod Boxes
+mod Lending
+mod Owning
+mod Walk
