@@ -1,4 +1,6 @@
 mod Boxes
 mod Lending
+mod Links
 mod Owning
+mod Splits
 mod Walk
