@@ -1,4 +1,5 @@
 mod Boxes
+mod Firsts
 mod Lending
 mod Links
 mod Owning

@@ -1,6 +1,6 @@
 //! Nodes that are linked both ways.
 
-ghost use Rattle.std.specs.Prelude.{◌≡◌, ◌-◌, ◌<◌, ◌≤◌, ◌↔◌, [], ◌∷◌, ◌++◌, length, slice_index_or, MatchOption, IfSome, IsSome};
+ghost use Rattle.std.specs.Prelude.{◌≡◌, ◌-◌, ◌<◌, ◌≤◌, ◌↔◌, [], ◌∷◌, ◌++◌, length, slice_index_or, MatchOption, IfSome, IsSome, IsTrue};
 
 use crate::blocks::Blocks;
 use crate::node::{Node, set_first_prev, set_last_next};
@@ -50,6 +50,13 @@ impl<T> Chain<T> {
             nodes,
         } = self;
         nodes.end();
+    }
+
+    /// Whether there is no node.
+    pub(crate) fn is_empty(&self) -> bool
+        ensures { IsTrue result ↔ (self.now ≡ []) }
+    {
+        self.head.is_none()
     }
 
     /// Takes all nodes out.

@@ -217,7 +217,8 @@ pub(crate) fn split_at_first<T, P: Predicate<T>>(
 
 /// The first `index` nodes, and the others.
 pub(crate) fn split_at<T>(chain: Chain<T>, index: usize) -> (Chain<T>, Chain<T>)
-    ensures { (result.0 ≡ take index chain) × (result.1 ≡ drop index chain) }
+    ensures parts { (result.0 ≡ take index chain) × (result.1 ≡ drop index chain) }
+    ensures whole { chain ≡ result.0 ++ result.1 }
 {
     let mut cursor = Cursor::at_front(chain);
     for _ in 0..index {

@@ -5,12 +5,12 @@ mod blocks;
 mod chain;
 mod cursor;
 mod iter;
-// mod list;
+mod list;
 mod node;
 mod parcel;
 mod predicate;
 
 pub use iter::Iter;
-// pub use list::List;
+pub use list::List;
 pub use parcel::Parcel;
 pub use predicate::Predicate;
