@@ -1,9 +1,9 @@
 -- What becomes of links where nodes are joined and parted.
 use Rattle.std.proofs.Common.{◌≡◌, refl, sym, ap, ◌∙◌, subst, arith}
-use Rattle.std.specs.Prelude.{ℕ, ◌+◌, ◌-◌, ◌<◌, ◌≤◌, List, [], ◌∷◌, ◌++◌, length, take, drop, Option, Some, None, slice_index_or}
+use Rattle.std.specs.Prelude.{◌-◌, ◌<◌, List, [], ◌∷◌, ◌++◌, length, take, drop, Option, Some, None, slice_index_or}
 use Rattle.std.proofs.lemmas.List.{take_at, drop_at, length-append, append-nil, append_assoc, map-append}
 use denote.RawPtr.{Ptr}
-use Rattle.vt_list.specs.Blocks.{places, place_at}
+use Rattle.vt_list.specs.Blocks.{place_at}
 use Rattle.vt_list.specs.declared.node.Node.{Node}
 use Rattle.vt_list.specs.Linked.{Placed, first_or, last_or, with_next, with_prev, items, LeadOn, LeadBack, IsChain, IsPlace}
 
@@ -175,10 +175,10 @@ module _ {X : Type 0} where
       }
 
   -- two chains with nodes are joined where each link between them is written
-  pub join-chain : (h l : Option Ptr) (p q : Ptr) (bs cs : List (Placed X)) → IsChain h (Some p) bs → IsChain (Some q) l cs → IsChain h l (with_next (Some q) bs ++ with_prev (Some p) cs)
-  join-chain h l p q [] cs one other = absurd (none-some p (sym one.tail_is))
-  join-chain h l p q (b ∷ bs) [] one other = absurd (none-some q (sym other.head_is))
-  join-chain h l p q (b ∷ bs) (c ∷ cs) one other = join-more h (Some p) (Some q) l b c bs cs one other
+  pub join-chain : (h t n l : Option Ptr) (p q : Ptr) (bs cs : List (Placed X)) → IsChain h t bs → IsChain n l cs → t ≡ Some p → n ≡ Some q → IsChain h l (with_next n bs ++ with_prev t cs)
+  join-chain h t n l p q [] cs one other t_is n_is = absurd (none-some p (sym one.tail_is ∙ t_is))
+  join-chain h t n l p q (b ∷ bs) [] one other t_is n_is = absurd (none-some q (sym other.head_is ∙ n_is))
+  join-chain h t n l p q (b ∷ bs) (c ∷ cs) one other t_is n_is = join-more h t n l b c bs cs one other
 
   front-more : (h t last next : Option Ptr) (b : Placed X) (bs ahead : List (Placed X)) → IsPlace h t last next (b ∷ bs) ahead → IsChain h last (with_next None (b ∷ bs))
   front-more h t last next b bs ahead place = record {

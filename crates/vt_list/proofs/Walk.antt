@@ -23,4 +23,3 @@ pub use denote.Param.Laws.{param_laws}
 pub use denote.Triple.Walked.{Stays, stay_dropped, walk_of, Goes-dropped}
 pub use Rattle.core.proofs.cell.Inside.{one}
 pub use Rattle.std.proofs.raw_atomic.Walks.{proved_at, leaves}
-pub use Rattle.vt_list.specs.contracts.blocks.Blocks as blocks

@@ -89,26 +89,20 @@ impl<T> Chain<T> {
     pub(crate) fn join(self, other: Chain<T>) -> Chain<T>
         ensures { result ≡ self ++ other }
     {
+        let Some(end) = self.tail else {
+            self.end();
+            return other;
+        };
+        let Some(start) = other.head else {
+            other.end();
+            return self;
+        };
         let Chain { head, tail, nodes } = self;
         let Chain {
             head: next,
             tail: last,
             nodes: more,
         } = other;
-        let Some(end) = tail else {
-            return Chain {
-                head: next,
-                tail: last,
-                nodes: nodes.append(more),
-            };
-        };
-        let Some(start) = next else {
-            return Chain {
-                head,
-                tail,
-                nodes: nodes.append(more),
-            };
-        };
         let front = set_last_next(nodes, end, next);
         let back = set_first_prev(more, start, tail);
         Chain {

@@ -134,30 +134,22 @@ impl<T> Cursor<T> {
             ahead,
         } = self;
         let Some(end) = last else {
-            let front = Chain {
-                head: None,
-                tail: None,
-                nodes: passed,
-            };
+            passed.end();
             let back = Chain {
                 head,
                 tail,
                 nodes: ahead,
             };
-            return (front, back);
+            return (Chain::new(), back);
         };
         let Some(start) = next else {
+            ahead.end();
             let front = Chain {
                 head,
                 tail,
                 nodes: passed,
             };
-            let back = Chain {
-                head: None,
-                tail: None,
-                nodes: ahead,
-            };
-            return (front, back);
+            return (front, Chain::new());
         };
         let front = Chain {
             head,
@@ -200,10 +192,7 @@ pub(crate) fn take_last<T>(chain: Chain<T>, alloc: Global) -> (Option<Box<Node<T
 }
 
 /// The nodes before the first item that passes the test, and the others.
-pub(crate) fn split_at_first<T, P: Predicate<T>>(
-    chain: Chain<T>,
-    test: &P,
-) -> (Chain<T>, Chain<T>)
+pub(crate) fn split_at_first<T, P: Predicate<T>>(chain: Chain<T>, test: &P) -> (Chain<T>, Chain<T>)
     ensures before { result.0 ≡ before_first (P.passes test.now) chain }
     ensures from { result.1 ≡ from_first (P.passes test.now) chain }
     ensures whole { chain ≡ result.0 ++ result.1 }

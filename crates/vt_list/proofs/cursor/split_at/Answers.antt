@@ -14,7 +14,7 @@ returns-clause-parts g c =
     let k = c.loop.counter in let n = c.args.index in let all = c.args.chain in let at = c.loop.invariant in
     elim c.loop-test.branch [
       | else-loop-test w ↦ let done : k ≡ n = omega (arith, w.loop-test.false, c.loop.auto.counter-end) in
-        (c.split.ensures.0 ∙ at.0 ∙ ap (λ i. take i all) done, c.split.ensures.1 ∙ at.1 ∙ ap (λ i. drop i all) done)
+          (c.split.ensures.0 ∙ at.0 ∙ ap (λ i. take i all) done, c.split.ensures.1 ∙ at.1 ∙ ap (λ i. drop i all) done)
       | then-loop-test+then-is_at_end w ↦
           let none = sym at.1 ∙ w.is_at_end.ensures.0 w.if-is_at_end.true in
           let same = parted-past k n all none c.loop.auto.counter-end in

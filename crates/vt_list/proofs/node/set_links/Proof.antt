@@ -1,5 +1,5 @@
 -- `set_links` writes the first two fields of the node that is owned.
-use Rattle.vt_list.proofs.Walk.{◌≡◌, ℕ, List, [], ◌∷◌, ◌++◌, refl, sym, ap, ◌∙◌, subst, a_type, Val, vptr, inst_fn, SProp, ent, emp, id⊢, Lft, ftrue, fsep, flft, WpFn, ‵, raw, ◌⊛◌, ◌$◌, ◌∵◌, !, qed, by, move, keep, drop, split, join, fsplit, fsplit3, fjoin, use0, use1, use2, rewrite, feq_i, feq_l, suffices, of_opd, returns, enter, alloc_all, pass_all, free_all, look_at, get, sets, tables, fact, fact_i, ◌⊑◌, yes, no, RattleType, owns, types_at, plain, Ptr, RawPtr, nothing, heard, param, param_laws, layout, layouts, Stays, stay_dropped, walk_of, Goes-dropped, one, proved_at, leaves}
+use Rattle.vt_list.proofs.Walk.{◌≡◌, List, [], ◌∷◌, ◌++◌, refl, sym, ap, ◌∙◌, subst, a_type, Val, vptr, inst_fn, SProp, ent, emp, id⊢, Lft, ftrue, flft, WpFn, ‵, raw, ◌⊛◌, ◌$◌, ◌∵◌, !, qed, by, move, keep, drop, split, fsplit, fsplit3, fjoin, use0, use1, use2, rewrite, feq_i, feq_l, suffices, of_opd, returns, enter, alloc_all, pass_all, free_all, look_at, get, sets, tables, fact, fact_i, ◌⊑◌, yes, no, RattleType, owns, types_at, plain, Ptr, RawPtr, nothing, heard, param, param_laws, layout, layouts, Stays, stay_dropped, walk_of, Goes-dropped, one, proved_at, leaves}
 use mir.Raw.{raw as bare}
 use mir.Val.{vstruct, vcons, vnil, of_list}
 use base.Fraction.{full_share}

@@ -1,5 +1,5 @@
 -- `from_box` calls `Box::into_raw`, and owns what that hands over.
-use Rattle.vt_list.proofs.Walk.{◌≡◌, List, [], ◌∷◌, ◌++◌, refl, sym, ap, ◌∙◌, subst, a_type, Val, vptr, inst_fn, SProp, ent, emp, id⊢, Lft, ftrue, fsep, flft, WpFn, ‵, raw, ◌⊛◌, ◌$◌, ◌∵◌, !, qed, by, move, keep, drop, split, join, fsplit, fjoin, use0, use1, use2, rewrite, feq_i, feq_l, suffices, of_opd, no_more, and_then, returns, enter, alloc_all, pass_all, free_all, look_at, get, sets, agg, tables, fact, fact_i, ◌⊑◌, no, RattleType, owns, types_at, plain, Ptr, RawPtr, nothing, heard, param, layout, Stays, stay_dropped, walk_of, one, proved_at, leaves}
+use Rattle.vt_list.proofs.Walk.{◌≡◌, List, [], ◌∷◌, ◌++◌, refl, sym, ap, ◌∙◌, subst, a_type, Val, vptr, inst_fn, SProp, ent, emp, id⊢, Lft, ftrue, flft, WpFn, ‵, raw, ◌⊛◌, ◌$◌, ◌∵◌, !, qed, by, move, keep, drop, split, join, fsplit, fjoin, use0, use1, use2, rewrite, feq_i, feq_l, suffices, of_opd, no_more, and_then, returns, enter, alloc_all, pass_all, free_all, look_at, get, sets, agg, tables, fact, fact_i, ◌⊑◌, no, owns, types_at, plain, Ptr, RawPtr, nothing, heard, param, layout, Stays, stay_dropped, walk_of, one, proved_at, leaves}
 use mir.Syntax.{dcons, dnil}
 use mir.Raw.{raw as bare}
 use base.Fraction.{full_share}

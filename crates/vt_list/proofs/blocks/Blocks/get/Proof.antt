@@ -1,5 +1,5 @@
 -- `get` shows the content of one block for as long as the blocks are lent.
-use Rattle.vt_list.proofs.Walk.{◌≡◌, ℕ, ◌<◌, List, [], ◌∷◌, ◌++◌, refl, sym, ap, ◌∙◌, subst, a_type, Val, vptr, inst_fn, SProp, ent, emp, id⊢, Lft, Share, Fml, ftrue, fsep, flft, WpFn, ‵, raw, ◌⊛◌, ◌$◌, ◌∵◌, !, qed, by, move, keep, drop, split, join, fsplit, fsplit3, fjoin, use0, use1, feq_i, feq_l, suffices, of_opd, returns, enter, alloc_all, pass_all, free_all, look_at, get, sets, tables, fact, fact_i, ◌⊑◌, yes, RattleType, owns, types_at, type_at, plain, Ptr, RawPtr, nothing, heard, param, layouts, Stays, stay_dropped, walk_of, Goes-dropped, proved_at, leaves}
+use Rattle.vt_list.proofs.Walk.{◌≡◌, ℕ, ◌<◌, List, [], ◌∷◌, ◌++◌, refl, sym, ap, ◌∙◌, subst, a_type, Val, vptr, inst_fn, SProp, ent, emp, id⊢, Lft, Share, Fml, ftrue, fsep, flft, WpFn, ‵, raw, ◌⊛◌, ◌$◌, ◌∵◌, !, qed, by, move, keep, drop, split, join, fsplit, fsplit3, fjoin, use0, use1, feq_i, feq_l, suffices, of_opd, returns, enter, alloc_all, pass_all, free_all, look_at, get, sets, tables, fact, fact_i, ◌⊑◌, yes, owns, types_at, type_at, plain, Ptr, RawPtr, nothing, heard, param, layouts, Stays, stay_dropped, walk_of, Goes-dropped, proved_at, leaves}
 use base.Fml.{fhide}
 use types.Kit.{at_ret}
 use types.Run.{stop, addr, first, blocks as enters_block, exec}

@@ -1,5 +1,5 @@
 -- `none` makes a value without bytes, and owns nothing.
-use Rattle.vt_list.proofs.Walk.{◌≡◌, List, [], ◌∷◌, refl, a_type, Val, inst_fn, SProp, emp, ftrue, flft, ‵, raw, ◌⊛◌, ◌$◌, ◌∵◌, !, qed, by, keep, split, fjoin, use0, no_more, and_then, returns, enter, alloc_all, pass_all, free_all, look_at, get, sets, agg, tables, fact, fact_i, RattleType, nothing, param, layouts, Stays, walk_of, proved_at, leaves}
+use Rattle.vt_list.proofs.Walk.{◌≡◌, [], ◌∷◌, refl, a_type, Val, inst_fn, SProp, emp, ftrue, flft, ‵, raw, ◌⊛◌, ◌$◌, ◌∵◌, !, qed, by, keep, split, fjoin, use0, no_more, and_then, returns, enter, alloc_all, pass_all, free_all, look_at, get, sets, agg, tables, fact, fact_i, nothing, param, layouts, Stays, walk_of, proved_at, leaves}
 use Rattle.vt_list.specs.contracts.blocks.Blocks as blocks
 use Rattle.vt_list.specs.contracts.blocks.Blocks.none as this
 use Rattle.vt_list.proofs.Owning.{no_bytes, Blank, blank}

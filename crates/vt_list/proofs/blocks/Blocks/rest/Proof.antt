@@ -1,5 +1,5 @@
 -- `rest` hands the `&` on, and what it holds of the first block is let go.
-use Rattle.vt_list.proofs.Walk.{◌≡◌, ℕ, List, [], ◌∷◌, ◌++◌, refl, sym, subst, a_type, Val, vptr, inst_fn, SProp, ent, emp, id⊢, Lft, Share, Fml, ftrue, fsep, flft, WpFn, ‵, raw, ◌⊛◌, ◌$◌, ◌∵◌, !, qed, by, move, keep, split, join, fsplit, fjoin, use0, use1, use2, feq_i, feq_l, suffices, of_opd, returns, enter, alloc_all, pass_all, free_all, look_at, get, sets, tables, fact, fact_i, yes, RattleType, owns, types_at, type_at, plain, RawPtr, nothing, param, layouts, Stays, stay_dropped, walk_of, Goes-dropped, proved_at, leaves}
+use Rattle.vt_list.proofs.Walk.{◌≡◌, ℕ, List, [], ◌∷◌, ◌++◌, refl, sym, subst, a_type, Val, vptr, inst_fn, SProp, ent, emp, id⊢, Lft, Share, Fml, ftrue, fsep, flft, WpFn, ‵, raw, ◌⊛◌, ◌$◌, ◌∵◌, !, qed, by, move, keep, split, join, fsplit, fjoin, use0, use1, use2, feq_i, feq_l, suffices, of_opd, returns, enter, alloc_all, pass_all, free_all, look_at, get, sets, tables, fact, fact_i, yes, owns, types_at, type_at, plain, RawPtr, nothing, param, layouts, Stays, stay_dropped, walk_of, Goes-dropped, proved_at, leaves}
 use base.Fml.{fhide}
 use denote.Opens.{unhide, hide}
 use denote.Memory.{hidden_shr}

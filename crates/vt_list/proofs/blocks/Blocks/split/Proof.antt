@@ -1,5 +1,5 @@
 -- `split` parts what is owned, and runs no code but that of two empty structs.
-use Rattle.vt_list.proofs.Walk.{◌≡◌, ℕ, List, [], ◌∷◌, ◌++◌, refl, sym, subst, a_type, Val, inst_fn, SProp, ent, emp, id⊢, ftrue, flft, WpFn, ‵, raw, ◌⊛◌, ◌$◌, ◌∵◌, !, qed, by, move, keep, split, fsplit, fjoin, use0, use1, use2, rewrite, suffices, no_more, and_then, returns, enter, alloc_all, pass_all, free_all, look_at, get, sets, agg, tables, fact, fact_i, no, RattleType, owns, types_at, plain, Ptr, nothing, param, layout, layouts, param_laws, Stays, stay_dropped, walk_of, Goes-dropped, one, proved_at, leaves}
+use Rattle.vt_list.proofs.Walk.{◌≡◌, ℕ, List, [], ◌∷◌, ◌++◌, refl, sym, subst, a_type, Val, inst_fn, SProp, ent, emp, id⊢, ftrue, flft, WpFn, ‵, raw, ◌⊛◌, ◌$◌, ◌∵◌, !, qed, by, move, keep, split, fsplit, fjoin, use0, use1, use2, rewrite, suffices, no_more, and_then, returns, enter, alloc_all, pass_all, free_all, look_at, get, sets, agg, tables, fact, fact_i, no, owns, types_at, plain, Ptr, nothing, param, layout, layouts, param_laws, Stays, stay_dropped, walk_of, Goes-dropped, one, proved_at, leaves}
 use Rattle.std.specs.Prelude.{take, drop as dropped}
 use Rattle.std.proofs.lemmas.List.{take-append-drop}
 use denote.Struct.Tuple.{Tuple}

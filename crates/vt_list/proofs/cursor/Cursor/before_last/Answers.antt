@@ -20,4 +20,3 @@ invariant_of-result g c =
     let s = c.chain.inside in let p = c.in-Some.last in let front = c.split-front.result.0.owned in let end = c.split-front.result.1.owned in
     subst (λ t. IsPlace s.head t c.get.result.now.prev t front end) (sym c.in-Some.is)
     (last-place s.head p s.nodes.owned front end c.get.result.now (subst (λ t. IsChain s.head t s.nodes.owned) c.in-Some.is c.chain.invariant) c.split-front.ensures.0 c.split-front.ensures.1 c.get.ensures)
-

@@ -1,12 +1,18 @@
-use Rattle.std.proofs.Common.{◌++◌, List, sym, ap, ◌∙◌, subst, Some, None}
-use Rattle.vt_list.specs.Linked.{Placed, IsChain, IsPlace, items}
-use Rattle.vt_list.proofs.Links.{no-chain, front-chain, back-chain, all-ahead, all-passed, items-with_next, items-with_prev}
+use Rattle.std.proofs.Common.{sym, ap, ◌∙◌, subst, Some, None}
+use Rattle.vt_list.specs.Linked.{IsChain, IsPlace, items}
+use Rattle.vt_list.proofs.Links.{no-chain, front-chain, back-chain, all-ahead, items-with_next, items-with_prev}
 use Rattle.vt_list.proofs.cursor.Cursor.split.Goals as goal
 
-pub invariant_of-front : goal.invariant_of-front
-invariant_of-front g c = 
+pub end-requires : goal.end-requires
+end-requires g c =
     let s = c.self.inside in
-    no-chain s.passed.owned (all-ahead s.head s.tail s.next s.passed.owned s.ahead.owned (subst (λ l. IsPlace s.head s.tail l s.next s.passed.owned s.ahead.owned) c.in_default.is c.self.invariant)).0
+    (all-ahead s.head s.tail s.next s.passed.owned s.ahead.owned (subst (λ l. IsPlace s.head s.tail l s.next s.passed.owned s.ahead.owned) c.in_default.is c.self.invariant)).0
+
+pub returns-in_default : goal.returns-in_default
+returns-in_default g c =
+    let s = c.self.inside in
+    let none = all-ahead s.head s.tail s.next s.passed.owned s.ahead.owned (subst (λ l. IsPlace s.head s.tail l s.next s.passed.owned s.ahead.owned) c.in_default.is c.self.invariant) in
+    (c.new.ensures ∙ sym (ap items none.0) ∙ ap (λ v. v.0) c.self.view_is, ap (λ v. v.1) c.self.view_is)
 
 pub invariant_of-back : goal.invariant_of-back
 invariant_of-back g c =
@@ -27,6 +33,7 @@ invariant_of-back-2 g c =
 
 pub returns : goal.returns
 returns g c =
-    let s = c.self.inside in
-    (ap items c.set_last_next.ensures ∙ items-with_next None s.passed.owned ∙ ap (λ v. v.0) c.self.view_is,
-    ap items c.set_first_prev.ensures ∙ items-with_prev None s.ahead.owned ∙ ap (λ v. v.1) c.self.view_is)
+    let s = c.self.inside in (
+      ap items c.set_last_next.ensures ∙ items-with_next None s.passed.owned ∙ ap (λ v. v.0) c.self.view_is,
+      ap items c.set_first_prev.ensures ∙ items-with_prev None s.ahead.owned ∙ ap (λ v. v.1) c.self.view_is,
+    )

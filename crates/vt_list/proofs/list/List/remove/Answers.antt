@@ -1,4 +1,4 @@
-use Rattle.std.proofs.Common.{◌≡◌, ◌++◌, Option, remove, slice_get, ap, sym, ◌∙◌}
+use Rattle.std.proofs.Common.{remove, slice_get, ap, sym, ◌∙◌}
 use Rattle.std.specs.Option.{option_map}
 use Rattle.vt_list.proofs.Firsts.{taken-at}
 use Rattle.vt_list.proofs.list.List.remove.Goals as goal

@@ -1,4 +1,4 @@
-use Rattle.std.proofs.Common.{◌≡◌, ◌++◌, Option, find, ap, sym, ◌∙◌}
+use Rattle.std.proofs.Common.{find, ap, sym, ◌∙◌}
 use Rattle.std.specs.Option.{option_map}
 use Rattle.vt_list.specs.First.{without_first}
 use Rattle.vt_list.proofs.Firsts.{taken-first}
