@@ -1,7 +1,7 @@
 -- What becomes of links where nodes are joined and parted.
 use Rattle.std.proofs.Common.{◌≡◌, refl, sym, ap, ◌∙◌, subst, arith}
 use Rattle.std.specs.Prelude.{◌-◌, ◌<◌, List, [], ◌∷◌, ◌++◌, length, take, drop, Option, Some, None, slice_index_or}
-use Rattle.std.proofs.lemmas.List.{take_at, drop_at, length-append, append-nil, append_assoc, map-append}
+use Rattle.std.proofs.lemmas.List.{take_at, drop_at, length-append, append_assoc, map-append}
 use denote.RawPtr.{Ptr}
 use Rattle.vt_list.specs.Blocks.{place_at}
 use Rattle.vt_list.specs.declared.node.Node.{Node}
@@ -23,10 +23,6 @@ last-some b (c ∷ bs) e = last-some c bs e
 pub no-last : {Y : Type 0} (bs : List (Ptr × Y)) → last_or None bs ≡ None → bs ≡ []
 no-last [] e = refl
 no-last (b ∷ bs) e = absurd (last-some b bs e)
-
-pub no-first : {Y : Type 0} (bs : List (Ptr × Y)) → first_or None bs ≡ None → bs ≡ []
-no-first [] e = refl
-no-first (b ∷ bs) e = absurd (none-some b.0 (sym e))
 
 pub first-append : {Y : Type 0} (z : Option Ptr) (bs cs : List (Ptr × Y)) → first_or z (bs ++ cs) ≡ first_or (first_or z cs) bs
 first-append z [] cs = refl
@@ -158,9 +154,6 @@ module _ {X : Type 0} where
 
   -- ---- chains
 
-  pub no-chain : (bs : List (Placed X)) → bs ≡ [] → IsChain None None bs
-  no-chain bs e = subst (IsChain None None) (sym e) (record { head_is = refl; tail_is = refl; on = tt; back = tt })
-
   join-more : (h t n l : Option Ptr) (b c : Placed X) (bs cs : List (Placed X)) → IsChain h t (b ∷ bs) → IsChain n l (c ∷ cs) → IsChain h l (with_next n (b ∷ bs) ++ with_prev t (c ∷ cs))
   join-more h t n l b c bs cs one other =
       let front : List (Placed X) = with_next n (b ∷ bs) in
@@ -205,14 +198,10 @@ module _ {X : Type 0} where
   back-chain h t last p passed [] place = absurd (none-some p (sym place.next_is))
   back-chain h t last p passed (b ∷ bs) place = back-more h t last (Some p) passed b bs place
 
-  -- at the front nothing was passed, and at the back nothing is ahead
+  -- where no node was passed, all are ahead
   pub all-ahead : (h t next : Option Ptr) (passed ahead : List (Placed X)) → IsPlace h t None next passed ahead → (passed ≡ []) × IsChain h t ahead
   all-ahead h t next [] ahead place = (refl, place.chain)
   all-ahead h t next (b ∷ bs) ahead place = absurd (last-some b bs (sym place.last_is))
-
-  pub all-passed : (h t last : Option Ptr) (passed ahead : List (Placed X)) → IsPlace h t last None passed ahead → (ahead ≡ []) × IsChain h t passed
-  all-passed h t last passed [] place = (refl, subst (IsChain h t) (append-nil passed) place.chain)
-  all-passed h t last passed (b ∷ bs) place = absurd (none-some b.0 place.next_is)
 
   -- ---- places
 

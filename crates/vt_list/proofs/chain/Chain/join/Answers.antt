@@ -1,4 +1,4 @@
-use Rattle.std.proofs.Common.{[], ◌++◌, sym, ap, ◌∙◌, subst}
+use Rattle.std.proofs.Common.{◌++◌, sym, ap, ◌∙◌, subst}
 use Rattle.vt_list.specs.Linked.{IsChain, items, with_next, with_prev}
 use Rattle.vt_list.proofs.Links.{join-chain, no-last, items-append, items-with_next, items-with_prev}
 use Rattle.vt_list.proofs.chain.Chain.join.Goals as goal

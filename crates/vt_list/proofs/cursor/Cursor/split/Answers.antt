@@ -1,6 +1,6 @@
 use Rattle.std.proofs.Common.{sym, ap, ◌∙◌, subst, Some, None}
 use Rattle.vt_list.specs.Linked.{IsChain, IsPlace, items}
-use Rattle.vt_list.proofs.Links.{no-chain, front-chain, back-chain, all-ahead, items-with_next, items-with_prev}
+use Rattle.vt_list.proofs.Links.{front-chain, back-chain, all-ahead, items-with_next, items-with_prev}
 use Rattle.vt_list.proofs.cursor.Cursor.split.Goals as goal
 
 pub end-requires : goal.end-requires
