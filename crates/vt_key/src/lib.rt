@@ -4,10 +4,12 @@
 
 mod fault;
 mod letter;
+mod limits;
 mod order;
 
 pub use fault::Fault;
 pub use letter::{Colour, Event, Letter, Mail, Ranked, Sign};
+pub use limits::{MAX_COUNT, MAX_END, MAX_PROCESSES, MAX_WORKERS};
 pub use order::{Key, Rank, Stamp, orders_are_total};
 
 /// A virtual time: a whole number of ticks from 0. An event is executed at its receive time.

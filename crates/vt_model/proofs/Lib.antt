@@ -1,0 +1,8 @@
+pub mod WordLemmas
+pub mod SendLemmas
+pub mod FireLemmas
+pub mod RowLemmas
+pub mod HistoryLemmas
+pub mod RunLemmas
+pub mod EndLemmas
+pub mod LawLemmas

@@ -1,0 +1,69 @@
+-- What the handlers of a model give, and the limits that they keep.
+use Rattle.std.specs.Prelude.{◌≡◌, ℕ, ◌<◌, ◌≤◌, ◌^◌, List, [], length, All}
+use Rattle.vt_key.specs.Times.{Time, TimeBefore}
+use Rattle.vt_key.specs.declared.limits.TheConstants.{MAX_PROCESSES, MAX_END, MAX_COUNT}
+use Rattle.vt_model.specs.declared.flags.Bits.{Bits}
+use Rattle.vt_model.specs.declared.limits.TheConstants.{MAX_DRAWS, MAX_SENDS, MAX_RECORDS}
+use Rattle.vt_model.specs.Words.{Stream}
+use Rattle.vt_model.specs.Sends.{SendRequest, RecordRequest, Outgoing}
+
+-- what a start gives: the first state, how many words it drew, and what it asks to be sent
+pub record StartResult (S P : Type 0) : Type 0 where
+  pub state : S
+  pub drawn : ℕ
+  pub send_requests : List (SendRequest P)
+
+-- what an event gives: the next state, what is kept for the way back, the bits, how many words it drew, and what it asks
+-- to be sent and recorded
+pub record ForwardResult (S P K : Type 0) : Type 0 where
+  pub state : S
+  pub kept : K
+  pub bits : Bits
+  pub drawn : ℕ
+  pub send_requests : List (SendRequest P)
+  pub record_requests : List RecordRequest
+
+-- the four handlers of a model as functions:
+-- start, of the number of processes, the process and its words;
+-- forward, of the number of processes, the process, the time, the payload, the state and the words;
+-- reverse, of the process, the time, the payload, the state, the bits and what was kept;
+-- finish, of the process and the state
+pub record Handlers (S P K : Type 0) : Type 0 where
+  pub start : ℕ → ℕ → (ℕ → ℕ) → StartResult S P
+  pub forward : ℕ → ℕ → Time → P → S → (ℕ → ℕ) → ForwardResult S P K
+  pub reverse : ℕ → Time → P → S → Bits → K → S
+  pub finish : ℕ → S → ℕ
+
+-- a request to send to a known process, later
+pub record IsSendable {P : Type 0} (lps : ℕ) (request : SendRequest P) : Type 0 where
+  pub known : request.dest < lps
+  pub later : 1 ≤ request.delay
+
+-- the limits of one handler
+pub record IsWithinLimits {P : Type 0} (lps drawn : ℕ) (send_requests : List (SendRequest P)) (record_requests : List RecordRequest) : Type 0 where
+  pub few_words : drawn ≤ MAX_DRAWS
+  pub few_sends : length send_requests ≤ MAX_SENDS
+  pub few_records : length record_requests ≤ MAX_RECORDS
+  pub sendable : All (IsSendable lps) send_requests
+
+-- words are below 2 ^ 32
+abbrev pub AreWords : (ℕ → ℕ) → Type 0
+AreWords words = (i : ℕ) → words i < 2 ^ 32
+
+-- an out as `Out::new` gives it: for a known process and a time below the end, with nothing sent and nothing recorded
+pub record IsFresh {P : Type 0} (o : Outgoing P) (p : ℕ) (t : Time) : Type 0 where
+  pub lp : o.lp ≡ p
+  pub time : o.time ≡ t
+  pub number : o.number ≡ o.first
+  pub sends : o.sends ≡ []
+  pub records : o.records ≡ []
+  pub known : p < o.lps
+  pub few_processes : o.lps ≤ MAX_PROCESSES
+  pub early : TimeBefore t o.end
+  pub in_time : o.end ≤ MAX_END
+  pub numbered : o.first ≤ MAX_COUNT
+
+-- draws as `Draws::new` gives them: nothing is drawn
+pub record IsUndrawn (n : ℕ) (s : Stream) : Type 0 where
+  pub drawn : n ≡ 0
+  pub in_range : s.place < 2 ^ 64

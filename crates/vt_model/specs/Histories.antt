@@ -1,0 +1,71 @@
+-- Histories: for each process the events that it executed, as the sends alone determine them; and the laws of a simulation.
+use Rattle.std.specs.Prelude.{◌≡◌, ℕ, suc, length, ◌<◌, ◌≤◌, ◌⊎◌, List, [], ◌∷◌, ◌++◌}
+use Rattle.vt_key.specs.declared.order.Key.{Key}
+use Rattle.vt_key.specs.Order.{KeyBefore}
+use Rattle.vt_model.specs.declared.sending.Sent.{Sent}
+use Rattle.vt_key.specs.Times.{Time, TimeBefore}
+use Rattle.vt_key.specs.declared.limits.TheConstants.{MAX_WORKERS, MAX_END}
+use Rattle.vt_model.specs.declared.limits.TheConstants.{MAX_SENDS}
+use Rattle.vt_model.specs.Rows.{AreRowsOf}
+use Rattle.vt_model.specs.Simulation.{Simulation, Triple}
+
+-- x stands in the list
+abbrev pub Among : {X : Type 0} → X → List X → Type 0
+Among x [] = ⊥
+Among x (y ∷ ys) = (x ≡ y) ⊎ Among x ys
+
+-- each event of the list is after this key
+abbrev pub AllAfter : {P : Type 0} → Key → List (Sent P) → Type 0
+AllAfter k [] = Unit {0}
+AllAfter k (e ∷ es) = KeyBefore k e.key × AllAfter k es
+
+-- the keys of the list rise strictly
+abbrev pub IsRising : {P : Type 0} → List (Sent P) → Type 0
+IsRising [] = Unit {0}
+IsRising (e ∷ es) = AllAfter e.key es × IsRising es
+
+-- sends of one process whose numbers rise strictly, from lo on and below hi
+abbrev pub AreNumbered : {P : Type 0} → ℕ → ℕ → ℕ → List (Sent P) → Type 0
+AreNumbered p lo hi [] = lo ≤ hi
+AreNumbered p lo hi (e ∷ es) = (e.key.source ≡ p) × (lo ≤ e.key.number) × AreNumbered p (suc e.key.number) hi es
+
+module _ {S P : Type 0} (sim : Simulation S P) where
+  -- what the events of a list send, each after those before it
+  abbrev pub sends_from : ℕ → Triple S → List (Sent P) → List (Sent P)
+  sends_from p t [] = []
+  sends_from p t (e ∷ es) = (sim.fire p t e).sends ++ sends_from p (sim.fire p t e).triple es
+
+  -- what a process sends at its start and by these events
+  abbrev pub sends_of : ℕ → List (Sent P) → List (Sent P)
+  sends_of p es = (sim.start p).sends ++ sends_from p (sim.start p).triple es
+
+  -- some process sends this event
+  abbrev pub IsSent : (ℕ → List (Sent P)) → Sent P → Type 0
+  IsSent lists e = (q : ℕ) × (q < sim.lps) × Among e (sends_of q (lists q))
+
+  -- below a time, each process has in the order of keys exactly the events that the processes send to it
+  pub record IsHistory (below : Time) (lists : ℕ → List (Sent P)) : Type 0 where
+    pub own : (p : ℕ) (e : Sent P) → p < sim.lps → Among e (lists p) → e.dest ≡ p
+    pub rising : (p : ℕ) → p < sim.lps → IsRising (lists p)
+    pub sent : (p : ℕ) (e : Sent P) → p < sim.lps → TimeBefore e.key.time below → Among e (lists p) → IsSent lists e
+    pub had : (e : Sent P) → TimeBefore e.key.time below → IsSent lists e → Among e (lists e.dest)
+
+  -- the laws of a simulation: sends go to known processes, are later than their cause and below the end, and take the
+  -- numbers from the process's next one on; an event sends few, and its rows are its own; there are workers and a time
+  -- to run
+  pub record IsLawful : Type 0 where
+    pub known_start : (p : ℕ) (d : Sent P) → p < sim.lps → Among d (sim.start p).sends → d.dest < sim.lps
+    pub known : (p : ℕ) (t : Triple S) (e d : Sent P) → p < sim.lps → Among d (sim.fire p t e).sends → d.dest < sim.lps
+    pub later_start : (p : ℕ) (d : Sent P) → p < sim.lps → Among d (sim.start p).sends → TimeBefore 0 d.key.time
+    pub later : (p : ℕ) (t : Triple S) (e d : Sent P) → p < sim.lps → Among d (sim.fire p t e).sends → TimeBefore e.key.time d.key.time
+    pub ends_start : (p : ℕ) (d : Sent P) → p < sim.lps → Among d (sim.start p).sends → TimeBefore d.key.time sim.end
+    pub ends : (p : ℕ) (t : Triple S) (e d : Sent P) → p < sim.lps → Among d (sim.fire p t e).sends → TimeBefore d.key.time sim.end
+    pub numbered_start : (p : ℕ) → p < sim.lps → AreNumbered p 0 (sim.start p).triple.number (sim.start p).sends
+    pub numbered : (p : ℕ) (t : Triple S) (e : Sent P) → p < sim.lps → AreNumbered p t.number (sim.fire p t e).triple.number (sim.fire p t e).sends
+    pub few : (p : ℕ) (t : Triple S) (e : Sent P) → p < sim.lps → length (sim.fire p t e).sends ≤ MAX_SENDS
+    pub rows_start : (p : ℕ) → (sim.start p).rows ≡ []
+    pub rows : (p : ℕ) (t : Triple S) (e : Sent P) → AreRowsOf e.key 0 (sim.fire p t e).rows
+    pub some_worker : 1 ≤ sim.workers
+    pub few_workers : sim.workers ≤ MAX_WORKERS
+    pub some_time : 1 ≤ sim.end
+    pub in_time : sim.end ≤ MAX_END

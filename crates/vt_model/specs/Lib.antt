@@ -1,0 +1,10 @@
+pub mod Words
+pub mod Settings
+pub mod Sends
+pub mod Out
+pub mod Handler
+pub mod Simulation
+pub mod Rows
+pub mod Process
+pub mod Sequential
+pub mod Histories

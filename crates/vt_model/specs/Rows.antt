@@ -1,0 +1,24 @@
+-- The order of rows, and what an event's rows are.
+use Rattle.std.specs.Prelude.{◌≡◌, ℕ, suc, ◌<◌, ◌⊎◌, List, [], ◌∷◌}
+use Rattle.vt_key.specs.declared.order.Key.{Key}
+use Rattle.vt_key.specs.Order.{KeyBefore}
+use Rattle.vt_model.specs.declared.rows.Row.{Row}
+
+-- one row is before another, by key and then by index
+abbrev pub RowBefore : Row → Row → Type 0
+RowBefore a b = KeyBefore a.key b.key ⊎ ((a.key ≡ b.key) × (a.index < b.index))
+
+-- a row is before each of these
+abbrev pub AllRowsAfter : Row → List Row → Type 0
+AllRowsAfter a [] = Unit {0}
+AllRowsAfter a (r ∷ rs) = RowBefore a r × AllRowsAfter a rs
+
+-- each row is before all that follow it, so none stands twice
+abbrev pub AreRowsRising : List Row → Type 0
+AreRowsRising [] = Unit {0}
+AreRowsRising (r ∷ rs) = AllRowsAfter r rs × AreRowsRising rs
+
+-- rows of one event, from an index on: they have its key and its time, and indices one after the other
+abbrev pub AreRowsOf : Key → ℕ → List Row → Type 0
+AreRowsOf k n [] = Unit {0}
+AreRowsOf k n (r ∷ rs) = (r.key ≡ k) × (r.index ≡ n) × (r.rec.time ≡ k.time) × AreRowsOf k (suc n) rs

@@ -1,0 +1,70 @@
+//! The random words that one handler draws.
+
+ghost use Rattle.std.specs.Prelude.{◌≡◌, ◌+◌, ◌*◌, ◌/◌, ◌^◌, ◌<◌, ◌≤◌, ◌↔◌, IsTrue};
+ghost use Rattle.vt_model.specs.Words.{word_of, moved};
+ghost use Rattle.vt_model.specs.Handler.{IsUndrawn};
+
+use crate::MAX_DRAWS;
+use crate::stream::LpStream;
+
+/// What a handler draws its random words from: at most [`MAX_DRAWS`] of them. The kernel gives the words back by itself
+/// when it undoes the event.
+#[derive(Drop)]
+pub struct Draws<'a> {
+    stream: &'a mut LpStream,
+    drawn: u32,
+}
+
+impl<'a> Draws<'a> {
+    /// Draws from this stream, with nothing drawn yet. For simulators.
+    pub fn new(stream: &'a mut LpStream) -> Draws<'a>
+        ensures same_reference { result.stream.ghost_name ≡ stream.entry.ghost_name }
+        ensures stream { result.stream.now ≡ stream.old }
+        ensures undrawn { IsUndrawn result.drawn result.stream.now }
+    {
+        let _place = stream.place();
+        Draws { stream, drawn: 0 }
+    }
+
+    /// Whether one more word may be drawn.
+    pub fn room(&self) -> bool
+        ensures { IsTrue result ↔ (self.now.drawn < MAX_DRAWS) }
+    {
+        self.drawn < MAX_DRAWS
+    }
+
+    /// How many words were drawn. For simulators.
+    pub fn drawn(&self) -> u32
+        ensures { result ≡ self.now.drawn }
+    {
+        self.drawn
+    }
+
+    /// The next word, from 0 to 2^32 - 1. There must be room ([`Draws::room`]).
+    pub fn word(&mut self) -> u32
+        requires { self.old.drawn < MAX_DRAWS }
+        ensures value { result ≡ word_of self.old.stream.now 0 }
+        ensures same_reference { self.new.stream.ghost_name ≡ self.old.stream.ghost_name }
+        ensures stream { self.new.stream.now ≡ moved self.old.stream.now 1 }
+        ensures drawn { self.new.drawn ≡ self.old.drawn + 1 }
+    {
+        self.drawn += 1;
+        self.stream.word()
+    }
+
+    /// The next word scaled to a number below `n`: the word times `n`, divided by 2^32 and rounded down. It draws one
+    /// word. There must be room ([`Draws::room`]), and `n` is from 1 to 2^32.
+    pub fn below(&mut self, n: u64) -> u64
+        requires room { self.old.drawn < MAX_DRAWS }
+        requires low { 1 ≤ n }
+        requires high { n ≤ 2 ^ 32 }
+        ensures value { result ≡ word_of self.old.stream.now 0 * n / 2 ^ 32 }
+        ensures within { result < n }
+        ensures same_reference { self.new.stream.ghost_name ≡ self.old.stream.ghost_name }
+        ensures stream { self.new.stream.now ≡ moved self.old.stream.now 1 }
+        ensures drawn { self.new.drawn ≡ self.old.drawn + 1 }
+    {
+        self.drawn += 1;
+        self.stream.below(n)
+    }
+}

@@ -1,0 +1,118 @@
+//! What a model is.
+
+ghost use Rattle.std.specs.Prelude.{◌≡◌, ◌<◌, ◌≤◌, ◌^◌, ℕ, []};
+ghost use Rattle.vt_key.specs.Times.{Time};
+ghost use Rattle.vt_model.specs.Words.{word_of, moved};
+ghost use Rattle.vt_model.specs.Sends.{with_requests};
+ghost use Rattle.vt_model.specs.Handler.{Handlers, IsWithinLimits, IsFresh, IsUndrawn, AreWords};
+ghost use prog.Memory.{size, align};
+ghost use denote.Memory.{lone};
+
+use crate::{Bits, Draws, Out};
+use vt_key::Time;
+
+/// A model of a simulation: what its logical processes do at the start and at each event, and how an event is undone.
+///
+/// A handler reads nothing but its arguments and the words that it draws, so a run is a function of the model, the config
+/// and the seed. A model brings the member `handlers`, which says what its handlers give, and proofs of the laws below it.
+pub trait Model {
+    /// The state of one logical process.
+    type State: Drop;
+
+    /// What an event carries.
+    type Payload: Copy + Send;
+
+    /// What an event keeps for its reverse beside the state and the bits.
+    type Kept: Copy;
+
+    /// What each handler gives, as a function of what it is handed.
+    ghost handlers: { Self → Handlers Self.State Self.Payload Self.Kept };
+
+    /// The states that a process can be in.
+    ghost IsState: { Self → Self.State → Type 0 };
+
+    /// Makes the state of process `lp` at time 0 and sends its first events. It makes no records.
+    ///
+    /// `draws` and `out` are as their `new` gives them, and `lp` is below `out.lps()`.
+    fn start(&self, lp: u32, draws: &mut Draws<'_>, out: &mut Out<Self::Payload>) -> Self::State
+        requires undrawn { IsUndrawn draws.old.drawn draws.old.stream.now }
+        requires fresh { IsFresh out.old lp 0 }
+        ensures state { result ≡ ((handlers self.now).start out.old.lps lp (word_of draws.old.stream.now)).state }
+        ensures same_reference { draws.new.stream.ghost_name ≡ draws.old.stream.ghost_name }
+        ensures drawn { draws.new.drawn ≡ ((handlers self.now).start out.old.lps lp (word_of draws.old.stream.now)).drawn }
+        ensures stream { draws.new.stream.now ≡ moved draws.old.stream.now ((handlers self.now).start out.old.lps lp (word_of draws.old.stream.now)).drawn }
+        ensures out { out.new ≡ with_requests out.old ((handlers self.now).start out.old.lps lp (word_of draws.old.stream.now)).send_requests [] };
+
+    /// Executes an event at process `lp` and time `now`: it changes the state, may set bits, draw words, send events and
+    /// make records, and returns what `reverse` will need and can't find in these.
+    ///
+    /// `draws` and `out` are as their `new` gives them, `bits` are all clear, and `lp` is below `out.lps()`.
+    fn forward(
+        &self,
+        lp: u32,
+        now: Time,
+        payload: Self::Payload,
+        state: &mut Self::State,
+        bits: &mut Bits,
+        draws: &mut Draws<'_>,
+        out: &mut Out<Self::Payload>,
+    ) -> Self::Kept
+        requires undrawn { IsUndrawn draws.old.drawn draws.old.stream.now }
+        requires fresh { IsFresh out.old lp now }
+        requires clear { bits.old.flags ≡ 0 }
+        ensures kept { result ≡ ((handlers self.now).forward out.old.lps lp now payload state.old (word_of draws.old.stream.now)).kept }
+        ensures state { state.new ≡ ((handlers self.now).forward out.old.lps lp now payload state.old (word_of draws.old.stream.now)).state }
+        ensures bits { bits.new ≡ ((handlers self.now).forward out.old.lps lp now payload state.old (word_of draws.old.stream.now)).bits }
+        ensures same_reference { draws.new.stream.ghost_name ≡ draws.old.stream.ghost_name }
+        ensures drawn { draws.new.drawn ≡ ((handlers self.now).forward out.old.lps lp now payload state.old (word_of draws.old.stream.now)).drawn }
+        ensures stream { draws.new.stream.now ≡ moved draws.old.stream.now ((handlers self.now).forward out.old.lps lp now payload state.old (word_of draws.old.stream.now)).drawn }
+        ensures out { let gives = (handlers self.now).forward out.old.lps lp now payload state.old (word_of draws.old.stream.now) in out.new ≡ with_requests out.old gives.send_requests gives.record_requests };
+
+    /// Undoes an event: given what its `forward` left, it restores the state. It draws nothing, sends nothing and makes no
+    /// records: the kernel takes those back by itself.
+    fn reverse(
+        &self,
+        lp: u32,
+        now: Time,
+        payload: Self::Payload,
+        state: &mut Self::State,
+        bits: Bits,
+        kept: Self::Kept,
+    )
+        ensures { state.new ≡ (handlers self.now).reverse lp now payload state.old bits kept };
+
+    /// The final value of process `lp`.
+    fn finish(&self, lp: u32, state: &Self::State) -> u64
+        ensures { result ≡ (handlers self.now).finish lp state.now };
+
+    /// A start keeps the limits of a handler.
+    ghost start_within: { (m : Self) (lps lp : ℕ) (words : ℕ → ℕ) → lp < lps → AreWords words
+        → IsWithinLimits lps ((handlers m).start lps lp words).drawn ((handlers m).start lps lp words).send_requests [] };
+
+    /// An event keeps the limits of a handler.
+    ghost forward_within: { (m : Self) (lps lp : ℕ) (now : Time) (p : Self.Payload) (s : Self.State) (words : ℕ → ℕ) → lp < lps → AreWords words
+        → IsWithinLimits lps ((handlers m).forward lps lp now p s words).drawn ((handlers m).forward lps lp now p s words).send_requests ((handlers m).forward lps lp now p s words).record_requests };
+
+    /// A process can be in the state that its start makes.
+    ghost start_state: { (m : Self) (lps lp : ℕ) (words : ℕ → ℕ) → IsState m ((handlers m).start lps lp words).state };
+
+    /// From a state that a process can be in, an event leads to another.
+    ghost forward_state: { (m : Self) (lps lp : ℕ) (now : Time) (p : Self.Payload) (s : Self.State) (words : ℕ → ℕ) → IsState m s
+        → IsState m ((handlers m).forward lps lp now p s words).state };
+
+    /// Reverse undoes forward.
+    ghost undoes: { (m : Self) (lps lp : ℕ) (now : Time) (p : Self.Payload) (s : Self.State) (words : ℕ → ℕ) → IsState m s
+        → (handlers m).reverse lp now p ((handlers m).forward lps lp now p s words).state ((handlers m).forward lps lp now p s words).bits ((handlers m).forward lps lp now p s words).kept ≡ s };
+
+    /// A payload takes less than 2^32 bytes, so that generic code may keep an array of them.
+    ghost payload_size: { size (lone Self.Payload.row.mir) < 2 ^ 32 };
+
+    /// A payload holds no type that is aligned to more than 8 bytes, as `u128` is.
+    ghost payload_align: { (1 ≤ align (lone Self.Payload.row.mir)) × (align (lone Self.Payload.row.mir) ≤ 8) };
+
+    /// What is kept takes less than 2^32 bytes.
+    ghost kept_size: { size (lone Self.Kept.row.mir) < 2 ^ 32 };
+
+    /// What is kept holds no type that is aligned to more than 8 bytes.
+    ghost kept_align: { (1 ≤ align (lone Self.Kept.row.mir)) × (align (lone Self.Kept.row.mir) ≤ 8) };
+}

@@ -1,0 +1,10 @@
+//! The limits of one handler, each named once.
+
+/// The most events that one handler may send.
+pub const MAX_SENDS: usize = 8;
+
+/// The most records that one handler may make.
+pub const MAX_RECORDS: usize = 4;
+
+/// The most random words that one handler may draw.
+pub const MAX_DRAWS: u32 = 64;

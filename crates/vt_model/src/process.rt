@@ -1,0 +1,105 @@
+//! One logical process, and how it executes an event and undoes it: what the sequential simulator and a process with
+//! rollback have in common.
+
+ghost use Rattle.std.specs.Prelude.{◌≡◌, ◌+◌, ◌-◌, ◌%◌, ◌<◌, ◌≤◌, ◌^◌};
+ghost use Rattle.vt_key.specs.Times.{TimeBefore};
+ghost use Rattle.vt_model.specs.Words.{moved};
+ghost use Rattle.vt_model.specs.Simulation.{simulation_of, IsFiring};
+ghost use Rattle.vt_model.specs.Process.{triple_at, IsProcessStream};
+
+use crate::stream::LpStream;
+use crate::{Bits, Config, Draws, MAX_DRAWS, Model as EventModel, Out, Sent};
+use vt_key::MAX_COUNT;
+
+/// A logical process: its state, its next send number and its random words. For simulators.
+#[derive(Drop)]
+pub struct Process<M: EventModel> {
+    /// The model's state of this process.
+    pub state: M::State,
+    /// The number of its next send.
+    pub number: u64,
+    /// Its random words.
+    pub stream: LpStream,
+}
+
+/// What the execution of an event leaves beside the new state: what undoes it, and what it sent and recorded.
+#[derive(Drop)]
+pub struct Executed<M: EventModel> {
+    /// The flags that `forward` set.
+    pub bits: Bits,
+    /// What `forward` kept.
+    pub kept: M::Kept,
+    /// How many words it drew.
+    pub drawn: u32,
+    /// What it sent and recorded.
+    pub out: Out<M::Payload>,
+}
+
+impl<M: EventModel> Process<M> {
+    /// Executes an event for this process by the model's `forward`.
+    ///
+    /// The event's receiver is below `config.lps`, its time below `config.end`, the send number at most 2^63, and the
+    /// stream is the receiver's. The send number may be above 2^63 afterwards: the caller undoes the event then.
+    pub fn execute(&mut self, model: &M, config: Config, event: Sent<M::Payload>) -> Executed<M>
+        requires known { event.dest < config.lps }
+        requires early { TimeBefore event.key.time config.end }
+        requires numbered { self.old.number ≤ MAX_COUNT }
+        requires stream { IsProcessStream config.seed event.dest self.old.stream }
+        ensures number { self.new.number ≡ result.out.number }
+        ensures fires { IsFiring ((simulation_of (M.handlers model.now) config).fire event.dest (triple_at self.old.state self.old.number self.old.stream) event) event.key self.new.state self.new.stream result.out }
+        ensures stream { self.new.stream ≡ moved self.old.stream result.drawn }
+        ensures few { result.drawn ≤ MAX_DRAWS }
+        ensures undoes { M.IsState model.now self.old.state → (M.handlers model.now).reverse event.dest event.key.time event.payload self.new.state result.bits result.kept ≡ self.old.state }
+        ensures state { M.IsState model.now self.old.state → M.IsState model.now self.new.state }
+        ensures in_range { self.old.stream.place < 2 ^ 64 }
+    {
+        let mut bits = Bits::new();
+        let mut out = Out::new(config, event.dest, event.key.time, self.number);
+        let mut draws = Draws::new(&mut self.stream);
+        let kept = model.forward(
+            event.dest,
+            event.key.time,
+            event.payload,
+            &mut self.state,
+            &mut bits,
+            &mut draws,
+            &mut out,
+        );
+        let drawn = draws.drawn();
+        self.number = out.number();
+        Executed {
+            bits,
+            kept,
+            drawn,
+            out,
+        }
+    }
+
+    /// Undoes the last executed event, by what its execution left and the send number before it: the state goes back by
+    /// the model's `reverse`, and the drawn words are given back.
+    pub fn undo(
+        &mut self,
+        model: &M,
+        event: Sent<M::Payload>,
+        bits: Bits,
+        kept: M::Kept,
+        drawn: u32,
+        number: u64,
+    )
+        requires few { drawn ≤ MAX_DRAWS }
+        ensures state { self.new.state ≡ (M.handlers model.now).reverse event.dest event.key.time event.payload self.old.state bits kept }
+        ensures number { self.new.number ≡ number }
+        ensures stream { self.new.stream ≡ record self.old.stream { place = (self.old.stream.place + (2 ^ 64 - drawn)) % 2 ^ 64 } }
+    {
+        model.reverse(
+            event.dest,
+            event.key.time,
+            event.payload,
+            &mut self.state,
+            bits,
+            kept,
+        );
+        self.stream.back(u64::from(drawn));
+        self.number = number;
+    }
+}

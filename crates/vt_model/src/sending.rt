@@ -1,0 +1,179 @@
+//! What a handler sends and records.
+
+ghost use Rattle.std.specs.Prelude.{◌≡◌, ◌+◌, ◌^◌, ◌<◌, ◌≤◌, ◌↔◌, ◌++◌, [], ◌∷◌, length, IsTrue};
+
+use crate::{Config, MAX_RECORDS, MAX_SENDS, Record};
+use arrayvec::ArrayVec;
+use std::default::MadeWith;
+use std::marker::Model;
+use vt_key::{Key, MAX_COUNT, Time};
+
+/// An event that a handler sent. It has no stamp: the model and its sequential run know none.
+#[derive(Debug, Clone, Copy)]
+pub struct Sent<P> {
+    /// When it is received, who sent it, and by which send number.
+    pub key: Key,
+    /// The logical process that receives it.
+    pub dest: u32,
+    /// What it carries.
+    pub payload: P,
+}
+
+impl<P: Copy> MadeWith<Sent<P>> for Sent<P> {
+    fn made_with(blank: Sent<P>) -> Sent<P> {
+        blank
+    }
+}
+
+/// Where a handler puts what it sends and what it records: at most [`MAX_SENDS`] sends and [`MAX_RECORDS`] records.
+///
+/// Each send takes the next send number of its process. A send at or past the end of the run takes its number and isn't
+/// sent.
+#[derive(Drop)]
+pub struct Out<P: Copy> {
+    lps: u32,
+    end: Time,
+    lp: u32,
+    time: Time,
+    first: u64,
+    number: u64,
+    sends: Option<ArrayVec<Sent<P>, MAX_SENDS, Sent<P>>>,
+    records: ArrayVec<Record, MAX_RECORDS>,
+}
+
+impl<P: Copy> Model for Out<P> {
+    ghost use Rattle.std.specs.Prelude.{◌≡◌, ◌≤◌, ◌<◌, ◌+◌, ◌^◌, length};
+    ghost use Rattle.vt_model.specs.Sends.{Outgoing};
+
+    ghost Value = { Outgoing P };
+
+    ghost use Rattle.vt_model.specs.Out.{sends_held, IsOutInside};
+
+    ghost view = { λ o. record {
+      lps = o.lps;
+      end = o.end;
+      lp = o.lp;
+      time = o.time;
+      first = o.first;
+      number = o.number;
+      sends = sends_held o.sends;
+      records = o.records.items;
+    } };
+
+    ghost invariant = { λ o. IsOutInside o.end o.time o.first o.number (length (sends_held o.sends)) };
+}
+
+impl<P: Copy> Out<P> {
+    ghost use Rattle.vt_model.specs.Sends.{with_requests};
+    ghost use Rattle.vt_model.specs.Handler.{IsFresh};
+
+    /// The out of a handler of process `lp` at time `now`, whose next send number is `number`. For simulators: `lp` is
+    /// below `config.lps`, `now` below `config.end`, and `number` at most 2^63.
+    pub fn new(config: Config, lp: u32, now: Time, number: u64) -> Self
+        requires known { lp < config.lps }
+        requires early { now < config.end }
+        requires numbered { number ≤ MAX_COUNT }
+        ensures fresh { IsFresh result lp now }
+        ensures whole { result ≡ record { lps = config.lps; end = config.end; lp = lp; time = now; first = number; number = number; sends = []; records = [] } }
+    {
+        Out {
+            lps: config.lps,
+            end: config.end,
+            lp,
+            time: now,
+            first: number,
+            number,
+            sends: None,
+            records: ArrayVec::new(),
+        }
+    }
+
+    /// The number of logical processes of the run. It is above the handler's own process.
+    pub fn lps(&self) -> u32
+        ensures { result ≡ self.now.lps }
+    {
+        self.lps
+    }
+
+    /// The next send number of the handler's process.
+    pub fn number(&self) -> u64
+        ensures { result ≡ self.now.number }
+    {
+        self.number
+    }
+
+    /// Whether one more event may be sent.
+    pub fn room(&self) -> bool
+        ensures { IsTrue result ↔ (self.now.number < self.now.first + MAX_SENDS) }
+    {
+        self.number - self.first < MAX_SENDS as u64
+    }
+
+    /// Whether one more record may be made.
+    pub fn emit_room(&self) -> bool
+        ensures { IsTrue result ↔ (length self.now.records < MAX_RECORDS) }
+    {
+        self.records.len() < MAX_RECORDS
+    }
+
+    #[tactic(auto, using(crate::proofs::SendLemmas::sent_one, crate::proofs::SendLemmas::sent_none))]
+    /// Sends `payload` to process `dest`, to be received `delay` ticks from now. It takes the next send number, and at or
+    /// past the end of the run it isn't sent. `dest` is below [`Out::lps`], `delay` at least 1, and there must be room
+    /// ([`Out::room`]).
+    pub fn send(&mut self, dest: u32, delay: u64, payload: P)
+        requires known { dest < self.old.lps }
+        requires later { 1 ≤ delay }
+        requires room { self.old.number < self.old.first + MAX_SENDS }
+        ensures { self.new ≡ with_requests self.old (record { dest = dest; delay = delay; payload = payload } ∷ []) [] }
+    {
+        let number = self.number;
+        self.number = number + 1;
+        if delay < self.end - self.time {
+            let key = Key {
+                time: self.time + delay,
+                source: self.lp,
+                number,
+            };
+            let sent = Sent { key, dest, payload };
+            match &mut self.sends {
+                Some(sends) => sends.push(sent),
+                None => {
+                    let mut sends = ArrayVec::new_in(sent);
+                    sends.push(sent);
+                    self.sends = Some(sends);
+                }
+            }
+        }
+    }
+
+    #[tactic(auto, using(crate::proofs::SendLemmas::told))]
+    /// Makes a record of this process and time. There must be room ([`Out::emit_room`]).
+    pub fn emit(&mut self, kind: u32, value: u64)
+        requires room { length self.old.records < MAX_RECORDS }
+        ensures { self.new ≡ with_requests self.old [] (record { kind = kind; value = value } ∷ []) }
+    {
+        self.records.push(Record {
+            time: self.time,
+            lp: self.lp,
+            kind,
+            value,
+        });
+    }
+
+    /// The sends below the end of the run, in the order in which they were made. For simulators.
+    pub fn sends(&self) -> &[Sent<P>]
+        ensures { result.now ≡ self.now.sends }
+    {
+        match &self.sends {
+            Some(sends) => sends.as_slice(),
+            None => &[],
+        }
+    }
+
+    /// The records, in the order in which they were made. For simulators.
+    pub fn records(&self) -> &[Record]
+        ensures { result.now ≡ self.now.records }
+    {
+        self.records.as_slice()
+    }
+}

@@ -1,0 +1,63 @@
+//! The numbers of a run.
+
+ghost use Rattle.std.specs.Prelude.{◌≡◌, ◌<◌, ◌≤◌, ◌%◌, None, IfOk, IfErr, IsSome};
+ghost use Rattle.vt_key.specs.Faults.{option_named};
+ghost use Rattle.vt_key.specs.declared.limits.TheConstants.{MAX_PROCESSES, MAX_WORKERS, MAX_END};
+ghost use Rattle.vt_model.specs.Settings.{first_bad_setting};
+
+use vt_key::{Fault, MAX_END, MAX_PROCESSES, MAX_WORKERS, Time};
+
+/// How many logical processes and workers there are, when the run ends, and the seed of its random words.
+#[derive(Debug, Clone, Copy, PartialEq, Eq)]
+pub struct Config {
+    /// The number of logical processes, from 1 to 65,536. They are named from 0.
+    pub lps: u32,
+    /// The number of workers, from 1 to 64. They are named from 0.
+    pub workers: u32,
+    /// The end of virtual time, in ticks, from 1 to 2^62: every event of the run has a time below it.
+    pub end: Time,
+    /// The seed of all random words.
+    pub seed: u64,
+    ghost some_process: { 1 ≤ lps },
+    ghost few_processes: { lps ≤ MAX_PROCESSES },
+    ghost some_worker: { 1 ≤ workers },
+    ghost few_workers: { workers ≤ MAX_WORKERS },
+    ghost some_time: { 1 ≤ end },
+    ghost in_time: { end ≤ MAX_END },
+}
+
+impl Config {
+    /// The config of these numbers.
+    ///
+    /// [`Fault::BadOption`] names the first that is out of its range: `lps`, `workers` or `end`.
+    pub fn new(lps: u32, workers: u32, end: Time, seed: u64) -> Result<Config, Fault>
+        ensures good { IfOk result (λ c. first_bad_setting lps workers end ≡ None) }
+        ensures same { IfOk result (λ c. (c.lps ≡ lps) × (c.workers ≡ workers) × (c.end ≡ end) × (c.seed ≡ seed)) }
+        ensures bad { IfErr result (λ fault. IsSome (first_bad_setting lps workers end)) }
+        ensures named { IfErr result (λ fault. option_named fault ≡ first_bad_setting lps workers end) }
+    {
+        if lps < 1 || lps > MAX_PROCESSES {
+            return Err(Fault::BadOption("lps"));
+        }
+        if workers < 1 || workers > MAX_WORKERS {
+            return Err(Fault::BadOption("workers"));
+        }
+        if end < 1 || end > MAX_END {
+            return Err(Fault::BadOption("end"));
+        }
+        Ok(Config {
+            lps,
+            workers,
+            end,
+            seed,
+        })
+    }
+
+    /// The worker that owns logical process `p`: processes are dealt out in turn.
+    pub fn owner(&self, p: u32) -> u32
+        ensures value { result ≡ p % self.now.workers }
+        ensures known { result < self.now.workers }
+    {
+        p % self.workers
+    }
+}

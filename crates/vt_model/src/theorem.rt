@@ -1,0 +1,41 @@
+//! What holds of the sequential run of every model, so that nobody has to trust its definition.
+
+ghost use Rattle.std.specs.Prelude.{◌≡◌, ◌<◌, ◌≤◌, ℕ, suc, List, [], length};
+ghost use Rattle.vt_key.specs.Times.{Time};
+ghost use Rattle.vt_model.specs.Simulation.{simulation_of};
+ghost use Rattle.vt_model.specs.Sequential.{opening, after_steps, weight, whole_run, rows_after, seq_rows, seq_events, events_before};
+ghost use Rattle.vt_model.specs.Histories.{IsHistory, IsLawful, IsRising};
+ghost use Rattle.vt_model.specs.Rows.{AreRowsRising};
+ghost use Rattle.vt_model.specs.declared.sending.Sent.{Sent};
+
+use crate::{Config, Model};
+
+/// The laws of a model make its simulation lawful, with every config.
+pub fn models_are_lawful<M: Model>(model: &M, config: Config)
+    ensures { IsLawful (simulation_of (M.handlers model.now) config) }
+{}
+
+/// The sequential run ends: each step lowers the weight of what is pending, so after as many steps as the weight at the
+/// opening nothing is.
+pub fn run_ends<M: Model>(model: &M, config: Config)
+    ensures falls { let sim = simulation_of (M.handlers model.now) config in (n : ℕ) → 0 < length (after_steps sim n).pending → weight sim (after_steps sim (suc n)).pending < weight sim (after_steps sim n).pending }
+    ensures ends { let sim = simulation_of (M.handlers model.now) config in (after_steps sim (weight sim (opening sim).pending)).pending ≡ [] }
+    ensures stays { let sim = simulation_of (M.handlers model.now) config in (n : ℕ) → (after_steps sim n).pending ≡ [] → (after_steps sim n).executed ≡ whole_run sim }
+{}
+
+/// The keys of the executed events rise strictly, so the rows of a run rise by key and then by index: its records stand in
+/// the order of their rows, each once. It holds after each step, of the whole run, and before each time.
+pub fn rows_rise<M: Model>(model: &M, config: Config)
+    ensures keys { let sim = simulation_of (M.handlers model.now) config in (n : ℕ) → IsRising (after_steps sim n).executed }
+    ensures whole_keys { IsRising (whole_run (simulation_of (M.handlers model.now) config)) }
+    ensures after_each_step { let sim = simulation_of (M.handlers model.now) config in (n : ℕ) → AreRowsRising (rows_after sim [] (after_steps sim n).executed) }
+    ensures whole { let sim = simulation_of (M.handlers model.now) config in AreRowsRising (rows_after sim [] (whole_run sim)) }
+    ensures before { (t : Time) → AreRowsRising (seq_rows (simulation_of (M.handlers model.now) config) t) }
+{}
+
+/// There is one history: whoever has, for each process and below a time, exactly the events that the processes send to it
+/// in the order of keys, has the events of the sequential run.
+pub fn one_history<M: Model>(model: &M, config: Config)
+    ensures { let sim = simulation_of (M.handlers model.now) config in (below : Time) (lists : ℕ → List (Sent M.Payload)) → IsHistory sim below lists
+        → (t : Time) → t ≤ below → (p : ℕ) → p < config.lps → events_before t (lists p) ≡ seq_events sim p t }
+{}

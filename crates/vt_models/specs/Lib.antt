@@ -1,0 +1,4 @@
+pub mod Options
+pub mod Hop
+pub mod Rotation
+pub mod HopLaws

@@ -1,0 +1,6 @@
+pub mod InsertLemmas
+pub mod Sizes
+pub mod StartLemmas
+pub mod InsertedLemmas
+pub mod StepLemmas
+pub mod ProgressLemmas

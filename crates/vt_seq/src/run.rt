@@ -1,0 +1,116 @@
+//! The sequential run of a model.
+
+ghost use Rattle.std.specs.Prelude.{◌≡◌, ℕ, suc, ◌+◌, ◌<◌, ◌≤◌, ◌↔◌, ◌⊎◌, [], length, IfOk, IfErr, IsTrue, IfSome, IfNone, false, true};
+ghost use Rattle.vt_key.specs.declared.limits.TheConstants.{MAX_COUNT};
+ghost use Rattle.vt_model.specs.Simulation.{simulation_of, after};
+ghost use Rattle.vt_model.specs.Sequential.{after_steps, events_of, rows_after, rows_before, records_of, seq_records, seq_finals};
+ghost use Rattle.vt_seq.specs.Progress.{IsAfter};
+
+use crate::engine::Engine;
+use std::alloc::Global;
+use std::marker::Model;
+use vt_key::{Fault, Time};
+use vt_model::{Config, Model as EventModel, Record};
+
+/// A sequential run of a model, from its first event to any later one.
+///
+/// Contracts see it as its model and config, the pending events, where each process stands and the records so far, and say by
+/// `IsAfter sim n` that it is where the sequential run of the definitions is after `n` steps.
+#[derive(Drop)]
+pub struct Sequential<'m, M: EventModel> {
+    engine: Engine<'m, M>,
+}
+
+impl<'m, M: EventModel> Model for Sequential<'m, M> {
+    ghost use Rattle.std.specs.Prelude.{map};
+    ghost use Rattle.vt_model.specs.Process.{triple_at};
+    ghost use Rattle.vt_seq.specs.Progress.{Progress};
+
+    ghost Value = { Progress M M.State M.Payload };
+
+    ghost view = { λ s. record {
+      model = s.engine.model.now;
+      config = s.engine.config;
+      pending = s.engine.pending.items;
+      triples = map (λ q. triple_at q.state q.number q.stream) s.engine.processes.items;
+      records = s.engine.records.items;
+    } };
+}
+
+impl<'m, M: EventModel> Sequential<'m, M> {
+    /// The run before its first event: every process has started, and the sends of all starts are pending.
+    ///
+    /// [`Fault::Memory`]: memory was refused, and nothing is left of the run.
+    pub fn new(alloc: Global, model: &'m M, config: Config) -> Result<Sequential<'m, M>, Fault>
+        ensures model { IfOk result (λ run. run.model ≡ model.now) }
+        ensures config { IfOk result (λ run. run.config ≡ config) }
+        ensures opening { IfOk result (λ run. IsAfter (simulation_of (M.handlers model.now) config) 0 run) }
+        ensures refused { IfErr result (λ fault. fault ≡ Fault.Memory) }
+    {
+        let engine = Engine::new(alloc, model, config)?;
+        Ok(Sequential { engine })
+    }
+
+    /// The send number of process `p` now: how many events it has sent, those at or past the end of the run among them.
+    /// None where there is no such process.
+    pub fn number(&self, p: u32) -> Option<u64>
+        ensures unknown { IfNone result (self.now.config.lps ≤ p) }
+        ensures value { let sim = simulation_of (M.handlers self.now.model) self.now.config in (n : ℕ) → IsAfter sim n self.now → IfSome result (λ v. (p < self.now.config.lps) × (v ≡ (after sim p (events_of p (after_steps sim n).executed)).number)) }
+    {
+        self.engine.number(p)
+    }
+
+    /// The records of the events executed so far before time `t`, in the order of their rows.
+    ///
+    /// [`Fault::Memory`]: memory was refused.
+    pub fn records_below(&self, alloc: Global, t: Time) -> Result<Vec<Record>, Fault>
+        ensures rows { let sim = simulation_of (M.handlers self.now.model) self.now.config in (n : ℕ) → IsAfter sim n self.now → IfOk result (λ v. v.items ≡ records_of (rows_before t (rows_after sim [] (after_steps sim n).executed))) }
+        ensures refused { IfErr result (λ fault. fault ≡ Fault.Memory) }
+    {
+        self.engine.records_below(alloc, t)
+    }
+
+    /// Executes the pending event of least key; false where none is pending, which changes nothing.
+    ///
+    /// [`Fault::Memory`]: memory was refused. [`Fault::Exhausted`]: the process's send number would pass 2^63. After
+    /// either all is as it was, and the step may be tried again.
+    pub fn step(&mut self) -> Result<bool, Fault>
+        ensures model { self.new.model ≡ self.old.model }
+        ensures config { self.new.config ≡ self.old.config }
+        ensures more { IfOk result (λ more. IsTrue more ↔ (0 < length self.old.pending)) }
+        ensures idle { IfOk result (λ more. more ≡ false → self.new ≡ self.old) }
+        ensures steps { let sim = simulation_of (M.handlers self.old.model) self.old.config in (n : ℕ) → IsAfter sim n self.old → IfOk result (λ more. IsAfter sim (suc n) self.new) }
+        ensures kept { IfErr result (λ fault. self.new ≡ self.old) }
+        ensures faults { IfErr result (λ fault. (fault ≡ Fault.Memory) ⊎ (fault ≡ Fault.Exhausted)) }
+        ensures exhausted { let sim = simulation_of (M.handlers self.old.model) self.old.config in (n : ℕ) → IsAfter sim n self.old → IfErr result (λ fault. fault ≡ Fault.Exhausted → (p : ℕ) × (MAX_COUNT < (after sim p (events_of p (after_steps sim (suc n)).executed)).number)) }
+    {
+        self.engine.step()
+    }
+
+    /// Executes events until none is pending, and answers the records of the whole run.
+    ///
+    /// [`Fault::Memory`], [`Fault::Exhausted`] as of [`Sequential::step`]: the steps made before stand, and the run may be
+    /// gone on with.
+    pub fn run(&mut self, alloc: Global) -> Result<Vec<Record>, Fault>
+        ensures model { self.new.model ≡ self.old.model }
+        ensures config { self.new.config ≡ self.old.config }
+        ensures whole { let sim = simulation_of (M.handlers self.old.model) self.old.config in IfOk result (λ v. v.items ≡ seq_records sim self.old.config.end) }
+        ensures nothing_left { IfOk result (λ v. self.new.pending ≡ []) }
+        ensures steps { let sim = simulation_of (M.handlers self.old.model) self.old.config in (n : ℕ) → IsAfter sim n self.old → (k : ℕ) × IsAfter sim (k + n) self.new }
+        ensures faults { IfErr result (λ fault. (fault ≡ Fault.Memory) ⊎ (fault ≡ Fault.Exhausted)) }
+    {
+        self.engine.run(alloc)
+    }
+
+    /// The final value of each process, in rising order of processes.
+    ///
+    /// [`Fault::NotLawful`]: an event is pending still. [`Fault::Memory`]: memory was refused.
+    pub fn finals(&self, alloc: Global) -> Result<Vec<u64>, Fault>
+        ensures values { let sim = simulation_of (M.handlers self.now.model) self.now.config in IfOk result (λ v. v.items ≡ seq_finals sim) }
+        ensures nothing_left { IfOk result (λ v. self.now.pending ≡ []) }
+        ensures faults { IfErr result (λ fault. (fault ≡ Fault.Memory) ⊎ (fault ≡ Fault.NotLawful)) }
+        ensures not_lawful { IfErr result (λ fault. fault ≡ Fault.NotLawful → 0 < length self.now.pending) }
+    {
+        self.engine.finals(alloc)
+    }
+}

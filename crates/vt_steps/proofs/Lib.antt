@@ -1,0 +1,15 @@
+pub mod Lists
+pub mod Places
+pub mod Sums
+pub mod Stamped
+pub mod Changes
+pub mod Shape
+pub mod Balance
+pub mod Everywhere
+pub mod CellLemmas
+pub mod Refusals
+pub mod Locals
+pub mod Annihilation
+pub mod MailLemmas
+pub mod LetterLemmas
+pub mod MemoryLemmas
