@@ -10,3 +10,5 @@ pub mod CellLemmas
 pub mod Refusals
 pub mod Locals
 pub mod Annihilation
+pub mod OpeningSums
+pub mod Stamps
