@@ -12,3 +12,4 @@ pub mod Locals
 pub mod Annihilation
 pub mod OpeningSums
 pub mod Stamps
+pub mod Agreement
