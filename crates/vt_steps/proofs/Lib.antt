@@ -13,3 +13,4 @@ pub mod Annihilation
 pub mod OpeningSums
 pub mod Stamps
 pub mod Agreement
+pub mod OwnHistories
