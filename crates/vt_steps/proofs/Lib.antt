@@ -14,3 +14,5 @@ pub mod OpeningSums
 pub mod Stamps
 pub mod Agreement
 pub mod OwnHistories
+pub mod MailLemmas
+pub mod LetterLemmas
