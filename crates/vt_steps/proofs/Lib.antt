@@ -16,3 +16,4 @@ pub mod Agreement
 pub mod OwnHistories
 pub mod MailLemmas
 pub mod LetterLemmas
+pub mod Entries
