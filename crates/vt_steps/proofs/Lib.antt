@@ -17,3 +17,4 @@ pub mod OwnHistories
 pub mod MailLemmas
 pub mod LetterLemmas
 pub mod Entries
+pub mod LiveEvents
