@@ -18,3 +18,4 @@ pub mod MailLemmas
 pub mod LetterLemmas
 pub mod Entries
 pub mod LiveEvents
+pub mod QuietHistories
