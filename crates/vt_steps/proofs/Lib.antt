@@ -19,3 +19,4 @@ pub mod LetterLemmas
 pub mod Entries
 pub mod LiveEvents
 pub mod QuietHistories
+pub mod Ranks
