@@ -1,0 +1,4 @@
+pub mod RowOrder
+pub mod Numbering
+pub mod SequentialRows
+pub mod ProcessSums
