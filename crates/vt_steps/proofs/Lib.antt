@@ -1,4 +1,11 @@
+pub mod Lists
+pub mod Places
+pub mod Sums
+pub mod Stamped
+pub mod Changes
+pub mod Shape
+pub mod Balance
+pub mod Everywhere
 pub mod RowOrder
-pub mod Numbering
 pub mod SequentialRows
 pub mod ProcessSums

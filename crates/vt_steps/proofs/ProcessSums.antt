@@ -12,7 +12,8 @@ use Rattle.vt_model.specs.Histories.{Among, IsLawful}
 use Rattle.vt_model.proofs.RunLemmas.{tested, filter-yes, filter-no, after-snoc, events_of-same, events_of-other, known_sent, lists_of, reached}
 use Rattle.vt_steps.specs.Rows.{rows_from}
 use Rattle.vt_steps.specs.World.{process_at, process_count}
-use Rattle.vt_steps.proofs.Numbering.{own-place, worker-at, place-at, place-known, known-worker}
+use Rattle.std.proofs.Math.Nat.{mod-lt}
+use Rattle.vt_steps.proofs.Shape.{own-place, worker-of_place, place-of_place, known-place}
 
 -- ---- sums over a range of numbers
 
@@ -93,7 +94,7 @@ module _ {S P : Type 0} (sim : Simulation S P) where
   by-place : (p w place : ℕ) → p % sim.workers ≡ w → w < sim.workers → nat_eq p (process_at sim w place) ≡ nat_eq (p / sim.workers) place
   by-place p w place at within = elim (tested (nat_eq p (process_at sim w place))) [
     | inl is ↦
-        let own : p / sim.workers ≡ place = ap (λ q. q / sim.workers) (eqb-true p (process_at sim w place) is) ∙ place-at sim w place within in
+        let own : p / sim.workers ≡ place = ap (λ q. q / sim.workers) (eqb-true p (process_at sim w place) is) ∙ place-of_place sim w place within in
         is ∙ sym (eq-eqb (p / sim.workers) place own)
     | inr is ↦ elim (tested (nat_eq (p / sim.workers) place)) [
       | inl also ↦
@@ -107,7 +108,7 @@ module _ {S P : Type 0} (sim : Simulation S P) where
   not-there : (p w place : ℕ) → nat_eq (p % sim.workers) w ≡ false → w < sim.workers → nat_eq p (process_at sim w place) ≡ false
   not-there p w place is within = elim (tested (nat_eq p (process_at sim w place))) [
     | inl at ↦
-        let own : p % sim.workers ≡ w = ap (λ q. q % sim.workers) (eqb-true p (process_at sim w place) at) ∙ worker-at sim w place within in
+        let own : p % sim.workers ≡ w = ap (λ q. q % sim.workers) (eqb-true p (process_at sim w place) at) ∙ worker-of_place sim w place within in
         absurd (let h : true ≡ false = sym (eq-eqb (p % sim.workers) w own) ∙ is in cc)
     | inr at ↦ at
   ]
@@ -117,7 +118,7 @@ module _ {S P : Type 0} (sim : Simulation S P) where
   one-at-worker x p w some known within = elim (tested (nat_eq (p % sim.workers) w)) [
     | inl is ↦
         let at : p % sim.workers ≡ w = eqb-true (p % sim.workers) w is in
-        let fits = place-known sim p some known in
+        let fits = known-place sim p some known in
         let count = ap (process_count sim) at in
         let same : over_places (λ q. cond (nat_eq p q) x 0) w ≡ sum_by (λ place. cond (nat_eq (p / sim.workers) place) x 0) (range_with_len 0 (process_count sim w)) =
         sum_by-range_same (λ place. cond (nat_eq p (process_at sim w place)) x 0) (λ place. cond (nat_eq (p / sim.workers) place) x 0) 0 (process_count sim w)
@@ -133,7 +134,7 @@ module _ {S P : Type 0} (sim : Simulation S P) where
   -- a sum in which one process alone weighs something
   over_processes-one : (x p : ℕ) → 1 ≤ sim.workers → p < sim.lps → over_processes (λ q. cond (nat_eq p q) x 0) ≡ x
   over_processes-one x p some known =
-      let within = known-worker sim p some in
+      let within = mod-lt p some in
       sum_by-range_same (over_places (λ q. cond (nat_eq p q) x 0)) (λ w. cond (nat_eq (p % sim.workers) w) x 0) 0 sim.workers
       (λ w low high. one-at-worker x p w some known (omega arith))
       ∙ sum_by-range_one x (p % sim.workers) 0 sim.workers (omega arith) (omega arith)
