@@ -6,6 +6,12 @@ pub mod Changes
 pub mod Shape
 pub mod Balance
 pub mod Everywhere
+pub mod Tests
 pub mod RowOrder
 pub mod SequentialRows
 pub mod ProcessSums
+pub mod Flags
+pub mod Early
+pub mod Colours
+pub mod Rounds
+pub mod Passes

@@ -7,7 +7,7 @@ use Rattle.std.proofs.lemmas.List.Sums.{sum_by-cons, sum_by-append}
 use Rattle.vt_model.specs.declared.rows.Row.{Row}
 use Rattle.vt_model.specs.declared.sending.Sent.{Sent}
 use Rattle.vt_model.specs.Simulation.{Simulation, Triple, after}
-use Rattle.vt_model.specs.Sequential.{events_of, rows_after, fired_after}
+use Rattle.vt_model.specs.Sequential.{opening, weight, whole_run, events_of, rows_after, fired_after}
 use Rattle.vt_model.specs.Histories.{Among, IsLawful}
 use Rattle.vt_model.proofs.RunLemmas.{tested, filter-yes, filter-no, after-snoc, events_of-same, events_of-other, known_sent, lists_of, reached}
 use Rattle.vt_steps.specs.Rows.{rows_from}
