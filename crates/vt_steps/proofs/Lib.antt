@@ -6,6 +6,12 @@ pub mod Changes
 pub mod Shape
 pub mod Balance
 pub mod Everywhere
+pub mod CellLemmas
+pub mod Refusals
+pub mod Locals
+pub mod Annihilation
+pub mod OpeningSums
+pub mod Stamps
 pub mod Tests
 pub mod RowOrder
 pub mod SequentialRows

@@ -1,7 +1,7 @@
 -- What each step reads and changes: the part of one worker, and the content of at most one cell, which is an inbox, the
 -- board or the book. `act` is a step on these two alone.
-use Rattle.std.specs.Prelude.{◌≡◌, ℕ, ◌/◌, ◌%◌, Bool, true, false, List, [], ◌++◌, if◌then◌else◌, slice_get, slice_set, Option, Some, None, Result, Ok, Err}
-use Rattle.std.specs.Option.{option_map}
+use Rattle.std.specs.Prelude.{ℕ, ◌/◌, ◌%◌, Bool, List, [], ◌++◌, if◌then◌else◌, slice_get, slice_set, Option, Some, None, Result, Ok, Err}
+use Rattle.std.specs.Option.{option_map, is_none}
 use Rattle.vt_key.specs.declared.letter.Mail.{Mail}
 use Rattle.vt_key.specs.declared.fault.Fault.{Fault}
 use Rattle.vt_key.specs.declared.fault.Fault.TheVariants.{NotLawful, Closed}
@@ -45,15 +45,6 @@ module _ {P : Type 0} where
 
 -- ---- whose part and which cell a step is about
 
--- a local step is about one part alone
-abbrev pub is_local : Step → Bool
-is_local (Execute p) = true
-is_local (Undo p) = true
-is_local (Cancel p stamp) = true
-is_local (Home w) = true
-is_local (Accept w i) = true
-is_local _ = false
-
 -- the worker whose part a step reads and changes; Close is about no part
 abbrev pub worker_of : {S P : Type 0} → Simulation S P → Step → Option ℕ
 worker_of sim (Execute p) = Some (p % sim.workers)
@@ -78,10 +69,9 @@ cell_of (Commit w) = Some book_cell
 cell_of Close = Some book_cell
 cell_of _ = None
 
--- this one, where one is named
-abbrev pub IsAny : {X : Type 0} → Option X → X → Type 0
-IsAny None x = Unit {0}
-IsAny (Some y) x = y ≡ x
+-- a local step is about one part alone
+abbrev pub is_local : Step → Bool
+is_local step = is_none (cell_of step)
 
 -- ---- a step on a part and a cell
 

@@ -48,8 +48,6 @@ module _ {P : Type 0} where
   unfoldable pub entry_sum : (Entry P → ℕ) → World P → ℕ
   entry_sum g world = sum_by (part_entries g) world.parts
 
--- ---- copies of one stamp
-
 -- 1 where the test passes
 abbrev pub as_count : Bool → ℕ
 as_count b = if b then 1 else 0
@@ -58,8 +56,7 @@ as_count b = if b then 1 else 0
 abbrev pub is_sign : Sign → Sign → Bool
 is_sign Plus Plus = true
 is_sign Minus Minus = true
-is_sign Plus Minus = false
-is_sign Minus Plus = false
+is_sign _ _ = false
 
 module _ {P : Type 0} where
   -- 1 for a letter of this sign and stamp

@@ -42,8 +42,6 @@ module _ {P : Type 0} where
   abbrev pub has_rank : Rank → Letter P → Bool
   has_rank rank letter = rank_same letter.event.rank rank
 
-  -- ---- times
-
   -- the time of a letter is the receive time of its event
   abbrev pub letter_time : Letter P → Time
   letter_time letter = letter.event.rank.key.time
@@ -52,8 +50,6 @@ module _ {P : Type 0} where
   abbrev pub least_time : Time → List (Letter P) → Time
   least_time end [] = end
   least_time end (letter ∷ letters) = earlier (letter_time letter) (least_time end letters)
-
-  -- ---- queues
 
   -- the letter is put before the first one of greater rank, or at the end
   abbrev pub insert_ordered : Letter P → List (Letter P) → List (Letter P)

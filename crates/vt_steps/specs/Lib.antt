@@ -10,3 +10,4 @@ pub mod Copies
 pub mod Cells
 pub mod StandsFor
 pub mod Claims
+pub mod Laws

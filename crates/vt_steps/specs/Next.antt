@@ -52,8 +52,7 @@ module _ {P : Type 0} where
         parts = slice_set world.parts w (part_after_send sim v part);
         inboxes = slice_set world.inboxes v (inbox ++ mail_of_send sim v part);
       }) else None
-  send sim world w v (Some part) None = None
-  send sim world w v None inbox = None
+  send sim world w v _ _ = None
 
   -- Fetch of w: nothing that arrived is left; the inbox is empty afterwards
   unfoldable pub fetch : World P → ℕ → Option (Part P) → Option (List (Mail P)) → Option (World P)
@@ -62,8 +61,7 @@ module _ {P : Type 0} where
         parts = slice_set world.parts w (part_after_fetch inbox part);
         inboxes = slice_set world.inboxes w [];
       }) else None
-  fetch world w (Some part) None = None
-  fetch world w None inbox = None
+  fetch world w _ _ = None
 
   -- Cut of w, where the board takes it
   unfoldable pub cut : {S : Type 0} → Simulation S P → World P → ℕ → Option (Part P) → Option Board → Option (World P)
@@ -72,8 +70,7 @@ module _ {P : Type 0} where
         parts = slice_set world.parts w (part_after_cut sim.end world.board.announced part);
         board = board;
       })
-  cut sim world w (Some part) None = None
-  cut sim world w None board = None
+  cut sim world w _ _ = None
 
   -- a lawful Report of w: this board has the report, the pass is closed with the last one, and the worker's floor is the
   -- announced time as it then is

@@ -84,8 +84,7 @@ module _ {P : Type 0} where
   -- both letters are there, and their keys are equal
   abbrev pub are_opposite : Option (Letter P) → Option (Letter P) → Bool
   are_opposite (Some minus) (Some plus) = key_same minus.event.rank.key plus.event.rank.key
-  are_opposite (Some minus) None = false
-  are_opposite None plus = false
+  are_opposite _ _ = false
 
   -- Cancel at a process: the first waiting and the first pending letter of this stamp, if they have equal keys, annihilate
   -- each other

@@ -81,10 +81,9 @@ module _ {S P : Type 0} (sim : Simulation S P) where
   -- values stand for the processes of worker w from this place on, one by one
   abbrev pub StandForProcesses : ℕ → ℕ → List (ProcessMemory S P) → List (LogicalProcess P) → Type 0
   StandForProcesses w place [] [] = Unit {0}
-  StandForProcesses w place [] (process ∷ processes) = ⊥
-  StandForProcesses w place (memory ∷ memories) [] = ⊥
   StandForProcesses w place (memory ∷ memories) (process ∷ processes) =
       StandsForProcess (process_at sim w place) memory process × StandForProcesses w (place + 1) memories processes
+  StandForProcesses w place _ _ = ⊥
 
   -- a value stands for the part of worker w: it stands for its processes, and has its other fields
   pub record StandsForPart (w : ℕ) (memory : PartMemory S P) (part : Part P) : Type 0 where
@@ -101,9 +100,8 @@ module _ {S P : Type 0} (sim : Simulation S P) where
   -- values stand for the parts from worker w on, one by one
   abbrev pub StandForParts : ℕ → List (PartMemory S P) → List (Part P) → Type 0
   StandForParts w [] [] = Unit {0}
-  StandForParts w [] (part ∷ parts) = ⊥
-  StandForParts w (memory ∷ memories) [] = ⊥
   StandForParts w (memory ∷ memories) (part ∷ parts) = StandsForPart w memory part × StandForParts (w + 1) memories parts
+  StandForParts w _ _ = ⊥
 
   -- a value stands for a world: it stands for its parts, and has its inboxes, board and book
   pub record StandsFor (memory : WorldMemory S P) (world : World P) : Type 0 where
