@@ -21,3 +21,7 @@ pub mod Early
 pub mod Colours
 pub mod Rounds
 pub mod Passes
+pub mod RankTimes
+pub mod EarlyLocal
+pub mod Announced
+pub mod Floors
