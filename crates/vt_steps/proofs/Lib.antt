@@ -25,3 +25,4 @@ pub mod RankTimes
 pub mod EarlyLocal
 pub mod Announced
 pub mod Floors
+pub mod TimeGuards

@@ -61,6 +61,7 @@ module _ {P : Type 0} (end t : Time) (parts : List (Part P)) (inboxes : List (Li
           all_cut = λ w flag. absurd (none-set n w flag);
           sent = sym (flagged_sum-none (sent_in (other_colour next)) n parts);
           got = omega arith;
+          red_late = λ h w part at flag. absurd (none-set n w flag);
           new_mail = λ all. sum_by-nothings (early_coloured next t) inboxes (λ i inbox at. none-coloured next t inbox (let a = sum-at (count_colour next) inboxes i inbox at in omega arith));
           heard = λ nothing least others w part at flag. absurd (none-set n w flag);
         };
@@ -128,6 +129,17 @@ module _ {P : Type 0} (end t announced : Time) (parts : List (Part P)) (inboxes 
           all_cut = λ v flag. absurd (nobody-reported now o v flag);
           sent = o.sent ∙ sym (flagged_sum-put_same (sent_in old) board.has_reported parts w part after is refl);
           got = (let a = flagged_sum-put_same (got_in old) board.has_reported parts w part after is refl in let b = o.got in omega arith);
+          red_late = λ h v p at cut.
+              elim (set-cases board.has_cut w v true clear cut) [
+                | inl e ↦
+                    (let there : slice_get (slice_set parts w after) w ≡ Some p = ap (λ k. slice_get (slice_set parts w after) k) (sym e.0) ∙ at in
+                    let here : slice_get (slice_set parts w after) w ≡ Some after = get-put_same parts w part after is in
+                    let same : p ≡ after = cc in
+                    let red = ap (λ q. q.red_minimum) same in
+                    let bound = g.announced_end in
+                    omega arith)
+                | inr e ↦ o.red_late h v p (sym (get-put_other parts w v after e.0) ∙ at) e.1
+              ];
           new_mail = λ all. o.new_mail (λ v p at cut.
               (let apart = λ (e : v ≡ w). (let h : Some true ≡ Some false = sym cut ∙ (ap (λ k. slice_get board.has_cut k) e ∙ clear) in let none : ⊥ = cc in none) in
               all v p (get-put_other parts w v after apart ∙ at) (get-put_other board.has_cut w v true apart ∙ cut)));
@@ -183,6 +195,7 @@ module _ {P : Type 0} (end t : Time) (parts : List (Part P)) (inboxes : List (Li
           all_cut = λ v flag. all;
           sent = (let a = o.sent in omega arith);
           got = (let a = o.got in omega arith);
+          red_late = o.red_late;
           new_mail = o.new_mail;
           heard = λ nothing least others v p at flag.
               (let a = o.got in
@@ -239,6 +252,7 @@ module _ {P : Type 0} (end t : Time) (parts : List (Part P)) (inboxes : List (Li
           all_cut = λ w flag. absurd (none-set n w flag);
           sent = sym (flagged_sum-none (sent_in old) n parts);
           got = omega arith;
+          red_late = o.red_late;
           new_mail = o.new_mail;
           heard = λ nothing least others w part at flag. absurd (none-set n w flag);
         };
