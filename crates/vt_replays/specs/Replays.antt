@@ -1,5 +1,5 @@
 -- Worked replays: lists of steps of the hop model, each step with its answer, and what the world shows after them.
-use Rattle.std.specs.Prelude.{◌≡◌, ℕ, List, [], ◌∷◌, ◌++◌, map, Result, Ok, Err}
+use Rattle.std.specs.Prelude.{◌≡◌, ◌≤◌, ℕ, List, [], ◌∷◌, ◌++◌, map, Result, Ok, Err}
 use Rattle.std.proofs.Common.{lit≤}
 use Rattle.vt_key.specs.Times.{Time}
 use Rattle.vt_key.specs.declared.order.Stamp.{Stamp}
@@ -7,7 +7,10 @@ use Rattle.vt_key.specs.declared.fault.Fault.{Fault}
 use Rattle.vt_key.specs.declared.fault.Fault.TheVariants.{NotLawful, Closed}
 use Rattle.vt_model.specs.declared.rows.Record.{Record}
 use Rattle.vt_model.specs.declared.settings.Config.{Config}
-use Rattle.vt_model.specs.Simulation.{Simulation, simulation_of}
+use Rattle.vt_model.specs.Simulation.{Simulation, simulation_of, after}
+use Rattle.vt_model.specs.Sequential.{seq_events, seq_records}
+use Rattle.vt_key.specs.declared.limits.TheConstants.{MAX_PROCESSES, MAX_WORKERS, MAX_END}
+use Rattle.vt_models.specs.declared.hop.TheConstants.{MAX_HOPS, MAX_STRIDE, MAX_DELAY}
 use Rattle.vt_models.specs.declared.hop.Hop.{Hop}
 use Rattle.vt_models.specs.declared.hop.Token.{Token}
 use Rattle.vt_models.specs.Hop.{hop_handlers}
@@ -64,33 +67,50 @@ pub record Replays {S P : Type 0} (sim : Simulation S P) (lines : List Line) (sh
 
 -- ---- the hop model of the replays
 
+-- a hop model of these options
+abbrev pub hop_of : (hops stride delay : ℕ) → hops ≤ MAX_HOPS → stride ≤ MAX_STRIDE → 1 ≤ delay → delay ≤ MAX_DELAY → Hop
+hop_of hops stride delay few short some below = record {
+  hops = hops;
+  stride = stride;
+  delay = delay;
+  few_hops = few;
+  short_stride = short;
+  some_delay = some;
+  short_delay = below;
+}
+
+-- a config of these numbers, with seed 0
+abbrev pub config_of : (lps workers : ℕ) (end : Time) → 1 ≤ lps → lps ≤ MAX_PROCESSES → 1 ≤ workers → workers ≤ MAX_WORKERS → 1 ≤ end → end ≤ MAX_END → Config
+config_of lps workers end some_lp few_lps some_worker few_workers some_time in_time = record {
+  lps = lps;
+  workers = workers;
+  end = end;
+  seed = 0;
+  some_process = some_lp;
+  few_processes = few_lps;
+  some_worker = some_worker;
+  few_workers = few_workers;
+  some_time = some_time;
+  in_time = in_time;
+}
+
 -- one hop for each token, to the next process, in one tick
 abbrev pub one_hop : Hop
-one_hop = record {
-  hops = 1;
-  stride = 1;
-  delay = 1;
-  few_hops = lit≤ tt;
-  short_stride = lit≤ tt;
-  some_delay = lit≤ tt;
-  short_delay = lit≤ tt;
-}
+one_hop = hop_of 1 1 1 (lit≤ tt) (lit≤ tt) (lit≤ tt) (lit≤ tt)
+
+-- two hops for each token, to the next process, in two ticks
+abbrev pub two_hops : Hop
+two_hops = hop_of 2 1 2 (lit≤ tt) (lit≤ tt) (lit≤ tt) (lit≤ tt)
 
 -- two processes on two workers, and a run that ends at 10
 abbrev pub two_workers : Config
-two_workers = record {
-  lps = 2;
-  workers = 2;
-  end = 10;
-  seed = 0;
-  some_process = lit≤ tt;
-  few_processes = lit≤ tt;
-  some_worker = lit≤ tt;
-  few_workers = lit≤ tt;
-  some_time = lit≤ tt;
-  in_time = lit≤ tt;
-}
+two_workers = config_of 2 2 10 (lit≤ tt) (lit≤ tt) (lit≤ tt) (lit≤ tt) (lit≤ tt) (lit≤ tt)
 
+-- two processes on one worker, and a run that ends at 10
+abbrev pub one_worker : Config
+one_worker = config_of 2 1 10 (lit≤ tt) (lit≤ tt) (lit≤ tt) (lit≤ tt) (lit≤ tt) (lit≤ tt)
+
+-- the simulation of the replays: one hop, on two workers
 abbrev pub replayed : Simulation ℕ Token
 replayed = simulation_of (hop_handlers one_hop) two_workers
 
@@ -178,10 +198,99 @@ travelling_least =
     ++ ok (Cut 0) ∷ ok (Cut 1) ∷ ok (Send 1 0) ∷ replies (Report 0) Waiting ∷ replies (Report 1) (Announced 3)
     ∷ ok (Cut 0) ∷ ok (Commit 0) ∷ ok (Commit 1) ∷ not_lawful Close ∷ []
 
+-- the records of the run before 3
+abbrev pub below_3 : List Record
+below_3 = hop_record 1 0 1 ∷ hop_record 2 1 1 ∷ hop_record 2 1 258 ∷ []
+
 abbrev pub travelling_least_shown : Shown
-travelling_least_shown = record {
-  announced = 3;
-  floor = 3;
-  least = 3;
-  records = hop_record 1 0 1 ∷ hop_record 2 1 1 ∷ hop_record 2 1 258 ∷ [];
-}
+travelling_least_shown = record { announced = 3; floor = 3; least = 3; records = below_3 }
+
+-- ---- a fetched letter is the least
+
+-- worker 1 has fetched the straggler and not accepted it: nothing else is as early
+abbrev pub fetched_least : List Line
+fetched_least =
+    ok (Home 0) ∷ ok (Home 1) ∷ ok (Execute 1) ∷ ok (Execute 0) ∷ ok (Send 0 1) ∷ ok (Fetch 1)
+    ∷ ok (Cut 0) ∷ ok (Cut 1) ∷ replies (Report 0) Waiting ∷ replies (Report 1) (Announced 2) ∷ []
+
+abbrev pub fetched_least_shown : Shown
+fetched_least_shown = record { announced = 2; floor = 0; least = 2; records = [] }
+
+-- ---- a run without events
+
+-- it ends before the first event: all of it can be committed at once
+abbrev pub until_one : Simulation ℕ Token
+until_one = simulation_of (hop_handlers two_hops) (config_of 2 1 1 (lit≤ tt) (lit≤ tt) (lit≤ tt) (lit≤ tt) (lit≤ tt) (lit≤ tt))
+
+abbrev pub no_events : List Line
+no_events = ok (Cut 0) ∷ replies (Report 0) (Announced 1) ∷ ok (Commit 0) ∷ ok Close ∷ []
+
+abbrev pub no_events_shown : Shown
+no_events_shown = record { announced = 1; floor = 1; least = 1; records = [] }
+
+-- ---- an undo without a cause
+
+-- no earlier event and no anti-message has come, so nothing is undone
+abbrev pub undo_without_cause : List Line
+undo_without_cause = ok (Home 0) ∷ ok (Execute 0) ∷ not_lawful (Undo 0) ∷ []
+
+abbrev pub undo_without_cause_shown : Shown
+undo_without_cause_shown = record { announced = 0; floor = 0; least = 2; records = [] }
+
+-- ---- one worker commits alone
+
+-- the floor of the book is the least floor up to which a worker has handed in, so nothing is shown yet
+abbrev pub one_commits : List Line
+one_commits = in_order ++ a_round ++ ok (Commit 1) ∷ []
+
+abbrev pub one_commits_shown : Shown
+one_commits_shown = record { announced = 10; floor = 0; least = 10; records = [] }
+
+-- ---- a closed book
+
+-- it takes nothing more
+abbrev pub after_the_close : List Line
+after_the_close = straggler ++ closed (Commit 0) ∷ closed Close ∷ []
+
+-- ---- sequential runs
+
+-- the sequential run of a simulation has these records before a time
+abbrev pub HasRecords : {S P : Type 0} → Simulation S P → Time → List Record → Type 0
+HasRecords sim t shown = seq_records sim t ≡ shown
+
+-- after the whole run, a process has this state and has taken so many send numbers
+pub record EndsWith {P : Type 0} (sim : Simulation ℕ P) (p state number : ℕ) : Type 0 where
+  pub state_is : (after sim p (seq_events sim p sim.end)).state ≡ state
+  pub number_is : (after sim p (seq_events sim p sim.end)).number ≡ number
+
+-- two hops to the end at 10, and to an end at 4
+abbrev pub two_hops_run : Simulation ℕ Token
+two_hops_run = simulation_of (hop_handlers two_hops) one_worker
+
+abbrev pub one_worker_to_4 : Config
+one_worker_to_4 = config_of 2 1 4 (lit≤ tt) (lit≤ tt) (lit≤ tt) (lit≤ tt) (lit≤ tt) (lit≤ tt)
+
+abbrev pub two_hops_run_to_4 : Simulation ℕ Token
+two_hops_run_to_4 = simulation_of (hop_handlers two_hops) one_worker_to_4
+
+-- three processes, one hop two processes further in one tick, and an end at 3
+abbrev pub two_further : Hop
+two_further = hop_of 1 2 1 (lit≤ tt) (lit≤ tt) (lit≤ tt) (lit≤ tt)
+
+abbrev pub three_processes : Config
+three_processes = config_of 3 1 3 (lit≤ tt) (lit≤ tt) (lit≤ tt) (lit≤ tt) (lit≤ tt) (lit≤ tt)
+
+abbrev pub three_processes_run : Simulation ℕ Token
+three_processes_run = simulation_of (hop_handlers two_further) three_processes
+
+abbrev pub six_records : List Record
+six_records =
+    hop_record 1 0 1 ∷ hop_record 2 1 2 ∷ hop_record 3 1 513 ∷ hop_record 4 0 258 ∷ hop_record 5 0 66049
+    ∷ hop_record 6 1 131330 ∷ []
+
+abbrev pub three_records : List Record
+three_records = hop_record 1 0 1 ∷ hop_record 2 1 2 ∷ hop_record 3 1 513 ∷ []
+
+-- at time 2 the event of process 2 is before that of process 1, since its source is lower: keys decide, not receivers
+abbrev pub three_processes_records : List Record
+three_processes_records = hop_record 1 0 1 ∷ hop_record 2 2 1 ∷ hop_record 2 1 2 ∷ []

@@ -1,10 +1,8 @@
 -- A message and its anti-message leave nothing.
-use Rattle.std.proofs.Common.{◌≡◌, ◌||◌, arith, Bool, true, false, cond, List, [], ◌∷◌, refl, sym, ◌∙◌, ap, subst, Option, Some, None}
-use Rattle.std.proofs.lemmas.Bool.Decides.{nat_tests}
+use Rattle.std.proofs.Common.{◌≡◌, ◌||◌, Bool, true, false, cond, List, [], ◌∷◌, refl, ◌∙◌, ap, Some, None}
 use Rattle.std.specs.List.{find, list_any}
-use Rattle.vt_key.specs.Order.{rank_before, key_same, stamp_same}
+use Rattle.vt_key.specs.Order.{rank_before}
 use Rattle.vt_key.specs.declared.order.Stamp.{Stamp}
-use Rattle.vt_key.specs.declared.order.Key.{Key}
 use Rattle.vt_key.specs.declared.letter.Event.{Event}
 use Rattle.vt_key.specs.declared.letter.Letter.{Letter}
 use Rattle.vt_key.specs.declared.letter.Sign.TheVariants.{Plus, Minus}
@@ -12,15 +10,8 @@ use Rattle.vt_steps.specs.Letters.{has_stamp, insert_ordered, without_first, sig
 use Rattle.vt_steps.specs.World.{LogicalProcess}
 use Rattle.vt_steps.specs.ProcessSteps.{ProcessEffect, holds, are_opposite, accept_process, cancel_process}
 use Rattle.vt_steps.specs.Laws.{IsFreeOf, unchanged, Annihilate}
+use Rattle.vt_key.proofs.OrderLemmas.{same-stamp_same, same-key_same}
 use Rattle.vt_steps.proofs.Changes.{unless_has}
-
-own_stamp : (stamp : Stamp) → stamp_same stamp stamp ≡ true
-unfolding stamp_same
-own_stamp stamp = grind (arith, nat_tests)
-
-own_key : (key : Key) → key_same key key ≡ true
-unfolding key_same
-own_key key = grind (arith, nat_tests)
 
 either_false : (a b : Bool) → (a || b) ≡ false → (a ≡ false) × (b ≡ false)
 either_false true b e = absurd (let h : true ≡ false = e in cc)
@@ -63,18 +54,18 @@ module _ {P : Type 0} (event : Event P) (process : LogicalProcess P) (free : IsF
   unfolding cancel_process with_both
   cancel-both =
       let stamp = event.rank.stamp in
-      let waits = find-inserted stamp (signed Minus event) process.waiting (own_stamp stamp) free.waiting in
-      let pends = find-inserted stamp (signed Plus event) process.pending (own_stamp stamp) free.pending in
-      let opposite = ap (λ o. are_opposite o (find (has_stamp stamp) with_both.pending)) waits ∙ ap (λ o. are_opposite (Some (signed Minus event)) o) pends ∙ own_key event.rank.key in
+      let waits = find-inserted stamp (signed Minus event) process.waiting (same-stamp_same stamp) free.waiting in
+      let pends = find-inserted stamp (signed Plus event) process.pending (same-stamp_same stamp) free.pending in
+      let opposite = ap (λ o. are_opposite o (find (has_stamp stamp) with_both.pending)) waits ∙ ap (λ o. are_opposite (Some (signed Minus event)) o) pends ∙ same-key_same event.rank.key in
       ap (λ b. cond b (Some (record {
         process = record process { pending = without_first (has_stamp stamp) with_both.pending; waiting = without_first (has_stamp stamp) with_both.waiting };
         letters = [];
         serials = 0;
       })) None) opposite
       ∙ ap (λ (xs : List (Letter P)). Some (unchanged (record process { pending = xs; waiting = without_first (has_stamp stamp) with_both.waiting })))
-      (without-inserted stamp (signed Plus event) process.pending (own_stamp stamp) free.pending)
+      (without-inserted stamp (signed Plus event) process.pending (same-stamp_same stamp) free.pending)
       ∙ ap (λ (xs : List (Letter P)). Some (unchanged (record process { waiting = xs })))
-      (without-inserted stamp (signed Minus event) process.waiting (own_stamp stamp) free.waiting)
+      (without-inserted stamp (signed Minus event) process.waiting (same-stamp_same stamp) free.waiting)
 
   message_first : (with_one both : ProcessEffect P) → accept_process (signed Plus event) process ≡ Some with_one → accept_process (signed Minus event) with_one.process ≡ Some both →
       cancel_process event.rank.stamp both.process ≡ Some (unchanged process)

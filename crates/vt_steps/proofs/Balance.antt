@@ -1,6 +1,6 @@
 -- Sums over a world: what each change adds to the weight of the letters and of the executed entries, and takes from it,
 -- whatever the weight; and which serials it takes. Every count of copies is one of these sums.
-use Rattle.std.proofs.Common.{◌≡◌, ℕ, suc, ◌+◌, ◌<◌, true, List, [], ◌∷◌, ◌++◌, map, length, take, refl, sym, subst, ◌∙◌, ap, arith, Some, None, slice_get, slice_set, add-zero}
+use Rattle.std.proofs.Common.{◌≡◌, ℕ, ◌+◌, ◌<◌, true, List, [], ◌∷◌, ◌++◌, map, length, take, refl, sym, subst, ◌∙◌, ap, arith, Some, None, slice_get, slice_set, add-zero}
 use Rattle.std.specs.List.{find, last_or, sum_by, filter, prefix_len}
 use Rattle.std.specs.Option.{option_map_or}
 use Rattle.std.proofs.lemmas.List.Sums.{sum_by-cons, sum_by-append}

@@ -1,5 +1,5 @@
 -- A step of a world is a step of one part and one cell, put back.
-use Rattle.std.proofs.Common.{◌≡◌, ℕ, zero, suc, ◌/◌, ◌%◌, Bool, true, false, not, cond, List, [], ◌∷◌, ◌++◌, refl, sym, subst, ◌∙◌, ap, Option, Some, None, Ok, slice_get, slice_set, IsTrue}
+use Rattle.std.proofs.Common.{◌≡◌, ℕ, zero, suc, ◌/◌, ◌%◌, true, false, cond, List, [], ◌∷◌, ◌++◌, refl, sym, subst, ◌∙◌, ap, Option, Some, None, Ok, slice_get, slice_set, IsTrue}
 use Rattle.std.specs.Option.{option_map, option_and_then}
 use Rattle.vt_key.specs.declared.letter.Mail.{Mail}
 use Rattle.vt_key.specs.declared.fault.Fault.{Fault}
@@ -10,8 +10,8 @@ use Rattle.vt_steps.specs.declared.step.Step.TheVariants.{Execute, Undo, Cancel,
 use Rattle.vt_steps.specs.declared.step.Reply.TheVariants.{Done}
 use Rattle.vt_steps.specs.Letters.{is_empty}
 use Rattle.vt_steps.specs.World.{Part, Board, Book, World}
-use Rattle.vt_steps.specs.PartSteps.{execute, undo, cancel, home, accept, part_after_send, mail_of_send, part_after_fetch, part_after_cut, report_sent, report_got, report_least, part_after_commit, rows_of_commit}
-use Rattle.vt_steps.specs.BoardSteps.{cut_board, may_report, with_report, board_after_report, report_reply}
+use Rattle.vt_steps.specs.PartSteps.{execute, undo, cancel, home, accept, part_after_send, mail_of_send, part_after_fetch, report_sent, report_got, report_least, part_after_commit, rows_of_commit}
+use Rattle.vt_steps.specs.BoardSteps.{cut_board, may_report, with_report}
 use Rattle.vt_steps.specs.BookSteps.{may_commit, with_rows, may_close, closed_book}
 use Rattle.vt_steps.specs.Next.{Outcome, refused, replied, done_or_refused, with_part, locally, may_send, send, fetch, cut, report, report_lawful, commit, close, unless_closed, next}
 use Rattle.vt_steps.specs.Cells.{CellName, inbox_of, board_cell, book_cell, Cell, in_inbox, on_board, in_book, content, with_content, worker_of, cell_of, is_local, Acted, left_alone, acted_locally, act_cut, act_report, on_open_book, act, put_back}

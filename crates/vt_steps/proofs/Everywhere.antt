@@ -1,6 +1,6 @@
 -- Predicates on all copies: what holds of each event in a world, as a letter, as an executed event and as what an entry sent,
 -- and what each change does to it. A step only moves events, but Execute, which makes those that it stamps.
-use Rattle.std.proofs.Common.{◌≡◌, ℕ, ◌+◌, ◌-◌, ◌≤◌, ◌<◌, not, List, [], ◌∷◌, ◌++◌, map, length, take, sym, ◌∙◌, ap, refl, subst, arith, Some, slice_get, slice_set}
+use Rattle.std.proofs.Common.{◌≡◌, ℕ, ◌+◌, ◌-◌, ◌≤◌, ◌<◌, not, List, [], ◌∷◌, ◌++◌, map, length, sym, ◌∙◌, ap, subst, arith, Some, slice_get, slice_set}
 use Rattle.std.specs.List.{filter, flat_map, prefix_len, range_with_len}
 use Rattle.vt_key.specs.declared.letter.Event.{Event}
 use Rattle.vt_key.specs.declared.letter.Letter.{Letter}

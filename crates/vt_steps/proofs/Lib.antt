@@ -26,3 +26,9 @@ pub mod EarlyLocal
 pub mod Announced
 pub mod Floors
 pub mod TimeGuards
+pub mod Agreement
+pub mod OwnHistories
+pub mod MailLemmas
+pub mod LetterLemmas
+pub mod Entries
+pub mod LiveEvents

@@ -6,7 +6,7 @@ use Rattle.vt_steps.specs.declared.step.Step.{Step}
 use Rattle.vt_steps.specs.declared.step.Step.TheVariants.{Execute, Undo, Cancel, Home, Send, Fetch, Accept, Cut, Report, Commit, Close}
 use Rattle.vt_steps.specs.World.{Part, World}
 use Rattle.vt_steps.specs.PartSteps.{execute, undo, cancel, home, accept}
-use Rattle.vt_steps.specs.Next.{Outcome, done_or_refused, with_part, locally, next}
+use Rattle.vt_steps.specs.Next.{done_or_refused, with_part, locally, next}
 use Rattle.vt_steps.specs.Cells.{worker_of, is_local}
 use Rattle.vt_steps.specs.Laws.{ChangesOnePart}
 use Rattle.vt_steps.proofs.Places.{get-put_other}

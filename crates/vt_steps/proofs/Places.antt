@@ -1,5 +1,5 @@
 -- Lists by place: what stands where after a write, in a list of images, in a list of one value many times.
-use Rattle.std.proofs.Common.{◌≡◌, ℕ, zero, suc, ◌+◌, ◌≤◌, ◌<◌, List, [], ◌∷◌, map, length, replicate, refl, sym, ◌∙◌, ap, subst, arith, inl, inr, Some, None, slice_get, slice_set, add-zero}
+use Rattle.std.proofs.Common.{◌≡◌, ℕ, zero, suc, ◌+◌, ◌<◌, List, [], ◌∷◌, map, length, replicate, refl, sym, ◌∙◌, ap, subst, arith, inl, inr, Some, None, slice_get, slice_set, add-zero}
 use Rattle.std.specs.List.{range_with_len}
 use Rattle.std.proofs.lemmas.Bool.Decides.{eqb_tells}
 

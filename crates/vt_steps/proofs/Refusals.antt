@@ -1,19 +1,18 @@
 -- How a step ends: refused, with nothing changed, or done.
-use Rattle.std.proofs.Common.{◌≡◌, ℕ, ◌⊎◌, inl, inr, ◌/◌, ◌%◌, Bool, true, false, cond, List, refl, sym, ◌∙◌, ap, subst, Option, Some, None, Result, Ok, Err, slice_get, length, replicate, nat_eq}
+use Rattle.std.proofs.Common.{◌≡◌, ℕ, ◌⊎◌, inl, inr, ◌/◌, ◌%◌, Bool, true, false, cond, refl, sym, ◌∙◌, ap, subst, Option, Some, None, Ok, Err, slice_get, length, replicate, nat_eq}
 use Rattle.std.specs.Option.{option_map, option_and_then}
 use Rattle.vt_key.specs.Times.{Time}
 use Rattle.vt_key.specs.declared.fault.Fault.{Fault}
 use Rattle.vt_key.specs.declared.fault.Fault.TheVariants.{NotLawful, Closed}
-use Rattle.vt_key.specs.declared.letter.Mail.{Mail}
 use Rattle.vt_model.specs.Simulation.{Simulation}
 use Rattle.vt_steps.specs.declared.step.Step.{Step}
 use Rattle.vt_steps.specs.declared.step.Step.TheVariants.{Execute, Undo, Cancel, Home, Send, Fetch, Accept, Cut, Report, Commit, Close}
 use Rattle.vt_steps.specs.declared.step.Reply.{Reply}
 use Rattle.vt_steps.specs.declared.step.Reply.TheVariants.{Done, Waiting, Again, Announced}
 use Rattle.vt_steps.specs.World.{Part, Board, World}
-use Rattle.vt_steps.specs.PartSteps.{execute, undo, cancel, home, accept, report_sent, report_got, report_least, part_after_commit, rows_of_commit}
+use Rattle.vt_steps.specs.PartSteps.{execute, undo, cancel, home, accept, report_sent, report_got, report_least}
 use Rattle.vt_steps.specs.BoardSteps.{all_set, cut_board, may_report, with_report, after_pass, board_after_report, report_reply}
-use Rattle.vt_steps.specs.BookSteps.{may_commit, with_rows, may_close, closed_book}
+use Rattle.vt_steps.specs.BookSteps.{may_commit, may_close}
 use Rattle.vt_steps.specs.Next.{Outcome, refused, replied, done_or_refused, with_part, locally, send, fetch, cut, report, report_lawful, commit, close, unless_closed, next}
 use Rattle.vt_steps.specs.Cells.{inbox_of, board_cell, book_cell, cell_of}
 use Rattle.vt_steps.specs.Laws.{IsReportReply, IsReplyRight, IsRefusalRight}

@@ -1,6 +1,6 @@
 -- The shape of a world: as many parts and inboxes as workers, and each worker's processes. No step changes it, so the number
 -- of each process that stands in a reached world is below lps.
-use Rattle.std.proofs.Common.{◌≡◌, ℕ, zero, suc, ◌+◌, ◌-◌, ◌*◌, ◌/◌, ◌%◌, ◌≤◌, ◌<◌, Bool, true, List, [], ◌∷◌, map, length, refl, sym, ◌∙◌, ap, subst, arith, Option, Some, None, slice_get, slice_set}
+use Rattle.std.proofs.Common.{◌≡◌, ℕ, suc, ◌+◌, ◌-◌, ◌*◌, ◌/◌, ◌%◌, ◌≤◌, ◌<◌, List, length, refl, sym, ◌∙◌, ap, subst, arith, Some, slice_get, slice_set}
 use Rattle.std.specs.List.{range_with_len}
 use Rattle.std.proofs.Math.ListN.{length-set}
 use Rattle.std.proofs.Math.Nat.{le-div_iff_mul-le, div-add-mod', suc-mul, mod-lt}
@@ -12,7 +12,6 @@ use Rattle.vt_model.specs.Simulation.{Simulation}
 use Rattle.vt_steps.specs.declared.step.Step.{Step}
 use Rattle.vt_steps.specs.Next.{reached, report_lawful}
 use Rattle.vt_key.specs.declared.letter.Letter.{Letter}
-use Rattle.vt_key.specs.declared.letter.Mail.{Mail}
 use Rattle.vt_steps.specs.World.{LogicalProcess, Part, World, process_at, process_count, opening_part, opening_world}
 use Rattle.vt_steps.specs.PartSteps.{part_after_commit, part_after_cut, part_after_fetch, part_after_send}
 use Rattle.vt_steps.proofs.Places.{all-put, get-map, get-range, get-within}

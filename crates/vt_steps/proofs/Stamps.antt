@@ -35,7 +35,7 @@ pub record StampFacts {S P : Type 0} (sim : Simulation S P) (serial : ℕ) (stam
 
 module _ {P : Type 0} where
   -- they never fall
-  serials-rise : (old new : World P) (w taken : ℕ) → SerialsRise old new w taken → (v : ℕ) → serial_at old v ≤ serial_at new v
+  pub serials-rise : (old new : World P) (w taken : ℕ) → SerialsRise old new w taken → (v : ℕ) → serial_at old v ≤ serial_at new v
   serials-rise old new w taken r v =
       elim (eqb_tells v w) [
         | inl e ↦ (let a = r.own in let b = ap (serial_at old) e.1 in let c = ap (serial_at new) e.1 in omega arith)

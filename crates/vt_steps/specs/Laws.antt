@@ -1,5 +1,5 @@
 -- What the steps keep, whatever the world is: the laws by which a reader can tell that the steps are written down right.
-use Rattle.std.specs.Prelude.{◌≡◌, ℕ, ◌+◌, ◌⊎◌, IsTrue, false, List, [], slice_get, Option, Some, None, Ok, Err}
+use Rattle.std.specs.Prelude.{◌≡◌, ℕ, ◌+◌, ◌⊎◌, IsTrue, false, [], slice_get, Option, Some, None, Ok, Err}
 use Rattle.std.specs.List.{sum_by, list_any}
 use Rattle.vt_key.specs.declared.order.Stamp.{Stamp}
 use Rattle.vt_key.specs.declared.letter.Event.{Event}
@@ -18,7 +18,7 @@ use Rattle.vt_steps.specs.World.{Entry, LogicalProcess, Part, World, travelling}
 use Rattle.vt_steps.specs.ProcessSteps.{ProcessEffect, accept_process, cancel_process}
 use Rattle.vt_steps.specs.Next.{next, refused}
 use Rattle.vt_steps.specs.Copies.{letter_sum}
-use Rattle.vt_steps.specs.Cells.{CellName, book_cell, Cell, content, worker_of, cell_of, is_local, act, put_back}
+use Rattle.vt_steps.specs.Cells.{CellName, book_cell, Cell, content, worker_of, cell_of, act, put_back}
 
 -- this one, where one is named
 abbrev pub IsAny : {X : Type 0} → Option X → X → Type 0

@@ -15,3 +15,18 @@ returns-clause-unequal_counts c = computed.3
 
 pub returns-clause-travelling_letter_of_the_new_colour_is_the_least : goal.returns-clause-travelling_letter_of_the_new_colour_is_the_least
 returns-clause-travelling_letter_of_the_new_colour_is_the_least c = computed.4
+
+pub returns-clause-fetched_letter_is_the_least : goal.returns-clause-fetched_letter_is_the_least
+returns-clause-fetched_letter_is_the_least c = computed.5
+
+pub returns-clause-one_worker_commits : goal.returns-clause-one_worker_commits
+returns-clause-one_worker_commits c = computed.6
+
+pub returns-clause-closed_book : goal.returns-clause-closed_book
+returns-clause-closed_book c = computed.7
+
+pub returns-clause-run_without_events : goal.returns-clause-run_without_events
+returns-clause-run_without_events c = computed.8
+
+pub returns-clause-undo_without_cause : goal.returns-clause-undo_without_cause
+returns-clause-undo_without_cause c = computed.9

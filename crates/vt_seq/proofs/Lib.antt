@@ -1,0 +1,5 @@
+pub mod InsertLemmas
+pub mod Sizes
+pub mod StartLemmas
+pub mod InsertedLemmas
+pub mod StepLemmas

@@ -1,0 +1,127 @@
+-- What a start's contract says is what the simulation's start is.
+use Rattle.std.proofs.Common.{◌≡◌, ℕ, ◌+◌, ◌%◌, ◌^◌, ◌≤◌, ◌<◌, List, [], ◌∷◌, ◌++◌, length, inl, inr, slice_index_or, true, false, nat_eq, zero, suc, refl, sym, ◌∙◌, ap, subst, arith}
+use Rattle.std.proofs.lemmas.Bool.{eqb-true, eq-eqb}
+use Rattle.std.proofs.Common.{length-append}
+use Rattle.vt_model.specs.declared.sending.Sent.{Sent}
+use Rattle.vt_model.specs.Words.{Stream, seed_key, word_of, moved}
+use Rattle.vt_model.specs.Sends.{Outgoing, with_requests}
+use Rattle.vt_model.specs.Handler.{StartResult}
+use Rattle.vt_model.specs.Simulation.{Fired, words_at, start_of}
+use Rattle.vt_model.specs.Histories.{Among, IsRising, IsLawful}
+use Rattle.vt_model.specs.Simulation.{Simulation}
+use Rattle.vt_model.proofs.RunLemmas.{numbered-among, among-below, below-among, tested}
+use Rattle.vt_model.specs.Process.{triple_at}
+use Rattle.vt_seq.specs.StandsFor.{StandsAt, HasStarted}
+use Rattle.vt_seq.specs.Queue.{all_inserted}
+use Rattle.vt_model.specs.declared.process.Process.{Process}
+use Rattle.vt_seq.proofs.InsertedLemmas.{all_inserted-among, among-all_inserted, all_inserted-rising}
+
+-- where a process stands after its start, and what it sent
+pub record IsStart {S P : Type 0} (f : Fired S P) (s : S) (v : Stream) (q : Outgoing P) : Type 0 where
+  pub triple : record { state = s; number = q.number; place = v.place } ≡ f.triple
+  pub sends : q.sends ≡ f.sends
+
+module _ {S P : Type 0} (seed end lps p : ℕ) where
+  pub starts : (go : (ℕ → ℕ) → StartResult S P) (w v : Stream) (o q : Outgoing P) (s : S)
+      → w ≡ record { key = seed_key seed; process = p; place = 0 }
+      → o ≡ record { lps = lps; end = end; lp = p; time = 0; first = 0; number = 0; sends = []; records = [] }
+      → s ≡ (go (word_of w)).state → v ≡ moved w (go (word_of w)).drawn → (go (words_at seed p 0)).drawn ≤ 64 → q ≡ with_requests o (go (word_of w)).send_requests []
+      → IsStart (start_of end p (go (words_at seed p 0))) s v q
+  unfolding start_of
+  starts go w v o q s at out state stream few outgoing =
+      let x : go (word_of w) ≡ go (words_at seed p 0) = ap go (λ j. word_of (at j)) in
+      let fresh : Outgoing P = record { lps = lps; end = end; lp = p; time = 0; first = 0; number = 0; sends = []; records = [] } in
+      let q_is : q ≡ with_requests fresh (go (words_at seed p 0)).send_requests [] = outgoing ∙ (λ j. with_requests (out j) (x j).send_requests []) in
+      let s_is : s ≡ (go (words_at seed p 0)).state = state ∙ ap (λ (y : StartResult S P). y.state) x in
+      let m_is : v.place ≡ (0 + (go (words_at seed p 0)).drawn) % 2 ^ 64 = ap (λ (y : Stream). y.place) stream ∙ (λ j. ((at j).place + (x j).drawn) % 2 ^ 64) in
+      let v_is : v.place ≡ (go (words_at seed p 0)).drawn = omega (arith, m_is, few) in
+      let n_is : q.number ≡ length (go (words_at seed p 0)).send_requests = omega (arith, ap (λ (y : Outgoing P). y.number) q_is) in
+      record {
+        triple = λ j. record { state = s_is j; number = n_is j; place = v_is j };
+        sends = ap (λ (y : Outgoing P). y.sends) q_is;
+      }
+
+-- an item of a list with one more
+pub at-end : {X : Type 0} (xs : List X) (x d : X) → slice_index_or (xs ++ x ∷ []) (length xs) d ≡ x
+at-end [] x d = refl
+at-end (y ∷ ys) x d = at-end ys x d
+
+pub before-end : {X : Type 0} (xs : List X) (x d : X) (r : ℕ) → r < length xs → slice_index_or (xs ++ x ∷ []) r d ≡ slice_index_or xs r d
+before-end [] x d r l = absurd (omega (arith, l))
+before-end (y ∷ ys) x d zero l = refl
+before-end (y ∷ ys) x d (suc r) l = before-end ys x d r (omega (arith, l))
+
+-- what holds of each item, and of one more
+pub all_more : {X : Type 0} (Q : ℕ → X → Type 0) (xs : List X) (x : X) (n : ℕ) → length xs ≡ n → Q n x → ((r : ℕ) (d : X) → r < n → Q r (slice_index_or xs r d))
+    → (r : ℕ) (d : X) → r < n + 1 → Q r (slice_index_or (xs ++ x ∷ []) r d)
+all_more Q xs x n len new old r d l = elim (tested (nat_eq r n)) [
+  | inl y ↦
+      let at : r ≡ n = eqb-true r n y in
+      let here : slice_index_or (xs ++ x ∷ []) r d ≡ x = ap (λ (i : ℕ). slice_index_or (xs ++ x ∷ []) i d) (at ∙ sym len) ∙ at-end xs x d in
+      subst (Q r) (sym here) (subst (λ (i : ℕ). Q i x) (sym at) new)
+  | inr y ↦
+      let less : r < n = below r n l (λ at. let w : true ≡ false = sym (eq-eqb r n at) ∙ y in absurd (cc)) in
+      let less' : r < length xs = omega arith in
+      subst (Q r) (sym (before-end xs x d r less')) (old r d less)
+] where
+  below : (a b : ℕ) → a < b + 1 → (a ≡ b → ⊥) → a < b
+  below a b k never = grind (arith, never)
+
+-- the processes below p were started
+pub record AllStarted {M S P K : Type 0} (sim : Simulation S P) (p : ℕ) (pending : List (Sent P)) (processes : List (Process M S P K)) : Type 0 where
+  pub rising : IsRising pending
+  pub sent : (e : Sent P) → Among e pending → (q : ℕ) × (q < p) × Among e (sim.start q).sends
+  pub had : (e : Sent P) (q : ℕ) → q < p → Among e (sim.start q).sends → Among e pending
+  pub there : length processes ≡ p
+  pub triples : (r : ℕ) (d : Process M S P K) → r < p → triple_at (slice_index_or processes r d).state (slice_index_or processes r d).number (slice_index_or processes r d).stream ≡ (sim.start r).triple
+
+module _ {M S P K : Type 0} (sim : Simulation S P) (lawful : IsLawful sim) where
+  pub none_started : (pending : List (Sent P)) (processes : List (Process M S P K)) → pending ≡ [] → processes ≡ [] → AllStarted sim 0 pending processes
+  none_started pending processes h k =
+      subst (λ (l : List (Sent P)). AllStarted sim 0 l processes) (sym h) (subst (λ (l : List (Process M S P K)). AllStarted sim 0 [] l) (sym k) (record {
+        rising = tt;
+        sent = λ e m. absurd m;
+        had = λ e q l a. absurd (omega (arith, l));
+        there = refl;
+        triples = λ r d l. absurd (omega (arith, l));
+      }))
+
+  pub started_next : (p : ℕ) (pending later : List (Sent P)) (processes : List (Process M S P K)) (q : Process M S P K) → AllStarted sim p pending processes → p < sim.lps
+      → HasStarted (sim.start p) pending q.state q.number q.stream later → AllStarted sim (p + 1) later (processes ++ q ∷ [])
+  started_next p pending later processes q h is b =
+      let fresh : List (Sent P) = (sim.start p).sends in
+      let at : later ≡ all_inserted fresh pending = b.pending in
+      record {
+        rising = subst IsRising (sym at) (all_inserted-rising p 0 (sim.start p).triple.number fresh pending (lawful.numbered_start p is) h.rising
+            (λ d m source.
+            let s = h.sent d m in
+            let less : s.0 < p = s.1 in
+            let from = numbered-among s.0 0 (sim.start s.0).triple.number (sim.start s.0).sends d (lawful.numbered_start s.0 (let l : s.0 < sim.lps = omega arith in l)) s.2 in
+            let same : s.0 ≡ p = sym from.0 ∙ source in
+            absurd (omega arith)));
+        sent = λ e m. elim (all_inserted-among fresh pending e (subst (Among e) at m)) [
+          | inl a ↦ (p, (let l : p < p + 1 = omega arith in l), a)
+          | inr a ↦ let s = h.sent e a in let less : s.0 < p = s.1 in (s.0, (let l : s.0 < p + 1 = omega arith in l), s.2)
+        ];
+        had = λ e r l a. subst (Among e) (sym at) (among-all_inserted fresh pending e (elim (tested (nat_eq r p)) [
+          | inl y ↦ inl (subst (λ (i : ℕ). Among e (sim.start i).sends) (eqb-true r p y) a)
+          | inr y ↦ inr (h.had e r (below r p l (λ z. let w : true ≡ false = sym (eq-eqb r p z) ∙ y in absurd (cc))) a)
+        ]));
+        there = longer processes q h.there;
+        triples = all_more (λ (r : ℕ) (o : Process M S P K). triple_at o.state o.number o.stream ≡ (sim.start r).triple) processes q p h.there b.triple h.triples;
+      } where
+        below : (a b : ℕ) → a < b + 1 → (a ≡ b → ⊥) → a < b
+        below a b k never = grind (arith, never)
+
+        longer : (xs : List (Process M S P K)) (x : Process M S P K) → {n : ℕ} → length xs ≡ n → length (xs ++ x ∷ []) ≡ n + 1
+        longer xs x e = search (arith, length-append, e)
+
+  -- all started, the fields stand for the opening
+  pub stands_start : (pending : List (Sent P)) (processes : List (Process M S P K)) → AllStarted sim sim.lps pending processes → StandsAt sim 0 pending processes []
+  stands_start pending processes h = record {
+    rising = h.rising;
+    sent = λ e m. let s = h.sent e m in below-among sim lawful (λ p. (sim.start p).sends) sim.lps s.0 e s.1 s.2;
+    had = λ e m. let s = among-below sim lawful (λ p. (sim.start p).sends) sim.lps e m in h.had e s.0 s.1 s.2;
+    triples = h.triples;
+    recorded = refl;
+  }

@@ -1,0 +1,259 @@
+-- One step of the code is one step of the definition.
+use Rattle.std.proofs.Common.{◌≡◌, ℕ, zero, suc, ◌+◌, ◌*◌, ◌-◌, ◌^◌, ◌<◌, ◌≤◌, inl, inr, List, [], ◌∷◌, ◌++◌, Bool, true, false, not, filter, map, drop, Option, Some, None, nat_eq, nat_lt, length, slice_index_or, slice_set, Result, Ok, Err, IfOk, IfErr, IsErrAnd, refl, sym, subst, ap, ◌∙◌, arith, append_assoc, append-nil}
+use Rattle.std.specs.List.{sum_by}
+use Rattle.std.proofs.lemmas.List.{set-get_or, get_or-set_same, get_or-set_other, map-append}
+use Rattle.std.proofs.lemmas.List.Sums.{sum_by-cons}
+use Rattle.std.proofs.lemmas.Bool.{eqb-true, eq-eqb}
+use Rattle.std.proofs.Math.Nat.{pow-suc, one-le-pow, pow-le-pow_right, mul-le-mul_right}
+use Rattle.vt_key.specs.Times.{time_before}
+use Rattle.vt_key.specs.declared.order.Key.{Key}
+use Rattle.vt_key.specs.Order.{KeyBefore, key_same}
+use Rattle.vt_key.proofs.OrderLemmas.{key-irreflexive, key_same-true, same-key_same}
+use Rattle.vt_model.specs.declared.rows.Record.{Record}
+use Rattle.vt_model.specs.declared.rows.Row.{Row}
+use Rattle.vt_model.specs.declared.sending.Sent.{Sent}
+use Rattle.vt_model.specs.Simulation.{Simulation, Fired, Triple, after}
+use Rattle.vt_model.specs.Sequential.{RunState, events_of, least_event, fired_after, with_event, next_state, after_steps, weight, whole_run, rows_after, seq_records}
+use Rattle.vt_model.specs.Histories.{Among, IsRising, sends_of, IsLawful}
+use Rattle.vt_model.proofs.HistoryLemmas.{among-left, among-right, among-append, after-among}
+use Rattle.vt_model.proofs.RunLemmas.{tested, among-filter, filter-among, least-found, known_sent, lists_of, IsReached, reached, numbered-all, numbered-among, events_of-same, events_of-other, after-snoc}
+use Rattle.vt_model.proofs.EndLemmas.{least-none, sum_by-bound, executed_all}
+use Rattle.vt_model.specs.Process.{triple_at}
+use Rattle.vt_seq.specs.StandsFor.{StandsFor, StandsAt, HasExecuted}
+use Rattle.vt_seq.specs.Queue.{IsWithinRun, all_inserted}
+use Rattle.vt_model.specs.declared.process.Process.{Process}
+use Rattle.vt_model.proofs.RowLemmas.{all_before, told_before}
+use Rattle.vt_seq.proofs.InsertedLemmas.{all_inserted-among, among-all_inserted, all_inserted-rising, all_inserted-sum}
+
+-- a list is its first item and the others
+pub opened : {X : Type 0} (xs : List X) (x : X) → 0 < length xs → slice_index_or xs 0 x ≡ x → xs ≡ x ∷ drop 1 xs
+opened [] x l h = absurd (omega (arith, l))
+opened (y ∷ ys) x l h = ap (λ (z : _). z ∷ ys) h
+
+module _ {S P : Type 0} (sim : Simulation S P) (lawful : IsLawful sim) where
+  -- the first event of the rising list is the least of the set
+  head-least : (x : RunState P) (e : Sent P) (rest : List (Sent P)) → IsRising (e ∷ rest)
+      → ((d : Sent P) → Among d (e ∷ rest) → Among d x.pending) → ((d : Sent P) → Among d x.pending → Among d (e ∷ rest))
+      → least_event x.pending ≡ Some e
+  head-least x e rest r to from = go (least_event x.pending) refl where
+    go : (o : Option (Sent P)) → least_event x.pending ≡ o → least_event x.pending ≡ Some e
+    go None h = absurd (subst (Among e) (least-none x.pending h) (to e (inl refl)))
+    go (Some m) h =
+        let l = least-found x.pending m h in
+        elim (from m l.0) [ inl at ↦ h ∙ ap Some at | inr a ↦ absurd (l.1 e (to e (inl refl)) (after-among e.key rest m r.0 a)) ]
+
+  -- rows, with one more event
+  pub rows-snoc : (done xs : List (Sent P)) (e : Sent P) → rows_after sim done (xs ++ e ∷ []) ≡ rows_after sim done xs ++ (fired_after sim (done ++ xs) e).rows
+  rows-snoc done [] e = append-nil (fired_after sim done e).rows ∙ ap (λ (l : List (Sent P)). (fired_after sim l e).rows) (sym (append-nil done))
+  rows-snoc done (x ∷ xs) e =
+      ap (λ (l : List Row). (fired_after sim done x).rows ++ l) (rows-snoc (done ++ x ∷ []) xs e ∙ ap (λ (l : List (Sent P)). rows_after sim (done ++ x ∷ []) xs ++ (fired_after sim l e).rows) (append_assoc done (x ∷ []) xs))
+      ∙ sym (append_assoc (fired_after sim done x).rows (rows_after sim (done ++ x ∷ []) xs) (fired_after sim (done ++ x ∷ xs) e).rows)
+
+module _ {M S P K : Type 0} (sim : Simulation S P) (lawful : IsLawful sim) where
+  stands_with : (x : RunState P) (e : Sent P) (rest : List (Sent P)) (processes : List (Process M S P K)) (records : List Record) (q : Process M S P K)
+      → IsReached sim lawful x → StandsFor sim x (e ∷ rest) processes records → length processes ≡ sim.lps
+      → triple_at q.state q.number q.stream ≡ (fired_after sim x.executed e).triple
+      → StandsFor sim (with_event sim x e) (all_inserted (fired_after sim x.executed e).sends rest) (slice_set processes e.dest q) (records ++ map (λ (r : Row). r.rec) (fired_after sim x.executed e).rows)
+  unfolding fired_after
+  stands_with x e rest processes records q r st there triple =
+      let kept : Sent P → Bool = λ d. not (key_same d.key e.key) in
+      let fresh : List (Sent P) = (fired_after sim x.executed e).sends in
+      let t : Triple S = after sim e.dest (events_of e.dest x.executed) in
+      let dest : e.dest < sim.lps = (known_sent sim lawful (lists_of sim lawful x.executed) e (r.made e (inl (st.sent e (inl refl))))).0 in
+      record {
+        rising = all_inserted-rising e.dest t.number (sim.fire e.dest t e).triple.number fresh rest (lawful.numbered e.dest t e dest) st.rising.1
+            (λ d m source.
+            let h = r.made d (inl (st.sent d (inr m))) in
+            let b = numbered-among h.0 0 (after sim h.0 (events_of h.0 x.executed)).number (sends_of sim h.0 (events_of h.0 x.executed)) d (numbered-all sim lawful h.0 h.1 (events_of h.0 x.executed)) h.2 in
+            let at : h.0 ≡ e.dest = sym b.0 ∙ source in
+            subst (λ (p : ℕ). d.key.number < (after sim p (events_of p x.executed)).number) at b.2);
+        sent = λ d m. elim (all_inserted-among fresh rest d m) [
+          | inl a ↦ among-right d (filter kept x.pending) fresh a
+          | inr a ↦ among-left d (filter kept x.pending) fresh (among-filter kept d x.pending (st.sent d (inr a)) (elim (tested (key_same d.key e.key)) [
+            | inr z ↦ ap not z
+            | inl z ↦ absurd (key-irreflexive e.key (subst (λ (k : Key). KeyBefore e.key k) (key_same-true d.key e.key z) (after-among e.key rest d st.rising.0 a)))
+          ]))
+        ];
+        had = λ d m. elim (among-append d (filter kept x.pending) fresh m) [
+          | inl a ↦
+              let a' = filter-among kept d x.pending a in
+              elim (st.had d a'.0) [
+                | inl at ↦
+                    let y : kept d ≡ false = ap (λ (f : Sent P). not (key_same f.key e.key)) at ∙ ap not (same-key_same e.key) in
+                    let w : true ≡ false = sym a'.1 ∙ y in absurd (cc)
+                | inr b ↦ among-all_inserted fresh rest d (inr b)
+              ]
+          | inr a ↦ among-all_inserted fresh rest d (inl a)
+        ];
+        triples = λ p d is. elim (tested (nat_eq e.dest p)) [
+          | inl y ↦
+              let at : e.dest ≡ p = eqb-true e.dest p y in
+              let inside : e.dest < length processes = omega arith in
+              let here : slice_index_or (slice_set processes e.dest q) p d ≡ q = ap (λ (i : ℕ). slice_index_or (slice_set processes e.dest q) i d) (sym at) ∙ get_or-set_same processes e.dest q d inside in
+              ap (λ (o : Process M S P K). triple_at o.state o.number o.stream) here ∙ triple ∙ sym (after-snoc sim lawful e.dest (sim.start e.dest).triple (events_of e.dest x.executed) e)
+              ∙ ap (after sim e.dest) (sym (events_of-same e.dest x.executed e refl)) ∙ ap (λ (i : ℕ). after sim i (events_of i (x.executed ++ e ∷ []))) at
+          | inr y ↦
+              let apart : p ≡ e.dest → ⊥ = λ at. let w : true ≡ false = sym (eq-eqb e.dest p (sym at)) ∙ y in absurd (cc) in
+              ap (λ (o : Process M S P K). triple_at o.state o.number o.stream) (get_or-set_other processes e.dest p q d apart)
+              ∙ st.triples p d is ∙ ap (after sim p) (sym (events_of-other p x.executed e y))
+        ];
+        recorded =
+            ap (λ (l : List Record). l ++ map (λ (r : Row). r.rec) (fired_after sim x.executed e).rows) st.recorded
+            ∙ sym (map-append (λ (r : Row). r.rec) (rows_after sim [] x.executed) (fired_after sim x.executed e).rows)
+            ∙ ap (map (λ (r : Row). r.rec)) (sym (rows-snoc sim lawful [] x.executed e));
+      }
+
+  -- the code's step is the definition's
+  pub stands_step : (n : ℕ) (e : Sent P) (pending after_pending : List (Sent P)) (processes : List (Process M S P K)) (records after_records : List Record) (p q : Process M S P K)
+      → StandsAt sim n pending processes records → length processes ≡ sim.lps → e.dest < sim.lps → 0 < length pending → slice_index_or pending 0 e ≡ e
+      → slice_index_or processes e.dest p ≡ p
+      → HasExecuted (sim.fire e.dest (triple_at p.state p.number p.stream) e) pending records q.state q.number q.stream after_pending after_records
+      → StandsAt sim (suc n) after_pending (slice_set processes e.dest q) after_records
+  unfolding fired_after
+  stands_step n e pending after_pending processes records after_records p q st there dest some first at f =
+      let x : RunState P = after_steps sim n in
+      let rest : List (Sent P) = drop 1 pending in
+      let head : pending ≡ e ∷ rest = opened pending e some first in
+      let st' : StandsFor sim x (e ∷ rest) processes records = subst (λ (l : List (Sent P)). StandsFor sim x l processes records) head st in
+      let least : least_event x.pending ≡ Some e = head-least sim lawful x e rest st'.rising st'.sent st'.had in
+      let next : after_steps sim (suc n) ≡ with_event sim x e = ap (next_state sim x) least in
+      let seat : triple_at p.state p.number p.stream ≡ after sim e.dest (events_of e.dest x.executed) = ap (λ (o : Process M S P K). triple_at o.state o.number o.stream) (sym at) ∙ st.triples e.dest p dest in
+      let is : sim.fire e.dest (triple_at p.state p.number p.stream) e ≡ fired_after sim x.executed e = ap (λ (t : Triple S). sim.fire e.dest t e) seat in
+      let stood = stands_with x e rest processes records q (reached sim lawful n) st' there (f.triple ∙ ap (λ (g : Fired S P). g.triple) is) in
+      let pending_is : after_pending ≡ all_inserted (fired_after sim x.executed e).sends rest = f.pending ∙ ap (λ (g : Fired S P). all_inserted g.sends rest) is in
+      let records_is : after_records ≡ records ++ map (λ (r : Row). r.rec) (fired_after sim x.executed e).rows = f.records ∙ ap (λ (g : Fired S P). records ++ map (λ (r : Row). r.rec) g.rows) is in
+      subst (λ (y : RunState P). StandsFor sim y after_pending (slice_set processes e.dest q) after_records) (sym next)
+      (subst (λ (l : List (Sent P)). StandsFor sim (with_event sim x e) l (slice_set processes e.dest q) after_records) (sym pending_is)
+      (subst (λ (l : List Record). StandsFor sim (with_event sim x e) (all_inserted (fired_after sim x.executed e).sends rest) (slice_set processes e.dest q) l) (sym records_is) stood))
+
+  -- where the receiver of the next event stands after it
+  pub next_triple : (n : ℕ) (e : Sent P) (pending : List (Sent P)) (processes : List (Process M S P K)) (records : List Record) (p : Process M S P K)
+      → StandsAt sim n pending processes records → e.dest < sim.lps → 0 < length pending → slice_index_or pending 0 e ≡ e → slice_index_or processes e.dest p ≡ p
+      → (sim.fire e.dest (triple_at p.state p.number p.stream) e).triple ≡ after sim e.dest (events_of e.dest (after_steps sim (suc n)).executed)
+  next_triple n e pending processes records p st dest some first at =
+      let x : RunState P = after_steps sim n in
+      let rest : List (Sent P) = drop 1 pending in
+      let st' : StandsFor sim x (e ∷ rest) processes records = subst (λ (l : List (Sent P)). StandsFor sim x l processes records) (opened pending e some first) st in
+      let next : after_steps sim (suc n) ≡ with_event sim x e = ap (next_state sim x) (head-least sim lawful x e rest st'.rising st'.sent st'.had) in
+      let seat : triple_at p.state p.number p.stream ≡ after sim e.dest (events_of e.dest x.executed) = ap (λ (o : Process M S P K). triple_at o.state o.number o.stream) (sym at) ∙ st.triples e.dest p dest in
+      ap (λ (t : Triple S). (sim.fire e.dest t e).triple) seat
+      ∙ sym (after-snoc sim lawful e.dest (sim.start e.dest).triple (events_of e.dest x.executed) e)
+      ∙ ap (after sim e.dest) (sym (events_of-same e.dest x.executed e refl))
+      ∙ ap (λ (y : RunState P). after sim e.dest (events_of e.dest y.executed)) (sym next)
+
+  -- what is pending is for a known process and soon
+  pub taken : (n : ℕ) (pending : List (Sent P)) (processes : List (Process M S P K)) (records : List Record) → StandsAt sim n pending processes records
+      → (d : Sent P) → Among d pending → (d.dest < sim.lps) × (d.key.time < sim.end)
+  taken n pending processes records st d m = known_sent sim lawful (lists_of sim lawful (after_steps sim n).executed) d ((reached sim lawful n).made d (inl (st.sent d m)))
+
+  -- with nothing pending, the records are those of the whole run
+  pub nothing_left : (n : ℕ) (pending : List (Sent P)) (processes : List (Process M S P K)) (records : List Record) → StandsAt sim n pending processes records
+      → pending ≡ [] → (after_steps sim n).pending ≡ []
+  nothing_left n pending processes records st h = empty (after_steps sim n).pending (λ d m. subst (Among d) h (st.had d m)) where
+    empty : (xs : List (Sent P)) → ((d : Sent P) → Among d xs → ⊥) → xs ≡ []
+    empty [] f = refl
+    empty (x ∷ xs) f = absurd (f x (inl refl))
+
+-- a fact that holds in both cases of a result
+pub either_way : {V E G A B C D : Type 0} (r : Result V E) → IfOk r (λ v. A) → IfErr r (λ e. B) → IfErr r (λ e. C) → IfErr r (λ e. D) → (A → G) → (B → C → D → G) → G
+either_way (Ok v) a b c d f h = f a
+either_way (Err e) a b c d f h = h b c d
+
+pub in_err : {V E B : Type 0} (r : Result V E) → B → IfErr r (λ e. B)
+in_err (Ok v) b = tt
+in_err (Err e) b = b
+
+-- what holds of the error that a result is
+pub if_err : {V E : Type 0} (F : E → Type 0) (r : Result V E) (x : E) → IsErrAnd r (λ e. e ≡ x) → F x → IfErr r F
+if_err F (Ok v) x h f = tt
+if_err F (Err e) x h f = subst F (sym h) f
+
+pub nil_of : {X : Type 0} (xs : List X) → length xs ≡ 0 → xs ≡ []
+nil_of [] h = refl
+nil_of (x ∷ xs) h = absurd (omega (arith, h))
+
+-- what holds of each item holds after one is changed to another of which it holds
+pub set_all : {X : Type 0} (Q : ℕ → X → Type 0) (n : ℕ) (xs : List X) (i : ℕ) (x : X) → i < length xs → Q i x
+    → ((r : ℕ) (d : X) → r < n → Q r (slice_index_or xs r d)) → (r : ℕ) (d : X) → r < n → Q r (slice_index_or (slice_set xs i x) r d)
+set_all Q n xs i x inside new old r d is = elim (tested (nat_eq i r)) [
+  | inl y ↦
+      let at : i ≡ r = eqb-true i r y in
+      let here : slice_index_or (slice_set xs i x) i d ≡ x = get_or-set_same xs i x d inside in
+      subst (λ (k : ℕ). Q k (slice_index_or (slice_set xs i x) k d)) at (subst (Q i) (sym here) new)
+  | inr y ↦
+      let apart : r ≡ i → ⊥ = λ at. let w : true ≡ false = sym (eq-eqb i r (sym at)) ∙ y in absurd (cc) in
+      subst (Q r) (sym (get_or-set_other xs i r x d apart)) (old r d is)
+]
+
+module _ {P : Type 0} where
+  pub among-at : (xs : List (Sent P)) (k : ℕ) (d : Sent P) → k < length xs → Among (slice_index_or xs k d) xs
+  among-at [] k d l = absurd (omega (arith, l))
+  among-at (x ∷ xs) zero d l = inl refl
+  among-at (x ∷ xs) (suc k) d l = inr (among-at xs k d (omega arith))
+
+  pub at-among : (Q : Sent P → Type 0) (xs : List (Sent P)) → ((k : ℕ) (d : Sent P) → k < length xs → Q (slice_index_or xs k d)) → (e : Sent P) → Among e xs → Q e
+  at-among Q [] h e m = absurd m
+  at-among Q (x ∷ xs) h e (inl at) = subst Q (sym at) (h 0 x (omega arith))
+  at-among Q (x ∷ xs) h e (inr m) = at-among Q xs (λ k d l. h (suc k) d (omega arith)) e m
+
+  pub drop-among : (e : Sent P) (xs : List (Sent P)) → Among e (drop 1 xs) → Among e xs
+  drop-among e [] m = m
+  drop-among e (x ∷ xs) m = inr m
+
+module _ {S P : Type 0} (sim : Simulation S P) (lawful : IsLawful sim) where
+  -- what is pending after a step is for a known process and soon
+  pub taken_next : (pending : List (Sent P)) (e : Sent P) (t : Triple S) → e.dest < sim.lps → ((k : ℕ) (d : Sent P) → k < length pending → IsWithinRun sim.lps sim.end (slice_index_or pending k d))
+      → (k : ℕ) (d : Sent P) → k < length (all_inserted (sim.fire e.dest t e).sends (drop 1 pending)) → IsWithinRun sim.lps sim.end (slice_index_or (all_inserted (sim.fire e.dest t e).sends (drop 1 pending)) k d)
+  taken_next pending e t is old k d l =
+      let fresh : List (Sent P) = (sim.fire e.dest t e).sends in
+      let f : Sent P = slice_index_or (all_inserted fresh (drop 1 pending)) k d in
+      elim (all_inserted-among fresh (drop 1 pending) f (among-at (all_inserted fresh (drop 1 pending)) k d l)) [
+        | inl a ↦ record { known = lawful.known e.dest t e f is a; soon = lawful.ends e.dest t e f is a }
+        | inr a ↦ at-among (IsWithinRun sim.lps sim.end) pending old f (drop-among f pending a)
+      ]
+
+  -- a step lowers the weight
+  pub falls : (pending : List (Sent P)) (e : Sent P) (t : Triple S) → e.dest < sim.lps → e.key.time < sim.end → 0 < length pending → slice_index_or pending 0 e ≡ e
+      → weight sim (all_inserted (sim.fire e.dest t e).sends (drop 1 pending)) < weight sim pending
+  unfolding weight
+  falls pending e t dest soon some first =
+      let f : Sent P → ℕ = λ d. 9 ^ (sim.end - d.key.time) in
+      let fresh : List (Sent P) = (sim.fire e.dest t e).sends in
+      let k : ℕ = sim.end - e.key.time - 1 in
+      let few : length fresh ≤ 8 = lawful.few e.dest t e dest in
+      let each : (d : Sent P) → Among d fresh → f d ≤ 9 ^ k =
+      λ d m.
+      let later : e.key.time < d.key.time = lawful.later e.dest t e d dest m in
+      let less : sim.end - d.key.time ≤ k = omega arith in
+      pow-le-pow_right (let p : zero < 9 = omega arith in p) less in
+      let bound : sum_by f fresh ≤ length fresh * 9 ^ k = sum_by-bound f (9 ^ k) fresh each in
+      let eight : length fresh * 9 ^ k ≤ 8 * 9 ^ k = mul-le-mul_right (9 ^ k) few in
+      let up : sim.end - e.key.time ≡ suc k = omega arith in
+      let nine : f e ≡ 9 ^ k * 9 = ap (λ (n : ℕ). 9 ^ n) up ∙ pow-suc 9 k in
+      let one : 1 ≤ 9 ^ k = one-le-pow k 9 (omega arith) in
+      let both : sum_by f (all_inserted fresh (drop 1 pending)) ≡ sum_by f fresh + sum_by f (drop 1 pending) = all_inserted-sum f fresh (drop 1 pending) in
+      let whole_sum : sum_by f pending ≡ f e + sum_by f (drop 1 pending) = ap (sum_by f) (opened pending e some first) ∙ sum_by-cons f e (drop 1 pending) in
+      omega (arith, bound, eight, nine, one, both, whole_sum)
+
+-- an item put back where it was
+pub set_same : {X : Type 0} (xs : List X) (i : ℕ) (p q : X) → slice_index_or xs i p ≡ p → q ≡ p → slice_set xs i q ≡ xs
+set_same xs i p q at same = ap (slice_set xs i) (same ∙ sym at) ∙ set-get_or xs i p
+
+module _ {M S P K : Type 0} (sim : Simulation S P) (lawful : IsLawful sim) where
+  -- with nothing pending, the records are those of the whole run
+  pub whole_records : (n : ℕ) (pending : List (Sent P)) (processes : List (Process M S P K)) (records : List Record) → StandsAt sim n pending processes records
+      → pending ≡ [] → records ≡ seq_records sim sim.end
+  whole_records n pending processes records st none =
+      let all : (after_steps sim n).executed ≡ whole_run sim = executed_all sim lawful n (nothing_left sim lawful n pending processes records st none) in
+      let early : (e : Sent P) → Among e (after_steps sim n).executed → e.key.time < sim.end =
+      λ e m. (known_sent sim lawful (lists_of sim lawful (after_steps sim n).executed) e ((reached sim lawful n).made e (inr m))).1 in
+      st.recorded ∙ ap (map (λ (r : Row). r.rec)) (sym (all_before sim lawful.rows sim.end [] (after_steps sim n).executed early))
+      ∙ ap (seq_of sim) all where
+        seq_of : (y : Simulation S P) → List (Sent P) → List Record
+        seq_of y es = map (λ (r : Row). r.rec) (filter (λ (r : Row). nat_lt r.key.time y.end) (rows_after y [] es))
+
+  -- the records below a time are those of the rows below it
+  pub records_before : (n t : ℕ) (pending : List (Sent P)) (processes : List (Process M S P K)) (records : List Record) → StandsAt sim n pending processes records
+      → filter (λ (r : Record). time_before r.time t) records ≡ map (λ (r : Row). r.rec) (filter (λ (r : Row). nat_lt r.key.time t) (rows_after sim [] (after_steps sim n).executed))
+  records_before n t pending processes records st =
+      ap (filter (λ (r : Record). time_before r.time t)) st.recorded ∙ told_before sim lawful.rows t [] (after_steps sim n).executed

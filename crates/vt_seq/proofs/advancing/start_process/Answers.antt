@@ -1,0 +1,87 @@
+use Rattle.std.proofs.Common.{◌≡◌, ◌+◌, ◌<◌, ◌^◌, ◌≤◌, ◌∙◌, [], ap, arith, max, rules}
+use prog.Memory.{up, align, size}
+use denote.Memory.{lone}
+use Rattle.vt_model.specs.Words.{word_of, moved}
+use Rattle.vt_model.specs.Sends.{Outgoing, with_requests}
+use Rattle.vt_model.specs.Simulation.{words_at}
+use Rattle.vt_model.proofs.WordLemmas.{word_below}
+use Rattle.vt_seq.specs.Queue.{all_inserted}
+use Rattle.vt_seq.proofs.Sizes.{up_le}
+use Rattle.vt_seq.proofs.StartLemmas.{starts}
+use Rattle.vt_seq.proofs.advancing.start_process.Goals as goal
+
+pub new-out-requires : goal.new-out-requires
+new-out-requires g c =
+    let bounds = g.met.M.Model.payload_align in
+    let low : 1 ≤ align (lone g.row.M-Payload.mir) = bounds.0 in
+    let high : align (lone g.row.M-Payload.mir) ≤ 8 = bounds.1 in
+    let size_small : size (lone g.row.M-Payload.mir) < 2 ^ 32 = g.met.M.Model.payload_size in
+    let at : up (align (lone g.row.M-Payload.mir)) 28 ≤ 28 + 16 = up_le (align (lone g.row.M-Payload.mir)) 28 28 low (omega (arith, high)) (omega arith) in
+    let al : max 8 (max 4 (max (align (lone g.row.M-Payload.mir)) 1)) ≡ 8 = omega (arith, high) in
+    (simp al (omega (arith, at, size_small)), (c.requires.known, (c.args.config.some_time, (let z : 0 ≤ 2 ^ 63 = omega arith in z))))
+
+pub start-state-requires : goal.start-state-requires
+start-state-requires g c =
+    let bounds = g.met.M.Model.payload_align in
+    let low : 1 ≤ align (lone g.row.M-Payload.mir) = bounds.0 in
+    let high : align (lone g.row.M-Payload.mir) ≤ 8 = bounds.1 in
+    let size_small : size (lone g.row.M-Payload.mir) < 2 ^ 32 = g.met.M.Model.payload_size in
+    let at : up (align (lone g.row.M-Payload.mir)) 28 ≤ 28 + 16 = up_le (align (lone g.row.M-Payload.mir)) 28 28 low (omega (arith, high)) (omega arith) in
+    let al : max 8 (max 4 (max (align (lone g.row.M-Payload.mir)) 1)) ≡ 8 = omega (arith, high) in
+    (simp al (omega (arith, at, size_small)), (c.new-draws.ensures.undrawn, c.new-out.ensures.fresh))
+
+pub number-number-requires : goal.number-number-requires
+number-number-requires g c =
+    let bounds = g.met.M.Model.payload_align in
+    let low : 1 ≤ align (lone g.row.M-Payload.mir) = bounds.0 in
+    let high : align (lone g.row.M-Payload.mir) ≤ 8 = bounds.1 in
+    let size_small : size (lone g.row.M-Payload.mir) < 2 ^ 32 = g.met.M.Model.payload_size in
+    let at : up (align (lone g.row.M-Payload.mir)) 28 ≤ 28 + 16 = up_le (align (lone g.row.M-Payload.mir)) 28 28 low (omega (arith, high)) (omega arith) in
+    let al : max 8 (max 4 (max (align (lone g.row.M-Payload.mir)) 1)) ≡ 8 = omega (arith, high) in
+    simp al (omega (arith, at, size_small))
+
+pub make_room_for_sends-requires : goal.make_room_for_sends-requires
+make_room_for_sends-requires g c =
+    let bounds = g.met.M.Model.payload_align in
+    let low : 1 ≤ align (lone g.row.M-Payload.mir) = bounds.0 in
+    let high : align (lone g.row.M-Payload.mir) ≤ 8 = bounds.1 in
+    let size_small : size (lone g.row.M-Payload.mir) < 2 ^ 32 = g.met.M.Model.payload_size in
+    let at : up (align (lone g.row.M-Payload.mir)) 28 ≤ 28 + 16 = up_le (align (lone g.row.M-Payload.mir)) 28 28 low (omega (arith, high)) (omega arith) in
+    let al : max 8 (max 4 (max (align (lone g.row.M-Payload.mir)) 1)) ≡ 8 = omega (arith, high) in
+    simp al (omega (arith, at, size_small))
+
+pub sends-requires : goal.sends-requires
+sends-requires g c =
+    let bounds = g.met.M.Model.payload_align in
+    let low : 1 ≤ align (lone g.row.M-Payload.mir) = bounds.0 in
+    let high : align (lone g.row.M-Payload.mir) ≤ 8 = bounds.1 in
+    let size_small : size (lone g.row.M-Payload.mir) < 2 ^ 32 = g.met.M.Model.payload_size in
+    let at : up (align (lone g.row.M-Payload.mir)) 28 ≤ 28 + 16 = up_le (align (lone g.row.M-Payload.mir)) 28 28 low (omega (arith, high)) (omega arith) in
+    let al : max 8 (max 4 (max (align (lone g.row.M-Payload.mir)) 1)) ≡ 8 = omega (arith, high) in
+    simp al (omega (arith, at, size_small))
+
+pub returns-clause-numbered : goal.returns-clause-numbered
+returns-clause-numbered g c =
+    let w = g.met.M.Model.start_within c.args.model.now c.new-out.result.lps c.args.p (word_of c.new-draws.result.stream.now)
+    (rw c.new-out.ensures.whole c.requires.known) (λ i. word_below _ _ _) in
+    let number : c.start-state.new.out.number ≡ (with_requests c.new-out.result ((g.M.Model.handlers c.args.model.now).start c.new-out.result.lps c.args.p (word_of c.new-draws.result.stream.now)).send_requests []).number = ap (λ (o : Outgoing g.row.M-Payload.Denot). o.number) c.start-state.ensures.out in
+    let first : c.new-out.result.number ≡ 0 = ap (λ (o : Outgoing g.row.M-Payload.Denot). o.number) c.new-out.ensures.whole in
+    omega (arith, w.few_sends, number, first, c.number-number.ensures)
+
+pub returns-clause-done : goal.returns-clause-done
+returns-clause-done g c =
+    let gives = (g.M.Model.handlers c.args.model.now).start in
+    let w = g.met.M.Model.start_within c.args.model.now c.args.config.lps c.args.p (words_at c.args.config.seed c.args.p 0)
+    c.requires.known (λ i. word_below _ _ _) in
+    let at = c.new-draws.ensures.stream ∙ c.new-stream.ensures in
+    let out = c.new-out.ensures.whole in
+    let r = starts c.args.config.seed c.args.config.end c.args.config.lps c.args.p (gives c.args.config.lps c.args.p) c.new-draws.result.stream.now c.start-state.new.draws.stream.now c.new-out.result c.start-state.new.out c.start-state.result
+    at out
+    (c.start-state.ensures.state ∙ (λ j. (gives (out j).lps c.args.p (word_of c.new-draws.result.stream.now)).state))
+    (c.start-state.ensures.stream ∙ (λ j. moved c.new-draws.result.stream.now (gives (out j).lps c.args.p (word_of c.new-draws.result.stream.now)).drawn))
+    w.few_words
+    (c.start-state.ensures.out ∙ (λ j. with_requests c.new-out.result (gives (out j).lps c.args.p (word_of c.new-draws.result.stream.now)).send_requests [])) in
+    record {
+      triple = search (rules, r.triple, c.number-number.ensures);
+      pending = c.insert_events.ensures.items ∙ (λ j. all_inserted ((c.sends.ensures ∙ r.sends) j) (c.make_room_for_sends.ensures.events j));
+    }

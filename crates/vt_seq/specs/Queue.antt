@@ -1,0 +1,20 @@
+-- Pending events in the order of their keys.
+use Rattle.std.specs.Prelude.{ℕ, ◌<◌, List, [], ◌∷◌, if◌then◌else◌}
+use Rattle.vt_key.specs.Times.{Time, TimeBefore}
+use Rattle.vt_key.specs.Order.{key_before}
+use Rattle.vt_model.specs.declared.sending.Sent.{Sent}
+
+-- events with one more, before the first of greater key
+abbrev pub inserted : {P : Type 0} → Sent P → List (Sent P) → List (Sent P)
+inserted e [] = e ∷ []
+inserted e (d ∷ ds) = if key_before e.key d.key then (e ∷ d ∷ ds) else (d ∷ inserted e ds)
+
+-- events with these inserted one after the other
+abbrev pub all_inserted : {P : Type 0} → List (Sent P) → List (Sent P) → List (Sent P)
+all_inserted [] ds = ds
+all_inserted (e ∷ es) ds = all_inserted es (inserted e ds)
+
+-- an event that some process of the run may execute
+pub record IsWithinRun {P : Type 0} (lps : ℕ) (end : Time) (e : Sent P) : Type 0 where
+  pub known : e.dest < lps
+  pub soon : TimeBefore e.key.time end

@@ -1,0 +1,9 @@
+//! The sequential simulator: it executes a model's events one after the other, always the pending one of least key. Its
+//! records are what every other run of the model is measured against.
+#![tactic(auto)]
+
+mod advancing;
+mod queue;
+mod run;
+
+pub use run::Sequential;
