@@ -34,3 +34,4 @@ pub mod Entries
 pub mod LiveEvents
 pub mod QuietHistories
 pub mod Ranks
+pub mod LetterGuards
