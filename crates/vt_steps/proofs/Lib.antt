@@ -35,3 +35,4 @@ pub mod LiveEvents
 pub mod QuietHistories
 pub mod Ranks
 pub mod LetterGuards
+pub mod MemoryLemmas
