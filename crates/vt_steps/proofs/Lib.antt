@@ -36,3 +36,4 @@ pub mod QuietHistories
 pub mod Ranks
 pub mod LetterGuards
 pub mod MemoryLemmas
+pub mod HistoriesTheorem
