@@ -4,10 +4,12 @@
 //! no state of a model stands in a world, since the state of a logical process is what its executed events make of it.
 #![tactic(auto)]
 
+mod histories;
 mod laws;
 mod memory;
 mod step;
 
+pub use histories::{copies_are_right, histories_are_right, letters_are_delivered, ranks_rise};
 pub use laws::{
     letters_annihilate, letters_are_kept, local_steps_change_one_part, mail_is_kept,
     refused_steps_change_nothing, reports_are_answered, steps_act_on_one_cell,
