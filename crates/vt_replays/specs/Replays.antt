@@ -212,7 +212,7 @@ travelling_least_shown = record { announced = 3; floor = 3; least = 3; records =
 abbrev pub fetched_least : List Line
 fetched_least =
     ok (Home 0) ∷ ok (Home 1) ∷ ok (Execute 1) ∷ ok (Execute 0) ∷ ok (Send 0 1) ∷ ok (Fetch 1)
-    ∷ ok (Cut 0) ∷ ok (Cut 1) ∷ replies (Report 0) Waiting ∷ replies (Report 1) (Announced 2)
+    ∷ not_lawful (Fetch 1) ∷ ok (Cut 0) ∷ ok (Cut 1) ∷ replies (Report 0) Waiting ∷ replies (Report 1) (Announced 2)
     ∷ ok (Commit 1) ∷ ok (Accept 1 0) ∷ not_lawful (Execute 1) ∷ ok (Undo 1) ∷ []
 
 abbrev pub fetched_least_shown : Shown
@@ -243,12 +243,17 @@ row_at_floor =
 abbrev pub row_at_floor_shown : Shown
 row_at_floor_shown = record { announced = 10; floor = 3; least = 10; records = below_3 }
 
+-- worker 1 then learns the second announced time by a cut and commits: the whole run is in the book, and it is closed
+abbrev pub second_round_closes : List Line
+second_round_closes = row_at_floor ++ ok (Cut 1) ∷ ok (Commit 1) ∷ ok Close ∷ []
+
 -- ---- what a round refuses
 
--- nobody cuts twice in a round, reports before all have cut, or reports twice; and there are two workers and two processes
+-- nobody cuts twice in a round, reports before all have cut, or reports twice; nobody sends where nothing is for the other;
+-- and there are two workers and two processes
 abbrev pub one_round : List Line
 one_round =
-    not_lawful (Report 0) ∷ ok (Cut 0) ∷ not_lawful (Cut 0) ∷ not_lawful (Report 0) ∷ not_lawful (Cut 2) ∷ ok (Cut 1)
+    not_lawful (Send 0 1) ∷ not_lawful (Report 0) ∷ ok (Cut 0) ∷ not_lawful (Cut 0) ∷ not_lawful (Report 0) ∷ not_lawful (Cut 2) ∷ ok (Cut 1)
     ∷ replies (Report 0) Waiting ∷ not_lawful (Report 0) ∷ not_lawful (Report 2) ∷ replies (Report 1) (Announced 1)
     ∷ not_lawful (Report 1) ∷ not_lawful (Execute 2) ∷ not_lawful (Send 0 2) ∷ not_lawful (Commit 2) ∷ []
 
