@@ -3,7 +3,7 @@
 ghost use Rattle.std.specs.Prelude.{◌≡◌, ◌+◌, ◌^◌, ◌<◌, ◌≤◌, [], ◌∷◌, None, IfOk, IfErr, IsSome};
 ghost use Rattle.vt_key.specs.Faults.{option_named};
 ghost use Rattle.vt_model.specs.declared.limits.TheConstants.{MAX_DRAWS, MAX_SENDS};
-ghost use Rattle.vt_model.specs.Words.{word_of, moved};
+ghost use Rattle.vt_stream.specs.Words.{word_of, moved};
 ghost use Rattle.vt_model.specs.Sends.{with_requests};
 ghost use Rattle.vt_models.specs.declared.stations.TheConstants.{MAX_JOBS, MAX_SERVICE, MAX_TRAVEL};
 ghost use Rattle.vt_models.specs.Options.{first_bad_stations_option};

@@ -6,3 +6,5 @@
 mod pieces;
 #[cfg(test)]
 mod sequential;
+#[cfg(test)]
+mod streams;

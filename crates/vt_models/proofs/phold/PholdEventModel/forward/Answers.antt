@@ -1,6 +1,6 @@
 use Rattle.std.proofs.Common.{◌+◌, ◌∙◌, ap, arith}
-use Rattle.vt_model.specs.Words.{Stream, word_of, moved}
-use Rattle.vt_models.proofs.DrawLemmas.{moved-moved, word_after}
+use Rattle.vt_stream.specs.Words.{Stream, word_of, moved}
+use Rattle.vt_stream.proofs.DrawLemmas.{moved-moved, word_after}
 use Rattle.vt_models.proofs.RequestLemmas.{recorded_then_sent}
 use Rattle.vt_models.proofs.PholdSteps.{thrown_away, thrown_up}
 use Rattle.vt_models.proofs.phold.PholdEventModel.forward.Goals as goal

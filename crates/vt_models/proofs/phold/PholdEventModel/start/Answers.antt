@@ -1,9 +1,9 @@
 use Rattle.std.proofs.Common.{◌≡◌, ◌+◌, List, [], ◌∷◌, ◌++◌, ◌∙◌, length, sym, ap, arith, rules, refl, add-one, lit<}
 use Rattle.vt_model.specs.Sends.{SendRequest, Outgoing, with_requests}
-use Rattle.vt_model.specs.Words.{Stream, word_of, moved}
+use Rattle.vt_stream.specs.Words.{Stream, word_of, moved}
 use Rattle.vt_models.specs.Phold.{throw, first_throws}
 use Rattle.vt_models.specs.PholdLaws.{first_throws_ok, first_throws-suc}
-use Rattle.vt_models.proofs.DrawLemmas.{moved-zero, moved-moved, word_after}
+use Rattle.vt_stream.proofs.DrawLemmas.{moved-zero, moved-moved, word_after}
 use Rattle.vt_models.proofs.RequestLemmas.{no_requests, sent_after}
 use Rattle.vt_models.proofs.phold.PholdEventModel.start.Goals as goal
 

@@ -1,5 +1,5 @@
 use Rattle.std.proofs.Common.{◌≡◌, []}
-use Rattle.vt_model.specs.Words.{word_of, moved}
+use Rattle.vt_stream.specs.Words.{word_of, moved}
 use Rattle.vt_model.specs.Sends.{with_requests}
 use Rattle.vt_models.specs.Phold.{first_throws}
 use Rattle.vt_models.proofs.phold.PholdEventModel.start.Given as goal

@@ -1,7 +1,7 @@
 -- The words that are drawn one after another.
 use Rattle.std.proofs.Common.{◌≡◌, ℕ, ◌+◌, ◌%◌, ◌^◌, ◌<◌, ap, ◌∙◌, arith}
-use Rattle.vt_model.specs.Words.{Stream, word, word_of, moved}
-use Rattle.vt_model.proofs.WordLemmas.{word-wraps}
+use Rattle.vt_stream.specs.Words.{Stream, word, word_of, moved}
+use Rattle.vt_stream.proofs.WordLemmas.{word-wraps}
 
 -- n words and then k are n + k words
 pub moved-moved : (s : Stream) (n k : ℕ) → moved (moved s n) k ≡ moved s (n + k)
