@@ -3,6 +3,8 @@
 #![tactic(auto)]
 
 #[cfg(test)]
+mod models;
+#[cfg(test)]
 mod pieces;
 #[cfg(test)]
 mod sequential;
