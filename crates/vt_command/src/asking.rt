@@ -6,7 +6,9 @@ ghost use Rattle.vt_command.specs.Line.{twarp_app};
 ghost use Rattle.vt_command.specs.Requests.{IsRefusedBy};
 ghost use Rattle.vt_command.specs.Asked.{IsAsked};
 
-use crate::{Options, matches_in, read_options};
+use crate::Options;
+use crate::line::matches_in;
+use crate::reading::read_options;
 use clap::error::ErrorKind;
 use clap::{ArgMatches, Error};
 use std::alloc::Global;

@@ -1,4 +1,7 @@
 //! The command line of `twarp`: which words have a meaning, which options they give, and what they ask for.
+//!
+//! The words are read by `clap`, whose definitions say which text a line gives to each option. The numbers in these texts
+//! are read here, in the order of the table of options, and the first that is out of its range is named.
 #![tactic(auto)]
 
 mod asking;
@@ -14,8 +17,6 @@ pub use limits::{
     MAX_JOBS, MAX_LOOKAHEAD, MAX_POPULATION, MAX_REMOTE, MAX_SERVICE, MAX_SPAN, MAX_TRAVEL,
     MAX_TURNS,
 };
-pub use line::{matches_in, twarp_command};
-pub use reading::read_options;
 
 #[cfg(test)]
 mod tests;

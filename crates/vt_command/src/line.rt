@@ -175,7 +175,7 @@ fn command_of<'a>(
 /// The command line of the program, as a parser.
 ///
 /// An error means that memory was refused.
-pub fn twarp_command<'a>(alloc: Global) -> Result<Command<'a>, AllocError>
+pub(crate) fn twarp_command<'a>(alloc: Global) -> Result<Command<'a>, AllocError>
     ensures { IfOk result (λ c. app_of c ≡ twarp_app) }
 {
     let about =
@@ -191,7 +191,10 @@ pub fn twarp_command<'a>(alloc: Global) -> Result<Command<'a>, AllocError>
 ///
 /// An error is memory refused, a request for help, or words without a meaning: it has a kind that the definitions give
 /// for these words.
-pub fn matches_in<'a, S: AsStr>(alloc: Global, words: &'a [S]) -> Result<ArgMatches<'a>, Error>
+pub(crate) fn matches_in<'a, S: AsStr>(
+    alloc: Global,
+    words: &'a [S],
+) -> Result<ArgMatches<'a>, Error>
     ensures ok { IfOk result (λ m. subcommand_rows_of m ≡ subcommand_of twarp_app (map S.text words.entry.now)) }
     ensures accepted { IfOk result (λ _. fault_of twarp_app (map S.text words.entry.now) ≡ []) }
     ensures err { IfErr result (HasKind (fault_of twarp_app (map S.text words.entry.now))) }

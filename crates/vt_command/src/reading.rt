@@ -142,7 +142,7 @@ fn stations_options(matches: &ArgMatches) -> Result<(), Fault>
 ///
 /// [`Fault::BadOption`] names the first in the order of the table that is no number in its range, or no model or way of
 /// running that is there; options of other models than the one that is run are tested too.
-pub fn read_options(matches: &ArgMatches) -> Result<Options, Fault>
+pub(crate) fn read_options(matches: &ArgMatches) -> Result<Options, Fault>
     ensures ok { IfOk result (λ o. GiveOptions (first_value (found_of matches.now)) o) }
     ensures err { IfErr result (λ fault. fault_number fault ≡ 7) }
     ensures bad { IfErr result (λ fault. option_named fault ≡ first_bad (first_value (found_of matches.now))) }
