@@ -53,6 +53,38 @@ stopped old now new held text rest g h = record {
   appends = Appends-trans old now new _ _ g.appends h.appends;
 }
 
+-- more text was put: some of what was held and of it was written
+pub put_on : (old now new : Option (List ℕ)) (held held' text more : List ℕ) → AppendsAllButHeld old now held text → AppendsAllButHeld now new held' (held ++ more) → AppendsAllButHeld old new held' (text ++ more)
+put_on old now new held held' text more g h = record {
+  sent = g.sent ++ h.sent;
+  whole = ap (λ l. l ++ more) g.whole ∙ append_assoc g.sent held more ∙ ap (λ l. g.sent ++ l) h.whole ∙ sym (append_assoc g.sent h.sent held');
+  appends = Appends-trans old now new _ _ g.appends h.appends;
+}
+
+-- more text was put, and a beginning of what was held and of it was written
+pub put_fails : (old now new : Option (List ℕ)) (held text more : List ℕ) → AppendsAllButHeld old now held text → AppendsBeginning now new (held ++ more) → AppendsBeginning old new (text ++ more)
+put_fails old now new held text more g h = record {
+  sent = g.sent ++ h.sent;
+  unsent = h.unsent;
+  whole = ap (λ l. l ++ more) g.whole ∙ append_assoc g.sent held more ∙ ap (λ l. g.sent ++ l) h.whole ∙ sym (append_assoc g.sent h.sent h.unsent);
+  short = h.short;
+  appends = Appends-trans old now new _ _ g.appends h.appends;
+}
+
+-- a beginning of a text is one of a longer text
+pub of_longer : (old new : Option (List ℕ)) (text rest : List ℕ) → AppendsBeginning old new text → AppendsBeginning old new (text ++ rest)
+of_longer old new text rest h = record {
+  sent = h.sent;
+  unsent = h.unsent ++ rest;
+  whole = ap (λ l. l ++ rest) h.whole ∙ append_assoc h.sent h.unsent rest;
+  short = omega (arith, h.short, length-append h.unsent rest);
+  appends = h.appends;
+}
+
+-- what was held is written in part
+pub flush_fails : (old now new : Option (List ℕ)) (held text : List ℕ) → AppendsAllButHeld old now held text → AppendsBeginning now new held → AppendsBeginning old new text
+flush_fails old now new held text g h = subst (λ (l : List ℕ). AppendsBeginning old new l) (append-nil text) (stopped old now new held text [] g h)
+
 -- the lines up to i, and those from i on
 pub lines_split : {X : Type 0} (f : X → List ℕ) (xs : List X) (i : ℕ) → flat_map f xs ≡ flat_map f (take i xs) ++ flat_map f (drop i xs)
 lines_split f xs i = ap (flat_map f) (sym (take-append-drop i xs)) ∙ flat_map-append f (take i xs) (drop i xs)

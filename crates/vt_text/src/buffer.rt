@@ -92,7 +92,8 @@ impl TextBuffer {
     /// Adds bytes at the end. There must be room for them ([`TextBuffer::has_room`]).
     pub fn push_bytes(&mut self, bytes: &[u8])
         requires room { length self.old + length bytes.now ≤ TEXT_ROOM }
-        ensures { self.new ≡ self.old ++ bytes.now }
+        ensures text { self.new ≡ self.old ++ bytes.now }
+        ensures len { length self.new ≡ length self.old + length bytes.now }
     {
         let end = self.len + bytes.len();
         self.bytes[self.len..end].copy_from_slice(bytes);
@@ -102,7 +103,8 @@ impl TextBuffer {
     /// Adds the decimal digits of a number. There must be room for [`NUMBER_LEN`] bytes.
     pub fn push_number(&mut self, n: u64)
         requires room { length self.old + NUMBER_LEN ≤ TEXT_ROOM }
-        ensures { self.new ≡ self.old ++ decimal n }
+        ensures text { self.new ≡ self.old ++ decimal n }
+        ensures len { length self.new ≤ length self.old + NUMBER_LEN }
     {
         let mut digits = [0; NUMBER_LEN];
         let start = put_number(n, &mut digits, NUMBER_LEN);
@@ -112,7 +114,8 @@ impl TextBuffer {
     /// Adds the line of a record. There must be room for [`RECORD_LEN`] bytes.
     pub fn push_record(&mut self, row: &Record)
         requires room { length self.old + RECORD_LEN ≤ TEXT_ROOM }
-        ensures { self.new ≡ self.old ++ record_text row.now }
+        ensures text { self.new ≡ self.old ++ record_text row.now }
+        ensures len { length self.new ≤ length self.old + RECORD_LEN }
     {
         let mut line = [0; RECORD_LEN];
         let start = put_record(row, &mut line);
