@@ -7,23 +7,28 @@ use Rattle.vt_list.specs.Blocks.{place_at}
 use Rattle.vt_list.specs.declared.node.Node.{Node}
 use Rattle.vt_list.specs.Linked.{Placed, first_or, last_or, with_next, with_prev, items, LeadOn, LeadBack, IsChain, IsPlace}
 
+-- a place that may be there, or p
 abbrev place_or : Ptr → Option Ptr → Ptr
 place_or p None = p
 place_or p (Some q) = q
 
 -- ---- ends
 
+-- nothing is not something
 pub none-some : {A : Type 0} (x : A) → None ≡ Some x → ⊥
 none-some x e = absurd (let h : None ≡ Some x = e in cc)
 
+-- nodes have a last one
 last-some : {Y : Type 0} (b : Ptr × Y) (bs : List (Ptr × Y)) → last_or None (b ∷ bs) ≡ None → ⊥
 last-some b [] e = none-some b.0 (sym e)
 last-some b (c ∷ bs) e = last-some c bs e
 
+-- where there is no last node, there is none
 pub no-last : {Y : Type 0} (bs : List (Ptr × Y)) → last_or None bs ≡ None → bs ≡ []
 no-last [] e = refl
 no-last (b ∷ bs) e = absurd (last-some b bs e)
 
+-- the ends of nodes that were joined
 pub first-append : {Y : Type 0} (z : Option Ptr) (bs cs : List (Ptr × Y)) → first_or z (bs ++ cs) ≡ first_or (first_or z cs) bs
 first-append z [] cs = refl
 first-append z (b ∷ bs) cs = refl
@@ -60,6 +65,7 @@ module _ {Y : Type 0} (p : Ptr) (bs : List (Ptr × Y)) (l : Last p bs) where
   pub some-last : 0 < length bs
   some-last = omega (arith, ap length l.is, length-append l.front ((p, l.content) ∷ []))
 
+-- where the last one lies
 place-snoc : {Y : Type 0} (p : Ptr) (y : Y) (bs : List (Ptr × Y)) → place_at (bs ++ (p, y) ∷ []) (length bs) ≡ p
 place-snoc p y [] = refl
 place-snoc p y (b ∷ bs) = place-snoc p y bs
@@ -73,11 +79,13 @@ place-last p bs e =
 -- ---- writing a link
 
 module _ {X : Type 0} where
+  -- writing the last link changes the last node alone
   pub with_next-snoc : (z : Option Ptr) (bs : List (Placed X)) (b : Placed X) → with_next z (bs ++ b ∷ []) ≡ bs ++ (b.0, record b.1 { next = z }) ∷ []
   with_next-snoc z [] b = refl
   with_next-snoc z (c ∷ []) b = refl
   with_next-snoc z (c ∷ d ∷ bs) b = ap (λ l. c ∷ l) (with_next-snoc z (d ∷ bs) b)
 
+  -- writing a link moves no node
   first-with_next : (y z : Option Ptr) (bs : List (Placed X)) → first_or y (with_next z bs) ≡ first_or y bs
   first-with_next y z [] = refl
   first-with_next y z (b ∷ []) = refl
@@ -96,6 +104,7 @@ module _ {X : Type 0} where
   last-with_prev y a [] = refl
   last-with_prev y a (b ∷ bs) = refl
 
+  -- writing a link changes no item
   pub items-with_next : (z : Option Ptr) (bs : List (Placed X)) → items (with_next z bs) ≡ items bs
   items-with_next z [] = refl
   items-with_next z (b ∷ []) = refl
@@ -108,6 +117,7 @@ module _ {X : Type 0} where
   pub items-append : (bs cs : List (Placed X)) → items (bs ++ cs) ≡ items bs ++ items cs
   items-append bs cs = map-append (λ b. b.1.item) bs cs
 
+  -- after a link is written, all nodes lead on and back as before, but for that link
   on-with_next : (y z : Option Ptr) (bs : List (Placed X)) → LeadOn bs y → LeadOn (with_next z bs) z
   on-with_next y z [] on = tt
   on-with_next y z (b ∷ []) on = (refl, tt)
@@ -128,6 +138,7 @@ module _ {X : Type 0} where
 
   -- ---- joining and parting
 
+  -- links of nodes that are joined, and of both parts of nodes that are parted
   on-append : (z : Option Ptr) (bs cs : List (Placed X)) → LeadOn bs (first_or z cs) → LeadOn cs z → LeadOn (bs ++ cs) z
   on-append z [] cs on more = more
   on-append z (b ∷ bs) cs on more = (on.0 ∙ sym (first-append z bs cs), on-append z bs cs on.1 more)
