@@ -32,3 +32,4 @@ pub mod MailLemmas
 pub mod LetterLemmas
 pub mod Entries
 pub mod LiveEvents
+pub mod BookRows

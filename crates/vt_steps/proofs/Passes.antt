@@ -17,7 +17,7 @@ use Rattle.vt_steps.specs.PartSteps.{part_after_cut, report_sent, report_got, re
 use Rattle.vt_steps.specs.World.{Board, Part, letters_in}
 use Rattle.vt_steps.proofs.Colours.{sent_in, got_in, early_coloured, other-other, all-coloured, none-coloured}
 use Rattle.vt_steps.proofs.Early.{early_in, early_mail, none-early, letters-early}
-use Rattle.vt_steps.proofs.Flags.{flagged_sum-put_same, flagged_sum-set, flagged_sum-all, flagged_sum-none, none-set, set-at, set-cases}
+use Rattle.vt_steps.proofs.Flags.{flagged_sum-put_same, flagged_sum-set, flagged_sum-all, flagged_sum-none, none-set, set-at, put-cases}
 use Rattle.vt_steps.proofs.Places.{get-put_same, get-put_other, get-replicate, get-within}
 use Rattle.vt_steps.proofs.Rounds.{IsRedLate, IsOpenRound, IsBetweenRounds, IsRoundSound}
 use Rattle.vt_steps.proofs.Sums.{sum_by-put, sum_by-nothings, sum-at}
@@ -117,7 +117,7 @@ module _ {P : Type 0} (end t announced : Time) (parts : List (Part P)) (inboxes 
             omega arith);
         opened = λ still. record {
           colours = λ v p at flag cut.
-              elim (set-cases board.has_cut w v flag clear cut) [
+              elim (put-cases board.has_cut w v false true flag clear cut) [
                 | inl e ↦
                     (let there : slice_get (slice_set parts w after) w ≡ Some p = ap (λ k. slice_get (slice_set parts w after) k) (sym e.0) ∙ at in
                     let here : slice_get (slice_set parts w after) w ≡ Some after = get-put_same parts w part after is in
@@ -130,7 +130,7 @@ module _ {P : Type 0} (end t announced : Time) (parts : List (Part P)) (inboxes 
           sent = o.sent ∙ sym (flagged_sum-put_same (sent_in old) board.has_reported parts w part after is refl);
           got = (let a = flagged_sum-put_same (got_in old) board.has_reported parts w part after is refl in let b = o.got in omega arith);
           red_late = λ h v p at cut.
-              elim (set-cases board.has_cut w v true clear cut) [
+              elim (put-cases board.has_cut w v false true true clear cut) [
                 | inl e ↦
                     (let there : slice_get (slice_set parts w after) w ≡ Some p = ap (λ k. slice_get (slice_set parts w after) k) (sym e.0) ∙ at in
                     let here : slice_get (slice_set parts w after) w ≡ Some after = get-put_same parts w part after is in
@@ -202,7 +202,7 @@ module _ {P : Type 0} (end t : Time) (parts : List (Part P)) (inboxes : List (Li
               let mail_more = flagged_sum-set (count_colour old) board.has_reported inboxes w in_is.0 clear in_is.1 in
               let value : TimeAtMost t (report_least end part) = omega arith in
               let was = o.heard (omega arith) (omega arith) (others-were others value) in
-              elim (set-cases board.has_reported w v true clear flag) [
+              elim (put-cases board.has_reported w v false true true clear flag) [
                 | inl e ↦
                     (let here : slice_get parts w ≡ Some p = ap (λ k. slice_get parts k) (sym e.0) ∙ at in
                     let same : p ≡ part = cc in

@@ -1,5 +1,5 @@
 -- Sums over all processes, worker by worker and place by place; and the rows of the sequential run as such a sum.
-use Rattle.std.proofs.Common.{◌≡◌, ℕ, zero, suc, ◌+◌, ◌/◌, ◌%◌, ◌≤◌, ◌<◌, inl, inr, true, false, cond, List, [], ◌∷◌, ◌++◌, nat_eq, refl, sym, ◌∙◌, ap, arith}
+use Rattle.std.proofs.Common.{◌≡◌, ℕ, zero, suc, ◌+◌, ◌/◌, ◌%◌, ◌≤◌, ◌<◌, inl, inr, true, false, cond, List, [], ◌∷◌, ◌++◌, length, Some, None, slice_get, slice_set, nat_eq, refl, sym, subst, ◌∙◌, ap, arith}
 use Rattle.std.specs.List.{sum_by, range_with_len}
 use Rattle.std.proofs.lemmas.Bool.{eqb-true, eq-eqb}
 use Rattle.std.proofs.lemmas.Bool.Decides.{nat_tests}
@@ -60,6 +60,50 @@ sum_by-range_one x j a (suc n) low high =
           let ih = sum_by-range_one x j (a + 1) n (omega arith) (omega arith) in
           omega arith
     ]
+
+-- ---- sums by place
+
+-- the sum of what the elements of a list weigh at their places, counted from a first one on
+abbrev pub sum_by_place : {X : Type 0} → (ℕ → X → ℕ) → ℕ → List X → ℕ
+sum_by_place g i [] = 0
+sum_by_place g i (x ∷ xs) = g i x + sum_by_place g (i + 1) xs
+
+-- one gives way to another, of a list counted from a first place on
+sum_by_place-put_from : {X : Type 0} (g : ℕ → X → ℕ) (i : ℕ) (xs : List X) (j : ℕ) (x y : X) → slice_get xs j ≡ Some x →
+    sum_by_place g i (slice_set xs j y) + g (i + j) x ≡ sum_by_place g i xs + g (i + j) y
+sum_by_place-put_from g i [] j x y e = absurd (let h : None ≡ Some x = e in cc)
+sum_by_place-put_from g i (z ∷ zs) zero x y e =
+    let same : z ≡ x = cc in
+    let here : i + 0 ≡ i = omega arith in
+    let a : g (i + 0) x ≡ g i z = ap (λ k. g k x) here ∙ ap (g i) (sym same) in
+    let b : g (i + 0) y ≡ g i y = ap (λ k. g k y) here in
+    omega arith
+sum_by_place-put_from g i (z ∷ zs) (suc j) x y e =
+    let there : (i + 1) + j ≡ i + suc j = omega arith in
+    let ih = sum_by_place-put_from g (i + 1) zs j x y e in
+    let a : g ((i + 1) + j) x ≡ g (i + suc j) x = ap (λ k. g k x) there in
+    let b : g ((i + 1) + j) y ≡ g (i + suc j) y = ap (λ k. g k y) there in
+    omega arith
+
+-- one gives way to another
+pub sum_by_place-put : {X : Type 0} (g : ℕ → X → ℕ) (xs : List X) (j : ℕ) (x y : X) → slice_get xs j ≡ Some x →
+    sum_by_place g 0 (slice_set xs j y) + g j x ≡ sum_by_place g 0 xs + g j y
+sum_by_place-put g xs j x y e = subst (λ k. sum_by_place g 0 (slice_set xs j y) + g k x ≡ sum_by_place g 0 xs + g k y) (let z : 0 + j ≡ j = omega arith in z) (sum_by_place-put_from g 0 xs j x y e)
+
+-- what depends on the places alone, from a first one on
+sum_by_place-range_from : {X : Type 0} (g : ℕ → X → ℕ) (h : ℕ → ℕ) (a : ℕ) (xs : List X) → ((i : ℕ) (x : X) → slice_get xs i ≡ Some x → g (a + i) x ≡ h (a + i)) →
+    sum_by_place g a xs ≡ sum_by h (range_with_len a (length xs))
+sum_by_place-range_from g h a [] same = refl
+sum_by_place-range_from g h a (x ∷ xs) same =
+    let first : g a x ≡ h a = subst (λ k. g k x ≡ h k) (let z : a + 0 ≡ a = omega arith in z) (same 0 x refl) in
+    let ih = sum_by_place-range_from g h (a + 1) xs (λ i y at. subst (λ k. g k y ≡ h k) (let z : a + suc i ≡ (a + 1) + i = omega arith in z) (same (suc i) y at)) in
+    let c = sum_by-cons h a (range_with_len (a + 1) (length xs)) in
+    omega arith
+
+-- what depends on the places alone is a sum over a range of numbers
+pub sum_by_place-range : {X : Type 0} (g : ℕ → X → ℕ) (h : ℕ → ℕ) (xs : List X) → ((i : ℕ) (x : X) → slice_get xs i ≡ Some x → g i x ≡ h i) →
+    sum_by_place g 0 xs ≡ sum_by h (range_with_len 0 (length xs))
+sum_by_place-range g h xs same = sum_by_place-range_from g h 0 xs (λ i x at. subst (λ k. g k x ≡ h k) (let z : i ≡ 0 + i = omega arith in z) (same i x at))
 
 -- ---- sums over all processes
 
