@@ -33,3 +33,5 @@ pub mod LetterLemmas
 pub mod Entries
 pub mod LiveEvents
 pub mod BookRows
+pub mod QuietHistories
+pub mod Ranks

@@ -126,7 +126,7 @@ module _ {S P : Type 0} (sim : Simulation S P) (serial : ℕ) where
       (subst (λ q. Among x (stamped (p % sim.workers) (serial + length (pieces_before (sends_at (p % sim.workers)) (p / sim.workers))) (sim.start q).sends)) (sym (own-place sim p)) m)
 
   -- it is among the events of all starts
-  first-among : (x : Event P) (p : ℕ) → 1 ≤ sim.workers → p < sim.lps → Among x (first_events p) → Among x (events_of_starts sim serial)
+  pub first-among : (x : Event P) (p : ℕ) → 1 ≤ sim.workers → p < sim.lps → Among x (first_events p) → Among x (events_of_starts sim serial)
   first-among x p some less m =
       let within : p % sim.workers < sim.workers = mod-lt p some in
       among-flat_map (start_events sim serial) x (p % sim.workers) (range_with_len 0 sim.workers) (among-range (p % sim.workers) 0 sim.workers (omega arith) (omega arith)) (first-start x p some less m)
@@ -134,7 +134,7 @@ module _ {S P : Type 0} (sim : Simulation S P) (serial : ℕ) where
   -- ---- live events and counts
 
   -- a live event counts
-  live-counted : (world : World P) (x : Event P) → 1 ≤ sim.workers → IsLiveEvent world x → 1 ≤ live_count sim serial world x.rank.stamp
+  pub live-counted : (world : World P) (x : Event P) → 1 ≤ sim.workers → IsLiveEvent world x → 1 ≤ live_count sim serial world x.rank.stamp
   live-counted world x some live =
       let stamp : Stamp = x.rank.stamp in
       let one = own-stamp x in
@@ -153,7 +153,7 @@ module _ {S P : Type 0} (sim : Simulation S P) (serial : ℕ) where
       ]
 
   -- where a stamp is counted as live there is a live event of it
-  live-found : (world : World P) (stamp : Stamp) → IsShaped sim world → 1 ≤ live_count sim serial world stamp → (x : Event P) × IsLiveEvent world x × (x.rank.stamp ≡ stamp)
+  pub live-found : (world : World P) (stamp : Stamp) → IsShaped sim world → 1 ≤ live_count sim serial world stamp → (x : Event P) × IsLiveEvent world x × (x.rank.stamp ≡ stamp)
   live-found world stamp shape h =
       let starts : ℕ = sum_by (λ w. sum_by (of_stamp stamp) (start_events sim serial w)) (range_with_len 0 sim.workers) in
       elim (some-either starts (entry_sum (sent_by stamp) world) h) [
