@@ -36,3 +36,4 @@ pub mod RowOrder
 pub mod SequentialRows
 pub mod ProcessSums
 pub mod BookRows
+pub mod Records
