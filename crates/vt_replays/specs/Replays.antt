@@ -207,14 +207,61 @@ travelling_least_shown = record { announced = 3; floor = 3; least = 3; records =
 
 -- ---- a fetched letter is the least
 
--- worker 1 has fetched the straggler and not accepted it: nothing else is as early
+-- worker 1 has fetched the straggler and not accepted it: nothing else is as early. What it executed at that very time is
+-- not committed, and can still be undone
 abbrev pub fetched_least : List Line
 fetched_least =
     ok (Home 0) ∷ ok (Home 1) ∷ ok (Execute 1) ∷ ok (Execute 0) ∷ ok (Send 0 1) ∷ ok (Fetch 1)
-    ∷ ok (Cut 0) ∷ ok (Cut 1) ∷ replies (Report 0) Waiting ∷ replies (Report 1) (Announced 2) ∷ []
+    ∷ ok (Cut 0) ∷ ok (Cut 1) ∷ replies (Report 0) Waiting ∷ replies (Report 1) (Announced 2)
+    ∷ ok (Commit 1) ∷ ok (Accept 1 0) ∷ not_lawful (Execute 1) ∷ ok (Undo 1) ∷ []
 
 abbrev pub fetched_least_shown : Shown
 fetched_least_shown = record { announced = 2; floor = 0; least = 2; records = [] }
+
+-- ---- an anti-message of an executed event
+
+-- process 0 has executed the event when its anti-message comes: the event is undone first, and then the two annihilate
+abbrev pub anti_message_last : List Line
+anti_message_last =
+    until_fetched
+    ++ ok (Accept 0 0) ∷ ok (Execute 0) ∷ not_lawful (Undo 0) ∷ ok (Accept 0 0) ∷ not_lawful (Cancel 0 (stamp 1 1))
+    ∷ ok (Undo 0) ∷ ok (Cancel 0 (stamp 1 1)) ∷ ok (Accept 0 0) ∷ ok (Execute 0) ∷ []
+    ++ to_the_close
+
+-- ---- a row at the floor
+
+-- after a second round worker 0 hands in its event at 3, and worker 1 has handed in up to 3 alone: the book shows what is
+-- before 3
+abbrev pub row_at_floor : List Line
+row_at_floor =
+    until_straggler
+    ++ ok (Cut 0) ∷ ok (Cut 1) ∷ ok (Send 1 0) ∷ replies (Report 0) Waiting ∷ replies (Report 1) (Announced 3)
+    ∷ ok (Cut 0) ∷ ok (Commit 0) ∷ ok (Commit 1) ∷ ok (Fetch 0) ∷ ok (Accept 0 0) ∷ ok (Accept 0 0) ∷ ok (Accept 0 0)
+    ∷ ok (Cancel 0 (stamp 1 1)) ∷ ok (Execute 0) ∷ ok (Cut 1) ∷ replies (Report 1) Waiting
+    ∷ replies (Report 0) (Announced 10) ∷ ok (Commit 0) ∷ not_lawful Close ∷ []
+
+abbrev pub row_at_floor_shown : Shown
+row_at_floor_shown = record { announced = 10; floor = 3; least = 10; records = below_3 }
+
+-- ---- what a round refuses
+
+-- nobody cuts twice in a round, reports before all have cut, or reports twice; and there are two workers and two processes
+abbrev pub one_round : List Line
+one_round =
+    not_lawful (Report 0) ∷ ok (Cut 0) ∷ not_lawful (Cut 0) ∷ not_lawful (Report 0) ∷ not_lawful (Cut 2) ∷ ok (Cut 1)
+    ∷ replies (Report 0) Waiting ∷ not_lawful (Report 0) ∷ not_lawful (Report 2) ∷ replies (Report 1) (Announced 1)
+    ∷ not_lawful (Report 1) ∷ not_lawful (Execute 2) ∷ not_lawful (Send 0 2) ∷ not_lawful (Commit 2) ∷ []
+
+abbrev pub one_round_shown : Shown
+one_round_shown = record { announced = 1; floor = 0; least = 1; records = [] }
+
+-- ---- what one worker alone refuses
+
+-- it sends nothing to itself, and nothing has arrived; an empty inbox may be fetched, and what is below the floor 0 committed
+abbrev pub alone : List Line
+alone =
+    ok (Fetch 0) ∷ not_lawful (Accept 0 0) ∷ not_lawful (Send 0 0) ∷ not_lawful (Report 0) ∷ ok (Commit 0)
+    ∷ not_lawful Close ∷ ok (Cut 0) ∷ not_lawful (Cut 0) ∷ replies (Report 0) (Announced 1) ∷ not_lawful (Report 0) ∷ []
 
 -- ---- a run without events
 

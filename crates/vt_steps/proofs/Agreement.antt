@@ -113,7 +113,7 @@ module _ {S P : Type 0} (sim : Simulation S P) (starts : List (Event P)) where
 
 module _ {S P : Type 0} (sim : Simulation S P) (serial : ℕ) where
   -- an event of the starts is one of a worker, stamped by it
-  start-worker : (x : Event P) → Among x (events_of_starts sim serial) →
+  pub start-worker : (x : Event P) → Among x (events_of_starts sim serial) →
       (w : ℕ) × (w < sim.workers) × Among x (start_events sim serial w) × IsStamped w serial (serial + length (start_sends sim w)) x
   start-worker x m =
       let r = flat_map-among (start_events sim serial) x (range_with_len 0 sim.workers) m in

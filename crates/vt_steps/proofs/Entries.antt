@@ -16,6 +16,7 @@ use Rattle.vt_steps.specs.Claims.{IsProcess}
 use Rattle.vt_steps.specs.Copies.{letter_weight, mail_weight, process_sum, part_sum, letter_sum, process_entries, part_entries, entry_sum, as_count, is_sign, is_copy, is_event_of, of_stamp, sent_by}
 use Rattle.vt_steps.specs.World.{Entry, LogicalProcess, Part, World, letters_in, all_letters, process_at}
 use Rattle.vt_steps.proofs.Lists.{Every, among-left, among-right, among-append, among-flat_map, among-map, every-among, every-append, every-get}
+use Rattle.vt_steps.proofs.Tests.{both_pass}
 use Rattle.vt_steps.proofs.Sums.{some-at, some-among, some-either, sum-among, sum-at}
 use Rattle.vt_steps.proofs.Changes.{chain_has}
 use Rattle.vt_steps.proofs.Shape.{IsShaped, process-known, part-within, place-of_place, worker-of_place}
@@ -115,11 +116,6 @@ counted-true : (b : Bool) → 1 ≤ as_count b → b ≡ true
 counted-true true h = refl
 counted-true false h = absurd (let z : as_count false ≡ 0 = refl in omega arith)
 
--- the second of two tests that pass
-second-true : (a b : Bool) → (a && b) ≡ true → b ≡ true
-second-true true b h = h
-second-true false b h = absurd (let k : false ≡ true = h in cc)
-
 module _ {P : Type 0} where
   -- an event counts for its own stamp
   pub own-stamp : (event : Event P) → of_stamp event.rank.stamp event ≡ 1
@@ -131,7 +127,7 @@ module _ {P : Type 0} where
 
   -- and so has a letter that does
   copy-stamp : (sign own : Sign) (stamp : Stamp) (event : Event P) → 1 ≤ is_copy sign stamp own event → event.rank.stamp ≡ stamp
-  copy-stamp sign own stamp event h = stamp_same-true event.rank.stamp stamp (second-true (is_sign sign own) (stamp_same event.rank.stamp stamp) (counted-true _ h))
+  copy-stamp sign own stamp event h = stamp_same-true event.rank.stamp stamp (both_pass (is_sign sign own) (stamp_same event.rank.stamp stamp) (counted-true _ h)).1
 
   module _ (sign : Sign) (stamp : Stamp) where
     -- a stamp that is counted among the letters of a part is on one of them

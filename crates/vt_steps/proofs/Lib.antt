@@ -37,3 +37,5 @@ pub mod SequentialRows
 pub mod ProcessSums
 pub mod BookRows
 pub mod Records
+pub mod LetterGuards
+pub mod MemoryLemmas

@@ -108,7 +108,7 @@ module _ {S P : Type 0} (sim : Simulation S P) (serial : ℕ) where
   IsLiveEvent world x = (p : ℕ) × (p < sim.lps) × Among x (live_events world p)
 
   -- an event of the starts is one of a process
-  start-first : (x : Event P) (w : ℕ) → w < sim.workers → Among x (start_events sim serial w) → (p : ℕ) × (p < sim.lps) × Among x (first_events p)
+  pub start-first : (x : Event P) (w : ℕ) → w < sim.workers → Among x (start_events sim serial w) → (p : ℕ) × (p < sim.lps) × Among x (first_events p)
   start-first x w within m =
       let r = stamped-piece (sends_at w) w serial (process_count sim w) x m in
       let worker = worker-of_place sim w r.0 within in

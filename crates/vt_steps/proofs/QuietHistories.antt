@@ -26,6 +26,7 @@ use Rattle.vt_steps.specs.Letters.{least_time, letter_time, unstamped}
 use Rattle.vt_steps.specs.Next.{reached}
 use Rattle.vt_steps.specs.World.{Entry, LogicalProcess, World, all_letters, entry_events, least}
 use Rattle.vt_steps.proofs.Lists.{Every, Rising, among-append, among-filter, among-left, among-map, among-right, every-among, filter-among, flat_map-among, map-among, rising-filter, rising-map, rising-weaker}
+use Rattle.vt_steps.proofs.RankTimes.{rank-order-time}
 use Rattle.vt_steps.proofs.Sums.{some-either}
 use Rattle.vt_steps.proofs.Stamped.{Alike}
 use Rattle.vt_steps.proofs.Shape.{IsShaped, own-place, reached-shape}
@@ -219,14 +220,7 @@ module _ {S P : Type 0} (sim : Simulation S P) (lawful : IsLawful sim) (serial :
       times-rise p =
           rising-map (λ (e : Entry P). unstamped e.event) (λ d e. TimeAtMost d.key.time e.key.time) (entries_of sim world p)
           (rising-weaker (λ (d e : Entry P). RankBefore d.event.rank e.event.rank) (λ (d e : Entry P). TimeAtMost d.event.rank.key.time e.event.rank.key.time) (entries_of sim world p)
-          (λ d e m n before. rank-time d.event.rank e.event.rank before) (entries-rise p))
-        where
-          key-time : (a b : Key) → a ≡ b → TimeAtMost a.time b.time
-          key-time a b same = let at : a.time ≡ b.time = ap (λ k. k.time) same in omega arith
-
-          rank-time : (a b : Rank) → RankBefore a b → TimeAtMost a.key.time b.key.time
-          rank-time a b (inl k) = grind arith
-          rank-time a b (inr k) = key-time a.key b.key k.0
+          (λ d e m n before. rank-order-time d.event.rank e.event.rank before) (entries-rise p))
 
       -- before the time its keys rise: of two events of one key both are live, so they are one
       keys-rise : (p : ℕ) → IsRising (early_history p)

@@ -6,56 +6,29 @@ use Rattle.std.specs.Prelude.{IsTrue}
 use Rattle.std.specs.List.{AllPairs, flat_map, last_or, prefix_len, range_with_len, slice_index_or}
 use Rattle.std.proofs.lemmas.Bool.{ltb-true}
 use Rattle.vt_key.specs.Order.{KeyBefore, RankBefore, key_before, key_same, rank_before, stamp_before}
-use Rattle.vt_key.specs.Times.{Time, TimeAtMost, TimeBefore}
+use Rattle.vt_key.specs.Times.{Time, TimeAtMost, TimeBefore, opening_time}
 use Rattle.vt_key.proofs.OrderLemmas.{key_before-true, key_same-true, rank-transitive, stamp_before-true}
 use Rattle.vt_key.specs.declared.letter.Letter.{Letter}
 use Rattle.vt_key.specs.declared.letter.Sign.{Sign}
 use Rattle.vt_key.specs.declared.letter.Sign.TheVariants.{Plus, Minus}
 use Rattle.vt_key.specs.declared.order.Rank.{Rank}
-use Rattle.vt_model.specs.Histories.{Among}
+use Rattle.vt_model.specs.Histories.{Among, IsLawful}
 use Rattle.vt_model.specs.Simulation.{Simulation}
-use Rattle.vt_model.proofs.RunLemmas.{tested}
 use Rattle.vt_steps.specs.declared.step.Step.{Step}
 use Rattle.vt_steps.specs.Claims.{DoRanksRise, IsProcess}
 use Rattle.vt_steps.specs.Letters.{letter_time, stamped, unstamped}
-use Rattle.vt_steps.specs.Next.{next, reached, report_lawful, run}
+use Rattle.vt_steps.specs.Next.{reached, report_lawful}
 use Rattle.vt_steps.specs.PartSteps.{is_below, part_after_commit, part_after_cut, part_after_fetch, part_after_send, process_after_commit, with_effect}
 use Rattle.vt_steps.specs.ProcessSteps.{ProcessEffect, effect_of_execute, effect_of_undo, may_follow, with_letter}
 use Rattle.vt_steps.specs.World.{Entry, LogicalProcess, Part, World, all_letters, least, letters_in, opening_part, opening_world, process_at, process_count, triple_after}
 use Rattle.vt_steps.proofs.Lists.{Every, Rising, among-append, among-flat_map, among-left, among-right, every-all, every-among, every-append, every-weaker, get-among, no_last, rising-across, rising-append, rising-left}
 use Rattle.vt_steps.proofs.Places.{all-put, get-map, get-replicate}
-use Rattle.vt_steps.proofs.Changes.{Act, executes, undoes, cancels, Leaves, homes, arrives, Local, acts, takes, Change, stays, local, sends, fetches, cuts, reports, commits, closes, next_changes}
+use Rattle.vt_steps.proofs.Changes.{Act, executes, undoes, cancels, Leaves, homes, arrives, Local, acts, takes, Change, stays, local, sends, fetches, cuts, reports, commits, closes, run_keeps}
 use Rattle.vt_steps.proofs.OwnHistories.{history-before_last, history-commit}
 use Rattle.vt_steps.proofs.QuietHistories.{DoAllRanksRise, least-at_most}
-
--- ---- what global virtual time gives
-
--- in each reached world the announced time is at most the least time and at least each worker's floor, and no step lowers it
-pub record IsAnnouncedLow {S P : Type 0} (sim : Simulation S P) (serial : ℕ) : Type 0 where
-  pub least : (steps : List Step) → TimeAtMost (reached sim serial steps).board.announced (least sim.end (reached sim serial steps))
-  pub floors : (steps : List Step) (w : ℕ) (part : Part P) → slice_get (reached sim serial steps).parts w ≡ Some part → TimeAtMost part.floor (reached sim serial steps).board.announced
-  pub rises : (steps : List Step) (step : Step) → TimeAtMost (reached sim serial steps).board.announced (next sim (reached sim serial steps) step).world.board.announced
-
--- ---- lists of steps by their last one
-
-module _ {S P : Type 0} (sim : Simulation S P) where
-  -- a list of steps and one more
-  run-snoc : (world : World P) (steps : List Step) (step : Step) → run sim world (steps ++ step ∷ []) ≡ (next sim (run sim world steps) step).world
-  unfolding run
-  run-snoc world [] step = refl
-  run-snoc world (first ∷ steps) step = run-snoc (next sim world first).world steps step
-
-  -- what holds at the opening, and after a step where it held before it, holds in each reached world
-  pub reached-keeps : (serial : ℕ) (Keeps : World P → Type 0) → Keeps (opening_world sim serial) →
-      ((steps : List Step) (step : Step) → Keeps (reached sim serial steps) → Keeps (next sim (reached sim serial steps) step).world) →
-      (steps : List Step) → Keeps (reached sim serial steps)
-  unfolding run
-  reached-keeps serial Keeps first kept steps = after_steps [] steps first where
-    after_steps : (before steps : List Step) → Keeps (reached sim serial before) → Keeps (run sim (reached sim serial before) steps)
-    after_steps before [] holds = holds
-    after_steps before (step ∷ steps) holds =
-        let one_more : reached sim serial (before ++ step ∷ []) ≡ (next sim (reached sim serial before) step).world = run-snoc (opening_world sim serial) before step in
-        subst (λ world. Keeps (run sim world steps)) one_more (after_steps (before ++ step ∷ []) steps (subst Keeps (sym one_more) (kept before step holds)))
+use Rattle.vt_steps.proofs.Tests.{both_pass, either_passes}
+use Rattle.vt_steps.proofs.Announced.{announced-least}
+use Rattle.vt_steps.proofs.Floors.{AreTimesSound, floors-kept, opening-times, times-kept}
 
 -- ---- ranks of entries
 
@@ -63,14 +36,9 @@ module _ {S P : Type 0} (sim : Simulation S P) where
 rank_before-true : (a b : Rank) → rank_before a b ≡ true → RankBefore a b
 unfolding rank_before
 rank_before-true a b h =
-    elim (tested (key_before a.key b.key)) [
+    elim (either_passes (key_before a.key b.key) (key_same a.key b.key && stamp_before a.stamp b.stamp) h) [
       | inl t ↦ inl (key_before-true a.key b.key t)
-      | inr f ↦ (
-          let rest : (key_same a.key b.key && stamp_before a.stamp b.stamp) ≡ true = sym (ap (λ t. t || (key_same a.key b.key && stamp_before a.stamp b.stamp)) f) ∙ h in
-          elim (tested (key_same a.key b.key)) [
-            | inl t ↦ inr (key_same-true a.key b.key t, stamp_before-true a.stamp b.stamp (sym (ap (λ u. u && stamp_before a.stamp b.stamp) t) ∙ rest))
-            | inr g ↦ absurd (let k : false ≡ true = sym (ap (λ u. u && stamp_before a.stamp b.stamp) g) ∙ rest in cc)
-          ])
+      | inr t ↦ (let both = both_pass (key_same a.key b.key) (stamp_before a.stamp b.stamp) t in inr (key_same-true a.key b.key both.0, stamp_before-true a.stamp b.stamp both.1))
     ]
 
 -- one entry's rank is before another's
@@ -207,7 +175,7 @@ module _ {S P : Type 0} (sim : Simulation S P) where
   part-ordered : (old new : World P) (w : ℕ) (part after : Part P) → slice_get old.parts w ≡ Some part → new.parts ≡ slice_set old.parts w after → (IsOrderedPart part → IsOrderedPart after) → IsOrderedWorld old → IsOrderedWorld new
   part-ordered old new w part after is e f h v found at = all-put (λ j z. IsOrderedPart z) old.parts w part after is h f v found (sym (ap (λ ps. slice_get ps v) e) ∙ at)
 
-  -- each change keeps it, where the announced time is low, and does not fall
+  -- each change keeps it, where no floor is after the announced time, no letter is before that, and it does not fall
   change-ordered : (old new : World P) → Change sim old new → TimeAtMost old.board.announced (least sim.end old) → ((w : ℕ) (part : Part P) → slice_get old.parts w ≡ Some part → TimeAtMost part.floor old.board.announced) →
       TimeAtMost old.board.announced new.board.announced → IsOrderedWorld old → IsOrderedWorld new
   unfolding part_after_send part_after_fetch part_after_cut report_lawful
@@ -241,16 +209,20 @@ module _ {S P : Type 0} (sim : Simulation S P) where
       let is = get-replicate (process_count sim from.0) place empty process (sym (ap (λ z. slice_get z.processes place) from.2) ∙ there) in
       subst (IsOrdered part.floor) (sym is) (record { rising = tt; committed = tt })
 
-  -- so each reached world is ordered
-  pub reached-ordered : (serial : ℕ) → IsAnnouncedLow sim serial → (steps : List Step) → IsOrderedWorld (reached sim serial steps)
-  reached-ordered serial low =
-      reached-keeps sim serial IsOrderedWorld (opening-ordered serial)
-      (λ steps step. change-ordered (reached sim serial steps) (next sim (reached sim serial steps) step).world (next_changes sim (reached sim serial steps) step) (low.least steps) (low.floors steps) (low.rises steps step))
+  -- so each reached world is ordered, where the simulation is lawful
+  pub reached-ordered : IsLawful sim → (serial : ℕ) (steps : List Step) → IsOrderedWorld (reached sim serial steps)
+  reached-ordered lawful serial steps =
+      (run_keeps sim (λ world. AreTimesSound sim world × IsOrderedWorld world)
+      (λ old new change h. (
+        times-kept sim lawful old new change h.0,
+        change-ordered old new change (announced-least sim lawful old h.0.at) h.0.floors.announced (floors-kept sim old new (h.0.at opening_time).round.least_end h.0.floors change).announced h.1,
+      ))
+      steps (opening_world sim serial) (opening-times sim lawful serial, opening-ordered serial)).1
 
   -- the ranks of each process rise
-  pub reached-ranks : (serial : ℕ) → IsAnnouncedLow sim serial → (steps : List Step) → DoAllRanksRise sim (reached sim serial steps)
+  pub reached-ranks : IsLawful sim → (serial : ℕ) (steps : List Step) → DoAllRanksRise sim (reached sim serial steps)
   unfolding IsOrderedPart
-  reached-ranks serial low steps p process is = (reached-ordered serial low steps (p % sim.workers) is.0 is.1 (p / sim.workers) process is.2).rising
+  reached-ranks lawful serial steps p process is = (reached-ordered lawful serial steps (p % sim.workers) is.0 is.1 (p / sim.workers) process is.2).rising
 
 -- ---- by places, as the claim says it
 
@@ -268,6 +240,6 @@ rising-pairs (x ∷ xs) h zero (suc j) d less within = every-among (IsEntryBefor
 rising-pairs (x ∷ xs) h (suc i) (suc j) d less within = rising-pairs xs h.1 i j d (omega arith) (omega arith)
 
 -- the ranks of each reached world rise
-pub ranks_rise : {S P : Type 0} (sim : Simulation S P) (serial : ℕ) → IsAnnouncedLow sim serial → (steps : List Step) (p : ℕ) (process : LogicalProcess P) →
+pub ranks_rise : {S P : Type 0} (sim : Simulation S P) → IsLawful sim → (serial : ℕ) (steps : List Step) (p : ℕ) (process : LogicalProcess P) →
     IsProcess sim (reached sim serial steps) p process → DoRanksRise process
-ranks_rise sim serial low steps p process is = rising-pairs (process.done ++ process.past) (reached-ranks sim serial low steps p process is)
+ranks_rise sim lawful serial steps p process is = rising-pairs (process.done ++ process.past) (reached-ranks sim lawful serial steps p process is)

@@ -6,11 +6,16 @@
 
 mod histories;
 mod laws;
+mod memory;
 mod step;
 
-pub use histories::copies_are_right;
+pub use histories::{copies_are_right, histories_are_right, letters_are_delivered, ranks_rise};
 pub use laws::{
     letters_annihilate, letters_are_kept, local_steps_change_one_part, mail_is_kept,
     refused_steps_change_nothing, reports_are_answered, steps_act_on_one_cell,
+};
+pub use memory::{
+    memory_forgets_what_is_committed, memory_goes_back, memory_goes_on,
+    memory_is_where_the_history_leads, values_stay_reached,
 };
 pub use step::{Reply, Step};

@@ -30,3 +30,15 @@ returns-clause-run_without_events c = computed.8
 
 pub returns-clause-undo_without_cause : goal.returns-clause-undo_without_cause
 returns-clause-undo_without_cause c = computed.9
+
+pub returns-clause-anti_message_of_an_executed_event : goal.returns-clause-anti_message_of_an_executed_event
+returns-clause-anti_message_of_an_executed_event c = computed.10
+
+pub returns-clause-row_at_the_floor : goal.returns-clause-row_at_the_floor
+returns-clause-row_at_the_floor c = computed.11
+
+pub returns-clause-refused_in_a_round : goal.returns-clause-refused_in_a_round
+returns-clause-refused_in_a_round c = computed.12
+
+pub returns-clause-refused_to_one_worker : goal.returns-clause-refused_to_one_worker
+returns-clause-refused_to_one_worker c = computed.13
