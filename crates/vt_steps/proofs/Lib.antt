@@ -39,3 +39,4 @@ pub mod BookRows
 pub mod Records
 pub mod LetterGuards
 pub mod MemoryLemmas
+pub mod HistoriesTheorem
