@@ -37,6 +37,7 @@ pub mod SequentialRows
 pub mod ProcessSums
 pub mod BookRows
 pub mod Records
+pub mod Bounds
 pub mod LetterGuards
 pub mod MemoryLemmas
 pub mod HistoriesTheorem
