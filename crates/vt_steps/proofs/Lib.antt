@@ -36,8 +36,9 @@ pub mod RowOrder
 pub mod SequentialRows
 pub mod ProcessSums
 pub mod BookRows
-pub mod Records
 pub mod Bounds
 pub mod LetterGuards
 pub mod MemoryLemmas
 pub mod HistoriesTheorem
+pub mod Records
+pub mod ReachedBooks
