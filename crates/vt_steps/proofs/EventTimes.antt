@@ -1,14 +1,14 @@
 -- Lists of events whose times never fall: those before a time come first.
-use Rattle.std.proofs.Common.{◌≡◌, inl, inr, false, List, [], ◌∷◌, ◌++◌, refl, sym, ◌∙◌, ap, arith, append-nil}
+use Rattle.std.proofs.Common.{◌≡◌, true, false, List, [], ◌∷◌, ◌++◌, refl, sym, ◌∙◌, ap, arith, append-nil}
 use Rattle.std.proofs.lemmas.Bool.Decides.{nat_tests}
 use Rattle.std.proofs.lemmas.List.Elements.{filter-append}
 use Rattle.vt_key.specs.declared.order.Key.{Key}
 use Rattle.vt_key.specs.Order.{KeyBefore, RankBefore}
-use Rattle.vt_key.specs.Times.{Time, TimeAtMost, time_before}
+use Rattle.vt_key.specs.Times.{Time, TimeAtMost, TimeBefore, time_before}
 use Rattle.vt_model.specs.declared.sending.Sent.{Sent}
 use Rattle.vt_model.specs.Histories.{AllAfter, IsRising}
 use Rattle.vt_model.specs.Sequential.{events_before}
-use Rattle.vt_model.proofs.RunLemmas.{tested, filter-yes, filter-no}
+use Rattle.vt_model.proofs.RunLemmas.{filter-yes, filter-no}
 use Rattle.vt_steps.specs.Letters.{unstamped}
 use Rattle.vt_steps.specs.World.{Entry, entry_events}
 use Rattle.vt_steps.proofs.Lists.{Every, Rising, every-map, every-weaker}
@@ -29,6 +29,14 @@ late-events t (e ∷ es) h =
     let late = h.0 in
     let is : time_before e.key.time t ≡ false = grind (arith, nat_tests) in
     filter-no (λ d. time_before d.key.time t) e es is ∙ late-events t es h.1
+
+-- where all events are before a time, those before it are all
+pub early-events : {P : Type 0} (t : Time) (events : List (Sent P)) → Every (λ (e : Sent P). TimeBefore e.key.time t) events → events_before t events ≡ events
+early-events t [] h = refl
+early-events t (e ∷ es) h =
+    let soon = h.0 in
+    let is : time_before e.key.time t ≡ true = grind (arith, nat_tests) in
+    filter-yes (λ d. time_before d.key.time t) e es is ∙ ap (λ l. e ∷ l) (early-events t es h.1)
 
 -- what follows a late event is late
 pub late-rest : {P : Type 0} (t : Time) (e : Sent P) (events : List (Sent P)) → TimeAtMost t e.key.time → Every (λ d. TimeAtMost e.key.time d.key.time) events → AreEventsLate t events

@@ -42,3 +42,5 @@ pub mod MemoryLemmas
 pub mod HistoriesTheorem
 pub mod Records
 pub mod ReachedBooks
+pub mod EachOnce
+pub mod HeadlineTheorem

@@ -105,6 +105,21 @@ pub sum_by_place-range : {X : Type 0} (g : ℕ → X → ℕ) (h : ℕ → ℕ) 
     sum_by_place g 0 xs ≡ sum_by h (range_with_len 0 (length xs))
 sum_by_place-range g h xs same = sum_by_place-range_from g h 0 xs (λ i x at. subst (λ k. g k x ≡ h k) (let z : i ≡ 0 + i = omega arith in z) (same i x at))
 
+-- what is at most what depends on the places alone, from a first one on
+sum_by_place-bound_from : {X : Type 0} (g : ℕ → X → ℕ) (h : ℕ → ℕ) (a : ℕ) (xs : List X) → ((i : ℕ) (x : X) → slice_get xs i ≡ Some x → g (a + i) x ≤ h (a + i)) →
+    sum_by_place g a xs ≤ sum_by h (range_with_len a (length xs))
+sum_by_place-bound_from g h a [] low = omega arith
+sum_by_place-bound_from g h a (x ∷ xs) low =
+    let first : g a x ≤ h a = subst (λ k. g k x ≤ h k) (let z : a + 0 ≡ a = omega arith in z) (low 0 x refl) in
+    let ih = sum_by_place-bound_from g h (a + 1) xs (λ i y at. subst (λ k. g k y ≤ h k) (let z : a + suc i ≡ (a + 1) + i = omega arith in z) (low (suc i) y at)) in
+    let c = sum_by-cons h a (range_with_len (a + 1) (length xs)) in
+    omega arith
+
+-- what is at most what depends on the places alone is at most a sum over a range of numbers
+pub sum_by_place-bound : {X : Type 0} (g : ℕ → X → ℕ) (h : ℕ → ℕ) (xs : List X) → ((i : ℕ) (x : X) → slice_get xs i ≡ Some x → g i x ≤ h i) →
+    sum_by_place g 0 xs ≤ sum_by h (range_with_len 0 (length xs))
+sum_by_place-bound g h xs low = sum_by_place-bound_from g h 0 xs (λ i x at. subst (λ k. g k x ≤ h k) (let z : i ≡ 0 + i = omega arith in z) (low i x at))
+
 -- ---- sums over all processes
 
 module _ {S P : Type 0} (sim : Simulation S P) where

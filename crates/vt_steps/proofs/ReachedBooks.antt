@@ -1,28 +1,27 @@
 -- The book in every reached world: it is accounted for, nothing falls in any further steps, and once closed it is whole.
 use Rattle.std.proofs.Common.{◌≡◌, ℕ, ◌+◌, ◌/◌, ◌%◌, ◌<◌, Bool, true, false, cond, List, [], ◌∷◌, ◌++◌, refl, sym, subst, ◌∙◌, ap, arith, Some, slice_get}
 use Rattle.std.specs.Prelude.{IsTrue}
-use Rattle.std.proofs.lemmas.Bool.Decides.{nat_tests}
 use Rattle.std.proofs.lemmas.List.{map-append}
 use Rattle.vt_key.specs.Order.{RankBefore}
-use Rattle.vt_key.specs.Times.{Time, TimeAtMost, TimeBefore, time_before}
+use Rattle.vt_key.specs.Times.{Time, TimeAtMost, TimeBefore}
 use Rattle.vt_key.specs.declared.fault.Fault.TheVariants.{Closed}
 use Rattle.vt_model.specs.declared.rows.Record.{Record}
 use Rattle.vt_model.specs.declared.sending.Sent.{Sent}
 use Rattle.vt_model.specs.Histories.{IsLawful}
 use Rattle.vt_model.specs.Sequential.{events_before, seq_events, seq_records}
 use Rattle.vt_model.specs.Simulation.{Simulation, after}
-use Rattle.vt_model.proofs.RunLemmas.{filter-yes}
 use Rattle.vt_steps.specs.declared.step.Step.{Step}
 use Rattle.vt_steps.specs.declared.step.Step.TheVariants.{Commit, Close}
 use Rattle.vt_steps.specs.Claims.{IsProcess, IsWhole, NothingFalls}
 use Rattle.vt_steps.specs.Letters.{unstamped}
-use Rattle.vt_steps.specs.Next.{close, commit, next, reached, refused, run}
+use Rattle.vt_steps.specs.Next.{close, commit, next, reached, refused, report_lawful, run}
 use Rattle.vt_steps.specs.World.{Entry, LogicalProcess, World, book_floor, book_records, entry_events, least, opening_world, triple_after}
 use Rattle.vt_steps.proofs.BookRows.{IsBooked, booked-kept, opening-booked}
 use Rattle.vt_steps.proofs.Bounds.{IsBounded, reached-bounds}
-use Rattle.vt_steps.proofs.Changes.{next_changes}
+use Rattle.vt_steps.proofs.Changes.{Change, stays, local, sends, fetches, cuts, reports, commits, closes, next_changes}
 use Rattle.vt_steps.proofs.Entries.{process-at_place}
 use Rattle.vt_steps.proofs.Everywhere.{InEntry, InProcess, part-in}
+use Rattle.vt_steps.proofs.EventTimes.{early-events}
 use Rattle.vt_steps.proofs.Floors.{nothing-falls, reached-times}
 use Rattle.vt_steps.proofs.Lists.{Every, every-append, every-get, every-map, every-weaker, rising-right}
 use Rattle.vt_steps.proofs.QuietHistories.{histories_are_right, reached-sound}
@@ -90,14 +89,6 @@ module _ {S P : Type 0} (sim : Simulation S P) (lawful : IsLawful sim) (serial :
 
 -- ---- a closed book
 
--- where all events are before a time, those before it are all
-all-before : {P : Type 0} (t : Time) (events : List (Sent P)) → Every (λ (e : Sent P). TimeBefore e.key.time t) events → events_before t events ≡ events
-all-before t [] h = refl
-all-before t (e ∷ es) h =
-    let soon = h.0 in
-    let is : time_before e.key.time t ≡ true = grind (arith, nat_tests) in
-    filter-yes (λ d. time_before d.key.time t) e es is ∙ ap (λ l. e ∷ l) (all-before t es h.1)
-
 -- it takes no commit
 closed-commit : {S P : Type 0} (sim : Simulation S P) (world : World P) (w : ℕ) → IsTrue world.book.is_closed → next sim world (Commit w) ≡ refused world Closed
 unfolding next
@@ -107,6 +98,27 @@ closed-commit sim world w shut = ap (λ b. cond b (refused world Closed) (commit
 closed-close : {S P : Type 0} (sim : Simulation S P) (world : World P) → IsTrue world.book.is_closed → next sim world Close ≡ refused world Closed
 unfolding next
 closed-close sim world shut = ap (λ b. cond b (refused world Closed) (close sim world)) shut
+
+-- no change touches it
+closed-change : {S P : Type 0} (sim : Simulation S P) (old new : World P) → Change sim old new → IsTrue old.book.is_closed → new.book ≡ old.book
+unfolding report_lawful
+closed-change sim old new (stays e) shut = ap (λ n. n.book) e
+closed-change sim old new (local w part after is change e) shut = ap (λ n. n.book) e
+closed-change sim old new (sends w v part inbox is in_is e) shut = ap (λ n. n.book) e
+closed-change sim old new (fetches w part inbox is in_is none e) shut = ap (λ n. n.book) e
+closed-change sim old new (cuts w part board is cut_is e) shut = ap (λ n. n.book) e
+closed-change sim old new (reports w part is may e) shut = ap (λ n. n.book) e
+closed-change sim old new (commits w part is open_is may e) shut = absurd (let h : true ≡ false = sym shut ∙ open_is in cc)
+closed-change sim old new (closes open_is at_end e) shut = absurd (let h : true ≡ false = sym shut ∙ open_is in cc)
+
+-- so it stays in any further steps
+pub closed-stays : {S P : Type 0} (sim : Simulation S P) (world : World P) (more : List Step) → IsTrue world.book.is_closed → (run sim world more).book ≡ world.book
+unfolding run
+closed-stays sim world [] shut = refl
+closed-stays sim world (step ∷ more) shut =
+    let new = (next sim world step).world in
+    let same = closed-change sim world new (next_changes sim world step) shut in
+    closed-stays sim new more (ap (λ b. b.is_closed) same ∙ shut) ∙ same
 
 module _ {S P : Type 0} (sim : Simulation S P) (lawful : IsLawful sim) (serial : ℕ) (steps : List Step) where
   -- what each process executed is before the end of the run
@@ -132,5 +144,5 @@ module _ {S P : Type 0} (sim : Simulation S P) (lawful : IsLawful sim) (serial :
         no_commit = λ w. closed-commit sim world w shut;
         no_close = closed-close sim world shut;
         finals = λ p process less is.
-            ap (after sim p) (sym (all-before sim.end (entry_events (process.done ++ process.past)) (executed-ends p process is)) ∙ known.histories sim.end p process less quiet is);
+            ap (after sim p) (sym (early-events sim.end (entry_events (process.done ++ process.past)) (executed-ends p process is)) ∙ known.histories sim.end p process less quiet is);
       }

@@ -43,11 +43,11 @@ module _ {S P : Type 0} (sim : Simulation S P) (lawful : IsLawful sim) (world : 
   floors-right = record { floor = floor-announced sim lawful world known.times; announced = announced-least sim lawful world known.times.at }
 
   -- what the rows before a time weigh that process p has in the sequential run
-  abbrev run_rows : (Row → ℕ) → Time → ℕ → ℕ
+  abbrev pub run_rows : (Row → ℕ) → Time → ℕ → ℕ
   run_rows f t p = sum_by (early_weight f t) (rows_from sim p (sim.start p).triple (events_of p (whole_run sim)))
 
   -- the events of the sequential run before a time decide it
-  run_rows-before : (f : Row → ℕ) (t : Time) (p : ℕ) → p < sim.lps → run_rows f t p ≡ sum_by (early_weight f t) (rows_from sim p (sim.start p).triple (seq_events sim p t))
+  pub run_rows-before : (f : Row → ℕ) (t : Time) (p : ℕ) → p < sim.lps → run_rows f t p ≡ sum_by (early_weight f t) (rows_from sim p (sim.start p).triple (seq_events sim p t))
   run_rows-before f t p less =
       early-rows sim lawful f t p (sim.start p).triple (events_of p (whole_run sim)) (rising-times (events_of p (whole_run sim)) ((whole_is_history sim lawful t).rising p less))
 

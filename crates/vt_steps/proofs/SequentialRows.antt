@@ -5,7 +5,7 @@ use Rattle.std.specs.List.{sum_by}
 use Rattle.std.proofs.lemmas.Bool.Decides.{nat_tests}
 use Rattle.std.proofs.lemmas.List.{map-append}
 use Rattle.std.proofs.lemmas.List.Sums.{sum_by-cons, sum_by-append}
-use Rattle.vt_key.specs.Times.{Time, TimeAtMost, time_before}
+use Rattle.vt_key.specs.Times.{Time, TimeAtMost, TimeBefore, time_before}
 use Rattle.vt_key.specs.declared.order.Key.{Key}
 use Rattle.vt_key.specs.Order.{KeyBefore}
 use Rattle.vt_model.specs.declared.rows.Row.{Row}
@@ -20,6 +20,7 @@ use Rattle.vt_model.proofs.RunLemmas.{tested, filter-yes, filter-no}
 use Rattle.vt_model.proofs.EndLemmas.{whole_rows-rise}
 use Rattle.vt_steps.specs.Rows.{rows_from}
 use Rattle.vt_steps.proofs.EventTimes.{AreEventsLate, DoTimesRise, late-events, late-rest}
+use Rattle.vt_steps.proofs.Lists.{Every}
 
 -- ---- rows before a time
 
@@ -113,7 +114,31 @@ late-weight f t key n (r ∷ rs) late h =
     let ih = late-weight f t key (suc n) rs late h.3 in
     omega arith
 
+-- the rows of an early event weigh what they weigh
+early-weight : (f : Row → ℕ) (t : Time) (key : Key) (n : ℕ) (rows : List Row) → TimeBefore key.time t → AreRowsOf key n rows → sum_by (early_weight f t) rows ≡ sum_by f rows
+early-weight f t key n [] soon h = refl
+early-weight f t key n (r ∷ rs) soon h =
+    let time : r.key.time ≡ key.time = ap (λ (k : Key). k.time) h.0 in
+    let is : time_before r.key.time t ≡ true = grind (arith, nat_tests) in
+    let whole : early_weight f t r ≡ f r = ap (λ b. cond b (f r) 0) is in
+    let a = sum_by-cons (early_weight f t) r rs in
+    let b = sum_by-cons f r rs in
+    let ih = early-weight f t key (suc n) rs soon h.3 in
+    omega arith
+
 module _ {S P : Type 0} (sim : Simulation S P) (lawful : IsLawful sim) where
+  -- the rows of early events weigh what they weigh
+  pub all-early-rows : (f : Row → ℕ) (t : Time) (p : ℕ) (triple : Triple S) (events : List (Sent P)) → Every (λ (e : Sent P). TimeBefore e.key.time t) events →
+      sum_by (early_weight f t) (rows_from sim p triple events) ≡ sum_by f (rows_from sim p triple events)
+  all-early-rows f t p triple [] soon = refl
+  all-early-rows f t p triple (e ∷ es) soon =
+      let fired = sim.fire p triple e in
+      let a = sum_by-append (early_weight f t) fired.rows (rows_from sim p fired.triple es) in
+      let b = sum_by-append f fired.rows (rows_from sim p fired.triple es) in
+      let c = early-weight f t e.key 0 fired.rows soon.0 (lawful.rows p triple e) in
+      let ih = all-early-rows f t p fired.triple es soon.1 in
+      omega arith
+
   -- the rows of late events weigh nothing
   late-rows : (f : Row → ℕ) (t : Time) (p : ℕ) (triple : Triple S) (events : List (Sent P)) → AreEventsLate t events → sum_by (early_weight f t) (rows_from sim p triple events) ≡ 0
   late-rows f t p triple [] late = refl
