@@ -1,6 +1,6 @@
 -- The entries of each process, by its number; and where a stamp is counted, there is a letter, an entry or a sent event that
 -- has it.
-use Rattle.std.proofs.Common.{◌≡◌, ℕ, ◌+◌, ◌/◌, ◌%◌, ◌≤◌, ◌<◌, ◌⊎◌, inl, inr, Bool, true, false, ◌&&◌, List, [], ◌++◌, map, refl, sym, ◌∙◌, ap, subst, arith, Option, Some, None, slice_get}
+use Rattle.std.proofs.Common.{◌≡◌, ℕ, ◌+◌, ◌/◌, ◌%◌, ◌≤◌, ◌<◌, inl, inr, Bool, true, false, List, [], ◌++◌, map, refl, sym, ◌∙◌, ap, subst, arith, Option, Some, None, slice_get}
 use Rattle.std.specs.List.{sum_by, flat_map}
 use Rattle.std.specs.Option.{option_and_then}
 use Rattle.vt_key.specs.Order.{stamp_same}
@@ -13,14 +13,14 @@ use Rattle.vt_key.specs.declared.order.Stamp.{Stamp}
 use Rattle.vt_model.specs.Histories.{Among}
 use Rattle.vt_model.specs.Simulation.{Simulation}
 use Rattle.vt_steps.specs.Claims.{IsProcess}
-use Rattle.vt_steps.specs.Copies.{letter_weight, mail_weight, process_sum, part_sum, letter_sum, process_entries, part_entries, entry_sum, as_count, is_sign, is_copy, is_event_of, of_stamp, sent_by}
+use Rattle.vt_steps.specs.Copies.{letter_weight, mail_weight, process_sum, part_sum, letter_sum, process_entries, part_entries, entry_sum, as_count, is_sign, is_copy, of_stamp}
 use Rattle.vt_steps.specs.World.{Entry, LogicalProcess, Part, World, letters_in, all_letters, process_at}
-use Rattle.vt_steps.proofs.Lists.{Every, among-left, among-right, among-append, among-flat_map, among-map, every-among, every-append, every-get}
+use Rattle.vt_steps.proofs.Lists.{among-left, among-right, among-append, among-flat_map, among-map, every-among, every-append, every-get}
 use Rattle.vt_steps.proofs.Tests.{both_pass}
 use Rattle.vt_steps.proofs.Sums.{some-at, some-among, some-either, sum-among, sum-at}
 use Rattle.vt_steps.proofs.Changes.{chain_has}
 use Rattle.vt_steps.proofs.Shape.{IsShaped, process-known, part-within, place-of_place, worker-of_place}
-use Rattle.vt_steps.proofs.Everywhere.{InEntry, InProcess, InPart, InWorld, part-in}
+use Rattle.vt_steps.proofs.Everywhere.{InEntry, InProcess, InWorld, part-in}
 
 -- ---- by the number of a process
 

@@ -1,7 +1,7 @@
 -- The guards on letters never fail: a letter that comes home or is accepted finds its process, which does not hold it already.
 -- If it did, its stamp would have two plus copies, or two minus copies.
-use Rattle.std.proofs.Common.{◌≡◌, ◌⊎◌, inl, inr, ℕ, ◌+◌, ◌/◌, ◌%◌, ◌≤◌, ◌<◌, Bool, true, false, cond, ◌&&◌, ◌||◌, List, [], ◌∷◌, length, refl, sym, ◌∙◌, ap, subst, arith, Option, Some, None, slice_get, Ok}
-use Rattle.std.specs.List.{sum_by, find, list_any, range_with_len, remove}
+use Rattle.std.proofs.Common.{◌≡◌, inl, inr, ℕ, ◌+◌, ◌/◌, ◌%◌, ◌≤◌, ◌<◌, Bool, true, false, cond, List, [], ◌∷◌, refl, sym, ◌∙◌, ap, subst, arith, Option, Some, None, slice_get, Ok}
+use Rattle.std.specs.List.{sum_by, find, list_any, remove}
 use Rattle.std.specs.Option.{option_map, option_and_then}
 use Rattle.std.proofs.lemmas.Bool.{eqb-true}
 use Rattle.vt_key.specs.Order.{key_same, rank_same, stamp_same}
@@ -24,15 +24,15 @@ use Rattle.vt_steps.specs.Letters.{has_rank, stamped, unstamped, without_first}
 use Rattle.vt_steps.specs.Next.{done_or_refused, next, reached, with_part}
 use Rattle.vt_steps.specs.PartSteps.{accept, accept_mail, deliver, home, home_letter, is_for, with_effect}
 use Rattle.vt_steps.specs.ProcessSteps.{accept_process, holds, with_letter}
-use Rattle.vt_steps.specs.World.{Entry, LogicalProcess, Part, World, opening_world, start_events, start_sends}
-use Rattle.vt_steps.proofs.Lists.{Every, among-map, every-all, every-among, every-get, every-map, every-unmap, find-among, find-passes, get-among}
+use Rattle.vt_steps.specs.World.{Entry, LogicalProcess, Part, World, opening_world}
+use Rattle.vt_steps.proofs.Lists.{Every, among-map, every-all, every-among, every-get, every-unmap, find-among, find-passes, get-among}
 use Rattle.vt_steps.proofs.Tests.{both_pass, either_passes}
 use Rattle.vt_steps.proofs.Sums.{sum-among, sum-at}
 use Rattle.vt_steps.proofs.Stamped.{unstamped-stamped}
 use Rattle.vt_steps.proofs.Changes.{Change, run_keeps}
 use Rattle.vt_steps.proofs.Shape.{IsShaped, known-process, opening-shape, reached-shape, shape-kept}
 use Rattle.vt_steps.proofs.Stamps.{StampFacts, stamp-facts}
-use Rattle.vt_steps.proofs.Everywhere.{InPart, InWorld, Spread, kept, made, change-spread, events_of_starts, opening-in, part-in}
+use Rattle.vt_steps.proofs.Everywhere.{InWorld, Spread, kept, made, change-spread, events_of_starts, opening-in, part-in}
 use Rattle.vt_steps.proofs.Agreement.{start-worker}
 use Rattle.vt_steps.proofs.OwnHistories.{reached-own}
 use Rattle.vt_steps.proofs.Bounds.{IsBounded, reached-bounds}
@@ -158,7 +158,8 @@ module _ {S P : Type 0} (sim : Simulation S P) where
         let one : letter_weight (is_copy letter.sign stamp) letter ≡ 1 = own-copy letter.sign letter.event in
         let free = not-held sim serial world w (letter.event.dest / sim.workers) part process.0 letter.sign letter.event.rank (stamp-facts sim serial stamp steps) at process.1 (omega arith) in
         let after = delivered (record part { outbox = without_first (is_for sim w) part.outbox }) letter process.0 process.1 free in
-        local-done world w part after.0 (home sim w) at (ap (home_letter sim w part) found ∙ after.1)
+        let goes : home sim w part ≡ Some after.0 = ap (home_letter sim w part) found ∙ after.1 in
+        local-done world w part after.0 (home sim w) at goes
 
     -- a letter that is accepted is not held there
     pub accepts-done : (i : ℕ) (mail : Mail P) → slice_get part.arrived i ≡ Some mail → (next sim (reached sim serial steps) (Accept w i)).answer ≡ Ok Done
@@ -174,4 +175,5 @@ module _ {S P : Type 0} (sim : Simulation S P) where
         let one : mail_weight (is_copy letter.sign stamp) mail ≡ 1 = own-copy letter.sign letter.event in
         let free = not-held sim serial world w (letter.event.dest / sim.workers) part process.0 letter.sign letter.event.rank (stamp-facts sim serial stamp steps) at process.1 (omega arith) in
         let after = delivered (record part { arrived = remove part.arrived i }) letter process.0 process.1 free in
-        local-done world w part after.0 (accept sim i) at (ap (accept_mail sim i part) there ∙ after.1)
+        let goes : accept sim i part ≡ Some after.0 = ap (accept_mail sim i part) there ∙ after.1 in
+        local-done world w part after.0 (accept sim i) at goes

@@ -1,31 +1,26 @@
 -- Live events, by the process that sent them: what its start sent, and what its entries sent. They are what the model says
 -- that the process sends; no two of them have one key; and before a quiet time they are just the executed events.
-use Rattle.std.proofs.Common.{◌≡◌, ℕ, zero, suc, ◌+◌, ◌/◌, ◌%◌, ◌≤◌, ◌<◌, ◌⊎◌, inl, inr, List, [], ◌∷◌, ◌++◌, map, length, refl, sym, ◌∙◌, ap, subst, arith, add-zero, append-nil, append_assoc}
+use Rattle.std.proofs.Common.{◌≡◌, ℕ, zero, suc, ◌+◌, ◌/◌, ◌%◌, ◌≤◌, ◌<◌, inl, inr, List, [], ◌∷◌, ◌++◌, map, length, sym, ◌∙◌, ap, subst, arith, add-zero, append-nil, append_assoc}
 use Rattle.std.specs.List.{sum_by, flat_map, range_with_len}
 use Rattle.std.proofs.Math.Nat.{mod-lt}
 use Rattle.std.proofs.lemmas.Bool.{cases_order}
 use Rattle.std.proofs.lemmas.List.{map-append}
-use Rattle.vt_key.specs.Times.{Time, TimeAtMost, TimeBefore}
 use Rattle.vt_key.specs.declared.letter.Event.{Event}
-use Rattle.vt_key.specs.declared.letter.Letter.{Letter}
-use Rattle.vt_key.specs.declared.letter.Sign.{Sign}
-use Rattle.vt_key.specs.declared.letter.Sign.TheVariants.{Plus, Minus}
 use Rattle.vt_key.specs.declared.order.Stamp.{Stamp}
-use Rattle.vt_model.specs.Histories.{Among, AreNumbered, IsLawful, IsSent, sends_from, sends_of}
+use Rattle.vt_model.specs.Histories.{Among, AreNumbered, IsLawful, IsSent, sends_of}
 use Rattle.vt_model.specs.Simulation.{Simulation, after}
 use Rattle.vt_model.specs.declared.sending.Sent.{Sent}
 use Rattle.vt_model.proofs.RunLemmas.{numbered-all, numbered-among}
-use Rattle.vt_steps.specs.Copies.{entry_sum, is_copy, is_event_of, letter_sum, live_count, minus, of_stamp, plus, sent_by}
-use Rattle.vt_steps.specs.Letters.{least_time, letter_time, stamped, unstamped}
-use Rattle.vt_steps.specs.World.{Entry, World, all_letters, entry_events, least, process_at, process_count, start_events, start_sends}
-use Rattle.vt_steps.proofs.Lists.{Every, Rising, among-append, among-flat_map, among-left, among-map, among-range, among-right, every-all, every-among, flat_map-among, map-among, range-among, rising-unmap, same-element}
+use Rattle.vt_steps.specs.Copies.{entry_sum, live_count, of_stamp, sent_by}
+use Rattle.vt_steps.specs.Letters.{stamped, unstamped}
+use Rattle.vt_steps.specs.World.{Entry, World, entry_events, process_at, process_count, start_events}
+use Rattle.vt_steps.proofs.Lists.{Rising, among-append, among-flat_map, among-left, among-map, among-range, among-right, every-all, flat_map-among, map-among, range-among, rising-unmap, same-element}
 use Rattle.vt_steps.proofs.Sums.{some-among, some-either, sum-among}
-use Rattle.vt_steps.proofs.Stamped.{Alike, unstamped-stamped}
+use Rattle.vt_steps.proofs.Stamped.{unstamped-stamped}
 use Rattle.vt_steps.proofs.Shape.{IsShaped, known-place, own-place, place-known, place-of_place, worker-of_place}
-use Rattle.vt_steps.proofs.Everywhere.{InWorld, events_of_starts, letter-in}
-use Rattle.vt_steps.proofs.Agreement.{DoCopiesAgree, IsOnlyOne, OfAllCopies}
-use Rattle.vt_steps.proofs.OwnHistories.{AreFired, IsOwnHistory, IsOwnWorld, events_sent, fired-sends}
-use Rattle.vt_steps.proofs.Entries.{entries_of, entry-counted, entry-found, entry-in, by-process, letter-found, own-stamp, stamp-counted}
+use Rattle.vt_steps.proofs.Everywhere.{events_of_starts}
+use Rattle.vt_steps.proofs.OwnHistories.{AreFired, IsOwnWorld, events_sent, fired-sends}
+use Rattle.vt_steps.proofs.Entries.{entries_of, entry-counted, entry-found, by-process, own-stamp, stamp-counted}
 
 -- ---- stamps of several lists of sends, one after the other
 

@@ -1,6 +1,6 @@
 -- What stands where: what a process holds and has executed is for it, mail is in the inbox of its receiver's worker, and what
 -- an entry sent is what its event sends, the process standing where the entries before it leave it.
-use Rattle.std.proofs.Common.{◌≡◌, ℕ, ◌-◌, ◌*◌, ◌/◌, ◌%◌, true, List, [], ◌∷◌, ◌++◌, map, length, take, drop, refl, sym, ◌∙◌, ap, subst, arith, append_assoc, Some, None, slice_get, slice_set, nat_eq}
+use Rattle.std.proofs.Common.{◌≡◌, ℕ, ◌-◌, ◌/◌, ◌%◌, true, List, [], ◌∷◌, ◌++◌, map, length, take, drop, refl, sym, ◌∙◌, ap, subst, arith, append_assoc, Some, None, slice_get, slice_set}
 use Rattle.std.specs.List.{filter, flat_map, last_or, prefix_len, range_with_len}
 use Rattle.std.proofs.Math.Nat.{div-add-mod'}
 use Rattle.std.proofs.lemmas.Bool.{eqb-true}

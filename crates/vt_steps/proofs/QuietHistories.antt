@@ -1,6 +1,6 @@
 -- Before a quiet time the executed events of the processes are a history: for each process exactly the events that the
 -- processes send to it, in the order of keys. There is one history, so they are the sequential run's.
-use Rattle.std.proofs.Common.{◌≡◌, ℕ, ◌+◌, ◌/◌, ◌%◌, ◌≤◌, ◌<◌, ◌⊎◌, inl, inr, Bool, true, false, cond, List, [], ◌∷◌, ◌++◌, map, refl, sym, ◌∙◌, ap, subst, arith, filter}
+use Rattle.std.proofs.Common.{◌≡◌, ℕ, ◌+◌, ◌/◌, ◌%◌, ◌≤◌, ◌<◌, inl, inr, Bool, true, false, cond, List, [], ◌∷◌, ◌++◌, refl, sym, ◌∙◌, ap, subst, arith, filter}
 use Rattle.std.proofs.Math.Nat.{le_refl}
 use Rattle.std.proofs.lemmas.Bool.{ltb-true, ltb-false, lt-ltb}
 use Rattle.vt_key.specs.Order.{KeyBefore, RankBefore, StampBefore}
@@ -10,10 +10,8 @@ use Rattle.vt_key.specs.declared.letter.Event.{Event}
 use Rattle.vt_key.specs.declared.letter.Letter.{Letter}
 use Rattle.vt_key.specs.declared.letter.Sign.{Sign}
 use Rattle.vt_key.specs.declared.letter.Sign.TheVariants.{Plus, Minus}
-use Rattle.vt_key.specs.declared.order.Key.{Key}
-use Rattle.vt_key.specs.declared.order.Rank.{Rank}
 use Rattle.vt_key.specs.declared.order.Stamp.{Stamp}
-use Rattle.vt_model.specs.Histories.{AllAfter, Among, IsHistory, IsLawful, IsRising, IsSent, sends_from, sends_of}
+use Rattle.vt_model.specs.Histories.{AllAfter, Among, IsHistory, IsLawful, IsRising, IsSent, sends_from}
 use Rattle.vt_model.specs.Sequential.{events_before, seq_events}
 use Rattle.vt_model.specs.Simulation.{Simulation, Triple}
 use Rattle.vt_model.specs.declared.sending.Sent.{Sent}
@@ -21,7 +19,7 @@ use Rattle.vt_model.proofs.EndLemmas.{history_is_sequential}
 use Rattle.vt_model.proofs.RunLemmas.{filter-no, filter-yes, tested}
 use Rattle.vt_steps.specs.declared.step.Step.{Step}
 use Rattle.vt_steps.specs.Claims.{AreHistoriesRight, IsProcess, history_before}
-use Rattle.vt_steps.specs.Copies.{entry_sum, is_copy, is_event_of, letter_sum, live_count, minus, of_stamp, plus}
+use Rattle.vt_steps.specs.Copies.{entry_sum, is_copy, is_event_of, letter_sum, live_count, minus, plus}
 use Rattle.vt_steps.specs.Letters.{least_time, letter_time, unstamped}
 use Rattle.vt_steps.specs.Next.{reached}
 use Rattle.vt_steps.specs.World.{Entry, LogicalProcess, World, all_letters, entry_events, least}
@@ -31,11 +29,11 @@ use Rattle.vt_steps.proofs.Sums.{some-either}
 use Rattle.vt_steps.proofs.Stamped.{Alike}
 use Rattle.vt_steps.proofs.Shape.{IsShaped, own-place, reached-shape}
 use Rattle.vt_steps.proofs.Stamps.{stamp-facts}
-use Rattle.vt_steps.proofs.Everywhere.{InEntry, events_of_starts, letter-in}
+use Rattle.vt_steps.proofs.Everywhere.{events_of_starts, letter-in}
 use Rattle.vt_steps.proofs.Agreement.{DoCopiesAgree, IsOnlyOne, OfAllCopies, reached-agreement}
 use Rattle.vt_steps.proofs.OwnHistories.{IsOwnWorld, events_sent, reached-own}
 use Rattle.vt_steps.proofs.Entries.{by-process, entries-of_process, entries_of, entry-counted, entry-found, entry-in, letter-found, own-stamp, stamp-counted}
-use Rattle.vt_steps.proofs.LiveEvents.{IsLiveEvent, first-among, live-counted, live-found, live-sent, live_events, one_live, sent-live}
+use Rattle.vt_steps.proofs.LiveEvents.{IsLiveEvent, first-among, live-counted, live-found, live-sent, one_live, sent-live}
 
 -- ---- lists of events whose times never fall
 
@@ -252,21 +250,27 @@ module _ {S P : Type 0} (sim : Simulation S P) (lawful : IsLawful sim) (serial :
 
       -- what a process sends by all of its events before the time it sends by the early ones
       sent-early : (e : Sent P) → TimeBefore e.key.time t → IsSent sim history e → IsSent sim early_history e
-      sent-early e early sent =
-          (sent.0, sent.1, elim (among-append e (sim.start sent.0).sends (sends_from sim sent.0 (sim.start sent.0).triple (history sent.0)) sent.2) [
-            | inl a ↦ among-left e (sim.start sent.0).sends (sends_from sim sent.0 (sim.start sent.0).triple (early_history sent.0)) a
-            | inr a ↦ among-right e (sim.start sent.0).sends (sends_from sim sent.0 (sim.start sent.0).triple (early_history sent.0))
-                (early-sends sim lawful sent.0 sent.1 t (sim.start sent.0).triple (history sent.0) e (times-rise sent.0) early a)
-          ])
+      sent-early e early sent = (
+        sent.0,
+        sent.1,
+        elim (among-append e (sim.start sent.0).sends (sends_from sim sent.0 (sim.start sent.0).triple (history sent.0)) sent.2) [
+          | inl a ↦ among-left e (sim.start sent.0).sends (sends_from sim sent.0 (sim.start sent.0).triple (early_history sent.0)) a
+          | inr a ↦ among-right e (sim.start sent.0).sends (sends_from sim sent.0 (sim.start sent.0).triple (early_history sent.0))
+              (early-sends sim lawful sent.0 sent.1 t (sim.start sent.0).triple (history sent.0) e (times-rise sent.0) early a)
+        ],
+      )
 
       -- and the way back
       early-sent : (e : Sent P) → IsSent sim early_history e → IsSent sim history e
-      early-sent e sent =
-          (sent.0, sent.1, elim (among-append e (sim.start sent.0).sends (sends_from sim sent.0 (sim.start sent.0).triple (early_history sent.0)) sent.2) [
-            | inl a ↦ among-left e (sim.start sent.0).sends (sends_from sim sent.0 (sim.start sent.0).triple (history sent.0)) a
-            | inr a ↦ among-right e (sim.start sent.0).sends (sends_from sim sent.0 (sim.start sent.0).triple (history sent.0))
-                (sends-early sim lawful sent.0 sent.1 t (sim.start sent.0).triple (history sent.0) e (times-rise sent.0) a)
-          ])
+      early-sent e sent = (
+        sent.0,
+        sent.1,
+        elim (among-append e (sim.start sent.0).sends (sends_from sim sent.0 (sim.start sent.0).triple (early_history sent.0)) sent.2) [
+          | inl a ↦ among-left e (sim.start sent.0).sends (sends_from sim sent.0 (sim.start sent.0).triple (history sent.0)) a
+          | inr a ↦ among-right e (sim.start sent.0).sends (sends_from sim sent.0 (sim.start sent.0).triple (history sent.0))
+              (sends-early sim lawful sent.0 sent.1 t (sim.start sent.0).triple (history sent.0) e (times-rise sent.0) a)
+        ],
+      )
 
       -- an event of an early history is that of an entry
       early-entry : (p : ℕ) (e : Sent P) → Among e (early_history p) → (entry : Entry P) × Among entry (entries_of sim world p) × (unstamped entry.event ≡ e) × TimeBefore e.key.time t

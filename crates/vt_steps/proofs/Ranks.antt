@@ -1,11 +1,10 @@
 -- The ranks of what each process has executed rise strictly, committed or not. Execute compares with the last past entry;
 -- where all are committed, it is the announced time that keeps them before what comes: no committed event is at or after a
 -- worker's floor, no floor is after the announced time, and no letter is before it.
-use Rattle.std.proofs.Common.{◌≡◌, inl, inr, ℕ, zero, suc, ◌+◌, ◌-◌, ◌/◌, ◌%◌, ◌≤◌, ◌<◌, Bool, true, false, cond, ◌||◌, ◌&&◌, List, [], ◌∷◌, ◌++◌, map, length, take, drop, refl, sym, ◌∙◌, ap, subst, arith, append_assoc, append-nil, Option, Some, None, slice_get, slice_set}
-use Rattle.std.specs.Prelude.{IsTrue}
+use Rattle.std.proofs.Common.{◌≡◌, inl, inr, ℕ, zero, suc, ◌+◌, ◌-◌, ◌/◌, ◌%◌, ◌<◌, true, false, cond, ◌&&◌, List, [], ◌∷◌, ◌++◌, length, take, refl, sym, ◌∙◌, ap, subst, arith, append_assoc, append-nil, Option, Some, None, slice_get, slice_set}
 use Rattle.std.specs.List.{AllPairs, flat_map, last_or, prefix_len, range_with_len, slice_index_or}
 use Rattle.std.proofs.lemmas.Bool.{ltb-true}
-use Rattle.vt_key.specs.Order.{KeyBefore, RankBefore, key_before, key_same, rank_before, stamp_before}
+use Rattle.vt_key.specs.Order.{RankBefore, key_before, key_same, rank_before, stamp_before}
 use Rattle.vt_key.specs.Times.{Time, TimeAtMost, TimeBefore, opening_time}
 use Rattle.vt_key.proofs.OrderLemmas.{key_before-true, key_same-true, rank-transitive, stamp_before-true}
 use Rattle.vt_key.specs.declared.letter.Letter.{Letter}
@@ -21,7 +20,7 @@ use Rattle.vt_steps.specs.Next.{reached, report_lawful}
 use Rattle.vt_steps.specs.PartSteps.{is_below, part_after_commit, part_after_cut, part_after_fetch, part_after_send, process_after_commit, with_effect}
 use Rattle.vt_steps.specs.ProcessSteps.{ProcessEffect, effect_of_execute, effect_of_undo, may_follow, with_letter}
 use Rattle.vt_steps.specs.World.{Entry, LogicalProcess, Part, World, all_letters, least, letters_in, opening_part, opening_world, process_at, process_count, triple_after}
-use Rattle.vt_steps.proofs.Lists.{Every, Rising, among-append, among-flat_map, among-left, among-right, every-all, every-among, every-append, every-weaker, get-among, no_last, rising-across, rising-append, rising-left}
+use Rattle.vt_steps.proofs.Lists.{Every, Rising, among-append, among-flat_map, among-left, among-right, every-among, every-append, every-weaker, get-among, no_last, rising-across, rising-append, rising-left}
 use Rattle.vt_steps.proofs.Places.{all-put, get-map, get-replicate}
 use Rattle.vt_steps.proofs.Changes.{Act, executes, undoes, cancels, Leaves, homes, arrives, Local, acts, takes, Change, stays, local, sends, fetches, cuts, reports, commits, closes, run_keeps}
 use Rattle.vt_steps.proofs.OwnHistories.{history-before_last, history-commit}
