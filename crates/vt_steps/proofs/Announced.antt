@@ -183,6 +183,7 @@ module _ {S P : Type 0} (sim : Simulation S P) (serial : ℕ) where
           least_end = omega arith;
           announced_end = omega arith;
           announced = none-before-opening t;
+          red_late = λ h w part at. (let from = opening-part-is w part at in let red = ap (λ p. p.red_minimum) from.1 in omega arith);
         };
         entries = opening-entries sim serial hasty;
         shape = opening-shape sim serial;

@@ -26,14 +26,13 @@ use Rattle.vt_steps.proofs.Tests.{passes_both}
 module _ {S P : Type 0} (sim : Simulation S P) (world : World P) (s : AreTimesSound sim world) where
   -- ---- Report
 
-  -- what a worker that has cut would report is not before the announced time
-  report-late : (w : ℕ) (part : Part P) → slice_get world.parts w ≡ Some part → world.board.is_open ≡ true → slice_get world.board.has_cut w ≡ Some true →
-      TimeAtMost world.board.announced (report_least sim.end part)
-  report-late w part at open_is cut =
+  -- what a worker would report is not before the announced time
+  report-late : (w : ℕ) (part : Part P) → slice_get world.parts w ≡ Some part → TimeAtMost world.board.announced (report_least sim.end part)
+  report-late w part at =
       let t = world.board.announced in
       let round = (s.at t).round in
       let same : TimeAtMost t t = le_refl t in
-      let red = (round.opened open_is).red_late same w part at cut in
+      let red = round.red_late same w part at in
       let none = round.announced same in
       let here = sum-at (early_in t) world.parts w part at in
       let counted = letters-early t part in
@@ -44,10 +43,7 @@ module _ {S P : Type 0} (sim : Simulation S P) (world : World P) (s : AreTimesSo
   may-report : (w : ℕ) (part : Part P) → slice_get world.parts w ≡ Some part → world.board.is_open ≡ true → all_set world.board.has_cut ≡ true → slice_get world.board.has_reported w ≡ Some false →
       may_report w (report_least sim.end part) world.board ≡ true
   may-report w part at open_is all clear =
-      let size = (s.at opening_time).round.cut_size in
-      let flag = get-within world.board.has_cut w (let a = slice_get_within world.parts w part at in omega arith) in
-      let cut : slice_get world.board.has_cut w ≡ Some true = flag.1 ∙ ap Some (set-at world.board.has_cut w flag.0 all flag.1) in
-      let value = report-late w part at open_is cut in
+      let value = report-late w part at in
       let late : time_at_most world.board.announced (report_least sim.end part) ≡ true = grind (arith, nat_tests) in
       passes_both world.board.is_open _ open_is
       (passes_both (all_set world.board.has_cut) _ all
