@@ -1,11 +1,11 @@
 -- What the book holds: the rows of all committed events; and no past event is before its worker's hand-in floor.
-use Rattle.std.proofs.Common.{◌≡◌, inl, inr, ℕ, zero, suc, ◌+◌, ◌-◌, true, false, cond, List, [], ◌∷◌, ◌++◌, map, length, take, drop, replicate, refl, sym, subst, ◌∙◌, ap, arith, append_assoc, Option, Some, None, slice_get, slice_set}
+use Rattle.std.proofs.Common.{◌≡◌, inl, inr, ℕ, zero, suc, ◌+◌, ◌-◌, true, false, cond, List, [], ◌∷◌, ◌++◌, map, length, drop, replicate, refl, sym, subst, ◌∙◌, ap, arith, append_assoc, Option, Some, slice_get, slice_set}
 use Rattle.std.specs.List.{sum_by, prefix_len, range_with_len}
 use Rattle.std.proofs.lemmas.Bool.Decides.{nat_tests}
 use Rattle.std.proofs.lemmas.List.{map-append}
 use Rattle.std.proofs.lemmas.List.Sums.{sum_by-cons, sum_by-append}
 use Rattle.vt_key.specs.Order.{RankBefore}
-use Rattle.vt_key.specs.Times.{Time, TimeAtMost, TimeBefore, opening_time, time_before}
+use Rattle.vt_key.specs.Times.{Time, TimeAtMost, time_before}
 use Rattle.vt_key.specs.declared.letter.Letter.{Letter}
 use Rattle.vt_key.specs.declared.letter.Sign.{Sign}
 use Rattle.vt_key.specs.declared.letter.Sign.TheVariants.{Plus, Minus}
@@ -20,7 +20,8 @@ use Rattle.vt_steps.specs.PartSteps.{is_below, ripe, ripe_rows, rows_of_commit, 
 use Rattle.vt_steps.specs.ProcessSteps.{ProcessEffect, effect_of_execute, effect_of_undo, with_letter}
 use Rattle.vt_steps.specs.Rows.{rows_from}
 use Rattle.vt_steps.specs.World.{Entry, LogicalProcess, Part, World, entry_events, triple_after, process_at, process_count, opening_part, opening_world}
-use Rattle.vt_steps.proofs.Changes.{Act, executes, undoes, cancels, Leaves, homes, arrives, Local, acts, takes, Change, stays, local, sends, fetches, cuts, reports, commits, closes}
+use Rattle.vt_steps.proofs.Balance.{leaves-same}
+use Rattle.vt_steps.proofs.Changes.{Act, executes, undoes, cancels, Local, acts, takes, Change, stays, local, sends, fetches, cuts, reports, commits, closes}
 use Rattle.vt_steps.proofs.Early.{early, early_in, not-early}
 use Rattle.vt_steps.proofs.Flags.{put-cases}
 use Rattle.vt_steps.proofs.Floors.{AreTimesSound, commit-has}
@@ -118,18 +119,13 @@ module _ {S P : Type 0} (sim : Simulation S P) (w : ℕ) where
         (all-put (λ j (q : LogicalProcess P). AreNotBefore floor q.past) old.processes place process after at (h floor has) (past floor has));
   }
 
-  -- a letter that leaves a part leaves its processes
-  leaves-commits : (old new : Part P) (letter : Letter P) → Leaves sim w old new letter → new.processes ≡ old.processes
-  leaves-commits old new letter (homes is e) = ap (λ part. part.processes) e
-  leaves-commits old new letter (arrives i mail is same e) = ap (λ part. part.processes) e
-
   -- a local step, where no letter is before the hand-in floor
   local-commits : (handed_in : Option Time) (part after : Part P) → ((floor : Time) → handed_in ≡ Some floor → early_in floor part ≡ 0) → Local sim w part after → PartCommitsNothing handed_in part after
   local-commits handed_in part after none (acts place process effect at act e) =
       put-commits handed_in part after place process effect.process at (ap (λ n. n.processes) e) (act-done sim w (process_at sim w place) part.serial process effect act)
       (λ floor has. act-late sim w place floor part process effect (none floor has) at act)
   local-commits handed_in part after none (takes mid letter place process leaves at place_is free e) =
-      let same = leaves-commits part mid letter leaves in
+      let same = (leaves-same sim w part mid letter leaves).0 in
       let kept = letter-done process letter.sign letter in
       put-commits handed_in part after place process (with_letter process letter.sign letter) (ap (λ ps. slice_get ps place) (sym same) ∙ at)
       (ap (λ n. n.processes) e ∙ ap (λ ps. slice_set ps place (with_letter process letter.sign letter)) same) kept.0
@@ -174,9 +170,11 @@ rest-late {P} floor (x ∷ xs) r =
     elim (is_below floor x) as (λ b. is_below floor x ≡ b → AreNotBefore floor (drop (cond b (1 + prefix_len (is_below floor) xs) 0) (x ∷ xs))) [
       | true ↦ λ is. subst (λ n. AreNotBefore floor (drop n (x ∷ xs))) (let z : suc (prefix_len (is_below floor) xs) ≡ 1 + prefix_len (is_below floor) xs = omega arith in z) (rest-late floor xs r.1)
       | false ↦ λ is. (
-          let late : TimeAtMost floor x.event.rank.key.time = (let t : time_before x.event.rank.key.time floor ≡ false = is in grind (arith, nat_tests)) in
-          (late, every-weaker (λ (y : Entry P). RankBefore x.event.rank y.event.rank) (λ (y : Entry P). TimeAtMost floor y.event.rank.key.time) xs
-              (λ y before. let k = rank-order-time x.event.rank y.event.rank before in omega arith) r.0))
+          let late : TimeAtMost floor x.event.rank.key.time = (let t : time_before x.event.rank.key.time floor ≡ false = is in grind (arith, nat_tests)) in (
+            late,
+            every-weaker (λ (y : Entry P). RankBefore x.event.rank y.event.rank) (λ (y : Entry P). TimeAtMost floor y.event.rank.key.time) xs
+                (λ y before. let k = rank-order-time x.event.rank y.event.rank before in omega arith) r.0,
+          ))
     ] refl
 
 -- ---- each change

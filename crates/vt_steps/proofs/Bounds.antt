@@ -1,5 +1,5 @@
 -- Every event of a reached world is for a known process, and before the end of the run.
-use Rattle.std.proofs.Common.{◌≡◌, ℕ, ◌+◌, ◌%◌, ◌<◌, List, sym, ap, subst, slice_get, Some, ◌/◌, ◌++◌}
+use Rattle.std.proofs.Common.{ℕ, ◌%◌, ◌<◌, List, sym, subst}
 use Rattle.vt_key.specs.Times.{TimeBefore}
 use Rattle.vt_key.specs.declared.letter.Event.{Event}
 use Rattle.vt_model.specs.Histories.{Among, IsLawful}

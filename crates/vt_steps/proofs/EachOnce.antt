@@ -1,14 +1,13 @@
 -- Each key and index stands once among the book's rows, those that it doesn't show yet too: all committed events are before the
 -- announced time, and below that each process has the sequential run's, whose rows rise strictly.
-use Rattle.std.proofs.Common.{◌≡◌, ◌⊎◌, inl, inr, ℕ, ◌+◌, ◌≤◌, ◌<◌, true, false, ◌&&◌, List, [], ◌∷◌, ◌++◌, nat_eq, refl, sym, subst, ◌∙◌, ap, arith, Some, slice_get}
+use Rattle.std.proofs.Common.{◌≡◌, inl, inr, ℕ, ◌≤◌, true, false, ◌&&◌, List, [], ◌∷◌, ◌++◌, nat_eq, refl, sym, subst, ◌∙◌, ap, arith, Some, slice_get}
 use Rattle.std.specs.List.{sum_by, range_with_len}
 use Rattle.std.proofs.lemmas.Bool.{cases_order, eq-eqb, eqb-true}
-use Rattle.std.proofs.lemmas.Bool.Decides.{nat_tests}
 use Rattle.std.proofs.lemmas.List.{map-append}
 use Rattle.std.proofs.lemmas.List.Elements.{filter-append}
 use Rattle.std.proofs.lemmas.List.Sums.{sum_by-cons, sum_by-append}
 use Rattle.vt_key.specs.Order.{KeyBefore, key_same}
-use Rattle.vt_key.specs.Times.{Time, TimeBefore, opening_time, time_before}
+use Rattle.vt_key.specs.Times.{TimeBefore, opening_time, time_before}
 use Rattle.vt_key.specs.declared.order.Key.{Key}
 use Rattle.vt_key.proofs.OrderLemmas.{key-irreflexive, key-total, key_same-true, same-key_same}
 use Rattle.vt_model.specs.declared.rows.Row.{Row}
@@ -28,7 +27,7 @@ use Rattle.vt_steps.proofs.BookRows.{committed_rows, part_rows, process_rows, ro
 use Rattle.vt_steps.proofs.Entries.{process-at_place}
 use Rattle.vt_steps.proofs.EventTimes.{early-events}
 use Rattle.vt_steps.proofs.Lists.{Every, every-map, every-weaker}
-use Rattle.vt_steps.proofs.ProcessSums.{over_places, over_processes, sum_by_place, sum_by_place-bound, whole-rows-by-process}
+use Rattle.vt_steps.proofs.ProcessSums.{over_places, sum_by_place-bound, whole-rows-by-process}
 use Rattle.vt_steps.proofs.Ranks.{reached-committed}
 use Rattle.vt_steps.proofs.ReachedBooks.{reached-accounted}
 use Rattle.vt_steps.proofs.Records.{IsAccounted, floors-right, run_rows, run_rows-before}

@@ -1,14 +1,13 @@
 -- Floors: each worker's hand-in floor is at most its floor, and that at most the announced time; the announced time is at most
 -- the least value reported so far, so it never falls, nor does the book's floor.
-use Rattle.std.proofs.Common.{◌≡◌, inl, inr, ℕ, zero, suc, ◌+◌, Bool, true, false, cond, List, [], ◌∷◌, length, replicate, refl, sym, subst, ◌∙◌, ap, arith, Option, Some, None, slice_get, slice_set, nat_eq}
+use Rattle.std.proofs.Common.{◌≡◌, inl, inr, ℕ, zero, suc, ◌+◌, true, false, cond, List, [], ◌∷◌, length, replicate, refl, sym, subst, ◌∙◌, ap, arith, Option, Some, None, slice_get, slice_set, nat_eq}
 use Rattle.std.specs.List.{range_with_len}
 use Rattle.std.proofs.Math.ListN.{length-set}
 use Rattle.std.proofs.Math.Nat.{le_refl}
 use Rattle.std.proofs.lemmas.List.{length-replicate}
 use Rattle.std.proofs.lemmas.List.FromFn.{length-map-range_with_len}
-use Rattle.std.proofs.lemmas.Option.{slice_get_within}
 use Rattle.std.proofs.lemmas.Bool.{eqb-true}
-use Rattle.std.proofs.lemmas.Bool.Decides.{nat_tests, eqb_tells}
+use Rattle.std.proofs.lemmas.Bool.Decides.{nat_tests}
 use Rattle.vt_key.specs.Times.{Time, TimeAtMost, opening_time, time_at_most}
 use Rattle.vt_model.specs.Simulation.{Simulation}
 use Rattle.vt_model.specs.Histories.{IsLawful}
@@ -20,7 +19,7 @@ use Rattle.vt_steps.specs.PartSteps.{part_after_send, part_after_fetch, part_aft
 use Rattle.vt_steps.specs.World.{Part, Board, Book, World, opening_part, opening_world, least_floor, book_floor}
 use Rattle.vt_steps.proofs.Announced.{IsTimeSound, time-kept, opening-time-sound}
 use Rattle.vt_steps.proofs.Changes.{homes, arrives, Local, acts, takes, Change, stays, local, sends, fetches, cuts, reports, commits, closes, next_changes, run_keeps, if_has}
-use Rattle.vt_steps.proofs.Places.{all-put, get-map, get-put_same, get-put_other, get-replicate, get-within}
+use Rattle.vt_steps.proofs.Places.{all-put, get-map, get-replicate, get-within}
 use Rattle.vt_steps.proofs.Flags.{put-cases}
 use Rattle.vt_steps.proofs.Tests.{both_pass}
 

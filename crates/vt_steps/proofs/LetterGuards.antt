@@ -1,6 +1,6 @@
 -- The guards on letters never fail: a letter that comes home or is accepted finds its process, which does not hold it already.
 -- If it did, its stamp would have two plus copies, or two minus copies.
-use Rattle.std.proofs.Common.{◌≡◌, inl, inr, ℕ, ◌+◌, ◌/◌, ◌%◌, ◌≤◌, ◌<◌, Bool, true, false, cond, List, [], ◌∷◌, refl, sym, ◌∙◌, ap, subst, arith, Option, Some, None, slice_get, Ok}
+use Rattle.std.proofs.Common.{◌≡◌, inl, inr, ℕ, ◌+◌, ◌/◌, ◌%◌, ◌≤◌, ◌<◌, Bool, true, false, cond, List, [], ◌∷◌, refl, ◌∙◌, ap, arith, Option, Some, None, slice_get, Ok}
 use Rattle.std.specs.List.{sum_by, find, list_any, remove}
 use Rattle.std.specs.Option.{option_map, option_and_then}
 use Rattle.std.proofs.lemmas.Bool.{eqb-true}
@@ -15,28 +15,23 @@ use Rattle.vt_key.specs.declared.order.Rank.{Rank}
 use Rattle.vt_key.specs.declared.order.Stamp.{Stamp}
 use Rattle.vt_model.specs.Histories.{Among, IsLawful}
 use Rattle.vt_model.specs.Simulation.{Simulation}
-use Rattle.vt_model.specs.declared.sending.Sent.{Sent}
 use Rattle.vt_steps.specs.declared.step.Reply.TheVariants.{Done}
 use Rattle.vt_steps.specs.declared.step.Step.{Step}
 use Rattle.vt_steps.specs.declared.step.Step.TheVariants.{Home, Accept}
 use Rattle.vt_steps.specs.Copies.{as_count, entry_sum, is_copy, is_event_of, letter_sum, letter_weight, mail_weight, minus, part_entries, part_sum, plus, process_entries, process_sum}
-use Rattle.vt_steps.specs.Letters.{has_rank, stamped, unstamped, without_first}
+use Rattle.vt_steps.specs.Letters.{has_rank, without_first}
 use Rattle.vt_steps.specs.Next.{done_or_refused, next, reached, with_part}
 use Rattle.vt_steps.specs.PartSteps.{accept, accept_mail, deliver, home, home_letter, is_for, with_effect}
 use Rattle.vt_steps.specs.ProcessSteps.{accept_process, holds, with_letter}
-use Rattle.vt_steps.specs.World.{Entry, LogicalProcess, Part, World, opening_world}
-use Rattle.vt_steps.proofs.Lists.{Every, among-map, every-all, every-among, every-get, every-unmap, find-among, find-passes, get-among}
+use Rattle.vt_steps.specs.World.{Entry, LogicalProcess, Part, World}
+use Rattle.vt_steps.proofs.Lists.{every-among, every-get, find-among, find-passes, get-among}
 use Rattle.vt_steps.proofs.Tests.{both_pass, either_passes}
 use Rattle.vt_steps.proofs.Sums.{sum-among, sum-at}
-use Rattle.vt_steps.proofs.Stamped.{unstamped-stamped}
-use Rattle.vt_steps.proofs.Changes.{Change, run_keeps}
-use Rattle.vt_steps.proofs.Shape.{IsShaped, known-process, opening-shape, reached-shape, shape-kept}
+use Rattle.vt_steps.proofs.Shape.{known-process, reached-shape}
 use Rattle.vt_steps.proofs.Stamps.{StampFacts, stamp-facts}
-use Rattle.vt_steps.proofs.Everywhere.{InWorld, Spread, kept, made, change-spread, events_of_starts, opening-in, part-in}
-use Rattle.vt_steps.proofs.Agreement.{start-worker}
+use Rattle.vt_steps.proofs.Everywhere.{part-in}
 use Rattle.vt_steps.proofs.OwnHistories.{reached-own}
 use Rattle.vt_steps.proofs.Bounds.{IsBounded, reached-bounds}
-use Rattle.vt_steps.proofs.LiveEvents.{start-first}
 
 -- ---- a letter that is held
 

@@ -29,9 +29,9 @@ pub mod MailLemmas
 pub mod LetterLemmas
 pub mod Entries
 pub mod LiveEvents
+pub mod EventTimes
 pub mod QuietHistories
 pub mod Ranks
-pub mod EventTimes
 pub mod RowOrder
 pub mod SequentialRows
 pub mod ProcessSums

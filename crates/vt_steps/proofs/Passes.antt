@@ -1,6 +1,6 @@
 -- Cut and Report keep what holds of each round. When the last worker reports equal sums, no mail of the old colour is
 -- travelling and none came to a worker since it reported, so the least value reported is a lower bound of all letters.
-use Rattle.std.proofs.Common.{◌≡◌, inl, inr, ℕ, zero, suc, ◌+◌, ◌≤◌, Bool, true, false, cond, List, length, replicate, refl, sym, ◌∙◌, ap, arith, Option, Some, None, slice_get, slice_set, nat_eq}
+use Rattle.std.proofs.Common.{◌≡◌, inl, inr, ℕ, ◌+◌, Bool, true, false, cond, List, length, replicate, refl, sym, ◌∙◌, ap, arith, Option, Some, slice_get, slice_set, nat_eq}
 use Rattle.std.specs.List.{sum_by}
 use Rattle.std.proofs.Math.ListN.{length-set}
 use Rattle.std.proofs.lemmas.Bool.{eqb-true}
@@ -19,7 +19,7 @@ use Rattle.vt_steps.proofs.Colours.{sent_in, got_in, early_coloured, other-other
 use Rattle.vt_steps.proofs.Early.{early_in, early_mail, none-early, letters-early}
 use Rattle.vt_steps.proofs.Flags.{flagged_sum-put_same, flagged_sum-set, flagged_sum-all, flagged_sum-none, none-set, set-at, put-cases}
 use Rattle.vt_steps.proofs.Places.{all-put, get-put_same, get-put_other, get-replicate, get-within}
-use Rattle.vt_steps.proofs.Rounds.{IsRedLate, IsOpenRound, IsBetweenRounds, IsRoundSound}
+use Rattle.vt_steps.proofs.Rounds.{IsRedLate, IsOpenRound, IsRoundSound}
 use Rattle.vt_steps.proofs.Sums.{sum_by-put, sum_by-nothings, sum-at}
 
 -- a round that is open is not shut

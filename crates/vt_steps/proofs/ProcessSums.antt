@@ -13,6 +13,7 @@ use Rattle.vt_model.proofs.RunLemmas.{tested, filter-yes, filter-no, after-snoc,
 use Rattle.vt_steps.specs.Rows.{rows_from}
 use Rattle.vt_steps.specs.World.{process_at, process_count}
 use Rattle.std.proofs.Math.Nat.{mod-lt}
+use Rattle.vt_steps.proofs.Sums.{sum_by-same, sum_by-zero}
 use Rattle.vt_steps.proofs.Shape.{own-place, worker-of_place, place-of_place, known-place}
 
 -- ---- sums over a range of numbers
@@ -37,11 +38,6 @@ sum_by-range_same f g a (suc n) same =
     let ih = sum_by-range_same f g (a + 1) n (λ i low high. same i (omega arith) (omega arith)) in
     omega arith
 
--- a sum in which nothing weighs anything
-sum_by-range_none : (a n : ℕ) → sum_by (λ i. 0) (range_with_len a n) ≡ 0
-sum_by-range_none a zero = refl
-sum_by-range_none a (suc n) = let x = sum_by-cons (λ i. 0) a (range_with_len (a + 1) n) in let ih = sum_by-range_none (a + 1) n in omega arith
-
 -- a sum in which one number of the range alone weighs something
 sum_by-range_one : (x j a n : ℕ) → a ≤ j → j < a + n → sum_by (λ i. cond (nat_eq j i) x 0) (range_with_len a n) ≡ x
 sum_by-range_one x j a zero low high = absurd (omega arith)
@@ -52,7 +48,7 @@ sum_by-range_one x j a (suc n) low high =
           let here : cond (nat_eq j a) x 0 ≡ x = ap (λ b. cond b x 0) is in
           let at = eqb-true j a is in
           let others = sum_by-range_same (λ i. cond (nat_eq j i) x 0) (λ i. 0) (a + 1) n (λ i more less. (let differ : nat_eq j i ≡ false = grind (arith, nat_tests) in ap (λ b. cond b x 0) differ)) in
-          let none = sum_by-range_none (a + 1) n in
+          let none = sum_by-zero (range_with_len (a + 1) n) in
           omega arith
       | inr is ↦
           let here : ◌≡◌ {A = ℕ} (cond (nat_eq j a) x 0) 0 = ap (λ b. cond b x 0) is in
@@ -141,13 +137,13 @@ module _ {S P : Type 0} (sim : Simulation S P) where
   -- what is the same for each process has the same sum
   over_processes-same : (f g : ℕ → ℕ) → ((p : ℕ) → f p ≡ g p) → over_processes f ≡ over_processes g
   over_processes-same f g same =
-      sum_by-range_same (over_places f) (over_places g) 0 sim.workers
-      (λ w low high. sum_by-range_same (λ place. f (process_at sim w place)) (λ place. g (process_at sim w place)) 0 (process_count sim w) (λ place l h. same (process_at sim w place)))
+      sum_by-same (over_places f) (over_places g)
+      (λ w. sum_by-same (λ place. f (process_at sim w place)) (λ place. g (process_at sim w place)) (λ place. same (process_at sim w place)) (range_with_len 0 (process_count sim w))) (range_with_len 0 sim.workers)
 
   -- where no process weighs anything
   over_processes-none : over_processes (λ p. 0) ≡ 0
   over_processes-none =
-      sum_by-range_same (over_places (λ p. 0)) (λ w. 0) 0 sim.workers (λ w low high. sum_by-range_none 0 (process_count sim w)) ∙ sum_by-range_none 0 sim.workers
+      sum_by-range_same (over_places (λ p. 0)) (λ w. 0) 0 sim.workers (λ w low high. sum_by-zero (range_with_len 0 (process_count sim w))) ∙ sum_by-zero (range_with_len 0 sim.workers)
 
   -- a process of a worker is at a place if it is its own place
   by-place : (p w place : ℕ) → p % sim.workers ≡ w → w < sim.workers → nat_eq p (process_at sim w place) ≡ nat_eq (p / sim.workers) place
@@ -187,7 +183,7 @@ module _ {S P : Type 0} (sim : Simulation S P) where
     | inr is ↦
         let none = sum_by-range_same (λ place. cond (nat_eq p (process_at sim w place)) x 0) (λ place. 0) 0 (process_count sim w)
         (λ place low high. ap (λ b. cond b x 0) (not-there p w place is within)) in
-        none ∙ sum_by-range_none 0 (process_count sim w) ∙ sym (ap (λ b. cond b x 0) is)
+        none ∙ sum_by-zero (range_with_len 0 (process_count sim w)) ∙ sym (ap (λ b. cond b x 0) is)
   ]
 
   -- a sum in which one process alone weighs something

@@ -1,21 +1,19 @@
 -- The book in every reached world: it is accounted for, nothing falls in any further steps, and once closed it is whole.
-use Rattle.std.proofs.Common.{◌≡◌, ℕ, ◌+◌, ◌/◌, ◌%◌, ◌<◌, Bool, true, false, cond, List, [], ◌∷◌, ◌++◌, refl, sym, subst, ◌∙◌, ap, arith, Some, slice_get}
+use Rattle.std.proofs.Common.{◌≡◌, ℕ, ◌/◌, ◌%◌, true, false, cond, List, [], ◌∷◌, ◌++◌, refl, sym, subst, ◌∙◌, ap, arith, slice_get}
 use Rattle.std.specs.Prelude.{IsTrue}
-use Rattle.std.proofs.lemmas.List.{map-append}
 use Rattle.vt_key.specs.Order.{RankBefore}
-use Rattle.vt_key.specs.Times.{Time, TimeAtMost, TimeBefore}
+use Rattle.vt_key.specs.Times.{TimeAtMost, TimeBefore}
 use Rattle.vt_key.specs.declared.fault.Fault.TheVariants.{Closed}
-use Rattle.vt_model.specs.declared.rows.Record.{Record}
 use Rattle.vt_model.specs.declared.sending.Sent.{Sent}
 use Rattle.vt_model.specs.Histories.{IsLawful}
-use Rattle.vt_model.specs.Sequential.{events_before, seq_events, seq_records}
+use Rattle.vt_model.specs.Sequential.{seq_records}
 use Rattle.vt_model.specs.Simulation.{Simulation, after}
 use Rattle.vt_steps.specs.declared.step.Step.{Step}
 use Rattle.vt_steps.specs.declared.step.Step.TheVariants.{Commit, Close}
 use Rattle.vt_steps.specs.Claims.{IsProcess, IsWhole, NothingFalls}
 use Rattle.vt_steps.specs.Letters.{unstamped}
 use Rattle.vt_steps.specs.Next.{close, commit, next, reached, refused, report_lawful, run}
-use Rattle.vt_steps.specs.World.{Entry, LogicalProcess, World, book_floor, book_records, entry_events, least, opening_world, triple_after}
+use Rattle.vt_steps.specs.World.{Entry, LogicalProcess, World, book_floor, book_records, entry_events, least, opening_world}
 use Rattle.vt_steps.proofs.BookRows.{IsBooked, booked-kept, opening-booked}
 use Rattle.vt_steps.proofs.Bounds.{IsBounded, reached-bounds}
 use Rattle.vt_steps.proofs.Changes.{Change, stays, local, sends, fetches, cuts, reports, commits, closes, next_changes}

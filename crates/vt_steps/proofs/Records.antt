@@ -1,6 +1,6 @@
 -- The book shows the sequential run's rows below its floor: both lists are in order, and whatever each row weighs they weigh the
 -- same, since each process's committed events below the floor are the sequential run's.
-use Rattle.std.proofs.Common.{◌≡◌, ℕ, ◌+◌, ◌<◌, List, [], ◌++◌, length, refl, sym, subst, ◌∙◌, ap, arith, Some, slice_get}
+use Rattle.std.proofs.Common.{◌≡◌, ℕ, ◌<◌, [], sym, subst, ◌∙◌, ap, arith, Some, slice_get}
 use Rattle.std.specs.List.{sum_by, range_with_len}
 use Rattle.std.proofs.lemmas.List.{map-append}
 use Rattle.std.proofs.lemmas.Option.{slice_get_within}
@@ -11,20 +11,20 @@ use Rattle.vt_model.specs.declared.sending.Sent.{Sent}
 use Rattle.vt_model.specs.Simulation.{Simulation}
 use Rattle.vt_model.specs.Histories.{IsLawful}
 use Rattle.vt_model.specs.Rows.{AreRowsRising}
-use Rattle.vt_model.specs.Sequential.{events_before, events_of, records_of, rows_after, rows_before, seq_events, seq_records, seq_rows, whole_run}
+use Rattle.vt_model.specs.Sequential.{events_before, events_of, records_of, rows_after, rows_before, seq_events, seq_rows, whole_run}
 use Rattle.vt_model.proofs.EndLemmas.{whole_is_history}
 use Rattle.vt_steps.specs.Claims.{AreFloorsRight, AreHistoriesRight, AreRecordsRight, IsProcess}
 use Rattle.vt_steps.specs.Letters.{unstamped}
 use Rattle.vt_steps.specs.Rows.{rows_from, rows_in_order}
-use Rattle.vt_steps.specs.World.{Entry, LogicalProcess, Part, World, book_floor, book_records, book_rows, entry_events, least, process_at, process_count}
+use Rattle.vt_steps.specs.World.{Entry, LogicalProcess, Part, World, book_floor, book_rows, entry_events, least, process_at}
 use Rattle.vt_steps.proofs.Announced.{announced-least}
-use Rattle.vt_steps.proofs.BookRows.{AreNotBefore, IsBooked, committed_rows, part_rows, process_rows}
+use Rattle.vt_steps.proofs.BookRows.{AreNotBefore, IsBooked, part_rows, process_rows}
 use Rattle.vt_steps.proofs.Entries.{process-at_place}
 use Rattle.vt_steps.proofs.EventTimes.{AreEventsLate, early-front, ranks-times, rising-times}
 use Rattle.vt_steps.proofs.Floors.{AreTimesSound, floor-announced, floor-at}
 use Rattle.vt_steps.proofs.Lists.{every-map, every-weaker, rising-left}
 use Rattle.vt_steps.proofs.Places.{get-within}
-use Rattle.vt_steps.proofs.ProcessSums.{over_places, over_processes, sum_by_place, sum_by_place-range, whole-rows-by-process}
+use Rattle.vt_steps.proofs.ProcessSums.{over_places, over_processes, sum_by_place-range, whole-rows-by-process}
 use Rattle.vt_steps.proofs.QuietHistories.{DoAllRanksRise}
 use Rattle.vt_steps.proofs.RowOrder.{HaveSameSums, in-order, rising-in-order, same-list, same-sums-in-order}
 use Rattle.vt_steps.proofs.SequentialRows.{early_weight, early-rows, seq_rows-rise, sum_by-before}

@@ -1,6 +1,6 @@
 -- What holds of each round of cuts, at any one time t, and that local steps, Send and Fetch keep it. Two colours tell the mail
 -- that was sent before a worker's cut from that sent after it; counts tell whether mail of the old colour is travelling.
-use Rattle.std.proofs.Common.{◌≡◌, ℕ, ◌+◌, ◌≤◌, Bool, true, false, cond, List, [], ◌∷◌, ◌++◌, map, length, refl, sym, ◌∙◌, ap, arith, add-zero, Some, slice_get, slice_set}
+use Rattle.std.proofs.Common.{◌≡◌, ℕ, ◌+◌, ◌≤◌, Bool, true, false, cond, List, [], ◌++◌, map, length, refl, sym, ◌∙◌, ap, arith, add-zero, Some, slice_get, slice_set}
 use Rattle.std.specs.List.{sum_by, filter}
 use Rattle.std.proofs.Math.ListN.{length-set}
 use Rattle.std.proofs.lemmas.List.Sums.{sum_by-append}

@@ -1,13 +1,12 @@
 -- The guards on times never fail: no report is below the announced time, and no floor below the hand-in floor.
-use Rattle.std.proofs.Common.{◌≡◌, ℕ, ◌<◌, Bool, true, false, cond, refl, sym, subst, ◌∙◌, ap, arith, Some, slice_get, slice_set, Ok}
+use Rattle.std.proofs.Common.{◌≡◌, ℕ, ◌<◌, true, false, cond, ◌∙◌, ap, arith, Some, slice_get, slice_set, Ok}
 use Rattle.std.specs.Prelude.{IsTrue}
 use Rattle.std.proofs.Math.Nat.{le_refl}
 use Rattle.std.proofs.lemmas.Bool.Decides.{nat_tests}
 use Rattle.std.proofs.lemmas.Option.{slice_get_within}
-use Rattle.vt_key.specs.Times.{Time, TimeAtMost, opening_time, time_at_most}
+use Rattle.vt_key.specs.Times.{TimeAtMost, opening_time, time_at_most}
 use Rattle.vt_key.specs.declared.fault.Fault.TheVariants.{NotLawful, Closed}
 use Rattle.vt_model.specs.Simulation.{Simulation}
-use Rattle.vt_model.specs.Histories.{IsLawful}
 use Rattle.vt_steps.specs.declared.step.Reply.TheVariants.{Done}
 use Rattle.vt_steps.specs.declared.step.Step.TheVariants.{Report, Commit}
 use Rattle.vt_steps.specs.BoardSteps.{all_set, is_clear, may_report, with_report, report_reply}
@@ -17,7 +16,6 @@ use Rattle.vt_steps.specs.Next.{Outcome, next, report, report_lawful, commit, re
 use Rattle.vt_steps.specs.PartSteps.{part_after_commit, report_sent, report_got, report_least, rows_of_commit}
 use Rattle.vt_steps.specs.World.{Part, World, letters_in}
 use Rattle.vt_steps.proofs.Early.{early_in, at-most-least, letters-early}
-use Rattle.vt_steps.proofs.Flags.{set-at}
 use Rattle.vt_steps.proofs.Floors.{AreTimesSound}
 use Rattle.vt_steps.proofs.Places.{get-within}
 use Rattle.vt_steps.proofs.Sums.{sum-at}
