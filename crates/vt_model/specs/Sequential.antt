@@ -95,3 +95,7 @@ module _ {S P : Type 0} (sim : Simulation S P) where
   -- the records of the whole run before a time
   abbrev pub seq_records : Time → List Record
   seq_records t = records_of (seq_rows t)
+
+  -- the final value of each process, in rising order of processes
+  abbrev pub seq_finals : List ℕ
+  seq_finals = map (λ p. sim.finish p (after sim p (events_of p whole_run)).state) (numbers_below sim.lps)

@@ -7,7 +7,7 @@ use Rattle.vt_model.specs.declared.rows.Record.{Record}
 use Rattle.vt_model.specs.declared.rows.Row.{Row}
 use Rattle.vt_model.specs.declared.sending.Sent.{Sent}
 use Rattle.vt_model.specs.declared.settings.Config.{Config}
-use Rattle.vt_model.specs.Words.{Stream, seed_key, word}
+use Rattle.vt_stream.specs.Words.{Stream, seed_key, word}
 use Rattle.vt_model.specs.Sends.{Outgoing, sent_events, requested_records}
 use Rattle.vt_model.specs.Handler.{Handlers, StartResult, ForwardResult}
 
@@ -23,13 +23,15 @@ pub record Fired (S P : Type 0) : Type 0 where
   pub sends : List (Sent P)
   pub rows : List Row
 
--- a simulation: its numbers, the start of each process, and what an event does at a process that stands somewhere
+-- a simulation: its numbers, the start of each process, what an event does at a process that stands somewhere, and the
+-- final value of a process
 pub record Simulation (S P : Type 0) : Type 0 where
   pub lps : ℕ
   pub workers : ℕ
   pub end : Time
   pub start : ℕ → Fired S P
   pub fire : ℕ → Triple S → Sent P → Fired S P
+  pub finish : ℕ → S → ℕ
 
 -- the words of a process from a place on
 abbrev pub words_at : ℕ → ℕ → ℕ → ℕ → ℕ
@@ -68,6 +70,7 @@ module _ {S P : Type 0} where
     end = c.end;
     start = λ p. start_of c.end p (handlers.start c.lps p (words_at c.seed p 0));
     fire = λ p t e. fire_of c.end p t e (handlers.forward c.lps p e.key.time e.payload t.state (words_at c.seed p t.place));
+    finish = handlers.finish;
   }
 
   -- where a process stands after these events, from where it stood

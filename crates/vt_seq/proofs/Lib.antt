@@ -3,3 +3,4 @@ pub mod Sizes
 pub mod StartLemmas
 pub mod InsertedLemmas
 pub mod StepLemmas
+pub mod ProgressLemmas

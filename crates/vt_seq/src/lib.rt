@@ -3,6 +3,7 @@
 #![tactic(auto)]
 
 mod advancing;
+mod engine;
 mod queue;
 mod run;
 

@@ -1,35 +1,40 @@
 //! The sequential run of a model.
 
-ghost use Rattle.std.specs.Prelude.{◌≡◌, ℕ, suc, ◌+◌, ◌<◌, ◌≤◌, ◌↔◌, ◌⊎◌, [], map, All, IfOk, IfErr, IsTrue, IfSome, IfNone, slice_index_or, vec_len, false, true};
-ghost use Rattle.vt_key.specs.declared.fault.Fault.TheVariants.{Memory, NotLawful, Exhausted};
+ghost use Rattle.std.specs.Prelude.{◌≡◌, ℕ, suc, ◌+◌, ◌<◌, ◌≤◌, ◌↔◌, ◌⊎◌, [], length, IfOk, IfErr, IsTrue, IfSome, IfNone, false, true};
 ghost use Rattle.vt_key.specs.declared.limits.TheConstants.{MAX_COUNT};
-ghost use Rattle.vt_model.specs.Process.{IsProcessStream};
 ghost use Rattle.vt_model.specs.Simulation.{simulation_of, after};
-ghost use Rattle.vt_model.specs.Sequential.{after_steps, whole_run, events_of, rows_after, rows_before, records_of, seq_records, weight, numbers_below};
-ghost use Rattle.vt_seq.specs.Queue.{IsWithinRun};
-ghost use Rattle.vt_seq.specs.StandsFor.{StandsAt};
+ghost use Rattle.vt_model.specs.Sequential.{after_steps, events_of, rows_after, rows_before, records_of, seq_records, seq_finals};
+ghost use Rattle.vt_seq.specs.Progress.{IsAfter};
 
-use crate::advancing::{advance, start_process};
+use crate::engine::Engine;
 use std::alloc::Global;
+use std::marker::Model;
 use vt_key::{Fault, Time};
-use vt_model::{Config, Model as EventModel, Process, Record, Sent};
+use vt_model::{Config, Model as EventModel, Record};
 
 /// A sequential run of a model, from its first event to any later one.
 ///
-/// Contracts say by `StandsAt sim n` that a value is where the sequential run of the definitions is after `n` steps. Each
-/// value is somewhere: the type keeps that.
+/// Contracts see it as its model and config, the pending events, where each process stands and the records so far, and say by
+/// `IsAfter sim n` that it is where the sequential run of the definitions is after `n` steps.
 #[derive(Drop)]
 pub struct Sequential<'m, M: EventModel> {
-    model: &'m M,
-    config: Config,
-    pending: Vec<Sent<M::Payload>>,
-    processes: Vec<Process<M>>,
-    records: Vec<Record>,
-    ghost within_run: { All (IsWithinRun config.lps config.end) pending.items },
-    ghost all_there: { vec_len processes ≡ config.lps },
-    ghost numbered: { (p : ℕ) (d : _) → p < config.lps → (slice_index_or processes.items p d).number ≤ MAX_COUNT },
-    ghost streams: { (p : ℕ) (d : _) → p < config.lps → IsProcessStream config.seed p (slice_index_or processes.items p d).stream },
-    ghost stands: { ∥ ((n : ℕ) × StandsAt (simulation_of (M.handlers model.now) config) n pending.items processes.items records.items) ∥₁ },
+    engine: Engine<'m, M>,
+}
+
+impl<'m, M: EventModel> Model for Sequential<'m, M> {
+    ghost use Rattle.std.specs.Prelude.{map};
+    ghost use Rattle.vt_model.specs.Process.{triple_at};
+    ghost use Rattle.vt_seq.specs.Progress.{Progress};
+
+    ghost Value = { Progress M M.State M.Payload };
+
+    ghost view = { λ s. record {
+      model = s.engine.model.now;
+      config = s.engine.config;
+      pending = s.engine.pending.items;
+      triples = map (λ q. triple_at q.state q.number q.stream) s.engine.processes.items;
+      records = s.engine.records.items;
+    } };
 }
 
 impl<'m, M: EventModel> Sequential<'m, M> {
@@ -37,50 +42,41 @@ impl<'m, M: EventModel> Sequential<'m, M> {
     ///
     /// [`Fault::Memory`]: memory was refused, and nothing is left of the run.
     pub fn new(alloc: Global, model: &'m M, config: Config) -> Result<Sequential<'m, M>, Fault>
-        ensures model { IfOk result (λ run. run.model.now ≡ model.now) }
+        ensures model { IfOk result (λ run. run.model ≡ model.now) }
         ensures config { IfOk result (λ run. run.config ≡ config) }
-        ensures stands { IfOk result (λ run. StandsAt (simulation_of (M.handlers model.now) config) 0 run.pending.items run.processes.items run.records.items) }
-        ensures refused { IfErr result (λ fault. fault ≡ Memory) }
+        ensures opening { IfOk result (λ run. IsAfter (simulation_of (M.handlers model.now) config) 0 run) }
+        ensures refused { IfErr result (λ fault. fault ≡ Fault.Memory) }
     {
-        let mut pending = Vec::new(alloc);
-        let mut processes = Vec::new(alloc);
-        for p in 0..config.lps {
-            let process = start_process(model, config, p, &mut pending)?;
-            processes.push(process).map_err(|_| Fault::Memory)?;
-        }
-        Ok(Sequential {
-            model,
-            config,
-            pending,
-            processes,
-            records: Vec::new(alloc),
-        })
+        let engine = Engine::new(alloc, model, config)?;
+        Ok(Sequential { engine })
     }
 
     /// The send number of process `p` now: how many events it has sent, those at or past the end of the run among them.
     /// None where there is no such process.
     pub fn number(&self, p: u32) -> Option<u64>
         ensures unknown { IfNone result (self.now.config.lps ≤ p) }
-        ensures value { let sim = simulation_of (M.handlers self.now.model.now) self.now.config in (n : ℕ) → StandsAt sim n self.now.pending.items self.now.processes.items self.now.records.items → IfSome result (λ v. (p < self.now.config.lps) × (v ≡ (after sim p (events_of p (after_steps sim n).executed)).number)) }
+        ensures value { let sim = simulation_of (M.handlers self.now.model) self.now.config in (n : ℕ) → IsAfter sim n self.now → IfSome result (λ v. (p < self.now.config.lps) × (v ≡ (after sim p (events_of p (after_steps sim n).executed)).number)) }
     {
-        let process = self.processes.get(p as usize)?;
-        Some(process.number)
+        self.engine.number(p)
+    }
+
+    /// The place of process `p` in its random words now: how many words its start and its events have drawn, modulo 2^64.
+    /// None where there is no such process.
+    pub fn place(&self, p: u32) -> Option<u64>
+        ensures unknown { IfNone result (self.now.config.lps ≤ p) }
+        ensures value { let sim = simulation_of (M.handlers self.now.model) self.now.config in (n : ℕ) → IsAfter sim n self.now → IfSome result (λ v. (p < self.now.config.lps) × (v ≡ (after sim p (events_of p (after_steps sim n).executed)).place)) }
+    {
+        self.engine.place(p)
     }
 
     /// The records of the events executed so far before time `t`, in the order of their rows.
     ///
     /// [`Fault::Memory`]: memory was refused.
     pub fn records_below(&self, alloc: Global, t: Time) -> Result<Vec<Record>, Fault>
-        ensures rows { let sim = simulation_of (M.handlers self.now.model.now) self.now.config in (n : ℕ) → StandsAt sim n self.now.pending.items self.now.processes.items self.now.records.items → IfOk result (λ v. v.items ≡ records_of (rows_before t (rows_after sim [] (after_steps sim n).executed))) }
-        ensures refused { IfErr result (λ fault. fault ≡ Memory) }
+        ensures rows { let sim = simulation_of (M.handlers self.now.model) self.now.config in (n : ℕ) → IsAfter sim n self.now → IfOk result (λ v. v.items ≡ records_of (rows_before t (rows_after sim [] (after_steps sim n).executed))) }
+        ensures refused { IfErr result (λ fault. fault ≡ Fault.Memory) }
     {
-        let mut found = Vec::new(alloc);
-        for record in &self.records {
-            if record.time < t {
-                found.push(*record).map_err(|_| Fault::Memory)?;
-            }
-        }
-        Ok(found)
+        self.engine.records_below(alloc, t)
     }
 
     /// Executes the pending event of least key; false where none is pending, which changes nothing.
@@ -88,31 +84,16 @@ impl<'m, M: EventModel> Sequential<'m, M> {
     /// [`Fault::Memory`]: memory was refused. [`Fault::Exhausted`]: the process's send number would pass 2^63. After
     /// either all is as it was, and the step may be tried again.
     pub fn step(&mut self) -> Result<bool, Fault>
-        ensures model { self.new.model.now ≡ self.old.model.now }
+        ensures model { self.new.model ≡ self.old.model }
         ensures config { self.new.config ≡ self.old.config }
-        ensures more { IfOk result (λ more. IsTrue more ↔ (0 < vec_len self.old.pending)) }
+        ensures more { IfOk result (λ more. IsTrue more ↔ (0 < length self.old.pending)) }
         ensures idle { IfOk result (λ more. more ≡ false → self.new ≡ self.old) }
-        ensures steps { let sim = simulation_of (M.handlers self.old.model.now) self.old.config in (n : ℕ) → StandsAt sim n self.old.pending.items self.old.processes.items self.old.records.items → IfOk result (λ more. StandsAt sim (suc n) self.new.pending.items self.new.processes.items self.new.records.items) }
-        ensures falls { let sim = simulation_of (M.handlers self.old.model.now) self.old.config in IfOk result (λ more. IsTrue more → weight sim self.new.pending.items < weight sim self.old.pending.items) }
-        ensures pending { IfErr result (λ fault. self.new.pending.items ≡ self.old.pending.items) }
-        ensures records { IfErr result (λ fault. self.new.records.items ≡ self.old.records.items) }
-        ensures processes { IfErr result (λ fault. self.new.processes.items ≡ self.old.processes.items) }
-        ensures refused { let sim = simulation_of (M.handlers self.old.model.now) self.old.config in (n : ℕ) → StandsAt sim n self.old.pending.items self.old.processes.items self.old.records.items → IfErr result (λ fault. (fault ≡ Memory) ⊎ ((fault ≡ Exhausted) × (p : ℕ) × (MAX_COUNT < (after sim p (events_of p (after_steps sim (suc n)).executed)).number))) }
-        ensures faults { IfErr result (λ fault. (fault ≡ Memory) ⊎ (fault ≡ Exhausted)) }
+        ensures steps { let sim = simulation_of (M.handlers self.old.model) self.old.config in (n : ℕ) → IsAfter sim n self.old → IfOk result (λ more. IsAfter sim (suc n) self.new) }
+        ensures kept { IfErr result (λ fault. self.new ≡ self.old) }
+        ensures faults { IfErr result (λ fault. (fault ≡ Fault.Memory) ⊎ (fault ≡ Fault.Exhausted)) }
+        ensures exhausted { let sim = simulation_of (M.handlers self.old.model) self.old.config in (n : ℕ) → IsAfter sim n self.old → IfErr result (λ fault. fault ≡ Fault.Exhausted → (p : ℕ) × (MAX_COUNT < (after sim p (events_of p (after_steps sim (suc n)).executed)).number)) }
     {
-        if self.pending.is_empty() {
-            return Ok(false);
-        }
-        let event = self.pending[0];
-        advance(
-            &mut self.processes[event.dest as usize],
-            self.model,
-            self.config,
-            event,
-            &mut self.pending,
-            &mut self.records,
-        )?;
-        Ok(true)
+        self.engine.step()
     }
 
     /// Executes events until none is pending, and answers the records of the whole run.
@@ -120,36 +101,25 @@ impl<'m, M: EventModel> Sequential<'m, M> {
     /// [`Fault::Memory`], [`Fault::Exhausted`] as of [`Sequential::step`]: the steps made before stand, and the run may be
     /// gone on with.
     pub fn run(&mut self, alloc: Global) -> Result<Vec<Record>, Fault>
-        ensures model { self.new.model.now ≡ self.old.model.now }
+        ensures model { self.new.model ≡ self.old.model }
         ensures config { self.new.config ≡ self.old.config }
-        ensures whole { IfOk result (λ v. v.items ≡ seq_records (simulation_of (M.handlers self.old.model.now) self.old.config) self.old.config.end) }
-        ensures faults { IfErr result (λ fault. (fault ≡ Memory) ⊎ (fault ≡ Exhausted)) }
-        ensures nothing_left { IfOk result (λ v. self.new.pending.items ≡ []) }
-        ensures stands { let sim = simulation_of (M.handlers self.old.model.now) self.old.config in (n : ℕ) → StandsAt sim n self.old.pending.items self.old.processes.items self.old.records.items → (k : ℕ) × StandsAt sim (k + n) self.new.pending.items self.new.processes.items self.new.records.items }
+        ensures whole { let sim = simulation_of (M.handlers self.old.model) self.old.config in IfOk result (λ v. v.items ≡ seq_records sim self.old.config.end) }
+        ensures nothing_left { IfOk result (λ v. self.new.pending ≡ []) }
+        ensures steps { let sim = simulation_of (M.handlers self.old.model) self.old.config in (n : ℕ) → IsAfter sim n self.old → (k : ℕ) × IsAfter sim (k + n) self.new }
+        ensures faults { IfErr result (λ fault. (fault ≡ Fault.Memory) ⊎ (fault ≡ Fault.Exhausted)) }
     {
-        while self.step()? {}
-        let mut all = Vec::new(alloc);
-        all.extend_from_slice(&self.records)
-            .map_err(|_| Fault::Memory)?;
-        Ok(all)
+        self.engine.run(alloc)
     }
 
     /// The final value of each process, in rising order of processes.
     ///
     /// [`Fault::NotLawful`]: an event is pending still. [`Fault::Memory`]: memory was refused.
     pub fn finals(&self, alloc: Global) -> Result<Vec<u64>, Fault>
-        ensures values { let sim = simulation_of (M.handlers self.now.model.now) self.now.config in IfOk result (λ v. v.items ≡ map (λ p. (M.handlers self.now.model.now).finish p (after sim p (events_of p (whole_run sim))).state) (numbers_below self.now.config.lps)) }
-        ensures nothing_left { IfOk result (λ v. self.now.pending.items ≡ []) }
-        ensures refused { IfErr result (λ fault. (fault ≡ Memory) ⊎ ((fault ≡ NotLawful) × (0 < vec_len self.now.pending))) }
+        ensures values { let sim = simulation_of (M.handlers self.now.model) self.now.config in IfOk result (λ v. v.items ≡ seq_finals sim) }
+        ensures nothing_left { IfOk result (λ v. self.now.pending ≡ []) }
+        ensures faults { IfErr result (λ fault. (fault ≡ Fault.Memory) ⊎ (fault ≡ Fault.NotLawful)) }
+        ensures not_lawful { IfErr result (λ fault. fault ≡ Fault.NotLawful → 0 < length self.now.pending) }
     {
-        if !self.pending.is_empty() {
-            return Err(Fault::NotLawful);
-        }
-        let mut values = Vec::new(alloc);
-        for p in 0..self.config.lps {
-            let value = self.model.finish(p, &self.processes[p as usize].state);
-            values.push(value).map_err(|_| Fault::Memory)?;
-        }
-        Ok(values)
+        self.engine.finals(alloc)
     }
 }

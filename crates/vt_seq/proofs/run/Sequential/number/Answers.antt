@@ -1,16 +1,16 @@
-use Rattle.std.proofs.Common.{rules, ◌≡◌, ℕ, ◌<◌, ◌∙◌, List, length, slice_index_or, sym, ap, subst}
-use Rattle.std.proofs.lemmas.Bool.{ltb-true}
-use Rattle.vt_model.specs.Simulation.{Triple}
-use Rattle.vt_model.specs.declared.process.Process.{Process}
+use Rattle.std.proofs.Common.{◌≡◌, ℕ, ◌<◌, IfSome, true, subst}
+use Rattle.std.proofs.Math.Logic.{∥∥₁_elim}
+use Rattle.std.proofs.Props.{props}
+use Rattle.vt_model.specs.Simulation.{simulation_of, after}
+use Rattle.vt_model.specs.Sequential.{after_steps, events_of}
+use Rattle.vt_seq.specs.Progress.{Progress, IsAfter}
+use Rattle.vt_seq.proofs.ProgressLemmas.{are_rising, rising-tested, after-stands}
 use Rattle.vt_seq.proofs.run.Sequential.number.Goals as goal
 
 pub returns-clause-value : goal.returns-clause-value
-returns-clause-value g c n st =
-    let processes = c.args.self.now.processes.items in
-    let q = c.in_ok-process.process.now in
-    let lookup = c.in_ok-process.ensures.lookup in
-    let value : c.deref.result.now ≡ processes = c.deref.ensures.value in
-    let inside : c.args.p < length processes = subst (λ (l : List (Process _ _ _ _)). c.args.p < length l) value (ltb-true c.args.p (length c.deref.result.now) (sym lookup.0)) in
-    let there : length processes ≡ c.args.self.now.config.lps = search (rules, c.args.self.now.all_there) in
-    let is : c.args.p < c.args.self.now.config.lps = subst (λ (k : ℕ). c.args.p < k) there inside in
-    (is, ap (λ (o : Process _ _ _ _). o.number) (lookup.1 ∙ ap (λ (l : List (Process _ _ _ _)). slice_index_or l c.args.p q) value) ∙ ap (λ (t : Triple _). t.number) (st.triples c.args.p q is))
+returns-clause-value g c =
+    let e = c.self.inside.engine in
+    let sim = simulation_of (g.M.Model.handlers e.model.now) e.config in
+    let rises : are_rising e.pending.items ≡ true = ∥∥₁_elim e.stands (Prim.hlevel props) (λ x. rising-tested e.pending.items x.1.rising) in
+    subst (λ (v : Progress _ _ _). (n : ℕ) → IsAfter (simulation_of (g.M.Model.handlers v.model) v.config) n v → IfSome c.number.result (λ r. (c.args.p < v.config.lps) × (r ≡ (after (simulation_of (g.M.Model.handlers v.model) v.config) c.args.p (events_of c.args.p (after_steps (simulation_of (g.M.Model.handlers v.model) v.config) n).executed)).number)))
+    c.self.view_is (λ n is. c.number.ensures.value n (after-stands sim e.model.now e.config n e.pending.items e.processes.items e.records.items rises is))

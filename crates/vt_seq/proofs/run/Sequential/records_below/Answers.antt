@@ -1,20 +1,16 @@
-use Rattle.std.proofs.Common.{◌≤◌, ◌∙◌, List, length, filter, ap, subst}
-use Rattle.std.proofs.lemmas.List.{take_all}
-use Rattle.vt_key.specs.Times.{time_before}
-use Rattle.vt_model.specs.declared.rows.Record.{Record}
+use Rattle.std.proofs.Common.{◌≡◌, ℕ, [], IfOk, true, subst}
+use Rattle.std.proofs.Math.Logic.{∥∥₁_elim}
+use Rattle.std.proofs.Props.{props}
 use Rattle.vt_model.specs.Simulation.{simulation_of}
-use Rattle.vt_model.proofs.LawLemmas.{lawful_of}
-use Rattle.vt_seq.proofs.StepLemmas.{records_before}
+use Rattle.vt_model.specs.Sequential.{after_steps, rows_after, rows_before, records_of}
+use Rattle.vt_seq.specs.Progress.{Progress, IsAfter}
+use Rattle.vt_seq.proofs.ProgressLemmas.{are_rising, rising-tested, after-stands}
 use Rattle.vt_seq.proofs.run.Sequential.records_below.Goals as goal
 
 pub returns-clause-rows : goal.returns-clause-rows
-returns-clause-rows g c n st =
-    let m = c.args.self.now.model.now in
-    let config = c.args.self.now.config in
-    let sim = simulation_of (g.M.Model.handlers m) config in
-    let lawful = lawful_of (g.M.Model.handlers m) config (g.met.M.Model.start_within m) (g.met.M.Model.forward_within m) in
-    let items = c.args.self.now.pending.items in
-    let processes = c.args.self.now.processes.items in
-    let records = c.args.self.now.records.items in
-    let full : length records ≤ c.loop-record.record-index = subst (λ (l : List Record). length l ≤ c.loop-record.record-index) c.deref-record-items.ensures.value c.loop-record-test.false in
-    c.loop-record.invariant ∙ ap (filter (λ (r : Record). time_before r.time c.args.t)) (take_all c.loop-record.record-index records full) ∙ records_before sim lawful n c.args.t items processes records st
+returns-clause-rows g c =
+    let e = c.self.inside.engine in
+    let sim = simulation_of (g.M.Model.handlers e.model.now) e.config in
+    let rises : are_rising e.pending.items ≡ true = ∥∥₁_elim e.stands (Prim.hlevel props) (λ x. rising-tested e.pending.items x.1.rising) in
+    subst (λ (v : Progress _ _ _). (n : ℕ) → IsAfter (simulation_of (g.M.Model.handlers v.model) v.config) n v → IfOk c.records_below.result (λ r. r.items ≡ records_of (rows_before c.args.t (rows_after (simulation_of (g.M.Model.handlers v.model) v.config) [] (after_steps (simulation_of (g.M.Model.handlers v.model) v.config) n).executed))))
+    c.self.view_is (λ n is. c.records_below.ensures.rows n (after-stands sim e.model.now e.config n e.pending.items e.processes.items e.records.items rises is))

@@ -1,0 +1,137 @@
+//! Queues of pending events, least key first.
+
+use crate::model::{Event, Key};
+use std::cmp::{Ordering, Reverse};
+use std::collections::BinaryHeap;
+
+pub trait EventQueue<P> {
+    /// Adds an event, whose time is past that of the event taken last.
+    fn push(&mut self, event: Event<P>);
+
+    /// Takes the event of least key out.
+    fn pop(&mut self) -> Option<Event<P>>;
+}
+
+/// An event that compares by its key.
+struct ByKey<P>(Event<P>);
+
+impl<P> ByKey<P> {
+    #[inline(always)]
+    fn key(&self) -> Key {
+        self.0.key()
+    }
+}
+
+impl<P> PartialEq for ByKey<P> {
+    fn eq(&self, other: &Self) -> bool {
+        self.key() == other.key()
+    }
+}
+
+impl<P> Eq for ByKey<P> {}
+
+impl<P> PartialOrd for ByKey<P> {
+    #[inline(always)]
+    fn partial_cmp(&self, other: &Self) -> Option<Ordering> {
+        Some(self.cmp(other))
+    }
+}
+
+impl<P> Ord for ByKey<P> {
+    #[inline(always)]
+    fn cmp(&self, other: &Self) -> Ordering {
+        self.key().cmp(&other.key())
+    }
+}
+
+/// The standard library's binary heap.
+pub struct HeapQueue<P> {
+    heap: BinaryHeap<Reverse<ByKey<P>>>,
+}
+
+impl<P> HeapQueue<P> {
+    pub fn new() -> HeapQueue<P> {
+        HeapQueue { heap: BinaryHeap::new() }
+    }
+
+    /// The time of the event of least key.
+    #[inline(always)]
+    fn least_time(&self) -> Option<u64> {
+        self.heap.peek().map(|Reverse(event)| event.0.time)
+    }
+}
+
+impl<P> EventQueue<P> for HeapQueue<P> {
+    #[inline(always)]
+    fn push(&mut self, event: Event<P>) {
+        self.heap.push(Reverse(ByKey(event)));
+    }
+
+    #[inline(always)]
+    fn pop(&mut self) -> Option<Event<P>> {
+        self.heap.pop().map(|Reverse(ByKey(event))| event)
+    }
+}
+
+/// The number of the wheel's slots.
+const SLOTS: u64 = 1 << 12;
+
+/// A timing wheel: a slot for each of the next times, which is sorted when its time comes, and a heap for later events.
+pub struct WheelQueue<P> {
+    now: u64,
+    /// The events of the present time, in the order of their keys; those before `next` have been taken.
+    present: Vec<Event<P>>,
+    next: usize,
+    slots: Vec<Vec<Event<P>>>,
+    /// The number of events in all slots.
+    count: usize,
+    later: HeapQueue<P>,
+}
+
+impl<P: Copy> WheelQueue<P> {
+    pub fn new() -> WheelQueue<P> {
+        let slots = (0..SLOTS).map(|_| Vec::new()).collect();
+        WheelQueue { now: 0, present: Vec::new(), next: 0, slots, count: 0, later: HeapQueue::new() }
+    }
+
+    fn slot(&mut self, time: u64) -> &mut Vec<Event<P>> {
+        &mut self.slots[(time % SLOTS) as usize]
+    }
+
+    /// Goes on to the next time, or where no slot has an event to the least time of the later ones, if there is one.
+    fn advance(&mut self) -> Option<()> {
+        self.now = if self.count == 0 { self.later.least_time()? } else { self.now + 1 };
+        while self.later.least_time().is_some_and(|time| time - self.now < SLOTS) {
+            let event = self.later.pop()?;
+            self.slot(event.time).push(event);
+            self.count += 1;
+        }
+        self.present.clear();
+        self.next = 0;
+        std::mem::swap(&mut self.present, &mut self.slots[(self.now % SLOTS) as usize]);
+        self.count -= self.present.len();
+        self.present.sort_unstable_by_key(|event| (event.source, event.number));
+        Some(())
+    }
+}
+
+impl<P: Copy> EventQueue<P> for WheelQueue<P> {
+    #[inline(always)]
+    fn push(&mut self, event: Event<P>) {
+        if event.time - self.now < SLOTS {
+            self.slot(event.time).push(event);
+            self.count += 1;
+        } else {
+            self.later.push(event);
+        }
+    }
+
+    #[inline(always)]
+    fn pop(&mut self) -> Option<Event<P>> {
+        while self.next == self.present.len() {
+            self.advance()?;
+        }
+        self.next += 1;
+        Some(self.present[self.next - 1])
+    }
+}

@@ -1,0 +1,104 @@
+-- What the fields stand for is what a contract sees.
+use Rattle.std.proofs.Common.{◌≡◌, ℕ, zero, suc, ◌<◌, ◌≤◌, List, [], ◌∷◌, Bool, true, false, ◌&&◌, map, length, Some, slice_get, slice_index_or, Result, Ok, Err, IfOk, IfErr, refl, ap, ◌∙◌, arith}
+use Rattle.std.specs.List.{list_all}
+use Rattle.vt_key.specs.declared.order.Key.{Key}
+use Rattle.vt_key.specs.Order.{key_before}
+use Rattle.vt_key.proofs.OrderLemmas.{key_before-true, before-key_before}
+use Rattle.vt_model.specs.declared.process.Process.{Process}
+use Rattle.vt_model.specs.declared.rows.Record.{Record}
+use Rattle.vt_model.specs.declared.sending.Sent.{Sent}
+use Rattle.vt_model.specs.declared.settings.Config.{Config}
+use Rattle.vt_model.specs.Simulation.{Simulation}
+use Rattle.vt_model.specs.Histories.{AllAfter, IsRising}
+use Rattle.vt_model.specs.Process.{triple_at}
+use Rattle.vt_seq.specs.Progress.{Progress, IsAfter}
+use Rattle.vt_seq.specs.StandsFor.{StandsAt}
+
+-- ---- a test of rising keys
+
+both : (a b : Bool) → (a && b) ≡ true → (a ≡ true) × (b ≡ true)
+both true b h = (refl, h)
+both false b h = absurd (let w : false ≡ true = h in cc)
+
+module _ {P : Type 0} where
+  -- the keys of the list rise strictly, as a test
+  pub are_rising : List (Sent P) → Bool
+  are_rising [] = true
+  are_rising (e ∷ es) = list_all (λ d. key_before e.key d.key) es && are_rising es
+
+  after-tested : (k : Key) (es : List (Sent P)) → AllAfter k es → list_all (λ (d : Sent P). key_before k d.key) es ≡ true
+  after-tested k [] h = refl
+  after-tested k (e ∷ es) h = ap (λ (b : Bool). b && list_all (λ (d : Sent P). key_before k d.key) es) (before-key_before k e.key h.0) ∙ after-tested k es h.1
+
+  tested-after : (k : Key) (es : List (Sent P)) → list_all (λ (d : Sent P). key_before k d.key) es ≡ true → AllAfter k es
+  tested-after k [] h = tt
+  tested-after k (e ∷ es) h =
+      let r = both (key_before k e.key) (list_all (λ (d : Sent P). key_before k d.key) es) h in
+      (key_before-true k e.key r.0, tested-after k es r.1)
+
+  pub rising-tested : (es : List (Sent P)) → IsRising es → are_rising es ≡ true
+  unfolding are_rising
+  rising-tested [] h = refl
+  rising-tested (e ∷ es) h = ap (λ (b : Bool). b && are_rising es) (after-tested e.key es h.0) ∙ rising-tested es h.1
+
+  pub tested-rising : (es : List (Sent P)) → are_rising es ≡ true → IsRising es
+  unfolding are_rising
+  tested-rising [] h = tt
+  tested-rising (e ∷ es) h =
+      let r = both (list_all (λ (d : Sent P). key_before e.key d.key) es) (are_rising es) h in
+      (tested-after e.key es r.0, tested-rising es r.1)
+
+-- ---- processes by index
+
+-- what holds of an item whatever stands in its place else, holds of what is got
+got : {X Y : Type 0} (f : X → Y) (y : Y) (xs : List X) (i : ℕ) → i < length xs → ((d : X) → f (slice_index_or xs i d) ≡ y) → slice_get (map f xs) i ≡ Some y
+got f y [] i l h = absurd (omega (arith, l))
+got f y (x ∷ xs) zero l h = ap Some (h x)
+got f y (x ∷ xs) (suc i) l h = got f y xs i (omega (arith, l)) h
+
+indexed : {X Y : Type 0} (f : X → Y) (y : Y) (xs : List X) (i : ℕ) (d : X) → slice_get (map f xs) i ≡ Some y → f (slice_index_or xs i d) ≡ y
+indexed f y [] i d h = absurd (cc)
+indexed f y (x ∷ xs) zero d h = let e : f x ≡ y = cc in e
+indexed f y (x ∷ xs) (suc i) d h = indexed f y xs i d h
+
+-- a fact of each good result, from another
+pub if_ok-map : {V E : Type 0} (A B : V → Type 0) (r : Result V E) → IfOk r A → ((v : V) → A v → B v) → IfOk r B
+if_ok-map A B (Ok v) a f = f v a
+if_ok-map A B (Err e) a f = tt
+
+-- a fact of each refusal, from another
+pub if_err-map : {V E : Type 0} (A B : E → Type 0) (r : Result V E) → IfErr r A → ((e : E) → A e → B e) → IfErr r B
+if_err-map A B (Ok v) a f = tt
+if_err-map A B (Err e) a f = f e a
+
+module _ {M S P K : Type 0} (sim : Simulation S P) (model : M) (config : Config) where
+  -- what a contract sees of these fields
+  abbrev pub seen : List (Sent P) → List (Process M S P K) → List Record → Progress M S P
+  seen pending processes records = record {
+    model = model;
+    config = config;
+    pending = pending;
+    triples = map (λ q. triple_at q.state q.number q.stream) processes;
+    records = records;
+  }
+
+  -- fields that stand for the run after n steps are seen so
+  pub stands-after : (n : ℕ) (pending : List (Sent P)) (processes : List (Process M S P K)) (records : List Record) → sim.lps ≤ length processes
+      → StandsAt sim n pending processes records → IsAfter sim n (seen pending processes records)
+  stands-after n pending processes records there st = record {
+    sent = st.sent;
+    had = st.had;
+    triples = λ p is. got (λ (q : Process M S P K). triple_at q.state q.number q.stream) _ processes p (omega (arith, there, is)) (λ d. st.triples p d is);
+    records = st.recorded;
+  }
+
+  -- and fields that are seen so stand for it, if their events rise
+  pub after-stands : (n : ℕ) (pending : List (Sent P)) (processes : List (Process M S P K)) (records : List Record) → are_rising pending ≡ true
+      → IsAfter sim n (seen pending processes records) → StandsAt sim n pending processes records
+  after-stands n pending processes records rises is = record {
+    rising = tested-rising pending rises;
+    sent = is.sent;
+    had = is.had;
+    triples = λ p d known. indexed (λ (q : Process M S P K). triple_at q.state q.number q.stream) _ processes p d (is.triples p known);
+    recorded = is.records;
+  }

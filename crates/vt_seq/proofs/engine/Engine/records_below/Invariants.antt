@@ -1,0 +1,6 @@
+use Rattle.std.proofs.Common.{◌≡◌, filter, take}
+use Rattle.vt_key.specs.Times.{time_before}
+use Rattle.vt_seq.proofs.engine.Engine.records_below.Given as goal
+
+abbrev pub invariant-loop-record : goal.invariant-loop-record
+invariant-loop-record g l = l.found.items ≡ filter (λ r. time_before r.time l.t) (take l.record-index l.self.records.items)

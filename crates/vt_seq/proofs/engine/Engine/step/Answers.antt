@@ -1,0 +1,156 @@
+use Rattle.std.proofs.Common.{rules, ◌≡◌, ℕ, suc, ◌<◌, ◌≤◌, ◌∙◌, List, [], length, slice_index_or, slice_set, sym, ap, subst, ◌⊎◌, inl, inr}
+use Rattle.vt_key.specs.declared.fault.Fault.TheVariants.{Memory, Exhausted}
+use Rattle.std.proofs.Math.Logic.{∥∥₁_map, ∥∥₁_elim}
+use Rattle.std.proofs.Props.{props}
+use Rattle.vt_key.specs.declared.limits.TheConstants.{MAX_COUNT}
+use base.Stored.{Coded-set}
+use Rattle.vt_model.specs.declared.rows.Record.{Record}
+use Rattle.vt_model.specs.declared.sending.Sent.{Sent}
+use Rattle.vt_model.specs.Simulation.{simulation_of, Triple, after}
+use Rattle.vt_model.specs.Sequential.{after_steps, events_of, weight}
+use Rattle.vt_model.specs.Histories.{Among}
+use Rattle.vt_model.proofs.LawLemmas.{lawful_of, after_state}
+use Rattle.vt_model.proofs.EndLemmas.{no_step}
+use Rattle.vt_model.specs.Process.{triple_at, IsProcessStream}
+use Rattle.vt_seq.specs.StandsFor.{StandsFor, StandsAt}
+use Rattle.vt_seq.specs.Queue.{IsWithinRun}
+use Rattle.vt_model.specs.declared.process.Process.{Process}
+use Rattle.vt_seq.proofs.StepLemmas.{stands_step, either_way, taken_next, falls, among-at, at-among, nothing_left, set_same, in_err, nil_of, set_all, next_triple, if_err}
+use Rattle.vt_seq.proofs.engine.Engine.step.Goals as goal
+
+pub returns-then-is_empty-clause-steps : goal.returns-then-is_empty-clause-steps
+returns-then-is_empty-clause-steps g c n st =
+    let m = c.args.self.now.model.now in
+    let config = c.args.self.now.config in
+    let sim = simulation_of (g.M.Model.handlers m) config in
+    let lawful = lawful_of (g.M.Model.handlers m) config (g.met.M.Model.start_within m) (g.met.M.Model.forward_within m) in
+    let items = c.args.self.now.pending.items in
+    let processes = c.args.self.now.processes.items in
+    let none : items ≡ [] = nil_of items (search (rules, c.if-is_empty.true, c.is_empty.ensures)) in
+    subst (λ (x : _). StandsFor sim x items processes c.args.self.now.records.items) (sym (no_step sim lawful n (nothing_left sim lawful n items processes c.args.self.now.records.items st none))) st
+
+pub returns-clause-falls : goal.returns-clause-falls
+returns-clause-falls g c is =
+    let m = c.args.self.now.model.now in
+    let config = c.args.self.now.config in
+    let sim = simulation_of (g.M.Model.handlers m) config in
+    let lawful = lawful_of (g.M.Model.handlers m) config (g.met.M.Model.start_within m) (g.met.M.Model.forward_within m) in
+    let items = c.args.self.now.pending.items in
+    let processes = c.args.self.now.processes.items in
+    let e = c.index-event.result.now in
+    let p = c.index_mut.result.now in
+    let q = c.advance.new.process in
+    let some : 0 < length items = search (rules, c.if-is_empty.false, c.is_empty.ensures) in
+    let first : slice_index_or items 0 e ≡ e = sym c.index-event.ensures in
+    let at : slice_index_or processes e.dest p ≡ p = sym c.index_mut.ensures.value in
+    let there : length processes ≡ sim.lps = search (rules, c.args.self.now.all_there) in
+    let taken = at-among (IsWithinRun sim.lps sim.end) items c.args.self.now.within_run e (subst (λ (d : Sent _). Among d items) first (among-at items 0 e some)) in
+    subst (λ (l : List (Sent _)). weight sim l < weight sim items) (sym c.in_ok-advance.ensures.done.pending)
+    (falls sim lawful items e (triple_at p.state p.number p.stream) taken.known taken.soon some first)
+
+pub returns-clause-steps : goal.returns-clause-steps
+returns-clause-steps g c n st =
+    let m = c.args.self.now.model.now in
+    let config = c.args.self.now.config in
+    let sim = simulation_of (g.M.Model.handlers m) config in
+    let lawful = lawful_of (g.M.Model.handlers m) config (g.met.M.Model.start_within m) (g.met.M.Model.forward_within m) in
+    let items = c.args.self.now.pending.items in
+    let processes = c.args.self.now.processes.items in
+    let e = c.index-event.result.now in
+    let p = c.index_mut.result.now in
+    let q = c.advance.new.process in
+    let some : 0 < length items = search (rules, c.if-is_empty.false, c.is_empty.ensures) in
+    let first : slice_index_or items 0 e ≡ e = sym c.index-event.ensures in
+    let at : slice_index_or processes e.dest p ≡ p = sym c.index_mut.ensures.value in
+    let there : length processes ≡ sim.lps = search (rules, c.args.self.now.all_there) in
+    let taken = at-among (IsWithinRun sim.lps sim.end) items c.args.self.now.within_run e (subst (λ (d : Sent _). Among d items) first (among-at items 0 e some)) in
+    stands_step sim lawful n e items c.advance.new.pending.items processes c.args.self.now.records.items c.advance.new.records.items p q st there taken.known some first at c.in_ok-advance.ensures.done
+
+pub returns-in_err-advance-clause-processes : goal.returns-in_err-advance-clause-processes
+returns-in_err-advance-clause-processes g c =
+    let m = c.args.self.now.model.now in
+    let config = c.args.self.now.config in
+    let sim = simulation_of (g.M.Model.handlers m) config in
+    let lawful = lawful_of (g.M.Model.handlers m) config (g.met.M.Model.start_within m) (g.met.M.Model.forward_within m) in
+    let items = c.args.self.now.pending.items in
+    let processes = c.args.self.now.processes.items in
+    let e = c.index-event.result.now in
+    let p = c.index_mut.result.now in
+    let q = c.advance.new.process in
+    let some : 0 < length items = search (rules, c.if-is_empty.false, c.is_empty.ensures) in
+    let first : slice_index_or items 0 e ≡ e = sym c.index-event.ensures in
+    let at : slice_index_or processes e.dest p ≡ p = sym c.index_mut.ensures.value in
+    let there : length processes ≡ sim.lps = search (rules, c.args.self.now.all_there) in
+    let taken = at-among (IsWithinRun sim.lps sim.end) items c.args.self.now.within_run e (subst (λ (d : Sent _). Among d items) first (among-at items 0 e some)) in
+    let state = λ (n : ℕ) (st : StandsAt sim n items processes c.args.self.now.records.items).
+    subst (λ (t : Triple _). g.M.Model.IsState m t.state) (sym (ap (λ (o : Process _ _ _ _). triple_at o.state o.number o.stream) (sym at) ∙ st.triples e.dest p taken.known))
+    (after_state (g.M.Model.handlers m) config (g.M.Model.IsState m) (g.met.M.Model.start_state m) (g.met.M.Model.forward_state m) e.dest (events_of e.dest (after_steps sim n).executed)) in
+    in_err c.from_residual.result (∥∥₁_elim c.args.self.now.stands (Prim.hlevel (props, Coded-set g.row.M-State.coded)) (λ x. set_same processes e.dest p q at (c.in_err-advance.ensures.process (state x.0 x.1))))
+
+pub returns-in_err-advance-clause-refused : goal.returns-in_err-advance-clause-refused
+returns-in_err-advance-clause-refused g c n st =
+    let m = c.args.self.now.model.now in
+    let config = c.args.self.now.config in
+    let sim = simulation_of (g.M.Model.handlers m) config in
+    let lawful = lawful_of (g.M.Model.handlers m) config (g.met.M.Model.start_within m) (g.met.M.Model.forward_within m) in
+    let items = c.args.self.now.pending.items in
+    let processes = c.args.self.now.processes.items in
+    let e = c.index-event.result.now in
+    let p = c.index_mut.result.now in
+    let q = c.advance.new.process in
+    let some : 0 < length items = search (rules, c.if-is_empty.false, c.is_empty.ensures) in
+    let first : slice_index_or items 0 e ≡ e = sym c.index-event.ensures in
+    let at : slice_index_or processes e.dest p ≡ p = sym c.index_mut.ensures.value in
+    let there : length processes ≡ sim.lps = search (rules, c.args.self.now.all_there) in
+    let taken = at-among (IsWithinRun sim.lps sim.end) items c.args.self.now.within_run e (subst (λ (d : Sent _). Among d items) first (among-at items 0 e some)) in
+    let after_is = next_triple sim lawful n e items processes c.args.self.now.records.items p st taken.known some first at in
+    if_err (λ fault. (fault ≡ Memory) ⊎ ((fault ≡ Exhausted) × (r : ℕ) × (MAX_COUNT < (after sim r (events_of r (after_steps sim (suc n)).executed)).number)))
+    c.from_residual.result c.in_err-advance.field-0.0 c.from_residual.ensures.1
+    (elim c.in_err-advance.ensures.refused [
+      | inl h ↦ inl h
+      | inr h ↦ inr (h.0, e.dest, subst (λ (t : Triple _). MAX_COUNT < t.number) after_is h.1)
+    ])
+
+pub returns-in_err-advance-clause-faults : goal.returns-in_err-advance-clause-faults
+returns-in_err-advance-clause-faults g c =
+    if_err (λ fault. (fault ≡ Memory) ⊎ (fault ≡ Exhausted)) c.from_residual.result c.in_err-advance.field-0.0 c.from_residual.ensures.1
+    (elim c.in_err-advance.ensures.refused [ inl h ↦ inl h | inr h ↦ inr h.0 ])
+
+pub invariant_of-self : goal.invariant_of-self
+invariant_of-self g c =
+    let m = c.args.self.now.model.now in
+    let config = c.args.self.now.config in
+    let sim = simulation_of (g.M.Model.handlers m) config in
+    let lawful = lawful_of (g.M.Model.handlers m) config (g.met.M.Model.start_within m) (g.met.M.Model.forward_within m) in
+    let items = c.args.self.now.pending.items in
+    let processes = c.args.self.now.processes.items in
+    let e = c.index-event.result.now in
+    let p = c.index_mut.result.now in
+    let q = c.advance.new.process in
+    let some : 0 < length items = search (rules, c.if-is_empty.false, c.is_empty.ensures) in
+    let first : slice_index_or items 0 e ≡ e = sym c.index-event.ensures in
+    let at : slice_index_or processes e.dest p ≡ p = sym c.index_mut.ensures.value in
+    let there : length processes ≡ sim.lps = search (rules, c.args.self.now.all_there) in
+    let taken = at-among (IsWithinRun sim.lps sim.end) items c.args.self.now.within_run e (subst (λ (d : Sent _). Among d items) first (among-at items 0 e some)) in
+    let state = λ (n : ℕ) (st : StandsAt sim n items processes c.args.self.now.records.items).
+    subst (λ (t : Triple _). g.M.Model.IsState m t.state) (sym (ap (λ (o : Process _ _ _ _). triple_at o.state o.number o.stream) (sym at) ∙ st.triples e.dest p taken.known))
+    (after_state (g.M.Model.handlers m) config (g.M.Model.IsState m) (g.met.M.Model.start_state m) (g.met.M.Model.forward_state m) e.dest (events_of e.dest (after_steps sim n).executed)) in
+    let inside : e.dest < length processes = subst (λ (k : ℕ). e.dest < k) (sym there) taken.known in
+    record {
+      within_run = λ k d l.
+          either_way c.advance.result c.advance.ensures.done c.advance.ensures.pending c.advance.ensures.records c.advance.ensures.records
+          (λ done. subst (λ (xs : List (Sent _)). k < length xs → IsWithinRun sim.lps sim.end (slice_index_or xs k d)) (sym done.pending) (taken_next sim lawful items e (triple_at p.state p.number p.stream) taken.known c.args.self.now.within_run k d) l)
+          (λ pending records more. subst (λ (xs : List (Sent _)). k < length xs → IsWithinRun sim.lps sim.end (slice_index_or xs k d)) (sym pending) (c.args.self.now.within_run k d) l);
+      all_there = c.args.self.now.all_there;
+      numbered = set_all (λ (r : ℕ) (o : Process _ _ _ _). o.number ≤ MAX_COUNT) sim.lps processes e.dest q inside c.advance.ensures.numbered c.args.self.now.numbered;
+      streams = set_all (λ (r : ℕ) (o : Process _ _ _ _). IsProcessStream config.seed r o.stream) sim.lps processes e.dest q inside c.advance.ensures.stream c.args.self.now.streams;
+      stands = ∥∥₁_map c.args.self.now.stands (λ x.
+          either_way c.advance.result c.advance.ensures.done c.advance.ensures.pending c.advance.ensures.records (c.advance.ensures.process (state x.0 x.1))
+          (λ done. (suc x.0, stands_step sim lawful x.0 e items c.advance.new.pending.items processes c.args.self.now.records.items c.advance.new.records.items p q x.1 there taken.known some first at done))
+          (λ pending records process. (
+            x.0,
+            subst (λ (l : List (Sent _)). StandsAt sim x.0 l (slice_set processes e.dest q) c.advance.new.records.items) (sym pending)
+                (subst (λ (l : List Record). StandsAt sim x.0 items (slice_set processes e.dest q) l) (sym records)
+                (subst (λ (l : List (Process _ _ _ _)). StandsAt sim x.0 items l c.args.self.now.records.items) (sym (set_same processes e.dest p q at process)) x.1)),
+          )));
+    }
