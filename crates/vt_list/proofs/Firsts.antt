@@ -11,6 +11,7 @@ use Rattle.vt_list.specs.Ordered.{insert_ordered}
 abbrev pub TakesOff : {X Y : Type 0} → (Y → X) → List X → Option Y → List X → Type 0
 TakesOff f all o rest = MatchOption o ((all ≡ []) × (rest ≡ [])) (λ n. all ≡ f n ∷ rest)
 
+-- in equations
 pub taken : {X Y : Type 0} (f : Y → X) (all rest : List X) (o : Option Y) → TakesOff f all o rest → (option_map f o ≡ slice_get all 0) × (rest ≡ drop 1 all)
 taken f all rest None told = (sym (ap (λ xs. slice_get xs 0) told.0), told.1 ∙ sym (ap (drop 1) told.0))
 taken f all rest (Some n) told = (sym (ap (λ xs. slice_get xs 0) told), sym (ap (drop 1) told))

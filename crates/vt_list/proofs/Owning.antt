@@ -20,6 +20,7 @@ use Rattle.std_alloc.specs.Box.Ownership.{box_owns}
 use Rattle.vt_list.specs.Blocks.{may_free, blocks_owned, blocks_lent, places, place_at}
 use Rattle.vt_list.specs.contracts.blocks.Blocks as blocks
 
+-- the first of some places, or q
 abbrev head_or : Ptr → List Ptr → Ptr
 head_or q [] = q
 head_or q (p ∷ ps) = p
@@ -38,6 +39,7 @@ abbrev pub Bytes : RattleType → RattleType
 Bytes R = Struct (shape (blocks.the_type R))
 
 module _ {M : Type 1} {𝓤 : Ura M} (𝓛 : Logic 𝓤) (R : RattleType) where
+  -- that value is made of nothing
   abbrev pub Blank : Fml
   Blank = (Bytes R).own_val (tt, tt) (no_bytes ∷ [])
 

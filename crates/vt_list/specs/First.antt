@@ -18,6 +18,6 @@ module _ {X : Type 0} (test : X → Bool) where
   without_first (x ∷ xs) = if test x then xs else x ∷ without_first xs
 
   -- whether there is a first item, and it fails
-  abbrev pub starts_otherwise : List X → Bool
-  starts_otherwise [] = false
-  starts_otherwise (x ∷ xs) = not (test x)
+  abbrev pub first_fails : List X → Bool
+  first_fails [] = false
+  first_fails (x ∷ xs) = not (test x)

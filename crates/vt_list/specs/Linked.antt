@@ -4,8 +4,8 @@ use denote.RawPtr.{Ptr}
 use Rattle.vt_list.specs.declared.node.Node.{Node}
 
 -- a node and where it lies
-abbrev pub Placed : Type 0 → Type 0
-Placed X = Ptr × Node X
+abbrev pub NodeAt : Type 0 → Type 0
+NodeAt X = Ptr × Node X
 
 -- where the first one lies, or `after` where there is none
 abbrev pub first_or : {Y : Type 0} → Option Ptr → List (Ptr × Y) → Option Ptr
@@ -24,39 +24,39 @@ advanced (passed, x ∷ ahead) = (passed ++ x ∷ [], ahead)
 
 module _ {X : Type 0} where
   -- the items of nodes
-  abbrev pub items : List (Placed X) → List X
+  abbrev pub items : List (NodeAt X) → List X
   items = map (λ b. b.1.item)
 
   -- the nodes, where the last one leads on to `after`
-  abbrev pub with_next : Option Ptr → List (Placed X) → List (Placed X)
+  abbrev pub with_next : Option Ptr → List (NodeAt X) → List (NodeAt X)
   with_next after [] = []
   with_next after (b ∷ []) = (b.0, record b.1 { next = after }) ∷ []
   with_next after (b ∷ c ∷ bs) = b ∷ with_next after (c ∷ bs)
 
   -- the nodes, where the first one leads back to `before`
-  abbrev pub with_prev : Option Ptr → List (Placed X) → List (Placed X)
+  abbrev pub with_prev : Option Ptr → List (NodeAt X) → List (NodeAt X)
   with_prev before [] = []
   with_prev before (b ∷ bs) = (b.0, record b.1 { prev = before }) ∷ bs
 
   -- each node leads on to the next one, and the last one to `after`
-  abbrev pub LeadOn : List (Placed X) → Option Ptr → Type 0
+  abbrev pub LeadOn : List (NodeAt X) → Option Ptr → Type 0
   LeadOn [] after = Unit {0}
   LeadOn (b ∷ bs) after = (b.1.next ≡ first_or after bs) × LeadOn bs after
 
   -- each node leads back to the one before, and the first one to `before`
-  abbrev pub LeadBack : Option Ptr → List (Placed X) → Type 0
+  abbrev pub LeadBack : Option Ptr → List (NodeAt X) → Type 0
   LeadBack before [] = Unit {0}
   LeadBack before (b ∷ bs) = (b.1.prev ≡ before) × LeadBack (Some b.0) bs
 
   -- the nodes are linked both ways, from head to tail
-  pub record IsChain (head tail : Option Ptr) (bs : List (Placed X)) : Type 0 where
+  pub record IsChain (head tail : Option Ptr) (bs : List (NodeAt X)) : Type 0 where
     pub head_is : head ≡ first_or None bs
     pub tail_is : tail ≡ last_or None bs
     pub on : LeadOn bs None
     pub back : LeadBack None bs
 
   -- they are, and a place among them is after `last` and before `next`
-  pub record IsPlace (head tail last next : Option Ptr) (passed ahead : List (Placed X)) : Type 0 where
+  pub record IsPlace (head tail last next : Option Ptr) (passed ahead : List (NodeAt X)) : Type 0 where
     pub chain : IsChain head tail (passed ++ ahead)
     pub last_is : last ≡ last_or None passed
     pub next_is : next ≡ first_or None ahead

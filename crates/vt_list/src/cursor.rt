@@ -1,7 +1,7 @@
 //! A place in a chain.
 
 ghost use Rattle.std.specs.Prelude.{◌≡◌, ◌-◌, ◌↔◌, [], ◌∷◌, ◌++◌, length, take, drop, MatchOption, IsTrue};
-ghost use Rattle.vt_list.specs.First.{before_first, from_first, starts_otherwise};
+ghost use Rattle.vt_list.specs.First.{before_first, from_first, first_fails};
 ghost use Rattle.vt_list.specs.Linked.{advanced};
 
 use crate::blocks::Blocks;
@@ -165,8 +165,8 @@ impl<T> Cursor<T> {
     }
 
     /// Whether there is a next item, and it fails the test.
-    fn is_before_other<P: Predicate<T>>(&self, test: &P) -> bool
-        ensures { result ≡ starts_otherwise (P.passes test.now) self.now.1 }
+    fn next_fails<P: Predicate<T>>(&self, test: &P) -> bool
+        ensures { result ≡ first_fails (P.passes test.now) self.now.1 }
     {
         match self.peek() {
             Some(item) => !test.test(item),
@@ -198,7 +198,7 @@ pub(crate) fn split_at_first<T, P: Predicate<T>>(chain: Chain<T>, test: &P) -> (
     ensures whole { chain ≡ result.0 ++ result.1 }
 {
     let mut cursor = Cursor::at_front(chain);
-    while cursor.is_before_other(test) {
+    while cursor.next_fails(test) {
         cursor = cursor.advance();
     }
     cursor.split()

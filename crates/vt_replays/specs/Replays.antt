@@ -118,6 +118,7 @@ replayed = simulation_of (hop_handlers one_hop) two_workers
 abbrev pub hop_record : Time → ℕ → ℕ → Record
 hop_record time p value = record { time = time; lp = p; kind = 1; value = value }
 
+-- the stamp of a worker with this serial
 abbrev pub stamp : ℕ → ℕ → Stamp
 stamp w serial = record { worker = w; serial = serial }
 
@@ -147,6 +148,7 @@ a_round = ok (Cut 0) ∷ ok (Cut 1) ∷ replies (Report 0) Waiting ∷ replies (
 abbrev pub to_the_close : List Line
 to_the_close = a_round ++ ok (Cut 0) ∷ ok (Commit 0) ∷ ok (Commit 1) ∷ ok Close ∷ []
 
+-- all of it
 abbrev pub straggler : List Line
 straggler = in_order ++ to_the_close
 
@@ -154,6 +156,7 @@ straggler = in_order ++ to_the_close
 abbrev pub four_records : List Record
 four_records = hop_record 1 0 1 ∷ hop_record 2 1 1 ∷ hop_record 2 1 258 ∷ hop_record 3 0 258 ∷ []
 
+-- the book is closed and shows the whole run
 abbrev pub whole_run_shown : Shown
 whole_run_shown = record { announced = 10; floor = 10; least = 10; records = four_records }
 
@@ -186,6 +189,7 @@ unequal_counts =
     ok (Home 0) ∷ ok (Home 1) ∷ ok (Execute 0) ∷ ok (Send 0 1) ∷ ok (Cut 0) ∷ ok (Cut 1) ∷ replies (Report 0) Waiting
     ∷ replies (Report 1) Again ∷ ok (Fetch 1) ∷ replies (Report 0) Waiting ∷ replies (Report 1) (Announced 2) ∷ []
 
+-- nothing is committed yet
 abbrev pub unequal_counts_shown : Shown
 unequal_counts_shown = record { announced = 2; floor = 0; least = 2; records = [] }
 
@@ -202,6 +206,7 @@ travelling_least =
 abbrev pub below_3 : List Record
 below_3 = hop_record 1 0 1 ∷ hop_record 2 1 1 ∷ hop_record 2 1 258 ∷ []
 
+-- what is before 3 is committed
 abbrev pub travelling_least_shown : Shown
 travelling_least_shown = record { announced = 3; floor = 3; least = 3; records = below_3 }
 
@@ -212,9 +217,10 @@ travelling_least_shown = record { announced = 3; floor = 3; least = 3; records =
 abbrev pub fetched_least : List Line
 fetched_least =
     ok (Home 0) ∷ ok (Home 1) ∷ ok (Execute 1) ∷ ok (Execute 0) ∷ ok (Send 0 1) ∷ ok (Fetch 1)
-    ∷ ok (Cut 0) ∷ ok (Cut 1) ∷ replies (Report 0) Waiting ∷ replies (Report 1) (Announced 2)
+    ∷ not_lawful (Fetch 1) ∷ ok (Cut 0) ∷ ok (Cut 1) ∷ replies (Report 0) Waiting ∷ replies (Report 1) (Announced 2)
     ∷ ok (Commit 1) ∷ ok (Accept 1 0) ∷ not_lawful (Execute 1) ∷ ok (Undo 1) ∷ []
 
+-- nothing is committed yet
 abbrev pub fetched_least_shown : Shown
 fetched_least_shown = record { announced = 2; floor = 0; least = 2; records = [] }
 
@@ -240,18 +246,25 @@ row_at_floor =
     ∷ ok (Cancel 0 (stamp 1 1)) ∷ ok (Execute 0) ∷ ok (Cut 1) ∷ replies (Report 1) Waiting
     ∷ replies (Report 0) (Announced 10) ∷ ok (Commit 0) ∷ not_lawful Close ∷ []
 
+-- the row at 3 is in the book and is not shown
 abbrev pub row_at_floor_shown : Shown
 row_at_floor_shown = record { announced = 10; floor = 3; least = 10; records = below_3 }
 
+-- worker 1 then learns the second announced time by a cut and commits: the whole run is in the book, and it is closed
+abbrev pub second_round_closes : List Line
+second_round_closes = row_at_floor ++ ok (Cut 1) ∷ ok (Commit 1) ∷ ok Close ∷ []
+
 -- ---- what a round refuses
 
--- nobody cuts twice in a round, reports before all have cut, or reports twice; and there are two workers and two processes
+-- nobody cuts twice in a round, reports before all have cut, or reports twice; nobody sends where nothing is for the other;
+-- and there are two workers and two processes
 abbrev pub one_round : List Line
 one_round =
-    not_lawful (Report 0) ∷ ok (Cut 0) ∷ not_lawful (Cut 0) ∷ not_lawful (Report 0) ∷ not_lawful (Cut 2) ∷ ok (Cut 1)
+    not_lawful (Send 0 1) ∷ not_lawful (Report 0) ∷ ok (Cut 0) ∷ not_lawful (Cut 0) ∷ not_lawful (Report 0) ∷ not_lawful (Cut 2) ∷ ok (Cut 1)
     ∷ replies (Report 0) Waiting ∷ not_lawful (Report 0) ∷ not_lawful (Report 2) ∷ replies (Report 1) (Announced 1)
     ∷ not_lawful (Report 1) ∷ not_lawful (Execute 2) ∷ not_lawful (Send 0 2) ∷ not_lawful (Commit 2) ∷ []
 
+-- the first events of the processes are at 1 and 2
 abbrev pub one_round_shown : Shown
 one_round_shown = record { announced = 1; floor = 0; least = 1; records = [] }
 
@@ -269,9 +282,11 @@ alone =
 abbrev pub until_one : Simulation ℕ Token
 until_one = simulation_of (hop_handlers two_hops) (config_of 2 1 1 (lit≤ tt) (lit≤ tt) (lit≤ tt) (lit≤ tt) (lit≤ tt) (lit≤ tt))
 
+-- one round, a commit and the close
 abbrev pub no_events : List Line
 no_events = ok (Cut 0) ∷ replies (Report 0) (Announced 1) ∷ ok (Commit 0) ∷ ok Close ∷ []
 
+-- the end of the run is reached
 abbrev pub no_events_shown : Shown
 no_events_shown = record { announced = 1; floor = 1; least = 1; records = [] }
 
@@ -281,8 +296,22 @@ no_events_shown = record { announced = 1; floor = 1; least = 1; records = [] }
 abbrev pub undo_without_cause : List Line
 undo_without_cause = ok (Home 0) ∷ ok (Execute 0) ∷ not_lawful (Undo 0) ∷ []
 
+-- what process 0 sent and process 1 begins with, both at 2 or later, are left
 abbrev pub undo_without_cause_shown : Shown
 undo_without_cause_shown = record { announced = 0; floor = 0; least = 2; records = [] }
+
+-- ---- an undo without a cause of its own
+
+-- an event at the same time but of greater rank, an anti-message that waits for a later event, and a later event: none of
+-- them makes an undo lawful
+abbrev pub undo_without_cause_of_its_own : List Line
+undo_without_cause_of_its_own =
+    ok (Home 0) ∷ ok (Home 1) ∷ ok (Execute 1) ∷ ok (Execute 0) ∷ ok (Send 0 1) ∷ ok (Fetch 1) ∷ ok (Accept 1 0)
+    ∷ ok (Undo 1) ∷ ok (Execute 1) ∷ not_lawful (Undo 1) ∷ ok (Execute 1) ∷ ok (Send 1 0) ∷ ok (Fetch 0)
+    ∷ ok (Accept 0 1) ∷ not_lawful (Undo 0) ∷ ok (Accept 0 0) ∷ not_lawful (Undo 0) ∷ []
+
+abbrev pub undo_without_cause_of_its_own_shown : Shown
+undo_without_cause_of_its_own_shown = record { announced = 0; floor = 0; least = 3; records = [] }
 
 -- ---- one worker commits alone
 
@@ -290,6 +319,7 @@ undo_without_cause_shown = record { announced = 0; floor = 0; least = 2; records
 abbrev pub one_commits : List Line
 one_commits = in_order ++ a_round ++ ok (Commit 1) ∷ []
 
+-- worker 0 has handed in nothing
 abbrev pub one_commits_shown : Shown
 one_commits_shown = record { announced = 10; floor = 0; least = 10; records = [] }
 
@@ -310,31 +340,37 @@ pub record EndsWith {P : Type 0} (sim : Simulation ℕ P) (p state number : ℕ)
   pub state_is : (after sim p (seq_events sim p sim.end)).state ≡ state
   pub number_is : (after sim p (seq_events sim p sim.end)).number ≡ number
 
--- two hops to the end at 10, and to an end at 4
+-- two hops, to the end at 10
 abbrev pub two_hops_run : Simulation ℕ Token
 two_hops_run = simulation_of (hop_handlers two_hops) one_worker
 
+-- the same to an end at 4: the sends for 4 and 5 take send numbers and are not sent
 abbrev pub one_worker_to_4 : Config
 one_worker_to_4 = config_of 2 1 4 (lit≤ tt) (lit≤ tt) (lit≤ tt) (lit≤ tt) (lit≤ tt) (lit≤ tt)
 
+-- two hops, to the end at 4
 abbrev pub two_hops_run_to_4 : Simulation ℕ Token
 two_hops_run_to_4 = simulation_of (hop_handlers two_hops) one_worker_to_4
 
--- three processes, one hop two processes further in one tick, and an end at 3
+-- one hop, two processes further, in one tick
 abbrev pub two_further : Hop
 two_further = hop_of 1 2 1 (lit≤ tt) (lit≤ tt) (lit≤ tt) (lit≤ tt)
 
+-- three processes, and an end at 3
 abbrev pub three_processes : Config
 three_processes = config_of 3 1 3 (lit≤ tt) (lit≤ tt) (lit≤ tt) (lit≤ tt) (lit≤ tt) (lit≤ tt)
 
+-- one hop among three processes
 abbrev pub three_processes_run : Simulation ℕ Token
 three_processes_run = simulation_of (hop_handlers two_further) three_processes
 
+-- the records of two hops to the end at 10
 abbrev pub six_records : List Record
 six_records =
     hop_record 1 0 1 ∷ hop_record 2 1 2 ∷ hop_record 3 1 513 ∷ hop_record 4 0 258 ∷ hop_record 5 0 66049
     ∷ hop_record 6 1 131330 ∷ []
 
+-- and to the end at 4
 abbrev pub three_records : List Record
 three_records = hop_record 1 0 1 ∷ hop_record 2 1 2 ∷ hop_record 3 1 513 ∷ []
 

@@ -15,8 +15,6 @@ abbrev pub is_clear : Option Bool → Bool
 is_clear None = false
 is_clear (Some flag) = not flag
 
--- ---- Cut
-
 -- the board with a round open: the one that is, or a new one, in which nobody has cut or reported
 unfoldable pub with_open_round : Time → Board → Board
 with_open_round end board =
@@ -38,8 +36,6 @@ cut_board end w board =
     if is_clear (slice_get open_board.has_cut w)
     then Some (record open_board { has_cut = slice_set open_board.has_cut w true })
     else None
-
--- ---- Report
 
 -- w may report this value: a round is open, all have cut, w has not reported in this pass, and the value is at least the
 -- announced time

@@ -19,6 +19,7 @@ module _ {P : Type 0} where
   abbrev pub letter_weight : (Sign → Event P → ℕ) → Letter P → ℕ
   letter_weight f letter = f letter.sign letter.event
 
+  -- mail weighs what its letter does
   abbrev pub mail_weight : (Sign → Event P → ℕ) → Mail P → ℕ
   mail_weight f mail = letter_weight f mail.letter
 
@@ -41,6 +42,7 @@ module _ {P : Type 0} where
   abbrev pub process_entries : (Entry P → ℕ) → LogicalProcess P → ℕ
   process_entries g process = sum_by g process.done + sum_by g process.past
 
+  -- the weight of the entries of a part
   abbrev pub part_entries : (Entry P → ℕ) → Part P → ℕ
   part_entries g part = sum_by (process_entries g) part.processes
 

@@ -46,10 +46,11 @@ module _ {P : Type 0} where
         accept_process (signed Minus event) process ≡ Some with_one → accept_process (signed Plus event) with_one.process ≡ Some with_both →
         cancel_process event.rank.stamp with_both.process ≡ Some (unchanged process)
 
-  -- how much mail of a colour all workers have sent, and have got
+  -- how much mail of a colour all workers have sent
   abbrev pub mail_sent : Colour → World P → ℕ
   mail_sent colour world = sum_by (λ part. count_of part.sent colour) world.parts
 
+  -- and have got
   abbrev pub mail_got : Colour → World P → ℕ
   mail_got colour world = sum_by (λ part. count_of part.got colour) world.parts
 

@@ -13,8 +13,6 @@ use Rattle.vt_key.specs.declared.letter.Colour.{Colour}
 use Rattle.vt_key.specs.declared.letter.Colour.TheVariants.{White, Red}
 use Rattle.vt_model.specs.declared.sending.Sent.{Sent}
 
--- ---- events and stamps
-
 module _ {P : Type 0} where
   -- an event as the model knows it: without its stamp
   abbrev pub unstamped : Event P → Sent P
@@ -67,8 +65,6 @@ without_first test (x ∷ xs) = if test x then xs else x ∷ without_first test 
 abbrev pub is_empty : {X : Type 0} → List X → Bool
 is_empty [] = true
 is_empty (x ∷ xs) = false
-
--- ---- colours
 
 -- the two colours are one
 abbrev pub is_colour : Colour → Colour → Bool

@@ -26,6 +26,7 @@ module _ {P : Type 0} where
   abbrev pub refused : World P → Fault → Outcome P
   refused world fault = record { world = world; answer = Err fault }
 
+  -- a step that is done
   abbrev pub replied : World P → Reply → Outcome P
   replied world reply = record { world = world; answer = Ok reply }
 
@@ -46,6 +47,7 @@ module _ {P : Type 0} where
   abbrev pub may_send : {S : Type 0} → Simulation S P → ℕ → ℕ → Part P → Bool
   may_send sim w v part = not (nat_eq w v) && list_any (is_for sim v) part.outbox
 
+  -- its effect: what is for v goes to the back of the inbox of v
   unfoldable pub send : {S : Type 0} → Simulation S P → World P → ℕ → ℕ → Option (Part P) → Option (List (Mail P)) → Option (World P)
   send sim world w v (Some part) (Some inbox) =
       if may_send sim w v part then Some (record world {

@@ -91,9 +91,7 @@ module _ {S P : Type 0} (sim : Simulation S P) where
   unfoldable pub mail_of_send : ℕ → Part P → List (Mail P)
   mail_of_send v part = map (λ letter. record { letter = letter; colour = part.colour }) (letters_for v part)
 
--- ---- Fetch
-
--- what was in the inbox has arrived, and is counted by colour
+-- Fetch: what was in the inbox has arrived, and is counted by colour
 unfoldable pub part_after_fetch : {P : Type 0} → List (Mail P) → Part P → Part P
 part_after_fetch inbox part =
     record part {
@@ -101,9 +99,7 @@ part_after_fetch inbox part =
       got = raised (raised part.got White (count_colour White inbox)) Red (count_colour Red inbox);
     }
 
--- ---- Cut
-
--- the worker takes the other colour, has sent nothing in it, and learns the announced time
+-- Cut: the worker takes the other colour, has sent nothing in it, and learns the announced time
 unfoldable pub part_after_cut : Time → Time → {P : Type 0} → Part P → Part P
 part_after_cut end announced part =
     record part { colour = other_colour part.colour; red_minimum = end; floor = announced }
@@ -111,10 +107,11 @@ part_after_cut end announced part =
 -- ---- Report
 
 module _ {P : Type 0} where
-  -- how much mail of the colour that it has left the worker sent, and how much of it the worker got
+  -- how much mail of the colour that it has left the worker sent
   abbrev pub report_sent : Part P → ℕ
   report_sent part = count_of part.sent (other_colour part.colour)
 
+  -- and how much of it the worker got
   abbrev pub report_got : Part P → ℕ
   report_got part = count_of part.got (other_colour part.colour)
 

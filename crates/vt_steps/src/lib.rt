@@ -4,10 +4,13 @@
 //! no state of a model stands in a world, since the state of a logical process is what its executed events make of it.
 #![tactic(auto)]
 
+mod histories;
 mod laws;
 mod memory;
 mod step;
+mod theorem;
 
+pub use histories::{copies_are_right, histories_are_right, letters_are_delivered, ranks_rise};
 pub use laws::{
     letters_annihilate, letters_are_kept, local_steps_change_one_part, mail_is_kept,
     refused_steps_change_nothing, reports_are_answered, steps_act_on_one_cell,
@@ -17,3 +20,6 @@ pub use memory::{
     memory_is_where_the_history_leads, values_stay_reached,
 };
 pub use step::{Reply, Step};
+pub use theorem::{
+    closed_book_is_whole, floors_are_right, guards_never_fail, headline, records_are_right,
+};

@@ -1,6 +1,6 @@
 use Rattle.std.proofs.Common.{rules, [], ◌∷◌, ◌++◌, map, length, List, slice_index_or, sym, ap, ◌∙◌, arith}
 use Rattle.vt_list.specs.Blocks.{places, place_at}
-use Rattle.vt_list.specs.Linked.{Placed, with_next}
+use Rattle.vt_list.specs.Linked.{NodeAt, with_next}
 use Rattle.vt_list.specs.declared.node.Node.{Node}
 use Rattle.vt_list.proofs.Links.{last-of, take-last, drop-last, with_next-snoc}
 use Rattle.vt_list.proofs.node.set_last_next.Goals as goal
@@ -23,7 +23,7 @@ returns g c =
     let front = c.split-front.ensures.0 ∙ take-last p bs l in
     let end = c.split-front.ensures.1 ∙ drop-last p bs l in
     let node = c.get.result.now in
-    let read = c.get.ensures ∙ ap (λ (cs : List (Placed g.row.T.Denot)). (slice_index_or cs 0 (p, node)).1) end in
-    let written = c.set_links.ensures ∙ ap (map (λ (b : Placed g.row.T.Denot). (b.0, record b.1 { next = z; prev = node.prev }))) end in
+    let read = c.get.ensures ∙ ap (λ (cs : List (NodeAt g.row.T.Denot)). (slice_index_or cs 0 (p, node)).1) end in
+    let written = c.set_links.ensures ∙ ap (map (λ (b : NodeAt g.row.T.Denot). (b.0, record b.1 { next = z; prev = node.prev }))) end in
     c.append.ensures ∙ (λ i. front i ++ written i) ∙ ap (λ (n : Node g.row.T.Denot). l.front ++ (p, record l.content { next = z; prev = n.prev }) ∷ []) read
     ∙ sym (ap (with_next z) l.is ∙ with_next-snoc z l.front (p, l.content))
