@@ -253,6 +253,11 @@ pub rising-left : {X : Type 0} (R : X → X → Type 0) (xs ys : List X) → Ris
 rising-left R [] ys h = tt
 rising-left R (x ∷ xs) ys h = (every-left (R x) xs ys h.0, rising-left R xs ys h.1)
 
+-- the rest of a rising list
+pub rising-right : {X : Type 0} (R : X → X → Type 0) (xs ys : List X) → Rising R (xs ++ ys) → Rising R ys
+rising-right R [] ys h = h
+rising-right R (x ∷ xs) ys h = rising-right R xs ys h.1
+
 -- each of the front stands before each of the rest
 pub rising-across : {X : Type 0} (R : X → X → Type 0) (xs ys : List X) → Rising R (xs ++ ys) → (x y : X) → Among x xs → Among y ys → R x y
 rising-across R [] ys h x y m n = elim m [ ]
