@@ -16,13 +16,13 @@ ghost use Rattle.vt_program.specs.Refusals.{TellsRefusal, status_of};
 ghost use Rattle.vt_program.specs.Outcomes.{IsDone, EndsBy};
 
 pub use refusal::tell_refusal;
-pub use vt_text::print_records;
 use simulation::simulate;
 use std::alloc::Global;
 use std::convert::AsStr;
 use std::io::{Read, Write};
 use vt_command::{Request, read_request};
 use vt_key::Fault;
+pub use vt_text::print_records;
 use vt_text::write_bytes;
 
 /// Does what the words ask for.
