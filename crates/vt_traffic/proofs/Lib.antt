@@ -1,0 +1,3 @@
+pub mod DrawLemmas
+pub mod RequestLemmas
+pub mod TrafficSteps

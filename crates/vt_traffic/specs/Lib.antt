@@ -1,0 +1,6 @@
+pub mod Options
+pub mod Drawn
+pub mod DrawnLaws
+pub mod Junction
+pub mod Traffic
+pub mod TrafficLaws
