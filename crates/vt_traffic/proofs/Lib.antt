@@ -1,3 +1,6 @@
 pub mod DrawLemmas
 pub mod RequestLemmas
 pub mod TrafficSteps
+pub mod CarLemmas
+pub mod DistinctLemmas
+pub mod KeptLemmas

@@ -3,4 +3,5 @@ pub mod Drawn
 pub mod DrawnLaws
 pub mod Junction
 pub mod Traffic
+pub mod Cars
 pub mod TrafficLaws

@@ -4,6 +4,8 @@
 
 mod grid;
 mod junction;
+mod law;
 
 pub use grid::{MAX_CARS, MAX_GREEN, MAX_TRAVEL, MAX_TURNING, Traffic};
 pub use junction::{Junction, JunctionEvent, PASSED, Road, WAITING};
+pub use law::cars_are_kept;
