@@ -2,6 +2,9 @@
 //! event by event, whose records are printed.
 #![tactic(auto)]
 
+#[cfg(test)]
+mod tests;
+
 use vt_key::Time;
 use vt_model::Config;
 use vt_seq::Sequential;
@@ -14,10 +17,10 @@ const COLUMNS: u32 = 4;
 const ROWS: u32 = 3;
 
 // The cars that wait on each road of each junction at the start.
-const CARS: u32 = 3;
+const CARS: u32 = 4;
 
 // The time between two changes of the lights, in ticks.
-const GREEN: u32 = 8;
+const GREEN: u32 = 12;
 
 // The shortest passage to the next junction, in ticks.
 const TRAVEL: u32 = 5;
@@ -26,7 +29,7 @@ const TRAVEL: u32 = 5;
 const TURNING: u32 = 25;
 
 // The end of the run, in ticks.
-const END: Time = 60;
+const END: Time = 100;
 
 // The seed of the run's random words.
 const SEED: u64 = 1;
