@@ -1,7 +1,7 @@
 -- What a handler's contract says is what the simulation's firing is.
 use Rattle.std.proofs.Common.{◌≡◌, ℕ, ◌+◌, ◌%◌, ◌^◌, [], ◌∙◌, ap}
 use Rattle.vt_model.specs.declared.sending.Sent.{Sent}
-use Rattle.vt_model.specs.Words.{Stream, seed_key, word, word_of, moved}
+use Rattle.vt_stream.specs.Words.{Stream, seed_key, word, word_of, moved}
 use Rattle.vt_model.specs.Sends.{Outgoing, with_requests}
 use Rattle.vt_model.specs.Handler.{ForwardResult}
 use Rattle.vt_model.specs.Simulation.{Triple, words_at, rows_of, fire_of, IsFiring}

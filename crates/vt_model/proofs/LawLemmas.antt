@@ -5,12 +5,12 @@ use Rattle.std.proofs.lemmas.List.Elements.{All-head, All-tail}
 use Rattle.std.proofs.lemmas.Bool.{lt-ltb, le-ltb, ltb-true, ltb-false}
 use Rattle.vt_model.specs.declared.sending.Sent.{Sent}
 use Rattle.vt_model.specs.declared.settings.Config.{Config}
-use Rattle.vt_model.specs.Words.{seed_key}
+use Rattle.vt_stream.specs.Words.{seed_key}
 use Rattle.vt_model.specs.Sends.{SendRequest, sent_event, sent_events}
 use Rattle.vt_model.specs.Handler.{Handlers, IsSendable, IsWithinLimits, AreWords}
 use Rattle.vt_model.specs.Simulation.{Triple, words_at, start_of, fire_of, simulation_of, after, after_from}
 use Rattle.vt_model.specs.Histories.{Among, AreNumbered, IsLawful}
-use Rattle.vt_model.proofs.WordLemmas.{word_below}
+use Rattle.vt_stream.proofs.WordLemmas.{word_below}
 use Rattle.vt_model.proofs.RowLemmas.{has_rows}
 
 pub are_words : (seed p place : ℕ) → AreWords (words_at seed p place)

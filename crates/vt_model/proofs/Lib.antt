@@ -1,4 +1,3 @@
-pub mod WordLemmas
 pub mod SendLemmas
 pub mod FireLemmas
 pub mod RowLemmas

@@ -4,7 +4,7 @@ use Rattle.vt_key.specs.Times.{Time, TimeBefore}
 use Rattle.vt_key.specs.declared.limits.TheConstants.{MAX_PROCESSES, MAX_END, MAX_COUNT}
 use Rattle.vt_model.specs.declared.flags.Bits.{Bits}
 use Rattle.vt_model.specs.declared.limits.TheConstants.{MAX_DRAWS, MAX_SENDS, MAX_RECORDS}
-use Rattle.vt_model.specs.Words.{Stream}
+use Rattle.vt_stream.specs.Words.{Stream}
 use Rattle.vt_model.specs.Sends.{SendRequest, RecordRequest, Outgoing}
 
 -- what a start gives: the first state, how many words it drew, and what it asks to be sent

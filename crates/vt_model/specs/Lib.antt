@@ -1,4 +1,3 @@
-pub mod Words
 pub mod Settings
 pub mod Sends
 pub mod Out

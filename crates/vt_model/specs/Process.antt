@@ -1,6 +1,6 @@
 -- A process as a simulator keeps it.
 use Rattle.std.specs.Prelude.{◌≡◌, ℕ}
-use Rattle.vt_model.specs.Words.{Stream, seed_key}
+use Rattle.vt_stream.specs.Words.{Stream, seed_key}
 use Rattle.vt_model.specs.Simulation.{Triple}
 
 -- where a process stands, by what is kept of it

@@ -7,7 +7,7 @@ use Rattle.vt_model.specs.declared.rows.Record.{Record}
 use Rattle.vt_model.specs.declared.rows.Row.{Row}
 use Rattle.vt_model.specs.declared.sending.Sent.{Sent}
 use Rattle.vt_model.specs.declared.settings.Config.{Config}
-use Rattle.vt_model.specs.Words.{Stream, seed_key, word}
+use Rattle.vt_stream.specs.Words.{Stream, seed_key, word}
 use Rattle.vt_model.specs.Sends.{Outgoing, sent_events, requested_records}
 use Rattle.vt_model.specs.Handler.{Handlers, StartResult, ForwardResult}
 

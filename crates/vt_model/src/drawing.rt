@@ -1,11 +1,11 @@
 //! The random words that one handler draws.
 
 ghost use Rattle.std.specs.Prelude.{◌≡◌, ◌+◌, ◌*◌, ◌/◌, ◌^◌, ◌<◌, ◌≤◌, ◌↔◌, IsTrue};
-ghost use Rattle.vt_model.specs.Words.{word_of, moved};
+ghost use Rattle.vt_stream.specs.Words.{word_of, moved};
 ghost use Rattle.vt_model.specs.Handler.{IsUndrawn};
 
 use crate::MAX_DRAWS;
-use crate::stream::LpStream;
+use vt_stream::LpStream;
 
 /// What a handler draws its random words from: at most [`MAX_DRAWS`] of them. The kernel gives the words back by itself
 /// when it undoes the event.

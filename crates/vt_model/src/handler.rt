@@ -2,7 +2,7 @@
 
 ghost use Rattle.std.specs.Prelude.{◌≡◌, ◌<◌, ◌≤◌, ◌^◌, ℕ, []};
 ghost use Rattle.vt_key.specs.Times.{Time};
-ghost use Rattle.vt_model.specs.Words.{word_of, moved};
+ghost use Rattle.vt_stream.specs.Words.{word_of, moved};
 ghost use Rattle.vt_model.specs.Sends.{with_requests};
 ghost use Rattle.vt_model.specs.Handler.{Handlers, IsWithinLimits, IsFresh, IsUndrawn, AreWords};
 ghost use prog.Memory.{size, align};

@@ -13,8 +13,12 @@ mod process;
 mod rows;
 mod sending;
 mod settings;
-pub mod stream;
 mod theorem;
+
+/// The random words that a model draws.
+pub mod stream {
+    pub use vt_stream::LpStream;
+}
 
 pub use drawing::Draws;
 pub use flags::Bits;

@@ -3,13 +3,13 @@
 
 ghost use Rattle.std.specs.Prelude.{◌≡◌, ◌+◌, ◌-◌, ◌%◌, ◌<◌, ◌≤◌, ◌^◌};
 ghost use Rattle.vt_key.specs.Times.{TimeBefore};
-ghost use Rattle.vt_model.specs.Words.{moved};
+ghost use Rattle.vt_stream.specs.Words.{moved};
 ghost use Rattle.vt_model.specs.Simulation.{simulation_of, IsFiring};
 ghost use Rattle.vt_model.specs.Process.{triple_at, IsProcessStream};
 
-use crate::stream::LpStream;
 use crate::{Bits, Config, Draws, MAX_DRAWS, Model as EventModel, Out, Sent};
 use vt_key::MAX_COUNT;
+use vt_stream::LpStream;
 
 /// A logical process: its state, its next send number and its random words. For simulators.
 #[derive(Drop)]

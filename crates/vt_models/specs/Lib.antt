@@ -1,4 +1,10 @@
 pub mod Options
+pub mod Drawn
+pub mod DrawnLaws
 pub mod Hop
 pub mod Rotation
 pub mod HopLaws
+pub mod Phold
+pub mod PholdLaws
+pub mod Stations
+pub mod StationsLaws

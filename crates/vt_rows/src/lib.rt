@@ -3,6 +3,10 @@
 #![tactic(auto)]
 
 #[cfg(test)]
+mod models;
+#[cfg(test)]
 mod pieces;
 #[cfg(test)]
 mod sequential;
+#[cfg(test)]
+mod streams;

@@ -3,7 +3,7 @@ use Rattle.std.proofs.Common.{◌≡◌, ℕ, ◌+◌, ◌%◌, ◌^◌, ◌≤�
 use Rattle.std.proofs.lemmas.Bool.{eqb-true, eq-eqb}
 use Rattle.std.proofs.Common.{length-append}
 use Rattle.vt_model.specs.declared.sending.Sent.{Sent}
-use Rattle.vt_model.specs.Words.{Stream, seed_key, word_of, moved}
+use Rattle.vt_stream.specs.Words.{Stream, seed_key, word_of, moved}
 use Rattle.vt_model.specs.Sends.{Outgoing, with_requests}
 use Rattle.vt_model.specs.Handler.{StartResult}
 use Rattle.vt_model.specs.Simulation.{Fired, words_at, start_of}

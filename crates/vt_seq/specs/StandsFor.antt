@@ -6,7 +6,7 @@ use Rattle.vt_key.specs.declared.limits.TheConstants.{MAX_COUNT}
 use Rattle.vt_model.specs.declared.process.Process.{Process}
 use Rattle.vt_model.specs.declared.rows.Record.{Record}
 use Rattle.vt_model.specs.declared.sending.Sent.{Sent}
-use Rattle.vt_model.specs.Words.{Stream}
+use Rattle.vt_stream.specs.Words.{Stream}
 use Rattle.vt_model.specs.Simulation.{Simulation, Fired, after}
 use Rattle.vt_model.specs.Sequential.{RunState, after_steps, events_of, rows_after, records_of}
 use Rattle.vt_model.specs.Histories.{Among, IsRising}

@@ -65,6 +65,16 @@ impl<'m, M: EventModel> Engine<'m, M> {
         Some(process.number)
     }
 
+    /// The place of process `p` in its random words now: how many words its start and its events have drawn, modulo 2^64.
+    /// None where there is no such process.
+    pub(crate) fn place(&self, p: u32) -> Option<u64>
+        ensures unknown { IfNone result (self.now.config.lps ≤ p) }
+        ensures value { let sim = simulation_of (M.handlers self.now.model.now) self.now.config in (n : ℕ) → StandsAt sim n self.now.pending.items self.now.processes.items self.now.records.items → IfSome result (λ v. (p < self.now.config.lps) × (v ≡ (after sim p (events_of p (after_steps sim n).executed)).place)) }
+    {
+        let process = self.processes.get(p as usize)?;
+        Some(process.stream.place())
+    }
+
     /// The records of the events executed so far before time `t`, in the order of their rows.
     ///
     /// [`Fault::Memory`]: memory was refused.

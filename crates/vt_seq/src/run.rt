@@ -60,6 +60,15 @@ impl<'m, M: EventModel> Sequential<'m, M> {
         self.engine.number(p)
     }
 
+    /// The place of process `p` in its random words now: how many words its start and its events have drawn, modulo 2^64.
+    /// None where there is no such process.
+    pub fn place(&self, p: u32) -> Option<u64>
+        ensures unknown { IfNone result (self.now.config.lps ≤ p) }
+        ensures value { let sim = simulation_of (M.handlers self.now.model) self.now.config in (n : ℕ) → IsAfter sim n self.now → IfSome result (λ v. (p < self.now.config.lps) × (v ≡ (after sim p (events_of p (after_steps sim n).executed)).place)) }
+    {
+        self.engine.place(p)
+    }
+
     /// The records of the events executed so far before time `t`, in the order of their rows.
     ///
     /// [`Fault::Memory`]: memory was refused.

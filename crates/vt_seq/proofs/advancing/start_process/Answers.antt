@@ -1,10 +1,10 @@
 use Rattle.std.proofs.Common.{◌≡◌, ◌+◌, ◌<◌, ◌^◌, ◌≤◌, ◌∙◌, [], ap, arith, max, rules}
 use prog.Memory.{up, align, size}
 use denote.Memory.{lone}
-use Rattle.vt_model.specs.Words.{word_of, moved}
+use Rattle.vt_stream.specs.Words.{word_of, moved}
 use Rattle.vt_model.specs.Sends.{Outgoing, with_requests}
 use Rattle.vt_model.specs.Simulation.{words_at}
-use Rattle.vt_model.proofs.WordLemmas.{word_below}
+use Rattle.vt_stream.proofs.WordLemmas.{word_below}
 use Rattle.vt_seq.specs.Queue.{all_inserted}
 use Rattle.vt_seq.proofs.Sizes.{up_le}
 use Rattle.vt_seq.proofs.StartLemmas.{starts}

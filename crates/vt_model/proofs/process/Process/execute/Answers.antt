@@ -1,8 +1,8 @@
 use Rattle.std.proofs.Common.{◌<◌, ◌∙◌, sym, arith, refl, subst}
-use Rattle.vt_model.specs.Words.{word_of, moved}
+use Rattle.vt_stream.specs.Words.{word_of, moved}
 use Rattle.vt_model.specs.Sends.{with_requests}
 use Rattle.vt_model.proofs.FireLemmas.{fires}
-use Rattle.vt_model.proofs.WordLemmas.{word_below}
+use Rattle.vt_stream.proofs.WordLemmas.{word_below}
 use Rattle.vt_model.proofs.process.Process.execute.Goals as goal
 
 pub returns-clause-fires : goal.returns-clause-fires

@@ -1,0 +1,17 @@
+use Rattle.std.proofs.Common.{refl}
+use Rattle.clap.proofs.OnLiterals.{clap_on_literals}
+use Rattle.vt_command.proofs.laws.defaults_are_read.Goals as goal
+
+pub returns : goal.returns
+unfolding clap_on_literals
+returns c = record {
+  run = record { accepted = refl; subcommand = refl };
+  options = record {
+    model = refl;
+    synch = refl;
+    config = record { workers = refl; lps = refl; end = refl; seed = refl };
+    hop = record { hops = refl; stride = refl; delay = refl };
+    turns = refl;
+    all_good = refl;
+  };
+}

@@ -1,0 +1,14 @@
+use Rattle.std.proofs.Common.{refl, inl, inr}
+use Rattle.clap.proofs.OnLiterals.{clap_on_literals}
+use Rattle.clap.specs.declared.error.kind.ErrorKind.TheVariants as kind
+use Rattle.vt_command.proofs.laws.other_lines_have_no_meaning.Goals as goal
+
+pub returns : goal.returns
+unfolding clap_on_literals
+returns c = record {
+  nothing = inr (record { accepted = refl; subcommand = λ e. cc });
+  replay = inl (kind.UnknownArgument, (λ e. cc), inl refl);
+  unknown = inl (kind.UnknownArgument, (λ e. cc), inl refl);
+  twice = inl (kind.ArgumentConflict, (λ e. cc), inl refl);
+  no_value = inl (kind.InvalidValue, (λ e. cc), inl refl);
+}

@@ -1,0 +1,29 @@
+-- The options that texts give.
+use Rattle.std.specs.Prelude.{◌≡◌, Some, None, codes}
+use Rattle.vt_model.specs.declared.settings.Config.{Config}
+use Rattle.vt_models.specs.declared.hop.Hop.{Hop}
+use Rattle.vt_command.specs.declared.choices.Options.{Options}
+use Rattle.vt_command.specs.Table
+use Rattle.vt_command.specs.Table.{Given, value_in, model_in, synch_in, first_bad}
+
+-- the numbers of a run
+pub record GiveConfig (given : Given) (c : Config) : Type 0 where
+  pub workers : value_in given Table.workers ≡ Some c.workers
+  pub lps : value_in given Table.lps ≡ Some c.lps
+  pub end : value_in given Table.end ≡ Some c.end
+  pub seed : value_in given Table.seed ≡ Some c.seed
+
+-- the hop model
+pub record GiveHop (given : Given) (m : Hop) : Type 0 where
+  pub hops : value_in given Table.hops ≡ Some m.hops
+  pub stride : value_in given Table.stride ≡ Some m.stride
+  pub delay : value_in given Table.delay ≡ Some m.delay
+
+-- the options of a run: each is in its range, whether its model is used or not, and these are the values
+pub record GiveOptions (given : Given) (o : Options) : Type 0 where
+  pub model : model_in (given (codes "model")) ≡ Some o.model
+  pub synch : synch_in (given (codes "synch")) ≡ Some o.synch
+  pub config : GiveConfig given o.config
+  pub hop : GiveHop given o.hop
+  pub turns : value_in given Table.turns ≡ Some o.turns
+  pub all_good : first_bad given ≡ None

@@ -1,0 +1,147 @@
+-- The table of options: what each may be, what it is where it isn't given, and which one is refused first.
+use Rattle.std.specs.Prelude.{ℕ, ◌==◌, ◌-◌, ◌^◌, List, [], ◌∷◌, Option, Some, None, if◌then◌else◌, codes, option_and_then}
+use Rattle.std.specs.Str.{bytes_eq}
+use Rattle.vt_key.specs.declared.limits.TheConstants.{MAX_WORKERS, MAX_PROCESSES, MAX_END}
+use Rattle.vt_model.specs.Settings.{is_between}
+use Rattle.vt_models.specs.declared.hop.TheConstants.{MAX_HOPS, MAX_STRIDE, MAX_DELAY}
+use Rattle.vt_text.specs.Numbers.{number_of}
+use Rattle.vt_command.specs.declared.choices.ModelName.{ModelName}
+use Rattle.vt_command.specs.declared.choices.ModelName.TheVariants.{Hop}
+use Rattle.vt_command.specs.declared.choices.Synch.{Synch}
+use Rattle.vt_command.specs.declared.choices.Synch.TheVariants.{Sequential}
+use Rattle.vt_command.specs.declared.limits.TheConstants.{MAX_POPULATION, MAX_REMOTE, MAX_LOOKAHEAD, MAX_SPAN, MAX_JOBS, MAX_SERVICE, MAX_TRAVEL, MAX_TURNS}
+
+-- the text that a command line gives to an option, by the option's name
+abbrev pub Given : Type 0
+Given = List ℕ → Option (List ℕ)
+
+-- an option that is a number: its name, its range, and its default
+pub record NumberOption : Type 0 where
+  pub name : List ℕ
+  pub least : ℕ
+  pub most : ℕ
+  pub default : ℕ
+
+abbrev pub option : List ℕ → ℕ → ℕ → ℕ → NumberOption
+option name least most default = record { name = name; least = least; most = most; default = default }
+
+-- the options that are numbers
+abbrev pub workers : NumberOption
+workers = option (codes "workers") 1 MAX_WORKERS 1
+
+abbrev pub lps : NumberOption
+lps = option (codes "lps") 1 MAX_PROCESSES 2
+
+abbrev pub end : NumberOption
+end = option (codes "end") 1 MAX_END 10
+
+abbrev pub seed : NumberOption
+seed = option (codes "seed") 0 (2 ^ 64 - 1) 0
+
+abbrev pub hops : NumberOption
+hops = option (codes "hops") 0 MAX_HOPS 2
+
+abbrev pub stride : NumberOption
+stride = option (codes "stride") 0 MAX_STRIDE 1
+
+abbrev pub delay : NumberOption
+delay = option (codes "delay") 1 MAX_DELAY 2
+
+abbrev pub population : NumberOption
+population = option (codes "population") 0 MAX_POPULATION 1
+
+abbrev pub remote : NumberOption
+remote = option (codes "remote") 0 MAX_REMOTE 0
+
+abbrev pub lookahead : NumberOption
+lookahead = option (codes "lookahead") 1 MAX_LOOKAHEAD 1
+
+abbrev pub span : NumberOption
+span = option (codes "span") 1 MAX_SPAN 1
+
+abbrev pub jobs : NumberOption
+jobs = option (codes "jobs") 0 MAX_JOBS 1
+
+abbrev pub service : NumberOption
+service = option (codes "service") 1 MAX_SERVICE 1
+
+abbrev pub travel : NumberOption
+travel = option (codes "travel") 1 MAX_TRAVEL 1
+
+abbrev pub turns : NumberOption
+turns = option (codes "turns") 1 MAX_TURNS 10000000
+
+-- a number, where it is in the range
+abbrev pub if_between : ℕ → ℕ → ℕ → Option ℕ
+if_between least most n = if is_between least most n then Some n else None
+
+-- the number that a text gives: the default where there is none
+abbrev pub number_in : ℕ → ℕ → ℕ → Option (List ℕ) → Option ℕ
+number_in least most default None = Some default
+number_in least most default (Some text) = option_and_then (if_between least most) (number_of text)
+
+-- the value of an option, where it has one
+abbrev pub value_in : Given → NumberOption → Option ℕ
+value_in given o = number_in o.least o.most o.default (given o.name)
+
+-- the model of a name
+abbrev pub model_named : List ℕ → Option ModelName
+model_named text = if bytes_eq text (codes "hop") then Some Hop else None
+
+-- the model that a text gives: `hop` where there is none
+abbrev pub model_in : Option (List ℕ) → Option ModelName
+model_in None = Some Hop
+model_in (Some text) = model_named text
+
+-- the way of keeping order of a number
+abbrev pub synch_numbered : ℕ → Option Synch
+synch_numbered n = if n == 1 then Some Sequential else None
+
+-- the way of keeping order that a text gives: 1 where there is none
+abbrev pub synch_in : Option (List ℕ) → Option Synch
+synch_in None = Some Sequential
+synch_in (Some text) = option_and_then synch_numbered (number_of text)
+
+-- the name, where there is no value
+abbrev pub bad : {A : Type 0} → List ℕ → Option A → Option (List ℕ)
+bad name (Some value) = None
+bad name None = Some name
+
+-- the name of an option that has no value
+abbrev pub bad_number : Given → NumberOption → Option (List ℕ)
+bad_number given o = bad o.name (value_in given o)
+
+-- the first name, if there is one
+abbrev pub first_name : List (Option (List ℕ)) → Option (List ℕ)
+first_name [] = None
+first_name (Some name ∷ rest) = Some name
+first_name (None ∷ rest) = first_name rest
+
+-- the first of these options that has no value
+abbrev pub first_bad_of : Given → List NumberOption → Option (List ℕ)
+first_bad_of given [] = None
+first_bad_of given (o ∷ rest) = first_name (bad_number given o ∷ first_bad_of given rest ∷ [])
+
+-- the options that are numbers, by what they belong to, in the order in which they are tested
+abbrev pub config_table : List NumberOption
+config_table = workers ∷ lps ∷ end ∷ seed ∷ []
+
+abbrev pub hop_table : List NumberOption
+hop_table = hops ∷ stride ∷ delay ∷ []
+
+abbrev pub phold_table : List NumberOption
+phold_table = population ∷ remote ∷ lookahead ∷ span ∷ []
+
+abbrev pub stations_table : List NumberOption
+stations_table = jobs ∷ service ∷ travel ∷ []
+
+-- the first option that has no value, in the order in which they are tested: it is the one that is named
+abbrev pub first_bad : Given → Option (List ℕ)
+first_bad given = first_name (
+    bad (codes "model") (model_in (given (codes "model")))
+    ∷ bad (codes "synch") (synch_in (given (codes "synch")))
+    ∷ first_bad_of given config_table
+    ∷ first_bad_of given hop_table
+    ∷ first_bad_of given phold_table
+    ∷ first_bad_of given stations_table
+    ∷ bad_number given turns ∷ [])

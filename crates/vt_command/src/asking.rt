@@ -1,0 +1,70 @@
+//! What a command line asks for.
+
+ghost use Rattle.std.specs.Prelude.{◌≡◌, [], ℕ, List, IfOk, IfErr, map};
+ghost use Rattle.clap.specs.Words.{HasKind, Text, fault_of, subcommand_of, subcommand_rows_of};
+ghost use Rattle.vt_command.specs.Line.{twarp_app};
+ghost use Rattle.vt_command.specs.Requests.{IsRefusedBy};
+ghost use Rattle.vt_command.specs.Asked.{IsAsked};
+
+use crate::Options;
+use crate::line::matches_in;
+use crate::reading::read_options;
+use clap::error::ErrorKind;
+use clap::{ArgMatches, Error};
+use std::alloc::Global;
+use std::convert::AsStr;
+use vt_key::Fault;
+
+/// What the words of a command line ask for.
+#[derive(Debug, Drop)]
+pub enum Request {
+    /// A run with these options.
+    Run(Options),
+    /// Help: this text.
+    Help(String),
+}
+
+/// What matches of the command line ask for.
+fn request_of(matches: &ArgMatches) -> Result<Request, Fault>
+    ensures ok { (words : List Text) → fault_of twarp_app words ≡ [] → subcommand_rows_of matches.now ≡ subcommand_of twarp_app words → IfOk result (IsAsked words) }
+    ensures err { (words : List Text) → fault_of twarp_app words ≡ [] → subcommand_rows_of matches.now ≡ subcommand_of twarp_app words → IfErr result (IsRefusedBy words) }
+{
+    let Some((name, inner)) = matches.subcommand() else {
+        return Err(Fault::BadOption("command-line"));
+    };
+    if name != "run" {
+        return Err(Fault::BadOption("command-line"));
+    }
+    let options = read_options(inner)?;
+    Ok(Request::Run(options))
+}
+
+/// What a refused command line asks for, which may be help.
+fn request_after(alloc: Global, error: Error) -> Result<Request, Fault>
+    ensures ok { (words : List Text) → HasKind (fault_of twarp_app words) error → IfOk result (IsAsked words) }
+    ensures err { (words : List Text) → HasKind (fault_of twarp_app words) error → IfErr result (IsRefusedBy words) }
+{
+    match error.kind() {
+        ErrorKind::OutOfMemory => Err(Fault::Memory),
+        ErrorKind::DisplayHelp => match error.to_string(alloc) {
+            Ok(text) => Ok(Request::Help(text)),
+            Err(_) => Err(Fault::Memory),
+        },
+        _ => Err(Fault::BadOption("command-line")),
+    }
+}
+
+/// What the words of a command line ask for. The first is the program's name.
+///
+/// [`Fault::BadOption`] names the first bad option in the order of the table, or is `command-line` where the words have
+/// no meaning: a word that isn't known, an option without a value or given twice, no subcommand, or one that isn't
+/// there. [`Fault::Memory`]: memory was refused.
+pub fn read_request<S: AsStr>(alloc: Global, words: &[S]) -> Result<Request, Fault>
+    ensures ok { IfOk result (IsAsked (map S.text words.now)) }
+    ensures err { IfErr result (IsRefusedBy (map S.text words.now)) }
+{
+    match matches_in(alloc, words) {
+        Ok(matches) => request_of(&matches),
+        Err(error) => request_after(alloc, error),
+    }
+}

@@ -1,0 +1,33 @@
+//! What a command line chooses.
+
+use vt_model::Config;
+use vt_models::Hop;
+
+/// The models that can be run.
+#[derive(Debug, Clone, Copy, PartialEq, Eq)]
+pub enum ModelName {
+    /// `hop`: tokens that hop from process to process.
+    Hop,
+}
+
+/// How a run keeps the order of events.
+#[derive(Debug, Clone, Copy, PartialEq, Eq)]
+pub enum Synch {
+    /// `1`: one thread, which always executes the pending event of least key.
+    Sequential,
+}
+
+/// The options of a run, each in its range, whether the run uses it or not.
+#[derive(Debug, Clone, Copy, PartialEq, Eq)]
+pub struct Options {
+    /// Which model is run.
+    pub model: ModelName,
+    /// How the order of events is kept.
+    pub synch: Synch,
+    /// The numbers of processes and workers, the end of virtual time, and the seed.
+    pub config: Config,
+    /// The hop model, made of its options.
+    pub hop: Hop,
+    /// How many turns each worker may take, from 1 to 2^63. A sequential run has none.
+    pub turns: u64,
+}

@@ -1,0 +1,52 @@
+//! What the definitions make of command lines that are written out. They are theorems and do nothing when they are called.
+
+ghost use Rattle.std.specs.Prelude.{◌≡◌, [], ◌∷◌, ◌++◌, Some, None, codes, map};
+ghost use Rattle.clap.specs.Words.{Text};
+ghost use Rattle.vt_command.specs.Line.{given_in, run_options, line_with};
+ghost use Rattle.vt_command.specs.Table.{first_bad};
+ghost use Rattle.vt_command.specs.Requests.{AreOfRun, AskHelp, AskRun, HasBadOption, HasNoMeaning};
+ghost use Rattle.vt_command.specs.Defaults.{default_options};
+
+/// A line without options is a run with the defaults.
+pub fn defaults_are_read()
+    ensures { AskRun (codes "twarp" ∷ codes "run" ∷ []) default_options }
+{}
+
+/// A line that gives each option a text, whatever it is, behind `=` is of a run, and gives each option its text.
+pub fn texts_are_given()
+    ensures run { (text_of : Text → Text) → AreOfRun (line_with text_of) }
+    ensures given { (text_of : Text → Text) → map (given_in (line_with text_of)) run_options ≡ map (λ name. Some (text_of name)) run_options }
+{}
+
+/// An option's text may be a word of its own too, and an option that isn't given has none.
+pub fn values_are_read()
+    ensures apart { given_in (codes "twarp" ∷ codes "run" ∷ codes "--lps" ∷ codes "3" ∷ codes "--end=7" ∷ []) (codes "lps") ≡ Some (codes "3") }
+    ensures joined { given_in (codes "twarp" ∷ codes "run" ∷ codes "--lps" ∷ codes "3" ∷ codes "--end=7" ∷ []) (codes "end") ≡ Some (codes "7") }
+    ensures absent { given_in (codes "twarp" ∷ codes "run" ∷ codes "--lps" ∷ codes "3" ∷ codes "--end=7" ∷ []) (codes "seed") ≡ None }
+    ensures one { (text : Text) → given_in (codes "twarp" ∷ codes "run" ∷ (codes "--seed=" ++ text) ∷ []) (codes "seed") ≡ Some text }
+{}
+
+/// `--help`, `-h` and `help` ask for help, of the program or of `run`.
+pub fn help_is_asked_for()
+    ensures of_the_program { AskHelp (codes "twarp" ∷ codes "--help" ∷ []) }
+    ensures of_run { AskHelp (codes "twarp" ∷ codes "run" ∷ codes "--help" ∷ []) }
+    ensures short { AskHelp (codes "twarp" ∷ codes "run" ∷ codes "-h" ∷ []) }
+    ensures by_word { AskHelp (codes "twarp" ∷ codes "help" ∷ codes "run" ∷ []) }
+{}
+
+/// A line without a subcommand, with another word, or with an option that isn't there or is given twice, has no meaning.
+pub fn other_lines_have_no_meaning()
+    ensures nothing { HasNoMeaning (codes "twarp" ∷ []) }
+    ensures replay { HasNoMeaning (codes "twarp" ∷ codes "replay" ∷ []) }
+    ensures unknown { HasNoMeaning (codes "twarp" ∷ codes "run" ∷ codes "--speed" ∷ codes "3" ∷ []) }
+    ensures twice { HasNoMeaning (codes "twarp" ∷ codes "run" ∷ codes "--lps" ∷ codes "3" ∷ codes "--lps" ∷ codes "3" ∷ []) }
+    ensures no_value { HasNoMeaning (codes "twarp" ∷ codes "run" ∷ codes "--lps" ∷ []) }
+{}
+
+/// The first bad option is that of the table and not that of the line.
+pub fn first_bad_is_of_the_table()
+    ensures lps { HasBadOption (codes "twarp" ∷ codes "run" ∷ codes "--end" ∷ codes "0" ∷ codes "--lps" ∷ codes "65537" ∷ []) (codes "lps") }
+    ensures synch { HasBadOption (codes "twarp" ∷ codes "run" ∷ codes "--workers" ∷ codes "0" ∷ codes "--synch" ∷ codes "3" ∷ []) (codes "synch") }
+    ensures model { HasBadOption (codes "twarp" ∷ codes "run" ∷ codes "--synch" ∷ codes "3" ∷ codes "--model" ∷ codes "phold" ∷ []) (codes "model") }
+    ensures unused { HasBadOption (codes "twarp" ∷ codes "run" ∷ codes "--travel" ∷ codes "0" ∷ []) (codes "travel") }
+{}

@@ -1,0 +1,164 @@
+//! The options of a run, read from the matches of its command line.
+
+ghost use Rattle.std.specs.Prelude.{◌≡◌, ◌≤◌, ◌<◌, ◌^◌, ℕ, List, Some, None, IfOk, IfErr, codes, true};
+ghost use Rattle.clap.specs.Words.{first_value, found_of};
+ghost use Rattle.vt_key.specs.Faults.{fault_number, option_named};
+ghost use Rattle.vt_model.specs.Settings.{is_between};
+ghost use Rattle.vt_command.specs.Table.{number_in, model_in, synch_in, bad, bad_number, first_bad_of, first_bad, config_table, hop_table, phold_table, stations_table};
+ghost use Rattle.vt_command.specs.Options.{GiveConfig, GiveHop, GiveOptions};
+
+use crate::{
+    MAX_JOBS, MAX_LOOKAHEAD, MAX_POPULATION, MAX_REMOTE, MAX_SERVICE, MAX_SPAN, MAX_TRAVEL,
+    MAX_TURNS, ModelName, Options, Synch,
+};
+use clap::ArgMatches;
+use vt_key::{Fault, MAX_END, MAX_PROCESSES, MAX_WORKERS};
+use vt_model::Config;
+use vt_models::{Hop, MAX_DELAY, MAX_HOPS, MAX_STRIDE};
+use vt_text::read_number;
+
+/// A number of up to 64 bits.
+fn number_option(
+    matches: &ArgMatches,
+    name: &'static str,
+    least: u64,
+    most: u64,
+    default: u64,
+) -> Result<u64, Fault>
+    requires { is_between least most default ≡ true }
+    ensures ok { IfOk result (λ n. number_in least most default (first_value (found_of matches.now) name.entry.now) ≡ Some n) }
+    ensures within { IfOk result (λ n. is_between least most n ≡ true) }
+    ensures err { IfErr result (λ fault. fault ≡ Fault.BadOption name.entry) }
+    ensures none { IfErr result (λ _. number_in least most default (first_value (found_of matches.now) name.entry.now) ≡ None) }
+{
+    let Some(text) = matches.get_str(name) else {
+        return Ok(default);
+    };
+    match read_number(text.as_bytes()) {
+        Some(n) if least <= n && n <= most => Ok(n),
+        _ => Err(Fault::BadOption(name)),
+    }
+}
+
+/// A number of up to 32 bits.
+fn small_option(
+    matches: &ArgMatches,
+    name: &'static str,
+    least: u32,
+    most: u32,
+    default: u32,
+) -> Result<u32, Fault>
+    requires { is_between least most default ≡ true }
+    ensures ok { IfOk result (λ n. number_in least most default (first_value (found_of matches.now) name.entry.now) ≡ Some n) }
+    ensures within { IfOk result (λ n. is_between least most n ≡ true) }
+    ensures err { IfErr result (λ fault. fault ≡ Fault.BadOption name.entry) }
+    ensures none { IfErr result (λ _. number_in least most default (first_value (found_of matches.now) name.entry.now) ≡ None) }
+{
+    let n = number_option(
+        matches,
+        name,
+        u64::from(least),
+        u64::from(most),
+        u64::from(default),
+    )?;
+    Ok(n as u32)
+}
+
+fn model_option(matches: &ArgMatches) -> Result<ModelName, Fault>
+    ensures ok { IfOk result (λ model. model_in (first_value (found_of matches.now) (codes "model")) ≡ Some model) }
+    ensures err { IfErr result (λ fault. fault_number fault ≡ 7) }
+    ensures bad { IfErr result (λ fault. option_named fault ≡ bad (codes "model") (model_in (first_value (found_of matches.now) (codes "model")))) }
+{
+    match matches.get_str("model") {
+        None => Ok(ModelName::Hop),
+        Some("hop") => Ok(ModelName::Hop),
+        Some(_) => Err(Fault::BadOption("model")),
+    }
+}
+
+fn synch_option(matches: &ArgMatches) -> Result<Synch, Fault>
+    ensures ok { IfOk result (λ synch. synch_in (first_value (found_of matches.now) (codes "synch")) ≡ Some synch) }
+    ensures err { IfErr result (λ fault. fault_number fault ≡ 7) }
+    ensures bad { IfErr result (λ fault. option_named fault ≡ bad (codes "synch") (synch_in (first_value (found_of matches.now) (codes "synch")))) }
+{
+    let Some(text) = matches.get_str("synch") else {
+        return Ok(Synch::Sequential);
+    };
+    match read_number(text.as_bytes()) {
+        Some(1) => Ok(Synch::Sequential),
+        _ => Err(Fault::BadOption("synch")),
+    }
+}
+
+fn config_options(matches: &ArgMatches) -> Result<Config, Fault>
+    ensures ok { IfOk result (λ c. GiveConfig (first_value (found_of matches.now)) c) }
+    ensures good { IfOk result (λ _. first_bad_of (first_value (found_of matches.now)) config_table ≡ None) }
+    ensures err { IfErr result (λ fault. fault_number fault ≡ 7) }
+    ensures bad { IfErr result (λ fault. option_named fault ≡ first_bad_of (first_value (found_of matches.now)) config_table) }
+{
+    let workers = small_option(matches, "workers", 1, MAX_WORKERS, 1)?;
+    let lps = small_option(matches, "lps", 1, MAX_PROCESSES, 2)?;
+    let end = number_option(matches, "end", 1, MAX_END, 10)?;
+    let seed = number_option(matches, "seed", 0, u64::MAX, 0)?;
+    Config::new(lps, workers, end, seed)
+}
+
+fn hop_options(matches: &ArgMatches) -> Result<Hop, Fault>
+    ensures ok { IfOk result (λ m. GiveHop (first_value (found_of matches.now)) m) }
+    ensures good { IfOk result (λ _. first_bad_of (first_value (found_of matches.now)) hop_table ≡ None) }
+    ensures err { IfErr result (λ fault. fault_number fault ≡ 7) }
+    ensures bad { IfErr result (λ fault. option_named fault ≡ first_bad_of (first_value (found_of matches.now)) hop_table) }
+{
+    let hops = small_option(matches, "hops", 0, MAX_HOPS, 2)?;
+    let stride = small_option(matches, "stride", 0, MAX_STRIDE, 1)?;
+    let delay = small_option(matches, "delay", 1, MAX_DELAY, 2)?;
+    Hop::new(hops, stride, delay)
+}
+
+fn phold_options(matches: &ArgMatches) -> Result<(), Fault>
+    ensures good { IfOk result (λ _. first_bad_of (first_value (found_of matches.now)) phold_table ≡ None) }
+    ensures err { IfErr result (λ fault. fault_number fault ≡ 7) }
+    ensures bad { IfErr result (λ fault. option_named fault ≡ first_bad_of (first_value (found_of matches.now)) phold_table) }
+{
+    small_option(matches, "population", 0, MAX_POPULATION, 1)?;
+    small_option(matches, "remote", 0, MAX_REMOTE, 0)?;
+    small_option(matches, "lookahead", 1, MAX_LOOKAHEAD, 1)?;
+    small_option(matches, "span", 1, MAX_SPAN, 1)?;
+    Ok(())
+}
+
+fn stations_options(matches: &ArgMatches) -> Result<(), Fault>
+    ensures good { IfOk result (λ _. first_bad_of (first_value (found_of matches.now)) stations_table ≡ None) }
+    ensures err { IfErr result (λ fault. fault_number fault ≡ 7) }
+    ensures bad { IfErr result (λ fault. option_named fault ≡ first_bad_of (first_value (found_of matches.now)) stations_table) }
+{
+    small_option(matches, "jobs", 0, MAX_JOBS, 1)?;
+    small_option(matches, "service", 1, MAX_SERVICE, 1)?;
+    small_option(matches, "travel", 1, MAX_TRAVEL, 1)?;
+    Ok(())
+}
+
+/// The options of a run, each in its range, or the default where it isn't given.
+///
+/// [`Fault::BadOption`] names the first in the order of the table that is no number in its range, or no model or way of
+/// running that is there; options of other models than the one that is run are tested too.
+pub(crate) fn read_options(matches: &ArgMatches) -> Result<Options, Fault>
+    ensures ok { IfOk result (λ o. GiveOptions (first_value (found_of matches.now)) o) }
+    ensures err { IfErr result (λ fault. fault_number fault ≡ 7) }
+    ensures bad { IfErr result (λ fault. option_named fault ≡ first_bad (first_value (found_of matches.now))) }
+{
+    let model = model_option(matches)?;
+    let synch = synch_option(matches)?;
+    let config = config_options(matches)?;
+    let hop = hop_options(matches)?;
+    phold_options(matches)?;
+    stations_options(matches)?;
+    let turns = number_option(matches, "turns", 1, MAX_TURNS, 10_000_000)?;
+    Ok(Options {
+        model,
+        synch,
+        config,
+        hop,
+        turns,
+    })
+}

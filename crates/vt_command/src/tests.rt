@@ -1,0 +1,295 @@
+use crate::{ModelName, Options, Request, Synch, read_request};
+use std::alloc::{AllocError, Global};
+use std::test::Fail;
+use vt_key::Fault;
+use vt_model::Config;
+use vt_models::Hop;
+
+/// An option with the ends of its range, a text beyond each end, and its default.
+struct Range {
+    name: &'static str,
+    ends: [&'static str; 2],
+    beyond: [&'static str; 2],
+    default: &'static str,
+}
+
+/// The options that are numbers, in the order in which they are tested.
+static RANGES: [Range; 15] = [
+    Range {
+        name: "workers",
+        ends: ["1", "64"],
+        beyond: ["0", "65"],
+        default: "1",
+    },
+    Range {
+        name: "lps",
+        ends: ["1", "65536"],
+        beyond: ["0", "65537"],
+        default: "2",
+    },
+    Range {
+        name: "end",
+        ends: ["1", "4611686018427387904"],
+        beyond: ["0", "4611686018427387905"],
+        default: "10",
+    },
+    Range {
+        name: "seed",
+        ends: ["0", "18446744073709551615"],
+        beyond: ["x", "18446744073709551616"],
+        default: "0",
+    },
+    Range {
+        name: "hops",
+        ends: ["0", "1000000"],
+        beyond: ["", "1000001"],
+        default: "2",
+    },
+    Range {
+        name: "stride",
+        ends: ["0", "65535"],
+        beyond: ["+1", "65536"],
+        default: "1",
+    },
+    Range {
+        name: "delay",
+        ends: ["1", "1000000"],
+        beyond: ["0", "1000001"],
+        default: "2",
+    },
+    Range {
+        name: "population",
+        ends: ["0", "8"],
+        beyond: ["1.5", "9"],
+        default: "1",
+    },
+    Range {
+        name: "remote",
+        ends: ["0", "100"],
+        beyond: ["50%", "101"],
+        default: "0",
+    },
+    Range {
+        name: "lookahead",
+        ends: ["1", "1000000"],
+        beyond: ["0", "1000001"],
+        default: "1",
+    },
+    Range {
+        name: "span",
+        ends: ["1", "1000000"],
+        beyond: ["0", "1000001"],
+        default: "1",
+    },
+    Range {
+        name: "jobs",
+        ends: ["0", "1000"],
+        beyond: ["-1", "1001"],
+        default: "1",
+    },
+    Range {
+        name: "service",
+        ends: ["1", "1000000"],
+        beyond: ["0", "1000001"],
+        default: "1",
+    },
+    Range {
+        name: "travel",
+        ends: ["1", "1000000"],
+        beyond: ["0", "1000001"],
+        default: "1",
+    },
+    Range {
+        name: "turns",
+        ends: ["1", "9223372036854775808"],
+        beyond: ["0", "9223372036854775809"],
+        default: "10000000",
+    },
+];
+
+/// The option with this text behind `=`.
+fn option_word(alloc: Global, name: &str, text: &str) -> Result<String, AllocError> {
+    format!(in alloc; "--{name}={text}")
+}
+
+/// The fault of `twarp run` with one option.
+fn fault_of(alloc: Global, name: &str, text: &str) -> Result<Option<Fault>, AllocError> {
+    let word = option_word(alloc, name, text)?;
+    Ok(read_request(alloc, &["twarp", "run", word.as_str()]).err())
+}
+
+/// The options of a line, where it is one of a run.
+fn options_of(alloc: Global, words: &[&str]) -> Option<Options> {
+    match read_request(alloc, words) {
+        Ok(Request::Run(options)) => Some(options),
+        _ => None,
+    }
+}
+
+/// The text of a help request.
+fn help_of(alloc: Global, words: &[&str]) -> String {
+    match read_request(alloc, words) {
+        Ok(Request::Help(text)) => text,
+        _ => String::new(alloc),
+    }
+}
+
+#[test]
+fn options_keep_their_ranges(rt: HostRuntime) -> Result<(), Fail> {
+    for range in &RANGES {
+        for text in range.ends {
+            assert_eq!(rt;
+                fault_of(rt.alloc(), range.name, text)?,
+                None,
+                "{} {text}",
+                range.name
+            );
+        }
+        for text in range.beyond {
+            let fault = fault_of(rt.alloc(), range.name, text)?;
+            assert_eq!(rt;
+                fault,
+                Some(Fault::BadOption(range.name)),
+                "{} {text}",
+                range.name
+            );
+        }
+    }
+    Ok(())
+}
+
+#[test]
+fn what_is_not_there_yet_is_named(rt: HostRuntime) -> Result<(), Fail> {
+    for (name, text) in [
+        ("model", "phold"),
+        ("model", "stations"),
+        ("model", "Hop"),
+        ("synch", "3"),
+        ("synch", "2"),
+        ("synch", "0"),
+    ] {
+        let fault = fault_of(rt.alloc(), name, text)?;
+        assert_eq!(rt; fault, Some(Fault::BadOption(name)), "{name} {text}");
+    }
+    assert_eq!(rt; fault_of(rt.alloc(), "model", "hop")?, None);
+    assert_eq!(rt; fault_of(rt.alloc(), "synch", "1")?, None);
+    Ok(())
+}
+
+#[test]
+fn the_first_bad_option_of_the_table_is_named(rt: HostRuntime) -> Result<(), Fail> {
+    let alloc = rt.alloc();
+    let mut later = option_word(alloc, "synch", "3")?;
+    let first = read_request(alloc, &["twarp", "run", later.as_str(), "--model=phold"]);
+    assert_eq!(rt; first.err(), Some(Fault::BadOption("model")));
+    let mut name = "synch";
+    for range in &RANGES {
+        let word = option_word(alloc, range.name, range.beyond[1])?;
+        let fault = read_request(alloc, &["twarp", "run", word.as_str(), later.as_str()]).err();
+        assert_eq!(rt;
+            fault,
+            Some(Fault::BadOption(name)),
+            "before {}",
+            range.name
+        );
+        later = word;
+        name = range.name;
+    }
+    Ok(())
+}
+
+#[test]
+fn options_have_defaults(rt: HostRuntime) -> Result<(), Fail> {
+    let expected = Options {
+        model: ModelName::Hop,
+        synch: Synch::Sequential,
+        config: Config::new(2, 1, 10, 0)?,
+        hop: Hop::new(2, 1, 2)?,
+        turns: 10_000_000,
+    };
+    assert_eq!(rt; options_of(rt.alloc(), &["twarp", "run"]), Some(expected));
+    Ok(())
+}
+
+#[test]
+fn given_options_are_taken(rt: HostRuntime) -> Result<(), Fail> {
+    let words = [
+        "twarp",
+        "run",
+        "--turns",
+        "5",
+        "--delay=7",
+        "--stride",
+        "3",
+        "--hops=9",
+        "--seed",
+        "258",
+        "--end=64",
+        "--lps",
+        "12",
+        "--workers=4",
+        "--synch",
+        "1",
+        "--model=hop",
+    ];
+    let expected = Options {
+        model: ModelName::Hop,
+        synch: Synch::Sequential,
+        config: Config::new(12, 4, 64, 258)?,
+        hop: Hop::new(9, 3, 7)?,
+        turns: 5,
+    };
+    assert_eq!(rt; options_of(rt.alloc(), &words), Some(expected));
+    Ok(())
+}
+
+#[test]
+fn other_lines_are_no_command_lines(rt: HostRuntime) -> Result<(), Fail> {
+    let lines = [
+        "",
+        "twarp",
+        "twarp replay",
+        "twarp replay --lps=0",
+        "twarp walk",
+        "twarp --lps=3",
+        "twarp run --speed=3",
+        "twarp run 3",
+        "twarp run --lps",
+        "twarp run --lps -1",
+        "twarp run --lps=0 --lps=0",
+        "twarp --version",
+    ];
+    for line in lines {
+        let words: Vec<&str> = line.split_ascii_whitespace().collect(rt.alloc())?;
+        let fault = read_request(rt.alloc(), words.as_slice()).err();
+        assert_eq!(rt; fault, Some(Fault::BadOption("command-line")), "{line}");
+    }
+    Ok(())
+}
+
+#[test]
+fn help_shows_every_option(rt: HostRuntime) -> Result<(), Fail> {
+    let alloc = rt.alloc();
+    let short = help_of(alloc, &["twarp", "--help"]);
+    let long = help_of(alloc, &["twarp", "run", "--help"]);
+    for range in &RANGES {
+        let [least, most] = range.ends;
+        let in_short = format!(in alloc; "--{} {least}..{most} [{}]", range.name, range.default)?;
+        assert!(rt; short.contains(in_short.as_str()), "{in_short}");
+        for part in [
+            format!(in alloc; "--{} <N>", range.name)?,
+            format!(in alloc; "{least} to {most}")?,
+            format!(in alloc; "[default: {}]", range.default)?,
+        ] {
+            assert!(rt; long.contains(part.as_str()), "{part}");
+        }
+    }
+    for word in ["-h", "help"] {
+        assert!(rt;
+            help_of(alloc, &["twarp", word]).as_str() == short.as_str(),
+            "{word}"
+        );
+    }
+    assert!(rt; help_of(alloc, &["twarp", "help", "run"]).as_str() == long.as_str());
+    Ok(())
+}

@@ -1,0 +1,18 @@
+-- How what a handler asks for adds up.
+use Rattle.std.proofs.Common.{◌≡◌, ◌∙◌, List, [], ◌∷◌, ◌++◌, ap, add-zero, append-nil}
+use Rattle.vt_model.specs.Sends.{SendRequest, RecordRequest, Outgoing, sent_events, requested_records, with_requests}
+use Rattle.vt_model.proofs.SendLemmas.{with_requests-append}
+
+-- a record and then a send
+pub recorded_then_sent : {P : Type 0} (o a b : Outgoing P) (x : SendRequest P) (n : RecordRequest) → a ≡ with_requests o [] (n ∷ []) → b ≡ with_requests a (x ∷ []) [] → b ≡ with_requests o (x ∷ []) (n ∷ [])
+recorded_then_sent o a b x n recorded sent = sent ∙ ap (λ (w : Outgoing _). with_requests w (x ∷ []) []) recorded ∙ with_requests-append o [] (x ∷ []) (n ∷ []) []
+
+-- asking for nothing changes nothing
+pub no_requests : {P : Type 0} (o : Outgoing P) → o ≡ with_requests o [] []
+unfolding sent_events requested_records
+no_requests o = simp (add-zero, append-nil)
+
+-- one send more
+pub sent_after : {P : Type 0} (o a b : Outgoing P) (xs : List (SendRequest P)) (ns : List RecordRequest) (x : SendRequest P) → a ≡ with_requests o xs ns → b ≡ with_requests a (x ∷ []) [] → b ≡ with_requests o (xs ++ x ∷ []) ns
+sent_after o a b xs ns x before sent =
+    sent ∙ ap (λ (w : Outgoing _). with_requests w (x ∷ []) []) before ∙ with_requests-append o xs (x ∷ []) ns [] ∙ ap (with_requests o (xs ++ x ∷ [])) (append-nil ns)

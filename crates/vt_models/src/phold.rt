@@ -1,0 +1,151 @@
+//! PHOLD: events that each send just one other, so that their number stays the same.
+
+ghost use Rattle.std.specs.Prelude.{◌≡◌, ◌≤◌, None, IfOk, IfErr, IsSome};
+ghost use Rattle.vt_key.specs.Faults.{option_named};
+ghost use Rattle.vt_models.specs.declared.phold.TheConstants.{MAX_POPULATION, MAX_REMOTE, MAX_LOOKAHEAD, MAX_SPAN};
+ghost use Rattle.vt_models.specs.Options.{first_bad_phold_option};
+
+use vt_key::{Fault, Time};
+use vt_model::{Bits, Draws, MAX_SENDS, Model as EventModel, Out};
+
+/// The most balls that a process throws at its start: as many as one handler may send.
+pub const MAX_POPULATION: u32 = MAX_SENDS as u32;
+
+/// The highest share of balls that go to a drawn process, in percent.
+pub const MAX_REMOTE: u32 = 100;
+
+/// The longest lookahead, in ticks.
+pub const MAX_LOOKAHEAD: u32 = 1_000_000;
+
+/// The longest span of drawn delays, in ticks.
+pub const MAX_SPAN: u32 = 1_000_000;
+
+// The sides of the coin by which a ball goes to a drawn process.
+const PERCENT: u64 = 100;
+
+// The flag of an event whose ball went to a drawn process.
+const REMOTE: u32 = 0;
+
+/// The synthetic workload PHOLD (Fujimoto, Performance of Time Warp Under Synthetic Workloads, 1990): each process throws
+/// `population` balls, and each ball that is received is thrown once more.
+///
+/// A ball is received `lookahead` ticks later and what is drawn below `span`. In `remote` of 100 throws its receiver is
+/// drawn among all processes; else it is the thrower. The state of a process is its count of received balls, modulo 2^64:
+/// it is recorded under kind 2 at each ball, and is the final value.
+#[derive(Debug, Clone, Copy, PartialEq, Eq)]
+pub struct Phold {
+    population: u32,
+    remote: u32,
+    lookahead: u32,
+    span: u32,
+    ghost few_balls: { population ≤ MAX_POPULATION },
+    ghost in_percent: { remote ≤ MAX_REMOTE },
+    ghost some_lookahead: { 1 ≤ lookahead },
+    ghost short_lookahead: { lookahead ≤ MAX_LOOKAHEAD },
+    ghost some_span: { 1 ≤ span },
+    ghost short_span: { span ≤ MAX_SPAN },
+}
+
+impl Phold {
+    /// The model with `population` balls for each process (0 to 8), of which `remote` percent (0 to 100) go to a drawn
+    /// process, each received after `lookahead` ticks (1 to 1,000,000) and a draw below `span` ticks (1 to 1,000,000).
+    ///
+    /// [`Fault::BadOption`] names the first that is out of its range: `population`, `remote`, `lookahead` or `span`.
+    pub fn new(population: u32, remote: u32, lookahead: u32, span: u32) -> Result<Phold, Fault>
+        ensures good { IfOk result (λ m. first_bad_phold_option population remote lookahead span ≡ None) }
+        ensures same { IfOk result (λ m. (m.population ≡ population) × (m.remote ≡ remote) × (m.lookahead ≡ lookahead) × (m.span ≡ span)) }
+        ensures bad { IfErr result (λ fault. IsSome (first_bad_phold_option population remote lookahead span)) }
+        ensures named { IfErr result (λ fault. option_named fault ≡ first_bad_phold_option population remote lookahead span) }
+    {
+        if population > MAX_POPULATION {
+            return Err(Fault::BadOption("population"));
+        }
+        if remote > MAX_REMOTE {
+            return Err(Fault::BadOption("remote"));
+        }
+        if lookahead < 1 || lookahead > MAX_LOOKAHEAD {
+            return Err(Fault::BadOption("lookahead"));
+        }
+        if span < 1 || span > MAX_SPAN {
+            return Err(Fault::BadOption("span"));
+        }
+        Ok(Phold {
+            population,
+            remote,
+            lookahead,
+            span,
+        })
+    }
+}
+
+impl EventModel for Phold {
+    type State = u64;
+
+    type Payload = ();
+
+    type Kept = ();
+
+    ghost use Rattle.std.specs.Prelude.{◌<◌, ◌^◌};
+    ghost use Rattle.std.proofs.Common.{lit<, lit≤};
+    ghost use Rattle.vt_models.specs.Phold.{phold_handlers};
+    ghost use Rattle.vt_models.specs.PholdLaws.{start_within, forward_within, forward_state, undoes};
+
+    ghost handlers = { phold_handlers };
+
+    ghost IsState = { λ m s. s < 2 ^ 64 };
+
+    fn start(&self, lp: u32, draws: &mut Draws<'_>, out: &mut Out<()>) -> u64 {
+        'balls: for _ball in 0..self.population {
+            let wait = draws.below(u64::from(self.span));
+            out.send(lp, u64::from(self.lookahead) + wait, ());
+        }
+        0
+    }
+
+    fn forward(
+        &self,
+        lp: u32,
+        _now: Time,
+        _payload: (),
+        state: &mut u64,
+        bits: &mut Bits,
+        draws: &mut Draws<'_>,
+        out: &mut Out<()>,
+    ) {
+        let mut dest = lp;
+        if draws.below(PERCENT) < u64::from(self.remote) {
+            bits.set(REMOTE);
+            dest = draws.below(u64::from(out.lps())) as u32;
+        }
+        let wait = draws.below(u64::from(self.span));
+        *state = state.wrapping_add(1);
+        out.emit(2, *state);
+        out.send(dest, u64::from(self.lookahead) + wait, ());
+    }
+
+    fn reverse(&self, _lp: u32, _now: Time, _payload: (), state: &mut u64, _bits: Bits, _kept: ()) {
+        *state = state.wrapping_sub(1);
+    }
+
+    fn finish(&self, _lp: u32, state: &u64) -> u64 {
+        *state
+    }
+
+    ghost start_within = { start_within };
+
+    ghost forward_within = { forward_within };
+
+    ghost start_state = { λ m lps lp words. lit< tt };
+
+    ghost forward_state = { forward_state };
+
+    ghost undoes = { undoes };
+
+    ghost payload_size = { lit< tt };
+
+    ghost payload_align = { (lit≤ tt, lit≤ tt) };
+
+    ghost kept_size = { lit< tt };
+
+    ghost kept_align = { (lit≤ tt, lit≤ tt) };
+}

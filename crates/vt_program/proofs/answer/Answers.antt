@@ -1,0 +1,18 @@
+use Rattle.std.proofs.Common.{inr, subst, map}
+use Rattle.std.proofs.lemmas.Result.{on_ok_weaker, IfErr-weaker}
+use Rattle.vt_command.specs.Asked.{IsAsked}
+use Rattle.vt_command.specs.declared.asking.Request.{Request}
+use Rattle.vt_program.proofs.OutcomeLemmas.{run_ends}
+use Rattle.vt_program.proofs.answer.Goals as goal
+
+pub returns-in-Run-clause-ok : goal.returns-in-Run-clause-ok
+returns-in-Run-clause-ok g c =
+    let words = map g.S.AsStr.text c.args.words.now in
+    let asked = subst (λ (r : Request). IsAsked words r) c.in-Run.is c.in_ok-text.ensures.ok in
+    on_ok_weaker c.simulate.result (λ h. inr (record { options = c.in-Run.options; asked = asked; written = h })) c.simulate.ensures.ok
+
+pub returns-in-Run-clause-err : goal.returns-in-Run-clause-err
+returns-in-Run-clause-err g c =
+    let words = map g.S.AsStr.text c.args.words.now in
+    let asked = subst (λ (r : Request). IsAsked words r) c.in-Run.is c.in_ok-text.ensures.ok in
+    IfErr-weaker c.simulate.result _ _ (λ fault h. run_ends words c.in-Run.options _ _ fault asked h) c.simulate.ensures.err

@@ -1,0 +1,74 @@
+//! The program `twarp` as a function of its words, a reader and two writers.
+//!
+//! It stands in a library, and not in the crate of the program, since no crate can stand on one with a `main`: so tests and
+//! other crates can run the whole program on writers of their own.
+#![tactic(auto)]
+
+mod refusal;
+mod simulation;
+
+ghost use Rattle.std.specs.Prelude.{◌≡◌, ◌≢◌, map, OnOk, IfErr};
+ghost use Rattle.std.specs.Io.KnownBytes.{Keeps};
+ghost use Rattle.clap.specs.Words.{Text};
+ghost use Rattle.vt_key.specs.declared.fault.Fault.{Fault};
+ghost use Rattle.vt_command.specs.Requests.{AskHelp, IsRefusedAs};
+ghost use Rattle.vt_program.specs.Refusals.{TellsRefusal, status_of};
+ghost use Rattle.vt_program.specs.Outcomes.{IsDone, EndsBy};
+
+pub use refusal::tell_refusal;
+use simulation::simulate;
+use std::alloc::Global;
+use std::convert::AsStr;
+use std::io::{Read, Write};
+use vt_command::{Request, read_request};
+use vt_key::Fault;
+use vt_text::write_bytes;
+
+/// Does what the words ask for.
+fn answer<S: AsStr, O: Write>(alloc: Global, words: &[S], out: &mut O) -> Result<(), Fault>
+    ensures ok { OnOk result (IsDone (map S.text words.now) (O.contents out.old) (O.contents out.new)) }
+    ensures err { IfErr result (λ fault. EndsBy fault (map S.text words.now) (O.contents out.old) (O.contents out.new)) }
+{
+    match read_request(alloc, words)? {
+        Request::Help(text) => write_bytes(out, text.as_bytes()),
+        Request::Run(options) => simulate(alloc, &options, out),
+    }
+}
+
+/// The whole program: does what the words ask for, and answers the status with which it ends. The first word is the
+/// program's name.
+///
+/// Status 0: the words ask for help, and it was written to `out`; or they ask for a run, and a line for each of its records
+/// was written to `out`, and nothing else. Any other status comes with one line `twarp: refused N TEXT` on `err`, or a
+/// beginning of it where `err` fails, and depends on N alone: 2 for 7, and 1 for the others.
+///
+/// - 1, memory was refused, and 5, a send number would pass 2^63: nothing was written to `out`.
+/// - 7, the words are refused: nothing was written to `out`, and the line names the first bad option in the order of the
+///   table, or `command-line` where the words have no meaning.
+/// - 9, `out` failed: a beginning of the text was written, and the last of it was not.
+///
+/// The reader isn't read.
+pub fn program<S: AsStr, R: Read, O: Write, E: Write>(
+    alloc: Global,
+    words: &[S],
+    _reader: &mut R,
+    out: &mut O,
+    err: &mut E,
+) -> u8
+    ensures done { result ≡ 0 → IsDone (map S.text words.now) (O.contents out.old) (O.contents out.new) }
+    ensures silent { result ≡ 0 → Keeps (E.contents err.old) (E.contents err.new) }
+    ensures refused { result ≢ 0 → (fault : Fault) × (result ≡ status_of fault)
+        × EndsBy fault (map S.text words.now) (O.contents out.old) (O.contents out.new)
+        × TellsRefusal fault (E.contents err.old) (E.contents err.new) }
+    ensures untouched { (name : Text) → IsRefusedAs (map S.text words.now) name → ¬ AskHelp (map S.text words.now)
+        → (result ≢ 0) × Keeps (O.contents out.old) (O.contents out.new) }
+    ensures unread { Keeps (R.remaining _reader.old) (R.remaining _reader.new) }
+{
+    match answer(alloc, words, out) {
+        Ok(()) => 0,
+        Err(fault) => tell_refusal(err, fault),
+    }
+}
+
+#[cfg(test)]
+mod tests;

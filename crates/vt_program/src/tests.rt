@@ -1,0 +1,302 @@
+use crate::{program, tell_refusal};
+use std::io::{self, Error, ErrorKind, Write};
+use std::process::Abort;
+use std::test::Fail;
+use vt_key::Fault;
+
+/// What `twarp run` prints.
+const SIX_LINES: &str = "1 0 1 1\n2 1 1 2\n3 1 1 513\n4 0 1 258\n5 0 1 66049\n6 1 1 131330\n";
+
+/// A writer that has room for so many bytes and then fails, and counts its calls.
+#[derive(Drop)]
+struct Narrow {
+    taken: Vec<u8>,
+    room: usize,
+    calls: usize,
+}
+
+impl Write for Narrow {
+    fn write(&mut self, buf: &[u8]) -> io::Result<usize> {
+        self.calls = self.calls.saturating_add(1);
+        let count = self.room.min(buf.len());
+        if count == 0 {
+            return Err(Error::from(ErrorKind::StorageFull));
+        }
+        self.room -= count;
+        self.taken.extend_from_slice(&buf[..count])?;
+        Ok(count)
+    }
+
+    fn flush(&mut self) -> io::Result<()> {
+        Ok(())
+    }
+}
+
+/// The status, and what was written to the two writers.
+#[derive(Debug, Drop)]
+struct Outcome {
+    status: u8,
+    out: Vec<u8>,
+    err: Vec<u8>,
+}
+
+/// Runs the program on the words of a line, with so much room for its output and for its refusals.
+fn run_within(
+    rt: &(impl Abort + AllocGlobal),
+    line: &str,
+    room: usize,
+    err_room: usize,
+) -> Result<Outcome, Fail> {
+    let words: Vec<&str> = line.split_ascii_whitespace().collect(rt.alloc())?;
+    let mut out = Narrow {
+        taken: Vec::new(rt.alloc()),
+        room,
+        calls: 0,
+    };
+    let mut err = Narrow {
+        taken: Vec::new(rt.alloc()),
+        room: err_room,
+        calls: 0,
+    };
+    let mut reader: &[u8] = b"unread";
+    let status = program(
+        rt.alloc(),
+        words.as_slice(),
+        &mut reader,
+        &mut out,
+        &mut err,
+    );
+    assert!(rt;
+        reader.len() == 6 && err.calls <= 1 + err.taken.len() / err_room.max(1),
+        "{line}"
+    );
+    Ok(Outcome {
+        status,
+        out: out.taken,
+        err: err.taken,
+    })
+}
+
+/// Asserts what the program does on the words of a line.
+fn expect(
+    rt: &(impl Abort + AllocGlobal),
+    line: &str,
+    status: u8,
+    out: &str,
+    err: &str,
+) -> Result<(), Fail> {
+    let outcome = run_within(rt, line, 100_000, 100_000)?;
+    assert_eq!(rt; outcome.status, status, "{line}");
+    assert!(rt; outcome.out.as_slice() == out.as_bytes(), "{line}");
+    assert!(rt; outcome.err.as_slice() == err.as_bytes(), "{line}");
+    Ok(())
+}
+
+#[test]
+fn prints_the_records_of_the_default_run(rt: HostRuntime) -> Result<(), Fail> {
+    expect(&rt, "twarp run", 0, SIX_LINES, "")?;
+    expect(&rt, "twarp run --synch 1", 0, SIX_LINES, "")?;
+    expect(
+        &rt,
+        "twarp run --synch 1 --workers 64 --turns 1 --seed 7",
+        0,
+        SIX_LINES,
+        "",
+    )
+}
+
+#[test]
+fn keys_decide_among_events_of_one_time(rt: HostRuntime) -> Result<(), Fail> {
+    expect(
+        &rt,
+        "twarp run --hops 1 --delay 1",
+        0,
+        "1 0 1 1\n2 1 1 1\n2 1 1 258\n3 0 1 258\n",
+        "",
+    )?;
+    let three = "twarp run --hops 1 --delay 1 --lps 3 --stride 2 --end 3";
+    expect(&rt, three, 0, "1 0 1 1\n2 2 1 1\n2 1 1 2\n", "")
+}
+
+#[test]
+fn ends_at_the_end_of_virtual_time(rt: HostRuntime) -> Result<(), Fail> {
+    expect(
+        &rt,
+        "twarp run --end 4",
+        0,
+        "1 0 1 1\n2 1 1 2\n3 1 1 513\n",
+        "",
+    )?;
+    expect(&rt, "twarp run --end 1", 0, "", "")?;
+    expect(
+        &rt,
+        "twarp run --lps 1 --hops 0 --end 2",
+        0,
+        "1 0 1 1\n",
+        "",
+    )
+}
+
+#[test]
+fn refuses_bad_options_by_name(rt: HostRuntime) -> Result<(), Fail> {
+    expect(
+        &rt,
+        "twarp run --synch 2",
+        2,
+        "",
+        "twarp: refused 7 bad option synch\n",
+    )?;
+    expect(
+        &rt,
+        "twarp run --workers 0",
+        2,
+        "",
+        "twarp: refused 7 bad option workers\n",
+    )?;
+    expect(
+        &rt,
+        "twarp run --end 0",
+        2,
+        "",
+        "twarp: refused 7 bad option end\n",
+    )?;
+    expect(
+        &rt,
+        "twarp run --lps 65537",
+        2,
+        "",
+        "twarp: refused 7 bad option lps\n",
+    )?;
+    expect(
+        &rt,
+        "twarp run --end 0 --lps 65537",
+        2,
+        "",
+        "twarp: refused 7 bad option lps\n",
+    )
+}
+
+#[test]
+fn refuses_what_is_not_there_yet(rt: HostRuntime) -> Result<(), Fail> {
+    expect(
+        &rt,
+        "twarp run --model phold",
+        2,
+        "",
+        "twarp: refused 7 bad option model\n",
+    )?;
+    expect(
+        &rt,
+        "twarp run --model stations",
+        2,
+        "",
+        "twarp: refused 7 bad option model\n",
+    )?;
+    expect(
+        &rt,
+        "twarp run --synch 3",
+        2,
+        "",
+        "twarp: refused 7 bad option synch\n",
+    )?;
+    expect(
+        &rt,
+        "twarp replay",
+        2,
+        "",
+        "twarp: refused 7 bad option command-line\n",
+    )?;
+    expect(
+        &rt,
+        "twarp replay --lps 0",
+        2,
+        "",
+        "twarp: refused 7 bad option command-line\n",
+    )?;
+    expect(
+        &rt,
+        "twarp",
+        2,
+        "",
+        "twarp: refused 7 bad option command-line\n",
+    )
+}
+
+#[test]
+fn helps(rt: HostRuntime) -> Result<(), Fail> {
+    for line in [
+        "twarp --help",
+        "twarp run --help",
+        "twarp help run",
+        "twarp -h",
+    ] {
+        let outcome = run_within(&rt, line, 100_000, 100_000)?;
+        assert_eq!(rt; outcome.status, 0, "{line}");
+        assert!(rt;
+            outcome.out.starts_with(b"Simulates ") && outcome.out.ends_with(b"\n"),
+            "{line}"
+        );
+        assert!(rt; outcome.err.is_empty(), "{line}");
+    }
+    let cut = run_within(&rt, "twarp --help", 3, 100)?;
+    assert_eq!(rt; cut.status, 1);
+    assert!(rt; cut.out.as_slice() == b"Sim".as_slice());
+    assert!(rt; cut.err.as_slice() == b"twarp: refused 9 output\n".as_slice());
+    Ok(())
+}
+
+#[test]
+fn a_full_writer_leaves_a_beginning(rt: HostRuntime) -> Result<(), Fail> {
+    let text = SIX_LINES.as_bytes();
+    assert_eq!(rt; text.len(), 61);
+    for room in 0..61 {
+        let outcome = run_within(&rt, "twarp run", room, 100)?;
+        assert_eq!(rt; outcome.status, 1, "{room}");
+        assert!(rt;
+            outcome.out.len() == room && text.starts_with(outcome.out.as_slice()),
+            "{room}"
+        );
+        assert!(rt;
+            outcome.err.as_slice() == b"twarp: refused 9 output\n".as_slice(),
+            "{room}"
+        );
+    }
+    assert_eq!(rt; run_within(&rt, "twarp run", 61, 0)?.status, 0);
+    Ok(())
+}
+
+#[test]
+fn a_refusal_that_cannot_be_told_keeps_its_status(rt: HostRuntime) -> Result<(), Fail> {
+    for room in [0, 5, 31] {
+        let outcome = run_within(&rt, "twarp run --lps 0", 100, room)?;
+        assert_eq!(rt; outcome.status, 2, "{room}");
+        assert!(rt;
+            outcome.out.is_empty() && outcome.err.len() == room,
+            "{room}"
+        );
+        assert!(rt; b"twarp: refused 7 bad option lps\n".starts_with(outcome.err.as_slice()));
+    }
+    Ok(())
+}
+
+#[test]
+fn faults_are_told_in_the_words_of_their_type(rt: HostRuntime) -> Result<(), Fail> {
+    let faults = [
+        (Fault::Memory, 1),
+        (Fault::NotLawful, 1),
+        (Fault::Busy, 1),
+        (Fault::Closed, 1),
+        (Fault::Exhausted, 1),
+        (Fault::TurnsSpent, 1),
+        (Fault::BadOption("travel"), 2),
+        (Fault::BadStep(u64::MAX), 3),
+        (Fault::Output, 1),
+    ];
+    for (fault, status) in faults {
+        let mut told = Vec::new(rt.alloc());
+        assert_eq!(rt; tell_refusal(&mut told, fault), status);
+        let expected = format!(in rt.alloc(); "twarp: refused {} {fault}\n", fault.number())?;
+        assert!(rt; told.as_slice() == expected.as_bytes(), "{fault}");
+    }
+    Ok(())
+}

@@ -1,0 +1,2 @@
+mod Computed
+mod SequentialRuns

@@ -1,0 +1,92 @@
+-- The guards on times never fail: no report is below the announced time, and no floor below the hand-in floor.
+use Rattle.std.proofs.Common.{◌≡◌, ℕ, ◌<◌, Bool, true, false, cond, refl, sym, subst, ◌∙◌, ap, arith, Some, slice_get, slice_set, Ok}
+use Rattle.std.specs.Prelude.{IsTrue}
+use Rattle.std.proofs.Math.Nat.{le_refl}
+use Rattle.std.proofs.lemmas.Bool.Decides.{nat_tests}
+use Rattle.std.proofs.lemmas.Option.{slice_get_within}
+use Rattle.vt_key.specs.Times.{Time, TimeAtMost, opening_time, time_at_most}
+use Rattle.vt_key.specs.declared.fault.Fault.TheVariants.{NotLawful, Closed}
+use Rattle.vt_model.specs.Simulation.{Simulation}
+use Rattle.vt_model.specs.Histories.{IsLawful}
+use Rattle.vt_steps.specs.declared.step.Reply.TheVariants.{Done}
+use Rattle.vt_steps.specs.declared.step.Step.TheVariants.{Report, Commit}
+use Rattle.vt_steps.specs.BoardSteps.{all_set, is_clear, may_report, with_report, report_reply}
+use Rattle.vt_steps.specs.BookSteps.{may_commit, with_rows}
+use Rattle.vt_steps.specs.Claims.{IsTaken}
+use Rattle.vt_steps.specs.Next.{Outcome, next, report, report_lawful, commit, refused, replied}
+use Rattle.vt_steps.specs.PartSteps.{part_after_commit, report_sent, report_got, report_least, rows_of_commit}
+use Rattle.vt_steps.specs.World.{Part, World, letters_in}
+use Rattle.vt_steps.proofs.Early.{early_in, at-most-least, letters-early}
+use Rattle.vt_steps.proofs.Flags.{set-at}
+use Rattle.vt_steps.proofs.Floors.{AreTimesSound}
+use Rattle.vt_steps.proofs.Places.{get-within}
+use Rattle.vt_steps.proofs.Sums.{sum-at}
+use Rattle.vt_steps.proofs.Tests.{passes_both}
+
+module _ {S P : Type 0} (sim : Simulation S P) (world : World P) (s : AreTimesSound sim world) where
+  -- ---- Report
+
+  -- what a worker that has cut would report is not before the announced time
+  report-late : (w : ℕ) (part : Part P) → slice_get world.parts w ≡ Some part → world.board.is_open ≡ true → slice_get world.board.has_cut w ≡ Some true →
+      TimeAtMost world.board.announced (report_least sim.end part)
+  report-late w part at open_is cut =
+      let t = world.board.announced in
+      let round = (s.at t).round in
+      let same : TimeAtMost t t = le_refl t in
+      let red = (round.opened open_is).red_late same w part at cut in
+      let none = round.announced same in
+      let here = sum-at (early_in t) world.parts w part at in
+      let counted = letters-early t part in
+      let late = at-most-least sim.end t (letters_in part) round.announced_end (omega arith) in
+      omega arith
+
+  -- it may report, if all have cut and it has not reported in this pass
+  may-report : (w : ℕ) (part : Part P) → slice_get world.parts w ≡ Some part → world.board.is_open ≡ true → all_set world.board.has_cut ≡ true → slice_get world.board.has_reported w ≡ Some false →
+      may_report w (report_least sim.end part) world.board ≡ true
+  may-report w part at open_is all clear =
+      let size = (s.at opening_time).round.cut_size in
+      let flag = get-within world.board.has_cut w (let a = slice_get_within world.parts w part at in omega arith) in
+      let cut : slice_get world.board.has_cut w ≡ Some true = flag.1 ∙ ap Some (set-at world.board.has_cut w flag.0 all flag.1) in
+      let value = report-late w part at open_is cut in
+      let late : time_at_most world.board.announced (report_least sim.end part) ≡ true = grind (arith, nat_tests) in
+      passes_both world.board.is_open _ open_is
+      (passes_both (all_set world.board.has_cut) _ all
+      (passes_both (is_clear (slice_get world.board.has_reported w)) _ (ap is_clear clear) late))
+
+  -- so its report is taken
+  pub report-taken : (w : ℕ) → IsTrue world.board.is_open → IsTrue (all_set world.board.has_cut) → slice_get world.board.has_reported w ≡ Some false → IsTaken sim world (Report w)
+  unfolding next report report_lawful
+  report-taken w open_is all clear =
+      let size = (s.at opening_time).round.report_size in
+      let part = get-within world.parts w (let a = slice_get_within world.board.has_reported w false clear in omega arith) in
+      let board = with_report w (report_sent part.0) (report_got part.0) (report_least sim.end part.0) world.board in
+      let may = may-report w part.0 part.1 open_is all clear in (
+        report_reply board,
+        ap (λ o. (report sim world w o).answer) part.1
+            ∙ ap (λ b. (let o : Outcome P = cond b (report_lawful sim world w part.0 board) (refused world NotLawful) in o.answer)) may,
+      )
+
+  -- ---- Commit
+
+  -- each worker may commit
+  may-commit : (w : ℕ) (part : Part P) → slice_get world.parts w ≡ Some part → may_commit (slice_get world.book.floors w) part.floor ≡ true
+  may-commit w part at =
+      let size = s.floors.size in
+      let floor = get-within world.book.floors w (let a = slice_get_within world.parts w part at in omega arith) in
+      let low = s.floors.handed_in w part floor.0 at floor.1 in
+      let test : time_at_most floor.0 part.floor ≡ true = grind (arith, nat_tests) in
+      ap (λ o. may_commit o part.floor) floor.1 ∙ test
+
+  -- so its commit is done, unless the book is closed
+  pub commit-done : (w : ℕ) → w < sim.workers → world.book.is_closed ≡ false → (next sim world (Commit w)).answer ≡ Ok Done
+  unfolding next commit
+  commit-done w within open_is =
+      let size = (s.at opening_time).shape.parts in
+      let part = get-within world.parts w (omega arith) in
+      let may = may-commit w part.0 part.1 in
+      ap (λ b. (let o : Outcome P = cond b (refused world Closed) (commit sim world w (slice_get world.parts w)) in o.answer)) open_is
+      ∙ ap (λ o. (commit sim world w o).answer) part.1
+      ∙ ap (λ b. (let o : Outcome P = cond b (replied (record world {
+        parts = slice_set world.parts w (part_after_commit part.0);
+        book = with_rows w (rows_of_commit sim w part.0) part.0.floor world.book;
+      }) Done) (refused world NotLawful) in o.answer)) may

@@ -1,0 +1,5 @@
+use Rattle.vt_steps.proofs.Refusals.{replies}
+use Rattle.vt_steps.proofs.laws.reports_are_answered.Goals as goal
+
+pub returns : goal.returns
+returns g c = replies g.sim

@@ -1,0 +1,5 @@
+use Rattle.vt_steps.proofs.MemoryLemmas.{goes_back}
+use Rattle.vt_steps.proofs.memory.memory_goes_back.Goals as goal
+
+pub returns : goal.returns
+returns g c p = goes_back g.sim p

@@ -1,0 +1,13 @@
+pub mod Letters
+pub mod Rows
+pub mod World
+pub mod ProcessSteps
+pub mod PartSteps
+pub mod BoardSteps
+pub mod BookSteps
+pub mod Next
+pub mod Copies
+pub mod Cells
+pub mod StandsFor
+pub mod Claims
+pub mod Laws

@@ -1,0 +1,156 @@
+-- Steps at the part of one worker: the five local steps whole, and what the other steps do to the part.
+use Rattle.std.specs.Prelude.{ℕ, ◌+◌, ◌/◌, ◌%◌, Bool, not, nat_eq, List, [], ◌∷◌, ◌++◌, map, length, take, drop, slice_get, slice_set, Option, Some, None}
+use Rattle.std.specs.List.{filter, find, prefix_len, remove}
+use Rattle.std.specs.Option.{option_and_then, option_map}
+use Rattle.vt_key.specs.Times.{Time, time_before, earlier}
+use Rattle.vt_key.specs.Letters.{other_colour}
+use Rattle.vt_key.specs.declared.order.Stamp.{Stamp}
+use Rattle.vt_key.specs.declared.letter.Letter.{Letter}
+use Rattle.vt_key.specs.declared.letter.Mail.{Mail}
+use Rattle.vt_key.specs.declared.letter.Colour.TheVariants.{White, Red}
+use Rattle.vt_model.specs.declared.rows.Row.{Row}
+use Rattle.vt_model.specs.Simulation.{Simulation}
+use Rattle.vt_steps.specs.Letters.{least_time, without_first, count_of, raised, count_colour}
+use Rattle.vt_steps.specs.Rows.{rows_from}
+use Rattle.vt_steps.specs.World.{Entry, LogicalProcess, Part, letters_in, entry_events, triple_after, process_at}
+use Rattle.vt_steps.specs.ProcessSteps.{ProcessEffect, execute_process, undo_process, cancel_process, accept_process}
+
+-- ---- Execute, Undo and Cancel
+
+module _ {P : Type 0} where
+  -- the part after a step at the process of this place
+  abbrev pub with_effect : Part P → ℕ → ProcessEffect P → Part P
+  with_effect part place effect =
+      record part {
+        processes = slice_set part.processes place effect.process;
+        outbox = part.outbox ++ effect.letters;
+        serial = part.serial + effect.serials;
+      }
+
+  -- a step at the process of this place, if there is one
+  abbrev pub at_process : (LogicalProcess P → Option (ProcessEffect P)) → ℕ → Part P → Option (Part P)
+  at_process step place part = option_map (with_effect part place) (option_and_then step (slice_get part.processes place))
+
+  -- Execute at a place of worker w
+  abbrev pub execute : {S : Type 0} → Simulation S P → ℕ → ℕ → Part P → Option (Part P)
+  execute sim w place part = at_process (execute_process sim (process_at sim w place) w part.serial) place part
+
+  -- Undo at a place
+  abbrev pub undo : ℕ → Part P → Option (Part P)
+  undo place part = at_process undo_process place part
+
+  -- Cancel of a stamp at a place
+  abbrev pub cancel : ℕ → Stamp → Part P → Option (Part P)
+  cancel place stamp part = at_process (cancel_process stamp) place part
+
+-- ---- Home and Accept
+
+module _ {S P : Type 0} (sim : Simulation S P) where
+  -- the letter is for a process of worker w
+  abbrev pub is_for : ℕ → Letter P → Bool
+  is_for w letter = nat_eq (letter.event.dest % sim.workers) w
+
+  -- the letter goes to its process, if it is there and does not hold it already
+  abbrev pub deliver : Part P → Letter P → Option (Part P)
+  deliver part letter = at_process (accept_process letter) (letter.event.dest / sim.workers) part
+
+  -- this letter, found as the outbox's first one for a process of w, leaves the outbox for its process
+  abbrev pub home_letter : ℕ → Part P → Option (Letter P) → Option (Part P)
+  home_letter w part None = None
+  home_letter w part (Some letter) = deliver (record part { outbox = without_first (is_for w) part.outbox }) letter
+
+  -- Home of worker w
+  abbrev pub home : ℕ → Part P → Option (Part P)
+  home w part = home_letter w part (find (is_for w) part.outbox)
+
+  -- this mail, found at place i of what has arrived, leaves it for its process; those after it move up
+  abbrev pub accept_mail : ℕ → Part P → Option (Mail P) → Option (Part P)
+  accept_mail i part None = None
+  accept_mail i part (Some mail) = deliver (record part { arrived = remove part.arrived i }) mail.letter
+
+  -- Accept at place i
+  abbrev pub accept : ℕ → Part P → Option (Part P)
+  accept i part = accept_mail i part (slice_get part.arrived i)
+
+  -- ---- Send
+
+  -- the letters of the outbox for processes of v
+  abbrev pub letters_for : ℕ → Part P → List (Letter P)
+  letters_for v part = filter (is_for v) part.outbox
+
+  -- they leave the outbox, are counted, and lower the red minimum
+  unfoldable pub part_after_send : ℕ → Part P → Part P
+  part_after_send v part =
+      record part {
+        outbox = filter (λ letter. not (is_for v letter)) part.outbox;
+        sent = raised part.sent part.colour (length (letters_for v part));
+        red_minimum = earlier part.red_minimum (least_time sim.end (letters_for v part));
+      }
+
+  -- and become mail of the worker's colour, in their order
+  unfoldable pub mail_of_send : ℕ → Part P → List (Mail P)
+  mail_of_send v part = map (λ letter. record { letter = letter; colour = part.colour }) (letters_for v part)
+
+-- Fetch: what was in the inbox has arrived, and is counted by colour
+unfoldable pub part_after_fetch : {P : Type 0} → List (Mail P) → Part P → Part P
+part_after_fetch inbox part =
+    record part {
+      arrived = inbox;
+      got = raised (raised part.got White (count_colour White inbox)) Red (count_colour Red inbox);
+    }
+
+-- Cut: the worker takes the other colour, has sent nothing in it, and learns the announced time
+unfoldable pub part_after_cut : Time → Time → {P : Type 0} → Part P → Part P
+part_after_cut end announced part =
+    record part { colour = other_colour part.colour; red_minimum = end; floor = announced }
+
+-- ---- Report
+
+module _ {P : Type 0} where
+  -- how much mail of the colour that it has left the worker sent
+  abbrev pub report_sent : Part P → ℕ
+  report_sent part = count_of part.sent (other_colour part.colour)
+
+  -- and how much of it the worker got
+  abbrev pub report_got : Part P → ℕ
+  report_got part = count_of part.got (other_colour part.colour)
+
+  -- the value that a worker reports: the lesser of its red minimum and the least time of the letters that it has
+  abbrev pub report_least : Time → Part P → Time
+  report_least end part = earlier part.red_minimum (least_time end (letters_in part))
+
+  -- ---- Commit
+
+  -- the event of the entry is before the floor
+  abbrev pub is_below : Time → Entry P → Bool
+  is_below floor entry = time_before entry.event.rank.key.time floor
+
+  -- the past entries before the floor. Past entries stand in rising rank, so these are the first ones
+  abbrev pub ripe : Time → LogicalProcess P → List (Entry P)
+  ripe floor process = take (prefix_len (is_below floor) process.past) process.past
+
+  -- they become done
+  abbrev pub process_after_commit : Time → LogicalProcess P → LogicalProcess P
+  process_after_commit floor process =
+      record process {
+        done = process.done ++ ripe floor process;
+        past = drop (prefix_len (is_below floor) process.past) process.past;
+      }
+
+  -- the part after it commits below its floor
+  unfoldable pub part_after_commit : Part P → Part P
+  part_after_commit part = record part { processes = map (process_after_commit part.floor) part.processes }
+
+  -- the rows of the entries that process p commits
+  abbrev pub ripe_rows : {S : Type 0} → Simulation S P → ℕ → Time → LogicalProcess P → List Row
+  ripe_rows sim p floor process = rows_from sim p (triple_after sim p process.done) (entry_events (ripe floor process))
+
+  -- the same of the processes of w from this place on
+  abbrev pub rows_of_processes : {S : Type 0} → Simulation S P → ℕ → Time → ℕ → List (LogicalProcess P) → List Row
+  rows_of_processes sim w floor place [] = []
+  rows_of_processes sim w floor place (process ∷ processes) =
+      ripe_rows sim (process_at sim w place) floor process ++ rows_of_processes sim w floor (place + 1) processes
+
+  -- the rows that worker w hands in when it commits
+  unfoldable pub rows_of_commit : {S : Type 0} → Simulation S P → ℕ → Part P → List Row
+  rows_of_commit sim w part = rows_of_processes sim w part.floor 0 part.processes

@@ -1,0 +1,54 @@
+//! What holds after any list of steps of copies, ranks and histories: the first half of why an optimistic run may be trusted.
+//! "After any steps" means: of any simulation that meets the laws, in the world that any list of the eleven steps, refused
+//! ones among them, makes of its opening world, whatever the first serials are.
+
+ghost use Rattle.std.specs.Prelude.{ℕ, ◌≡◌, List, Some, Ok, slice_get};
+ghost use Rattle.std.specs.List.{find};
+ghost use Rattle.vt_key.specs.declared.order.Stamp.{Stamp};
+ghost use Rattle.vt_key.specs.declared.letter.Letter.{Letter};
+ghost use Rattle.vt_key.specs.declared.letter.Mail.{Mail};
+ghost use Rattle.vt_model.specs.Simulation.{Simulation};
+ghost use Rattle.vt_model.specs.Histories.{IsLawful};
+ghost use Rattle.vt_steps.specs.declared.step.Step.{Step};
+ghost use Rattle.vt_steps.specs.declared.step.Step.TheVariants.{Home, Accept};
+ghost use Rattle.vt_steps.specs.declared.step.Reply.TheVariants.{Done};
+ghost use Rattle.vt_steps.specs.World.{LogicalProcess, Part};
+ghost use Rattle.vt_steps.specs.PartSteps.{is_for};
+ghost use Rattle.vt_steps.specs.Next.{next, reached};
+ghost use Rattle.vt_steps.specs.Claims.{AreCopiesRight, IsProcess, DoRanksRise, AreHistoriesRight};
+
+/// After any steps, each stamp has its copies. A stamp that is live, since a start sent it or what sent it is executed, has
+/// one message or executed event, and no anti-message. Any other stamp that was made has a message or executed event and an
+/// anti-message, or neither; and one that wasn't made has none.
+///
+/// No law of the simulation is needed for it, and no order in which letters are delivered.
+pub fn copies_are_right<S, P>()
+    ghost sim: { Simulation S P }
+    ensures { (serial : ℕ) (steps : List Step) (stamp : Stamp) → AreCopiesRight sim serial (reached sim serial steps) stamp }
+{}
+
+/// After any steps, the ranks of what each process has executed rise strictly, what it committed before what it did not.
+pub fn ranks_rise<S, P>()
+    ghost sim: { Simulation S P }
+    requires { IsLawful sim }
+    ensures { (serial : ℕ) (steps : List Step) (p : ℕ) (process : LogicalProcess P) → IsProcess sim (reached sim serial steps) p process → DoRanksRise process }
+{}
+
+/// After any steps, wherever the world is quiet below a time, since no event and no anti-message before it is unprocessed or
+/// travelling, each process has executed before it what the sequential run executes there, in the same order.
+pub fn histories_are_right<S, P>()
+    ghost sim: { Simulation S P }
+    requires { IsLawful sim }
+    ensures { (serial : ℕ) (steps : List Step) → AreHistoriesRight sim (reached sim serial steps) }
+{}
+
+/// After any steps, a letter that comes home, or that is accepted out of the mail, finds its process, which doesn't hold it
+/// already: the step is answered as done.
+pub fn letters_are_delivered<S, P>()
+    ghost sim: { Simulation S P }
+    requires { IsLawful sim }
+    ensures homes { (serial : ℕ) (steps : List Step) (w : ℕ) (part : Part P) (letter : Letter P) → slice_get (reached sim serial steps).parts w ≡ Some part →
+        find (is_for sim w) part.outbox ≡ Some letter → (next sim (reached sim serial steps) (Home w)).answer ≡ Ok Done }
+    ensures accepts { (serial : ℕ) (steps : List Step) (w i : ℕ) (part : Part P) (mail : Mail P) → slice_get (reached sim serial steps).parts w ≡ Some part →
+        slice_get part.arrived i ≡ Some mail → (next sim (reached sim serial steps) (Accept w i)).answer ≡ Ok Done }
+{}

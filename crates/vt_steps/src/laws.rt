@@ -1,0 +1,59 @@
+//! What the steps keep, whatever the world is.
+
+ghost use Rattle.std.specs.Prelude.{ℕ, IsTrue};
+ghost use Rattle.vt_key.specs.declared.letter.Event.{Event};
+ghost use Rattle.vt_model.specs.Simulation.{Simulation};
+ghost use Rattle.vt_steps.specs.declared.step.Step.{Step};
+ghost use Rattle.vt_steps.specs.World.{LogicalProcess, Part, World};
+ghost use Rattle.vt_steps.specs.Next.{next};
+ghost use Rattle.vt_steps.specs.Cells.{is_local};
+ghost use Rattle.vt_steps.specs.Laws.{IsFreeOf, Annihilate, IsMailKept, IsRefusalRight, ChangesOnePart, IsReplyRight, AreLettersRight, ActsOnOneCell, LeavesCells};
+
+/// A refused step changes nothing. It is refused as closed exactly where it is a commit or a close and the book is closed,
+/// and else as not lawful.
+pub fn refused_steps_change_nothing<S, P>()
+    ghost sim: { Simulation S P }
+    ensures { (world : World P) (step : Step) → IsRefusalRight sim world step }
+{}
+
+/// A local step (execute, undo, cancel, home or accept) changes the part of one worker alone.
+pub fn local_steps_change_one_part<S, P>()
+    ghost sim: { Simulation S P }
+    ensures { (world : World P) (step : Step) → IsTrue (is_local step) → ChangesOnePart sim world step }
+{}
+
+/// A report is answered that others are awaited, that a new pass begins, or with the new announced time, which changes in
+/// that case alone. Every other step that isn't refused is answered as done.
+pub fn reports_are_answered<S, P>()
+    ghost sim: { Simulation S P }
+    ensures { (world : World P) (step : Step) → IsReplyRight sim world step }
+{}
+
+/// A message and its anti-message annihilate each other, whichever came first: a process to which both came and that
+/// cancels them is what it was (Jefferson, Virtual Time, 1985).
+pub fn letters_annihilate<S, P>()
+    ghost event: { Event P }
+    ensures { (process : LogicalProcess P) → IsFreeOf event.rank.stamp process → Annihilate event process }
+{}
+
+/// Letters are made and vanish only where the steps say so: Execute takes a message and makes one for each event that is
+/// sent, Undo makes the message again and an anti-message for each event that was sent, Cancel takes a message and its
+/// anti-message, and all other steps only move letters.
+pub fn letters_are_kept<S, P>()
+    ghost sim: { Simulation S P }
+    ensures { (world : World P) → AreLettersRight sim world }
+{}
+
+/// No step makes or loses mail: of each colour, what is sent by it is got or travels.
+pub fn mail_is_kept<S, P>()
+    ghost sim: { Simulation S P }
+    ensures { (world : World P) (step : Step) → IsMailKept world (next sim world step).world }
+{}
+
+/// Every step reads and changes the part of one worker and the content of at most one cell, which is an inbox, the board or
+/// the book: it is `act` on these two, put back into the world. A local step leaves every cell as it is.
+pub fn steps_act_on_one_cell<S, P>()
+    ghost sim: { Simulation S P }
+    ensures acts { (world : World P) (step : Step) → ActsOnOneCell sim world step }
+    ensures leaves { (step : Step) (part : Part P) → IsTrue (is_local step) → LeavesCells sim step part }
+{}

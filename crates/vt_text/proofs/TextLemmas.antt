@@ -1,0 +1,98 @@
+-- Lengths of decimal texts, and texts that are partly written and partly held.
+use Rattle.std.proofs.Common.{◌≡◌, ℕ, ◌+◌, ◌-◌, ◌/◌, ◌^◌, ◌<◌, ◌≤◌, List, [], ◌++◌, length, take, drop, Option, ap, sym, subst, ◌∙◌, arith, append_assoc, append-nil, length-append, length-drop, take-append-drop, Result, Ok, Err, OnErr}
+use Rattle.std.specs.Fmt.{decimal}
+use Rattle.std.specs.Io.KnownBytes.{Appends}
+use Rattle.std.specs.List.{flat_map}
+use Rattle.std.proofs.lemmas.Fmt.{decimal_digit, decimal_step, decimal_nonempty, length-decimal-le}
+use Rattle.std.proofs.lemmas.List.{take_all}
+use Rattle.std.proofs.lemmas.Grind.{flat_map-append}
+use Rattle.std.proofs.KnownBytes.{Appends-nil, Appends-trans}
+use Rattle.vt_text.specs.Writing.{AppendsBeginning, AppendsAllButHeld}
+
+pub length_one : (n : ℕ) → n < 10 → length (decimal n) ≡ 1
+length_one n h = ap length (decimal_digit n h)
+
+pub length_step : (n : ℕ) → 10 ≤ n → n < 2 ^ 64 → (length (decimal n) ≡ length (decimal (n / 10)) + 1) × (0 < length (decimal (n / 10)))
+length_step n lo hi = (ap length (decimal_step n lo hi) ∙ length-append _ _, decimal_nonempty (n / 10) (omega arith))
+
+pub length_most : (n : ℕ) → n < 2 ^ 64 → length (decimal n) ≤ 20
+length_most n h = length-decimal-le 20 n (omega arith) (omega arith) h
+
+pub rest_is : (i : ℕ) (xs : List ℕ) → take (length xs - i) (drop i xs) ≡ drop i xs
+rest_is i xs = take_all (length xs - i) (drop i xs) (omega (arith, length-drop i xs))
+
+pub nothing_yet : (old : Option (List ℕ)) → AppendsAllButHeld old old [] []
+nothing_yet old = record { sent = []; whole = sym (append-nil []); appends = Appends-nil old }
+
+-- more text is held
+pub pushed : (old now : Option (List ℕ)) (held text more : List ℕ) → AppendsAllButHeld old now held text → AppendsAllButHeld old now (held ++ more) (text ++ more)
+pushed old now held text more g = record {
+  sent = g.sent;
+  appends = g.appends;
+  whole = ap (λ l. l ++ more) g.whole ∙ append_assoc g.sent held more;
+}
+
+-- all that was held is written
+pub written : (old now new : Option (List ℕ)) (held text : List ℕ) → AppendsAllButHeld old now held text → Appends now new held → Appends old new text
+written old now new held text g h = subst (λ (l : List ℕ). Appends old new l) (sym g.whole) (Appends-trans old now new g.sent held g.appends h)
+
+pub flushed : (old now new : Option (List ℕ)) (held text : List ℕ) → AppendsAllButHeld old now held text → Appends now new held → AppendsAllButHeld old new [] text
+flushed old now new held text g h = record {
+  sent = text;
+  appends = written old now new held text g h;
+  whole = sym (append-nil text);
+}
+
+-- of what was held, a beginning is written
+pub stopped : (old now new : Option (List ℕ)) (held text rest : List ℕ) → AppendsAllButHeld old now held text → AppendsBeginning now new held → AppendsBeginning old new (text ++ rest)
+stopped old now new held text rest g h = record {
+  sent = g.sent ++ h.sent;
+  unsent = h.unsent ++ rest;
+  whole = ap (λ l. l ++ rest) (g.whole ∙ ap (λ l. g.sent ++ l) h.whole) ∙ simp append_assoc;
+  short = omega (arith, h.short, length-append h.unsent rest);
+  appends = Appends-trans old now new _ _ g.appends h.appends;
+}
+
+-- more text was put: some of what was held and of it was written
+pub put_on : (old now new : Option (List ℕ)) (held held' text more : List ℕ) → AppendsAllButHeld old now held text → AppendsAllButHeld now new held' (held ++ more) → AppendsAllButHeld old new held' (text ++ more)
+put_on old now new held held' text more g h = record {
+  sent = g.sent ++ h.sent;
+  whole = ap (λ l. l ++ more) g.whole ∙ append_assoc g.sent held more ∙ ap (λ l. g.sent ++ l) h.whole ∙ sym (append_assoc g.sent h.sent held');
+  appends = Appends-trans old now new _ _ g.appends h.appends;
+}
+
+-- more text was put, and a beginning of what was held and of it was written
+pub put_fails : (old now new : Option (List ℕ)) (held text more : List ℕ) → AppendsAllButHeld old now held text → AppendsBeginning now new (held ++ more) → AppendsBeginning old new (text ++ more)
+put_fails old now new held text more g h = record {
+  sent = g.sent ++ h.sent;
+  unsent = h.unsent;
+  whole = ap (λ l. l ++ more) g.whole ∙ append_assoc g.sent held more ∙ ap (λ l. g.sent ++ l) h.whole ∙ sym (append_assoc g.sent h.sent h.unsent);
+  short = h.short;
+  appends = Appends-trans old now new _ _ g.appends h.appends;
+}
+
+-- a beginning of a text is one of a longer text
+pub of_longer : (old new : Option (List ℕ)) (text rest : List ℕ) → AppendsBeginning old new text → AppendsBeginning old new (text ++ rest)
+of_longer old new text rest h = record {
+  sent = h.sent;
+  unsent = h.unsent ++ rest;
+  whole = ap (λ l. l ++ rest) h.whole ∙ append_assoc h.sent h.unsent rest;
+  short = omega (arith, h.short, length-append h.unsent rest);
+  appends = h.appends;
+}
+
+-- what was held is written in part
+pub flush_fails : (old now new : Option (List ℕ)) (held text : List ℕ) → AppendsAllButHeld old now held text → AppendsBeginning now new held → AppendsBeginning old new text
+flush_fails old now new held text g h = subst (λ (l : List ℕ). AppendsBeginning old new l) (append-nil text) (stopped old now new held text [] g h)
+
+-- the lines up to i, and those from i on
+pub lines_split : {X : Type 0} (f : X → List ℕ) (xs : List X) (i : ℕ) → flat_map f xs ≡ flat_map f (take i xs) ++ flat_map f (drop i xs)
+lines_split f xs i = ap (flat_map f) (sym (take-append-drop i xs)) ∙ flat_map-append f (take i xs) (drop i xs)
+
+pub stopped_at : {X : Type 0} (f : X → List ℕ) (xs : List X) (i : ℕ) (old now new : Option (List ℕ)) (held : List ℕ) → AppendsAllButHeld old now held (flat_map f (take i xs)) → AppendsBeginning now new held → AppendsBeginning old new (flat_map f xs)
+stopped_at f xs i old now new held g h =
+    subst (λ (l : List ℕ). AppendsBeginning old new l) (sym (lines_split f xs i)) (stopped old now new held (flat_map f (take i xs)) (flat_map f (drop i xs)) g h)
+
+pub on_err : {T E P : Type 0} (r : Result T E) → P → OnErr r P
+on_err (Ok x) p = tt
+on_err (Err e) p = p

@@ -1,0 +1,17 @@
+//! The text that the program reads and writes: numbers, the lines of records, and the line of a refusal.
+//!
+//! Nothing here takes memory: text is gathered in a [`TextBuffer`] of a fixed size and goes out from there.
+#![tactic(auto)]
+
+mod buffer;
+mod number;
+mod printing;
+mod writing;
+
+pub use buffer::{RECORD_LEN, TEXT_ROOM, TextBuffer};
+pub use number::{NUMBER_LEN, numbers_are_read_back, read_number};
+pub use printing::print_records;
+pub use writing::write_bytes;
+
+#[cfg(test)]
+mod tests;

@@ -1,0 +1,2 @@
+pub mod Contest
+pub mod Least

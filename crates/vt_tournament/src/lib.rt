@@ -1,0 +1,10 @@
+//! A tournament: of many contestants, each with a rank or none, it tells the one of least rank, and an entry is changed at
+//! a cost that grows with the logarithm of their number. It takes memory only when it is made.
+//!
+//! This is the winner tree of replacement selection (Knuth, The Art of Computer Programming, volume 3, section 5.4.1).
+#![tactic(auto)]
+
+mod contestant;
+mod tree;
+
+pub use tree::Tournament;
