@@ -4,7 +4,7 @@ use Rattle.vt_stream.specs.Words.{Stream, word_of, moved}
 use Rattle.vt_models.specs.Phold.{throw, first_throws}
 use Rattle.vt_models.specs.PholdLaws.{first_throws_ok, first_throws-suc}
 use Rattle.vt_stream.proofs.DrawLemmas.{moved-zero, moved-moved, word_after}
-use Rattle.vt_models.proofs.RequestLemmas.{no_requests, sent_after}
+use Rattle.vt_model.proofs.RequestLemmas.{no_requests, sent_after}
 use Rattle.vt_models.proofs.phold.PholdEventModel.start.Goals as goal
 
 pub balls-init : goal.balls-init
