@@ -8,6 +8,7 @@ mod tests;
 use vt_key::Time;
 use vt_model::Config;
 use vt_seq::Sequential;
+use vt_text::print_records;
 use vt_traffic::Traffic;
 
 // The junctions of a row.
@@ -38,11 +39,7 @@ fn main(rt: HostRuntime) -> Result<(), anyhow::Error> {
     let model = Traffic::new(COLUMNS, CARS, GREEN, TRAVEL, TURNING)?;
     let config = Config::new(COLUMNS * ROWS, 1, END, SEED)?;
     let mut run = Sequential::new(rt.alloc(), &model, config)?;
-    for record in &run.run(rt.alloc())? {
-        println!(rt;
-            "{} {} {} {}",
-            record.time, record.lp, record.kind, record.value
-        )?;
-    }
+    let records = run.run(rt.alloc())?;
+    print_records(&mut rt.stdout(), records.as_slice())?;
     Ok(())
 }

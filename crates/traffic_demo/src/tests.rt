@@ -4,9 +4,9 @@
 use std::rt::{self, HostRuntime};
 use std::test::Fail;
 use vt_key::{Fault, MAX_COUNT, MAX_END};
-use vt_model::stream::LpStream;
 use vt_model::{Bits, Config, Draws, Model as EventModel, Out, Record, Sent};
 use vt_seq::Sequential;
+use vt_stream::LpStream;
 use vt_traffic::{Junction, JunctionEvent, PASSED, Traffic, WAITING};
 
 fn record(time: u64, lp: u32, kind: u32, value: u64) -> Record {

@@ -8,7 +8,7 @@ use Rattle.vt_traffic.specs.declared.junction.Road.{Road}
 use Rattle.vt_traffic.specs.declared.junction.Junction.{Junction}
 use Rattle.vt_traffic.specs.declared.junction.JunctionEvent.{JunctionEvent}
 use Rattle.vt_traffic.specs.declared.junction.JunctionEvent.TheVariants.{Arrive, Leave, Change}
-use Rattle.vt_traffic.specs.Drawn.{scaled}
+use Rattle.vt_stream.specs.Drawn.{scaled}
 use Rattle.vt_traffic.specs.Junction.{is_same_road, one_more, can_enter, with_car, entered, leave, entry, gone}
 use Rattle.vt_traffic.specs.Traffic.{change_after, after_event, own_sends, filled, traffic_start, traffic_forward}
 use Rattle.vt_traffic.specs.Cars.{cars_crossing, cars_at, cars_brought, cars_sent}

@@ -1,5 +1,3 @@
-pub mod DrawLemmas
-pub mod RequestLemmas
 pub mod TrafficSteps
 pub mod CarLemmas
 pub mod DistinctLemmas

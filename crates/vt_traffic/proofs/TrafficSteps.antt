@@ -1,7 +1,6 @@
 -- Steps of `Traffic`'s handlers.
-use Rattle.std.proofs.Common.{◌≡◌, ℕ, ◌+◌, List, [], ◌∷◌, ◌++◌, length, refl, ap, ◌∙◌, Option, Some, None, length-append, append-nil}
-use Rattle.std.proofs.lemmas.List.{length-map}
-use Rattle.vt_model.specs.Sends.{SendRequest, RecordRequest, Outgoing, requested_records, with_requests}
+use Rattle.std.proofs.Common.{◌≡◌, ℕ, [], ◌∷◌, ◌++◌, refl, ap, ◌∙◌, Option, Some, None, append-nil}
+use Rattle.vt_model.specs.Sends.{RecordRequest, Outgoing, with_requests}
 use Rattle.vt_model.proofs.SendLemmas.{with_requests-append}
 use Rattle.vt_traffic.specs.declared.grid.Traffic.{Traffic}
 use Rattle.vt_traffic.specs.declared.junction.TheConstants.{WAITING}
@@ -10,23 +9,10 @@ use Rattle.vt_traffic.specs.declared.junction.JunctionEvent.{JunctionEvent}
 use Rattle.vt_traffic.specs.Junction.{waiting, entered, entry}
 use Rattle.vt_traffic.specs.Traffic.{after_event, own_sends, own_records, traffic_forward}
 
--- how many records there are
-abbrev pub count : {P : Type 0} → Outgoing P → ℕ
-count o = length o.records
-
--- each request for a record makes one
-pub recorded : {P : Type 0} (o a : Outgoing P) (xs : List (SendRequest P)) (ns : List RecordRequest) → a ≡ with_requests o xs ns → length a.records ≡ length o.records + length ns
-unfolding requested_records
-recorded o a xs ns asked = ap count asked ∙ simp (length-append, length-map)
-
 -- no road is what a crossing has where no car crosses
 pub none_left : {X : Type 0} (k : Option X) → ((x : X) → k ≡ Some x → ⊥) → k ≡ None
 none_left None never = refl
 none_left (Some x) never = absurd (never x refl)
-
--- one send and then others
-pub sent_then : {P : Type 0} (o a b : Outgoing P) (x : SendRequest P) (xs : List (SendRequest P)) → a ≡ with_requests o (x ∷ []) [] → b ≡ with_requests a xs [] → b ≡ with_requests o (x ∷ xs) []
-sent_then o a b x xs sent more = more ∙ ap (λ (w : Outgoing _). with_requests w xs []) sent ∙ with_requests-append o (x ∷ []) xs [] []
 
 module _ (m : Traffic) (lps lp : ℕ) (p : JunctionEvent) (j : Junction) (words : ℕ → ℕ) where
   -- an out after what an event asks for itself

@@ -11,7 +11,7 @@ use Rattle.vt_traffic.specs.declared.junction.Road.{Road}
 use Rattle.vt_traffic.specs.declared.junction.Road.TheVariants.{Eastward, Southward}
 use Rattle.vt_traffic.specs.declared.junction.JunctionEvent.{JunctionEvent}
 use Rattle.vt_traffic.specs.declared.junction.JunctionEvent.TheVariants.{Arrive, Leave, Change}
-use Rattle.vt_traffic.specs.Drawn.{scaled}
+use Rattle.vt_stream.specs.Drawn.{scaled}
 use Rattle.vt_traffic.specs.Junction.{other_road, waiting, joined, unjoined, changed, can_enter, entered, entry, gone, one_more, one_fewer}
 
 -- the road by which a car goes on: it turns where its word, in percent, is below the share of those that turn

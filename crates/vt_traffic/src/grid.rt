@@ -4,7 +4,7 @@ ghost use Rattle.std.specs.Prelude.{◌≡◌, ◌+◌, ◌<◌, ◌≤◌, [], 
 ghost use Rattle.vt_key.specs.Faults.{option_named};
 ghost use Rattle.vt_key.specs.declared.limits.TheConstants.{MAX_PROCESSES};
 ghost use Rattle.vt_model.specs.declared.limits.TheConstants.{MAX_DRAWS, MAX_SENDS, MAX_RECORDS};
-ghost use Rattle.vt_model.specs.Words.{word_of, moved};
+ghost use Rattle.vt_stream.specs.Words.{word_of, moved};
 ghost use Rattle.vt_model.specs.Sends.{with_requests};
 ghost use Rattle.vt_traffic.specs.declared.grid.TheConstants.{MAX_CARS, MAX_GREEN, MAX_TRAVEL, MAX_TURNING};
 ghost use Rattle.vt_traffic.specs.Options.{first_bad_option};

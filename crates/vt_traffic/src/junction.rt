@@ -106,7 +106,7 @@ impl Junction {
         self.at_red = at_green;
     }
 
-    #[tactic(auto, using(crate::proofs::RequestLemmas::no_requests))]
+    #[tactic(auto, using(vt_model::proofs::RequestLemmas::no_requests))]
     /// The first car at green enters, if one waits there and none is crossing: it leaves a tick later. Answers whether it
     /// does. `lp` is the junction's process, below [`Out::lps`], and there must be room ([`Out::room`]).
     pub fn enter(&mut self, lp: u32, out: &mut Out<JunctionEvent>) -> bool

@@ -1,14 +1,14 @@
 use Rattle.std.proofs.Common.{◌≡◌, ◌≤◌, [], ◌∷◌, ◌∙◌, sym, ap, length, Option, arith, lit<}
 use Rattle.vt_model.specs.Sends.{with_requests}
-use Rattle.vt_model.specs.Words.{word_of}
+use Rattle.vt_stream.specs.Words.{word_of}
 use Rattle.vt_traffic.specs.declared.junction.Road.{Road}
 use Rattle.vt_traffic.specs.declared.junction.TheConstants.{WAITING}
 use Rattle.vt_traffic.specs.declared.junction.JunctionEvent.{JunctionEvent}
 use Rattle.vt_traffic.specs.declared.junction.JunctionEvent.TheVariants.{Leave}
 use Rattle.vt_traffic.specs.Junction.{waiting, entered, entry, gone}
 use Rattle.vt_traffic.specs.Traffic.{departure, departed, change_after, after_event, own_sends, own_records}
-use Rattle.vt_traffic.proofs.RequestLemmas.{no_requests}
-use Rattle.vt_traffic.proofs.TrafficSteps.{count, recorded, none_left, with_own, all_asked}
+use Rattle.vt_model.proofs.RequestLemmas.{no_requests, record_count, recorded}
+use Rattle.vt_traffic.proofs.TrafficSteps.{none_left, with_own, all_asked}
 use Rattle.vt_traffic.proofs.grid.TrafficEventModel.forward.Goals as goal
 use Rattle.vt_traffic.proofs.grid.TrafficEventModel.forward.Goals.{in-Arrive, in-Leave+in-Some, in-Leave+in_default, in-Change}
 
@@ -18,10 +18,10 @@ emit-requires c =
     let none : length o.records ≡ 0 = ap length c.requires.fresh.records in
     let few : length c.match-payload.out.records ≤ 1 =
     elim c.match-payload.branch [
-      | in-Arrive w ↦ omega (arith, ap count w.out-is)
-      | in-Leave+in-Some w ↦ omega (arith, ap count w.out-is, recorded o _ _ _ w.depart.ensures.out)
-      | in-Leave+in_default w ↦ omega (arith, ap count w.out-is)
-      | in-Change w ↦ omega (arith, ap count w.out-is, recorded o _ _ _ w.send.ensures)
+      | in-Arrive w ↦ omega (arith, ap record_count w.out-is)
+      | in-Leave+in-Some w ↦ omega (arith, ap record_count w.out-is, recorded o _ _ _ w.depart.ensures.out)
+      | in-Leave+in_default w ↦ omega (arith, ap record_count w.out-is)
+      | in-Change w ↦ omega (arith, ap record_count w.out-is, recorded o _ _ _ w.send.ensures)
     ] in
     let no_more = recorded c.match-payload.out _ _ _ c.enter.ensures.out in
     (lit< tt, omega arith)

@@ -1,11 +1,11 @@
 use Rattle.std.proofs.Common.{◌≡◌, ◌+◌, [], ◌∷◌, ◌∙◌, ap, None}
 use Rattle.vt_model.specs.Sends.{with_requests}
-use Rattle.vt_model.specs.Words.{word_of}
+use Rattle.vt_stream.specs.Words.{word_of}
 use Rattle.vt_traffic.specs.declared.junction.Road.TheVariants.{Eastward}
-use Rattle.vt_traffic.specs.Drawn.{scaled}
+use Rattle.vt_stream.specs.Drawn.{scaled}
 use Rattle.vt_traffic.specs.Junction.{entry}
 use Rattle.vt_traffic.specs.Traffic.{change_after}
-use Rattle.vt_traffic.proofs.TrafficSteps.{sent_then}
+use Rattle.vt_model.proofs.RequestLemmas.{sent_then}
 use Rattle.vt_traffic.proofs.grid.TrafficEventModel.start.Goals as goal
 
 pub returns-clause-out : goal.returns-clause-out
