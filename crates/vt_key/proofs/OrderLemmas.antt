@@ -5,7 +5,7 @@ use Rattle.std.proofs.lemmas.Bool.{cases_order}
 use Rattle.vt_key.specs.declared.order.Key.{Key}
 use Rattle.vt_key.specs.declared.order.Stamp.{Stamp}
 use Rattle.vt_key.specs.declared.order.Rank.{Rank}
-use Rattle.vt_key.specs.Order.{KeyBefore, StampBefore, RankBefore, key_before, key_same, stamp_before, stamp_same, rank_before, IsStrictTotal}
+use Rattle.vt_key.specs.Order.{KeyBefore, StampBefore, RankBefore, key_before, key_same, stamp_before, stamp_same, rank_before, rank_same, IsStrictTotal}
 
 -- ---- keys
 
@@ -170,6 +170,19 @@ before-rank_before a b (inr h) = elim (cases (key_before a.key b.key)) [
   cases : (t : Bool) → (t ≡ true) ⊎ (t ≡ false)
   cases true = inl refl
   cases false = inr refl
+
+pub rank_same-true : (a b : Rank) → rank_same a b ≡ true → a ≡ b
+unfolding rank_same
+rank_same-true a b h =
+    let k : key_same a.key b.key ≡ true = grind (arith, h) in
+    let s : stamp_same a.stamp b.stamp ≡ true = grind (arith, h) in
+    let e : a.key ≡ b.key = key_same-true a.key b.key k in
+    let f : a.stamp ≡ b.stamp = stamp_same-true a.stamp b.stamp s in
+    λ i. record { key = e i; stamp = f i }
+
+pub same-rank_same : (a : Rank) → rank_same a a ≡ true
+unfolding rank_same
+same-rank_same a = ap (λ (t : Bool). t && stamp_same a.stamp a.stamp) (same-key_same a.key) ∙ same-stamp_same a.stamp
 
 -- ---- the three laws
 

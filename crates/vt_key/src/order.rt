@@ -1,7 +1,7 @@
 //! Keys, stamps and ranks, and their orders.
 
 ghost use Rattle.std.specs.Prelude.{◌≡◌};
-ghost use Rattle.vt_key.specs.Order.{KeyBefore, StampBefore, RankBefore, key_before, rank_before, IsStrictTotal};
+ghost use Rattle.vt_key.specs.Order.{KeyBefore, StampBefore, RankBefore, key_before, rank_before, rank_same, stamp_same, IsStrictTotal};
 
 use crate::Time;
 
@@ -40,6 +40,16 @@ pub struct Stamp {
     pub serial: u64,
 }
 
+impl Stamp {
+    #[tactic(auto, unfolding(crate::specs::Order::stamp_same))]
+    /// Whether the two are one stamp.
+    pub fn is_same(&self, other: &Stamp) -> bool
+        ensures { result ≡ stamp_same self.now other.now }
+    {
+        self == other
+    }
+}
+
 /// The order of queues: by key, and among events of one key by stamp.
 #[derive(Debug, Clone, Copy, PartialEq, Eq, PartialOrd, Ord, Hash)]
 pub struct Rank {
@@ -56,6 +66,14 @@ impl Rank {
         ensures { result ≡ rank_before self.now other.now }
     {
         *self < *other
+    }
+
+    #[tactic(auto, unfolding(crate::specs::Order::rank_same, crate::specs::Order::key_same, crate::specs::Order::stamp_same))]
+    /// Whether the two are one rank.
+    pub fn is_same(&self, other: &Rank) -> bool
+        ensures { result ≡ rank_same self.now other.now }
+    {
+        *self == *other
     }
 }
 

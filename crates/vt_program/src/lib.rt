@@ -16,6 +16,7 @@ ghost use Rattle.vt_program.specs.Refusals.{TellsRefusal, status_of};
 ghost use Rattle.vt_program.specs.Outcomes.{IsDone, EndsBy};
 
 pub use refusal::tell_refusal;
+pub use vt_text::print_records;
 use simulation::simulate;
 use std::alloc::Global;
 use std::convert::AsStr;

@@ -1,2 +1,3 @@
 mod Computed
 mod SequentialRuns
+mod ResendingComputed

@@ -300,6 +300,19 @@ undo_without_cause = ok (Home 0) ∷ ok (Execute 0) ∷ not_lawful (Undo 0) ∷ 
 abbrev pub undo_without_cause_shown : Shown
 undo_without_cause_shown = record { announced = 0; floor = 0; least = 2; records = [] }
 
+-- ---- an undo without a cause of its own
+
+-- an event at the same time but of greater rank, an anti-message that waits for a later event, and a later event: none of
+-- them makes an undo lawful
+abbrev pub undo_without_cause_of_its_own : List Line
+undo_without_cause_of_its_own =
+    ok (Home 0) ∷ ok (Home 1) ∷ ok (Execute 1) ∷ ok (Execute 0) ∷ ok (Send 0 1) ∷ ok (Fetch 1) ∷ ok (Accept 1 0)
+    ∷ ok (Undo 1) ∷ ok (Execute 1) ∷ not_lawful (Undo 1) ∷ ok (Execute 1) ∷ ok (Send 1 0) ∷ ok (Fetch 0)
+    ∷ ok (Accept 0 1) ∷ not_lawful (Undo 0) ∷ ok (Accept 0 0) ∷ not_lawful (Undo 0) ∷ []
+
+abbrev pub undo_without_cause_of_its_own_shown : Shown
+undo_without_cause_of_its_own_shown = record { announced = 0; floor = 0; least = 3; records = [] }
+
 -- ---- one worker commits alone
 
 -- the floor of the book is the least floor up to which a worker has handed in, so nothing is shown yet

@@ -6,11 +6,13 @@
 #![tactic(auto)]
 
 mod hop_runs;
+mod resending;
+
+ghost use Rattle.vt_replays.specs.Replays.{Replays, replayed, two_hops_run, straggler, whole_run_shown, anti_message_first, new_event_first, unequal_counts, unequal_counts_shown, travelling_least, travelling_least_shown, fetched_least, fetched_least_shown, anti_message_last, row_at_floor, row_at_floor_shown, second_round_closes, one_round, one_round_shown, alone, until_one, no_events, no_events_shown, undo_without_cause, undo_without_cause_shown, undo_without_cause_of_its_own, undo_without_cause_of_its_own_shown, one_commits, one_commits_shown, after_the_close};
+ghost use Rattle.vt_replays.specs.Replays.{HasRecords, EndsWith, two_hops_run_to_4, three_processes_run, six_records, three_records, four_records, three_processes_records, below_3};
 
 pub use hop_runs::hop_histories;
-
-ghost use Rattle.vt_replays.specs.Replays.{Replays, replayed, two_hops_run, straggler, whole_run_shown, anti_message_first, new_event_first, unequal_counts, unequal_counts_shown, travelling_least, travelling_least_shown, fetched_least, fetched_least_shown, anti_message_last, row_at_floor, row_at_floor_shown, second_round_closes, one_round, one_round_shown, alone, until_one, no_events, no_events_shown, undo_without_cause, undo_without_cause_shown, one_commits, one_commits_shown, after_the_close};
-ghost use Rattle.vt_replays.specs.Replays.{HasRecords, EndsWith, two_hops_run_to_4, three_processes_run, six_records, three_records, four_records, three_processes_records, below_3};
+pub use resending::waiting_anti_message_is_the_least;
 
 /// The worked replays: each list of steps, from the opening world with serials from 0, is answered as listed, and the world
 /// then shows the announced time, the floor, the least time and the records that are listed.
@@ -28,6 +30,7 @@ pub fn replays_as_worked()
     ensures refused_to_one_worker { Replays two_hops_run alone one_round_shown }
     ensures run_without_events { Replays until_one no_events no_events_shown }
     ensures undo_without_cause { Replays two_hops_run undo_without_cause undo_without_cause_shown }
+    ensures undo_without_cause_of_its_own { Replays replayed undo_without_cause_of_its_own undo_without_cause_of_its_own_shown }
     ensures one_worker_commits { Replays replayed one_commits one_commits_shown }
     ensures closed_book { Replays replayed after_the_close whole_run_shown }
 {}

@@ -1,8 +1,7 @@
 -- In every reached world the announced time is at most the least time of what is unprocessed or travelling.
-use Rattle.std.proofs.Common.{◌≡◌, ℕ, ◌+◌, Bool, true, false, List, [], ◌∷◌, map, refl, sym, subst, ◌∙◌, ap, arith, Some, slice_get, slice_set}
+use Rattle.std.proofs.Common.{◌≡◌, ℕ, true, false, List, [], ◌∷◌, map, refl, sym, subst, ◌∙◌, ap, arith, Some, slice_get, slice_set}
 use Rattle.std.specs.List.{sum_by, range_with_len}
 use Rattle.std.proofs.Math.Nat.{le_refl}
-use Rattle.std.proofs.lemmas.Bool.Decides.{nat_tests}
 use Rattle.std.proofs.lemmas.List.{length-replicate}
 use Rattle.std.proofs.lemmas.List.FromFn.{length-map-range_with_len}
 use Rattle.std.proofs.lemmas.List.Folds.{sum_by-replicate}
@@ -183,6 +182,7 @@ module _ {S P : Type 0} (sim : Simulation S P) (serial : ℕ) where
           least_end = omega arith;
           announced_end = omega arith;
           announced = none-before-opening t;
+          red_late = λ h w part at. (let from = opening-part-is w part at in let red = ap (λ p. p.red_minimum) from.1 in omega arith);
         };
         entries = opening-entries sim serial hasty;
         shape = opening-shape sim serial;

@@ -1,5 +1,5 @@
 -- Letters before a time: how many there are in a list, a part and a world; and that there are none exactly up to the least time.
-use Rattle.std.proofs.Common.{◌≡◌, inl, inr, ℕ, ◌+◌, Bool, true, false, List, [], ◌∷◌, ◌++◌, map, refl, ap, arith}
+use Rattle.std.proofs.Common.{◌≡◌, inl, inr, ℕ, ◌+◌, true, false, List, [], ◌∷◌, ◌++◌, map, refl, ap, arith}
 use Rattle.std.specs.List.{sum_by, flat_map}
 use Rattle.std.proofs.lemmas.Bool.{cases_lt}
 use Rattle.std.proofs.lemmas.Bool.Decides.{nat_tests}
@@ -10,7 +10,7 @@ use Rattle.vt_key.specs.declared.letter.Letter.{Letter}
 use Rattle.vt_key.specs.declared.letter.Mail.{Mail}
 use Rattle.vt_key.specs.declared.letter.Sign.{Sign}
 use Rattle.vt_steps.specs.Copies.{as_count, letter_weight, mail_weight, process_sum, part_sum}
-use Rattle.vt_steps.specs.Letters.{letter_time, least_time}
+use Rattle.vt_steps.specs.Letters.{least_time}
 use Rattle.vt_steps.specs.World.{LogicalProcess, Part, World, letters_in, all_letters}
 use Rattle.vt_steps.proofs.Sums.{sum_by-map}
 

@@ -1,4 +1,4 @@
--- Sums over the workers whose flag is set, and flags.
+-- Sums over the workers whose flag is set, flags, and what stands at a place after a write.
 use Rattle.std.proofs.Common.{◌≡◌, ◌⊎◌, inl, inr, ℕ, zero, suc, ◌+◌, ◌≤◌, Bool, true, false, cond, List, [], ◌∷◌, length, replicate, refl, sym, ◌∙◌, ap, arith, Option, Some, None, slice_get, slice_set}
 use Rattle.std.specs.List.{sum_by}
 use Rattle.std.proofs.lemmas.Bool.Decides.{eqb_tells}
@@ -121,14 +121,16 @@ clear-is None e = absurd (let h : false ≡ true = e in cc)
 clear-is (Some true) e = absurd (let h : false ≡ true = e in cc)
 clear-is (Some false) e = refl
 
--- where a flag was set, it is set at that place, and elsewhere it is as before
-pub set-cases : (bs : List Bool) (i j : ℕ) (b : Bool) → slice_get bs i ≡ Some false → slice_get (slice_set bs i true) j ≡ Some b →
-    ((j ≡ i) × (b ≡ true)) ⊎ ((j ≡ i → ⊥) × (slice_get bs j ≡ Some b))
-set-cases bs i j b is at =
+-- ---- an element after a write
+
+-- what stands at a place after a write was written there, or stood there before
+pub put-cases : {X : Type 0} (xs : List X) (i j : ℕ) (x y z : X) → slice_get xs i ≡ Some x → slice_get (slice_set xs i y) j ≡ Some z →
+    ((j ≡ i) × (z ≡ y)) ⊎ ((j ≡ i → ⊥) × (slice_get xs j ≡ Some z))
+put-cases xs i j x y z is at =
     elim (eqb_tells j i) [
       | inl e ↦
-          (let there : slice_get (slice_set bs i true) i ≡ Some b = ap (λ k. slice_get (slice_set bs i true) k) (sym e.1) ∙ at in
-          let here : slice_get (slice_set bs i true) i ≡ Some true = get-put_same bs i false true is in
-          inl (e.1, let same : b ≡ true = cc in same))
-      | inr e ↦ inr (e.1, sym (get-put_other bs i j true e.1) ∙ at)
+          (let there : slice_get (slice_set xs i y) i ≡ Some z = ap (λ k. slice_get (slice_set xs i y) k) (sym e.1) ∙ at in
+          let here : slice_get (slice_set xs i y) i ≡ Some y = get-put_same xs i x y is in
+          inl (e.1, let same : z ≡ y = cc in same))
+      | inr e ↦ inr (e.1, sym (get-put_other xs i j y e.1) ∙ at)
     ]

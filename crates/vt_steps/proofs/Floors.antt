@@ -1,14 +1,13 @@
 -- Floors: each worker's hand-in floor is at most its floor, and that at most the announced time; the announced time is at most
 -- the least value reported so far, so it never falls, nor does the book's floor.
-use Rattle.std.proofs.Common.{◌≡◌, inl, inr, ℕ, zero, suc, ◌+◌, Bool, true, false, cond, List, [], ◌∷◌, length, replicate, refl, sym, subst, ◌∙◌, ap, arith, Option, Some, None, slice_get, slice_set, nat_eq}
+use Rattle.std.proofs.Common.{◌≡◌, inl, inr, ℕ, zero, suc, ◌+◌, true, false, cond, List, [], ◌∷◌, length, replicate, refl, sym, subst, ◌∙◌, ap, arith, Option, Some, None, slice_get, slice_set, nat_eq}
 use Rattle.std.specs.List.{range_with_len}
 use Rattle.std.proofs.Math.ListN.{length-set}
 use Rattle.std.proofs.Math.Nat.{le_refl}
 use Rattle.std.proofs.lemmas.List.{length-replicate}
 use Rattle.std.proofs.lemmas.List.FromFn.{length-map-range_with_len}
-use Rattle.std.proofs.lemmas.Option.{slice_get_within}
 use Rattle.std.proofs.lemmas.Bool.{eqb-true}
-use Rattle.std.proofs.lemmas.Bool.Decides.{nat_tests, eqb_tells}
+use Rattle.std.proofs.lemmas.Bool.Decides.{nat_tests}
 use Rattle.vt_key.specs.Times.{Time, TimeAtMost, opening_time, time_at_most}
 use Rattle.vt_model.specs.Simulation.{Simulation}
 use Rattle.vt_model.specs.Histories.{IsLawful}
@@ -20,7 +19,8 @@ use Rattle.vt_steps.specs.PartSteps.{part_after_send, part_after_fetch, part_aft
 use Rattle.vt_steps.specs.World.{Part, Board, Book, World, opening_part, opening_world, least_floor, book_floor}
 use Rattle.vt_steps.proofs.Announced.{IsTimeSound, time-kept, opening-time-sound}
 use Rattle.vt_steps.proofs.Changes.{homes, arrives, Local, acts, takes, Change, stays, local, sends, fetches, cuts, reports, commits, closes, next_changes, run_keeps, if_has}
-use Rattle.vt_steps.proofs.Places.{all-put, get-map, get-put_same, get-put_other, get-replicate, get-within}
+use Rattle.vt_steps.proofs.Places.{all-put, get-map, get-replicate, get-within}
+use Rattle.vt_steps.proofs.Flags.{put-cases}
 use Rattle.vt_steps.proofs.Tests.{both_pass}
 
 -- ---- the least of a list of floors
@@ -127,7 +127,7 @@ pass-rises end board least bounded least_end =
 -- ---- the book changes
 
 -- a worker that may commit has a hand-in floor, at most its floor
-commit-has : (o : Option Time) (floor : Time) → may_commit o floor ≡ true → (handed_in : Time) × (o ≡ Some handed_in) × TimeAtMost handed_in floor
+pub commit-has : (o : Option Time) (floor : Time) → may_commit o floor ≡ true → (handed_in : Time) × (o ≡ Some handed_in) × TimeAtMost handed_in floor
 commit-has None floor e = absurd (let h : false ≡ true = e in cc)
 commit-has (Some f) floor e = (f, refl, let h : time_at_most f floor ≡ true = e in grind (arith, nat_tests))
 
@@ -211,17 +211,12 @@ module _ {S P : Type 0} (sim : Simulation S P) (old new : World P) (least_end : 
         sound = record {
           size = length-set old.book.floors w part.floor ∙ moved.size;
           announced = moved.announced;
-          handed_in = λ v p floor at handed_in. elim (eqb_tells v w) [
-            | inl same ↦
-                (let there : slice_get (slice_set old.parts w after) w ≡ Some p = ap (λ k. slice_get (slice_set old.parts w after) k) (sym same.1) ∙ at in
-                let here = get-put_same old.parts w part after is in
-                let q : p ≡ after = cc in
-                let r = ap (λ (p : Part P). p.floor) q in
-                let mine : slice_get floors w ≡ Some floor = ap (λ k. slice_get floors k) (sym same.1) ∙ handed_in in
-                let own = get-put_same old.book.floors w has.0 part.floor has.1 in
-                let x : floor ≡ part.floor = cc in
-                omega arith)
-            | inr apart ↦ moved.handed_in v p floor at (sym (get-put_other old.book.floors w v part.floor apart.1) ∙ handed_in)
+          handed_in = λ v p floor at handed_in. elim (put-cases old.book.floors w v has.0 part.floor floor has.1 handed_in) [
+            | inl mine ↦ elim (put-cases old.parts w v part after p is at) [
+              | inl own ↦ (let a = mine.1 in let b = ap (λ (q : Part P). q.floor) own.1 in omega arith)
+              | inr other ↦ absurd (other.0 mine.0)
+            ]
+            | inr others ↦ moved.handed_in v p floor at others.1
           ];
           least = f.least;
           bounded = f.bounded;

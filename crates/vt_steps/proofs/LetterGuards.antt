@@ -1,6 +1,6 @@
 -- The guards on letters never fail: a letter that comes home or is accepted finds its process, which does not hold it already.
 -- If it did, its stamp would have two plus copies, or two minus copies.
-use Rattle.std.proofs.Common.{◌≡◌, inl, inr, ℕ, ◌+◌, ◌/◌, ◌%◌, ◌≤◌, ◌<◌, Bool, true, false, cond, List, [], ◌∷◌, refl, sym, ◌∙◌, ap, subst, arith, Option, Some, None, slice_get, Ok}
+use Rattle.std.proofs.Common.{◌≡◌, inl, inr, ℕ, ◌+◌, ◌/◌, ◌%◌, ◌≤◌, ◌<◌, Bool, true, false, cond, List, [], ◌∷◌, refl, ◌∙◌, ap, arith, Option, Some, None, slice_get, Ok}
 use Rattle.std.specs.List.{sum_by, find, list_any, remove}
 use Rattle.std.specs.Option.{option_map, option_and_then}
 use Rattle.std.proofs.lemmas.Bool.{eqb-true}
@@ -15,63 +15,23 @@ use Rattle.vt_key.specs.declared.order.Rank.{Rank}
 use Rattle.vt_key.specs.declared.order.Stamp.{Stamp}
 use Rattle.vt_model.specs.Histories.{Among, IsLawful}
 use Rattle.vt_model.specs.Simulation.{Simulation}
-use Rattle.vt_model.specs.declared.sending.Sent.{Sent}
 use Rattle.vt_steps.specs.declared.step.Reply.TheVariants.{Done}
 use Rattle.vt_steps.specs.declared.step.Step.{Step}
 use Rattle.vt_steps.specs.declared.step.Step.TheVariants.{Home, Accept}
 use Rattle.vt_steps.specs.Copies.{as_count, entry_sum, is_copy, is_event_of, letter_sum, letter_weight, mail_weight, minus, part_entries, part_sum, plus, process_entries, process_sum}
-use Rattle.vt_steps.specs.Letters.{has_rank, stamped, unstamped, without_first}
+use Rattle.vt_steps.specs.Letters.{has_rank, without_first}
 use Rattle.vt_steps.specs.Next.{done_or_refused, next, reached, with_part}
 use Rattle.vt_steps.specs.PartSteps.{accept, accept_mail, deliver, home, home_letter, is_for, with_effect}
 use Rattle.vt_steps.specs.ProcessSteps.{accept_process, holds, with_letter}
-use Rattle.vt_steps.specs.World.{Entry, LogicalProcess, Part, World, opening_world}
-use Rattle.vt_steps.proofs.Lists.{Every, among-map, every-all, every-among, every-get, every-unmap, find-among, find-passes, get-among}
+use Rattle.vt_steps.specs.World.{Entry, LogicalProcess, Part, World}
+use Rattle.vt_steps.proofs.Lists.{every-among, every-get, find-among, find-passes, get-among}
 use Rattle.vt_steps.proofs.Tests.{both_pass, either_passes}
 use Rattle.vt_steps.proofs.Sums.{sum-among, sum-at}
-use Rattle.vt_steps.proofs.Stamped.{unstamped-stamped}
-use Rattle.vt_steps.proofs.Changes.{Change, run_keeps}
-use Rattle.vt_steps.proofs.Shape.{IsShaped, known-process, opening-shape, reached-shape, shape-kept}
+use Rattle.vt_steps.proofs.Shape.{known-process, reached-shape}
 use Rattle.vt_steps.proofs.Stamps.{StampFacts, stamp-facts}
-use Rattle.vt_steps.proofs.Everywhere.{InWorld, Spread, kept, made, change-spread, events_of_starts, opening-in, part-in}
-use Rattle.vt_steps.proofs.Agreement.{start-worker}
+use Rattle.vt_steps.proofs.Everywhere.{part-in}
 use Rattle.vt_steps.proofs.OwnHistories.{reached-own}
-use Rattle.vt_steps.proofs.LiveEvents.{start-first}
-
--- ---- receivers
-
--- an event is for a process below lps
-abbrev pub IsForKnown : {S P : Type 0} → Simulation S P → Event P → Type 0
-IsForKnown sim x = x.dest < sim.lps
-
-module _ {S P : Type 0} (sim : Simulation S P) (lawful : IsLawful sim) where
-  -- what is stamped of sends for known processes is for known processes
-  stamped-known : (w serial : ℕ) (sends : List (Sent P)) → Every (λ d. d.dest < sim.lps) sends → Every (IsForKnown sim) (stamped w serial sends)
-  stamped-known w serial sends h =
-      every-unmap unstamped (λ (d : Sent P). d.dest < sim.lps) (stamped w serial sends) (subst (Every (λ d. d.dest < sim.lps)) (sym (unstamped-stamped w serial sends)) h)
-
-  -- each change keeps that all events are for known processes
-  known-kept : (old new : World P) → IsShaped sim old → Change sim old new → InWorld (IsForKnown sim) old → InWorld (IsForKnown sim) new
-  known-kept old new shape change h = by_spread (change-spread sim old new shape change) where
-    by_spread : Spread sim old new → InWorld (IsForKnown sim) new
-    by_spread (kept f) = f (IsForKnown sim) h
-    by_spread (made w part after p triple event is is_after less more f) =
-        f (IsForKnown sim) h (stamped-known w part.serial (sim.fire p triple event).sends
-        (every-all (λ d. d.dest < sim.lps) (sim.fire p triple event).sends (λ d m. lawful.known p triple event d less m)))
-
-  -- so are those of the starts
-  starts-known : (serial : ℕ) → Every (IsForKnown sim) (events_of_starts sim serial)
-  starts-known serial =
-      every-all (IsForKnown sim) (events_of_starts sim serial) (λ x m.
-      (let r = start-worker sim serial x m in
-      let s = start-first sim serial x r.0 r.1 r.2 in
-      lawful.known_start s.0 (unstamped x) s.1
-      (subst (Among (unstamped x)) (unstamped-stamped (s.0 % sim.workers) _ (sim.start s.0).sends) (among-map unstamped x _ s.2))))
-
-  -- and all in each reached world
-  pub reached-known : (serial : ℕ) (steps : List Step) → InWorld (IsForKnown sim) (reached sim serial steps)
-  reached-known serial steps =
-      (run_keeps sim (λ world. IsShaped sim world × InWorld (IsForKnown sim) world) (λ old new change h. (shape-kept sim old new change h.0, known-kept old new h.0 change h.1)) steps
-      (opening_world sim serial) (opening-shape sim serial, opening-in sim serial (IsForKnown sim) (starts-known serial))).1
+use Rattle.vt_steps.proofs.Bounds.{IsBounded, reached-bounds}
 
 -- ---- a letter that is held
 
@@ -187,8 +147,8 @@ module _ {S P : Type 0} (sim : Simulation S P) where
         let world = reached sim serial steps in
         let stamp : Stamp = letter.event.rank.stamp in
         let member = find-among (is_for sim w) part.outbox letter found in
-        let known = every-among (λ (l : Letter P). IsForKnown sim l.event) part.outbox letter (part-in (IsForKnown sim) world w part at (reached-known sim lawful serial steps)).outbox member in
-        let process = receiver-there letter (find-passes (is_for sim w) part.outbox letter found) known in
+        let bounded = every-among (λ (l : Letter P). IsBounded sim l.event) part.outbox letter (part-in (IsBounded sim) world w part at (reached-bounds sim lawful serial steps)).outbox member in
+        let process = receiver-there letter (find-passes (is_for sim w) part.outbox letter found) bounded.known in
         let counted = sum-among (letter_weight (is_copy letter.sign stamp)) part.outbox letter member in
         let one : letter_weight (is_copy letter.sign stamp) letter ≡ 1 = own-copy letter.sign letter.event in
         let free = not-held sim serial world w (letter.event.dest / sim.workers) part process.0 letter.sign letter.event.rank (stamp-facts sim serial stamp steps) at process.1 (omega arith) in
@@ -203,9 +163,9 @@ module _ {S P : Type 0} (sim : Simulation S P) where
         let world = reached sim serial steps in
         let letter : Letter P = mail.letter in
         let stamp : Stamp = letter.event.rank.stamp in
-        let known = every-get (λ (m : Mail P). IsForKnown sim m.letter.event) part.arrived i mail there (part-in (IsForKnown sim) world w part at (reached-known sim lawful serial steps)).arrived in
+        let bounded = every-get (λ (m : Mail P). IsBounded sim m.letter.event) part.arrived i mail there (part-in (IsBounded sim) world w part at (reached-bounds sim lawful serial steps)).arrived in
         let for_w = every-get (λ (m : Mail P). is_for sim w m.letter ≡ true) part.arrived i mail there ((reached-own sim serial steps).parts w part at).arrived in
-        let process = receiver-there letter for_w known in
+        let process = receiver-there letter for_w bounded.known in
         let counted = sum-among (mail_weight (is_copy letter.sign stamp)) part.arrived mail (get-among part.arrived i mail there) in
         let one : mail_weight (is_copy letter.sign stamp) mail ≡ 1 = own-copy letter.sign letter.event in
         let free = not-held sim serial world w (letter.event.dest / sim.workers) part process.0 letter.sign letter.event.rank (stamp-facts sim serial stamp steps) at process.1 (omega arith) in

@@ -1,6 +1,6 @@
 -- Cut and Report keep what holds of each round. When the last worker reports equal sums, no mail of the old colour is
 -- travelling and none came to a worker since it reported, so the least value reported is a lower bound of all letters.
-use Rattle.std.proofs.Common.{◌≡◌, inl, inr, ℕ, zero, suc, ◌+◌, ◌≤◌, Bool, true, false, cond, List, length, replicate, refl, sym, ◌∙◌, ap, arith, Option, Some, None, slice_get, slice_set, nat_eq}
+use Rattle.std.proofs.Common.{◌≡◌, inl, inr, ℕ, ◌+◌, Bool, true, false, cond, List, length, replicate, refl, sym, ◌∙◌, ap, arith, Option, Some, slice_get, slice_set, nat_eq}
 use Rattle.std.specs.List.{sum_by}
 use Rattle.std.proofs.Math.ListN.{length-set}
 use Rattle.std.proofs.lemmas.Bool.{eqb-true}
@@ -17,9 +17,9 @@ use Rattle.vt_steps.specs.PartSteps.{part_after_cut, report_sent, report_got, re
 use Rattle.vt_steps.specs.World.{Board, Part, letters_in}
 use Rattle.vt_steps.proofs.Colours.{sent_in, got_in, early_coloured, other-other, all-coloured, none-coloured}
 use Rattle.vt_steps.proofs.Early.{early_in, early_mail, none-early, letters-early}
-use Rattle.vt_steps.proofs.Flags.{flagged_sum-put_same, flagged_sum-set, flagged_sum-all, flagged_sum-none, none-set, set-at, set-cases}
-use Rattle.vt_steps.proofs.Places.{get-put_same, get-put_other, get-replicate, get-within}
-use Rattle.vt_steps.proofs.Rounds.{IsRedLate, IsOpenRound, IsBetweenRounds, IsRoundSound}
+use Rattle.vt_steps.proofs.Flags.{flagged_sum-put_same, flagged_sum-set, flagged_sum-all, flagged_sum-none, none-set, set-at, put-cases}
+use Rattle.vt_steps.proofs.Places.{all-put, get-put_same, get-put_other, get-replicate, get-within}
+use Rattle.vt_steps.proofs.Rounds.{IsRedLate, IsOpenRound, IsRoundSound}
 use Rattle.vt_steps.proofs.Sums.{sum_by-put, sum_by-nothings, sum-at}
 
 -- a round that is open is not shut
@@ -61,7 +61,6 @@ module _ {P : Type 0} (end t : Time) (parts : List (Part P)) (inboxes : List (Li
           all_cut = λ w flag. absurd (none-set n w flag);
           sent = sym (flagged_sum-none (sent_in (other_colour next)) n parts);
           got = omega arith;
-          red_late = λ h w part at flag. absurd (none-set n w flag);
           new_mail = λ all. sum_by-nothings (early_coloured next t) inboxes (λ i inbox at. none-coloured next t inbox (let a = sum-at (count_colour next) inboxes i inbox at in omega arith));
           heard = λ nothing least others w part at flag. absurd (none-set n w flag);
         };
@@ -69,6 +68,7 @@ module _ {P : Type 0} (end t : Time) (parts : List (Part P)) (inboxes : List (Li
         least_end = omega arith;
         announced_end = g.announced_end;
         announced = g.announced;
+        red_late = g.red_late;
       }
 
   -- a round is open, the one that was or a new one
@@ -117,7 +117,7 @@ module _ {P : Type 0} (end t announced : Time) (parts : List (Part P)) (inboxes 
             omega arith);
         opened = λ still. record {
           colours = λ v p at flag cut.
-              elim (set-cases board.has_cut w v flag clear cut) [
+              elim (put-cases board.has_cut w v false true flag clear cut) [
                 | inl e ↦
                     (let there : slice_get (slice_set parts w after) w ≡ Some p = ap (λ k. slice_get (slice_set parts w after) k) (sym e.0) ∙ at in
                     let here : slice_get (slice_set parts w after) w ≡ Some after = get-put_same parts w part after is in
@@ -129,17 +129,6 @@ module _ {P : Type 0} (end t announced : Time) (parts : List (Part P)) (inboxes 
           all_cut = λ v flag. absurd (nobody-reported now o v flag);
           sent = o.sent ∙ sym (flagged_sum-put_same (sent_in old) board.has_reported parts w part after is refl);
           got = (let a = flagged_sum-put_same (got_in old) board.has_reported parts w part after is refl in let b = o.got in omega arith);
-          red_late = λ h v p at cut.
-              elim (set-cases board.has_cut w v true clear cut) [
-                | inl e ↦
-                    (let there : slice_get (slice_set parts w after) w ≡ Some p = ap (λ k. slice_get (slice_set parts w after) k) (sym e.0) ∙ at in
-                    let here : slice_get (slice_set parts w after) w ≡ Some after = get-put_same parts w part after is in
-                    let same : p ≡ after = cc in
-                    let red = ap (λ q. q.red_minimum) same in
-                    let bound = g.announced_end in
-                    omega arith)
-                | inr e ↦ o.red_late h v p (sym (get-put_other parts w v after e.0) ∙ at) e.1
-              ];
           new_mail = λ all. o.new_mail (λ v p at cut.
               (let apart = λ (e : v ≡ w). (let h : Some true ≡ Some false = sym cut ∙ (ap (λ k. slice_get board.has_cut k) e ∙ clear) in let none : ⊥ = cc in none) in
               all v p (get-put_other parts w v after apart ∙ at) (get-put_other board.has_cut w v true apart ∙ cut)));
@@ -149,6 +138,7 @@ module _ {P : Type 0} (end t announced : Time) (parts : List (Part P)) (inboxes 
         least_end = g.least_end;
         announced_end = g.announced_end;
         announced = λ h. (let a = g.announced h in let b = sum_by-put (early_in t) parts w part after is in omega arith);
+        red_late = λ h. all-put (λ v (p : Part P). TimeAtMost t p.red_minimum) parts w part after is (g.red_late h) (λ was. let bound = g.announced_end in omega arith);
       }
 
 -- ---- Report
@@ -195,14 +185,13 @@ module _ {P : Type 0} (end t : Time) (parts : List (Part P)) (inboxes : List (Li
           all_cut = λ v flag. all;
           sent = (let a = o.sent in omega arith);
           got = (let a = o.got in omega arith);
-          red_late = o.red_late;
           new_mail = o.new_mail;
           heard = λ nothing least others v p at flag.
               (let a = o.got in
               let mail_more = flagged_sum-set (count_colour old) board.has_reported inboxes w in_is.0 clear in_is.1 in
               let value : TimeAtMost t (report_least end part) = omega arith in
               let was = o.heard (omega arith) (omega arith) (others-were others value) in
-              elim (set-cases board.has_reported w v true clear flag) [
+              elim (put-cases board.has_reported w v false true true clear flag) [
                 | inl e ↦
                     (let here : slice_get parts w ≡ Some p = ap (λ k. slice_get parts k) (sym e.0) ∙ at in
                     let same : p ≡ part = cc in
@@ -218,6 +207,7 @@ module _ {P : Type 0} (end t : Time) (parts : List (Part P)) (inboxes : List (Li
         least_end = (let a = g.least_end in omega arith);
         announced_end = g.announced_end;
         announced = g.announced;
+        red_late = g.red_late;
       }
 
 -- the board with a report has its round open
@@ -252,7 +242,6 @@ module _ {P : Type 0} (end t : Time) (parts : List (Part P)) (inboxes : List (Li
           all_cut = λ w flag. absurd (none-set n w flag);
           sent = sym (flagged_sum-none (sent_in old) n parts);
           got = omega arith;
-          red_late = o.red_late;
           new_mail = o.new_mail;
           heard = λ nothing least others w part at flag. absurd (none-set n w flag);
         };
@@ -260,6 +249,7 @@ module _ {P : Type 0} (end t : Time) (parts : List (Part P)) (inboxes : List (Li
         least_end = omega arith;
         announced_end = g.announced_end;
         announced = g.announced;
+        red_late = g.red_late;
       }
 
   module _ (last : all_set board.has_reported ≡ true) where
@@ -280,11 +270,10 @@ module _ {P : Type 0} (end t : Time) (parts : List (Part P)) (inboxes : List (Li
         let k = g.counts old in
         omega arith
 
-    -- and up to the least value reported no letter is early
-    least-reported : board.sent ≡ board.got → TimeAtMost t board.least → sum_by (early_in t) parts + sum_by (early_mail t) inboxes ≡ 0
-    least-reported equal h =
-        let now = g.now in
-        let old = other_colour now in
+    -- so what each worker has, and what it sent since its cut, is not before a time up to the least value reported
+    each-reported : board.sent ≡ board.got → TimeAtMost t board.least → (w : ℕ) (p : Part P) → slice_get parts w ≡ Some p → (early_in t p ≡ 0) × TimeAtMost t p.red_minimum
+    each-reported equal h w p at =
+        let old = other_colour g.now in
         let o = g.opened open_is in
         let a = o.sent in
         let b = o.got in
@@ -293,9 +282,16 @@ module _ {P : Type 0} (end t : Time) (parts : List (Part P)) (inboxes : List (Li
         let e = flagged_sum-all (count_colour old) board.has_reported inboxes last (g.report_size ∙ sym g.inbox_size) in
         let k = g.counts old in
         let stray = no-old-mail equal in
-        let was = o.heard (omega arith) h (λ u p at flag. absurd (let x : Some true ≡ Some false = sym (reported-at u p at) ∙ flag in cc)) in
-        let held = sum_by-nothings (early_in t) parts (λ w p at. (was w p at (reported-at w p at)).0) in
-        let new = o.new_mail (λ w p at cut. (was w p at (reported-at w p at)).1) in
+        o.heard (omega arith) h (λ u q there flag. absurd (let x : Some true ≡ Some false = sym (reported-at u q there) ∙ flag in cc)) w p at (reported-at w p at)
+
+    -- and no letter at all is
+    least-reported : board.sent ≡ board.got → TimeAtMost t board.least → sum_by (early_in t) parts + sum_by (early_mail t) inboxes ≡ 0
+    least-reported equal h =
+        let now = g.now in
+        let old = other_colour now in
+        let stray = no-old-mail equal in
+        let held = sum_by-nothings (early_in t) parts (λ w p at. (each-reported equal h w p at).0) in
+        let new = (g.opened open_is).new_mail (λ w p at cut. (each-reported equal h w p at).1) in
         let mail = sum_by-nothings (early_mail t) inboxes
         (λ i inbox at.
         (let x = sum-at (count_colour old) inboxes i inbox at in
@@ -326,6 +322,7 @@ module _ {P : Type 0} (end t : Time) (parts : List (Part P)) (inboxes : List (Li
           least_end = g.least_end;
           announced_end = g.least_end;
           announced = least-reported equal;
+          red_late = λ h w p at. (each-reported equal h w p at).1;
         }
 
   -- a pass closes with the last report

@@ -1,5 +1,5 @@
 -- Sums over all processes, worker by worker and place by place; and the rows of the sequential run as such a sum.
-use Rattle.std.proofs.Common.{◌≡◌, ℕ, zero, suc, ◌+◌, ◌/◌, ◌%◌, ◌≤◌, ◌<◌, inl, inr, true, false, cond, List, [], ◌∷◌, ◌++◌, nat_eq, refl, sym, ◌∙◌, ap, arith}
+use Rattle.std.proofs.Common.{◌≡◌, ℕ, zero, suc, ◌+◌, ◌/◌, ◌%◌, ◌≤◌, ◌<◌, inl, inr, true, false, cond, List, [], ◌∷◌, ◌++◌, length, Some, None, slice_get, slice_set, nat_eq, refl, sym, subst, ◌∙◌, ap, arith}
 use Rattle.std.specs.List.{sum_by, range_with_len}
 use Rattle.std.proofs.lemmas.Bool.{eqb-true, eq-eqb}
 use Rattle.std.proofs.lemmas.Bool.Decides.{nat_tests}
@@ -13,6 +13,7 @@ use Rattle.vt_model.proofs.RunLemmas.{tested, filter-yes, filter-no, after-snoc,
 use Rattle.vt_steps.specs.Rows.{rows_from}
 use Rattle.vt_steps.specs.World.{process_at, process_count}
 use Rattle.std.proofs.Math.Nat.{mod-lt}
+use Rattle.vt_steps.proofs.Sums.{sum_by-same, sum_by-zero}
 use Rattle.vt_steps.proofs.Shape.{own-place, worker-of_place, place-of_place, known-place}
 
 -- ---- sums over a range of numbers
@@ -37,11 +38,6 @@ sum_by-range_same f g a (suc n) same =
     let ih = sum_by-range_same f g (a + 1) n (λ i low high. same i (omega arith) (omega arith)) in
     omega arith
 
--- a sum in which nothing weighs anything
-sum_by-range_none : (a n : ℕ) → sum_by (λ i. 0) (range_with_len a n) ≡ 0
-sum_by-range_none a zero = refl
-sum_by-range_none a (suc n) = let x = sum_by-cons (λ i. 0) a (range_with_len (a + 1) n) in let ih = sum_by-range_none (a + 1) n in omega arith
-
 -- a sum in which one number of the range alone weighs something
 sum_by-range_one : (x j a n : ℕ) → a ≤ j → j < a + n → sum_by (λ i. cond (nat_eq j i) x 0) (range_with_len a n) ≡ x
 sum_by-range_one x j a zero low high = absurd (omega arith)
@@ -52,7 +48,7 @@ sum_by-range_one x j a (suc n) low high =
           let here : cond (nat_eq j a) x 0 ≡ x = ap (λ b. cond b x 0) is in
           let at = eqb-true j a is in
           let others = sum_by-range_same (λ i. cond (nat_eq j i) x 0) (λ i. 0) (a + 1) n (λ i more less. (let differ : nat_eq j i ≡ false = grind (arith, nat_tests) in ap (λ b. cond b x 0) differ)) in
-          let none = sum_by-range_none (a + 1) n in
+          let none = sum_by-zero (range_with_len (a + 1) n) in
           omega arith
       | inr is ↦
           let here : ◌≡◌ {A = ℕ} (cond (nat_eq j a) x 0) 0 = ap (λ b. cond b x 0) is in
@@ -60,6 +56,65 @@ sum_by-range_one x j a (suc n) low high =
           let ih = sum_by-range_one x j (a + 1) n (omega arith) (omega arith) in
           omega arith
     ]
+
+-- ---- sums by place
+
+-- the sum of what the elements of a list weigh at their places, counted from a first one on
+abbrev pub sum_by_place : {X : Type 0} → (ℕ → X → ℕ) → ℕ → List X → ℕ
+sum_by_place g i [] = 0
+sum_by_place g i (x ∷ xs) = g i x + sum_by_place g (i + 1) xs
+
+-- one gives way to another, of a list counted from a first place on
+sum_by_place-put_from : {X : Type 0} (g : ℕ → X → ℕ) (i : ℕ) (xs : List X) (j : ℕ) (x y : X) → slice_get xs j ≡ Some x →
+    sum_by_place g i (slice_set xs j y) + g (i + j) x ≡ sum_by_place g i xs + g (i + j) y
+sum_by_place-put_from g i [] j x y e = absurd (let h : None ≡ Some x = e in cc)
+sum_by_place-put_from g i (z ∷ zs) zero x y e =
+    let same : z ≡ x = cc in
+    let here : i + 0 ≡ i = omega arith in
+    let a : g (i + 0) x ≡ g i z = ap (λ k. g k x) here ∙ ap (g i) (sym same) in
+    let b : g (i + 0) y ≡ g i y = ap (λ k. g k y) here in
+    omega arith
+sum_by_place-put_from g i (z ∷ zs) (suc j) x y e =
+    let there : (i + 1) + j ≡ i + suc j = omega arith in
+    let ih = sum_by_place-put_from g (i + 1) zs j x y e in
+    let a : g ((i + 1) + j) x ≡ g (i + suc j) x = ap (λ k. g k x) there in
+    let b : g ((i + 1) + j) y ≡ g (i + suc j) y = ap (λ k. g k y) there in
+    omega arith
+
+-- one gives way to another
+pub sum_by_place-put : {X : Type 0} (g : ℕ → X → ℕ) (xs : List X) (j : ℕ) (x y : X) → slice_get xs j ≡ Some x →
+    sum_by_place g 0 (slice_set xs j y) + g j x ≡ sum_by_place g 0 xs + g j y
+sum_by_place-put g xs j x y e = subst (λ k. sum_by_place g 0 (slice_set xs j y) + g k x ≡ sum_by_place g 0 xs + g k y) (let z : 0 + j ≡ j = omega arith in z) (sum_by_place-put_from g 0 xs j x y e)
+
+-- what depends on the places alone, from a first one on
+sum_by_place-range_from : {X : Type 0} (g : ℕ → X → ℕ) (h : ℕ → ℕ) (a : ℕ) (xs : List X) → ((i : ℕ) (x : X) → slice_get xs i ≡ Some x → g (a + i) x ≡ h (a + i)) →
+    sum_by_place g a xs ≡ sum_by h (range_with_len a (length xs))
+sum_by_place-range_from g h a [] same = refl
+sum_by_place-range_from g h a (x ∷ xs) same =
+    let first : g a x ≡ h a = subst (λ k. g k x ≡ h k) (let z : a + 0 ≡ a = omega arith in z) (same 0 x refl) in
+    let ih = sum_by_place-range_from g h (a + 1) xs (λ i y at. subst (λ k. g k y ≡ h k) (let z : a + suc i ≡ (a + 1) + i = omega arith in z) (same (suc i) y at)) in
+    let c = sum_by-cons h a (range_with_len (a + 1) (length xs)) in
+    omega arith
+
+-- what depends on the places alone is a sum over a range of numbers
+pub sum_by_place-range : {X : Type 0} (g : ℕ → X → ℕ) (h : ℕ → ℕ) (xs : List X) → ((i : ℕ) (x : X) → slice_get xs i ≡ Some x → g i x ≡ h i) →
+    sum_by_place g 0 xs ≡ sum_by h (range_with_len 0 (length xs))
+sum_by_place-range g h xs same = sum_by_place-range_from g h 0 xs (λ i x at. subst (λ k. g k x ≡ h k) (let z : i ≡ 0 + i = omega arith in z) (same i x at))
+
+-- what is at most what depends on the places alone, from a first one on
+sum_by_place-bound_from : {X : Type 0} (g : ℕ → X → ℕ) (h : ℕ → ℕ) (a : ℕ) (xs : List X) → ((i : ℕ) (x : X) → slice_get xs i ≡ Some x → g (a + i) x ≤ h (a + i)) →
+    sum_by_place g a xs ≤ sum_by h (range_with_len a (length xs))
+sum_by_place-bound_from g h a [] low = omega arith
+sum_by_place-bound_from g h a (x ∷ xs) low =
+    let first : g a x ≤ h a = subst (λ k. g k x ≤ h k) (let z : a + 0 ≡ a = omega arith in z) (low 0 x refl) in
+    let ih = sum_by_place-bound_from g h (a + 1) xs (λ i y at. subst (λ k. g k y ≤ h k) (let z : a + suc i ≡ (a + 1) + i = omega arith in z) (low (suc i) y at)) in
+    let c = sum_by-cons h a (range_with_len (a + 1) (length xs)) in
+    omega arith
+
+-- what is at most what depends on the places alone is at most a sum over a range of numbers
+pub sum_by_place-bound : {X : Type 0} (g : ℕ → X → ℕ) (h : ℕ → ℕ) (xs : List X) → ((i : ℕ) (x : X) → slice_get xs i ≡ Some x → g i x ≤ h i) →
+    sum_by_place g 0 xs ≤ sum_by h (range_with_len 0 (length xs))
+sum_by_place-bound g h xs low = sum_by_place-bound_from g h 0 xs (λ i x at. subst (λ k. g k x ≤ h k) (let z : i ≡ 0 + i = omega arith in z) (low i x at))
 
 -- ---- sums over all processes
 
@@ -82,13 +137,13 @@ module _ {S P : Type 0} (sim : Simulation S P) where
   -- what is the same for each process has the same sum
   over_processes-same : (f g : ℕ → ℕ) → ((p : ℕ) → f p ≡ g p) → over_processes f ≡ over_processes g
   over_processes-same f g same =
-      sum_by-range_same (over_places f) (over_places g) 0 sim.workers
-      (λ w low high. sum_by-range_same (λ place. f (process_at sim w place)) (λ place. g (process_at sim w place)) 0 (process_count sim w) (λ place l h. same (process_at sim w place)))
+      sum_by-same (over_places f) (over_places g)
+      (λ w. sum_by-same (λ place. f (process_at sim w place)) (λ place. g (process_at sim w place)) (λ place. same (process_at sim w place)) (range_with_len 0 (process_count sim w))) (range_with_len 0 sim.workers)
 
   -- where no process weighs anything
   over_processes-none : over_processes (λ p. 0) ≡ 0
   over_processes-none =
-      sum_by-range_same (over_places (λ p. 0)) (λ w. 0) 0 sim.workers (λ w low high. sum_by-range_none 0 (process_count sim w)) ∙ sum_by-range_none 0 sim.workers
+      sum_by-range_same (over_places (λ p. 0)) (λ w. 0) 0 sim.workers (λ w low high. sum_by-zero (range_with_len 0 (process_count sim w))) ∙ sum_by-zero (range_with_len 0 sim.workers)
 
   -- a process of a worker is at a place if it is its own place
   by-place : (p w place : ℕ) → p % sim.workers ≡ w → w < sim.workers → nat_eq p (process_at sim w place) ≡ nat_eq (p / sim.workers) place
@@ -128,7 +183,7 @@ module _ {S P : Type 0} (sim : Simulation S P) where
     | inr is ↦
         let none = sum_by-range_same (λ place. cond (nat_eq p (process_at sim w place)) x 0) (λ place. 0) 0 (process_count sim w)
         (λ place low high. ap (λ b. cond b x 0) (not-there p w place is within)) in
-        none ∙ sum_by-range_none 0 (process_count sim w) ∙ sym (ap (λ b. cond b x 0) is)
+        none ∙ sum_by-zero (range_with_len 0 (process_count sim w)) ∙ sym (ap (λ b. cond b x 0) is)
   ]
 
   -- a sum in which one process alone weighs something

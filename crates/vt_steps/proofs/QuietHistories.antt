@@ -24,7 +24,6 @@ use Rattle.vt_steps.specs.Letters.{least_time, letter_time, unstamped}
 use Rattle.vt_steps.specs.Next.{reached}
 use Rattle.vt_steps.specs.World.{Entry, LogicalProcess, World, all_letters, entry_events, least}
 use Rattle.vt_steps.proofs.Lists.{Every, Rising, among-append, among-filter, among-left, among-map, among-right, every-among, filter-among, flat_map-among, map-among, rising-filter, rising-map, rising-weaker}
-use Rattle.vt_steps.proofs.RankTimes.{rank-order-time}
 use Rattle.vt_steps.proofs.Sums.{some-either}
 use Rattle.vt_steps.proofs.Stamped.{Alike}
 use Rattle.vt_steps.proofs.Shape.{IsShaped, own-place, reached-shape}
@@ -32,14 +31,11 @@ use Rattle.vt_steps.proofs.Stamps.{stamp-facts}
 use Rattle.vt_steps.proofs.Everywhere.{events_of_starts, letter-in}
 use Rattle.vt_steps.proofs.Agreement.{DoCopiesAgree, IsOnlyOne, OfAllCopies, reached-agreement}
 use Rattle.vt_steps.proofs.OwnHistories.{IsOwnWorld, events_sent, reached-own}
+use Rattle.vt_steps.proofs.EventTimes.{DoTimesRise, late-events, late-rest, ranks-times}
 use Rattle.vt_steps.proofs.Entries.{by-process, entries-of_process, entries_of, entry-counted, entry-found, entry-in, letter-found, own-stamp, stamp-counted}
 use Rattle.vt_steps.proofs.LiveEvents.{IsLiveEvent, first-among, live-counted, live-found, live-sent, one_live, sent-live}
 
 -- ---- lists of events whose times never fall
-
--- the times of the list never fall
-abbrev pub DoTimesRise : {P : Type 0} → List (Sent P) → Type 0
-DoTimesRise es = Rising (λ d e. TimeAtMost d.key.time e.key.time) es
 
 -- a list that rises by keys, as the model says it
 rising-keys : {P : Type 0} (es : List (Sent P)) → Rising (λ d e. KeyBefore d.key e.key) es → IsRising es
@@ -69,20 +65,6 @@ module _ {S P : Type 0} (sim : Simulation S P) (lawful : IsLawful sim) (p : ℕ)
         | inr a ↦ late-sends (sim.fire p triple e).triple es d late.1 a
       ]
 
-  -- what comes after an event that is not before a time is not
-  all-late : (e : Sent P) (es : List (Sent P)) → time_before e.key.time t ≡ false → Every (λ d. TimeAtMost e.key.time d.key.time) es → Every (λ d. TimeAtMost t d.key.time) es
-  all-late e [] late h = tt
-  all-late e (d ∷ ds) late h = (let low = ltb-false e.key.time t late in let up = h.0 in omega arith, all-late e ds late h.1)
-
-  -- of such events none is before the time
-  none-before : (es : List (Sent P)) → Every (λ e. TimeAtMost t e.key.time) es → events_before t es ≡ []
-  none-before [] h = refl
-  none-before (e ∷ es) h =
-      elim (tested (time_before e.key.time t)) [
-        | inl early ↦ absurd (let less = ltb-true e.key.time t early in let low = h.0 in omega arith)
-        | inr late ↦ filter-no (λ d. time_before d.key.time t) e es late ∙ none-before es h.1
-      ]
-
   -- what is sent before a time is sent by the events before it
   early-sends : (triple : Triple S) (es : List (Sent P)) (d : Sent P) → DoTimesRise es → TimeBefore d.key.time t → Among d (sends_from sim p triple es) → Among d (sends_from sim p triple (events_before t es))
   early-sends triple [] d rise early m = m
@@ -94,7 +76,7 @@ module _ {S P : Type 0} (sim : Simulation S P) (lawful : IsLawful sim) (p : ℕ)
               | inl a ↦ among-left d (sim.fire p triple e).sends (sends_from sim p (sim.fire p triple e).triple (events_before t es)) a
               | inr a ↦ among-right d (sim.fire p triple e).sends (sends_from sim p (sim.fire p triple e).triple (events_before t es)) (early-sends (sim.fire p triple e).triple es d rise.1 early a)
             ])
-        | inr late ↦ absurd (let low = late-sends triple (e ∷ es) d (ltb-false e.key.time t late, all-late e es late rise.0) m in omega arith)
+        | inr late ↦ absurd (let low = late-sends triple (e ∷ es) d (ltb-false e.key.time t late, late-rest t e es (ltb-false e.key.time t late) rise.0) m in omega arith)
       ]
 
   -- and that is sent by all
@@ -109,7 +91,7 @@ module _ {S P : Type 0} (sim : Simulation S P) (lawful : IsLawful sim) (p : ℕ)
               | inr a ↦ among-right d (sim.fire p triple e).sends (sends_from sim p (sim.fire p triple e).triple es) (sends-early (sim.fire p triple e).triple es d rise.1 a)
             ])
         | inr late ↦
-            absurd (subst (λ l. Among d (sends_from sim p triple l)) (filter-no (λ a. time_before a.key.time t) e es late ∙ none-before es (all-late e es late rise.0)) m)
+            absurd (subst (λ l. Among d (sends_from sim p triple l)) (filter-no (λ a. time_before a.key.time t) e es late ∙ late-events t es (late-rest t e es (ltb-false e.key.time t late) rise.0)) m)
       ]
 
 -- ---- what is known of a reached world
@@ -215,10 +197,7 @@ module _ {S P : Type 0} (sim : Simulation S P) (lawful : IsLawful sim) (serial :
 
       -- so its times never fall
       times-rise : (p : ℕ) → DoTimesRise (history p)
-      times-rise p =
-          rising-map (λ (e : Entry P). unstamped e.event) (λ d e. TimeAtMost d.key.time e.key.time) (entries_of sim world p)
-          (rising-weaker (λ (d e : Entry P). RankBefore d.event.rank e.event.rank) (λ (d e : Entry P). TimeAtMost d.event.rank.key.time e.event.rank.key.time) (entries_of sim world p)
-          (λ d e m n before. rank-order-time d.event.rank e.event.rank before) (entries-rise p))
+      times-rise p = ranks-times (entries_of sim world p) (entries-rise p)
 
       -- before the time its keys rise: of two events of one key both are live, so they are one
       keys-rise : (p : ℕ) → IsRising (early_history p)

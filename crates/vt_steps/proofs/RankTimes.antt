@@ -1,5 +1,5 @@
 -- Ranks and times: what is earlier has a lesser rank, and what has a lesser rank is not later.
-use Rattle.std.proofs.Common.{◌≡◌, inl, inr, Bool, true, false, not, ap, arith}
+use Rattle.std.proofs.Common.{◌≡◌, inl, inr, true, false, not, ap, arith}
 use Rattle.std.proofs.lemmas.Bool.{cases_lt}
 use Rattle.std.proofs.lemmas.Bool.Decides.{nat_tests}
 use Rattle.vt_key.specs.Times.{TimeBefore, TimeAtMost}

@@ -223,6 +223,12 @@ module _ {S P : Type 0} (sim : Simulation S P) where
   unfolding IsOrderedPart
   reached-ranks lawful serial steps p process is = (reached-ordered lawful serial steps (p % sim.workers) is.0 is.1 (p / sim.workers) process is.2).rising
 
+  -- what each process has committed is before its worker's floor
+  pub reached-committed : IsLawful sim → (serial : ℕ) (steps : List Step) (w place : ℕ) (part : Part P) (process : LogicalProcess P) → slice_get (reached sim serial steps).parts w ≡ Some part →
+      slice_get part.processes place ≡ Some process → Every (λ e. TimeBefore e.event.rank.key.time part.floor) process.done
+  unfolding IsOrderedPart
+  reached-committed lawful serial steps w place part process at there = (reached-ordered lawful serial steps w part at place process there).committed
+
 -- ---- by places, as the claim says it
 
 -- what stands at a place of a list is one of it

@@ -1,6 +1,6 @@
 -- What holds of each round of cuts, at any one time t, and that local steps, Send and Fetch keep it. Two colours tell the mail
 -- that was sent before a worker's cut from that sent after it; counts tell whether mail of the old colour is travelling.
-use Rattle.std.proofs.Common.{◌≡◌, ℕ, ◌+◌, ◌≤◌, Bool, true, false, cond, List, [], ◌∷◌, ◌++◌, map, length, refl, sym, ◌∙◌, ap, arith, add-zero, Some, slice_get, slice_set}
+use Rattle.std.proofs.Common.{◌≡◌, ℕ, ◌+◌, ◌≤◌, Bool, true, false, cond, List, [], ◌++◌, map, length, refl, sym, ◌∙◌, ap, arith, add-zero, Some, slice_get, slice_set}
 use Rattle.std.specs.List.{sum_by, filter}
 use Rattle.std.proofs.Math.ListN.{length-set}
 use Rattle.std.proofs.lemmas.List.Sums.{sum_by-append}
@@ -37,8 +37,6 @@ pub record IsOpenRound {P : Type 0} (now : Colour) (t : Time) (parts : List (Par
   -- the sums are what those that have reported sent in the old colour, and at most what they have got in it by now
   pub sent : board.sent ≡ flagged_sum (sent_in (other_colour now)) board.has_reported parts
   pub got : board.got ≤ flagged_sum (got_in (other_colour now)) board.has_reported parts
-  -- the red minimum of each worker that has cut is not before the announced time
-  pub red_late : TimeAtMost t board.announced → IsRedLate t parts board.has_cut true
   -- mail of the new colour is not before t, if the red minimum of each worker that has cut is not
   pub new_mail : IsRedLate t parts board.has_cut true → sum_by (early_coloured now t) inboxes ≡ 0
   -- what those that have reported have is not before t, if since their reports no mail of the old colour came to them or is
@@ -66,8 +64,9 @@ pub record IsRoundSound {P : Type 0} (end t : Time) (parts : List (Part P)) (inb
   pub between : board.is_open ≡ false → IsBetweenRounds now parts inboxes
   pub least_end : TimeAtMost board.least end
   pub announced_end : TimeAtMost board.announced end
-  -- no letter is before the announced time
+  -- no letter is before the announced time, nor is what a worker sent since it took its colour
   pub announced : TimeAtMost t board.announced → all_early t parts inboxes ≡ 0
+  pub red_late : TimeAtMost t board.announced → (w : ℕ) (part : Part P) → slice_get parts w ≡ Some part → TimeAtMost t part.red_minimum
 
 -- ---- a part changes, and keeps its colour, counts and red minimum
 
@@ -92,7 +91,6 @@ module _ {P : Type 0} (end t : Time) (parts : List (Part P)) (inboxes : List (Li
         all_cut = o.all_cut;
         sent = o.sent ∙ sym (flagged_sum-put_same (sent_in old) board.has_reported parts w part after is sent_same);
         got = (let a = o.got in omega arith);
-        red_late = λ h. all-put (λ v (p : Part P). slice_get board.has_cut v ≡ Some true → TimeAtMost t p.red_minimum) parts w part after is (o.red_late h) (λ h flag. (let k = h flag in omega arith));
         new_mail = λ all. o.new_mail (all-unput (λ v (p : Part P). slice_get board.has_cut v ≡ Some true → TimeAtMost t p.red_minimum) parts w part after is all (λ h flag. (let k = h flag in omega arith)));
         heard = λ nothing least others.
             all-put (λ v (p : Part P). slice_get board.has_reported v ≡ Some true → (early_in t p ≡ 0) × TimeAtMost t p.red_minimum) parts w part after is
@@ -129,6 +127,7 @@ module _ {P : Type 0} (end t : Time) (parts : List (Part P)) (inboxes : List (Li
             let c = sum-at (early_in t) parts w part is in
             let d = late (omega arith) in
             omega arith);
+        red_late = λ h. all-put (λ v (p : Part P). TimeAtMost t p.red_minimum) parts w part after is (g.red_late h) (λ was. let red = same.red_minimum in omega arith);
       }
 
 -- ---- Send
@@ -182,10 +181,9 @@ module _ {S P : Type 0} (sim : Simulation S P) (t : Time) (parts : List (Part P)
 
   -- an open round stays sound
   open-send : (now : Colour) → IsOpenRound now t parts inboxes board → length board.has_cut ≡ length parts → length board.has_reported ≡ length parts → TimeAtMost board.least sim.end →
-      TimeAtMost board.announced sim.end → (TimeAtMost t board.announced → all_early t parts inboxes ≡ 0) →
       IsOpenRound now t (slice_set parts w (part_after_send sim v part)) (slice_set inboxes v (inbox ++ mail_of_send sim v part)) board
   unfolding part_after_send mail_of_send
-  open-send now o cut_size report_size least_end announced_end none_early =
+  open-send now o cut_size report_size least_end =
       let old = other_colour now in
       let after = part_after_send sim v part in
       let mails = map (mailed part.colour) leaving in
@@ -196,12 +194,6 @@ module _ {S P : Type 0} (sim : Simulation S P) (t : Time) (parts : List (Part P)
         all_cut = o.all_cut;
         sent = o.sent ∙ sym (reported-sent now o cut_size report_size);
         got = (let a = o.got in omega arith);
-        red_late = λ h.
-            (let none = none_early h in
-            let here = sum-at (early_in t) parts w part is in
-            let late = leaving-late (omega arith) in
-            let bound = at-most-least sim.end t leaving (omega arith) late in
-            all-put (λ u (p : Part P). slice_get board.has_cut u ≡ Some true → TimeAtMost t p.red_minimum) parts w part after is (o.red_late h) (λ h cut. (let k = h cut in omega arith)));
         new_mail = λ all.
             (let was = o.new_mail (all-unput (λ u (p : Part P). slice_get board.has_cut u ≡ Some true → TimeAtMost t p.red_minimum) parts w part after is all (λ h cut. (let k = h cut in omega arith))) in
             let a = sum_by-put (early_coloured now t) inboxes v inbox (inbox ++ mails) in_is in
@@ -246,7 +238,7 @@ module _ {S P : Type 0} (sim : Simulation S P) (t : Time) (parts : List (Part P)
             let x = count_of-raised part.sent c part.colour (length leaving) in
             let y = mail_is c in
             omega arith);
-        opened = λ open_is. open-send g.now (g.opened open_is) g.cut_size g.report_size g.least_end g.announced_end g.announced;
+        opened = λ open_is. open-send g.now (g.opened open_is) g.cut_size g.report_size g.least_end;
         between = λ shut. record {
           colours = all-put (λ u (p : Part P). p.colour ≡ g.now) parts w part after is (g.between shut).colours (λ was. was);
           no_old_mail =
@@ -266,6 +258,13 @@ module _ {S P : Type 0} (sim : Simulation S P) (t : Time) (parts : List (Part P)
             let d = sum_by-append (mail_weight (early t)) inbox mails in
             let e = sum_by-map (mail_weight (early t)) (mailed part.colour) leaving in
             omega arith);
+        red_late = λ h.
+            (let none = g.announced h in
+            let here = sum-at (early_in t) parts w part is in
+            let late = leaving-late (omega arith) in
+            let announced_end = g.announced_end in
+            let bound = at-most-least sim.end t leaving (omega arith) late in
+            all-put (λ u (p : Part P). TimeAtMost t p.red_minimum) parts w part after is (g.red_late h) (λ was. omega arith));
       }
 
 -- ---- Fetch
@@ -306,7 +305,6 @@ module _ {P : Type 0} (end t : Time) (parts : List (Part P)) (inboxes : List (Li
         all_cut = o.all_cut;
         sent = o.sent ∙ sym (flagged_sum-put_same (sent_in old) board.has_reported parts w part after is refl);
         got = (let a = flagged_sum-grows (got_in old) board.has_reported parts w part after is (omega arith) in let b = o.got in omega arith);
-        red_late = λ h. all-put (λ u (p : Part P). slice_get board.has_cut u ≡ Some true → TimeAtMost t p.red_minimum) parts w part after is (o.red_late h) (λ h. h);
         new_mail = λ all.
             (let was = o.new_mail (all-unput (λ u (p : Part P). slice_get board.has_cut u ≡ Some true → TimeAtMost t p.red_minimum) parts w part after is all (λ h. h)) in
             let a = sum_by-put (early_coloured now t) inboxes w inbox none in_is in
@@ -362,4 +360,5 @@ module _ {P : Type 0} (end t : Time) (parts : List (Part P)) (inboxes : List (Li
             let b = sum_by-put (early_in t) parts w part after is in
             let c = sum_by-put (early_mail t) inboxes w inbox none in_is in
             omega arith);
+        red_late = λ h. all-put (λ u (p : Part P). TimeAtMost t p.red_minimum) parts w part after is (g.red_late h) (λ was. was);
       }

@@ -5,20 +5,21 @@ use Rattle.std.specs.List.{sum_by}
 use Rattle.std.proofs.lemmas.Bool.Decides.{nat_tests}
 use Rattle.std.proofs.lemmas.List.{map-append}
 use Rattle.std.proofs.lemmas.List.Sums.{sum_by-cons, sum_by-append}
-use Rattle.vt_key.specs.Times.{Time, TimeAtMost, time_before}
+use Rattle.vt_key.specs.Times.{Time, TimeAtMost, TimeBefore, time_before}
 use Rattle.vt_key.specs.declared.order.Key.{Key}
-use Rattle.vt_key.specs.Order.{KeyBefore}
 use Rattle.vt_model.specs.declared.rows.Row.{Row}
 use Rattle.vt_model.specs.declared.rows.Record.{Record}
 use Rattle.vt_model.specs.declared.sending.Sent.{Sent}
 use Rattle.vt_model.specs.Rows.{RowBefore, AllRowsAfter, AreRowsRising, AreRowsOf}
 use Rattle.vt_model.specs.Simulation.{Simulation, Triple}
 use Rattle.vt_model.specs.Sequential.{rows_before, records_of, events_before, whole_run, rows_after, seq_rows, seq_records}
-use Rattle.vt_model.specs.Histories.{AllAfter, IsRising, IsLawful}
+use Rattle.vt_model.specs.Histories.{IsLawful}
 use Rattle.vt_model.proofs.RowLemmas.{rising_filter}
 use Rattle.vt_model.proofs.RunLemmas.{tested, filter-yes, filter-no}
 use Rattle.vt_model.proofs.EndLemmas.{whole_rows-rise}
 use Rattle.vt_steps.specs.Rows.{rows_from}
+use Rattle.vt_steps.proofs.EventTimes.{AreEventsLate, DoTimesRise, late-events, late-rest}
+use Rattle.vt_steps.proofs.Lists.{Every}
 
 -- ---- rows before a time
 
@@ -112,49 +113,59 @@ late-weight f t key n (r ∷ rs) late h =
     let ih = late-weight f t key (suc n) rs late h.3 in
     omega arith
 
--- what comes after a late key is late
-late-key : (t : Time) (a b : Key) → KeyBefore a b → TimeAtMost t a.time → TimeAtMost t b.time
-late-key t a b h l = grind arith
-
--- events after a late one are not before the time
-late-events : {P : Type 0} (t : Time) (k : Key) (events : List (Sent P)) → TimeAtMost t k.time → AllAfter k events → events_before t events ≡ []
-late-events t k [] late h = refl
-late-events t k (e ∷ es) late h =
-    let le = late-key t k e.key h.0 late in
-    let is : time_before e.key.time t ≡ false = grind (arith, nat_tests) in
-    filter-no (λ d. time_before d.key.time t) e es is ∙ late-events t k es late h.1
+-- the rows of an early event weigh what they weigh
+early-weight : (f : Row → ℕ) (t : Time) (key : Key) (n : ℕ) (rows : List Row) → TimeBefore key.time t → AreRowsOf key n rows → sum_by (early_weight f t) rows ≡ sum_by f rows
+early-weight f t key n [] soon h = refl
+early-weight f t key n (r ∷ rs) soon h =
+    let time : r.key.time ≡ key.time = ap (λ (k : Key). k.time) h.0 in
+    let is : time_before r.key.time t ≡ true = grind (arith, nat_tests) in
+    let whole : early_weight f t r ≡ f r = ap (λ b. cond b (f r) 0) is in
+    let a = sum_by-cons (early_weight f t) r rs in
+    let b = sum_by-cons f r rs in
+    let ih = early-weight f t key (suc n) rs soon h.3 in
+    omega arith
 
 module _ {S P : Type 0} (sim : Simulation S P) (lawful : IsLawful sim) where
-  -- the events of a process after a late one are late, and their rows weigh nothing
-  late-rows : (f : Row → ℕ) (t : Time) (p : ℕ) (k : Key) (triple : Triple S) (events : List (Sent P)) → TimeAtMost t k.time → AllAfter k events →
-      sum_by (early_weight f t) (rows_from sim p triple events) ≡ 0
-  late-rows f t p k triple [] late h = refl
-  late-rows f t p k triple (e ∷ es) late h =
+  -- the rows of early events weigh what they weigh
+  pub all-early-rows : (f : Row → ℕ) (t : Time) (p : ℕ) (triple : Triple S) (events : List (Sent P)) → Every (λ (e : Sent P). TimeBefore e.key.time t) events →
+      sum_by (early_weight f t) (rows_from sim p triple events) ≡ sum_by f (rows_from sim p triple events)
+  all-early-rows f t p triple [] soon = refl
+  all-early-rows f t p triple (e ∷ es) soon =
       let fired = sim.fire p triple e in
-      let le = late-key t k e.key h.0 late in
       let a = sum_by-append (early_weight f t) fired.rows (rows_from sim p fired.triple es) in
-      let b = late-weight f t e.key 0 fired.rows le (lawful.rows p triple e) in
-      let ih = late-rows f t p k fired.triple es late h.1 in
+      let b = sum_by-append f fired.rows (rows_from sim p fired.triple es) in
+      let c = early-weight f t e.key 0 fired.rows soon.0 (lawful.rows p triple e) in
+      let ih = all-early-rows f t p fired.triple es soon.1 in
+      omega arith
+
+  -- the rows of late events weigh nothing
+  late-rows : (f : Row → ℕ) (t : Time) (p : ℕ) (triple : Triple S) (events : List (Sent P)) → AreEventsLate t events → sum_by (early_weight f t) (rows_from sim p triple events) ≡ 0
+  late-rows f t p triple [] late = refl
+  late-rows f t p triple (e ∷ es) late =
+      let fired = sim.fire p triple e in
+      let a = sum_by-append (early_weight f t) fired.rows (rows_from sim p fired.triple es) in
+      let b = late-weight f t e.key 0 fired.rows late.0 (lawful.rows p triple e) in
+      let ih = late-rows f t p fired.triple es late.1 in
       omega arith
 
   -- what a process's rows before a time weigh, its events before it decide
-  pub early-rows : (f : Row → ℕ) (t : Time) (p : ℕ) (triple : Triple S) (events : List (Sent P)) → IsRising events →
+  pub early-rows : (f : Row → ℕ) (t : Time) (p : ℕ) (triple : Triple S) (events : List (Sent P)) → DoTimesRise events →
       sum_by (early_weight f t) (rows_from sim p triple events) ≡ sum_by (early_weight f t) (rows_from sim p triple (events_before t events))
-  early-rows f t p triple [] rises = refl
-  early-rows f t p triple (e ∷ es) rises = elim (tested (time_before e.key.time t)) [
-    | inl is ↦
-        let fired = sim.fire p triple e in
-        let first = ap (λ l. sum_by (early_weight f t) (rows_from sim p triple l)) (filter-yes (λ d. time_before d.key.time t) e es is) in
-        let a = sum_by-append (early_weight f t) fired.rows (rows_from sim p fired.triple es) in
-        let b = sum_by-append (early_weight f t) fired.rows (rows_from sim p fired.triple (events_before t es)) in
-        let ih = early-rows f t p fired.triple es rises.1 in
-        omega arith
-    | inr is ↦
-        let fired = sim.fire p triple e in
-        let late : TimeAtMost t e.key.time = grind (arith, nat_tests) in
-        let none = ap (λ l. sum_by (early_weight f t) (rows_from sim p triple l)) (filter-no (λ d. time_before d.key.time t) e es is ∙ late-events t e.key es late rises.0) in
-        let a = sum_by-append (early_weight f t) fired.rows (rows_from sim p fired.triple es) in
-        let b = late-weight f t e.key 0 fired.rows late (lawful.rows p triple e) in
-        let c = late-rows f t p e.key fired.triple es late rises.0 in
-        omega arith
-  ]
+  early-rows f t p triple [] rise = refl
+  early-rows f t p triple (e ∷ es) rise =
+      let fired = sim.fire p triple e in
+      let a = sum_by-append (early_weight f t) fired.rows (rows_from sim p fired.triple es) in
+      elim (tested (time_before e.key.time t)) [
+        | inl is ↦
+            let first = ap (λ l. sum_by (early_weight f t) (rows_from sim p triple l)) (filter-yes (λ d. time_before d.key.time t) e es is) in
+            let b = sum_by-append (early_weight f t) fired.rows (rows_from sim p fired.triple (events_before t es)) in
+            let ih = early-rows f t p fired.triple es rise.1 in
+            omega arith
+        | inr is ↦
+            let late : TimeAtMost t e.key.time = grind (arith, nat_tests) in
+            let rest = late-rest t e es late rise.0 in
+            let none = ap (λ l. sum_by (early_weight f t) (rows_from sim p triple l)) (filter-no (λ d. time_before d.key.time t) e es is ∙ late-events t es rest) in
+            let b = late-weight f t e.key 0 fired.rows late (lawful.rows p triple e) in
+            let c = late-rows f t p fired.triple es rest in
+            omega arith
+      ]

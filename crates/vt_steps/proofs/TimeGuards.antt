@@ -1,13 +1,12 @@
 -- The guards on times never fail: no report is below the announced time, and no floor below the hand-in floor.
-use Rattle.std.proofs.Common.{◌≡◌, ℕ, ◌<◌, Bool, true, false, cond, refl, sym, subst, ◌∙◌, ap, arith, Some, slice_get, slice_set, Ok}
+use Rattle.std.proofs.Common.{◌≡◌, ℕ, ◌<◌, true, false, cond, ◌∙◌, ap, arith, Some, slice_get, slice_set, Ok}
 use Rattle.std.specs.Prelude.{IsTrue}
 use Rattle.std.proofs.Math.Nat.{le_refl}
 use Rattle.std.proofs.lemmas.Bool.Decides.{nat_tests}
 use Rattle.std.proofs.lemmas.Option.{slice_get_within}
-use Rattle.vt_key.specs.Times.{Time, TimeAtMost, opening_time, time_at_most}
+use Rattle.vt_key.specs.Times.{TimeAtMost, opening_time, time_at_most}
 use Rattle.vt_key.specs.declared.fault.Fault.TheVariants.{NotLawful, Closed}
 use Rattle.vt_model.specs.Simulation.{Simulation}
-use Rattle.vt_model.specs.Histories.{IsLawful}
 use Rattle.vt_steps.specs.declared.step.Reply.TheVariants.{Done}
 use Rattle.vt_steps.specs.declared.step.Step.TheVariants.{Report, Commit}
 use Rattle.vt_steps.specs.BoardSteps.{all_set, is_clear, may_report, with_report, report_reply}
@@ -17,7 +16,6 @@ use Rattle.vt_steps.specs.Next.{Outcome, next, report, report_lawful, commit, re
 use Rattle.vt_steps.specs.PartSteps.{part_after_commit, report_sent, report_got, report_least, rows_of_commit}
 use Rattle.vt_steps.specs.World.{Part, World, letters_in}
 use Rattle.vt_steps.proofs.Early.{early_in, at-most-least, letters-early}
-use Rattle.vt_steps.proofs.Flags.{set-at}
 use Rattle.vt_steps.proofs.Floors.{AreTimesSound}
 use Rattle.vt_steps.proofs.Places.{get-within}
 use Rattle.vt_steps.proofs.Sums.{sum-at}
@@ -26,14 +24,13 @@ use Rattle.vt_steps.proofs.Tests.{passes_both}
 module _ {S P : Type 0} (sim : Simulation S P) (world : World P) (s : AreTimesSound sim world) where
   -- ---- Report
 
-  -- what a worker that has cut would report is not before the announced time
-  report-late : (w : ℕ) (part : Part P) → slice_get world.parts w ≡ Some part → world.board.is_open ≡ true → slice_get world.board.has_cut w ≡ Some true →
-      TimeAtMost world.board.announced (report_least sim.end part)
-  report-late w part at open_is cut =
+  -- what a worker would report is not before the announced time
+  report-late : (w : ℕ) (part : Part P) → slice_get world.parts w ≡ Some part → TimeAtMost world.board.announced (report_least sim.end part)
+  report-late w part at =
       let t = world.board.announced in
       let round = (s.at t).round in
       let same : TimeAtMost t t = le_refl t in
-      let red = (round.opened open_is).red_late same w part at cut in
+      let red = round.red_late same w part at in
       let none = round.announced same in
       let here = sum-at (early_in t) world.parts w part at in
       let counted = letters-early t part in
@@ -44,10 +41,7 @@ module _ {S P : Type 0} (sim : Simulation S P) (world : World P) (s : AreTimesSo
   may-report : (w : ℕ) (part : Part P) → slice_get world.parts w ≡ Some part → world.board.is_open ≡ true → all_set world.board.has_cut ≡ true → slice_get world.board.has_reported w ≡ Some false →
       may_report w (report_least sim.end part) world.board ≡ true
   may-report w part at open_is all clear =
-      let size = (s.at opening_time).round.cut_size in
-      let flag = get-within world.board.has_cut w (let a = slice_get_within world.parts w part at in omega arith) in
-      let cut : slice_get world.board.has_cut w ≡ Some true = flag.1 ∙ ap Some (set-at world.board.has_cut w flag.0 all flag.1) in
-      let value = report-late w part at open_is cut in
+      let value = report-late w part at in
       let late : time_at_most world.board.announced (report_least sim.end part) ≡ true = grind (arith, nat_tests) in
       passes_both world.board.is_open _ open_is
       (passes_both (all_set world.board.has_cut) _ all

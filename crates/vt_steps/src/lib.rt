@@ -8,6 +8,7 @@ mod histories;
 mod laws;
 mod memory;
 mod step;
+mod theorem;
 
 pub use histories::{copies_are_right, histories_are_right, letters_are_delivered, ranks_rise};
 pub use laws::{
@@ -19,3 +20,6 @@ pub use memory::{
     memory_is_where_the_history_leads, values_stay_reached,
 };
 pub use step::{Reply, Step};
+pub use theorem::{
+    closed_book_is_whole, floors_are_right, guards_never_fail, headline, records_are_right,
+};

@@ -45,3 +45,6 @@ returns-clause-refused_to_one_worker c = computed.13
 
 pub returns-clause-second_round_closes : goal.returns-clause-second_round_closes
 returns-clause-second_round_closes c = computed.14
+
+pub returns-clause-undo_without_cause_of_its_own : goal.returns-clause-undo_without_cause_of_its_own
+returns-clause-undo_without_cause_of_its_own c = computed.15

@@ -1,4 +1,4 @@
-use Rattle.std.proofs.Common.{◌≡◌, ◌++◌, ◌∷◌, [], List, ℕ}
+use Rattle.std.proofs.Common.{◌++◌, ◌∷◌, []}
 use Rattle.std.proofs.lemmas.Result.{on_ok_weaker, on_err_weaker}
 use Rattle.vt_text.proofs.TextLemmas.{on_err, put_on, put_fails, of_longer, flush_fails, written}
 use Rattle.vt_program.specs.Refusals.{carried_text}

@@ -1,0 +1,7 @@
+mod Boxes
+mod Firsts
+mod Lending
+mod Links
+mod Owning
+mod Splits
+mod Walk

@@ -1,0 +1,23 @@
+-- The first item that passes a test: what stands before it, from it on, and without it.
+use Rattle.std.specs.Prelude.{Bool, false, not, List, [], ◌∷◌, if◌then◌else◌}
+
+module _ {X : Type 0} (test : X → Bool) where
+  -- the items before the first that passes, or all where none does
+  abbrev pub before_first : List X → List X
+  before_first [] = []
+  before_first (x ∷ xs) = if test x then [] else x ∷ before_first xs
+
+  -- the items from the first that passes on, or none where none does
+  abbrev pub from_first : List X → List X
+  from_first [] = []
+  from_first (x ∷ xs) = if test x then x ∷ xs else from_first xs
+
+  -- the items without the first that passes, or all where none does
+  abbrev pub without_first : List X → List X
+  without_first [] = []
+  without_first (x ∷ xs) = if test x then xs else x ∷ without_first xs
+
+  -- whether there is a first item, and it fails
+  abbrev pub first_fails : List X → Bool
+  first_fails [] = false
+  first_fails (x ∷ xs) = not (test x)

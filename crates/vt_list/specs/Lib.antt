@@ -1,0 +1,4 @@
+pub mod Blocks
+pub mod First
+pub mod Linked
+pub mod Ordered

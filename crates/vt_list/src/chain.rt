@@ -1,0 +1,147 @@
+//! Nodes that are linked both ways.
+
+ghost use Rattle.std.specs.Prelude.{◌≡◌, ◌-◌, ◌<◌, ◌≤◌, ◌↔◌, [], ◌∷◌, ◌++◌, length, slice_index_or, MatchOption, IfSome, IsSome, IsTrue};
+
+use crate::blocks::Blocks;
+use crate::node::{Node, set_first_prev, set_last_next};
+use std::alloc::Global;
+use std::marker::Model;
+use std::mem::replace;
+
+/// Nodes that are linked both ways, with where the first and the last lie. A clause sees the list of their items.
+///
+/// It is not `Drop`, so code that loses a node is refused.
+pub(crate) struct Chain<T> {
+    pub(crate) head: Option<*mut Node<T>>,
+    pub(crate) tail: Option<*mut Node<T>>,
+    pub(crate) nodes: Blocks<Node<T>>,
+}
+
+impl<T> Model for Chain<T> {
+    ghost use Rattle.std.specs.Prelude.{List};
+    ghost use Rattle.vt_list.specs.Linked.{IsChain, items};
+
+    ghost Value = { List T };
+
+    ghost view = { λ c. items c.nodes.owned };
+
+    ghost invariant = { λ c. IsChain c.head c.tail c.nodes.owned };
+}
+
+impl<T> Chain<T> {
+    /// No node.
+    pub(crate) fn new() -> Chain<T>
+        ensures { result ≡ [] }
+    {
+        Chain {
+            head: None,
+            tail: None,
+            nodes: Blocks::none(),
+        }
+    }
+
+    /// Lets go of no node.
+    pub(crate) fn end(self)
+        requires { self ≡ [] }
+    {
+        let Chain {
+            head: _,
+            tail: _,
+            nodes,
+        } = self;
+        nodes.end();
+    }
+
+    /// Whether there is no node.
+    pub(crate) fn is_empty(&self) -> bool
+        ensures { IsTrue result ↔ (self.now ≡ []) }
+    {
+        self.head.is_none()
+    }
+
+    /// Takes all nodes out.
+    pub(crate) fn take(&mut self) -> Chain<T>
+        ensures { (result ≡ self.old) × (self.new ≡ []) }
+    {
+        replace(self, Chain::new())
+    }
+
+    /// Puts nodes in where there are none.
+    pub(crate) fn put(&mut self, chain: Chain<T>)
+        requires { self.old ≡ [] }
+        ensures { self.new ≡ chain }
+    {
+        replace(self, chain).end();
+    }
+
+    /// The last item.
+    pub(crate) fn last(&self) -> Option<&T>
+        ensures variant { IsSome result ↔ (0 < length self.now) }
+        ensures lookup { IfSome result (λ x. x.now ≡ slice_index_or self.now (length self.now - 1) x.now) }
+    {
+        let Some(tail) = self.tail else {
+            return None;
+        };
+        Some(&self.nodes.get(tail).item)
+    }
+
+    /// The nodes of both, those of `other` last.
+    pub(crate) fn join(self, other: Chain<T>) -> Chain<T>
+        ensures { result ≡ self ++ other }
+    {
+        let Some(end) = self.tail else {
+            self.end();
+            return other;
+        };
+        let Some(start) = other.head else {
+            other.end();
+            return self;
+        };
+        let Chain { head, tail, nodes } = self;
+        let Chain {
+            head: next,
+            tail: last,
+            nodes: more,
+        } = other;
+        let front = set_last_next(nodes, end, next);
+        let back = set_first_prev(more, start, tail);
+        Chain {
+            head,
+            tail: last,
+            nodes: front.append(back),
+        }
+    }
+
+    /// The node, if there is one.
+    pub(crate) fn into_only(self, alloc: Global) -> Option<Box<Node<T>>>
+        requires { length self ≤ 1 }
+        ensures { MatchOption result (self ≡ []) (λ n. self ≡ n.value.item ∷ []) }
+    {
+        let Chain {
+            head,
+            tail: _,
+            nodes,
+        } = self;
+        let Some(at) = head else {
+            nodes.end();
+            return None;
+        };
+        Some(nodes.into_box(at, alloc))
+    }
+}
+
+impl<T: Drop> Chain<T> {
+    /// One node.
+    pub(crate) fn of(mut node: Box<Node<T>>) -> Chain<T>
+        ensures { result ≡ node.value.item ∷ [] }
+    {
+        node.next = None;
+        node.prev = None;
+        let (nodes, at) = Blocks::from_box(node);
+        Chain {
+            head: Some(at),
+            tail: Some(at),
+            nodes,
+        }
+    }
+}

@@ -1,0 +1,55 @@
+//! Going over the items of a list.
+
+ghost use Rattle.std.specs.Prelude.{◌≡◌, length};
+ghost use Rattle.std.specs.Iterator.{at_most};
+ghost use Rattle.std_collections.specs.Map.Iter.{TakesFirst, deref};
+
+use crate::blocks::Blocks;
+use crate::chain::Chain;
+use crate::node::Node;
+use std::marker::Model;
+
+/// Goes over the items of a list from the front. A clause sees the items that are left.
+#[derive(Drop)]
+pub struct Iter<'a, T> {
+    next: Option<*mut Node<T>>,
+    left: &'a Blocks<Node<T>>,
+}
+
+impl<'a, T> Model for Iter<'a, T> {
+    ghost use Rattle.std.specs.Prelude.{◌≡◌, List, None};
+    ghost use Rattle.vt_list.specs.Linked.{first_or, items, LeadOn};
+
+    ghost Value = { List T };
+
+    ghost view = { λ i. items i.left.now.owned };
+
+    ghost invariant = { λ i. (i.next ≡ first_or None i.left.now.owned) × LeadOn i.left.now.owned None };
+}
+
+impl<'a, T> Iter<'a, T> {
+    pub(crate) fn over(chain: &'a Chain<T>) -> Iter<'a, T>
+        ensures { result ≡ chain.now }
+    {
+        Iter {
+            next: chain.head,
+            left: &chain.nodes,
+        }
+    }
+}
+
+impl<'a, T> Iterator for Iter<'a, T> {
+    type Item = &'a T;
+
+    ghost next_gives = { TakesFirst deref };
+
+    ghost remaining = { λ s. at_most (length s) };
+
+    fn next(&mut self) -> Option<&'a T> {
+        let at = self.next?;
+        let node = self.left.get(at);
+        self.next = node.next;
+        self.left = self.left.rest();
+        Some(&node.item)
+    }
+}

@@ -1,0 +1,60 @@
+//! What lies in one block of a list, and how its links are written.
+
+ghost use Rattle.std.specs.Prelude.{◌≡◌, [], ◌∷◌, map, None, Some};
+ghost use Rattle.vt_list.specs.Blocks.{places};
+ghost use Rattle.vt_list.specs.Linked.{first_or, last_or, with_next, with_prev};
+
+use crate::blocks::Blocks;
+
+/// An item of a list, and where its neighbours lie.
+#[derive(Drop)]
+pub(crate) struct Node<T> {
+    pub(crate) next: Option<*mut Node<T>>,
+    pub(crate) prev: Option<*mut Node<T>>,
+    pub(crate) item: T,
+}
+
+/// The one node, which lies at `at`, with these links.
+pub(crate) fn set_links<T>(
+    node: Blocks<Node<T>>,
+    at: *mut Node<T>,
+    next: Option<*mut Node<T>>,
+    prev: Option<*mut Node<T>>,
+) -> Blocks<Node<T>>
+    requires { places node.owned ≡ at ∷ [] }
+    ensures { result.owned ≡ map (λ b. (b.0, record b.1 { next = next; prev = prev })) node.owned }
+{
+    unsafe {
+        (*at).next = next;
+        (*at).prev = prev;
+    }
+    node
+}
+
+/// The same nodes, where the last one, which lies at `last`, leads on to `next`.
+pub(crate) fn set_last_next<T>(
+    nodes: Blocks<Node<T>>,
+    last: *mut Node<T>,
+    next: Option<*mut Node<T>>,
+) -> Blocks<Node<T>>
+    requires { last_or None nodes.owned ≡ Some last }
+    ensures { result.owned ≡ with_next next nodes.owned }
+{
+    let (front, end) = nodes.split();
+    let prev = end.get(last).prev;
+    front.append(set_links(end, last, next, prev))
+}
+
+/// The same nodes, where the first one, which lies at `first`, leads back to `prev`.
+pub(crate) fn set_first_prev<T>(
+    nodes: Blocks<Node<T>>,
+    first: *mut Node<T>,
+    prev: Option<*mut Node<T>>,
+) -> Blocks<Node<T>>
+    requires { first_or None nodes.owned ≡ Some first }
+    ensures { result.owned ≡ with_prev prev nodes.owned }
+{
+    let (start, back) = nodes.split();
+    let next = start.get(first).next;
+    set_links(start, first, next, prev).append(back)
+}

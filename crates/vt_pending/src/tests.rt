@@ -1,0 +1,117 @@
+use crate::Pending;
+use std::alloc::AllocError;
+use std::test::*;
+use vt_key::{Event, Key, Letter, Rank, Sign, Stamp};
+use vt_list::Parcel;
+
+fn rank(key: (u64, u32, u64), stamp: (u32, u64)) -> Rank {
+    Rank {
+        key: Key {
+            time: key.0,
+            source: key.1,
+            number: key.2,
+        },
+        stamp: Stamp {
+            worker: stamp.0,
+            serial: stamp.1,
+        },
+    }
+}
+
+fn letter(rt: &HostRuntime, rank: Rank) -> Result<Parcel<Letter<u64>>, Fail> {
+    let event = Event {
+        rank,
+        dest: 0,
+        payload: 0,
+    };
+    let sign = Sign::Plus;
+    match Parcel::new(rt.alloc(), Letter { event, sign }) {
+        Ok(parcel) => Ok(parcel),
+        Err(_letter) => Err(Fail::from(AllocError)),
+    }
+}
+
+// What a caller does who doesn't know whether the rank is new: it asks first.
+fn put(queue: &mut Pending<u64>, letter: Parcel<Letter<u64>>) -> bool {
+    let is_new = !queue.holds(letter.get().event.rank);
+    if is_new {
+        queue.insert(letter);
+    }
+    is_new
+}
+
+fn taken(parcel: Option<Parcel<Letter<u64>>>) -> Option<Rank> {
+    parcel.map(|p| p.into_value().event.rank)
+}
+
+#[test]
+fn letters_leave_by_stamp_and_by_rank(rt: HostRuntime) -> Result<(), Fail> {
+    let first = rank((3, 1, 1), (1, 2));
+    let second = rank((2, 0, 1), (0, 1));
+    let third = rank((3, 1, 1), (1, 1));
+    let mut queue = Pending::new(rt.alloc());
+    for rank in [first, second, third] {
+        assert!(rt; put(&mut queue, letter(&rt, rank)?));
+    }
+    assert_eq!(rt; queue.len(), 3);
+    assert_eq!(rt; queue.least().map(|l| l.event.rank), Some(second));
+    assert_eq!(rt; taken(queue.take_stamp(third.stamp)), Some(third));
+    assert_eq!(rt; taken(queue.take_least()), Some(second));
+    assert_eq!(rt; taken(queue.take_least()), Some(first));
+    assert!(rt; queue.take_least().is_none());
+    assert!(rt; queue.is_empty());
+    Ok(())
+}
+
+#[test]
+fn a_rank_is_there_once(rt: HostRuntime) -> Result<(), Fail> {
+    let only = rank((3, 1, 1), (1, 2));
+    let mut queue = Pending::new(rt.alloc());
+    assert!(rt; !queue.holds(only));
+    assert!(rt; put(&mut queue, letter(&rt, only)?));
+    assert!(rt; queue.holds(only));
+    assert!(rt; !queue.holds(rank((3, 1, 1), (1, 3))));
+    assert!(rt; !put(&mut queue, letter(&rt, only)?));
+    assert_eq!(rt; queue.len(), 1);
+    Ok(())
+}
+
+#[test]
+fn of_one_stamp_the_least_rank_is_meant(rt: HostRuntime) -> Result<(), Fail> {
+    let late = rank((5, 0, 0), (0, 7));
+    let early = rank((4, 2, 9), (0, 7));
+    let other = rank((1, 0, 0), (0, 8));
+    let mut queue = Pending::new(rt.alloc());
+    for rank in [late, early, other] {
+        assert!(rt; put(&mut queue, letter(&rt, rank)?));
+    }
+    assert_eq!(rt;
+        queue.find_stamp(early.stamp).map(|l| l.event.rank),
+        Some(early)
+    );
+    assert_eq!(rt; taken(queue.take_stamp(early.stamp)), Some(early));
+    assert_eq!(rt;
+        queue.find_stamp(early.stamp).map(|l| l.event.rank),
+        Some(late)
+    );
+    assert!(rt;
+        queue
+            .find_stamp(Stamp {
+                worker: 9,
+                serial: 7
+            })
+            .is_none()
+    );
+    assert!(rt;
+        queue
+            .take_stamp(Stamp {
+                worker: 9,
+                serial: 7
+            })
+            .is_none()
+    );
+    assert_eq!(rt; queue.len(), 2);
+    assert_eq!(rt; taken(queue.take_least()), Some(other));
+    assert_eq!(rt; taken(queue.take_least()), Some(late));
+    Ok(())
+}

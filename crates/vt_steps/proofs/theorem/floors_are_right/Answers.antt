@@ -1,0 +1,12 @@
+use Rattle.vt_steps.specs.Next.{reached}
+use Rattle.vt_steps.proofs.ReachedBooks.{reached-accounted, reached-falls}
+use Rattle.vt_steps.proofs.Records.{floors-right}
+use Rattle.vt_steps.proofs.theorem.floors_are_right.Goals as goal
+
+pub returns : goal.returns
+returns g c =
+    let lawful = c.requires.1.1 in
+    record {
+      right = λ serial steps. floors-right g.sim lawful (reached g.sim serial steps) (reached-accounted g.sim lawful serial steps);
+      later = λ serial steps more. reached-falls g.sim lawful serial steps more;
+    }

@@ -1,0 +1,66 @@
+//! What holds after any list of steps of times, floors and the book: the second half of why an optimistic run may be trusted.
+//! "After any steps" means: of any simulation that meets the laws, in the world that any list of the eleven steps, refused
+//! ones among them, makes of its opening world, whatever the first serials are.
+
+ghost use Rattle.std.specs.Prelude.{ℕ, ◌≡◌, IsTrue, List};
+ghost use Rattle.vt_model.specs.Simulation.{Simulation};
+ghost use Rattle.vt_model.specs.Histories.{IsLawful};
+ghost use Rattle.vt_model.specs.Rows.{AreRowsRising};
+ghost use Rattle.vt_steps.specs.declared.step.Step.{Step};
+ghost use Rattle.vt_steps.specs.Rows.{rows_in_order};
+ghost use Rattle.vt_steps.specs.Next.{reached, run};
+ghost use Rattle.vt_steps.specs.Claims.{AreFloorsRight, AreRecordsRight, NothingFalls, IsWhole, DoGuardsPass, IsTimeWarpRight};
+
+/// After any steps, the book's floor is at most the announced time, and that at most the least time of any unprocessed or
+/// travelling event or anti-message. In any further steps neither falls, and what the book showed is a beginning of what it
+/// shows.
+pub fn floors_are_right<S, P>()
+    ghost sim: { Simulation S P }
+    requires { IsLawful sim }
+    ensures right { (serial : ℕ) (steps : List Step) → AreFloorsRight sim (reached sim serial steps) }
+    ensures later { (serial : ℕ) (steps more : List Step) →
+        NothingFalls sim (reached sim serial steps) (run sim (reached sim serial steps) more) }
+{}
+
+/// After any steps, the book's records are exactly the sequential run's records below the book's floor, in the order in which
+/// that run makes them, each once. Among all rows of the book, those that it doesn't show yet too, each key and index stands
+/// once.
+pub fn records_are_right<S, P>()
+    ghost sim: { Simulation S P }
+    requires { IsLawful sim }
+    ensures right { (serial : ℕ) (steps : List Step) → AreRecordsRight sim (reached sim serial steps) }
+    ensures once { (serial : ℕ) (steps : List Step) →
+        AreRowsRising (rows_in_order (reached sim serial steps).book.rows) }
+{}
+
+/// Once the book is closed, its floor is the end of the run, its records are those of the whole sequential run, each commit
+/// and each close is refused as closed, and each logical process stands where its events of the whole run leave it. In any
+/// further steps the book stays as it is.
+pub fn closed_book_is_whole<S, P>()
+    ghost sim: { Simulation S P }
+    requires { IsLawful sim }
+    ensures whole { (serial : ℕ) (steps : List Step) →
+        IsTrue (reached sim serial steps).book.is_closed → IsWhole sim (reached sim serial steps) }
+    ensures stays { (serial : ℕ) (steps more : List Step) →
+        IsTrue (reached sim serial steps).book.is_closed →
+        (run sim (reached sim serial steps) more).book ≡ (reached sim serial steps).book }
+{}
+
+/// After any steps, four guards never fail. A letter that comes home or is accepted is never held already, so it is delivered.
+/// No worker's value is below the announced time, so a worker that hasn't reported in the pass of a round in which all have
+/// cut reports. No worker's floor is below its hand-in floor, so each worker commits unless the book is closed.
+pub fn guards_never_fail<S, P>()
+    ghost sim: { Simulation S P }
+    requires { IsLawful sim }
+    ensures { (serial : ℕ) (steps : List Step) → DoGuardsPass sim (reached sim serial steps) }
+{}
+
+/// After any list of steps by any number of workers, with letters accepted in any order, the book's records are exactly the
+/// sequential run's records below the book's floor, in that run's order, each once; the announced time never falls and never
+/// exceeds the least time of any unprocessed or travelling event or anti-message; once closed, the book holds the whole run and
+/// takes nothing more.
+pub fn headline<S, P>()
+    ghost sim: { Simulation S P }
+    requires { IsLawful sim }
+    ensures { IsTimeWarpRight sim }
+{}
