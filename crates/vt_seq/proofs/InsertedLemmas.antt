@@ -9,6 +9,7 @@ use Rattle.vt_model.specs.declared.sending.Sent.{Sent}
 use Rattle.vt_model.specs.Histories.{Among, AllAfter, IsRising, AreNumbered}
 use Rattle.vt_model.proofs.RunLemmas.{tested}
 use Rattle.vt_seq.specs.Queue.{inserted, all_inserted}
+use Rattle.vt_seq.specs.Letters.{AreNew}
 use Rattle.vt_seq.proofs.InsertLemmas.{inserted-here, inserted-later}
 
 module _ {P : Type 0} where
@@ -83,6 +84,22 @@ module _ {P : Type 0} where
         | inl at ↦ let number : d.key.number ≡ e.key.number = ap (λ (x : Sent P). x.key.number) at in omega arith
         | inr b ↦ let before : d.key.number < lo = old d b source in omega arith
       ])
+
+  -- sends with new numbers have keys that aren't there
+  pub are_new : (p lo hi : ℕ) (es ds : List (Sent P)) → AreNumbered p lo hi es → ((d : Sent P) → Among d ds → d.key.source ≡ p → d.key.number < lo) → AreNew es ds
+  are_new p lo hi [] ds n old = tt
+  are_new p lo hi (e ∷ es) ds n old =
+      let low : lo ≤ e.key.number = n.1 in (
+        λ d m same.
+            let source : d.key.source ≡ p = ap (λ (k : Key). k.source) same ∙ n.0 in
+            let before : d.key.number < lo = old d m source in
+            let number : d.key.number ≡ e.key.number = ap (λ (k : Key). k.number) same in
+            omega arith,
+        are_new p (suc e.key.number) hi es (inserted e ds) n.2 (λ d m source. elim (inserted-among e ds d m) [
+          | inl at ↦ let number : d.key.number ≡ e.key.number = ap (λ (x : Sent P). x.key.number) at in omega arith
+          | inr b ↦ let before : d.key.number < lo = old d b source in omega arith
+        ]),
+      )
 
   -- a sum over events put into their places
   inserted-sum : (f : Sent P → ℕ) (e : Sent P) (ds : List (Sent P)) → sum_by f (inserted e ds) ≡ f e + sum_by f ds

@@ -116,6 +116,15 @@ module _ {M S P K : Type 0} (sim : Simulation S P) (lawful : IsLawful sim) where
         longer : (xs : List (Process M S P K)) (x : Process M S P K) → {n : ℕ} → length xs ≡ n → length (xs ++ x ∷ []) ≡ n + 1
         longer xs x e = search (arith, length-append, e)
 
+  -- all pending events were sent by processes that were started
+  pub sources_below : (p : ℕ) (pending : List (Sent P)) (processes : List (Process M S P K)) → AllStarted sim p pending processes → p < sim.lps
+      → (d : Sent P) → Among d pending → d.key.source < p
+  sources_below p pending processes h is d m =
+      let s = h.sent d m in
+      let less : s.0 < p = s.1 in
+      let from = numbered-among s.0 0 (sim.start s.0).triple.number (sim.start s.0).sends d (lawful.numbered_start s.0 (let l : s.0 < sim.lps = omega arith in l)) s.2 in
+      let source : d.key.source ≡ s.0 = from.0 in omega arith
+
   -- all started, the fields stand for the opening
   pub stands_start : (pending : List (Sent P)) (processes : List (Process M S P K)) → AllStarted sim sim.lps pending processes → StandsAt sim 0 pending processes []
   stands_start pending processes h = record {

@@ -1,5 +1,5 @@
 -- One step of the code is one step of the definition.
-use Rattle.std.proofs.Common.{◌≡◌, ℕ, zero, suc, ◌+◌, ◌*◌, ◌-◌, ◌^◌, ◌<◌, ◌≤◌, inl, inr, List, [], ◌∷◌, ◌++◌, Bool, true, false, not, filter, map, drop, Option, Some, None, nat_eq, nat_lt, length, slice_index_or, slice_set, Result, Ok, Err, IfOk, IfErr, IsErrAnd, refl, sym, subst, ap, ◌∙◌, arith, append_assoc, append-nil}
+use Rattle.std.proofs.Common.{◌≡◌, ℕ, zero, suc, ◌+◌, ◌*◌, ◌-◌, ◌^◌, ◌<◌, ◌≤◌, inl, inr, List, [], ◌∷◌, ◌++◌, Bool, true, false, not, filter, map, drop, Option, Some, None, nat_eq, nat_lt, length, slice_get, slice_index_or, slice_set, Result, Ok, Err, IfOk, IfErr, IsErrAnd, refl, sym, subst, ap, ◌∙◌, arith, append_assoc, append-nil}
 use Rattle.std.specs.List.{sum_by}
 use Rattle.std.proofs.lemmas.List.{set-get_or, get_or-set_same, get_or-set_other, map-append}
 use Rattle.std.proofs.lemmas.List.Sums.{sum_by-cons}
@@ -29,6 +29,15 @@ use Rattle.vt_seq.proofs.InsertedLemmas.{all_inserted-among, among-all_inserted,
 pub opened : {X : Type 0} (xs : List X) (x : X) → 0 < length xs → slice_index_or xs 0 x ≡ x → xs ≡ x ∷ drop 1 xs
 opened [] x l h = absurd (omega (arith, l))
 opened (y ∷ ys) x l h = ap (λ (z : _). z ∷ ys) h
+
+-- a list whose first item is looked up
+pub first_there : {X : Type 0} (xs : List X) (x : X) → Some x ≡ slice_get xs 0 → (0 < length xs) × (slice_index_or xs 0 x ≡ x)
+first_there [] x h = absurd (cc)
+first_there (y ∷ ys) x h = ((let l : 0 < length (y ∷ ys) = omega arith in l), (let e : y ≡ x = cc in e))
+
+pub none_there : {X : Type 0} (xs : List X) → None ≡ slice_get xs 0 → xs ≡ []
+none_there [] h = refl
+none_there (y ∷ ys) h = absurd (cc)
 
 module _ {S P : Type 0} (sim : Simulation S P) (lawful : IsLawful sim) where
   -- the first event of the rising list is the least of the set
@@ -145,6 +154,18 @@ module _ {M S P K : Type 0} (sim : Simulation S P) (lawful : IsLawful sim) where
   pub taken : (n : ℕ) (pending : List (Sent P)) (processes : List (Process M S P K)) (records : List Record) → StandsAt sim n pending processes records
       → (d : Sent P) → Among d pending → (d.dest < sim.lps) × (d.key.time < sim.end)
   taken n pending processes records st d m = known_sent sim lawful (lists_of sim lawful (after_steps sim n).executed) d ((reached sim lawful n).made d (inl (st.sent d m)))
+
+  -- what a process has sent has lesser numbers than its next one
+  pub numbers_below_next : (n : ℕ) (pending : List (Sent P)) (processes : List (Process M S P K)) (records : List Record) (q : ℕ) (p : Process M S P K)
+      → StandsAt sim n pending processes records → q < sim.lps → slice_index_or processes q p ≡ p → (d : Sent P) → Among d pending → d.key.source ≡ q → d.key.number < p.number
+  numbers_below_next n pending processes records q p st is at d m source =
+      let x : RunState P = after_steps sim n in
+      let h = (reached sim lawful n).made d (inl (st.sent d m)) in
+      let b = numbered-among h.0 0 (after sim h.0 (events_of h.0 x.executed)).number (sends_of sim h.0 (events_of h.0 x.executed)) d (numbered-all sim lawful h.0 h.1 (events_of h.0 x.executed)) h.2 in
+      let here : h.0 ≡ q = sym b.0 ∙ source in
+      let before : d.key.number < (after sim q (events_of q x.executed)).number = subst (λ (i : ℕ). d.key.number < (after sim i (events_of i x.executed)).number) here b.2 in
+      let seat : p.number ≡ (after sim q (events_of q x.executed)).number = ap (λ (o : Process M S P K). o.number) (sym at) ∙ ap (λ (t : Triple S). t.number) (st.triples q p is) in
+      omega (arith, before, seat)
 
   -- with nothing pending, the records are those of the whole run
   pub nothing_left : (n : ℕ) (pending : List (Sent P)) (processes : List (Process M S P K)) (records : List Record) → StandsAt sim n pending processes records

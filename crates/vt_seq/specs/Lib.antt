@@ -1,3 +1,4 @@
+pub mod Letters
 pub mod Progress
 pub mod Queue
 pub mod StandsFor

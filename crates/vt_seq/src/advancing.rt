@@ -1,13 +1,18 @@
 //! How a process starts, and how it executes the first of the pending events.
 
-ghost use Rattle.std.specs.Prelude.{◌≡◌, ◌<◌, ◌≤◌, vec_len, IfOk, IfErr};
+ghost use Rattle.std.specs.Prelude.{◌≡◌, ℕ, ◌<◌, ◌≤◌, ◌+◌, ◌++◌, length, map, vec_len, IfOk, IfErr, IfSome};
+ghost use Rattle.std.specs.Vec.{vec_capacity};
 ghost use Rattle.vt_key.specs.Times.{TimeBefore};
+ghost use Rattle.vt_model.specs.declared.sending.Sent.{Sent};
+ghost use Rattle.vt_model.specs.Histories.{Among};
 ghost use Rattle.vt_model.specs.Process.{triple_at, IsProcessStream};
 ghost use Rattle.vt_model.specs.Simulation.{simulation_of};
+ghost use Rattle.vt_seq.specs.Letters.{event_of, IsPlain};
 ghost use Rattle.vt_seq.specs.StandsFor.{HasExecuted, HasStarted, IsRefusal};
 
-use crate::queue::{insert_events, keep_output, make_room, make_room_for_sends};
-use vt_key::{Fault, MAX_COUNT};
+use crate::pending::PendingEvents;
+use vt_key::{Fault, Letter, MAX_COUNT};
+use vt_list::List;
 use vt_model::stream::LpStream;
 use vt_model::{Config, Draws, Executed, Model as EventModel, Out, Process, Record, Sent};
 
@@ -18,18 +23,20 @@ pub(crate) fn advance<M: EventModel>(
     model: &M,
     config: Config,
     event: Sent<M::Payload>,
-    pending: &mut Vec<Sent<M::Payload>>,
+    pending: &mut PendingEvents<M::Payload>,
     records: &mut Vec<Record>,
 ) -> Result<(), Fault>
     requires known { event.dest < config.lps }
     requires early { TimeBefore event.key.time config.end }
     requires numbered { process.old.number ≤ MAX_COUNT }
     requires stream { IsProcessStream config.seed event.dest process.old.stream }
-    requires some { 0 < vec_len pending.old }
-    ensures done { IfOk result (λ done. HasExecuted ((simulation_of (M.handlers model.now) config).fire event.dest (triple_at process.old.state process.old.number process.old.stream) event) pending.old.items records.old.items process.new.state process.new.number process.new.stream pending.new.items records.new.items) }
+    requires processes { pending.old.processes ≡ config.lps }
+    requires earlier { (d : Sent _) → Among d pending.old.events → d.key.source ≡ event.dest → d.key.number < process.old.number }
+    ensures done { IfOk result (λ done. HasExecuted ((simulation_of (M.handlers model.now) config).fire event.dest (triple_at process.old.state process.old.number process.old.stream) event) pending.old.events records.old.items process.new.state process.new.number process.new.stream pending.new.events records.new.items) }
     ensures stream { IsProcessStream config.seed event.dest process.new.stream }
     ensures numbered { process.new.number ≤ MAX_COUNT }
-    ensures pending { IfErr result (λ fault. pending.new.items ≡ pending.old.items) }
+    ensures processes { pending.new.processes ≡ config.lps }
+    ensures pending { IfErr result (λ fault. pending.new ≡ pending.old) }
     ensures records { IfErr result (λ fault. records.new.items ≡ records.old.items) }
     ensures process { M.IsState model.now process.old.state → IfErr result (λ fault. process.new ≡ process.old) }
     ensures refused { IfErr result (λ fault. IsRefusal ((simulation_of (M.handlers model.now) config).fire event.dest (triple_at process.old.state process.old.number process.old.stream) event).triple.number fault) }
@@ -45,12 +52,13 @@ pub(crate) fn advance<M: EventModel>(
         process.undo(model, event, bits, kept, drawn, number);
         return Err(Fault::Exhausted);
     }
-    if !make_room(pending, records, &out) {
+    let Some(letters) = make_room(pending, records, &out) else {
         process.undo(model, event, bits, kept, drawn, number);
         return Err(Fault::Memory);
-    }
-    pending.remove(0);
-    keep_output(pending, records, &out);
+    };
+    pending.remove_first();
+    pending.insert_all(letters);
+    keep_records(records, &out);
     Ok(())
 }
 
@@ -59,10 +67,13 @@ pub(crate) fn start_process<M: EventModel>(
     model: &M,
     config: Config,
     p: u32,
-    pending: &mut Vec<Sent<M::Payload>>,
+    pending: &mut PendingEvents<M::Payload>,
 ) -> Result<Process<M>, Fault>
     requires known { p < config.lps }
-    ensures done { IfOk result (λ process. HasStarted ((simulation_of (M.handlers model.now) config).start p) pending.old.items process.state process.number process.stream pending.new.items) }
+    requires processes { pending.old.processes ≡ config.lps }
+    requires others { (d : Sent _) → Among d pending.old.events → d.key.source < p }
+    ensures processes { pending.new.processes ≡ config.lps }
+    ensures done { IfOk result (λ process. HasStarted ((simulation_of (M.handlers model.now) config).start p) pending.old.events process.state process.number process.stream pending.new.events) }
     ensures stream { IfOk result (λ process. IsProcessStream config.seed p process.stream) }
     ensures numbered { IfOk result (λ process. process.number ≤ MAX_COUNT) }
     ensures refused { IfErr result (λ fault. fault ≡ Fault.Memory) }
@@ -72,13 +83,39 @@ pub(crate) fn start_process<M: EventModel>(
     let mut draws = Draws::new(&mut stream);
     let state = model.start(p, &mut draws, &mut out);
     let number = out.number();
-    if !make_room_for_sends(pending, &out) {
+    let Some(letters) = pending.letters(out.sends()) else {
         return Err(Fault::Memory);
-    }
-    insert_events(pending, out.sends());
+    };
+    pending.insert_all(letters);
     Ok(Process {
         state,
         number,
         stream,
     })
+}
+
+/// Makes room for what an event sent and recorded: letters for the sends, and places for the records. None where memory
+/// is refused.
+fn make_room<P: Copy>(
+    pending: &PendingEvents<P>,
+    records: &mut Vec<Record>,
+    out: &Out<P>,
+) -> Option<List<Letter<P>>>
+    ensures records { records.new.items ≡ records.old.items }
+    ensures record_room { IfSome result (λ letters. vec_len records.new + length out.now.records ≤ vec_capacity records.new) }
+    ensures events { IfSome result (λ letters. map event_of letters ≡ out.now.sends) }
+    ensures plain { IfSome result (λ letters. (l : _) → Among l letters → IsPlain l) }
+{
+    let Ok(()) = records.reserve(out.records().len()) else {
+        return None;
+    };
+    pending.letters(out.sends())
+}
+
+/// Appends what an event recorded. There must be room.
+fn keep_records<P: Copy>(records: &mut Vec<Record>, out: &Out<P>)
+    requires room { vec_len records.old + length out.now.records ≤ vec_capacity records.old }
+    ensures { records.new.items ≡ records.old.items ++ out.now.records }
+{
+    let _ = records.extend_from_slice(out.records());
 }

@@ -1,6 +1,6 @@
 //! The fields of a sequential run, and its steps on them.
 
-ghost use Rattle.std.specs.Prelude.{◌≡◌, ℕ, suc, ◌+◌, ◌<◌, ◌≤◌, ◌↔◌, ◌⊎◌, [], map, All, IfOk, IfErr, IsTrue, IfSome, IfNone, slice_index_or, vec_len, false, true};
+ghost use Rattle.std.specs.Prelude.{◌≡◌, ℕ, suc, ◌+◌, ◌<◌, ◌≤◌, ◌↔◌, ◌⊎◌, [], length, map, All, IfOk, IfErr, IsTrue, IfSome, IfNone, slice_index_or, vec_len, false, true};
 ghost use Rattle.vt_key.specs.declared.fault.Fault.TheVariants.{Memory, NotLawful, Exhausted};
 ghost use Rattle.vt_key.specs.declared.limits.TheConstants.{MAX_COUNT};
 ghost use Rattle.vt_model.specs.Process.{IsProcessStream};
@@ -10,9 +10,10 @@ ghost use Rattle.vt_seq.specs.Queue.{IsWithinRun};
 ghost use Rattle.vt_seq.specs.StandsFor.{StandsAt};
 
 use crate::advancing::{advance, start_process};
+use crate::pending::PendingEvents;
 use std::alloc::Global;
 use vt_key::{Fault, Time};
-use vt_model::{Config, Model as EventModel, Process, Record, Sent};
+use vt_model::{Config, Model as EventModel, Process, Record};
 
 /// The fields of a sequential run. Clauses say by `StandsAt sim n` that they are the run's state after `n` steps, and the
 /// type keeps that they are its state after some.
@@ -20,14 +21,15 @@ use vt_model::{Config, Model as EventModel, Process, Record, Sent};
 pub(crate) struct Engine<'m, M: EventModel> {
     pub(crate) model: &'m M,
     pub(crate) config: Config,
-    pub(crate) pending: Vec<Sent<M::Payload>>,
+    pub(crate) pending: PendingEvents<M::Payload>,
     pub(crate) processes: Vec<Process<M>>,
     pub(crate) records: Vec<Record>,
-    ghost within_run: { All (IsWithinRun config.lps config.end) pending.items },
+    ghost within_run: { All (IsWithinRun config.lps config.end) pending.events },
+    ghost queues: { pending.processes ≡ config.lps },
     ghost all_there: { vec_len processes ≡ config.lps },
     ghost numbered: { (p : ℕ) (d : _) → p < config.lps → (slice_index_or processes.items p d).number ≤ MAX_COUNT },
     ghost streams: { (p : ℕ) (d : _) → p < config.lps → IsProcessStream config.seed p (slice_index_or processes.items p d).stream },
-    ghost stands: { ∥ ((n : ℕ) × StandsAt (simulation_of (M.handlers model.now) config) n pending.items processes.items records.items) ∥₁ },
+    ghost stands: { ∥ ((n : ℕ) × StandsAt (simulation_of (M.handlers model.now) config) n pending.events processes.items records.items) ∥₁ },
 }
 
 impl<'m, M: EventModel> Engine<'m, M> {
@@ -37,11 +39,12 @@ impl<'m, M: EventModel> Engine<'m, M> {
     pub(crate) fn new(alloc: Global, model: &'m M, config: Config) -> Result<Engine<'m, M>, Fault>
         ensures model { IfOk result (λ run. run.model.now ≡ model.now) }
         ensures config { IfOk result (λ run. run.config ≡ config) }
-        ensures stands { IfOk result (λ run. StandsAt (simulation_of (M.handlers model.now) config) 0 run.pending.items run.processes.items run.records.items) }
+        ensures stands { IfOk result (λ run. StandsAt (simulation_of (M.handlers model.now) config) 0 run.pending.events run.processes.items run.records.items) }
         ensures refused { IfErr result (λ fault. fault ≡ Memory) }
     {
-        let mut pending = Vec::new(alloc);
+        let mut pending = PendingEvents::new(alloc, config.lps)?;
         let mut processes = Vec::new(alloc);
+        let records = Vec::new(alloc);
         for p in 0..config.lps {
             let process = start_process(model, config, p, &mut pending)?;
             processes.push(process).map_err(|_| Fault::Memory)?;
@@ -51,7 +54,7 @@ impl<'m, M: EventModel> Engine<'m, M> {
             config,
             pending,
             processes,
-            records: Vec::new(alloc),
+            records,
         })
     }
 
@@ -59,7 +62,7 @@ impl<'m, M: EventModel> Engine<'m, M> {
     /// None where there is no such process.
     pub(crate) fn number(&self, p: u32) -> Option<u64>
         ensures unknown { IfNone result (self.now.config.lps ≤ p) }
-        ensures value { let sim = simulation_of (M.handlers self.now.model.now) self.now.config in (n : ℕ) → StandsAt sim n self.now.pending.items self.now.processes.items self.now.records.items → IfSome result (λ v. (p < self.now.config.lps) × (v ≡ (after sim p (events_of p (after_steps sim n).executed)).number)) }
+        ensures value { let sim = simulation_of (M.handlers self.now.model.now) self.now.config in (n : ℕ) → StandsAt sim n self.now.pending.events self.now.processes.items self.now.records.items → IfSome result (λ v. (p < self.now.config.lps) × (v ≡ (after sim p (events_of p (after_steps sim n).executed)).number)) }
     {
         let process = self.processes.get(p as usize)?;
         Some(process.number)
@@ -69,7 +72,7 @@ impl<'m, M: EventModel> Engine<'m, M> {
     /// None where there is no such process.
     pub(crate) fn place(&self, p: u32) -> Option<u64>
         ensures unknown { IfNone result (self.now.config.lps ≤ p) }
-        ensures value { let sim = simulation_of (M.handlers self.now.model.now) self.now.config in (n : ℕ) → StandsAt sim n self.now.pending.items self.now.processes.items self.now.records.items → IfSome result (λ v. (p < self.now.config.lps) × (v ≡ (after sim p (events_of p (after_steps sim n).executed)).place)) }
+        ensures value { let sim = simulation_of (M.handlers self.now.model.now) self.now.config in (n : ℕ) → StandsAt sim n self.now.pending.events self.now.processes.items self.now.records.items → IfSome result (λ v. (p < self.now.config.lps) × (v ≡ (after sim p (events_of p (after_steps sim n).executed)).place)) }
     {
         let process = self.processes.get(p as usize)?;
         Some(process.stream.place())
@@ -79,7 +82,7 @@ impl<'m, M: EventModel> Engine<'m, M> {
     ///
     /// [`Fault::Memory`]: memory was refused.
     pub(crate) fn records_below(&self, alloc: Global, t: Time) -> Result<Vec<Record>, Fault>
-        ensures rows { let sim = simulation_of (M.handlers self.now.model.now) self.now.config in (n : ℕ) → StandsAt sim n self.now.pending.items self.now.processes.items self.now.records.items → IfOk result (λ v. v.items ≡ records_of (rows_before t (rows_after sim [] (after_steps sim n).executed))) }
+        ensures rows { let sim = simulation_of (M.handlers self.now.model.now) self.now.config in (n : ℕ) → StandsAt sim n self.now.pending.events self.now.processes.items self.now.records.items → IfOk result (λ v. v.items ≡ records_of (rows_before t (rows_after sim [] (after_steps sim n).executed))) }
         ensures refused { IfErr result (λ fault. fault ≡ Memory) }
     {
         let mut found = Vec::new(alloc);
@@ -98,20 +101,19 @@ impl<'m, M: EventModel> Engine<'m, M> {
     pub(crate) fn step(&mut self) -> Result<bool, Fault>
         ensures model { self.new.model.now ≡ self.old.model.now }
         ensures config { self.new.config ≡ self.old.config }
-        ensures more { IfOk result (λ more. IsTrue more ↔ (0 < vec_len self.old.pending)) }
+        ensures more { IfOk result (λ more. IsTrue more ↔ (0 < length self.old.pending.events)) }
         ensures idle { IfOk result (λ more. more ≡ false → self.new ≡ self.old) }
-        ensures steps { let sim = simulation_of (M.handlers self.old.model.now) self.old.config in (n : ℕ) → StandsAt sim n self.old.pending.items self.old.processes.items self.old.records.items → IfOk result (λ more. StandsAt sim (suc n) self.new.pending.items self.new.processes.items self.new.records.items) }
-        ensures falls { let sim = simulation_of (M.handlers self.old.model.now) self.old.config in IfOk result (λ more. IsTrue more → weight sim self.new.pending.items < weight sim self.old.pending.items) }
-        ensures pending { IfErr result (λ fault. self.new.pending.items ≡ self.old.pending.items) }
+        ensures steps { let sim = simulation_of (M.handlers self.old.model.now) self.old.config in (n : ℕ) → StandsAt sim n self.old.pending.events self.old.processes.items self.old.records.items → IfOk result (λ more. StandsAt sim (suc n) self.new.pending.events self.new.processes.items self.new.records.items) }
+        ensures falls { let sim = simulation_of (M.handlers self.old.model.now) self.old.config in IfOk result (λ more. IsTrue more → weight sim self.new.pending.events < weight sim self.old.pending.events) }
+        ensures pending { IfErr result (λ fault. self.new.pending ≡ self.old.pending) }
         ensures records { IfErr result (λ fault. self.new.records.items ≡ self.old.records.items) }
         ensures processes { IfErr result (λ fault. self.new.processes.items ≡ self.old.processes.items) }
-        ensures refused { let sim = simulation_of (M.handlers self.old.model.now) self.old.config in (n : ℕ) → StandsAt sim n self.old.pending.items self.old.processes.items self.old.records.items → IfErr result (λ fault. (fault ≡ Memory) ⊎ ((fault ≡ Exhausted) × (p : ℕ) × (MAX_COUNT < (after sim p (events_of p (after_steps sim (suc n)).executed)).number))) }
+        ensures refused { let sim = simulation_of (M.handlers self.old.model.now) self.old.config in (n : ℕ) → StandsAt sim n self.old.pending.events self.old.processes.items self.old.records.items → IfErr result (λ fault. (fault ≡ Memory) ⊎ ((fault ≡ Exhausted) × (p : ℕ) × (MAX_COUNT < (after sim p (events_of p (after_steps sim (suc n)).executed)).number))) }
         ensures faults { IfErr result (λ fault. (fault ≡ Memory) ⊎ (fault ≡ Exhausted)) }
     {
-        if self.pending.is_empty() {
+        let Some(event) = self.pending.first() else {
             return Ok(false);
-        }
-        let event = self.pending[0];
+        };
         advance(
             &mut self.processes[event.dest as usize],
             self.model,
@@ -132,8 +134,8 @@ impl<'m, M: EventModel> Engine<'m, M> {
         ensures config { self.new.config ≡ self.old.config }
         ensures whole { IfOk result (λ v. v.items ≡ seq_records (simulation_of (M.handlers self.old.model.now) self.old.config) self.old.config.end) }
         ensures faults { IfErr result (λ fault. (fault ≡ Memory) ⊎ (fault ≡ Exhausted)) }
-        ensures nothing_left { IfOk result (λ v. self.new.pending.items ≡ []) }
-        ensures stands { let sim = simulation_of (M.handlers self.old.model.now) self.old.config in (n : ℕ) → StandsAt sim n self.old.pending.items self.old.processes.items self.old.records.items → (k : ℕ) × StandsAt sim (k + n) self.new.pending.items self.new.processes.items self.new.records.items }
+        ensures nothing_left { IfOk result (λ v. self.new.pending.events ≡ []) }
+        ensures stands { let sim = simulation_of (M.handlers self.old.model.now) self.old.config in (n : ℕ) → StandsAt sim n self.old.pending.events self.old.processes.items self.old.records.items → (k : ℕ) × StandsAt sim (k + n) self.new.pending.events self.new.processes.items self.new.records.items }
     {
         while self.step()? {}
         let mut all = Vec::new(alloc);
@@ -147,12 +149,12 @@ impl<'m, M: EventModel> Engine<'m, M> {
     /// [`Fault::NotLawful`]: an event is pending still. [`Fault::Memory`]: memory was refused.
     pub(crate) fn finals(&self, alloc: Global) -> Result<Vec<u64>, Fault>
         ensures values { let sim = simulation_of (M.handlers self.now.model.now) self.now.config in IfOk result (λ v. v.items ≡ map (λ p. (M.handlers self.now.model.now).finish p (after sim p (events_of p (whole_run sim))).state) (numbers_below self.now.config.lps)) }
-        ensures nothing_left { IfOk result (λ v. self.now.pending.items ≡ []) }
-        ensures refused { IfErr result (λ fault. (fault ≡ Memory) ⊎ ((fault ≡ NotLawful) × (0 < vec_len self.now.pending))) }
+        ensures nothing_left { IfOk result (λ v. self.now.pending.events ≡ []) }
+        ensures refused { IfErr result (λ fault. (fault ≡ Memory) ⊎ ((fault ≡ NotLawful) × (0 < length self.now.pending.events))) }
     {
-        if !self.pending.is_empty() {
+        let None = self.pending.first() else {
             return Err(Fault::NotLawful);
-        }
+        };
         let mut values = Vec::new(alloc);
         for p in 0..self.config.lps {
             let value = self.model.finish(p, &self.processes[p as usize].state);

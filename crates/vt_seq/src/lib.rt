@@ -4,7 +4,7 @@
 
 mod advancing;
 mod engine;
-mod queue;
+mod pending;
 mod run;
 
 pub use run::Sequential;

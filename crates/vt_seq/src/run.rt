@@ -31,7 +31,7 @@ impl<'m, M: EventModel> Model for Sequential<'m, M> {
     ghost view = { λ s. record {
       model = s.engine.model.now;
       config = s.engine.config;
-      pending = s.engine.pending.items;
+      pending = s.engine.pending.events;
       triples = map (λ q. triple_at q.state q.number q.stream) s.engine.processes.items;
       records = s.engine.records.items;
     } };

@@ -1,11 +1,18 @@
-use Rattle.std.proofs.Common.{◌≡◌, ◌+◌, ◌<◌, ◌^◌, ◌≤◌, ◌∙◌, [], ap, arith, max, rules}
+use Rattle.std.proofs.Common.{◌≡◌, ℕ, List, sym, subst, ◌+◌, ◌<◌, ◌^◌, ◌≤◌, ◌∙◌, [], ap, arith, max, rules}
 use prog.Memory.{up, align, size}
 use denote.Memory.{lone}
 use Rattle.vt_stream.specs.Words.{word_of, moved}
 use Rattle.vt_model.specs.Sends.{Outgoing, with_requests}
 use Rattle.vt_model.specs.Simulation.{words_at}
 use Rattle.vt_stream.proofs.WordLemmas.{word_below}
+use Rattle.vt_model.specs.declared.sending.Sent.{Sent}
+use Rattle.vt_model.specs.Histories.{Among}
+use Rattle.vt_model.specs.Simulation.{simulation_of}
+use Rattle.vt_model.proofs.LawLemmas.{lawful_of}
 use Rattle.vt_seq.specs.Queue.{all_inserted}
+use Rattle.vt_seq.specs.Letters.{event_of, AreNew}
+use Rattle.vt_seq.proofs.InsertedLemmas.{are_new}
+use Rattle.vt_seq.proofs.PendingLemmas.{among-map}
 use Rattle.vt_seq.proofs.Sizes.{up_le}
 use Rattle.vt_seq.proofs.StartLemmas.{starts}
 use Rattle.vt_seq.proofs.advancing.start_process.Goals as goal
@@ -40,16 +47,6 @@ number-number-requires g c =
     let al : max 8 (max 4 (max (align (lone g.row.M-Payload.mir)) 1)) ≡ 8 = omega (arith, high) in
     simp al (omega (arith, at, size_small))
 
-pub make_room_for_sends-requires : goal.make_room_for_sends-requires
-make_room_for_sends-requires g c =
-    let bounds = g.met.M.Model.payload_align in
-    let low : 1 ≤ align (lone g.row.M-Payload.mir) = bounds.0 in
-    let high : align (lone g.row.M-Payload.mir) ≤ 8 = bounds.1 in
-    let size_small : size (lone g.row.M-Payload.mir) < 2 ^ 32 = g.met.M.Model.payload_size in
-    let at : up (align (lone g.row.M-Payload.mir)) 28 ≤ 28 + 16 = up_le (align (lone g.row.M-Payload.mir)) 28 28 low (omega (arith, high)) (omega arith) in
-    let al : max 8 (max 4 (max (align (lone g.row.M-Payload.mir)) 1)) ≡ 8 = omega (arith, high) in
-    simp al (omega (arith, at, size_small))
-
 pub sends-requires : goal.sends-requires
 sends-requires g c =
     let bounds = g.met.M.Model.payload_align in
@@ -68,6 +65,47 @@ returns-clause-numbered g c =
     let first : c.new-out.result.number ≡ 0 = ap (λ (o : Outgoing g.row.M-Payload.Denot). o.number) c.new-out.ensures.whole in
     omega (arith, w.few_sends, number, first, c.number-number.ensures)
 
+pub insert_all-requires-clause-known : goal.insert_all-requires-clause-known
+insert_all-requires-clause-known g c l m =
+    let gives = (g.M.Model.handlers c.args.model.now).start in
+    let w = g.met.M.Model.start_within c.args.model.now c.args.config.lps c.args.p (words_at c.args.config.seed c.args.p 0)
+    c.requires.known (λ i. word_below _ _ _) in
+    let at = c.new-draws.ensures.stream ∙ c.new-stream.ensures in
+    let out = c.new-out.ensures.whole in
+    let r = starts c.args.config.seed c.args.config.end c.args.config.lps c.args.p (gives c.args.config.lps c.args.p) c.new-draws.result.stream.now c.start-state.new.draws.stream.now c.new-out.result c.start-state.new.out c.start-state.result
+    at out
+    (c.start-state.ensures.state ∙ (λ j. (gives (out j).lps c.args.p (word_of c.new-draws.result.stream.now)).state))
+    (c.start-state.ensures.stream ∙ (λ j. moved c.new-draws.result.stream.now (gives (out j).lps c.args.p (word_of c.new-draws.result.stream.now)).drawn))
+    w.few_words
+    (c.start-state.ensures.out ∙ (λ j. with_requests c.new-out.result (gives (out j).lps c.args.p (word_of c.new-draws.result.stream.now)).send_requests [])) in
+    let model = c.args.model.now in
+    let config = c.args.config in
+    let lawful = lawful_of (g.M.Model.handlers model) config (g.met.M.Model.start_within model) (g.met.M.Model.forward_within model) in
+    subst (λ (n : ℕ). l.event.dest < n) (sym c.requires.processes)
+    (lawful.known_start c.args.p (event_of l) c.requires.known (subst (Among (event_of l)) (c.in-Some.ensures.events ∙ c.sends.ensures ∙ r.sends) (among-map l c.in-Some.letters m)))
+
+pub insert_all-requires-clause-new : goal.insert_all-requires-clause-new
+insert_all-requires-clause-new g c =
+    let gives = (g.M.Model.handlers c.args.model.now).start in
+    let w = g.met.M.Model.start_within c.args.model.now c.args.config.lps c.args.p (words_at c.args.config.seed c.args.p 0)
+    c.requires.known (λ i. word_below _ _ _) in
+    let at = c.new-draws.ensures.stream ∙ c.new-stream.ensures in
+    let out = c.new-out.ensures.whole in
+    let r = starts c.args.config.seed c.args.config.end c.args.config.lps c.args.p (gives c.args.config.lps c.args.p) c.new-draws.result.stream.now c.start-state.new.draws.stream.now c.new-out.result c.start-state.new.out c.start-state.result
+    at out
+    (c.start-state.ensures.state ∙ (λ j. (gives (out j).lps c.args.p (word_of c.new-draws.result.stream.now)).state))
+    (c.start-state.ensures.stream ∙ (λ j. moved c.new-draws.result.stream.now (gives (out j).lps c.args.p (word_of c.new-draws.result.stream.now)).drawn))
+    w.few_words
+    (c.start-state.ensures.out ∙ (λ j. with_requests c.new-out.result (gives (out j).lps c.args.p (word_of c.new-draws.result.stream.now)).send_requests [])) in
+    let model = c.args.model.now in
+    let config = c.args.config in
+    let sim = simulation_of (g.M.Model.handlers model) config in
+    let lawful = lawful_of (g.M.Model.handlers model) config (g.met.M.Model.start_within model) (g.met.M.Model.forward_within model) in
+    let fired = sim.start c.args.p in
+    subst (λ (es : List (Sent _)). AreNew es c.args.pending.now.events) (sym (c.in-Some.ensures.events ∙ c.sends.ensures ∙ r.sends))
+    (are_new c.args.p 0 fired.triple.number fired.sends c.args.pending.now.events (lawful.numbered_start c.args.p c.requires.known)
+    (λ d a source. let less : d.key.source < c.args.p = c.requires.others d a in absurd (omega (arith, less, source))))
+
 pub returns-clause-done : goal.returns-clause-done
 returns-clause-done g c =
     let gives = (g.M.Model.handlers c.args.model.now).start in
@@ -83,5 +121,5 @@ returns-clause-done g c =
     (c.start-state.ensures.out ∙ (λ j. with_requests c.new-out.result (gives (out j).lps c.args.p (word_of c.new-draws.result.stream.now)).send_requests [])) in
     record {
       triple = search (rules, r.triple, c.number-number.ensures);
-      pending = c.insert_events.ensures.items ∙ (λ j. all_inserted ((c.sends.ensures ∙ r.sends) j) (c.make_room_for_sends.ensures.events j));
+      pending = c.insert_all.ensures.events ∙ ap (λ (es : List (Sent _)). all_inserted es c.args.pending.now.events) (c.in-Some.ensures.events ∙ c.sends.ensures ∙ r.sends);
     }

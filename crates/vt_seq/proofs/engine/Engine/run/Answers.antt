@@ -24,9 +24,9 @@ loop-preserved g c =
           let k : ℕ = r.0 in
           let up : suc (k + n) ≡ suc k + n = omega arith in (
             suc k,
-            subst (λ (i : ℕ). StandsAt (simulation_of (g.M.Model.handlers c.args.self.now.model.now) c.args.self.now.config) i later.pending.items later.processes.items later.records.items) up
-                (subst (λ (s : Simulation _ _). StandsAt s (suc (k + n)) later.pending.items later.processes.items later.records.items) same
-                (c.in_ok-step.ensures.steps (k + n) (subst (λ (s : Simulation _ _). StandsAt s (k + n) before.pending.items before.processes.items before.records.items) (sym same) r.1))),
+            subst (λ (i : ℕ). StandsAt (simulation_of (g.M.Model.handlers c.args.self.now.model.now) c.args.self.now.config) i later.pending.events later.processes.items later.records.items) up
+                (subst (λ (s : Simulation _ _). StandsAt s (suc (k + n)) later.pending.events later.processes.items later.records.items) same
+                (c.in_ok-step.ensures.steps (k + n) (subst (λ (s : Simulation _ _). StandsAt s (k + n) before.pending.events before.processes.items before.records.items) (sym same) r.1))),
           );
     }
 
@@ -40,6 +40,6 @@ returns-clause-whole g c =
     let sim = simulation_of (g.M.Model.handlers m) config in
     let lawful = lawful_of (g.M.Model.handlers m) config (g.met.M.Model.start_within m) (g.met.M.Model.forward_within m) in
     let copied : c.extend_from_slice.new.self.items ≡ later.records.items = search rules in
-    let none : later.pending.items ≡ [] = nil_of later.pending.items (search rules) in
-    copied ∙ ∥∥₁_elim later.stands (Prim.hlevel props) (λ x. whole_records sim lawful x.0 later.pending.items later.processes.items later.records.items x.1 none)
+    let none : later.pending.events ≡ [] = nil_of later.pending.events (search rules) in
+    copied ∙ ∥∥₁_elim later.stands (Prim.hlevel props) (λ x. whole_records sim lawful x.0 later.pending.events later.processes.items later.records.items x.1 none)
     ∙ (λ j. seq_records (simulation_of (g.M.Model.handlers (model j)) (cfg j)) (cfg j).end)

@@ -11,6 +11,6 @@ pub returns-clause-value : goal.returns-clause-value
 returns-clause-value g c =
     let e = c.self.inside.engine in
     let sim = simulation_of (g.M.Model.handlers e.model.now) e.config in
-    let rises : are_rising e.pending.items ≡ true = ∥∥₁_elim e.stands (Prim.hlevel props) (λ x. rising-tested e.pending.items x.1.rising) in
+    let rises : are_rising e.pending.events ≡ true = ∥∥₁_elim e.stands (Prim.hlevel props) (λ x. rising-tested e.pending.events x.1.rising) in
     subst (λ (v : Progress _ _ _). (n : ℕ) → IsAfter (simulation_of (g.M.Model.handlers v.model) v.config) n v → IfSome c.place.result (λ r. (c.args.p < v.config.lps) × (r ≡ (after (simulation_of (g.M.Model.handlers v.model) v.config) c.args.p (events_of c.args.p (after_steps (simulation_of (g.M.Model.handlers v.model) v.config) n).executed)).place)))
-    c.self.view_is (λ n is. c.place.ensures.value n (after-stands sim e.model.now e.config n e.pending.items e.processes.items e.records.items rises is))
+    c.self.view_is (λ n is. c.place.ensures.value n (after-stands sim e.model.now e.config n e.pending.events e.processes.items e.records.items rises is))

@@ -10,11 +10,11 @@ pub returns-clause-steps : goal.returns-clause-steps
 returns-clause-steps g c =
     let e = c.self.inside.engine in
     let sim = simulation_of (g.M.Model.handlers e.model.now) e.config in
-    let rises : are_rising e.pending.items ≡ true = ∥∥₁_elim e.stands (Prim.hlevel props) (λ x. rising-tested e.pending.items x.1.rising) in
+    let rises : are_rising e.pending.events ≡ true = ∥∥₁_elim e.stands (Prim.hlevel props) (λ x. rising-tested e.pending.events x.1.rising) in
     let f = c.run.new.self in
-    let later = seen sim f.model.now f.config f.pending.items f.processes.items f.records.items in
+    let later = seen sim f.model.now f.config f.pending.events f.processes.items f.records.items in
     let there : sim.lps ≤ length f.processes.items = search (rules, arith, f.all_there, c.run.ensures.config) in
     subst (λ (v : Progress _ _ _). (n : ℕ) → IsAfter (simulation_of (g.M.Model.handlers v.model) v.config) n v → (k : ℕ) × IsAfter (simulation_of (g.M.Model.handlers v.model) v.config) (k + n) later)
     c.self.view_is
-    (λ n is. let r = c.run.ensures.stands n (after-stands sim e.model.now e.config n e.pending.items e.processes.items e.records.items rises is) in
-    (r.0, stands-after sim f.model.now f.config (r.0 + n) f.pending.items f.processes.items f.records.items there r.1))
+    (λ n is. let r = c.run.ensures.stands n (after-stands sim e.model.now e.config n e.pending.events e.processes.items e.records.items rises is) in
+    (r.0, stands-after sim f.model.now f.config (r.0 + n) f.pending.events f.processes.items f.records.items there r.1))

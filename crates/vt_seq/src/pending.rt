@@ -1,0 +1,173 @@
+//! The events that are pending: a queue for each process, and a tournament over the queues' fronts.
+
+ghost use Rattle.std.specs.Prelude.{◌≡◌, ◌<◌, ◌≤◌, ◌^◌, [], length, drop, map, slice_get, IfOk, IfErr, IfSome};
+ghost use Rattle.vt_key.specs.declared.fault.Fault.TheVariants.{Memory};
+ghost use Rattle.vt_model.specs.declared.sending.Sent.{Sent};
+ghost use Rattle.vt_model.specs.Histories.{Among};
+ghost use Rattle.vt_seq.specs.Queue.{inserted, all_inserted};
+ghost use Rattle.vt_seq.specs.Letters.{event_of, front_rank, AreNew, IsPlain};
+
+use std::alloc::Global;
+use std::marker::Model;
+use vt_key::{Event, Fault, Letter, Rank, Sign, Stamp};
+use vt_list::{List, Parcel};
+use vt_model::Sent;
+use vt_pending::Pending;
+use vt_tournament::Tournament;
+
+/// The events that were sent and not yet executed. Each process has a queue of those that it receives, and a tournament
+/// over the fronts of the queues tells the first of all, so that an event goes in and out at a cost that grows with the
+/// logarithm of the number of processes and with the length of one queue.
+///
+/// Contracts see the number of processes, and the events in the order of their keys.
+#[derive(Drop)]
+pub(crate) struct PendingEvents<P: Copy> {
+    alloc: Global,
+    queues: Vec<Pending<P>>,
+    fronts: Tournament,
+}
+
+impl<P: Copy> Model for PendingEvents<P> {
+    ghost use Rattle.std.specs.Prelude.{length};
+    ghost use Rattle.vt_seq.specs.Letters.{HeldEvents, in_order, AreQueues};
+
+    ghost Value = { HeldEvents P };
+
+    ghost view = { λ s. record {
+      processes = length s.queues.items;
+      events = in_order s.queues.items;
+    } };
+
+    ghost invariant = { λ s. AreQueues s.queues.items s.fronts };
+}
+
+impl<P: Copy> PendingEvents<P> {
+    /// No event, with a queue for each of so many processes.
+    ///
+    /// [`Fault::Memory`]: memory was refused.
+    pub(crate) fn new(alloc: Global, processes: u32) -> Result<PendingEvents<P>, Fault>
+        requires some { 1 ≤ processes }
+        requires few { processes ≤ 2 ^ 31 }
+        ensures processes { IfOk result (λ events. events.processes ≡ processes) }
+        ensures none { IfOk result (λ events. events.events ≡ []) }
+        ensures refused { IfErr result (λ fault. fault ≡ Memory) }
+    {
+        let mut queues = Vec::new(alloc);
+        for _ in 0..processes {
+            queues.push(Pending::new(alloc)).map_err(|_| Fault::Memory)?;
+        }
+        let fronts = Tournament::new(alloc, processes)?;
+        Ok(PendingEvents {
+            alloc,
+            queues,
+            fronts,
+        })
+    }
+
+    /// The event of least key.
+    pub(crate) fn first(&self) -> Option<Sent<P>>
+        ensures { result ≡ slice_get self.now.events 0 }
+    {
+        let Some(p) = self.fronts.winner() else {
+            return None;
+        };
+        let Some(letter) = self.queues[p as usize].least() else {
+            return None;
+        };
+        Some(event_of(letter))
+    }
+
+    /// Takes out the event of least key. Where there is none, nothing changes.
+    pub(crate) fn remove_first(&mut self)
+        ensures processes { self.new.processes ≡ self.old.processes }
+        ensures events { self.new.events ≡ drop 1 self.old.events }
+    {
+        if let Some(p) = self.fronts.winner() {
+            self.queues[p as usize].take_least();
+            self.fronts.set(p, front_rank(&self.queues[p as usize]));
+        }
+    }
+
+    /// Inserts the event that a letter brings, before the first of greater key. It takes no memory.
+    pub(crate) fn insert(&mut self, letter: Parcel<Letter<P>>)
+        requires known { letter.event.dest < self.old.processes }
+        requires plain { IsPlain letter }
+        requires new { (d : Sent _) → Among d self.old.events → d.key ≡ letter.event.rank.key → ⊥ }
+        ensures processes { self.new.processes ≡ self.old.processes }
+        ensures events { self.new.events ≡ inserted (event_of letter) self.old.events }
+    {
+        let dest = letter.get().event.dest;
+        self.queues[dest as usize].insert(letter);
+        self.fronts
+            .set(dest, front_rank(&self.queues[dest as usize]));
+    }
+
+    /// Inserts the events that letters bring, one after the other. It takes no memory.
+    pub(crate) fn insert_all(&mut self, letters: List<Letter<P>>)
+        requires known { (l : _) → Among l letters → l.event.dest < self.old.processes }
+        requires plain { (l : _) → Among l letters → IsPlain l }
+        requires new { AreNew (map event_of letters) self.old.events }
+        ensures processes { self.new.processes ≡ self.old.processes }
+        ensures events { self.new.events ≡ all_inserted (map event_of letters) self.old.events }
+    {
+        let mut letters = letters;
+        while let Some(letter) = letters.pop_front() {
+            self.insert(letter);
+        }
+    }
+
+    /// Letters for these events, to be inserted; None where memory is refused.
+    pub(crate) fn letters(&self, events: &[Sent<P>]) -> Option<List<Letter<P>>>
+        ensures events { IfSome result (λ letters. map event_of letters ≡ events.now) }
+        ensures plain { IfSome result (λ letters. (l : _) → Among l letters → IsPlain l) }
+    {
+        let mut letters = List::new(self.alloc);
+        for event in events {
+            let Ok(letter) = Parcel::new(self.alloc, letter_of(*event)) else {
+                return None;
+            };
+            letters.push_back(letter);
+        }
+        Some(letters)
+    }
+}
+
+/// The rank of the first letter of a queue.
+fn front_rank<P: Copy>(queue: &Pending<P>) -> Option<Rank>
+    ensures { result ≡ front_rank queue.now }
+{
+    let letter = queue.least()?;
+    Some(letter.event.rank)
+}
+
+/// The event that a letter brings.
+fn event_of<P: Copy>(letter: &Letter<P>) -> Sent<P>
+    ensures { result ≡ event_of letter.now }
+{
+    Sent {
+        key: letter.event.rank.key,
+        dest: letter.event.dest,
+        payload: letter.event.payload,
+    }
+}
+
+/// The letter that brings an event, which is made once: so its stamp is the first.
+fn letter_of<P: Copy>(event: Sent<P>) -> Letter<P>
+    ensures event { event_of result ≡ event }
+    ensures plain { IsPlain result }
+{
+    Letter {
+        event: Event {
+            rank: Rank {
+                key: event.key,
+                stamp: Stamp {
+                    worker: 0,
+                    serial: 0,
+                },
+            },
+            dest: event.dest,
+            payload: event.payload,
+        },
+        sign: Sign::Plus,
+    }
+}
