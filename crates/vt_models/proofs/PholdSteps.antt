@@ -5,7 +5,7 @@ use Rattle.vt_model.specs.Handler.{ForwardResult}
 use Rattle.vt_model.specs.Sends.{Outgoing, with_requests}
 use Rattle.vt_models.specs.declared.phold.Phold.{Phold}
 use Rattle.vt_models.specs.declared.phold.TheConstants.{PERCENT}
-use Rattle.vt_models.specs.Drawn.{scaled}
+use Rattle.vt_stream.specs.Drawn.{scaled}
 use Rattle.vt_models.specs.Phold.{phold_forward, forward_remote, forward_local, counted}
 
 module _ (m : Phold) (lps lp s : ℕ) (words : ℕ → ℕ) where

@@ -5,7 +5,7 @@ use Rattle.vt_model.specs.Sends.{SendRequest}
 use Rattle.vt_model.specs.Sequential.{numbers_below}
 use Rattle.vt_models.specs.declared.phold.Phold.{Phold}
 use Rattle.vt_models.specs.declared.phold.TheConstants.{PERCENT, REMOTE}
-use Rattle.vt_models.specs.Drawn.{scaled}
+use Rattle.vt_stream.specs.Drawn.{scaled}
 
 -- an event that is scheduled at a process, for which this word was drawn: it is received after the lookahead and a number
 -- below the span

@@ -5,8 +5,8 @@ use Rattle.std.proofs.lemmas.List.{map-append, length-append}
 use Rattle.vt_model.specs.Handler.{ForwardResult, IsWithinLimits, IsSendable, AreWords}
 use Rattle.vt_model.specs.Sequential.{numbers_below}
 use Rattle.vt_models.specs.declared.phold.Phold.{Phold}
-use Rattle.vt_models.specs.Drawn.{scaled}
-use Rattle.vt_models.specs.DrawnLaws.{scaled_below}
+use Rattle.vt_stream.specs.Drawn.{scaled}
+use Rattle.vt_stream.specs.DrawnLaws.{scaled_below}
 use Rattle.vt_models.specs.Phold.{scheduled, first_events, phold_start, phold_forward, forward_remote, forward_local, is_remote, counted, uncounted}
 
 scheduled_ok : (m : Phold) (lps dest w : ℕ) → dest < lps → IsSendable lps (scheduled m dest w)

@@ -8,7 +8,7 @@ use Rattle.vt_models.specs.declared.stations.Server.{Server}
 use Rattle.vt_models.specs.declared.stations.JobEvent.{JobEvent}
 use Rattle.vt_models.specs.declared.stations.JobEvent.TheVariants.{Arrive, Depart}
 use Rattle.vt_models.specs.declared.stations.TheConstants.{BEGAN, GOES_ON, EMPTY}
-use Rattle.vt_models.specs.Drawn.{scaled}
+use Rattle.vt_stream.specs.Drawn.{scaled}
 
 -- the end of a service that begins now, for which this word was drawn
 abbrev pub departure : Stations → ℕ → ℕ → SendRequest JobEvent

@@ -4,7 +4,7 @@ use Rattle.vt_stream.specs.Words.{Stream, word_of, moved}
 use Rattle.vt_models.specs.Phold.{scheduled, first_events}
 use Rattle.vt_models.specs.PholdLaws.{first_events_ok, first_events-suc}
 use Rattle.vt_stream.proofs.DrawLemmas.{moved-zero, moved-moved, word_after}
-use Rattle.vt_models.proofs.RequestLemmas.{no_requests, sent_after}
+use Rattle.vt_model.proofs.RequestLemmas.{no_requests, sent_after}
 use Rattle.vt_models.proofs.phold.PholdEventModel.start.Goals as goal
 
 pub events-init : goal.events-init
