@@ -2,6 +2,8 @@
 use Rattle.std.proofs.Common.{lit≤}
 use Rattle.vt_model.specs.declared.settings.Config.{Config}
 use Rattle.vt_models.specs.declared.hop.Hop.{Hop}
+use Rattle.vt_models.specs.declared.phold.Phold.{Phold}
+use Rattle.vt_models.specs.declared.stations.Stations.{Stations}
 use Rattle.vt_command.specs.declared.choices.Options.{Options}
 use Rattle.vt_command.specs.declared.choices.ModelName.TheVariants as name
 use Rattle.vt_command.specs.declared.choices.Synch.TheVariants as synch
@@ -31,12 +33,42 @@ default_hop = record {
   short_delay = lit≤ tt;
 }
 
--- two processes, one worker, times below 10, seed 0, and a hop model of two hops by one process in two ticks
+abbrev pub default_phold : Phold
+default_phold = record {
+  population = 1;
+  remote = 0;
+  lookahead = 1;
+  span = 1;
+  few_events = lit≤ tt;
+  in_percent = lit≤ tt;
+  some_lookahead = lit≤ tt;
+  short_lookahead = lit≤ tt;
+  some_span = lit≤ tt;
+  short_span = lit≤ tt;
+}
+
+abbrev pub default_stations : Stations
+default_stations = record {
+  jobs = 1;
+  service = 1;
+  travel = 1;
+  few_jobs = lit≤ tt;
+  some_service = lit≤ tt;
+  short_service = lit≤ tt;
+  some_travel = lit≤ tt;
+  short_travel = lit≤ tt;
+}
+
+-- two processes, one worker, times below 10 and seed 0; a hop model of two hops by one process in two ticks, PHOLD with
+-- one event for each process that stays there and comes each tick, and stations with one job, whose services and ways
+-- take one tick
 abbrev pub default_options : Options
 default_options = record {
   model = name.Hop;
   synch = synch.Sequential;
   config = default_config;
   hop = default_hop;
+  phold = default_phold;
+  stations = default_stations;
   turns = 10000000;
 }

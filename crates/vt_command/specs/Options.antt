@@ -2,6 +2,8 @@
 use Rattle.std.specs.Prelude.{◌≡◌, Some, None, codes}
 use Rattle.vt_model.specs.declared.settings.Config.{Config}
 use Rattle.vt_models.specs.declared.hop.Hop.{Hop}
+use Rattle.vt_models.specs.declared.phold.Phold.{Phold}
+use Rattle.vt_models.specs.declared.stations.Stations.{Stations}
 use Rattle.vt_command.specs.declared.choices.Options.{Options}
 use Rattle.vt_command.specs.Table
 use Rattle.vt_command.specs.Table.{Given, value_in, model_in, synch_in, first_bad}
@@ -19,11 +21,26 @@ pub record GiveHop (given : Given) (m : Hop) : Type 0 where
   pub stride : value_in given Table.stride ≡ Some m.stride
   pub delay : value_in given Table.delay ≡ Some m.delay
 
+-- PHOLD
+pub record GivePhold (given : Given) (m : Phold) : Type 0 where
+  pub population : value_in given Table.population ≡ Some m.population
+  pub remote : value_in given Table.remote ≡ Some m.remote
+  pub lookahead : value_in given Table.lookahead ≡ Some m.lookahead
+  pub span : value_in given Table.span ≡ Some m.span
+
+-- the network of stations
+pub record GiveStations (given : Given) (m : Stations) : Type 0 where
+  pub jobs : value_in given Table.jobs ≡ Some m.jobs
+  pub service : value_in given Table.service ≡ Some m.service
+  pub travel : value_in given Table.travel ≡ Some m.travel
+
 -- the options of a run: each is in its range, whether its model is used or not, and these are the values
 pub record GiveOptions (given : Given) (o : Options) : Type 0 where
   pub model : model_in (given (codes "model")) ≡ Some o.model
   pub synch : synch_in (given (codes "synch")) ≡ Some o.synch
   pub config : GiveConfig given o.config
   pub hop : GiveHop given o.hop
+  pub phold : GivePhold given o.phold
+  pub stations : GiveStations given o.stations
   pub turns : value_in given Table.turns ≡ Some o.turns
   pub all_good : first_bad given ≡ None

@@ -4,12 +4,14 @@ use Rattle.std.specs.Str.{bytes_eq}
 use Rattle.vt_key.specs.declared.limits.TheConstants.{MAX_WORKERS, MAX_PROCESSES, MAX_END}
 use Rattle.vt_model.specs.Settings.{is_between}
 use Rattle.vt_models.specs.declared.hop.TheConstants.{MAX_HOPS, MAX_STRIDE, MAX_DELAY}
+use Rattle.vt_models.specs.declared.phold.TheConstants.{MAX_POPULATION, MAX_REMOTE, MAX_LOOKAHEAD, MAX_SPAN}
+use Rattle.vt_models.specs.declared.stations.TheConstants.{MAX_JOBS, MAX_SERVICE, MAX_TRAVEL}
 use Rattle.vt_text.specs.Numbers.{number_of}
 use Rattle.vt_command.specs.declared.choices.ModelName.{ModelName}
-use Rattle.vt_command.specs.declared.choices.ModelName.TheVariants.{Hop}
+use Rattle.vt_command.specs.declared.choices.ModelName.TheVariants.{Hop, Phold, Stations}
 use Rattle.vt_command.specs.declared.choices.Synch.{Synch}
 use Rattle.vt_command.specs.declared.choices.Synch.TheVariants.{Sequential}
-use Rattle.vt_command.specs.declared.limits.TheConstants.{MAX_POPULATION, MAX_REMOTE, MAX_LOOKAHEAD, MAX_SPAN, MAX_JOBS, MAX_SERVICE, MAX_TRAVEL, MAX_TURNS}
+use Rattle.vt_command.specs.declared.limits.TheConstants.{MAX_TURNS}
 
 -- the text that a command line gives to an option, by the option's name
 abbrev pub Given : Type 0
@@ -86,7 +88,11 @@ value_in given o = number_in o.least o.most o.default (given o.name)
 
 -- the model of a name
 abbrev pub model_named : List ℕ → Option ModelName
-model_named text = if bytes_eq text (codes "hop") then Some Hop else None
+model_named text =
+    if bytes_eq text (codes "hop") then Some Hop
+    else if bytes_eq text (codes "phold") then Some Phold
+    else if bytes_eq text (codes "stations") then Some Stations
+    else None
 
 -- the model that a text gives: `hop` where there is none
 abbrev pub model_in : Option (List ℕ) → Option ModelName

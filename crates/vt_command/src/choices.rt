@@ -1,13 +1,17 @@
 //! What a command line chooses.
 
 use vt_model::Config;
-use vt_models::Hop;
+use vt_models::{Hop, Phold, Stations};
 
 /// The models that can be run.
 #[derive(Debug, Clone, Copy, PartialEq, Eq)]
 pub enum ModelName {
     /// `hop`: tokens that hop from process to process.
     Hop,
+    /// `phold`: events that each schedule one other.
+    Phold,
+    /// `stations`: a closed network of queues with one server each.
+    Stations,
 }
 
 /// How a run keeps the order of events.
@@ -28,6 +32,10 @@ pub struct Options {
     pub config: Config,
     /// The hop model, made of its options.
     pub hop: Hop,
+    /// PHOLD, made of its options.
+    pub phold: Phold,
+    /// The network of stations, made of its options.
+    pub stations: Stations,
     /// How many turns each worker may take, from 1 to 2^63. A sequential run has none.
     pub turns: u64,
 }

@@ -47,6 +47,6 @@ pub fn other_lines_have_no_meaning()
 pub fn first_bad_is_of_the_table()
     ensures lps { HasBadOption (codes "twarp" ∷ codes "run" ∷ codes "--end" ∷ codes "0" ∷ codes "--lps" ∷ codes "65537" ∷ []) (codes "lps") }
     ensures synch { HasBadOption (codes "twarp" ∷ codes "run" ∷ codes "--workers" ∷ codes "0" ∷ codes "--synch" ∷ codes "3" ∷ []) (codes "synch") }
-    ensures model { HasBadOption (codes "twarp" ∷ codes "run" ∷ codes "--synch" ∷ codes "3" ∷ codes "--model" ∷ codes "phold" ∷ []) (codes "model") }
+    ensures model { HasBadOption (codes "twarp" ∷ codes "run" ∷ codes "--synch" ∷ codes "3" ∷ codes "--model" ∷ codes "token" ∷ []) (codes "model") }
     ensures unused { HasBadOption (codes "twarp" ∷ codes "run" ∷ codes "--travel" ∷ codes "0" ∷ []) (codes "travel") }
 {}

@@ -13,10 +13,7 @@ mod reading;
 
 pub use asking::{Request, read_request};
 pub use choices::{ModelName, Options, Synch};
-pub use limits::{
-    MAX_JOBS, MAX_LOOKAHEAD, MAX_POPULATION, MAX_REMOTE, MAX_SERVICE, MAX_SPAN, MAX_TRAVEL,
-    MAX_TURNS,
-};
+pub use limits::MAX_TURNS;
 
 #[cfg(test)]
 mod tests;

@@ -32,7 +32,7 @@ static RUN_OPTIONS: [OptionText; 17] = [
         name: "model",
         value: "NAME",
         heading: GENERAL,
-        help: "Model to simulate: hop. phold and stations are not there yet [default: hop]",
+        help: "Model to simulate: hop, phold or stations [default: hop]",
     },
     OptionText {
         name: "synch",
@@ -135,9 +135,9 @@ static RUN_OPTIONS: [OptionText; 17] = [
 /// The same in short.
 const RUN_OPTIONS_IN_SHORT: &str = "\
 Options of run, with their ranges and defaults (twarp run --help says what they are):
-  every run  --model hop [hop]  --synch 1 [1]  --workers 1..64 [1]  --lps 1..65536 [2]
-             --end 1..4611686018427387904 [10]  --seed 0..18446744073709551615 [0]
-             --turns 1..9223372036854775808 [10000000]
+  every run  --model hop|phold|stations [hop]  --synch 1 [1]  --workers 1..64 [1]
+             --lps 1..65536 [2]  --end 1..4611686018427387904 [10]
+             --seed 0..18446744073709551615 [0]  --turns 1..9223372036854775808 [10000000]
   hop        --hops 0..1000000 [2]  --stride 0..65535 [1]  --delay 1..1000000 [2]
   phold      --population 0..8 [1]  --remote 0..100 [0]  --lookahead 1..1000000 [1]
              --span 1..1000000 [1]

@@ -5,16 +5,16 @@ ghost use Rattle.clap.specs.Words.{first_value, found_of};
 ghost use Rattle.vt_key.specs.Faults.{fault_number, option_named};
 ghost use Rattle.vt_model.specs.Settings.{is_between};
 ghost use Rattle.vt_command.specs.Table.{number_in, model_in, synch_in, bad, bad_number, first_bad_of, first_bad, config_table, hop_table, phold_table, stations_table};
-ghost use Rattle.vt_command.specs.Options.{GiveConfig, GiveHop, GiveOptions};
+ghost use Rattle.vt_command.specs.Options.{GiveConfig, GiveHop, GivePhold, GiveStations, GiveOptions};
 
-use crate::{
-    MAX_JOBS, MAX_LOOKAHEAD, MAX_POPULATION, MAX_REMOTE, MAX_SERVICE, MAX_SPAN, MAX_TRAVEL,
-    MAX_TURNS, ModelName, Options, Synch,
-};
+use crate::{MAX_TURNS, ModelName, Options, Synch};
 use clap::ArgMatches;
 use vt_key::{Fault, MAX_END, MAX_PROCESSES, MAX_WORKERS};
 use vt_model::Config;
-use vt_models::{Hop, MAX_DELAY, MAX_HOPS, MAX_STRIDE};
+use vt_models::{
+    Hop, MAX_DELAY, MAX_HOPS, MAX_JOBS, MAX_LOOKAHEAD, MAX_POPULATION, MAX_REMOTE, MAX_SERVICE,
+    MAX_SPAN, MAX_STRIDE, MAX_TRAVEL, Phold, Stations,
+};
 use vt_text::read_number;
 
 /// A number of up to 64 bits.
@@ -72,6 +72,8 @@ fn model_option(matches: &ArgMatches) -> Result<ModelName, Fault>
     match matches.get_str("model") {
         None => Ok(ModelName::Hop),
         Some("hop") => Ok(ModelName::Hop),
+        Some("phold") => Ok(ModelName::Phold),
+        Some("stations") => Ok(ModelName::Stations),
         Some(_) => Err(Fault::BadOption("model")),
     }
 }
@@ -115,27 +117,29 @@ fn hop_options(matches: &ArgMatches) -> Result<Hop, Fault>
     Hop::new(hops, stride, delay)
 }
 
-fn phold_options(matches: &ArgMatches) -> Result<(), Fault>
+fn phold_options(matches: &ArgMatches) -> Result<Phold, Fault>
+    ensures ok { IfOk result (λ m. GivePhold (first_value (found_of matches.now)) m) }
     ensures good { IfOk result (λ _. first_bad_of (first_value (found_of matches.now)) phold_table ≡ None) }
     ensures err { IfErr result (λ fault. fault_number fault ≡ 7) }
     ensures bad { IfErr result (λ fault. option_named fault ≡ first_bad_of (first_value (found_of matches.now)) phold_table) }
 {
-    small_option(matches, "population", 0, MAX_POPULATION, 1)?;
-    small_option(matches, "remote", 0, MAX_REMOTE, 0)?;
-    small_option(matches, "lookahead", 1, MAX_LOOKAHEAD, 1)?;
-    small_option(matches, "span", 1, MAX_SPAN, 1)?;
-    Ok(())
+    let population = small_option(matches, "population", 0, MAX_POPULATION, 1)?;
+    let remote = small_option(matches, "remote", 0, MAX_REMOTE, 0)?;
+    let lookahead = small_option(matches, "lookahead", 1, MAX_LOOKAHEAD, 1)?;
+    let span = small_option(matches, "span", 1, MAX_SPAN, 1)?;
+    Phold::new(population, remote, lookahead, span)
 }
 
-fn stations_options(matches: &ArgMatches) -> Result<(), Fault>
+fn stations_options(matches: &ArgMatches) -> Result<Stations, Fault>
+    ensures ok { IfOk result (λ m. GiveStations (first_value (found_of matches.now)) m) }
     ensures good { IfOk result (λ _. first_bad_of (first_value (found_of matches.now)) stations_table ≡ None) }
     ensures err { IfErr result (λ fault. fault_number fault ≡ 7) }
     ensures bad { IfErr result (λ fault. option_named fault ≡ first_bad_of (first_value (found_of matches.now)) stations_table) }
 {
-    small_option(matches, "jobs", 0, MAX_JOBS, 1)?;
-    small_option(matches, "service", 1, MAX_SERVICE, 1)?;
-    small_option(matches, "travel", 1, MAX_TRAVEL, 1)?;
-    Ok(())
+    let jobs = small_option(matches, "jobs", 0, MAX_JOBS, 1)?;
+    let service = small_option(matches, "service", 1, MAX_SERVICE, 1)?;
+    let travel = small_option(matches, "travel", 1, MAX_TRAVEL, 1)?;
+    Stations::new(jobs, service, travel)
 }
 
 /// The options of a run, each in its range, or the default where it isn't given.
@@ -151,14 +155,16 @@ pub(crate) fn read_options(matches: &ArgMatches) -> Result<Options, Fault>
     let synch = synch_option(matches)?;
     let config = config_options(matches)?;
     let hop = hop_options(matches)?;
-    phold_options(matches)?;
-    stations_options(matches)?;
+    let phold = phold_options(matches)?;
+    let stations = stations_options(matches)?;
     let turns = number_option(matches, "turns", 1, MAX_TURNS, 10_000_000)?;
     Ok(Options {
         model,
         synch,
         config,
         hop,
+        phold,
+        stations,
         turns,
     })
 }

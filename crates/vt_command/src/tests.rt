@@ -3,7 +3,7 @@ use std::alloc::{AllocError, Global};
 use std::test::Fail;
 use vt_key::Fault;
 use vt_model::Config;
-use vt_models::Hop;
+use vt_models::{Hop, Phold, Stations};
 
 /// An option with the ends of its range, a text beyond each end, and its default.
 struct Range {
@@ -159,11 +159,11 @@ fn options_keep_their_ranges(rt: HostRuntime) -> Result<(), Fail> {
 }
 
 #[test]
-fn what_is_not_there_yet_is_named(rt: HostRuntime) -> Result<(), Fail> {
+fn what_is_not_there_is_named(rt: HostRuntime) -> Result<(), Fail> {
     for (name, text) in [
-        ("model", "phold"),
-        ("model", "stations"),
         ("model", "Hop"),
+        ("model", "phol"),
+        ("model", "station"),
         ("synch", "3"),
         ("synch", "2"),
         ("synch", "0"),
@@ -171,7 +171,9 @@ fn what_is_not_there_yet_is_named(rt: HostRuntime) -> Result<(), Fail> {
         let fault = fault_of(rt.alloc(), name, text)?;
         assert_eq!(rt; fault, Some(Fault::BadOption(name)), "{name} {text}");
     }
-    assert_eq!(rt; fault_of(rt.alloc(), "model", "hop")?, None);
+    for model in ["hop", "phold", "stations"] {
+        assert_eq!(rt; fault_of(rt.alloc(), "model", model)?, None, "{model}");
+    }
     assert_eq!(rt; fault_of(rt.alloc(), "synch", "1")?, None);
     Ok(())
 }
@@ -180,7 +182,7 @@ fn what_is_not_there_yet_is_named(rt: HostRuntime) -> Result<(), Fail> {
 fn the_first_bad_option_of_the_table_is_named(rt: HostRuntime) -> Result<(), Fail> {
     let alloc = rt.alloc();
     let mut later = option_word(alloc, "synch", "3")?;
-    let first = read_request(alloc, &["twarp", "run", later.as_str(), "--model=phold"]);
+    let first = read_request(alloc, &["twarp", "run", later.as_str(), "--model=token"]);
     assert_eq!(rt; first.err(), Some(Fault::BadOption("model")));
     let mut name = "synch";
     for range in &RANGES {
@@ -205,6 +207,8 @@ fn options_have_defaults(rt: HostRuntime) -> Result<(), Fail> {
         synch: Synch::Sequential,
         config: Config::new(2, 1, 10, 0)?,
         hop: Hop::new(2, 1, 2)?,
+        phold: Phold::new(1, 0, 1, 1)?,
+        stations: Stations::new(1, 1, 1)?,
         turns: 10_000_000,
     };
     assert_eq!(rt; options_of(rt.alloc(), &["twarp", "run"]), Some(expected));
@@ -218,6 +222,16 @@ fn given_options_are_taken(rt: HostRuntime) -> Result<(), Fail> {
         "run",
         "--turns",
         "5",
+        "--travel=14",
+        "--service",
+        "15",
+        "--jobs=16",
+        "--span",
+        "17",
+        "--lookahead=18",
+        "--remote",
+        "19",
+        "--population=6",
         "--delay=7",
         "--stride",
         "3",
@@ -230,13 +244,15 @@ fn given_options_are_taken(rt: HostRuntime) -> Result<(), Fail> {
         "--workers=4",
         "--synch",
         "1",
-        "--model=hop",
+        "--model=stations",
     ];
     let expected = Options {
-        model: ModelName::Hop,
+        model: ModelName::Stations,
         synch: Synch::Sequential,
         config: Config::new(12, 4, 64, 258)?,
         hop: Hop::new(9, 3, 7)?,
+        phold: Phold::new(6, 19, 18, 17)?,
+        stations: Stations::new(16, 15, 14)?,
         turns: 5,
     };
     assert_eq!(rt; options_of(rt.alloc(), &words), Some(expected));

@@ -26,7 +26,10 @@ impl Key {
     pub fn is_before(&self, other: &Key) -> bool
         ensures { result ≡ key_before self.now other.now }
     {
-        self < other
+        self.time < other.time
+            || (self.time == other.time
+                && (self.source < other.source
+                    || (self.source == other.source && self.number < other.number)))
     }
 }
 
@@ -65,7 +68,7 @@ impl Rank {
     pub fn is_before(&self, other: &Rank) -> bool
         ensures { result ≡ rank_before self.now other.now }
     {
-        *self < *other
+        self.key.is_before(&other.key) || (self.key == other.key && self.stamp < other.stamp)
     }
 
     #[tactic(auto, unfolding(crate::specs::Order::rank_same, crate::specs::Order::key_same, crate::specs::Order::stamp_same))]

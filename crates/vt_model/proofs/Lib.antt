@@ -5,3 +5,4 @@ pub mod HistoryLemmas
 pub mod RunLemmas
 pub mod EndLemmas
 pub mod LawLemmas
+pub mod RequestLemmas

@@ -7,8 +7,11 @@ ghost use Rattle.vt_model.specs.Handler.{IsUndrawn};
 use crate::MAX_DRAWS;
 use vt_stream::LpStream;
 
-/// What a handler draws its random words from: at most [`MAX_DRAWS`] of them. The kernel gives the words back by itself
-/// when it undoes the event.
+/// What a handler draws its random words from: at most [`MAX_DRAWS`] of them.
+///
+/// They are the next words of the stream of the handler's own process. No other process draws from it, so what a process
+/// draws depends on the seed, on the process and on how many words it drew before, and on nothing that others do. The
+/// kernel gives the words back by itself when it undoes the event.
 #[derive(Drop)]
 pub struct Draws<'a> {
     stream: &'a mut LpStream,
@@ -40,7 +43,7 @@ impl<'a> Draws<'a> {
         self.drawn
     }
 
-    /// The next word, from 0 to 2^32 - 1. There must be room ([`Draws::room`]).
+    /// The next word of the process's stream, from 0 to 2^32 - 1. There must be room ([`Draws::room`]).
     pub fn word(&mut self) -> u32
         requires { self.old.drawn < MAX_DRAWS }
         ensures value { result ≡ word_of self.old.stream.now 0 }
@@ -52,8 +55,8 @@ impl<'a> Draws<'a> {
         self.stream.word()
     }
 
-    /// The next word scaled to a number below `n`: the word times `n`, divided by 2^32 and rounded down. It draws one
-    /// word. There must be room ([`Draws::room`]), and `n` is from 1 to 2^32.
+    /// The next word of the process's stream scaled to a number from 0 to `n - 1`: the word times `n`, divided by 2^32 and
+    /// rounded down. It draws one word. There must be room ([`Draws::room`]), and `n` is from 1 to 2^32.
     pub fn below(&mut self, n: u64) -> u64
         requires room { self.old.drawn < MAX_DRAWS }
         requires low { 1 ≤ n }

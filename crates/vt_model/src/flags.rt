@@ -2,7 +2,8 @@
 
 ghost use Rattle.std.specs.Prelude.{◌≡◌, ◌<◌, ◌^◌, IsTrue, ◌↔◌, IsBitSet, bit_or};
 
-/// Thirty-two flags by which `forward` tells `reverse` which way it went.
+/// Thirty-two flags by which `forward` tells `reverse` which way it went. They are clear when `forward` begins, and are
+/// stored with its event.
 #[derive(Debug, Clone, Copy, PartialEq, Eq)]
 pub struct Bits {
     /// The flags as one number: flag `i` is worth 2^i.

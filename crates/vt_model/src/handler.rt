@@ -13,25 +13,31 @@ use vt_key::Time;
 
 /// A model of a simulation: what its logical processes do at the start and at each event, and how an event is undone.
 ///
-/// A handler reads nothing but its arguments and the words that it draws, so a run is a function of the model, the config
-/// and the seed. A model brings the member `handlers`, which says what its handlers give, and proofs of the laws below it.
+/// A process's state changes only when the process receives an event, and no other process sees it. A handler reads nothing
+/// but its arguments and the words that it draws, so a run is a function of the model, the config and the seed. It takes no
+/// memory and can't fail.
+///
+/// A model brings the member `handlers`, which says what its handlers give, and proofs of the laws below it.
+/// `docs/MODEL_GUIDE.md` says how to write one.
 pub trait Model {
-    /// The state of one logical process.
+    /// The state of one logical process. Its size is fixed, as handlers take no memory.
     type State: Drop;
 
-    /// What an event carries.
+    /// What an event carries beside its time, its sender and its receiver.
     type Payload: Copy + Send;
 
-    /// What an event keeps for its reverse beside the state and the bits.
+    /// What `forward` keeps for `reverse` beside the state and the bits: the old values that it overwrites. It is stored
+    /// with each event that may still be undone.
     type Kept: Copy;
 
     /// What each handler gives, as a function of what it is handed.
     ghost handlers: { Self → Handlers Self.State Self.Payload Self.Kept };
 
-    /// The states that a process can be in.
+    /// The states that a process can be in: in the laws below, numbers have no bounds of their own.
     ghost IsState: { Self → Self.State → Type 0 };
 
-    /// Makes the state of process `lp` at time 0 and sends its first events. It makes no records.
+    /// Makes the state of process `lp` at time 0 and sends its first events, which are received at time 1 or later. It makes
+    /// no records, and is never undone.
     ///
     /// `draws` and `out` are as their `new` gives them, and `lp` is below `out.lps()`.
     fn start(&self, lp: u32, draws: &mut Draws<'_>, out: &mut Out<Self::Payload>) -> Self::State
@@ -43,8 +49,12 @@ pub trait Model {
         ensures stream { draws.new.stream.now ≡ moved draws.old.stream.now ((handlers self.now).start out.old.lps lp (word_of draws.old.stream.now)).drawn }
         ensures out { out.new ≡ with_requests out.old ((handlers self.now).start out.old.lps lp (word_of draws.old.stream.now)).send_requests [] };
 
-    /// Executes an event at process `lp` and time `now`: it changes the state, may set bits, draw words, send events and
-    /// make records, and returns what `reverse` will need and can't find in these.
+    /// Executes an event at process `lp` and time `now`, its receive time, which is before the end of the run: it changes the
+    /// state, may set bits, draw words, send events and make records, and returns what `reverse` will need and can't find in
+    /// these.
+    ///
+    /// The events of a process come in the order of their keys: by time, then by sending process, then by send number. A send
+    /// that would be received at the end of the run or later isn't sent, and the handler isn't told.
     ///
     /// `draws` and `out` are as their `new` gives them, `bits` are all clear, and `lp` is below `out.lps()`.
     fn forward(
@@ -68,8 +78,9 @@ pub trait Model {
         ensures stream { draws.new.stream.now ≡ moved draws.old.stream.now ((handlers self.now).forward out.old.lps lp now payload state.old (word_of draws.old.stream.now)).drawn }
         ensures out { let gives = (handlers self.now).forward out.old.lps lp now payload state.old (word_of draws.old.stream.now) in out.new ≡ with_requests out.old gives.send_requests gives.record_requests };
 
-    /// Undoes an event: given what its `forward` left, it restores the state. It draws nothing, sends nothing and makes no
-    /// records: the kernel takes those back by itself.
+    /// Undoes an event: from the state, the bits and what was kept, as its `forward` left them, and with the same `lp`, `now`
+    /// and `payload`, it restores the state. It draws nothing, sends nothing and makes no records: the kernel takes those back
+    /// by itself.
     fn reverse(
         &self,
         lp: u32,
@@ -81,7 +92,7 @@ pub trait Model {
     )
         ensures { state.new ≡ (handlers self.now).reverse lp now payload state.old bits kept };
 
-    /// The final value of process `lp`.
+    /// The final value of process `lp`, whose last state this is: no event is pending any more.
     fn finish(&self, lp: u32, state: &Self::State) -> u64
         ensures { result ≡ (handlers self.now).finish lp state.now };
 

@@ -1,6 +1,6 @@
 //! The limits of one handler, each named once.
 
-/// The most events that one handler may send.
+/// The most events that one handler may send. One that has more to send goes on in an event to its own process.
 pub const MAX_SENDS: usize = 8;
 
 /// The most records that one handler may make.

@@ -5,7 +5,7 @@ use vt_key::{Key, Time};
 /// What a model tells of an event: the output of a simulation is a list of records.
 #[derive(Debug, Clone, Copy, Default, PartialEq, Eq, PartialOrd, Ord)]
 pub struct Record {
-    /// When the event was received.
+    /// When the event was received, in ticks.
     pub time: Time,
     /// The logical process that executed it.
     pub lp: u32,

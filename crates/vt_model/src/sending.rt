@@ -27,8 +27,9 @@ impl<P: Copy> MadeWith<Sent<P>> for Sent<P> {
 
 /// Where a handler puts what it sends and what it records: at most [`MAX_SENDS`] sends and [`MAX_RECORDS`] records.
 ///
-/// Each send takes the next send number of its process. A send at or past the end of the run takes its number and isn't
-/// sent.
+/// Each send takes the next send number of its process. One that would be received at the end of the run or later takes its
+/// number and isn't sent, so the numbers of a process don't depend on the end. What an event sent and recorded is taken back
+/// with it when it is undone; records come out once it no longer can be.
 #[derive(Drop)]
 pub struct Out<P: Copy> {
     lps: u32,
@@ -88,7 +89,7 @@ impl<P: Copy> Out<P> {
         }
     }
 
-    /// The number of logical processes of the run. It is above the handler's own process.
+    /// The number of logical processes of the run: they are named from 0 to one less. The handler's own is one of them.
     pub fn lps(&self) -> u32
         ensures { result ≡ self.now.lps }
     {
@@ -117,9 +118,10 @@ impl<P: Copy> Out<P> {
     }
 
     #[tactic(auto, using(crate::proofs::SendLemmas::sent_one, crate::proofs::SendLemmas::sent_none))]
-    /// Sends `payload` to process `dest`, to be received `delay` ticks from now. It takes the next send number, and at or
-    /// past the end of the run it isn't sent. `dest` is below [`Out::lps`], `delay` at least 1, and there must be room
-    /// ([`Out::room`]).
+    /// Sends `payload` to process `dest`, to be received `delay` ticks from now; in a start, at time `delay`. It takes the
+    /// next send number, and where it would be received at the end of the run or later it isn't sent. `dest` is below
+    /// [`Out::lps`] and may be the handler's own process, `delay` is at least 1 and may be as large as it likes, and there
+    /// must be room ([`Out::room`]).
     pub fn send(&mut self, dest: u32, delay: u64, payload: P)
         requires known { dest < self.old.lps }
         requires later { 1 ≤ delay }
@@ -147,7 +149,8 @@ impl<P: Copy> Out<P> {
     }
 
     #[tactic(auto, using(crate::proofs::SendLemmas::told))]
-    /// Makes a record of this process and time. There must be room ([`Out::emit_room`]).
+    /// Makes a record with this process and time. What `kind` stands for, the model says. There must be room
+    /// ([`Out::emit_room`]).
     pub fn emit(&mut self, kind: u32, value: u64)
         requires room { length self.old.records < MAX_RECORDS }
         ensures { self.new ≡ with_requests self.old [] (record { kind = kind; value = value } ∷ []) }

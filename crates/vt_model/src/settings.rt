@@ -14,7 +14,8 @@ pub struct Config {
     pub lps: u32,
     /// The number of workers, from 1 to 64. They are named from 0.
     pub workers: u32,
-    /// The end of virtual time, in ticks, from 1 to 2^62: every event of the run has a time below it.
+    /// The end of virtual time, in ticks, from 1 to 2^62: every event of the run has a time below it, and what would be
+    /// received at this time or later isn't sent.
     pub end: Time,
     /// The seed of all random words.
     pub seed: u64,

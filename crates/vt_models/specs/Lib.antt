@@ -1,6 +1,4 @@
 pub mod Options
-pub mod Drawn
-pub mod DrawnLaws
 pub mod Hop
 pub mod Rotation
 pub mod HopLaws

@@ -5,63 +5,66 @@ use Rattle.vt_model.specs.Sends.{SendRequest}
 use Rattle.vt_model.specs.Sequential.{numbers_below}
 use Rattle.vt_models.specs.declared.phold.Phold.{Phold}
 use Rattle.vt_models.specs.declared.phold.TheConstants.{PERCENT, REMOTE}
-use Rattle.vt_models.specs.Drawn.{scaled}
+use Rattle.vt_stream.specs.Drawn.{scaled}
 
--- a ball thrown to a process, for which this word was drawn: it is received after the lookahead and what was drawn below
--- the span
-abbrev pub throw : Phold → ℕ → ℕ → SendRequest (Unit {0})
-throw m dest w = record { dest = dest; delay = m.lookahead + scaled w m.span; payload = tt }
+-- an event that is scheduled at a process, for which this word was drawn: it is received after the lookahead and a number
+-- below the span
+abbrev pub scheduled : Phold → ℕ → ℕ → SendRequest (Unit {0})
+scheduled m dest w = record { dest = dest; delay = m.lookahead + scaled w m.span; payload = tt }
 
--- the balls that a process throws to itself at its start, a word for each
-abbrev pub first_throws : Phold → ℕ → (ℕ → ℕ) → ℕ → List (SendRequest (Unit {0}))
-first_throws m lp words n = map (λ i. throw m lp (words i)) (numbers_below n)
+-- the first events of a process, at the process itself, a word for each
+abbrev pub first_events : Phold → ℕ → (ℕ → ℕ) → ℕ → List (SendRequest (Unit {0}))
+first_events m lp words n = map (λ i. scheduled m lp (words i)) (numbers_below n)
 
+-- a process starts at count 0 with as many events as the population says
 abbrev pub phold_start : Phold → ℕ → (ℕ → ℕ) → StartResult ℕ (Unit {0})
 phold_start m lp words = record {
   state = 0;
   drawn = m.population;
-  send_requests = first_throws m lp words m.population;
+  send_requests = first_events m lp words m.population;
 }
 
--- the first word decides whether a ball goes to a process that is drawn
+-- the first word decides whether the next event goes to a process that is drawn
 abbrev pub is_remote : Phold → ℕ → Bool
 is_remote m w = nat_lt (scaled w PERCENT) m.remote
 
--- the count after one more ball
+-- the count after one more event
 abbrev pub counted : ℕ → ℕ
 counted s = (s + 1) % 2 ^ 64
 
--- a ball that is thrown to a process that the second word names, after what the third says
+-- the next event goes to the process that the second word names, after what the third says
 abbrev pub forward_remote : Phold → ℕ → ℕ → (ℕ → ℕ) → ForwardResult ℕ (Unit {0}) (Unit {0})
 forward_remote m lps s words = record {
   state = counted s;
   kept = tt;
   bits = record { flags = 2 ^ REMOTE };
   drawn = 3;
-  send_requests = throw m (scaled (words 1) lps) (words 2) ∷ [];
+  send_requests = scheduled m (scaled (words 1) lps) (words 2) ∷ [];
   record_requests = record { kind = 2; value = counted s } ∷ [];
 }
 
--- a ball that stays at its process, after what the second word says
+-- the next event stays at this process, after what the second word says
 abbrev pub forward_local : Phold → ℕ → ℕ → (ℕ → ℕ) → ForwardResult ℕ (Unit {0}) (Unit {0})
 forward_local m lp s words = record {
   state = counted s;
   kept = tt;
   bits = record { flags = 0 };
   drawn = 2;
-  send_requests = throw m lp (words 1) ∷ [];
+  send_requests = scheduled m lp (words 1) ∷ [];
   record_requests = record { kind = 2; value = counted s } ∷ [];
 }
 
+-- an event schedules the next one, near or far, and is counted
 abbrev pub phold_forward : Phold → ℕ → ℕ → ℕ → (ℕ → ℕ) → ForwardResult ℕ (Unit {0}) (Unit {0})
 phold_forward m lps lp s words =
     if is_remote m (words 0) then forward_remote m lps s words
     else forward_local m lp s words
 
--- the count before one more ball
+-- the count before one more event
 abbrev pub uncounted : ℕ → ℕ
 uncounted s = (s + (2 ^ 64 - 1)) % 2 ^ 64
 
+-- the four handlers
 abbrev pub phold_handlers : Phold → Handlers ℕ (Unit {0}) (Unit {0})
 phold_handlers m = record {
   start = λ lps lp words. phold_start m lp words;

@@ -5,36 +5,36 @@ use Rattle.std.proofs.lemmas.List.{map-append, length-append}
 use Rattle.vt_model.specs.Handler.{ForwardResult, IsWithinLimits, IsSendable, AreWords}
 use Rattle.vt_model.specs.Sequential.{numbers_below}
 use Rattle.vt_models.specs.declared.phold.Phold.{Phold}
-use Rattle.vt_models.specs.Drawn.{scaled}
-use Rattle.vt_models.specs.DrawnLaws.{scaled_below}
-use Rattle.vt_models.specs.Phold.{throw, first_throws, phold_start, phold_forward, forward_remote, forward_local, is_remote, counted, uncounted}
+use Rattle.vt_stream.specs.Drawn.{scaled}
+use Rattle.vt_stream.specs.DrawnLaws.{scaled_below}
+use Rattle.vt_models.specs.Phold.{scheduled, first_events, phold_start, phold_forward, forward_remote, forward_local, is_remote, counted, uncounted}
 
-throw_ok : (m : Phold) (lps dest w : ℕ) → dest < lps → IsSendable lps (throw m dest w)
-throw_ok m lps dest w known = record { known = known; later = omega (arith, m.some_lookahead) }
+scheduled_ok : (m : Phold) (lps dest w : ℕ) → dest < lps → IsSendable lps (scheduled m dest w)
+scheduled_ok m lps dest w known = record { known = known; later = omega (arith, m.some_lookahead) }
 
-one_throw : (m : Phold) (lps dest w : ℕ) → dest < lps → All (IsSendable lps) (throw m dest w ∷ [])
-one_throw m lps dest w known = All-cons (IsSendable lps) (throw m dest w) [] (throw_ok m lps dest w known) (All-nil (IsSendable lps))
+one_event : (m : Phold) (lps dest w : ℕ) → dest < lps → All (IsSendable lps) (scheduled m dest w ∷ [])
+one_event m lps dest w known = All-cons (IsSendable lps) (scheduled m dest w) [] (scheduled_ok m lps dest w known) (All-nil (IsSendable lps))
 
--- one throw more
-pub first_throws-suc : (m : Phold) (lp : ℕ) (words : ℕ → ℕ) (n : ℕ) → first_throws m lp words (suc n) ≡ first_throws m lp words n ++ throw m lp (words n) ∷ []
-first_throws-suc m lp words n = map-append (λ (i : ℕ). throw m lp (words i)) (numbers_below n) (n ∷ [])
+-- one scheduled more
+pub first_events-suc : (m : Phold) (lp : ℕ) (words : ℕ → ℕ) (n : ℕ) → first_events m lp words (suc n) ≡ first_events m lp words n ++ scheduled m lp (words n) ∷ []
+first_events-suc m lp words n = map-append (λ (i : ℕ). scheduled m lp (words i)) (numbers_below n) (n ∷ [])
 
-pub first_throws_ok : (m : Phold) (lps lp : ℕ) (words : ℕ → ℕ) (n : ℕ) → lp < lps → (length (first_throws m lp words n) ≡ n) × All (IsSendable lps) (first_throws m lp words n)
-first_throws_ok m lps lp words zero known = (refl, All-nil (IsSendable lps))
-first_throws_ok m lps lp words (suc n) known =
-    let before = first_throws_ok m lps lp words n known in
-    let next = first_throws-suc m lp words n in (
-      ap length next ∙ length-append (first_throws m lp words n) (throw m lp (words n) ∷ []) ∙ omega (arith, before.0),
-      subst (All (IsSendable lps)) (sym next) (All-append (IsSendable lps) (first_throws m lp words n) (throw m lp (words n) ∷ []) before.1 (one_throw m lps lp (words n) known)),
+pub first_events_ok : (m : Phold) (lps lp : ℕ) (words : ℕ → ℕ) (n : ℕ) → lp < lps → (length (first_events m lp words n) ≡ n) × All (IsSendable lps) (first_events m lp words n)
+first_events_ok m lps lp words zero known = (refl, All-nil (IsSendable lps))
+first_events_ok m lps lp words (suc n) known =
+    let before = first_events_ok m lps lp words n known in
+    let next = first_events-suc m lp words n in (
+      ap length next ∙ length-append (first_events m lp words n) (scheduled m lp (words n) ∷ []) ∙ omega (arith, before.0),
+      subst (All (IsSendable lps)) (sym next) (All-append (IsSendable lps) (first_events m lp words n) (scheduled m lp (words n) ∷ []) before.1 (one_event m lps lp (words n) known)),
     )
 
 pub start_within : (m : Phold) (lps lp : ℕ) (words : ℕ → ℕ) → lp < lps → AreWords words
     → IsWithinLimits lps (phold_start m lp words).drawn (phold_start m lp words).send_requests []
 start_within m lps lp words known w = record {
-  few_words = omega (arith, m.few_balls);
-  few_sends = omega (arith, m.few_balls, (first_throws_ok m lps lp words m.population known).0);
+  few_words = omega (arith, m.few_events);
+  few_sends = omega (arith, m.few_events, (first_events_ok m lps lp words m.population known).0);
   few_records = omega arith;
-  sendable = (first_throws_ok m lps lp words m.population known).1;
+  sendable = (first_events_ok m lps lp words m.population known).1;
 }
 
 -- what an event gives is within the limits
@@ -46,7 +46,7 @@ remote_within m lps lp s words known w = record {
   few_words = omega arith;
   few_sends = omega arith;
   few_records = omega arith;
-  sendable = one_throw m lps (scaled (words 1) lps) (words 2) (scaled_below (words 1) lps (w 1) (omega arith));
+  sendable = one_event m lps (scaled (words 1) lps) (words 2) (scaled_below (words 1) lps (w 1) (omega arith));
 }
 
 local_within : (m : Phold) (lps lp s : ℕ) (words : ℕ → ℕ) → lp < lps → AreWithin lps (forward_local m lp s words)
@@ -54,7 +54,7 @@ local_within m lps lp s words known = record {
   few_words = omega arith;
   few_sends = omega arith;
   few_records = omega arith;
-  sendable = one_throw m lps lp (words 1) known;
+  sendable = one_event m lps lp (words 1) known;
 }
 
 pub forward_within : (m : Phold) (lps lp now : ℕ) (p : Unit {0}) (s : ℕ) (words : ℕ → ℕ) → lp < lps → AreWords words
@@ -63,7 +63,7 @@ forward_within m lps lp now p s words known w =
     elim (is_remote m (words 0)) as (λ b. AreWithin lps (if b then forward_remote m lps s words else forward_local m lp s words))
     [ true ↦ remote_within m lps lp s words known w | false ↦ local_within m lps lp s words known ]
 
--- whichever way a ball goes, it is counted
+-- wherever the next event goes, this one is counted
 one_more : (m : Phold) (lps lp s : ℕ) (words : ℕ → ℕ) → (phold_forward m lps lp s words).state ≡ counted s
 one_more m lps lp s words =
     elim (is_remote m (words 0)) as (λ b. (if b then forward_remote m lps s words else forward_local m lp s words).state ≡ counted s)

@@ -8,7 +8,7 @@ use Rattle.vt_models.specs.declared.stations.Server.{Server}
 use Rattle.vt_models.specs.declared.stations.JobEvent.{JobEvent}
 use Rattle.vt_models.specs.declared.stations.JobEvent.TheVariants.{Arrive, Depart}
 use Rattle.vt_models.specs.declared.stations.TheConstants.{BEGAN, GOES_ON, EMPTY}
-use Rattle.vt_models.specs.Drawn.{scaled}
+use Rattle.vt_stream.specs.Drawn.{scaled}
 
 -- the end of a service that begins now, for which this word was drawn
 abbrev pub departure : Stations → ℕ → ℕ → SendRequest JobEvent
@@ -38,6 +38,7 @@ start_busy m lp words = record {
   send_requests = departure m lp (words 0) ∷ [];
 }
 
+-- a station starts with its jobs, and none served
 abbrev pub stations_start : Stations → ℕ → (ℕ → ℕ) → StartResult Server JobEvent
 stations_start m lp words =
     if nat_eq m.jobs 0 then start_idle m
@@ -69,6 +70,7 @@ arrival_waits s = record {
   record_requests = record { kind = 3; value = (one_more s).length } ∷ [];
 }
 
+-- a job arrives
 abbrev pub arrival : Stations → ℕ → Server → (ℕ → ℕ) → ForwardResult Server JobEvent (Unit {0})
 arrival m lp s words =
     if nat_eq (one_more s).length 1 then arrival_begins m lp s words
@@ -117,13 +119,14 @@ service_end m lps lp s words =
     if nat_eq (one_served s).length 0 then last_departs m lps s words
     else next_follows m lps lp s words
 
+-- a job arrives or departs
 abbrev pub stations_forward : Stations → ℕ → ℕ → JobEvent → Server → (ℕ → ℕ) → ForwardResult Server JobEvent (Unit {0})
 stations_forward m lps lp Arrive s words = arrival m lp s words
 stations_forward m lps lp Depart s words =
     if nat_eq s.length 0 then nothing_departs s
     else service_end m lps lp s words
 
--- a flag is set
+-- whether a flag is set
 abbrev pub has_flag : Bits → ℕ → Bool
 has_flag b i = not (nat_eq (bit_and b.flags (2 ^ i)) 0)
 
@@ -135,10 +138,12 @@ one_fewer s = record s { length = (s.length + (2 ^ 64 - 1)) % 2 ^ 64 }
 abbrev pub one_back : Server → Server
 one_back s = record { length = (s.length + 1) % 2 ^ 64; served = (s.served + (2 ^ 64 - 1)) % 2 ^ 64 }
 
+-- what takes an event back: a job more goes, and a job served comes back unless none departed
 abbrev pub stations_reverse : JobEvent → Server → Bits → Server
 stations_reverse Arrive s bits = one_fewer s
 stations_reverse Depart s bits = if has_flag bits EMPTY then s else one_back s
 
+-- the four handlers
 abbrev pub stations_handlers : Stations → Handlers Server JobEvent (Unit {0})
 stations_handlers m = record {
   start = λ lps lp words. stations_start m lp words;

@@ -8,7 +8,7 @@ use Rattle.vt_models.specs.declared.stations.Stations.{Stations}
 use Rattle.vt_models.specs.declared.stations.Server.{Server}
 use Rattle.vt_models.specs.declared.stations.JobEvent.{JobEvent}
 use Rattle.vt_models.specs.declared.stations.JobEvent.TheVariants.{Arrive, Depart}
-use Rattle.vt_models.specs.DrawnLaws.{scaled_below}
+use Rattle.vt_stream.specs.DrawnLaws.{scaled_below}
 use Rattle.vt_models.specs.Stations.{departure, passage, start_idle, start_busy, stations_start, one_more, arrival_begins, arrival_waits, arrival, one_served, nothing_departs, last_departs, next_follows, service_end, stations_forward, one_fewer, one_back, stations_reverse, AreSums}
 
 no_sends : (lps : ℕ) → All {X = SendRequest JobEvent} (IsSendable lps) []

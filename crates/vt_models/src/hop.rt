@@ -95,7 +95,7 @@ impl EventModel for Hop {
         0
     }
 
-    #[tactic(auto, using(crate::proofs::HopSteps::next_hop_more, crate::proofs::RequestLemmas::recorded_then_sent))]
+    #[tactic(auto, using(crate::proofs::HopSteps::next_hop_more, vt_model::proofs::RequestLemmas::recorded_then_sent))]
     fn forward(
         &self,
         lp: u32,

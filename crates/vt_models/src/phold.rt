@@ -8,10 +8,10 @@ ghost use Rattle.vt_models.specs.Options.{first_bad_phold_option};
 use vt_key::{Fault, Time};
 use vt_model::{Bits, Draws, MAX_SENDS, Model as EventModel, Out};
 
-/// The most balls that a process throws at its start: as many as one handler may send.
+/// The most events that a process starts with: as many as one handler may send.
 pub const MAX_POPULATION: u32 = MAX_SENDS as u32;
 
-/// The highest share of balls that go to a drawn process, in percent.
+/// The highest share of events that go to a drawn process, in percent.
 pub const MAX_REMOTE: u32 = 100;
 
 /// The longest lookahead, in ticks.
@@ -20,25 +20,25 @@ pub const MAX_LOOKAHEAD: u32 = 1_000_000;
 /// The longest span of drawn delays, in ticks.
 pub const MAX_SPAN: u32 = 1_000_000;
 
-// The sides of the coin by which a ball goes to a drawn process.
+// The sides of the coin by which an event goes to a drawn process.
 const PERCENT: u64 = 100;
 
-// The flag of an event whose ball went to a drawn process.
+// The flag of an event whose successor goes to a drawn process.
 const REMOTE: u32 = 0;
 
-/// The synthetic workload PHOLD (Fujimoto, Performance of Time Warp Under Synthetic Workloads, 1990): each process throws
-/// `population` balls, and each ball that is received is thrown once more.
+/// The synthetic workload PHOLD (Fujimoto, Performance of Time Warp Under Synthetic Workloads, 1990): each process starts
+/// with `population` events, and each event schedules exactly one other, so their number stays the same.
 ///
-/// A ball is received `lookahead` ticks later and what is drawn below `span`. In `remote` of 100 throws its receiver is
-/// drawn among all processes; else it is the thrower. The state of a process is its count of received balls, modulo 2^64:
-/// it is recorded under kind 2 at each ball, and is the final value.
+/// An event is received `lookahead` ticks and what is drawn below `span` after the one that schedules it. In `remote` of
+/// 100 cases its receiver is drawn among all processes; else it stays where it is. The state of a process is how many
+/// events it has executed, modulo 2^64: the count is recorded under kind 2 at each event, and is the final value.
 #[derive(Debug, Clone, Copy, PartialEq, Eq)]
 pub struct Phold {
     population: u32,
     remote: u32,
     lookahead: u32,
     span: u32,
-    ghost few_balls: { population ≤ MAX_POPULATION },
+    ghost few_events: { population ≤ MAX_POPULATION },
     ghost in_percent: { remote ≤ MAX_REMOTE },
     ghost some_lookahead: { 1 ≤ lookahead },
     ghost short_lookahead: { lookahead ≤ MAX_LOOKAHEAD },
@@ -47,8 +47,9 @@ pub struct Phold {
 }
 
 impl Phold {
-    /// The model with `population` balls for each process (0 to 8), of which `remote` percent (0 to 100) go to a drawn
-    /// process, each received after `lookahead` ticks (1 to 1,000,000) and a draw below `span` ticks (1 to 1,000,000).
+    /// The model in which each process starts with `population` events (0 to 8), `remote` percent of all events (0 to 100)
+    /// go to a drawn process, and each is received after `lookahead` ticks (1 to 1,000,000) and a draw below `span` ticks
+    /// (1 to 1,000,000).
     ///
     /// [`Fault::BadOption`] names the first that is out of its range: `population`, `remote`, `lookahead` or `span`.
     pub fn new(population: u32, remote: u32, lookahead: u32, span: u32) -> Result<Phold, Fault>
@@ -95,7 +96,7 @@ impl EventModel for Phold {
     ghost IsState = { λ m s. s < 2 ^ 64 };
 
     fn start(&self, lp: u32, draws: &mut Draws<'_>, out: &mut Out<()>) -> u64 {
-        'balls: for _ball in 0..self.population {
+        'events: for _event in 0..self.population {
             let wait = draws.below(u64::from(self.span));
             out.send(lp, u64::from(self.lookahead) + wait, ());
         }

@@ -8,11 +8,13 @@ use Rattle.vt_model.specs.Handler.{Handlers}
 use Rattle.vt_model.specs.Simulation.{simulation_of}
 use Rattle.vt_model.specs.Sequential.{seq_records}
 use Rattle.vt_models.specs.Hop.{hop_handlers}
+use Rattle.vt_models.specs.Phold.{phold_handlers}
+use Rattle.vt_models.specs.Stations.{stations_handlers}
 use Rattle.vt_text.specs.Records.{records_text}
 use Rattle.vt_text.specs.Writing.{AppendsBeginning}
 use Rattle.vt_command.specs.declared.choices.Options.{Options}
 use Rattle.vt_command.specs.declared.choices.ModelName.{ModelName}
-use Rattle.vt_command.specs.declared.choices.ModelName.TheVariants.{Hop}
+use Rattle.vt_command.specs.declared.choices.ModelName.TheVariants.{Hop, Phold, Stations}
 
 -- the records of a model's whole sequential run, as text
 abbrev pub run_text : {S P K : Type 0} → Handlers S P K → Config → List ℕ
@@ -21,6 +23,8 @@ run_text handlers config = records_text (seq_records (simulation_of handlers con
 -- the text of a run of this model with these options
 abbrev pub text_of_model : ModelName → Options → List ℕ
 text_of_model Hop o = run_text (hop_handlers o.hop) o.config
+text_of_model Phold o = run_text (phold_handlers o.phold) o.config
+text_of_model Stations o = run_text (stations_handlers o.stations) o.config
 
 -- the text of the run that options ask for
 abbrev pub text_of_run : Options → List ℕ

@@ -22,6 +22,7 @@ use std::convert::AsStr;
 use std::io::{Read, Write};
 use vt_command::{Request, read_request};
 use vt_key::Fault;
+pub use vt_text::print_records;
 use vt_text::write_bytes;
 
 /// Does what the words ask for.

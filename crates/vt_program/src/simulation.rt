@@ -37,5 +37,7 @@ pub fn simulate<O: Write>(alloc: Global, options: &Options, out: &mut O) -> Resu
 {
     match options.model {
         ModelName::Hop => print_run(alloc, &options.hop, options.config, out),
+        ModelName::Phold => print_run(alloc, &options.phold, options.config, out),
+        ModelName::Stations => print_run(alloc, &options.stations, options.config, out),
     }
 }

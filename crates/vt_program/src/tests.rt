@@ -119,6 +119,67 @@ fn keys_decide_among_events_of_one_time(rt: HostRuntime) -> Result<(), Fail> {
 }
 
 #[test]
+fn events_of_phold_schedule_each_other(rt: HostRuntime) -> Result<(), Fail> {
+    expect(
+        &rt,
+        "twarp run --model phold --lookahead 3",
+        0,
+        "3 0 2 1\n3 1 2 1\n6 0 2 2\n6 1 2 2\n9 0 2 3\n9 1 2 3\n",
+        "",
+    )?;
+    let two_events = "twarp run --model phold --lps 1 --population 2 --lookahead 3 --end 7";
+    expect(
+        &rt,
+        two_events,
+        0,
+        "3 0 2 1\n3 0 2 2\n6 0 2 3\n6 0 2 4\n",
+        "",
+    )?;
+    let remote = "twarp run --model phold --lps 1 --lookahead 3 --remote 100";
+    expect(&rt, remote, 0, "3 0 2 1\n6 0 2 2\n9 0 2 3\n", "")?;
+    expect(&rt, "twarp run --model phold --population 0", 0, "", "")
+}
+
+#[test]
+fn jobs_queue_at_stations(rt: HostRuntime) -> Result<(), Fail> {
+    let two_jobs = "twarp run --model stations --lps 1 --jobs 2 --end 5";
+    expect(
+        &rt,
+        two_jobs,
+        0,
+        "1 0 4 1\n2 0 3 2\n2 0 4 2\n3 0 3 2\n3 0 4 3\n4 0 3 2\n4 0 4 4\n",
+        "",
+    )?;
+    let one_job = "twarp run --model stations --lps 1 --jobs 1 --end 5";
+    expect(&rt, one_job, 0, "1 0 4 1\n2 0 3 1\n3 0 4 2\n4 0 3 1\n", "")?;
+    expect(&rt, "twarp run --model stations --jobs 0", 0, "", "")
+}
+
+/// Drawn receivers and delays: as `crates/vt_rows/expected/models.py` prints them for `phold 3 6 258 2 40 2 5` and for
+/// `stations 3 6 258 2 4 3`.
+#[test]
+fn drawn_runs_are_those_of_another_program(rt: HostRuntime) -> Result<(), Fail> {
+    let phold =
+        "twarp run --model phold --lps 3 --end 6 --seed 258 --population 2 --remote 40 --lookahead 2 --span 5";
+    expect(
+        &rt,
+        phold,
+        0,
+        "2 0 2 1\n2 1 2 1\n2 2 2 1\n4 0 2 2\n5 2 2 2\n",
+        "",
+    )?;
+    let stations =
+        "twarp run --model stations --lps 3 --end 6 --seed 258 --jobs 2 --service 4 --travel 3";
+    expect(
+        &rt,
+        stations,
+        0,
+        "1 0 4 1\n1 1 4 1\n1 2 4 1\n3 0 4 2\n3 2 4 2\n4 1 3 2\n4 2 3 1\n4 1 4 2\n4 2 3 2\n",
+        "",
+    )
+}
+
+#[test]
 fn ends_at_the_end_of_virtual_time(rt: HostRuntime) -> Result<(), Fail> {
     expect(
         &rt,
@@ -169,6 +230,20 @@ fn refuses_bad_options_by_name(rt: HostRuntime) -> Result<(), Fail> {
     )?;
     expect(
         &rt,
+        "twarp run --population 9",
+        2,
+        "",
+        "twarp: refused 7 bad option population\n",
+    )?;
+    expect(
+        &rt,
+        "twarp run --model phold --travel 0",
+        2,
+        "",
+        "twarp: refused 7 bad option travel\n",
+    )?;
+    expect(
+        &rt,
         "twarp run --end 0 --lps 65537",
         2,
         "",
@@ -180,14 +255,7 @@ fn refuses_bad_options_by_name(rt: HostRuntime) -> Result<(), Fail> {
 fn refuses_what_is_not_there_yet(rt: HostRuntime) -> Result<(), Fail> {
     expect(
         &rt,
-        "twarp run --model phold",
-        2,
-        "",
-        "twarp: refused 7 bad option model\n",
-    )?;
-    expect(
-        &rt,
-        "twarp run --model stations",
+        "twarp run --model token",
         2,
         "",
         "twarp: refused 7 bad option model\n",

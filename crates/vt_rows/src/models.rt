@@ -42,7 +42,7 @@ fn expect_run<M: EventModel>(
 }
 
 #[test]
-fn two_balls_stay_at_one_process(rt: HostRuntime) {
+fn two_events_stay_at_one_process(rt: HostRuntime) {
     let model = Phold::new(2, 0, 3, 1).expect(&rt, "options");
     let config = Config::new(1, 1, 7, 0).expect(&rt, "config");
     let lines = [(3, 0, 2, 1), (3, 0, 2, 2), (6, 0, 2, 3), (6, 0, 2, 4)];
@@ -50,7 +50,7 @@ fn two_balls_stay_at_one_process(rt: HostRuntime) {
 }
 
 #[test]
-fn balls_thrown_away_draw_three_words(rt: HostRuntime) {
+fn remote_events_draw_three_words(rt: HostRuntime) {
     let model = Phold::new(1, 100, 3, 1).expect(&rt, "options");
     let config = Config::new(1, 1, 10, 0).expect(&rt, "config");
     let lines = [(3, 0, 2, 1), (6, 0, 2, 2), (9, 0, 2, 3)];
@@ -58,7 +58,7 @@ fn balls_thrown_away_draw_three_words(rt: HostRuntime) {
 }
 
 #[test]
-fn two_processes_keep_their_balls(rt: HostRuntime) {
+fn events_stay_at_two_processes(rt: HostRuntime) {
     let model = Phold::new(1, 0, 3, 1).expect(&rt, "options");
     let config = Config::new(2, 1, 10, 0).expect(&rt, "config");
     let lines = [
@@ -107,7 +107,7 @@ fn one_job_leaves_its_station_idle(rt: HostRuntime) {
 
 /// `expected/models.py phold 3 20 258 2 40 2 5`
 #[test]
-fn drawn_balls_are_those_of_another_program(rt: HostRuntime) {
+fn drawn_events_are_those_of_another_program(rt: HostRuntime) {
     let model = Phold::new(2, 40, 2, 5).expect(&rt, "options");
     let config = Config::new(3, 1, 20, 258).expect(&rt, "config");
     let lines = [
@@ -256,7 +256,7 @@ fn bad_option<T: Drop>(made: Result<T, Fault>) -> &'static str {
 
 #[test]
 fn options_have_ranges(rt: HostRuntime) {
-    let balls = [
+    let phold = [
         (0, 0, 1, 1, ""),
         (8, 100, 1_000_000, 1_000_000, ""),
         (9, 101, 0, 0, "population"),
@@ -266,10 +266,10 @@ fn options_have_ranges(rt: HostRuntime) {
         (8, 100, 1, 0, "span"),
         (8, 100, 1, 1_000_001, "span"),
     ];
-    for (population, remote, lookahead, span, bad) in balls {
+    for (population, remote, lookahead, span, bad) in phold {
         assert!(rt; bad_option(Phold::new(population, remote, lookahead, span)) == bad);
     }
-    let jobs = [
+    let stations = [
         (0, 1, 1, ""),
         (1_000, 1_000_000, 1_000_000, ""),
         (1_001, 0, 0, "jobs"),
@@ -278,7 +278,7 @@ fn options_have_ranges(rt: HostRuntime) {
         (1_000, 1, 0, "travel"),
         (1_000, 1, 1_000_001, "travel"),
     ];
-    for (jobs, service, travel, bad) in jobs {
+    for (jobs, service, travel, bad) in stations {
         assert!(rt; bad_option(Stations::new(jobs, service, travel)) == bad);
     }
 }

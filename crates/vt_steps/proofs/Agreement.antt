@@ -16,7 +16,7 @@ use Rattle.vt_steps.proofs.Stamped.{IsStamped, stamped-each, Alike, stamped-alik
 use Rattle.vt_steps.proofs.Changes.{Change, run_keeps}
 use Rattle.vt_steps.proofs.Shape.{IsShaped, shape-kept, opening-shape}
 use Rattle.vt_steps.proofs.Balance.{CopyChange, moves, made_live, made_dead, annihilates, change-copies}
-use Rattle.vt_steps.proofs.Stamps.{serials-rise}
+use Rattle.vt_steps.proofs.Stamps.{serials-never_fall}
 use Rattle.vt_steps.proofs.OpeningSums.{opening-serial}
 use Rattle.vt_steps.proofs.Everywhere.{InWorld, Spread, kept, made, change-spread, world-weaker, events_of_starts, opening-in}
 
@@ -41,10 +41,10 @@ DoCopiesAgree starts world = OfAllCopies starts (IsOnlyOne starts world) world
 serials-kept : {S P : Type 0} (sim : Simulation S P) (old new : World P) → Change sim old new → (v : ℕ) → serial_at old v ≤ serial_at new v
 serials-kept {P = P} sim old new change = by_copies (change-copies sim old new change) where
   by_copies : CopyChange old new → (v : ℕ) → serial_at old v ≤ serial_at new v
-  by_copies (moves w balance rise) = serials-rise old new w 0 rise
-  by_copies (made_live w serial event unsent within at balance rise) = serials-rise old new w (length unsent) rise
-  by_copies (made_dead w last balance rise) = serials-rise old new w 0 rise
-  by_copies (annihilates w stamp minus plus m p balance rise) = serials-rise old new w 0 rise
+  by_copies (moves w balance rise) = serials-never_fall old new w 0 rise
+  by_copies (made_live w serial event unsent within at balance rise) = serials-never_fall old new w (length unsent) rise
+  by_copies (made_dead w last balance rise) = serials-never_fall old new w 0 rise
+  by_copies (annihilates w stamp minus plus m p balance rise) = serials-never_fall old new w 0 rise
 
 -- the next serial of a worker is that of its part
 serial-of_part : {P : Type 0} (world : World P) (w : ℕ) (part : Part P) → slice_get world.parts w ≡ Some part → serial_at world w ≡ part.serial
@@ -63,12 +63,15 @@ module _ {S P : Type 0} (sim : Simulation S P) (starts : List (Event P)) where
   -- each change keeps it
   agreement-kept : (old new : World P) → IsShaped sim old → Change sim old new → DoCopiesAgree starts old → DoCopiesAgree starts new
   agreement-kept old new shape change h = by_spread (change-spread sim old new shape change) where
+    -- serials never fall
     rise : (v : ℕ) → serial_at old v ≤ serial_at new v
     rise = serials-kept sim old new change
 
+    -- what is made stays made
     stays_made : (x : Event P) → HasMadeStamp old x → HasMadeStamp new x
     stays_made x m = let up = rise x.rank.stamp.worker in omega arith
 
+    -- events move, or are made
     by_spread : Spread sim old new → DoCopiesAgree starts new
     -- no event is made
     by_spread (kept f) =

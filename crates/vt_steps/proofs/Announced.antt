@@ -14,15 +14,14 @@ use Rattle.vt_key.specs.declared.letter.Mail.{Mail}
 use Rattle.vt_key.specs.declared.letter.Sign.TheVariants.{Plus}
 use Rattle.vt_model.specs.Simulation.{Simulation}
 use Rattle.vt_model.specs.Histories.{IsLawful}
-use Rattle.vt_steps.specs.declared.step.Step.{Step}
 use Rattle.vt_steps.specs.BoardSteps.{all_set, is_clear, with_open_round, with_report, board_after_report}
 use Rattle.vt_steps.specs.Copies.{letter_weight, part_entries, letter_sum, entry_sum}
 use Rattle.vt_steps.specs.Letters.{signed, count_colour}
-use Rattle.vt_steps.specs.Next.{report_lawful, reached}
+use Rattle.vt_steps.specs.Next.{report_lawful}
 use Rattle.vt_steps.specs.PartSteps.{part_after_send, part_after_fetch, part_after_cut, part_after_commit, report_sent, report_got, report_least}
 use Rattle.vt_steps.specs.World.{Part, World, opening_part, opening_world, start_events, all_letters, least}
 use Rattle.vt_steps.proofs.Balance.{commit-balance}
-use Rattle.vt_steps.proofs.Changes.{Change, stays, local, sends, fetches, cuts, reports, commits, closes, run_keeps, if_has}
+use Rattle.vt_steps.proofs.Changes.{Change, stays, local, sends, fetches, cuts, reports, commits, closes, if_has}
 use Rattle.vt_steps.proofs.Colours.{sent_in, got_in}
 use Rattle.vt_steps.proofs.Early.{early, early_letters, all_early, late-none, at-most-least, everywhere-early}
 use Rattle.vt_steps.proofs.EarlyLocal.{hasty, local-early, local-same}
@@ -188,14 +187,9 @@ module _ {S P : Type 0} (sim : Simulation S P) (serial : ℕ) where
         shape = opening-shape sim serial;
       }
 
--- ---- reached worlds
+-- ---- what follows
 
-module _ {S P : Type 0} (sim : Simulation S P) (lawful : IsLawful sim) where
-  -- what holds at any time holds of each reached world
-  pub reached-time-sound : (serial : ℕ) (steps : List Step) (t : Time) → IsTimeSound sim t (reached sim serial steps)
-  reached-time-sound serial steps t =
-      run_keeps sim (IsTimeSound sim t) (λ old new change. time-kept sim lawful t old new change) steps (opening_world sim serial) (opening-time-sound sim serial t)
-
+module _ {S P : Type 0} (sim : Simulation S P) where
   -- the announced time is at most the least time
   pub announced-least : (world : World P) → ((t : Time) → IsTimeSound sim t world) → TimeAtMost world.board.announced (least sim.end world)
   announced-least world sound =

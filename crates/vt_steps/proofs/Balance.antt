@@ -27,11 +27,12 @@ use Rattle.vt_steps.proofs.Sums.{sum_by-put, sum_by-without_first, sum_by-insert
 use Rattle.vt_steps.proofs.Stamped.{length-stamped}
 use Rattle.vt_steps.proofs.Changes.{Act, executes, undoes, cancels, Leaves, homes, arrives, Local, acts, takes, Change, stays, local, sends, fetches, cuts, reports, commits, closes}
 
--- a process
+-- of a process, what letters came and went, and what entries more and fewer there are, whatever they weigh
 pub record ProcessBalance {P : Type 0} (old new : LogicalProcess P) (come gone : List (Letter P)) (more fewer : List (Entry P)) : Type 0 where
   pub letters : (f : Sign → Event P → ℕ) → process_sum f new + sum_by (letter_weight f) gone ≡ process_sum f old + sum_by (letter_weight f) come
   pub entries : (g : Entry P → ℕ) → process_entries g new + sum_by g fewer ≡ process_entries g old + sum_by g more
 
+-- Execute: the least pending message goes, and an entry comes
 pub execute-balance : {S P : Type 0} (sim : Simulation S P) (p w serial : ℕ) (old : LogicalProcess P) (least : Letter P) (rest : List (Letter P)) →
     old.pending ≡ least ∷ rest →
     ProcessBalance old (effect_of_execute sim p w serial old least rest).process [] (signed Plus least.event ∷ [])
@@ -49,6 +50,7 @@ execute-balance sim p w serial old least rest is = record {
       omega arith);
 }
 
+-- Undo: the last entry goes, and the message of its event comes
 pub undo-balance : {P : Type 0} (old : LogicalProcess P) (last : Entry P) → last_or None old.past ≡ Some last →
     ProcessBalance old (effect_of_undo old last).process (signed Plus last.event ∷ []) [] [] (last ∷ [])
 unfolding effect_of_undo
@@ -60,6 +62,7 @@ undo-balance old last is = record {
   entries = λ g. (let a = sum_by-before_last g old.past last is in let c = sum_by-single g last in omega arith);
 }
 
+-- Cancel: an anti-message and a message go
 pub cancel-balance : {P : Type 0} (old : LogicalProcess P) (stamp : Stamp) (minus plus : Letter P) → find (has_stamp stamp) old.waiting ≡ Some minus → find (has_stamp stamp) old.pending ≡ Some plus →
     ProcessBalance old (record old { pending = without_first (has_stamp stamp) old.pending; waiting = without_first (has_stamp stamp) old.waiting })
     [] (signed Minus minus.event ∷ signed Plus plus.event ∷ []) [] []
@@ -73,6 +76,7 @@ cancel-balance old stamp minus plus waits pends = record {
   entries = λ g. refl;
 }
 
+-- a letter comes
 pub letter-balance : {P : Type 0} (old : LogicalProcess P) (letter : Letter P) → ProcessBalance old (with_letter old letter.sign letter) (letter ∷ []) [] [] []
 letter-balance {P = P} old letter = by_sign letter.sign refl
   where
@@ -102,10 +106,12 @@ pub record SerialsRise {P : Type 0} (old new : World P) (w taken : ℕ) : Type 0
   pub others : (v : ℕ) → (v ≡ w → ⊥) → serial_at new v ≡ serial_at old v
   pub size : length new.parts ≡ length old.parts
 
+-- of a part, what letters came and went, and what entries more and fewer there are
 pub record PartBalance {P : Type 0} (old new : Part P) (come gone : List (Letter P)) (more fewer : List (Entry P)) : Type 0 where
   pub letters : (f : Sign → Event P → ℕ) → part_sum f new + sum_by (letter_weight f) gone ≡ part_sum f old + sum_by (letter_weight f) come
   pub entries : (g : Entry P → ℕ) → part_entries g new + sum_by g fewer ≡ part_entries g old + sum_by g more
 
+-- the same of a world
 pub record WorldBalance {P : Type 0} (old new : World P) (come gone : List (Letter P)) (more fewer : List (Entry P)) : Type 0 where
   pub letters : (f : Sign → Event P → ℕ) → letter_sum f new + sum_by (letter_weight f) gone ≡ letter_sum f old + sum_by (letter_weight f) come
   pub entries : (g : Entry P → ℕ) → entry_sum g new + sum_by g fewer ≡ entry_sum g old + sum_by g more
@@ -140,6 +146,7 @@ leaves-balance sim w old new letter (arrives i mail is same e) f =
     let c = ap (part_sum f) e in
     omega arith
 
+-- and keeps the processes and the serial
 pub leaves-same : {S P : Type 0} (sim : Simulation S P) (w : ℕ) (old new : Part P) (letter : Letter P) → Leaves sim w old new letter →
     (new.processes ≡ old.processes) × (new.serial ≡ old.serial)
 leaves-same sim w old new letter (homes is e) = (ap (λ part. part.processes) e, ap (λ part. part.serial) e)
@@ -160,6 +167,7 @@ with_part-balance old w part after come gone more fewer is b = record {
       omega arith);
 }
 
+-- a part that took some serials takes a part's place
 pub serials-rise : {P : Type 0} (old new : World P) (w : ℕ) (part after : Part P) (taken : ℕ) → slice_get old.parts w ≡ Some part →
     new.parts ≡ slice_set old.parts w after → after.serial ≡ part.serial + taken → SerialsRise old new w taken
 serials-rise old new w part after taken is parts serial = record {
@@ -177,6 +185,8 @@ serials-rise old new w part after taken is parts serial = record {
 
 -- ---- what each change does to copies
 
+-- what a step does to copies: letters move; an event is executed, and what it sends is stamped with the next serials and
+-- live; an event is undone, and what it sent is live no more; or a message and its anti-message annihilate each other
 pub data CopyChange {P : Type 0} (old new : World P) : Type 0 where
   moves : (w : ℕ) → WorldBalance old new [] [] [] [] → SerialsRise old new w 0 → CopyChange old new
   made_live : (w serial : ℕ) (event : Event P) (unsent : List (Sent P)) → w < length old.parts → serial_at old w ≡ serial →
@@ -187,6 +197,7 @@ pub data CopyChange {P : Type 0} (old new : World P) : Type 0 where
   annihilates : (w : ℕ) (stamp : Stamp) (minus plus : Event P) → stamp_same minus.rank.stamp stamp ≡ true → stamp_same plus.rank.stamp stamp ≡ true →
       WorldBalance old new [] (signed Minus minus ∷ signed Plus plus ∷ []) [] [] → SerialsRise old new w 0 → CopyChange old new
 
+-- a process acts
 act-copies : {S P : Type 0} (sim : Simulation S P) (old new : World P) (w place : ℕ) (part after : Part P) (process : LogicalProcess P) (effect : ProcessEffect P) →
     slice_get old.parts w ≡ Some part → slice_get part.processes place ≡ Some process → new ≡ with_part old w after → after ≡ with_effect part place effect →
     Act sim (process_at sim w place) w part.serial process effect → CopyChange old new
@@ -224,6 +235,7 @@ act-copies {P = P} sim old new w place part after process effect is at new_is af
     (effect-balance part place process act _ _ _ _ at (cancel-balance process stamp minus plus waits pends)))
     (serials-rise old (with_part old w next_part) w part next_part 0 is refl refl))
 
+-- a process takes a letter: nothing comes or goes
 pub takes-balance : {S P : Type 0} (sim : Simulation S P) (w place : ℕ) (old part : Part P) (letter : Letter P) (process : LogicalProcess P) →
     Leaves sim w old part letter → slice_get part.processes place ≡ Some process →
     PartBalance old (with_effect part place (record { process = with_letter process letter.sign letter; letters = []; serials = 0 })) [] [] [] []
@@ -242,6 +254,7 @@ takes-balance {P = P} sim w place old part letter process leaves at =
           omega arith);
     }
 
+-- a local step
 local-copies : {S P : Type 0} (sim : Simulation S P) (old new : World P) (w : ℕ) (part after : Part P) → slice_get old.parts w ≡ Some part →
     new ≡ with_part old w after → Local sim w part after → CopyChange old new
 local-copies sim old new w part after is new_is (acts place process effect at act after_is) = act-copies sim old new w place part after process effect is at new_is after_is act
@@ -273,6 +286,7 @@ letters_stay old new w part after is parts inboxes b serial =
     })
     (serials-rise old new w part after 0 is parts (omega arith))
 
+-- a part that keeps its letters and its processes
 same-balance : {P : Type 0} (old new : Part P) → new.outbox ≡ old.outbox → new.arrived ≡ old.arrived → new.processes ≡ old.processes → PartBalance old new [] [] [] []
 same-balance old new o a p = record {
   letters = λ f.
@@ -307,6 +321,7 @@ commit-balance part = record {
       omega arith);
 }
 
+-- the parts and the inboxes stay
 parts_stay : {P : Type 0} (old new : World P) → new.parts ≡ old.parts → new.inboxes ≡ old.inboxes → CopyChange old new
 unfolding letter_sum entry_sum
 parts_stay old new parts inboxes =
@@ -346,6 +361,7 @@ send-copies {P = P} sim old new w v part inbox is in_is parts inboxes =
     })
     (serials-rise old new w part (part_after_send sim v part) 0 is parts (sym (add-zero part.serial)))
 
+-- what was in the inbox has arrived
 fetch-copies : {P : Type 0} (old new : World P) (w : ℕ) (part : Part P) (inbox : List (Mail P)) →
     slice_get old.parts w ≡ Some part → slice_get old.inboxes w ≡ Some inbox → part.arrived ≡ [] → new.parts ≡ slice_set old.parts w (part_after_fetch inbox part) →
     new.inboxes ≡ slice_set old.inboxes w [] → CopyChange old new
@@ -367,6 +383,7 @@ fetch-copies old new w part inbox is in_is none parts inboxes =
     })
     (serials-rise old new w part (part_after_fetch inbox part) 0 is parts (sym (add-zero part.serial)))
 
+-- each change
 pub change-copies : {S P : Type 0} (sim : Simulation S P) (old new : World P) → Change sim old new → CopyChange old new
 unfolding part_after_cut part_after_commit report_lawful
 change-copies sim old new (stays e) = parts_stay old new (ap (λ n. n.parts) e) (ap (λ n. n.inboxes) e)

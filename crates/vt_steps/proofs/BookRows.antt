@@ -40,13 +40,15 @@ abbrev pub committed_rows : {S P : Type 0} → Simulation S P → ℕ → List (
 committed_rows sim p done = rows_from sim p (sim.start p).triple (entry_events done)
 
 module _ {S P : Type 0} (sim : Simulation S P) (f : Row → ℕ) where
-  -- what the rows of the committed events weigh: of the process at a place of worker w, of its part, and of all parts
+  -- what the rows of the committed events weigh, of the process at a place of worker w
   abbrev pub process_rows : ℕ → ℕ → LogicalProcess P → ℕ
   process_rows w place process = sum_by f (committed_rows sim (process_at sim w place) process.done)
 
+  -- of its part
   abbrev pub part_rows : ℕ → Part P → ℕ
   part_rows w part = sum_by_place (process_rows w) 0 part.processes
 
+  -- of all parts
   abbrev pub world_rows : List (Part P) → ℕ
   world_rows parts = sum_by_place part_rows 0 parts
 

@@ -72,10 +72,13 @@ module _ {P : Type 0} (Q : Event P → Type 0) where
       (every-flat_map R letters_in world.parts (every-weaker (InPart Q) (λ part. Every R (letters_in part)) world.parts letters-in h.parts))
       (every-map (λ mail. mail.letter) R (flat_map (λ inbox. inbox) world.inboxes) (every-flat_map (λ mail. Q mail.letter.event) (λ inbox. inbox) world.inboxes h.inboxes))) m
 
+-- what follows from Q holds
 module _ {P : Type 0} (Q R : Event P → Type 0) (f : (x : Event P) → Q x → R x) where
+  -- in an entry where Q does
   entry-weaker : (entry : Entry P) → InEntry Q entry → InEntry R entry
   entry-weaker entry h = record { event = f entry.event h.event; sent = every-weaker Q R entry.sent f h.sent }
 
+  -- in a process
   process-weaker : (process : LogicalProcess P) → InProcess Q process → InProcess R process
   process-weaker process h = record {
     done = every-weaker (InEntry Q) (InEntry R) process.done entry-weaker h.done;
@@ -84,6 +87,7 @@ module _ {P : Type 0} (Q R : Event P → Type 0) (f : (x : Event P) → Q x → 
     waiting = every-weaker (λ l. Q l.event) (λ l. R l.event) process.waiting (λ l. f l.event) h.waiting;
   }
 
+  -- in a part
   part-weaker : (part : Part P) → InPart Q part → InPart R part
   part-weaker part h = record {
     processes = every-weaker (InProcess Q) (InProcess R) part.processes process-weaker h.processes;
@@ -91,7 +95,7 @@ module _ {P : Type 0} (Q R : Event P → Type 0) (f : (x : Event P) → Q x → 
     arrived = every-weaker (λ m. Q m.letter.event) (λ m. R m.letter.event) part.arrived (λ m. f m.letter.event) h.arrived;
   }
 
-  -- what follows from Q holds in a world where Q does
+  -- in a world
   pub world-weaker : (world : World P) → InWorld Q world → InWorld R world
   world-weaker world h = record {
     parts = every-weaker (InPart Q) (InPart R) world.parts part-weaker h.parts;

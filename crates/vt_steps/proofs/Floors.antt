@@ -40,6 +40,7 @@ least_floor-rises end (f ∷ fs) (suc w) floor higher e h = let ih = least_floor
 
 -- ---- what holds of floors
 
+-- of a world: hand-in floors are at most floors, floors at most the announced time, and a closed book's floor is the end
 pub record AreFloorsSound {P : Type 0} (end : Time) (parts : List (Part P)) (board : Board) (book : Book) : Type 0 where
   pub size : length book.floors ≡ length parts
   pub announced : (w : ℕ) (part : Part P) → slice_get parts w ≡ Some part → TimeAtMost part.floor board.announced
@@ -84,6 +85,7 @@ pub record BoardRises (end : Time) (old new : Board) : Type 0 where
   pub least : new.is_open ≡ true → TimeAtMost new.announced new.least
   pub bounded : TimeAtMost new.announced end
 
+-- a board whose announced time has not fallen takes the board's place
 new-board : {P : Type 0} (end : Time) (parts : List (Part P)) (old new : Board) (book : Book) → BoardRises end old new → AreFloorsSound end parts old book → AreFloorsSound end parts new book
 new-board end parts old new book b f =
     let rise = b.announced in

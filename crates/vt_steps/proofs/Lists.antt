@@ -294,20 +294,6 @@ pub rising-unmap : {X Y : Type 0} (f : X → Y) (R : Y → Y → Type 0) (xs : L
 rising-unmap f R [] h = tt
 rising-unmap f R (x ∷ xs) h = (every-unmap f (R (f x)) xs h.0, rising-unmap f R xs h.1)
 
--- pieces that rise in themselves, each before all later ones
-pub rising-flat_map : {Y : Type 0} (R : Y → Y → Type 0) (f : ℕ → List Y) (a n : ℕ) → ((x : ℕ) → a ≤ x → x < a + n → Rising R (f x)) →
-    ((x y : ℕ) (u v : Y) → a ≤ x → x < y → y < a + n → Among u (f x) → Among v (f y) → R u v) → Rising R (flat_map f (range_with_len a n))
-rising-flat_map R f a zero own apart = tt
-rising-flat_map R f a (suc n) own apart =
-    rising-append R (f a) (flat_map f (range_with_len (a + 1) n)) (own a (omega arith) (omega arith))
-    (rising-flat_map R f (a + 1) n (λ x low high. own x (omega arith) (omega arith)) (λ x y u v low less high m k. apart x y u v (omega arith) less (omega arith) m k))
-    (λ u v m k. (
-    let r = flat_map-among f v (range_with_len (a + 1) n) k in
-    let s = range-among r.0 (a + 1) n r.1 in
-    let low = s.0 in
-    let high = s.1 in
-    apart a r.0 u v (omega arith) (omega arith) (omega arith) m r.2))
-
 -- two elements that R keeps apart where f has one value are one, if f has one value
 pub same-element : {X Y : Type 0} (f : X → Y) (xs : List X) → Rising (λ x y. f x ≡ f y → ⊥) xs → (x y : X) → Among x xs → Among y xs → f x ≡ f y → x ≡ y
 same-element f [] h x y m n e = elim m [ ]

@@ -218,10 +218,11 @@ report-is_open w sent got value board is = is
 -- ---- the last report of a pass
 
 module _ {P : Type 0} (end t : Time) (parts : List (Part P)) (inboxes : List (List (Mail P))) (board : Board) (open_is : board.is_open ≡ true) (g : IsRoundSound end t parts inboxes board) where
-  -- the board after a pass with equal sums, and after one with unequal sums
+  -- the board after a pass with equal sums
   abbrev announcing : Board
   announcing = record board { announced = board.least; is_open = false }
 
+  -- and after one with unequal sums
   abbrev passing : Board
   passing = record board { has_reported = replicate (length board.has_reported) false; sent = 0; got = 0; least = end }
 

@@ -214,7 +214,7 @@ module _ {S P : Type 0} (sim : Simulation S P) where
       (run_keeps sim (λ world. AreTimesSound sim world × IsOrderedWorld world)
       (λ old new change h. (
         times-kept sim lawful old new change h.0,
-        change-ordered old new change (announced-least sim lawful old h.0.at) h.0.floors.announced (floors-kept sim old new (h.0.at opening_time).round.least_end h.0.floors change).announced h.1,
+        change-ordered old new change (announced-least sim old h.0.at) h.0.floors.announced (floors-kept sim old new (h.0.at opening_time).round.least_end h.0.floors change).announced h.1,
       ))
       steps (opening_world sim serial) (opening-times sim lawful serial, opening-ordered serial)).1
 

@@ -40,7 +40,7 @@ pub record IsAccounted {S P : Type 0} (sim : Simulation S P) (world : World P) :
 module _ {S P : Type 0} (sim : Simulation S P) (lawful : IsLawful sim) (world : World P) (known : IsAccounted sim world) where
   -- the floor is at most the announced time, and that at most the least time
   pub floors-right : AreFloorsRight sim world
-  floors-right = record { floor = floor-announced sim lawful world known.times; announced = announced-least sim lawful world known.times.at }
+  floors-right = record { floor = floor-announced sim lawful world known.times; announced = announced-least sim world known.times.at }
 
   -- what the rows before a time weigh that process p has in the sequential run
   abbrev pub run_rows : (Row → ℕ) → Time → ℕ → ℕ

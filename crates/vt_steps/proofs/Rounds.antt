@@ -70,6 +70,7 @@ pub record IsRoundSound {P : Type 0} (end t : Time) (parts : List (Part P)) (inb
 
 -- ---- a part changes, and keeps its colour, counts and red minimum
 
+-- two parts have the same colour, counts and red minimum
 pub record SameCounts {P : Type 0} (old new : Part P) : Type 0 where
   pub colour : new.colour ≡ old.colour
   pub sent : new.sent ≡ old.sent

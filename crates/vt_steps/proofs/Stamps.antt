@@ -35,8 +35,8 @@ pub record StampFacts {S P : Type 0} (sim : Simulation S P) (serial : ℕ) (stam
 
 module _ {P : Type 0} where
   -- they never fall
-  pub serials-rise : (old new : World P) (w taken : ℕ) → SerialsRise old new w taken → (v : ℕ) → serial_at old v ≤ serial_at new v
-  serials-rise old new w taken r v =
+  pub serials-never_fall : (old new : World P) (w taken : ℕ) → SerialsRise old new w taken → (v : ℕ) → serial_at old v ≤ serial_at new v
+  serials-never_fall old new w taken r v =
       elim (eqb_tells v w) [
         | inl e ↦ (let a = r.own in let b = ap (serial_at old) e.1 in let c = ap (serial_at new) e.1 in omega arith)
         | inr e ↦ (let a = r.others v e.1 in omega arith)
@@ -44,14 +44,14 @@ module _ {P : Type 0} where
 
   -- what is made stays made
   still-made : (serial : ℕ) (stamp : Stamp) (old new : World P) (w taken : ℕ) → SerialsRise old new w taken → IsMade serial old stamp → IsMade serial new stamp
-  still-made serial stamp old new w taken r made = (made.0, let a = serials-rise old new w taken r stamp.worker in let b = made.1 in omega arith)
+  still-made serial stamp old new w taken r made = (made.0, let a = serials-never_fall old new w taken r stamp.worker in let b = made.1 in omega arith)
 
   -- none is below the opening one
   still-serials : (serial : ℕ) (old new : World P) (w taken : ℕ) → SerialsRise old new w taken →
       ((v : ℕ) → v < length old.parts → serial ≤ serial_at old v) → (v : ℕ) → v < length new.parts → serial ≤ serial_at new v
   still-serials serial old new w taken r were v within =
       let size = r.size in
-      let a = serials-rise old new w taken r v in
+      let a = serials-never_fall old new w taken r v in
       let b = were v (omega arith) in
       omega arith
 
@@ -95,6 +95,7 @@ module _ {S P : Type 0} (sim : Simulation S P) (serial : ℕ) (stamp : Stamp) wh
         serials = still-serials serial old new w taken r facts.serials;
       }
 
+  -- case by case
   facts-kept : (old new : World P) → CopyChange old new → StampFacts sim serial stamp old → StampFacts sim serial stamp new
   -- letters move: no count changes
   facts-kept old new (moves w b r) facts =

@@ -17,7 +17,8 @@ ghost use Rattle.vt_steps.specs.Claims.{AreFloorsRight, AreRecordsRight, Nothing
 pub fn floors_are_right<S, P>()
     ghost sim: { Simulation S P }
     requires { IsLawful sim }
-    ensures right { (serial : ℕ) (steps : List Step) → AreFloorsRight sim (reached sim serial steps) }
+    ensures right { (serial : ℕ) (steps : List Step) →
+        AreFloorsRight sim (reached sim serial steps) }
     ensures later { (serial : ℕ) (steps more : List Step) →
         NothingFalls sim (reached sim serial steps) (run sim (reached sim serial steps) more) }
 {}
@@ -28,7 +29,8 @@ pub fn floors_are_right<S, P>()
 pub fn records_are_right<S, P>()
     ghost sim: { Simulation S P }
     requires { IsLawful sim }
-    ensures right { (serial : ℕ) (steps : List Step) → AreRecordsRight sim (reached sim serial steps) }
+    ensures right { (serial : ℕ) (steps : List Step) →
+        AreRecordsRight sim (reached sim serial steps) }
     ensures once { (serial : ℕ) (steps : List Step) →
         AreRowsRising (rows_in_order (reached sim serial steps).book.rows) }
 {}
@@ -40,7 +42,8 @@ pub fn closed_book_is_whole<S, P>()
     ghost sim: { Simulation S P }
     requires { IsLawful sim }
     ensures whole { (serial : ℕ) (steps : List Step) →
-        IsTrue (reached sim serial steps).book.is_closed → IsWhole sim (reached sim serial steps) }
+        IsTrue (reached sim serial steps).book.is_closed →
+        IsWhole sim (reached sim serial steps) }
     ensures stays { (serial : ℕ) (steps more : List Step) →
         IsTrue (reached sim serial steps).book.is_closed →
         (run sim (reached sim serial steps) more).book ≡ (reached sim serial steps).book }
@@ -52,7 +55,8 @@ pub fn closed_book_is_whole<S, P>()
 pub fn guards_never_fail<S, P>()
     ghost sim: { Simulation S P }
     requires { IsLawful sim }
-    ensures { (serial : ℕ) (steps : List Step) → DoGuardsPass sim (reached sim serial steps) }
+    ensures { (serial : ℕ) (steps : List Step) →
+        DoGuardsPass sim (reached sim serial steps) }
 {}
 
 /// After any list of steps by any number of workers, with letters accepted in any order, the book's records are exactly the

@@ -1,6 +1,6 @@
 //! A contestant, and who of two is ahead.
 
-ghost use Rattle.std.specs.Prelude.{◌≡◌};
+ghost use Rattle.std.specs.Prelude.{◌≡◌, IsTrue};
 ghost use Rattle.vt_tournament.specs.Contest.{is_ahead, winner_of};
 
 use vt_key::Rank;
@@ -24,6 +24,17 @@ impl Contestant {
             (Some(_), None) => true,
             (None, Some(_)) => false,
             (None, None) => self.number < other.number,
+        }
+    }
+
+    /// Whether the two are one.
+    pub(crate) fn is_same(&self, other: &Contestant) -> bool
+        ensures { IsTrue result → self.now ≡ other.now }
+    {
+        match (self.rank, other.rank) {
+            (Some(own), Some(theirs)) => self.number == other.number && own.is_same(&theirs),
+            (None, None) => self.number == other.number,
+            _ => false,
         }
     }
 

@@ -110,7 +110,12 @@ fn decide_above(nodes: &mut Vec<Contestant>, changed: usize, count: usize)
 {
     let mut at = changed / 2;
     while at > 0 {
-        nodes[at] = nodes[2 * at].winner(nodes[2 * at + 1]);
+        let winner = nodes[2 * at].winner(nodes[2 * at + 1]);
+        // Where the winner stays, all above it stays.
+        if winner.is_same(&nodes[at]) {
+            return;
+        }
+        nodes[at] = winner;
         at /= 2;
     }
 }

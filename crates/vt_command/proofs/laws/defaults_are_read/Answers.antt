@@ -11,6 +11,8 @@ returns c = record {
     synch = refl;
     config = record { workers = refl; lps = refl; end = refl; seed = refl };
     hop = record { hops = refl; stride = refl; delay = refl };
+    phold = record { population = refl; remote = refl; lookahead = refl; span = refl };
+    stations = record { jobs = refl; service = refl; travel = refl };
     turns = refl;
     all_good = refl;
   };

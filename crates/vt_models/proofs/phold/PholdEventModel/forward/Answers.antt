@@ -1,8 +1,8 @@
 use Rattle.std.proofs.Common.{◌+◌, ◌∙◌, ap, arith}
 use Rattle.vt_stream.specs.Words.{Stream, word_of, moved}
 use Rattle.vt_stream.proofs.DrawLemmas.{moved-moved, word_after}
-use Rattle.vt_models.proofs.RequestLemmas.{recorded_then_sent}
-use Rattle.vt_models.proofs.PholdSteps.{thrown_away, thrown_up}
+use Rattle.vt_model.proofs.RequestLemmas.{recorded_then_sent}
+use Rattle.vt_models.proofs.PholdSteps.{goes_far, stays_near}
 use Rattle.vt_models.proofs.phold.PholdEventModel.forward.Goals as goal
 use Rattle.vt_models.proofs.phold.PholdEventModel.forward.Goals.{then-below-from, else-below-from}
 
@@ -15,10 +15,10 @@ returns-clause-out c =
       | then-below-from w ↦
           let second = word_after stream c.below.new.self.stream.now 1 c.below.ensures.stream in
           let third = word_after stream w.below-dest.new.self.stream.now 2 (w.below-dest.ensures.stream ∙ ap (λ (s : Stream). moved s 1) c.below.ensures.stream ∙ moved-moved stream 1 1) in
-          asked ∙ thrown_away m c.args.out.now.lps c.args.lp c.args.state.now (word_of stream) c.args.out.now c.if-below-from.dest (c.from-3.result + c.below-wait.result)
+          asked ∙ goes_far m c.args.out.now.lps c.args.lp c.args.state.now (word_of stream) c.args.out.now c.if-below-from.dest (c.from-3.result + c.below-wait.result)
           (omega arith) (cc) (cc)
       | else-below-from w ↦
           let second = word_after stream c.below.new.self.stream.now 1 c.below.ensures.stream in
-          asked ∙ thrown_up m c.args.out.now.lps c.args.lp c.args.state.now (word_of stream) c.args.out.now c.if-below-from.dest (c.from-3.result + c.below-wait.result)
+          asked ∙ stays_near m c.args.out.now.lps c.args.lp c.args.state.now (word_of stream) c.args.out.now c.if-below-from.dest (c.from-3.result + c.below-wait.result)
           (omega arith) (cc) (cc)
     ]

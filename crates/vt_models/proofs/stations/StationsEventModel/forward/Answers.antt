@@ -5,10 +5,10 @@ use Rattle.vt_stream.specs.Words.{word_of}
 use Rattle.vt_models.specs.declared.stations.Server.{Server}
 use Rattle.vt_models.specs.declared.stations.JobEvent.{JobEvent}
 use Rattle.vt_models.specs.declared.stations.JobEvent.TheVariants.{Arrive}
-use Rattle.vt_models.specs.Drawn.{scaled}
+use Rattle.vt_stream.specs.Drawn.{scaled}
 use Rattle.vt_models.specs.Stations.{one_served, departure}
 use Rattle.vt_stream.proofs.DrawLemmas.{word_after}
-use Rattle.vt_models.proofs.RequestLemmas.{recorded_then_sent, no_requests, sent_after}
+use Rattle.vt_model.proofs.RequestLemmas.{recorded_then_sent, no_requests, sent_after}
 use Rattle.vt_models.proofs.StationsSteps.{served_at_once, departs_from_none, departs_last, departs_before_next}
 use Rattle.vt_models.proofs.stations.StationsEventModel.forward.Goals as goal
 

@@ -4,7 +4,7 @@ use Rattle.vt_model.specs.Sends.{Outgoing, with_requests}
 use Rattle.vt_stream.specs.Words.{word_of}
 use Rattle.vt_models.specs.declared.stations.Server.{Server}
 use Rattle.vt_models.specs.declared.stations.JobEvent.{JobEvent}
-use Rattle.vt_models.proofs.RequestLemmas.{no_requests}
+use Rattle.vt_model.proofs.RequestLemmas.{no_requests}
 use Rattle.vt_models.proofs.StationsSteps.{begins_idle, begins_busy}
 use Rattle.vt_models.proofs.stations.StationsEventModel.start.Goals as goal
 use Rattle.vt_models.proofs.stations.StationsEventModel.start.Goals.{then-self-ne0, else-self-ne0}

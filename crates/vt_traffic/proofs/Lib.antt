@@ -1,0 +1,4 @@
+pub mod TrafficSteps
+pub mod CarLemmas
+pub mod DistinctLemmas
+pub mod KeptLemmas

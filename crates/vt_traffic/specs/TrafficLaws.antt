@@ -1,0 +1,159 @@
+-- The laws of `Traffic`.
+use Rattle.std.proofs.Common.{◌≡◌, ℕ, ◌+◌, ◌-◌, ◌^◌, ◌<◌, ◌≤◌, [], ◌∷◌, List, length, length-append, All, Bool, true, false, not, ◌&&◌, nat_eq, if◌then◌else◌, Option, Some, None, is_none, refl, sym, subst, ap, ◌∙◌, arith}
+use Rattle.std.proofs.Math.Nat.{mod-lt}
+use Rattle.std.proofs.lemmas.List.Elements.{All-nil, All-cons, All-append}
+use Rattle.vt_model.specs.Handler.{IsWithinLimits, IsSendable, AreWords}
+use Rattle.vt_model.specs.Sends.{SendRequest}
+use Rattle.vt_traffic.specs.declared.grid.Traffic.{Traffic}
+use Rattle.vt_traffic.specs.declared.grid.TheConstants.{ENTERED}
+use Rattle.vt_traffic.specs.declared.junction.Junction.{Junction}
+use Rattle.vt_traffic.specs.declared.junction.Road.{Road}
+use Rattle.vt_traffic.specs.declared.junction.Road.TheVariants.{Eastward, Southward}
+use Rattle.vt_traffic.specs.declared.junction.JunctionEvent.{JunctionEvent}
+use Rattle.vt_traffic.specs.declared.junction.JunctionEvent.TheVariants.{Arrive, Leave, Change}
+use Rattle.vt_traffic.specs.Junction.{is_same_road, joined, unjoined, can_enter, with_car, entered, leave, entry, gone, one_more, one_fewer, other_road, AreCounts}
+use Rattle.vt_traffic.specs.Traffic.{next_junction, departure, filled, after_event, own_sends, own_records, words_drawn, entry_bits, before_entry, before_leave, before_event, traffic_start, traffic_forward, traffic_reverse}
+
+-- few requests, which are sendable
+abbrev AreFew : ℕ → ℕ → List (SendRequest JunctionEvent) → Type 0
+AreFew lps most xs = (length xs ≤ most) × All (IsSendable lps) xs
+
+none_ok : (lps : ℕ) → All {X = SendRequest JunctionEvent} (IsSendable lps) []
+none_ok lps = All-nil (IsSendable lps)
+
+one_ok : (lps : ℕ) (x : SendRequest JunctionEvent) → IsSendable lps x → All (IsSendable lps) (x ∷ [])
+one_ok lps x ok = All-cons (IsSendable lps) x [] ok (none_ok lps)
+
+-- a car that enters asks for one send at most
+entry_ok : (lps lp : ℕ) (j : Junction) → lp < lps → AreFew lps 1 (entry lp j)
+entry_ok lps lp j known =
+    elim (can_enter j) as (λ b. AreFew lps 1 (if b then (leave lp ∷ []) else [])) [
+      | true ↦ (omega arith, one_ok lps (leave lp) (record { known = known; later = omega arith }))
+      | false ↦ (omega arith, none_ok lps)
+    ]
+
+pub start_within : (m : Traffic) (lps lp : ℕ) (words : ℕ → ℕ) → lp < lps → AreWords words
+    → IsWithinLimits lps (traffic_start m lp words).drawn (traffic_start m lp words).send_requests []
+start_within m lps lp words known w =
+    let enters = entry_ok lps lp (filled m) known in
+    record {
+      few_words = omega arith;
+      few_sends = omega (arith, enters.0);
+      few_records = omega arith;
+      sendable = All-cons (IsSendable lps) _ _ (record { known = known; later = omega arith }) enters.1;
+    }
+
+-- roads lead to known junctions
+next_known : (m : Traffic) (lps lp : ℕ) (r : Road) → 0 < lps → next_junction m lps lp r < lps
+next_known m lps lp Eastward some = mod-lt (lp + 1) some
+next_known m lps lp Southward some = mod-lt (lp + m.columns) some
+
+departure_ok : (m : Traffic) (lps lp : ℕ) (r : Road) (words : ℕ → ℕ) → 0 < lps → IsSendable lps (departure m lps lp r words)
+departure_ok m lps lp r words some = record { known = next_known m lps lp _ some; later = omega (arith, m.some_travel) }
+
+-- an event asks for one send of its own at most
+own_ok : (m : Traffic) (lps lp : ℕ) (p : JunctionEvent) (k : Option Road) (words : ℕ → ℕ) → lp < lps → AreFew lps 1 (own_sends m lps lp p k words)
+own_ok m lps lp (Arrive r) k words known = (omega arith, none_ok lps)
+own_ok m lps lp Leave None words known = (omega arith, none_ok lps)
+own_ok m lps lp Leave (Some r) words known = (omega arith, one_ok lps _ (departure_ok m lps lp r words (omega arith)))
+own_ok m lps lp Change k words known = (omega arith, one_ok lps _ (record { known = known; later = m.some_green }))
+
+few_words : (p : JunctionEvent) (k : Option Road) → words_drawn p k ≤ 2
+few_words (Arrive r) k = omega arith
+few_words Leave None = omega arith
+few_words Leave (Some r) = omega arith
+few_words Change k = omega arith
+
+few_records : (p : JunctionEvent) (k : Option Road) (j : Junction) → length (own_records p k j) ≤ 1
+few_records (Arrive r) k j = omega arith
+few_records Leave None j = omega arith
+few_records Leave (Some r) j = omega arith
+few_records Change k j = omega arith
+
+pub forward_within : (m : Traffic) (lps lp now : ℕ) (p : JunctionEvent) (j : Junction) (words : ℕ → ℕ) → lp < lps → AreWords words
+    → IsWithinLimits lps (traffic_forward m lps lp p j words).drawn (traffic_forward m lps lp p j words).send_requests (traffic_forward m lps lp p j words).record_requests
+forward_within m lps lp now p j words known w =
+    let own = own_ok m lps lp p j.crossing words known in
+    let enters = entry_ok lps lp (after_event p j) known in
+    record {
+      few_words = omega (arith, few_words p j.crossing);
+      few_sends = simp length-append (omega (arith, own.0, enters.0));
+      few_records = simp length-append (omega (arith, few_records p j.crossing (after_event p j)));
+      sendable = All-append (IsSendable lps) (own_sends m lps lp p j.crossing words) (entry lp (after_event p j)) own.1 enters.1;
+    }
+
+-- numbers stay below 2 ^ 64 where a car enters
+entered_counts : (j : Junction) → AreCounts j → AreCounts (entered j)
+entered_counts j fits =
+    elim (can_enter j) as (λ b. AreCounts (if b then with_car j else j)) [ true ↦ (omega (arith, fits.0), fits.1, fits.2) | false ↦ fits ]
+
+pub start_state : (m : Traffic) (lps lp : ℕ) (words : ℕ → ℕ) → AreCounts (traffic_start m lp words).state
+start_state m lps lp words = entered_counts (filled m) (omega (arith, m.few_cars), omega (arith, m.few_cars), omega arith)
+
+gone_counts : (k : Option Road) (j : Junction) → AreCounts j → AreCounts (gone k j)
+gone_counts None j fits = fits
+gone_counts (Some r) j fits = (fits.0, fits.1, omega arith)
+
+event_counts : (p : JunctionEvent) (j : Junction) → AreCounts j → AreCounts (after_event p j)
+event_counts (Arrive r) j fits =
+    elim (is_same_road r j.green) as (λ b. AreCounts (if b then record j { at_green = one_more j.at_green } else record j { at_red = one_more j.at_red }))
+    [ true ↦ (omega arith, fits.1, fits.2) | false ↦ (fits.0, omega arith, fits.2) ]
+event_counts Leave j fits = gone_counts j.crossing j fits
+event_counts Change j fits = (fits.1, fits.0, fits.2)
+
+pub forward_state : (m : Traffic) (lps lp now : ℕ) (p : JunctionEvent) (j : Junction) (words : ℕ → ℕ) → AreCounts j → AreCounts (traffic_forward m lps lp p j words).state
+forward_state m lps lp now p j words fits = entered_counts (after_event p j) (event_counts p j fits)
+
+-- one more and then one fewer, and the other way round
+fewer-more : (n : ℕ) → n < 2 ^ 64 → one_fewer (one_more n) ≡ n
+fewer-more n fits = omega arith
+
+-- where a car can enter, one waits
+some_wait : (n : ℕ) (b : Bool) → (not (nat_eq n 0) && b) ≡ true → n ≡ 0 → ⊥
+some_wait n b e none = let never : false ≡ true = subst (λ (k : ℕ). (not (nat_eq k 0) && b) ≡ true) none e in cc
+
+-- a car that entered is put back
+entry_undone : (k : Option Road) (j : Junction) → AreCounts j → before_entry (entry_bits j) k (entered j) ≡ record j { crossing = k }
+entry_undone k j fits =
+    elim (can_enter j) as (λ b. can_enter j ≡ b → before_entry (if b then record { flags = 2 ^ ENTERED } else record { flags = 0 }) k (if b then with_car j else j) ≡ record j { crossing = k }) [
+      | true ↦ λ e.
+          let some = some_wait j.at_green (is_none j.crossing) e in
+          let back : one_more (j.at_green - 1) ≡ j.at_green = omega (arith, fits.0) in
+          λ i. record j { at_green = back i; crossing = k }
+      | false ↦ λ e. refl
+    ]
+    refl
+
+-- a car that joined a queue is taken out of it
+join_undone : (r : Road) (j : Junction) → AreCounts j → unjoined r (record (joined r j) { crossing = j.crossing }) ≡ j
+join_undone r j fits =
+    elim (is_same_road r j.green) as (λ b. is_same_road r j.green ≡ b → unjoined r (record (if b then record j { at_green = one_more j.at_green } else record j { at_red = one_more j.at_red }) { crossing = j.crossing }) ≡ j) [
+      | true ↦ λ e.
+          ap (λ (b : Bool). (if b then record j { at_green = one_fewer (one_more j.at_green) } else record j { at_green = one_more j.at_green; at_red = one_fewer j.at_red })) e
+          ∙ (λ i. record j { at_green = fewer-more j.at_green fits.0 i })
+      | false ↦ λ e.
+          ap (λ (b : Bool). (if b then record j { at_green = one_fewer j.at_green; at_red = one_more j.at_red } else record j { at_red = one_fewer (one_more j.at_red) })) e
+          ∙ (λ i. record j { at_red = fewer-more j.at_red fits.1 i })
+    ]
+    refl
+
+-- a car that left crosses again
+leave_undone : (k : Option Road) (j : Junction) → AreCounts j → j.crossing ≡ k → before_leave k (record (gone k j) { crossing = k }) ≡ j
+leave_undone None j fits was = λ i. record j { crossing = sym was i }
+leave_undone (Some r) j fits was = λ i. record j { crossing = sym was i; passed = fewer-more j.passed fits.2 i }
+
+-- the other road of the other is the same
+other-other : (r : Road) → other_road (other_road r) ≡ r
+other-other Eastward = refl
+other-other Southward = refl
+
+-- an event is undone, where the car that was crossing is put back
+event_undone : (p : JunctionEvent) (j : Junction) → AreCounts j → before_event p j.crossing (record (after_event p j) { crossing = j.crossing }) ≡ j
+event_undone (Arrive r) j fits = join_undone r j fits
+event_undone Leave j fits = leave_undone j.crossing j fits refl
+event_undone Change j fits = λ i. record j { green = other-other j.green i }
+
+pub undoes : (m : Traffic) (lps lp now : ℕ) (p : JunctionEvent) (j : Junction) (words : ℕ → ℕ) → AreCounts j
+    → traffic_reverse p (traffic_forward m lps lp p j words).state (traffic_forward m lps lp p j words).bits (traffic_forward m lps lp p j words).kept ≡ j
+undoes m lps lp now p j words fits =
+    ap (before_event p j.crossing) (entry_undone j.crossing (after_event p j) (event_counts p j fits)) ∙ event_undone p j fits
