@@ -24,10 +24,11 @@ is_same_road Southward Southward = true
 abbrev pub waiting : Junction → ℕ
 waiting j = (j.at_green + j.at_red) % 2 ^ 64
 
--- one car more, and one fewer
+-- a number of cars with one more
 abbrev pub one_more : ℕ → ℕ
 one_more n = (n + 1) % 2 ^ 64
 
+-- with one fewer
 abbrev pub one_fewer : ℕ → ℕ
 one_fewer n = (n + (2 ^ 64 - 1)) % 2 ^ 64
 

@@ -39,6 +39,7 @@ change_after lp delay = record { dest = lp; delay = delay; payload = Change }
 abbrev pub filled : Traffic → Junction
 filled m = record { green = Eastward; at_green = m.cars; at_red = m.cars; crossing = None; passed = 0 }
 
+-- at the start the first car at green enters, and the first change of the lights is drawn
 abbrev pub traffic_start : Traffic → ℕ → (ℕ → ℕ) → StartResult Junction JunctionEvent
 traffic_start m lp words = record {
   state = entered (filled m);
