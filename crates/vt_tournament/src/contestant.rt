@@ -17,9 +17,9 @@ impl Contestant {
     pub(crate) fn is_ahead(&self, other: &Contestant) -> bool
         ensures { result ≡ is_ahead self.now other.now }
     {
-        match (self.rank, other.rank) {
+        match (&self.rank, &other.rank) {
             (Some(own), Some(theirs)) => {
-                own.is_before(&theirs) || (!theirs.is_before(&own) && self.number < other.number)
+                own.is_before(theirs) || (!theirs.is_before(own) && self.number < other.number)
             }
             (Some(_), None) => true,
             (None, Some(_)) => false,
@@ -31,17 +31,17 @@ impl Contestant {
     pub(crate) fn is_same(&self, other: &Contestant) -> bool
         ensures { IsTrue result → self.now ≡ other.now }
     {
-        match (self.rank, other.rank) {
-            (Some(own), Some(theirs)) => self.number == other.number && own.is_same(&theirs),
+        match (&self.rank, &other.rank) {
+            (Some(own), Some(theirs)) => self.number == other.number && own.is_same(theirs),
             (None, None) => self.number == other.number,
             _ => false,
         }
     }
 
     /// The one of the two that is ahead.
-    pub(crate) fn winner(self, other: Contestant) -> Contestant
-        ensures { result ≡ winner_of self other }
+    pub(crate) fn winner(&self, other: &Contestant) -> Contestant
+        ensures { result ≡ winner_of self.now other.now }
     {
-        if other.is_ahead(&self) { other } else { self }
+        if other.is_ahead(self) { *other } else { *self }
     }
 }

@@ -95,7 +95,7 @@ fn decide_all(nodes: &mut Vec<Contestant>, count: usize)
     let mut at = count;
     while at > 1 {
         at -= 1;
-        nodes[at] = nodes[2 * at].winner(nodes[2 * at + 1]);
+        nodes[at] = nodes[2 * at].winner(&nodes[2 * at + 1]);
     }
 }
 
@@ -110,7 +110,7 @@ fn decide_above(nodes: &mut Vec<Contestant>, changed: usize, count: usize)
 {
     let mut at = changed / 2;
     while at > 0 {
-        let winner = nodes[2 * at].winner(nodes[2 * at + 1]);
+        let winner = nodes[2 * at].winner(&nodes[2 * at + 1]);
         // Where the winner stays, all above it stays.
         if winner.is_same(&nodes[at]) {
             return;
