@@ -110,12 +110,13 @@ fn decide_above(nodes: &mut Vec<Contestant>, changed: usize, count: usize)
 {
     let mut at = changed / 2;
     while at > 0 {
-        let winner = nodes[2 * at].winner(&nodes[2 * at + 1]);
+        let right_wins = nodes[2 * at + 1].is_ahead(&nodes[2 * at]);
+        let winner = if right_wins { 2 * at + 1 } else { 2 * at };
         // Where the winner stays, all above it stays.
-        if winner.is_same(&nodes[at]) {
+        if nodes[winner].is_same(&nodes[at]) {
             return;
         }
-        nodes[at] = winner;
+        nodes[at] = nodes[winner];
         at /= 2;
     }
 }
