@@ -33,7 +33,7 @@ pub trait Model {
     /// What each handler gives, as a function of what it is handed.
     ghost handlers: { Self → Handlers Self.State Self.Payload Self.Kept };
 
-    /// The states that a process can be in: in the laws below, numbers have no bounds of their own.
+    /// The states that a process can be in: in the laws below, numbers have no bounds of their own. No handler requires it.
     ghost IsState: { Self → Self.State → Type 0 };
 
     /// Makes the state of process `lp` at time 0 and sends its first events, which are received at time 1 or later. It makes
@@ -56,7 +56,8 @@ pub trait Model {
     /// The events of a process come in the order of their keys: by time, then by sending process, then by send number. A send
     /// that would be received at the end of the run or later isn't sent, and the handler isn't told.
     ///
-    /// `draws` and `out` are as their `new` gives them, `bits` are all clear, and `lp` is below `out.lps()`.
+    /// `draws` and `out` are as their `new` gives them, `bits` are all clear, and `lp` is below `out.lps()`. Nothing is
+    /// required of the state and the payload: it has to work at every value of their types.
     fn forward(
         &self,
         lp: u32,
@@ -80,7 +81,8 @@ pub trait Model {
 
     /// Undoes an event: from the state, the bits and what was kept, as its `forward` left them, and with the same `lp`, `now`
     /// and `payload`, it restores the state. It draws nothing, sends nothing and makes no records: the kernel takes those back
-    /// by itself.
+    /// by itself. Nothing is required here either: at other values it has to give what the definitions say, and only the law
+    /// `undoes` says that it restores the state.
     fn reverse(
         &self,
         lp: u32,
