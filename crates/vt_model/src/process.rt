@@ -1,9 +1,10 @@
 //! One logical process, and how it executes an event and undoes it: what the sequential simulator and a process with
 //! rollback have in common.
 
-ghost use Rattle.std.specs.Prelude.{◌≡◌, ◌+◌, ◌-◌, ◌%◌, ◌<◌, ◌≤◌, ◌^◌};
+ghost use Rattle.std.specs.Prelude.{◌≡◌, ◌+◌, ◌-◌, ◌%◌, ◌<◌, ◌≤◌, ◌^◌, []};
 ghost use Rattle.vt_key.specs.Times.{TimeBefore};
 ghost use Rattle.vt_stream.specs.Words.{moved};
+ghost use Rattle.vt_model.specs.Handler.{IsFresh};
 ghost use Rattle.vt_model.specs.Simulation.{simulation_of, IsFiring};
 ghost use Rattle.vt_model.specs.Process.{triple_at, IsProcessStream};
 
@@ -35,6 +36,17 @@ pub struct Executed<M: EventModel> {
     pub out: Out<M::Payload>,
 }
 
+/// What undoes an executed event, beside its send number before.
+#[derive(Drop)]
+pub struct Undo<M: EventModel> {
+    /// The flags that `forward` set.
+    pub bits: Bits,
+    /// What `forward` kept.
+    pub kept: M::Kept,
+    /// How many words it drew.
+    pub drawn: u32,
+}
+
 impl<M: EventModel> Process<M> {
     /// Executes an event for this process by the model's `forward`.
     ///
@@ -53,8 +65,38 @@ impl<M: EventModel> Process<M> {
         ensures state { M.IsState model.now self.old.state → M.IsState model.now self.new.state }
         ensures in_range { self.old.stream.place < 2 ^ 64 }
     {
-        let mut bits = Bits::new();
         let mut out = Out::new(config, event.dest, event.key.time, self.number);
+        let Undo { bits, kept, drawn } = self.execute_into(model, config, event, &mut out);
+        Executed {
+            bits,
+            kept,
+            drawn,
+            out,
+        }
+    }
+
+    /// Executes an event as [`Process::execute`] does, into an out that the caller has: one that [`Out::new`] gave for the
+    /// event's receiver and time and for the process's send number, and that nothing was put into since.
+    pub fn execute_into(
+        &mut self,
+        model: &M,
+        config: Config,
+        event: Sent<M::Payload>,
+        out: &mut Out<M::Payload>,
+    ) -> Undo<M>
+        requires known { event.dest < config.lps }
+        requires stream { IsProcessStream config.seed event.dest self.old.stream }
+        requires fresh { IsFresh out.old event.dest event.key.time }
+        requires whole { out.old ≡ record { lps = config.lps; end = config.end; lp = event.dest; time = event.key.time; first = self.old.number; number = self.old.number; sends = []; records = [] } }
+        ensures number { self.new.number ≡ out.new.number }
+        ensures fires { IsFiring ((simulation_of (M.handlers model.now) config).fire event.dest (triple_at self.old.state self.old.number self.old.stream) event) event.key self.new.state self.new.stream out.new }
+        ensures stream { self.new.stream ≡ moved self.old.stream result.drawn }
+        ensures few { result.drawn ≤ MAX_DRAWS }
+        ensures undoes { M.IsState model.now self.old.state → (M.handlers model.now).reverse event.dest event.key.time event.payload self.new.state result.bits result.kept ≡ self.old.state }
+        ensures state { M.IsState model.now self.old.state → M.IsState model.now self.new.state }
+        ensures in_range { self.old.stream.place < 2 ^ 64 }
+    {
+        let mut bits = Bits::new();
         let mut draws = Draws::new(&mut self.stream);
         let kept = model.forward(
             event.dest,
@@ -63,16 +105,11 @@ impl<M: EventModel> Process<M> {
             &mut self.state,
             &mut bits,
             &mut draws,
-            &mut out,
+            out,
         );
         let drawn = draws.drawn();
         self.number = out.number();
-        Executed {
-            bits,
-            kept,
-            drawn,
-            out,
-        }
+        Undo { bits, kept, drawn }
     }
 
     /// Undoes the last executed event, by what its execution left and the send number before it: the state goes back by

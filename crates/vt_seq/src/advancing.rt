@@ -1,6 +1,6 @@
 //! How a process starts, and how it executes the first of the pending events.
 
-ghost use Rattle.std.specs.Prelude.{◌≡◌, ℕ, ◌<◌, ◌≤◌, ◌+◌, ◌++◌, length, map, vec_len, IfOk, IfErr, IfSome};
+ghost use Rattle.std.specs.Prelude.{◌≡◌, ℕ, ◌<◌, ◌≤◌, ◌+◌, ◌++◌, length, drop, map, vec_len, IfOk, IfErr, IfSome};
 ghost use Rattle.std.specs.Vec.{vec_capacity};
 ghost use Rattle.vt_key.specs.Times.{TimeBefore};
 ghost use Rattle.vt_model.specs.declared.sending.Sent.{Sent};
@@ -14,7 +14,7 @@ use crate::pending::PendingEvents;
 use vt_key::{Fault, Letter, MAX_COUNT};
 use vt_list::List;
 use vt_model::stream::LpStream;
-use vt_model::{Config, Draws, Executed, Model as EventModel, Out, Process, Record, Sent};
+use vt_model::{Config, Draws, Model as EventModel, Out, Process, Record, Sent, Undo};
 
 /// Executes the first of the pending events at its receiver: its sends join those that are left, and its records the
 /// others. Refused, all is as it was.
@@ -31,6 +31,7 @@ pub(crate) fn advance<M: EventModel>(
     requires numbered { process.old.number ≤ MAX_COUNT }
     requires stream { IsProcessStream config.seed event.dest process.old.stream }
     requires processes { pending.old.processes ≡ config.lps }
+    requires some { 0 < length pending.old.events }
     requires earlier { (d : Sent _) → Among d pending.old.events → d.key.source ≡ event.dest → d.key.number < process.old.number }
     ensures done { IfOk result (λ done. HasExecuted ((simulation_of (M.handlers model.now) config).fire event.dest (triple_at process.old.state process.old.number process.old.stream) event) pending.old.events records.old.items process.new.state process.new.number process.new.stream pending.new.events records.new.items) }
     ensures stream { IsProcessStream config.seed event.dest process.new.stream }
@@ -42,22 +43,17 @@ pub(crate) fn advance<M: EventModel>(
     ensures refused { IfErr result (λ fault. IsRefusal ((simulation_of (M.handlers model.now) config).fire event.dest (triple_at process.old.state process.old.number process.old.stream) event).triple.number fault) }
 {
     let number = process.number;
-    let Executed {
-        bits,
-        kept,
-        drawn,
-        out,
-    } = process.execute(model, config, event);
+    let mut out = Out::new(config, event.dest, event.key.time, number);
+    let Undo { bits, kept, drawn } = process.execute_into(model, config, event, &mut out);
     if out.number() > MAX_COUNT {
         process.undo(model, event, bits, kept, drawn, number);
         return Err(Fault::Exhausted);
     }
-    let Some(letters) = make_room(pending, records, &out) else {
+    let Some(others) = make_room(pending, records, &out) else {
         process.undo(model, event, bits, kept, drawn, number);
         return Err(Fault::Memory);
     };
-    pending.remove_first();
-    pending.insert_all(letters);
+    pending.replace_first(out.sends(), others);
     keep_records(records, &out);
     Ok(())
 }
@@ -94,22 +90,29 @@ pub(crate) fn start_process<M: EventModel>(
     })
 }
 
-/// Makes room for what an event sent and recorded: letters for the sends, and places for the records. None where memory
-/// is refused.
+/// Makes room for what an event sent and recorded: letters for the sends after the first, whose letter is the event's own,
+/// and places for the records. None where memory is refused.
 fn make_room<P: Copy>(
     pending: &PendingEvents<P>,
     records: &mut Vec<Record>,
     out: &Out<P>,
 ) -> Option<List<Letter<P>>>
     ensures records { records.new.items ≡ records.old.items }
-    ensures record_room { IfSome result (λ letters. vec_len records.new + length out.now.records ≤ vec_capacity records.new) }
-    ensures events { IfSome result (λ letters. map event_of letters ≡ out.now.sends) }
-    ensures plain { IfSome result (λ letters. (l : _) → Among l letters → IsPlain l) }
+    ensures record_room { IfSome result (λ others. vec_len records.new + length out.now.records ≤ vec_capacity records.new) }
+    ensures events { IfSome result (λ others. map event_of others ≡ drop 1 out.now.sends) }
+    ensures plain { IfSome result (λ others. (l : _) → Among l others → IsPlain l) }
 {
     let Ok(()) = records.reserve(out.records().len()) else {
         return None;
     };
-    pending.letters(out.sends())
+    pending.letters(after_first(out.sends()))
+}
+
+/// The sends after the first.
+fn after_first<P: Copy>(sends: &[Sent<P>]) -> &[Sent<P>]
+    ensures { result.now ≡ drop 1 sends.now }
+{
+    if sends.is_empty() { sends } else { &sends[1..] }
 }
 
 /// Appends what an event recorded. There must be room.

@@ -43,7 +43,9 @@ impl<'m, M: EventModel> Engine<'m, M> {
         ensures refused { IfErr result (λ fault. fault ≡ Memory) }
     {
         let mut pending = PendingEvents::new(alloc, config.lps)?;
-        let mut processes = Vec::new(alloc);
+        let mut processes = Vec::with_capacity(alloc, config.lps as usize).map_err(
+            |_| Fault::Memory,
+        )?;
         let records = Vec::new(alloc);
         for p in 0..config.lps {
             let process = start_process(model, config, p, &mut pending)?;

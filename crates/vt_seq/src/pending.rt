@@ -1,6 +1,6 @@
 //! The events that are pending: a queue for each process, and a tournament over the queues' fronts.
 
-ghost use Rattle.std.specs.Prelude.{◌≡◌, ◌<◌, ◌≤◌, ◌^◌, [], length, drop, map, slice_get, IfOk, IfErr, IfSome};
+ghost use Rattle.std.specs.Prelude.{◌≡◌, ◌<◌, ◌≤◌, ◌^◌, [], length, drop, map, slice_get, IfOk, IfErr, IfSome, IfNone};
 ghost use Rattle.vt_key.specs.declared.fault.Fault.TheVariants.{Memory};
 ghost use Rattle.vt_model.specs.declared.sending.Sent.{Sent};
 ghost use Rattle.vt_model.specs.Histories.{Among};
@@ -52,7 +52,7 @@ impl<P: Copy> PendingEvents<P> {
         ensures none { IfOk result (λ events. events.events ≡ []) }
         ensures refused { IfErr result (λ fault. fault ≡ Memory) }
     {
-        let mut queues = Vec::new(alloc);
+        let mut queues = Vec::with_capacity(alloc, processes as usize).map_err(|_| Fault::Memory)?;
         for _ in 0..processes {
             queues.push(Pending::new(alloc)).map_err(|_| Fault::Memory)?;
         }
@@ -77,15 +77,39 @@ impl<P: Copy> PendingEvents<P> {
         Some(event_of(letter))
     }
 
-    /// Takes out the event of least key. Where there is none, nothing changes.
-    pub(crate) fn remove_first(&mut self)
+    /// Takes out the letter of the event of least key; None where no event is pending, which changes nothing.
+    pub(crate) fn take_first(&mut self) -> Option<Parcel<Letter<P>>>
+        ensures none { IfNone result (self.old.events ≡ []) }
         ensures processes { self.new.processes ≡ self.old.processes }
         ensures events { self.new.events ≡ drop 1 self.old.events }
     {
-        if let Some(p) = self.fronts.winner() {
-            self.queues[p as usize].take_least();
-            self.fronts.set(p, front_rank(&self.queues[p as usize]));
+        let Some(p) = self.fronts.winner() else {
+            return None;
+        };
+        let first = self.queues[p as usize].take_least();
+        self.fronts.set(p, front_rank(&self.queues[p as usize]));
+        first
+    }
+
+    /// Puts what the first event sent in its place. Its letter's block takes the first of the sends, and `others` bring
+    /// those after it; it takes no memory. An event must be pending.
+    pub(crate) fn replace_first(&mut self, sends: &[Sent<P>], others: List<Letter<P>>)
+        requires some { 0 < length self.old.events }
+        requires others { map event_of others ≡ drop 1 sends.now }
+        requires plain { (l : _) → Among l others → IsPlain l }
+        requires known { (e : Sent _) → Among e sends.now → e.dest < self.old.processes }
+        requires new { AreNew sends.now (drop 1 self.old.events) }
+        ensures processes { self.new.processes ≡ self.old.processes }
+        ensures events { self.new.events ≡ all_inserted sends.now (drop 1 self.old.events) }
+    {
+        let Some(mut letter) = self.take_first() else {
+            unreachable!()
+        };
+        if let Some(first) = sends.first() {
+            *letter.get_mut() = letter_of(*first);
+            self.insert(letter);
         }
+        self.insert_all(others);
     }
 
     /// Inserts the event that a letter brings, before the first of greater key. It takes no memory.

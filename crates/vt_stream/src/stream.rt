@@ -11,8 +11,8 @@ use rand_core::SeedableRng;
 use rand_core::utils::NextWord;
 use std::marker::Model;
 
-// The words of a window: as many as `rand_chacha` computes at once.
-const WINDOW: usize = 64;
+// The words of a window: half of those that `rand_chacha` computes at once, since every process has a window.
+const WINDOW: usize = 32;
 
 /// The stream of random words of one logical process. Contracts see its key, its process and the place of the next word.
 ///
@@ -36,7 +36,7 @@ impl Model for LpStream {
 
     ghost view = { λ s. record { key = seed_key s.seed; process = s.lp; place = s.place } };
 
-    ghost invariant = { λ s. (s.len ≤ 64) × AreWordsFrom (seed_key s.seed) s.lp s.first s.len s.words };
+    ghost invariant = { λ s. (s.len ≤ 32) × AreWordsFrom (seed_key s.seed) s.lp s.first s.len s.words };
 }
 
 impl LpStream {
@@ -107,8 +107,8 @@ impl LpStream {
 
 // Writes the words of a process from place `first` on.
 fn fill(seed: u64, lp: u32, first: u64, words: &mut [u32; WINDOW])
-    requires { first + 64 ≤ 2 ^ 64 }
-    ensures { (i : ℕ) → i < 64 → slice_index words.new i ≡ word (seed_key seed) lp (first + i) }
+    requires { first + 32 ≤ 2 ^ 64 }
+    ensures { (i : ℕ) → i < 32 → slice_index words.new i ≡ word (seed_key seed) lp (first + i) }
 {
     let mut bytes = [0; 32];
     bytes[..8].copy_from_slice(&seed.to_le_bytes());

@@ -4,8 +4,7 @@ use Rattle.std.proofs.lemmas.Bool.{cases_order, lt-ltb, ltb-true}
 use Rattle.vt_key.specs.declared.order.Rank.{Rank}
 use Rattle.vt_key.specs.Order.{RankBefore, rank_before}
 use Rattle.vt_key.proofs.OrderLemmas.{rank-irreflexive, rank-transitive, rank-total, rank_before-true, before-rank_before}
-use Rattle.vt_tournament.specs.declared.contestant.Contestant.{Contestant}
-use Rattle.vt_tournament.specs.Contest.{is_ahead_by, is_ahead, winner_of}
+use Rattle.vt_tournament.specs.Contest.{Contestant, is_ahead_by, is_ahead, winner_of}
 
 -- one contestant is ahead of another, as a fact
 abbrev pub Ahead : Option Rank → ℕ → Option Rank → ℕ → Type 0
@@ -155,3 +154,17 @@ not_behind-rank a b i j h = (
 -- who has a rank is ahead of who has none
 pub behind-none : (b : Rank) (i j : ℕ) → is_ahead_by (Some b) j None i ≡ false → ⊥
 behind-none b i j h = apart h
+
+-- it doesn't matter which of two is asked first
+pub winner-swapped : (a b : Contestant) → winner_of a b ≡ winner_of b a
+winner-swapped a b = elim (total a.rank a.number b.rank b.number) [
+  | inl l ↦
+      let ahead : is_ahead a b ≡ true = true-ahead a.rank a.number b.rank b.number l in
+      winner-first a b (not_behind-ahead a b ahead) ∙ sym (winner-second b a ahead)
+  | inr l ↦ elim l [
+    | inl same ↦ let e : a ≡ b = (λ i. record { rank = same.0 i; number = same.1 i }) in ap (λ (x : Contestant). winner_of a x) (sym e) ∙ ap (λ (x : Contestant). winner_of x a) e
+    | inr m ↦
+        let ahead : is_ahead b a ≡ true = true-ahead b.rank b.number a.rank a.number m in
+        winner-second a b ahead ∙ sym (winner-first b a (not_behind-ahead b a ahead))
+  ]
+]

@@ -1,2 +1,5 @@
 pub mod AheadLemmas
+pub mod NodeLemmas
+pub mod PathLemmas
 pub mod TreeLemmas
+pub mod ChangeLemmas

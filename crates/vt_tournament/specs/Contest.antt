@@ -1,8 +1,14 @@
 -- Contestants, who of two is ahead, and the tree of winners.
-use Rattle.std.specs.Prelude.{◌≡◌, ℕ, ◌+◌, ◌*◌, ◌^◌, ◌<◌, ◌≤◌, Bool, true, false, not, ◌||◌, ◌&&◌, nat_lt, if◌then◌else◌, List, length, Option, Some, None, slice_index_or}
+use Rattle.std.specs.Prelude.{◌≡◌, ℕ, zero, suc, ◌+◌, ◌-◌, ◌*◌, ◌/◌, ◌^◌, ◌<◌, ◌≤◌, Bool, true, false, not, ◌||◌, ◌&&◌, nat_lt, if◌then◌else◌, List, length, Option, Some, None, slice_index_or, slice_set}
 use Rattle.vt_key.specs.declared.order.Rank.{Rank}
 use Rattle.vt_key.specs.Order.{rank_before}
-use Rattle.vt_tournament.specs.declared.contestant.Contestant.{Contestant}
+use Rattle.vt_key.specs.Times.{Time}
+use Rattle.vt_tournament.specs.declared.node.Node.{Node}
+
+-- a contestant: its rank, if it takes part, and its number
+pub record Contestant : Type 0 where
+  pub rank : Option Rank
+  pub number : ℕ
 
 -- one contestant is ahead of another, by their ranks and numbers: with equal ranks by number, and without a rank last
 abbrev pub is_ahead_by : Option Rank → ℕ → Option Rank → ℕ → Bool
@@ -18,19 +24,76 @@ is_ahead a b = is_ahead_by a.rank a.number b.rank b.number
 abbrev pub winner_of : Contestant → Contestant → Contestant
 winner_of a b = if is_ahead b a then b else a
 
--- the contestant at a node of the tree
-abbrev pub node : List Contestant → ℕ → Contestant
-node nodes k = slice_index_or nodes k (record { rank = None; number = 0 })
+-- the contestant of a number, by the entries of all
+abbrev pub contestant : List (Option Rank) → ℕ → Contestant
+contestant ranks number = record { rank = slice_index_or ranks number None; number = number }
 
--- the node has the winner of the two below it
-abbrev pub IsDecided : List Contestant → ℕ → Type 0
-IsDecided nodes k = node nodes k ≡ winner_of (node nodes (2 * k)) (node nodes (2 * k + 1))
+-- the beginning of a rank; who takes no part has the last of all
+abbrev pub first_time : Option Rank → Time
+first_time (Some r) = r.key.time
+first_time None = 2 ^ 64 - 1
 
--- a tree of so many contestants: they stand in the last nodes, in the order of their numbers, and every other node from 1
--- on has the winner of the two below it
-pub record IsTree (count : ℕ) (nodes : List Contestant) : Type 0 where
-  pub some : 1 ≤ count
-  pub few : count ≤ 2 ^ 31
+abbrev pub first_source : Option Rank → ℕ
+first_source (Some r) = r.key.source
+first_source None = 2 ^ 32 - 1
+
+-- the node where a contestant won
+abbrev pub node_of : Contestant → Node
+node_of c = record { time = first_time c.rank; source = first_source c.rank; number = c.number }
+
+-- the node at a place
+abbrev pub node : List Node → ℕ → Node
+node nodes k = slice_index_or nodes k (record { time = 0; source = 0; number = 0 })
+
+-- the contestant that won at a place
+abbrev pub entrant : List (Option Rank) → List Node → ℕ → Contestant
+entrant ranks nodes k = contestant ranks (node nodes k).number
+
+-- a number halved so often, each time rounded down
+abbrev pub halved : ℕ → ℕ → ℕ
+halved zero m = m
+halved (suc j) m = halved j (m / 2)
+
+-- one place is another, or above it: the places below k are 2 k and 2 k + 1
+abbrev pub IsAbove : ℕ → ℕ → Type 0
+IsAbove k m = (j : ℕ) × (halved j m ≡ k)
+
+-- who won at a place stands at it or below it
+pub record IsPlaced (count : ℕ) (nodes : List Node) (k : ℕ) : Type 0 where
+  pub known : (node nodes k).number < count
+  pub above : IsAbove k (count + (node nodes k).number)
+
+-- the last places are those of the contestants, in the order of their numbers
+pub record AreLeaves (count : ℕ) (nodes : List Node) : Type 0 where
   pub full : length nodes ≡ 2 * count
   pub numbers : (i : ℕ) → i < count → (node nodes (count + i)).number ≡ i
-  pub decided : (k : ℕ) → 1 ≤ k → k < count → IsDecided nodes k
+
+-- a place has the winner of the two below it
+abbrev pub IsDecided : List (Option Rank) → List Node → ℕ → Type 0
+IsDecided ranks nodes k = entrant ranks nodes k ≡ winner_of (entrant ranks nodes (2 * k)) (entrant ranks nodes (2 * k + 1))
+
+-- a node says what the rank of its contestant begins with
+abbrev pub Fits : List (Option Rank) → List Node → ℕ → Type 0
+Fits ranks nodes k = node nodes k ≡ node_of (entrant ranks nodes k)
+
+-- the places from one on are decided
+pub record IsTreeFrom (from : ℕ) (ranks : List (Option Rank)) (nodes : List Node) : Type 0 where
+  pub leaves : AreLeaves (length ranks) nodes
+  pub placed : (k : ℕ) → from ≤ k → k < 2 * length ranks → IsPlaced (length ranks) nodes k
+  pub fits : (k : ℕ) → from ≤ k → k < 2 * length ranks → Fits ranks nodes k
+  pub decided : (k : ℕ) → from ≤ k → k < length ranks → IsDecided ranks nodes k
+
+-- a tree of contestants
+pub record IsTree (ranks : List (Option Rank)) (nodes : List Node) : Type 0 where
+  pub some : 1 ≤ length ranks
+  pub few : length ranks ≤ 2 ^ 31
+  pub tree : IsTreeFrom 1 ranks nodes
+
+-- the contestants stand in their places, and none above them is decided yet
+abbrev pub HasLeaves : List (Option Rank) → List Node → Type 0
+HasLeaves ranks nodes = IsTreeFrom (length ranks) ranks nodes
+
+-- a tree for some other entry of one contestant
+pub record WasTree (number : ℕ) (ranks : List (Option Rank)) (nodes : List Node) : Type 0 where
+  pub entry : Option Rank
+  pub tree : IsTreeFrom 1 (slice_set ranks number entry) nodes

@@ -4,7 +4,7 @@
 //! This is the winner tree of replacement selection (Knuth, The Art of Computer Programming, volume 3, section 5.4.1).
 #![tactic(auto)]
 
-mod contestant;
+mod node;
 mod tree;
 
 pub use tree::Tournament;

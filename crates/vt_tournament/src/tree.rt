@@ -1,12 +1,12 @@
 //! The tree of winners.
 
-ghost use Rattle.std.specs.Prelude.{◌≡◌, ℕ, ◌+◌, ◌*◌, ◌/◌, ◌<◌, ◌≤◌, ◌^◌, length, drop, replicate, slice_get, slice_set, Option, Some, None, IfOk, IfErr, IfSome, IfNone};
+ghost use Rattle.std.specs.Prelude.{◌≡◌, ℕ, ◌+◌, ◌*◌, ◌<◌, ◌≤◌, ◌^◌, length, replicate, slice_get, slice_set, Option, Some, None, IfOk, IfErr, IfSome, IfNone};
 ghost use Rattle.vt_key.specs.declared.fault.Fault.TheVariants.{Memory};
 ghost use Rattle.vt_key.specs.declared.order.Rank.{Rank};
-ghost use Rattle.vt_tournament.specs.Contest.{IsDecided};
+ghost use Rattle.vt_tournament.specs.Contest.{node, HasLeaves, IsTreeFrom, WasTree};
 ghost use Rattle.vt_tournament.specs.Least.{IsLeast};
 
-use crate::contestant::Contestant;
+use crate::node::Node;
 use std::alloc::Global;
 use std::marker::Model;
 use vt_key::{Fault, Rank};
@@ -15,20 +15,20 @@ use vt_key::{Fault, Rank};
 /// takes no part.
 #[derive(Drop)]
 pub struct Tournament {
-    count: usize,
-    nodes: Vec<Contestant>,
+    ranks: Vec<Option<Rank>>,
+    nodes: Vec<Node>,
 }
 
 impl Model for Tournament {
-    ghost use Rattle.std.specs.Prelude.{List, Option, map, drop};
+    ghost use Rattle.std.specs.Prelude.{List, Option};
     ghost use Rattle.vt_key.specs.declared.order.Rank.{Rank};
     ghost use Rattle.vt_tournament.specs.Contest.{IsTree};
 
     ghost Value = { List (Option Rank) };
 
-    ghost view = { λ t. map (λ c. c.rank) (drop t.count t.nodes.items) };
+    ghost view = { λ t. t.ranks.items };
 
-    ghost invariant = { λ t. IsTree t.count t.nodes.items };
+    ghost invariant = { λ t. IsTree t.ranks.items t.nodes.items };
 }
 
 impl Tournament {
@@ -41,25 +41,17 @@ impl Tournament {
         ensures nobody { IfOk result (λ t. t ≡ replicate count None) }
         ensures refused { IfErr result (λ fault. fault ≡ Memory) }
     {
-        let count = count as usize;
-        let mut nodes = Vec::new(alloc);
-        for at in 0..2 * count {
-            let number = if at < count { 0 } else { at - count };
-            let contestant = Contestant {
-                rank: None,
-                number: number as u32,
-            };
-            nodes.push(contestant).map_err(|_| Fault::Memory)?;
-        }
-        decide_all(&mut nodes, count);
-        Ok(Tournament { count, nodes })
+        let ranks = nobody(alloc, count)?;
+        let mut nodes = leaves(alloc, count)?;
+        decide_all(ranks.as_slice(), nodes.as_mut_slice());
+        Ok(Tournament { ranks, nodes })
     }
 
     /// How many contestants there are, with and without a rank.
     pub fn len(&self) -> usize
         ensures { result ≡ length self.now }
     {
-        self.count
+        self.ranks.len()
     }
 
     /// Enters contestant `number` with this rank, or takes it out. The others stay.
@@ -67,9 +59,8 @@ impl Tournament {
         requires { number < length self.old }
         ensures { self.new ≡ slice_set self.old number rank }
     {
-        let at = self.count + number as usize;
-        self.nodes[at] = Contestant { rank, number };
-        decide_above(&mut self.nodes, at, self.count);
+        self.ranks[number as usize] = rank;
+        decide_above(self.ranks.as_slice(), self.nodes.as_mut_slice(), number);
     }
 
     /// The contestant of least rank, and of those with equal ranks the one of least number; None where nobody takes part.
@@ -77,47 +68,76 @@ impl Tournament {
         ensures nobody { IfNone result ((i : ℕ) (rank : Rank) → slice_get self.now i ≡ Some (Some rank) → ⊥) }
         ensures least { IfSome result (IsLeast self.now) }
     {
-        let winner = self.nodes[1];
-        match winner.rank {
-            Some(_) => Some(winner.number),
+        let winner = self.nodes[1].number;
+        match &self.ranks[winner as usize] {
+            Some(_) => Some(winner),
             None => None,
         }
     }
 }
 
-/// Decides every node, from the last to the first.
-fn decide_all(nodes: &mut Vec<Contestant>, count: usize)
-    requires full { length nodes.old.items ≡ 2 * count }
-    ensures full { length nodes.new.items ≡ 2 * count }
-    ensures decided { (k : ℕ) → 1 ≤ k → k < count → IsDecided nodes.new.items k }
-    ensures contestants { drop count nodes.new.items ≡ drop count nodes.old.items }
+/// The entries of so many contestants of whom nobody takes part.
+fn nobody(alloc: Global, count: u32) -> Result<Vec<Option<Rank>>, Fault>
+    ensures nobody { IfOk result (λ ranks. ranks.items ≡ replicate count None) }
+    ensures refused { IfErr result (λ fault. fault ≡ Memory) }
 {
-    let mut at = count;
+    let mut ranks = Vec::with_capacity(alloc, count as usize).map_err(|_| Fault::Memory)?;
+    for _ in 0..count {
+        ranks.push(None).map_err(|_| Fault::Memory)?;
+    }
+    Ok(ranks)
+}
+
+/// The nodes of so many contestants of whom nobody takes part, with none above them decided.
+fn leaves(alloc: Global, count: u32) -> Result<Vec<Node>, Fault>
+    requires few { count ≤ 2 ^ 31 }
+    ensures leaves { IfOk result (λ nodes. HasLeaves (replicate count None) nodes.items) }
+    ensures refused { IfErr result (λ fault. fault ≡ Memory) }
+{
+    let count = count as usize;
+    let mut nodes = Vec::with_capacity(alloc, 2 * count).map_err(|_| Fault::Memory)?;
+    for at in 0..2 * count {
+        let number = if at < count { 0 } else { at - count };
+        nodes
+            .push(Node::new(number as u32, &None))
+            .map_err(|_| Fault::Memory)?;
+    }
+    Ok(nodes)
+}
+
+/// Decides every node, from the last to the first.
+fn decide_all(ranks: &[Option<Rank>], nodes: &mut [Node])
+    requires some { 1 ≤ length ranks.now }
+    requires few { length ranks.now ≤ 2 ^ 31 }
+    requires leaves { HasLeaves ranks.now nodes.old }
+    ensures decided { IsTreeFrom 1 ranks.now nodes.new }
+{
+    let mut at = ranks.len();
     while at > 1 {
         at -= 1;
-        nodes[at] = nodes[2 * at].winner(&nodes[2 * at + 1]);
+        nodes[at] = nodes[2 * at].winner(nodes[2 * at + 1], ranks);
     }
 }
 
-/// Decides the nodes above one that was changed, where all others are decided.
-fn decide_above(nodes: &mut Vec<Contestant>, changed: usize, count: usize)
-    requires full { length nodes.old.items ≡ 2 * count }
-    requires within { changed < 2 * count }
-    requires others { (k : ℕ) → 1 ≤ k → k < count → (k ≡ changed / 2 → ⊥) → IsDecided nodes.old.items k }
-    ensures full { length nodes.new.items ≡ 2 * count }
-    ensures decided { (k : ℕ) → 1 ≤ k → k < count → IsDecided nodes.new.items k }
-    ensures contestants { drop count nodes.new.items ≡ drop count nodes.old.items }
+/// Decides the nodes above a contestant again, whose entry alone was changed.
+fn decide_above(ranks: &[Option<Rank>], nodes: &mut [Node], number: u32)
+    requires known { number < length ranks.now }
+    requires few { length ranks.now ≤ 2 ^ 31 }
+    requires was { WasTree number ranks.now nodes.old }
+    ensures decided { IsTreeFrom 1 ranks.now nodes.new }
 {
-    let mut at = changed / 2;
-    while at > 0 {
-        let right_wins = nodes[2 * at + 1].is_ahead(&nodes[2 * at]);
-        let winner = if right_wins { 2 * at + 1 } else { 2 * at };
-        // Where the winner stays, all above it stays.
-        if nodes[winner].is_same(&nodes[at]) {
+    let mut at = ranks.len() + number as usize;
+    let mut winner = Node::new(number, &ranks[number as usize]);
+    nodes[at] = winner;
+    while at > 1 {
+        let rival = nodes[4 * (at / 2) + 1 - at];
+        winner = winner.winner(rival, ranks);
+        at /= 2;
+        // Where another one wins as before, all above stays.
+        if winner.number != number && winner.number == nodes[at].number {
             return;
         }
-        nodes[at] = nodes[winner];
-        at /= 2;
+        nodes[at] = winner;
     }
 }
 

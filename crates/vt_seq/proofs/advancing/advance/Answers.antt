@@ -9,9 +9,8 @@ use Rattle.vt_model.specs.Process.{triple_at}
 use Rattle.vt_model.specs.Simulation.{simulation_of}
 use Rattle.vt_model.proofs.LawLemmas.{lawful_of}
 use Rattle.vt_seq.specs.Queue.{all_inserted}
-use Rattle.vt_seq.specs.Letters.{event_of, AreNew}
+use Rattle.vt_seq.specs.Letters.{AreNew}
 use Rattle.vt_seq.proofs.InsertedLemmas.{are_new}
-use Rattle.vt_seq.proofs.PendingLemmas.{among-map}
 use Rattle.vt_seq.proofs.StepLemmas.{drop-among}
 use Rattle.vt_seq.proofs.Sizes.{up_le}
 use Rattle.vt_model.proofs.RowLemmas.{told_rows}
@@ -47,19 +46,39 @@ keep_records-requires g c =
     let al : max 8 (max 4 (max (align (lone g.row.M-Payload.mir)) 1)) ≡ 8 = omega (arith, high) in
     (simp al (omega (arith, at, size_small)), c.in-Some.ensures.record_room)
 
-pub insert_all-requires-clause-known : goal.insert_all-requires-clause-known
-insert_all-requires-clause-known g c l m =
+pub new-out-requires : goal.new-out-requires
+new-out-requires g c =
+    let bounds = g.met.M.Model.payload_align in
+    let low : 1 ≤ align (lone g.row.M-Payload.mir) = bounds.0 in
+    let high : align (lone g.row.M-Payload.mir) ≤ 8 = bounds.1 in
+    let size_small : size (lone g.row.M-Payload.mir) < 2 ^ 32 = g.met.M.Model.payload_size in
+    let at : up (align (lone g.row.M-Payload.mir)) 28 ≤ 28 + 16 = up_le (align (lone g.row.M-Payload.mir)) 28 28 low (omega (arith, high)) (omega arith) in
+    let al : max 8 (max 4 (max (align (lone g.row.M-Payload.mir)) 1)) ≡ 8 = omega (arith, high) in
+    (simp al (omega (arith, at, size_small)), (c.requires.known, (c.requires.early, c.requires.numbered)))
+
+pub sends-requires : goal.sends-requires
+sends-requires g c =
+    let bounds = g.met.M.Model.payload_align in
+    let low : 1 ≤ align (lone g.row.M-Payload.mir) = bounds.0 in
+    let high : align (lone g.row.M-Payload.mir) ≤ 8 = bounds.1 in
+    let size_small : size (lone g.row.M-Payload.mir) < 2 ^ 32 = g.met.M.Model.payload_size in
+    let at : up (align (lone g.row.M-Payload.mir)) 28 ≤ 28 + 16 = up_le (align (lone g.row.M-Payload.mir)) 28 28 low (omega (arith, high)) (omega arith) in
+    let al : max 8 (max 4 (max (align (lone g.row.M-Payload.mir)) 1)) ≡ 8 = omega (arith, high) in
+    simp al (omega (arith, at, size_small))
+
+pub replace_first-requires-clause-known : goal.replace_first-requires-clause-known
+replace_first-requires-clause-known g c e m =
     let model = c.args.model.now in
     let config = c.args.config in
     let event = c.args.event in
     let lawful = lawful_of (g.M.Model.handlers model) config (g.met.M.Model.start_within model) (g.met.M.Model.forward_within model) in
     let p = c.args.process.now in
-    let sends = c.in-Some.ensures.events ∙ c.execute-drawn.ensures.fires.sends in
-    subst (λ (n : ℕ). l.event.dest < n) (sym (c.remove_first.ensures.processes ∙ c.requires.processes))
-    (lawful.known event.dest (triple_at p.state p.number p.stream) event (event_of l) c.requires.known (subst (Among (event_of l)) sends (among-map l c.in-Some.letters m)))
+    let sends = c.sends.ensures ∙ c.execute_into-drawn.ensures.fires.sends in
+    subst (λ (n : ℕ). e.dest < n) (sym c.requires.processes)
+    (lawful.known event.dest (triple_at p.state p.number p.stream) event e c.requires.known (subst (Among e) sends m))
 
-pub insert_all-requires-clause-new : goal.insert_all-requires-clause-new
-insert_all-requires-clause-new g c =
+pub replace_first-requires-clause-new : goal.replace_first-requires-clause-new
+replace_first-requires-clause-new g c =
     let model = c.args.model.now in
     let config = c.args.config in
     let event = c.args.event in
@@ -69,12 +88,12 @@ insert_all-requires-clause-new g c =
     let t = triple_at p.state p.number p.stream in
     let fired = sim.fire event.dest t event in
     let events = c.args.pending.now.events in
-    let sends = c.in-Some.ensures.events ∙ c.execute-drawn.ensures.fires.sends in
+    let sends = c.sends.ensures ∙ c.execute_into-drawn.ensures.fires.sends in
     let new : AreNew fired.sends (drop 1 events) = are_new event.dest p.number fired.triple.number fired.sends (drop 1 events) (lawful.numbered event.dest t event c.requires.known) (λ d m source. c.requires.earlier d (drop-among d events m) source) in
-    subst (λ (es : List (Sent _)). AreNew es c.remove_first.new.self.events) (sym sends) (subst (AreNew fired.sends) (sym c.remove_first.ensures.events) new)
+    subst (λ (es : List (Sent _)). AreNew es (drop 1 events)) (sym sends) new
 
-pub execute-drawn-requires-after_bounds : goal.execute-drawn-requires-after_bounds
-execute-drawn-requires-after_bounds g c κs within =
+pub execute_into-drawn-requires-after_bounds : goal.execute_into-drawn-requires-after_bounds
+execute_into-drawn-requires-after_bounds g c κs within =
     let bounds = g.met.M.Model.payload_align in
     let low : 1 ≤ align (lone g.row.M-Payload.mir) = bounds.0 in
     let high : align (lone g.row.M-Payload.mir) ≤ 8 = bounds.1 in
@@ -87,14 +106,14 @@ execute-drawn-requires-after_bounds g c κs within =
     let kept_small : size (lone g.row.M-Kept.mir) < 2 ^ 32 = g.met.M.Model.kept_size in
     let kept_at : up (align (lone g.row.M-Kept.mir)) 4 ≤ 4 + 16 = up_le (align (lone g.row.M-Kept.mir)) 4 4 kept_low (omega (arith, kept_high)) (omega arith) in
     let kept_al : max 4 (max (align (lone g.row.M-Kept.mir)) 8) ≡ 8 = omega (arith, kept_high) in
-    (simp (al, kept_al) (omega (arith, at, size_small, kept_at, kept_small)), (c.requires.known, (c.requires.early, (c.requires.numbered, c.requires.stream))))
+    (simp (al, kept_al) (omega (arith, at, size_small, kept_at, kept_small)), (c.requires.known, (c.requires.stream, (c.new-out.ensures.fresh, c.new-out.ensures.whole))))
 
 pub returns-clause-done : goal.returns-clause-done
 returns-clause-done g c =
-    let f = c.execute-drawn.ensures.fires in
-    let sends = c.in-Some.ensures.events ∙ f.sends in
+    let f = c.execute_into-drawn.ensures.fires in
+    let sends = c.sends.ensures ∙ f.sends in
     record {
-      triple = (λ j. record { state = c.execute-drawn.new.self.state; number = c.execute-drawn.ensures.number j; place = c.execute-drawn.new.self.stream.place }) ∙ f.triple;
-      pending = c.insert_all.ensures.events ∙ (λ j. all_inserted (sends j) (c.remove_first.ensures.events j));
-      records = c.keep_records.ensures ∙ (λ j. c.make_room.ensures.records j ++ c.execute-drawn.result.out.records) ∙ ap (λ (xs : List Record). c.args.records.now.items ++ xs) (sym (told_rows c.args.event.key c.execute-drawn.result.out.records) ∙ ap (map (λ (r : Row). r.rec)) f.rows);
+      triple = (λ j. record { state = c.execute_into-drawn.new.self.state; number = c.execute_into-drawn.ensures.number j; place = c.execute_into-drawn.new.self.stream.place }) ∙ f.triple;
+      pending = c.replace_first.ensures.events ∙ (λ j. all_inserted (sends j) (drop 1 c.args.pending.now.events));
+      records = c.keep_records.ensures ∙ (λ j. c.make_room.ensures.records j ++ c.execute_into-drawn.new.out.records) ∙ ap (λ (xs : List Record). c.args.records.now.items ++ xs) (sym (told_rows c.args.event.key c.execute_into-drawn.new.out.records) ∙ ap (map (λ (r : Row). r.rec)) f.rows);
     }

@@ -1,13 +1,12 @@
-use Rattle.std.proofs.Common.{◌≡◌, ℕ, ◌*◌, ◌<◌, ◌≤◌, length, drop}
-use Rattle.vt_tournament.specs.Contest.{IsDecided}
+use Rattle.std.proofs.Common.{◌≡◌}
+use Rattle.vt_tournament.specs.Contest.{node}
+use Rattle.vt_tournament.proofs.ChangeLemmas.{IsChanged}
 use Rattle.vt_tournament.proofs.tree.decide_above.Given as goal
 
 abbrev pub invariant-loop-at : goal.invariant-loop-at
 invariant-loop-at l = record {
-  full : length l.nodes.items ≡ 2 * l.count;
-  within : l.at < l.count;
-  others : (k : ℕ) → 1 ≤ k → k < l.count → (k ≡ l.at → ⊥) → IsDecided l.nodes.items k;
-  contestants : drop l.count l.nodes.items ≡ drop l.count l.initial.nodes.items;
+  there : l.winner ≡ node l.nodes l.at;
+  changed : IsChanged l.ranks l.number l.at l.nodes;
 }
 
 abbrev pub decreases-loop-at : goal.decreases-loop-at

@@ -16,9 +16,10 @@ loop-p-init g c =
     let config = c.args.config in
     let sim = simulation_of (g.M.Model.handlers m) config in
     let lawful = lawful_of (g.M.Model.handlers m) config (g.met.M.Model.start_within m) (g.met.M.Model.forward_within m) in
+    let empty : c.in_ok-processes.processes.items ≡ [] = search rules in
     record {
       queues = c.in_ok-pending.ensures.processes;
-      started = none_started sim lawful c.in_ok-pending.pending.events c.new-processes.result.items c.in_ok-pending.ensures.none c.new-processes.ensures.items;
+      started = none_started sim lawful c.in_ok-pending.pending.events c.in_ok-processes.processes.items c.in_ok-pending.ensures.none empty;
       numbered = λ r d l. absurd (omega (arith, l));
       streams = λ r d l. absurd (omega (arith, l));
     }

@@ -10,10 +10,10 @@ returns-clause-value c =
     let key = seed_key a.seed in
     elim c.if-at-self.branch [
       | then-at-self w ↦
-          let here : (a.place - a.place % 64 + a.place % 64) % 2 ^ 64 ≡ (a.place + 0) % 2 ^ 64 = omega arith in
+          let here : (a.place - a.place % 32 + a.place % 32) % 2 ^ 64 ≡ (a.place + 0) % 2 ^ 64 = omega arith in
           (λ j. slice_index (w.self-inside-is j).words (w.at-is j))
-          ∙ w.fill.ensures (a.place % 64) (omega arith)
-          ∙ word_same key a.lp (a.place - a.place % 64 + a.place % 64) (a.place + 0) here
+          ∙ w.fill.ensures (a.place % 32) (omega arith)
+          ∙ word_same key a.lp (a.place - a.place % 32 + a.place % 32) (a.place + 0) here
           ∙ ap (λ (s : Stream). word_of s 0) c.self.view_is
       | else-at-self w ↦
           let at = (a.place + (2 ^ 64 - a.first)) % 2 ^ 64 in

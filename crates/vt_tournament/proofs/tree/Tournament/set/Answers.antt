@@ -1,14 +1,17 @@
-use Rattle.std.proofs.Common.{◌∙◌, List, Option, map, drop, slice_set, ap}
-use Rattle.std.proofs.lemmas.List.{drop-set-add, map-set}
+use Rattle.std.proofs.Common.{◌≡◌, List, Option, None, slice_set, slice_index_or, sym, subst, ◌∙◌}
+use Rattle.std.proofs.lemmas.List.{set-set, set-get_or}
 use Rattle.vt_key.specs.declared.order.Rank.{Rank}
-use Rattle.vt_tournament.specs.declared.contestant.Contestant.{Contestant}
+use Rattle.vt_tournament.specs.declared.node.Node.{Node}
+use Rattle.vt_tournament.specs.Contest.{IsTreeFrom, WasTree}
 use Rattle.vt_tournament.proofs.tree.Tournament.set.Goals as goal
 
-pub returns : goal.returns
-returns c =
-    let t = c.self.inside in
-    let x : Contestant = record { rank = c.args.rank; number = c.args.number } in
-    let rank : Contestant → Option Rank = λ y. y.rank in
-    ap (map rank) (c.decide_above.ensures.contestants ∙ drop-set-add t.count t.nodes.items c.args.number x)
-    ∙ map-set rank (drop t.count t.nodes.items) c.args.number x
-    ∙ ap (λ (v : List (Option Rank)). slice_set v c.args.number c.args.rank) c.self.view_is
+pub decide_above-requires-clause-was : goal.decide_above-requires-clause-was
+decide_above-requires-clause-was c =
+    let ranks = c.self.inside.ranks.items in
+    let nodes = c.self.inside.nodes.items in
+    let number = c.args.number in
+    let ago : Option Rank = slice_index_or ranks number None in
+    let back : slice_set (slice_set ranks number c.args.rank) number ago ≡ ranks = set-set ranks number c.args.rank ago ∙ set-get_or ranks number None in
+    let was : WasTree number (slice_set ranks number c.args.rank) nodes = record { entry = ago; tree = subst (λ (rs : List (Option Rank)). IsTreeFrom 1 rs nodes) (sym back) c.self.invariant.tree } in
+    subst (λ (ns : List Node). WasTree number c.as_slice.result.now ns) (sym c.as_mut_slice.ensures.value)
+    (subst (λ (rs : List (Option Rank)). WasTree number rs nodes) (sym c.as_slice.ensures.value) was)

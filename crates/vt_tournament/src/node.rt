@@ -1,0 +1,88 @@
+//! A node of the tree, and who of two is ahead.
+
+ghost use Rattle.std.specs.Prelude.{◌≡◌, ◌<◌, length};
+ghost use Rattle.vt_tournament.specs.Contest.{is_ahead, winner_of, contestant, node_of};
+
+use vt_key::{Rank, Time};
+
+/// No time is later: where who takes no part stands.
+const LATEST: Time = Time::MAX;
+
+/// A node: who won there, and the beginning of its rank, which mostly decides between two. It is small, since deciding a
+/// tournament reads and writes many.
+#[derive(Clone, Copy)]
+pub(crate) struct Node {
+    pub(crate) time: Time,
+    pub(crate) source: u32,
+    pub(crate) number: u32,
+}
+
+impl Node {
+    /// The node of a contestant.
+    pub(crate) fn new(number: u32, rank: &Option<Rank>) -> Node
+        ensures { result ≡ node_of (record { rank = rank.now; number = number }) }
+    {
+        match rank {
+            Some(rank) => Node {
+                time: rank.key.time,
+                source: rank.key.source,
+                number,
+            },
+            None => Node {
+                time: LATEST,
+                source: u32::MAX,
+                number,
+            },
+        }
+    }
+
+    /// Whether this one is ahead of the other: by rank, and with equal ranks by number. Who takes no part comes last.
+    pub(crate) fn is_ahead(&self, other: &Node, ranks: &[Option<Rank>]) -> bool
+        requires known { self.now.number < length ranks.now }
+        requires other_known { other.now.number < length ranks.now }
+        requires fits { self.now ≡ node_of (contestant ranks.now self.now.number) }
+        requires other_fits { other.now ≡ node_of (contestant ranks.now other.now.number) }
+        ensures { result ≡ is_ahead (contestant ranks.now self.now.number) (contestant ranks.now other.now.number) }
+    {
+        if self.time != other.time {
+            self.time < other.time
+        } else if self.source != other.source {
+            self.source < other.source
+        } else {
+            is_ahead(ranks, self.number, other.number)
+        }
+    }
+
+    /// The one of the two that is ahead.
+    pub(crate) fn winner(self, other: Node, ranks: &[Option<Rank>]) -> Node
+        requires known { self.number < length ranks.now }
+        requires other_known { other.number < length ranks.now }
+        requires fits { self ≡ node_of (contestant ranks.now self.number) }
+        requires other_fits { other ≡ node_of (contestant ranks.now other.number) }
+        ensures { result ≡ node_of (winner_of (contestant ranks.now self.number) (contestant ranks.now other.number)) }
+    {
+        if other.is_ahead(&self, ranks) {
+            other
+        } else {
+            self
+        }
+    }
+}
+
+/// Whether the first contestant is ahead of the second, by their whole ranks.
+#[cold]
+#[inline(never)]
+fn is_ahead(ranks: &[Option<Rank>], number: u32, other: u32) -> bool
+    requires known { number < length ranks.now }
+    requires other_known { other < length ranks.now }
+    ensures { result ≡ is_ahead (contestant ranks.now number) (contestant ranks.now other) }
+{
+    match (&ranks[number as usize], &ranks[other as usize]) {
+        (Some(own), Some(theirs)) => {
+            own.is_before(theirs) || (!theirs.is_before(own) && number < other)
+        }
+        (Some(_), None) => true,
+        (None, Some(_)) => false,
+        (None, None) => number < other,
+    }
+}
