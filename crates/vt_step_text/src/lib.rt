@@ -1,0 +1,12 @@
+//! The text of a replay: the step text that it reads, and the output that it writes.
+#![tactic(auto)]
+
+mod input;
+mod limits;
+mod lines;
+mod reading;
+mod words;
+
+pub use input::read_input;
+pub use limits::MAX_INPUT;
+pub use reading::{NumberedStep, read_steps};
