@@ -4,9 +4,11 @@
 mod input;
 mod limits;
 mod lines;
+mod printing;
 mod reading;
 mod words;
 
 pub use input::read_input;
 pub use limits::MAX_INPUT;
+pub use printing::{REPLY_LEN, print_reply, print_state, put_reply, put_state};
 pub use reading::{NumberedStep, read_steps};
