@@ -12,3 +12,6 @@ pub use input::read_input;
 pub use limits::MAX_INPUT;
 pub use printing::{REPLY_LEN, print_reply, print_state, put_reply, put_state};
 pub use reading::{NumberedStep, read_steps};
+
+#[cfg(test)]
+mod tests;
