@@ -122,7 +122,10 @@ fn counts_lines_that_are_passed_over(rt: HostRuntime) -> Result<(), Fail> {
         },
     ];
     assert!(rt; steps.as_slice() == expected.as_slice());
-    assert_eq!(rt; bad_line_of(rt.alloc(), b"\n#\n\nhome 1\nhome\n\n"), Some(5));
+    assert_eq!(rt;
+        bad_line_of(rt.alloc(), b"\n#\n\nhome 1\nhome\n\n"),
+        Some(5)
+    );
     Ok(())
 }
 
@@ -142,7 +145,10 @@ fn refuses_lines_that_say_no_step(rt: HostRuntime) {
     for line in BAD_LINES.split('|') {
         let mut text = Vec::new(rt.alloc());
         let made = writeln!(text, "{line}").is_ok();
-        assert!(rt; made && bad_line_of(rt.alloc(), text.as_slice()) == Some(1), "{line}");
+        assert!(rt;
+            made && bad_line_of(rt.alloc(), text.as_slice()) == Some(1),
+            "{line}"
+        );
     }
 }
 
@@ -150,7 +156,8 @@ fn refuses_lines_that_say_no_step(rt: HostRuntime) {
 fn numbers_may_be_as_large_as_they_fit(rt: HostRuntime) -> Result<(), Fail> {
     let alloc = rt.alloc();
     let largest = u64::MAX;
-    let text = b"accept 0 18446744073709551615\ncancel 65535 63 18446744073709551615\nexecute 00000000000000065535\n";
+    let text =
+        b"accept 0 18446744073709551615\ncancel 65535 63 18446744073709551615\nexecute 00000000000000065535\n";
     let steps = read_steps(alloc, text, 65_536, 64)?;
     let expected = [
         Step::Accept(0, largest),
@@ -163,7 +170,12 @@ fn numbers_may_be_as_large_as_they_fit(rt: HostRuntime) -> Result<(), Fail> {
         ),
         Step::Execute(65_535),
     ];
-    assert!(rt; steps.iter().map(|step| step.step).eq(expected.iter().copied()));
+    assert!(rt;
+        steps
+            .iter()
+            .map(|step| step.step)
+            .eq(expected.iter().copied())
+    );
     let beyond = read_steps(alloc, b"execute 65536\n", 65_536, 64).err();
     assert_eq!(rt; beyond, Some(Fault::BadStep(1)));
     Ok(())

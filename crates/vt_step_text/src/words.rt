@@ -62,9 +62,13 @@ fn step_with_two(name: &[u8], a: &[u8], b: &[u8], workers: u32) -> Option<Step>
     ensures { result ≡ step_with_two workers name.now a.now b.now }
 {
     if name == b"send".as_slice() {
-        Some(Step::Send(number_below(a, workers)?, number_below(b, workers)?))
+        let from = number_below(a, workers)?;
+        let to = number_below(b, workers)?;
+        Some(Step::Send(from, to))
     } else if name == b"accept".as_slice() {
-        Some(Step::Accept(number_below(a, workers)?, read_number(b)?))
+        let worker = number_below(a, workers)?;
+        let place = read_number(b)?;
+        Some(Step::Accept(worker, place))
     } else {
         None
     }

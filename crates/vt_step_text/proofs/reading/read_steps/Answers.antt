@@ -1,4 +1,4 @@
-use Rattle.std.proofs.Common.{true, [], ◌∷◌, ◌++◌, ◌≡◌, ◌∙◌, sym, ap, length, arith, rules, ◌<◌, false}
+use Rattle.std.proofs.Common.{true, [], ◌∷◌, ◌++◌, ◌≡◌, ◌∙◌, sym, length, arith, rules, ◌<◌, false}
 use Rattle.vt_step_text.specs.StepText.{is_passed_over, numbered}
 use Rattle.vt_step_text.proofs.StepTextLemmas.{passed, read, bad, ended, unended}
 use Rattle.vt_step_text.proofs.reading.read_steps.Goals as goal
@@ -18,13 +18,13 @@ lines-preserved c =
     let first = c.in-Some in record {
       counted = omega (arith, first.ensures.shorter);
       said = elim c.if-not-is_passed_over.branch [
-        then-not-is_passed_over+in-Some-step_of_line+in_ok-map_err w ↦
-        let says : is_passed_over first.first.now ≡ false = search rules in
-        let pushed : c.if-not-is_passed_over.steps.items ≡ l.steps.items ++ numbered l.line w.in-Some-step_of_line.step ∷ [] = search rules in
-        rw pushed (read c.args.lps c.args.workers l.steps.items l.line l.rest.now first.first.now first.after.now w.in-Some-step_of_line.step first.ensures.parts says w.in-Some-step_of_line.ensures ∙ l.invariant.said)
+        | then-not-is_passed_over+in-Some-step_of_line+in_ok-map_err w ↦
+            let says : is_passed_over first.first.now ≡ false = search rules in
+            let pushed : c.if-not-is_passed_over.steps.items ≡ l.steps.items ++ numbered l.line w.in-Some-step_of_line.step ∷ [] = search rules in
+            rw pushed (read c.args.lps c.args.workers l.steps.items l.line l.rest.now first.first.now first.after.now w.in-Some-step_of_line.step first.ensures.parts says w.in-Some-step_of_line.ensures ∙ l.invariant.said)
         | else-not-is_passed_over w ↦
-        let says : is_passed_over first.first.now ≡ true = search rules in
-        rw w.steps-is (passed c.args.lps c.args.workers l.steps.items l.line l.rest.now first.first.now first.after.now first.ensures.parts says ∙ l.invariant.said)
+            let says : is_passed_over first.first.now ≡ true = search rules in
+            rw w.steps-is (passed c.args.lps c.args.workers l.steps.items l.line l.rest.now first.first.now first.after.now first.ensures.parts says ∙ l.invariant.said)
       ];
     }
 
