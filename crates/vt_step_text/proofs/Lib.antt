@@ -1,0 +1,4 @@
+pub mod CutLemmas
+pub mod WordLemmas
+pub mod StepTextLemmas
+pub mod PrintLemmas

@@ -1,0 +1,18 @@
+use Rattle.std.proofs.lemmas.Result.{on_ok_weaker, on_err_weaker}
+use Rattle.vt_text.specs.Records.{records_text}
+use Rattle.vt_step_text.specs.Replies.{shown_text}
+use Rattle.vt_step_text.proofs.PrintLemmas.{both_put, second_stops}
+use Rattle.std.proofs.Common.{length}
+use Rattle.vt_step_text.proofs.printing.put_state.Goals as goal
+
+pub returns-clause-ok : goal.returns-clause-ok
+returns-clause-ok g c =
+    let a = c.args in
+    let shown = shown_text a.announced a.floor a.least (length a.records.now) in
+    on_ok_weaker c.put_records.result (λ h. both_put _ _ _ c.make_room.new.text _ a.text.now shown (records_text a.records.now) c.in_ok-make_room.ensures.ok (rw c.push_shown.ensures.text at h)) c.put_records.ensures.ok
+
+pub returns-clause-err : goal.returns-clause-err
+returns-clause-err g c =
+    let a = c.args in
+    let shown = shown_text a.announced a.floor a.least (length a.records.now) in
+    on_err_weaker c.put_records.result (λ h. second_stops _ _ _ c.make_room.new.text a.text.now shown (records_text a.records.now) c.in_ok-make_room.ensures.ok (rw c.push_shown.ensures.text at h)) c.put_records.ensures.err

@@ -1,0 +1,3 @@
+pub mod Words
+pub mod StepText
+pub mod Replies

@@ -1,0 +1,39 @@
+//! The input of a replay.
+
+ghost use Rattle.std.specs.Prelude.{◌≡◌, ◌≤◌, ◌⊎◌, IfOk, OnOk, IfErr, IfSome, Some, codes, vec_len};
+ghost use Rattle.std.specs.Io.KnownBytes.{IsAtEnd};
+ghost use Rattle.vt_key.specs.Faults.{option_named};
+
+use crate::MAX_INPUT;
+use std::alloc::Global;
+use std::io::Read;
+use vt_key::Fault;
+
+/// How many bytes are asked for at a time.
+const PIECE_LEN: usize = 8_192;
+
+/// All the bytes that a reader has left, up to [`MAX_INPUT`]. Beside them it takes a buffer of a fixed size.
+///
+/// [`Fault::BadOption`] with `input`: a read failed, an interrupted one too, or there are more bytes.
+/// [`Fault::Memory`]: memory was refused.
+pub fn read_input<R: Read>(alloc: Global, reader: &mut R) -> Result<Vec<u8>, Fault>
+    ensures ok { IfOk result (λ input. IfSome (R.remaining reader.old) (λ bytes. input.items ≡ bytes)) }
+    ensures whole { OnOk result (IsAtEnd (R.remaining reader.new)) }
+    ensures within { IfOk result (λ input. vec_len input ≤ MAX_INPUT) }
+    ensures err { IfErr result (λ fault. (fault ≡ Fault.Memory) ⊎ (option_named fault ≡ Some (codes "input"))) }
+{
+    let mut input = Vec::new(alloc);
+    let mut piece = [0u8; PIECE_LEN];
+    'reads: while input.len() <= MAX_INPUT {
+        let count = reader
+            .read(&mut piece)
+            .map_err(|_| Fault::BadOption("input"))?;
+        if count == 0 {
+            return Ok(input);
+        }
+        input
+            .extend_from_slice(&piece[..count])
+            .map_err(|_| Fault::Memory)?;
+    }
+    Err(Fault::BadOption("input"))
+}

@@ -1,0 +1,211 @@
+//! The output of a replay.
+
+ghost use Rattle.std.specs.Prelude.{◌≡◌, ◌≤◌, ◌+◌, ◌*◌, ◌++◌, length, OnOk, OnErr, IfErr};
+ghost use Rattle.std.specs.Io.KnownBytes.{Appends};
+ghost use Rattle.vt_text.specs.Writing.{AppendsAllButHeld, AppendsBeginning};
+ghost use Rattle.vt_text.specs.declared.buffer.TheConstants.{TEXT_ROOM};
+ghost use Rattle.vt_text.specs.Records.{records_text};
+ghost use Rattle.vt_step_text.specs.Replies.{time_text, answer_text, reply_text, time_line, shown_text, state_text};
+
+use std::io::Write;
+use vt_key::{Fault, Time};
+use vt_model::Record;
+use vt_steps::Reply;
+use vt_text::{NUMBER_LEN, RECORD_LEN, TextBuffer};
+
+/// The most bytes of a time.
+const TIME_LEN: usize = NUMBER_LEN;
+
+/// The most bytes of a word before a number, with the space between them.
+const WORD_LEN: usize = 10;
+
+/// The most bytes of an answer: a word and a time, or a number.
+const ANSWER_LEN: usize = WORD_LEN + TIME_LEN;
+
+/// The most bytes of a reply's line: the number of the step's line, a space, the answer and a newline.
+pub const REPLY_LEN: usize = NUMBER_LEN + ANSWER_LEN + 2;
+
+/// The most bytes of the four lines that say what the world shows.
+const SHOWN_LEN: usize = 4 * (WORD_LEN + TIME_LEN + 1);
+
+/// Adds a time.
+fn push_time(text: &mut TextBuffer, time: Time)
+    requires room { length text.old + TIME_LEN ≤ TEXT_ROOM }
+    ensures text { text.new ≡ text.old ++ time_text time }
+    ensures len { length text.new ≤ length text.old + TIME_LEN }
+{
+    text.push_number(time);
+}
+
+/// Adds what a step was answered.
+fn push_answer(text: &mut TextBuffer, answer: &Result<Reply, Fault>)
+    requires room { length text.old + ANSWER_LEN ≤ TEXT_ROOM }
+    ensures text { text.new ≡ text.old ++ answer_text answer.now }
+    ensures len { length text.new ≤ length text.old + ANSWER_LEN }
+{
+    match answer {
+        Ok(Reply::Done) => text.push_bytes(b"ok"),
+        Ok(Reply::Waiting) => text.push_bytes(b"waiting"),
+        Ok(Reply::Again) => text.push_bytes(b"again"),
+        Ok(Reply::Announced(time)) => {
+            text.push_bytes(b"announced ");
+            push_time(text, *time);
+        }
+        Err(fault) => {
+            text.push_bytes(b"refused ");
+            text.push_number(u64::from(fault.number()));
+        }
+    }
+}
+
+/// Adds the line of a reply.
+fn push_reply(text: &mut TextBuffer, line: u64, answer: &Result<Reply, Fault>)
+    requires room { length text.old + REPLY_LEN ≤ TEXT_ROOM }
+    ensures text { text.new ≡ text.old ++ reply_text line answer.now }
+    ensures len { length text.new ≤ length text.old + REPLY_LEN }
+{
+    text.push_number(line);
+    text.push_bytes(b" ");
+    push_answer(text, answer);
+    text.push_bytes(b"\n");
+}
+
+/// Adds the line of a word and a time.
+fn push_time_line(text: &mut TextBuffer, word: &[u8], time: Time)
+    requires short { length word.now ≤ WORD_LEN }
+    requires room { length text.old + WORD_LEN + TIME_LEN + 1 ≤ TEXT_ROOM }
+    ensures text { text.new ≡ text.old ++ time_line word.now time }
+    ensures len { length text.new ≤ length text.old + WORD_LEN + TIME_LEN + 1 }
+{
+    text.push_bytes(word);
+    push_time(text, time);
+    text.push_bytes(b"\n");
+}
+
+/// Adds the four lines that say what the world shows.
+#[tactic(auto, unfolding(crate::specs::Replies::shown_text))]
+fn push_shown(text: &mut TextBuffer, announced: Time, floor: Time, least: Time, records: usize)
+    requires room { length text.old + SHOWN_LEN ≤ TEXT_ROOM }
+    ensures text { text.new ≡ text.old ++ shown_text announced floor least records }
+    ensures len { length text.new ≤ length text.old + SHOWN_LEN }
+{
+    push_time_line(text, b"announced ", announced);
+    push_time_line(text, b"floor ", floor);
+    push_time_line(text, b"least ", least);
+    text.push_bytes(b"records ");
+    text.push_number(records as u64);
+    text.push_bytes(b"\n");
+}
+
+/// Makes room for so many bytes: where there is none, what is gathered is written.
+fn make_room<W: Write>(text: &mut TextBuffer, writer: &mut W, count: usize) -> Result<(), Fault>
+    requires { count ≤ TEXT_ROOM }
+    ensures room { OnOk result (length text.new + count ≤ TEXT_ROOM) }
+    ensures ok { OnOk result (AppendsAllButHeld (W.contents writer.old) (W.contents writer.new) text.new text.old) }
+    ensures err { OnErr result (AppendsBeginning (W.contents writer.old) (W.contents writer.new) text.old) }
+    ensures fault { IfErr result (λ fault. fault ≡ Fault.Output) }
+{
+    if text.has_room(count) {
+        Ok(())
+    } else {
+        text.flush(writer)
+    }
+}
+
+/// Adds the line of a reply to what is gathered, which is written first where there is no room for the line.
+///
+/// [`Fault::Output`] where the writer failed: then a beginning of what was gathered was written.
+pub fn put_reply<W: Write>(
+    text: &mut TextBuffer,
+    writer: &mut W,
+    line: u64,
+    answer: &Result<Reply, Fault>,
+) -> Result<(), Fault>
+    ensures ok { OnOk result (AppendsAllButHeld (W.contents writer.old) (W.contents writer.new) text.new (text.old ++ reply_text line answer.now)) }
+    ensures err { OnErr result (AppendsBeginning (W.contents writer.old) (W.contents writer.new) (text.old ++ reply_text line answer.now)) }
+    ensures fault { IfErr result (λ fault. fault ≡ Fault.Output) }
+{
+    make_room(text, writer, REPLY_LEN)?;
+    push_reply(text, line, answer);
+    Ok(())
+}
+
+/// Adds the lines of records to what is gathered, which is written as often as there is no room for a line.
+fn put_records<W: Write>(
+    text: &mut TextBuffer,
+    writer: &mut W,
+    records: &[Record],
+) -> Result<(), Fault>
+    ensures ok { OnOk result (AppendsAllButHeld (W.contents writer.old) (W.contents writer.new) text.new (text.old ++ records_text records.now)) }
+    ensures err { OnErr result (AppendsBeginning (W.contents writer.old) (W.contents writer.new) (text.old ++ records_text records.now)) }
+    ensures fault { IfErr result (λ fault. fault ≡ Fault.Output) }
+{
+    for row in records {
+        make_room(text, writer, RECORD_LEN)?;
+        text.push_record(row);
+    }
+    Ok(())
+}
+
+/// Adds what the world shows at the end of a replay to what is gathered, which is written as often as there is no room: the
+/// announced time, the floor of the book, the least time, how many records the book shows, and a line for each of them.
+///
+/// [`Fault::Output`] where the writer failed: then a beginning of what was gathered and of these lines was written.
+pub fn put_state<W: Write>(
+    text: &mut TextBuffer,
+    writer: &mut W,
+    announced: Time,
+    floor: Time,
+    least: Time,
+    records: &[Record],
+) -> Result<(), Fault>
+    ensures ok { OnOk result (AppendsAllButHeld (W.contents writer.old) (W.contents writer.new) text.new
+        (text.old ++ state_text announced floor least records.now)) }
+    ensures err { OnErr result (AppendsBeginning (W.contents writer.old) (W.contents writer.new)
+        (text.old ++ state_text announced floor least records.now)) }
+    ensures fault { IfErr result (λ fault. fault ≡ Fault.Output) }
+{
+    make_room(text, writer, SHOWN_LEN)?;
+    push_shown(text, announced, floor, least, records.len());
+    put_records(text, writer, records)
+}
+
+/// Writes the line of a reply: the number of the step's line, a space, and `ok`, `waiting`, `again`, `announced T` or
+/// `refused N`. Many replies go out in fewer writes by [`put_reply`].
+///
+/// [`Fault::Output`] where the writer failed or took nothing: then a beginning of the line was written, and the last of it
+/// was not.
+pub fn print_reply<W: Write>(
+    writer: &mut W,
+    line: u64,
+    answer: &Result<Reply, Fault>,
+) -> Result<(), Fault>
+    ensures ok { OnOk result (Appends (W.contents writer.old) (W.contents writer.new) (reply_text line answer.now)) }
+    ensures err { OnErr result (AppendsBeginning (W.contents writer.old) (W.contents writer.new) (reply_text line answer.now)) }
+    ensures fault { IfErr result (λ fault. fault ≡ Fault.Output) }
+{
+    let mut text = TextBuffer::new();
+    push_reply(&mut text, line, answer);
+    text.flush(writer)
+}
+
+/// Writes what the world shows at the end of a replay: the lines `announced T`, `floor T`, `least T` and `records N`, and a
+/// line for each of the records.
+///
+/// [`Fault::Output`] where the writer failed or took nothing: then a beginning of the text was written, and the last of it
+/// was not.
+pub fn print_state<W: Write>(
+    writer: &mut W,
+    announced: Time,
+    floor: Time,
+    least: Time,
+    records: &[Record],
+) -> Result<(), Fault>
+    ensures ok { OnOk result (Appends (W.contents writer.old) (W.contents writer.new) (state_text announced floor least records.now)) }
+    ensures err { OnErr result (AppendsBeginning (W.contents writer.old) (W.contents writer.new) (state_text announced floor least records.now)) }
+    ensures fault { IfErr result (λ fault. fault ≡ Fault.Output) }
+{
+    let mut text = TextBuffer::new();
+    put_state(&mut text, writer, announced, floor, least, records)?;
+    text.flush(writer)
+}

@@ -1,0 +1,60 @@
+//! Step texts.
+
+ghost use Rattle.std.specs.Prelude.{◌≡◌, ℕ, IfOk, IfErr, Ok};
+ghost use Rattle.vt_step_text.specs.StepText.{is_passed_over, steps_of, IsRefusedAs};
+
+use crate::lines::cut_once;
+use crate::words::step_of_line;
+use std::alloc::Global;
+use vt_key::Fault;
+use vt_steps::Step;
+
+/// A step with the number of its line, counted from 1.
+#[derive(Debug, Clone, Copy, PartialEq, Eq)]
+pub struct NumberedStep {
+    /// The number of the line that says the step.
+    pub line: u64,
+    /// The step.
+    pub step: Step,
+}
+
+/// Whether a line is passed over: an empty one, or one that begins with `#`.
+fn is_passed_over(line: &[u8]) -> bool
+    ensures { result ≡ is_passed_over line.now }
+{
+    match line.first() {
+        Some(byte) => *byte == b'#',
+        None => true,
+    }
+}
+
+/// The steps of a step text, of a run with so many logical processes and workers.
+pub fn read_steps(
+    alloc: Global,
+    text: &[u8],
+    lps: u32,
+    workers: u32,
+) -> Result<Vec<NumberedStep>, Fault>
+    ensures ok { IfOk result (λ steps. steps_of lps workers text.now ≡ Ok steps.items) }
+    ensures err { IfErr result (IsRefusedAs (steps_of lps workers text.now)) }
+{
+    let mut steps = Vec::new(alloc);
+    let mut line = 1u64;
+    let mut rest = text;
+    'lines: while let Some((first, after)) = cut_once(rest, b'\n') {
+        if !is_passed_over(first) {
+            let Some(step) = step_of_line(first, lps, workers) else {
+                return Err(Fault::BadStep(line));
+            };
+            let numbered = NumberedStep { line, step };
+            steps.push(numbered).map_err(|_| Fault::Memory)?;
+        }
+        line += 1;
+        rest = after;
+    }
+    if rest.is_empty() {
+        Ok(steps)
+    } else {
+        Err(Fault::BadStep(line))
+    }
+}
