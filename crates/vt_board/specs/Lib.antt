@@ -1,0 +1,3 @@
+pub mod BoardOfRun
+pub mod Calls
+pub mod Kept
