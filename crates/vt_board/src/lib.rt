@@ -7,8 +7,10 @@
 #![tactic(auto)]
 
 mod board;
+mod passes;
 #[cfg(test)]
 mod tests;
 mod worker_set;
 
 pub use board::{Board, Report};
+pub use passes::passes_close_by_their_sums;
