@@ -1,19 +1,18 @@
 -- A whole pass, report by report.
-use Rattle.std.proofs.Common.{◌≡◌, ◌⊎◌, inl, inr, ℕ, zero, suc, ◌+◌, ◌<◌, ◌≤◌, min, Bool, true, false, cond, nat_eq, if◌then◌else◌, ◌&&◌, List, [], ◌∷◌, ◌++◌, length, replicate, Option, Some, None, slice_get, slice_set, refl, sym, subst, ap, ◌∙◌, arith}
-use Rattle.std.specs.List.{count_by, sum_by}
+use Rattle.std.proofs.Common.{◌≡◌, inl, inr, ℕ, zero, suc, ◌+◌, ◌<◌, Bool, true, false, cond, nat_eq, if◌then◌else◌, ◌&&◌, List, [], ◌∷◌, ◌++◌, length, replicate, Option, Some, None, slice_get, slice_set, refl, sym, subst, ap, ◌∙◌, arith}
+use Rattle.std.specs.List.{sum_by}
 use Rattle.std.proofs.lemmas.Bool.{eq-eqb}
 use Rattle.std.proofs.lemmas.Bool.Decides.{eqb_tells}
 use Rattle.std.proofs.lemmas.List.{length-set}
 use Rattle.std.proofs.lemmas.List.Sums.{sum_by-append, sum_by-cons}
 use Rattle.vt_key.specs.Times.{Time, TimeAtMost, time_at_most, earlier}
-use Rattle.vt_steps.specs.declared.step.Reply.{Reply}
 use Rattle.vt_steps.specs.declared.step.Reply.TheVariants.{Waiting, Again, Announced}
 use Rattle.vt_steps.specs.World.{Board}
-use Rattle.vt_steps.specs.BoardSteps.{all_set, is_clear, may_report, with_report, after_pass, board_after_report, report_reply}
-use Rattle.vt_steps.proofs.Flags.{clear-is, set-at}
+use Rattle.vt_steps.specs.BoardSteps.{all_set, is_clear, with_report, after_pass, board_after_report, report_reply}
+use Rattle.vt_steps.proofs.Flags.{set-at}
 use Rattle.vt_steps.proofs.Places.{get-put_same, get-put_other, get-within}
 use Rattle.vt_board.specs.BoardOfRun.{with_new_pass}
-use Rattle.vt_board.specs.Passes.{WorkerReport, is_taken, with_one_more, reply_to, board_after, board_after_all, AreAwaited, IsPass, least_reported, times_reported, all_sent, all_got, IsClosedBySums, ArePassesClosedBySums}
+use Rattle.vt_board.specs.Passes.{WorkerReport, with_one_more, reply_to, board_after, board_after_all, AreAwaited, least_reported, times_reported, all_sent, all_got, ArePassesClosedBySums}
 
 -- ---- one report
 
@@ -168,12 +167,11 @@ announces : (end : Time) (board : Board) → all_set board.has_reported ≡ true
     (report_reply board ≡ Announced board.least) × (board_after_report end board ≡ record board { announced = board.least; is_open = false })
 unfolding report_reply board_after_report after_pass
 announces end board full same =
-    let equal : nat_eq board.sent board.got ≡ true = eq-eqb board.sent board.got same in
-    (
+    let equal : nat_eq board.sent board.got ≡ true = eq-eqb board.sent board.got same in (
       ap (λ (all : Bool). if all then (if nat_eq board.sent board.got then Announced board.least else Again) else Waiting) full
-      ∙ ap (λ (sums : Bool). if sums then Announced board.least else Again) equal,
+          ∙ ap (λ (sums : Bool). if sums then Announced board.least else Again) equal,
       ap (λ (all : Bool). if all then after_pass end board else board) full
-      ∙ ap (λ (sums : Bool). if sums then record board { announced = board.least; is_open = false } else with_new_pass end board) equal,
+          ∙ ap (λ (sums : Bool). if sums then record board { announced = board.least; is_open = false } else with_new_pass end board) equal,
     )
 
 -- and others begin a new pass
@@ -181,12 +179,11 @@ begins_again : (end : Time) (board : Board) → all_set board.has_reported ≡ t
     (report_reply board ≡ Again) × (board_after_report end board ≡ with_new_pass end board)
 unfolding report_reply board_after_report after_pass
 begins_again end board full apart =
-    let unequal : nat_eq board.sent board.got ≡ false = elim (eqb_tells board.sent board.got) [ inl e ↦ absurd (apart e.1) | inr e ↦ e.0 ] in
-    (
+    let unequal : nat_eq board.sent board.got ≡ false = elim (eqb_tells board.sent board.got) [ inl e ↦ absurd (apart e.1) | inr e ↦ e.0 ] in (
       ap (λ (all : Bool). if all then (if nat_eq board.sent board.got then Announced board.least else Again) else Waiting) full
-      ∙ ap (λ (sums : Bool). if sums then Announced board.least else Again) unequal,
+          ∙ ap (λ (sums : Bool). if sums then Announced board.least else Again) unequal,
       ap (λ (all : Bool). if all then after_pass end board else board) full
-      ∙ ap (λ (sums : Bool). if sums then record board { announced = board.least; is_open = false } else with_new_pass end board) unequal,
+          ∙ ap (λ (sums : Bool). if sums then record board { announced = board.least; is_open = false } else with_new_pass end board) unequal,
     )
 
 -- boards that differ in a pass alone have the same new pass

@@ -31,10 +31,11 @@ with_new_pass end board =
 abbrev pub most_summed : List Bool → ℕ
 most_summed has_reported = count_by (λ flag. flag) has_reported * (2 ^ 64 - 1)
 
--- what holds of every board: its times are at most the end; there is a flag for each worker; its sums are of as many counts
--- as have been reported in the pass, so that they never pass 2^128; and no more rounds were opened than may be
+-- what holds of every board: the announced time is at most the least so far, and that at most the end; there is a flag for
+-- each worker, twice; the sums are of as many counts as have been reported in the pass, so that they stay below 2^128; and
+-- there are no more rounds than can be counted
 pub record IsBoardOfRun (run : BoardOfRun) : Type 0 where
-  pub announced : TimeAtMost run.board.announced run.end
+  pub announced : TimeAtMost run.board.announced run.board.least
   pub least : TimeAtMost run.board.least run.end
   pub few_workers : length run.board.has_cut ≤ MAX_WORKERS
   pub same_workers : length run.board.has_reported ≡ length run.board.has_cut

@@ -1,6 +1,6 @@
 //! The board of a run.
 
-ghost use Rattle.std.specs.Prelude.{◌≡◌, ◌+◌, ◌<◌, ◌≤◌, IsTrue, true, false, Some, Ok, Err, IfOk, IfErr, OnOk, OnErr, is_ok, length, slice_get};
+ghost use Rattle.std.specs.Prelude.{◌≡◌, ◌<◌, ◌≤◌, true, false, Ok, Err, IfOk, IfErr, OnOk, OnErr, is_ok, slice_get};
 ghost use Rattle.vt_key.specs.Times.{TimeAtMost};
 ghost use Rattle.vt_key.specs.declared.fault.Fault.TheVariants.{NotLawful};
 ghost use Rattle.vt_key.specs.declared.limits.TheConstants.{MAX_COUNT, MAX_END, MAX_WORKERS};
@@ -88,8 +88,8 @@ impl Board {
         }
     }
 
-    /// The announced time, in ticks: nothing that is still to be executed or that travels between workers is before it. It
-    /// is at most the end of the run.
+    /// The announced time, in ticks, at most the end of the run. Where the workers of a run report what they have and have
+    /// sent, nothing that is still to be executed or that travels between them is before it.
     pub fn announced(&self) -> Time
         ensures announced { result ≡ self.now.board.announced }
         ensures in_time { TimeAtMost result self.now.end }
@@ -127,7 +127,7 @@ impl Board {
         Ok(self.announced)
     }
 
-    #[tactic(auto, unfolding(vt_steps::specs::BoardSteps::board_after_report, vt_steps::specs::BoardSteps::report_reply))]
+    #[tactic(auto, unfolding(vt_steps::specs::BoardSteps::with_report, vt_steps::specs::BoardSteps::board_after_report, vt_steps::specs::BoardSteps::report_reply))]
     /// Worker `w` reports: how much mail of the old colour it has ever sent and got, and the least time, in ticks, of all that
     /// it has and of all that it sent since its cut. The last report closes the pass.
     ///
@@ -137,6 +137,7 @@ impl Board {
         ensures lawful { is_ok result ≡ takes_report self.old.end w least self.old.board }
         ensures reported { OnOk result (self.new ≡ with_board self.old (board_after_report self.old.end (with_report w sent got least self.old.board))) }
         ensures answer { IfOk result (λ report. reply_of report ≡ report_reply (with_report w sent got least self.old.board)) }
+        ensures never_falls { TimeAtMost self.old.board.announced self.new.board.announced }
         ensures refused { IfErr result (λ fault. fault ≡ NotLawful) }
         ensures kept { OnErr result (self.new ≡ self.old) }
     {
@@ -188,6 +189,7 @@ impl Board {
     /// Adds the report of a worker that hasn't reported in this pass.
     fn add(&mut self, w: u32, sent: u64, got: u64, least: Time)
         requires first { is_clear (slice_get self.old.board.has_reported w) ≡ true }
+        requires not_past { TimeAtMost self.old.board.announced least }
         requires in_time { TimeAtMost least self.old.end }
         ensures { self.new ≡ with_board self.old (with_report w sent got least self.old.board) }
     {
@@ -203,6 +205,7 @@ impl Board {
         requires all { all_set self.old.board.has_reported ≡ true }
         ensures closed { self.new ≡ with_board self.old (after_pass self.old.end self.old.board) }
         ensures answer { reply_of result ≡ report_reply self.old.board }
+        ensures never_falls { TimeAtMost self.old.board.announced self.new.board.announced }
     {
         if self.sent != self.got {
             self.begin_pass();

@@ -11,9 +11,11 @@ invariant_of-self c =
     let held = c.self.invariant in
     let clear : is_clear (slice_get c.self.inside.has_reported c.args.w) ≡ true =
     subst (λ (run : BoardOfRun). is_clear (slice_get run.board.has_reported c.args.w) ≡ true) (sym c.self.view_is) c.requires.first in
+    let not_past : TimeAtMost c.self.inside.announced c.args.least =
+    subst (λ (run : BoardOfRun). TimeAtMost run.board.announced c.args.least) (sym c.self.view_is) c.requires.not_past in
     let is : c.insert.new.self ≡ slice_set c.self.inside.has_reported c.args.w true = c.insert.ensures in
     record {
-      announced = held.announced;
+      announced = omega (arith, held.announced, not_past, c.min-self-inside.ensures);
       least = omega (arith, held.least, c.min-self-inside.ensures);
       few_workers = held.few_workers;
       same_workers = ap length is ∙ length-set c.self.inside.has_reported c.args.w true ∙ held.same_workers;

@@ -1,4 +1,4 @@
-use Rattle.std.proofs.Common.{◌≡◌, ◌≤◌, Bool, false, List, length, take, replicate, subst, ap, ◌∙◌, sym, arith}
+use Rattle.std.proofs.Common.{◌≤◌, Bool, false, List, length, take, replicate, ap, ◌∙◌, sym, arith}
 use Rattle.vt_board.proofs.Flags.{clear-first}
 use Rattle.vt_board.proofs.worker_set.WorkerSet.clear.Goals as goal
 
