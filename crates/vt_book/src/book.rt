@@ -30,7 +30,7 @@ pub struct Book {
     history: History,
     shown: Vec<Record>,
     waiting: Waiting,
-    is_closed: bool,
+    closed: bool,
 }
 
 impl Model for Book {
@@ -42,7 +42,7 @@ impl Model for Book {
 
     ghost view = { λ b. record {
       end = b.end;
-      book = record { rows = b.history.rows; floors = b.floors; is_closed = b.is_closed };
+      book = record { rows = b.history.rows; floors = b.floors; is_closed = b.closed };
     } };
 
     ghost invariant = { λ b. IsKept (least_floor b.end b.floors) b.history.rows b.shown.items b.waiting.rows };
@@ -62,7 +62,7 @@ impl Book {
             history: History::new(),
             shown: Vec::new(alloc),
             waiting: Waiting::new(alloc),
-            is_closed: false,
+            closed: false,
         }
     }
 
@@ -79,7 +79,7 @@ impl Book {
             (λ fault. fault ≡ Memory) }
         ensures unchanged { IfErr result (λ _. self.new ≡ self.old) }
     {
-        if self.is_closed {
+        if self.is_closed() {
             return Err(Fault::Closed);
         }
         if !self.may_hand(worker, rows, floor) {
@@ -134,13 +134,13 @@ impl Book {
             ((result ≡ Ok tt) × (self.new ≡ record self.old { book = closed_book self.old.book }))
             (λ fault. (result ≡ Err fault) × (self.new ≡ self.old)) }
     {
-        if self.is_closed {
+        if self.is_closed() {
             return Err(Fault::Closed);
         }
         if self.floor() != self.end {
             return Err(Fault::NotLawful);
         }
-        self.is_closed = true;
+        self.closed = true;
         Ok(())
     }
 
@@ -148,7 +148,7 @@ impl Book {
     pub fn is_closed(&self) -> bool
         ensures { result ≡ self.now.book.is_closed }
     {
-        self.is_closed
+        self.closed
     }
 }
 

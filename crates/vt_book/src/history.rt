@@ -18,6 +18,9 @@ impl Model for History {
     ghost also_owns = { λ _. ftrue };
 }
 
+// It owns nothing, so it may go to another thread.
+unsafe impl Send for History {}
+
 impl History {
     /// Nothing was handed in.
     pub(crate) fn new() -> History

@@ -11,3 +11,6 @@ mod history;
 mod waiting;
 
 pub use book::Book;
+
+#[cfg(test)]
+mod tests;

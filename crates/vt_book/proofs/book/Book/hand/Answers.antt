@@ -43,6 +43,6 @@ unfolding with_rows
 returns-clause-taken c none =
     let rows : c.with-self-inside.result.rows ≡ c.self.inside.history.rows ++ c.args.rows.now = c.with-self-inside.ensures in
     let floors : c.set.new.self ≡ slice_set c.self.inside.floors c.args.worker c.args.floor = c.set.ensures in
-    let made : RunBook = record { end = c.self.inside.end; book = record { rows = c.with-self-inside.result.rows; floors = c.set.new.self; is_closed = c.self.inside.is_closed } } in
+    let made : RunBook = record { end = c.self.inside.end; book = record { rows = c.with-self-inside.result.rows; floors = c.set.new.self; is_closed = c.self.inside.closed } } in
     subst (λ (b : RunBook). made ≡ record b { book = with_rows c.args.worker c.args.rows.now c.args.floor b.book }) c.self.view_is
-    (λ i. record { end = c.self.inside.end; book = record { rows = rows i; floors = floors i; is_closed = c.self.inside.is_closed } })
+    (λ i. record { end = c.self.inside.end; book = record { rows = rows i; floors = floors i; is_closed = c.self.inside.closed } })
