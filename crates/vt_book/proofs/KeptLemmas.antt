@@ -1,8 +1,8 @@
--- What a book keeps: how rows go in, how the first are taken out, and what is kept after a hand-in.
-use Rattle.std.proofs.Common.{◌≡◌, ℕ, ◌+◌, ◌<◌, ◌≤◌, true, false, ◌&&◌, cond, List, [], ◌∷◌, ◌++◌, length, take, get_or, refl, sym, ◌∙◌, ap, arith, Option, Some, None, slice_get}
+-- What a book keeps: how the first rows are taken out, and what is kept after a hand-in.
+use Rattle.std.proofs.Common.{◌≡◌, ℕ, ◌+◌, ◌≤◌, true, false, ◌&&◌, cond, List, [], ◌∷◌, ◌++◌, refl, sym, ◌∙◌, ap, arith, Option, Some, None, slice_get}
 use Rattle.std.specs.List.{sum_by, list_all}
 use Rattle.std.proofs.lemmas.Bool.Decides.{nat_tests}
-use Rattle.std.proofs.lemmas.List.{map-append, take_more}
+use Rattle.std.proofs.lemmas.List.{map-append}
 use Rattle.std.proofs.lemmas.List.Elements.{filter-append}
 use Rattle.std.proofs.lemmas.List.Sums.{sum_by-cons, sum_by-append}
 use Rattle.vt_key.specs.Times.{Time, time_before, time_at_most}
@@ -17,17 +17,6 @@ use Rattle.vt_book.specs.Books.{is_within, are_within}
 use Rattle.vt_book.specs.Kept.{AreSameRows, AreNotBefore, IsKept}
 use Rattle.vt_book.proofs.FloorLemmas.{not-after}
 use Rattle.vt_book.proofs.RowLists.{same-before, same-none, one-order, first-in-order, every-not-before, every-before, late-rows, order-apart, before-twice}
-
--- ---- rows that go in
-
--- a row that goes in after others of a list
-pub one-more : (start rows now more : List Row) (i : ℕ) (d : Row) → i < length rows → AreSameRows now (start ++ take i rows) → AreSameRows more (get_or rows i d ∷ now) → AreSameRows more (start ++ take (i + 1) rows)
-one-more start rows now more i d within h k f =
-    let a = k f in let b = sum_by-cons f (get_or rows i d) now in let c = h f in let e = sum_by-append f start (take i rows) in
-    let g = sum_by-append f start (take (i + 1) rows) in
-    let m : sum_by f (take (i + 1) rows) ≡ sum_by f (take i rows) + f (get_or rows i d) =
-    ap (sum_by f) (take_more rows i d within) ∙ sum_by-append f (take i rows) (get_or rows i d ∷ []) ∙ (let n = sum_by-cons f (get_or rows i d) [] in omega arith) in
-    omega arith
 
 -- ---- rows that are taken out
 

@@ -4,3 +4,4 @@ pub mod WaitingLemmas
 pub mod RowLists
 pub mod FloorLemmas
 pub mod KeptLemmas
+pub mod RunLemmas

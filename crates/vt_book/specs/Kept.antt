@@ -1,4 +1,4 @@
--- How a book keeps its rows: the records of those that it shows in order, and the others so that the first comes out first.
+-- How a book keeps its rows: the records of those that it shows, in the order of the rows, and the other rows.
 use Rattle.std.specs.Prelude.{◌≡◌, ℕ, false, List, [], ◌∷◌, ◌++◌}
 use Rattle.std.specs.List.{sum_by}
 use Rattle.vt_key.specs.Times.{Time}
@@ -15,11 +15,6 @@ AreSameRows xs ys = (f : Row → ℕ) → sum_by f xs ≡ sum_by f ys
 abbrev pub AreNotBefore : Row → List Row → Type 0
 AreNotBefore row [] = Unit {0}
 AreNotBefore row (r ∷ rs) = (row_before r row ≡ false) × AreNotBefore row rs
-
--- rows that wait, in no particular order, and how many can
-pub record WaitingRows : Type 0 where
-  pub rows : List Row
-  pub capacity : ℕ
 
 -- what is kept of the rows that were handed in: the records of those before the floor, in the order of the rows, and the
 -- other rows

@@ -1,6 +1,6 @@
 //! The book.
 
-ghost use Rattle.std.specs.Prelude.{◌≡◌, ◌≤◌, ◌+◌, ◌++◌, length, None, Ok, Err, IfOk, IfErr, IfSome, OnOk, MatchOption, MatchResult, vec_len, vec_capacity};
+ghost use Rattle.std.specs.Prelude.{◌≡◌, ◌≤◌, ◌<◌, ◌+◌, ◌^◌, ◌++◌, length, None, Ok, Err, IfOk, IfErr, IfSome, OnOk, MatchOption, MatchResult, vec_len, vec_capacity};
 ghost use Rattle.std.specs.List.{list_all};
 ghost use Rattle.vt_key.specs.declared.fault.Fault.TheVariants.{Memory};
 ghost use Rattle.vt_key.specs.declared.limits.TheConstants.{MAX_WORKERS};
@@ -45,7 +45,7 @@ impl Model for Book {
       book = record { rows = b.history.rows; floors = b.floors; is_closed = b.closed };
     } };
 
-    ghost invariant = { λ b. IsKept (least_floor b.end b.floors) b.history.rows b.shown.items b.waiting.rows };
+    ghost invariant = { λ b. IsKept (least_floor b.end b.floors) b.history.rows b.shown.items b.waiting };
 }
 
 impl Book {
@@ -85,8 +85,8 @@ impl Book {
         if !self.may_hand(worker, rows, floor) {
             return Err(Fault::NotLawful);
         }
-        make_room(&mut self.waiting, &mut self.shown, rows.len())?;
-        self.waiting.insert_all(rows);
+        make_room(&mut self.shown, &self.waiting, rows.len())?;
+        self.waiting.insert(rows)?;
         self.history = self.history.with(rows);
         self.floors.set(worker, floor);
         show_before(
@@ -160,27 +160,24 @@ fn are_within(rows: &[Row], from: Time, to: Time) -> bool
         .all(|row| from <= row.key.time && row.key.time < to)
 }
 
-/// Makes room for so many more rows that wait, and for the records of all that then wait.
+/// Makes room for the records of all rows that wait and of so many more.
 ///
 /// [`Fault::Memory`]: memory was refused.
-fn make_room(waiting: &mut Waiting, shown: &mut Vec<Record>, more: usize) -> Result<(), Fault>
-    ensures waiting { waiting.new.rows ≡ waiting.old.rows }
+fn make_room(shown: &mut Vec<Record>, waiting: &Waiting, more: usize) -> Result<(), Fault>
     ensures shown { shown.new.items ≡ shown.old.items }
-    ensures room { OnOk result (length waiting.new.rows + more ≤ waiting.new.capacity) }
-    ensures all { OnOk result (vec_len shown.new + (length waiting.new.rows + more) ≤ vec_capacity shown.new) }
+    ensures few { OnOk result (length waiting.now + more < 2 ^ 64) }
+    ensures room { OnOk result (vec_len shown.new + (length waiting.now + more) ≤ vec_capacity shown.new) }
     ensures refused { IfErr result (λ fault. fault ≡ Memory) }
 {
-    waiting.reserve(more)?;
-    shown
-        .reserve(waiting.len() + more)
-        .map_err(|_| Fault::Memory)
+    let all = waiting.len().checked_add(more).ok_or(Fault::Memory)?;
+    shown.reserve(all).map_err(|_| Fault::Memory)
 }
 
 /// Takes out the rows that wait and are before a time, and shows their records, in the order of the rows.
 fn show_before(waiting: &mut Waiting, shown: &mut Vec<Record>, time: Time)
-    requires { vec_len shown.old + length waiting.old.rows ≤ vec_capacity shown.old }
-    ensures shown { shown.new.items ≡ shown.old.items ++ records_of (rows_in_order (rows_before time waiting.old.rows)) }
-    ensures waiting { AreSameRows waiting.old.rows (rows_before time waiting.old.rows ++ waiting.new.rows) }
+    requires { vec_len shown.old + length waiting.old ≤ vec_capacity shown.old }
+    ensures shown { shown.new.items ≡ shown.old.items ++ records_of (rows_in_order (rows_before time waiting.old)) }
+    ensures waiting { AreSameRows waiting.old (rows_before time waiting.old ++ waiting.new) }
 {
     while let Some(row) = waiting.take_before(time) {
         shown.push_reserved(row.rec);

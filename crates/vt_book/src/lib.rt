@@ -8,6 +8,7 @@
 mod book;
 mod floors;
 mod history;
+mod run;
 mod waiting;
 
 pub use book::Book;
