@@ -1,0 +1,7 @@
+pub mod Empty
+pub mod RowCmp
+pub mod WaitingLemmas
+pub mod RowLists
+pub mod FloorLemmas
+pub mod KeptLemmas
+pub mod RunLemmas

@@ -1,0 +1,4 @@
+pub mod Books
+pub mod Kept
+pub mod Runs
+pub mod Heaps

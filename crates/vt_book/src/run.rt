@@ -1,0 +1,72 @@
+//! Rows that were handed in together.
+
+ghost use Rattle.std.specs.Prelude.{◌≡◌, [], ◌∷◌, IfOk, IfErr, MatchOption, map};
+ghost use Rattle.std.specs.List.Sorted.{IsPermutation, IsSorted};
+ghost use Rattle.vt_key.specs.declared.fault.Fault.TheVariants.{Memory};
+ghost use Rattle.vt_book.specs.Kept.{AreSameRows};
+ghost use Rattle.vt_book.specs.Runs.{IsRun, rows_of};
+
+use std::alloc::{AllocError, Global};
+use std::cmp::Reverse;
+use vt_key::Fault;
+use vt_model::Row;
+
+/// Some rows, at least one: the first in order, and the others so that the next in order is last. A run is the greater, the
+/// earlier its first row is.
+#[derive(PartialEq, Eq, PartialOrd, Ord, Drop)]
+pub(crate) struct Run {
+    pub(crate) first: Reverse<Row>,
+    pub(crate) rest: Vec<Reverse<Row>>,
+}
+
+impl Run {
+    /// The first row in order, and the run of the others, if there are any.
+    pub(crate) fn split(self) -> (Row, Option<Run>)
+        requires { IsRun self }
+        ensures { (result.0 ≡ self.first.0) × MatchOption result.1
+            (rows_of self ≡ result.0 ∷ [])
+            (λ r. IsRun r × AreSameRows (rows_of self) (result.0 ∷ rows_of r)) }
+    {
+        let Run { first, mut rest } = self;
+        let Some(next) = rest.pop() else {
+            return (first.0, None);
+        };
+        (first.0, Some(Run { first: next, rest }))
+    }
+}
+
+/// The run of these rows; None where there is none.
+///
+/// [`Fault::Memory`]: memory was refused.
+pub(crate) fn run_of(alloc: Global, rows: &[Row]) -> Result<Option<Run>, Fault>
+    ensures run { IfOk result (λ run. MatchOption run (rows.now ≡ []) (λ r. IsRun r × AreSameRows (rows_of r) rows.now)) }
+    ensures refused { IfErr result (λ fault. fault ≡ Memory) }
+{
+    let mut rest = falling(alloc, rows)?;
+    let Some(first) = rest.pop() else {
+        return Ok(None);
+    };
+    Ok(Some(Run { first, rest }))
+}
+
+/// These rows, the last in order first.
+///
+/// [`Fault::Memory`]: memory was refused.
+fn falling(alloc: Global, rows: &[Row]) -> Result<Vec<Reverse<Row>>, Fault>
+    ensures sorted { IfOk result (λ v. IsSorted (λ x y. ⟦<Row as Ord>⟧.cmp y.0 x.0) v.items) }
+    ensures permutation { IfOk result (λ v. IsPermutation (map (λ r. record { 0 = r }) rows.now) v.items) }
+    ensures refused { IfErr result (λ fault. fault ≡ Memory) }
+{
+    let Ok(mut falling) = wrapped(alloc, rows) else {
+        return Err(Fault::Memory);
+    };
+    falling.sort_unstable();
+    Ok(falling)
+}
+
+/// These rows, each so that what is before is greater.
+fn wrapped(alloc: Global, rows: &[Row]) -> Result<Vec<Reverse<Row>>, AllocError>
+    ensures { IfOk result (λ v. v.items ≡ map (λ r. record { 0 = r }) rows.now) }
+{
+    rows.iter().map(|row| Reverse(*row)).collect(alloc)
+}

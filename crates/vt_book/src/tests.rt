@@ -1,0 +1,206 @@
+use crate::Book;
+use std::alloc::{AllocError, AllocGlobal};
+use std::process::Abort;
+use std::test::*;
+use vt_key::{Fault, Key, Time};
+use vt_model::{Record, Row};
+
+// A row of the key (time, source, number), the first of its event.
+fn row(time: Time, source: u32, number: u64) -> Row {
+    Row {
+        key: Key {
+            time,
+            source,
+            number,
+        },
+        index: 0,
+        rec: Record {
+            time,
+            lp: 0,
+            kind: 1,
+            value: number,
+        },
+    }
+}
+
+// The records; where memory is refused, by a second try.
+fn records(rt: &(impl Abort + AllocGlobal), book: &Book) -> Vec<Record> {
+    match book.records(rt.alloc()) {
+        Ok(records) => records,
+        Err(_) => book.records(rt.alloc()).expect(rt, "memory"),
+    }
+}
+
+fn is_shown(rt: &(impl Abort + AllocGlobal), book: &Book, rows: &[Row]) -> bool {
+    let shown = records(rt, book);
+    shown.len() == rows.len()
+        && shown
+            .iter()
+            .zip(rows)
+            .all(|(record, row)| *record == row.rec)
+}
+
+#[test]
+fn rows_below_the_least_floor_are_shown_in_order(rt: HostRuntime) {
+    let mut book = Book::new(rt.alloc(), 2, 10);
+    let [first, second, third] = [row(1, 0, 0), row(2, 0, 1), row(3, 0, 2)];
+    assert_eq!(rt; book.hand(1, &[second, third], 10), Ok(()));
+    assert_eq!(rt; book.floor(), 0);
+    assert!(rt; is_shown(&rt, &book, &[]));
+    assert_eq!(rt; book.hand(0, &[first], 3), Ok(()));
+    assert_eq!(rt; book.floor(), 3);
+    assert!(rt; is_shown(&rt, &book, &[first, second]));
+    assert_eq!(rt; book.close(), Err(Fault::NotLawful));
+    assert!(rt; !book.is_closed());
+}
+
+#[test]
+fn hostile_hand_ins_are_refused(rt: HostRuntime) {
+    let mut book = Book::new(rt.alloc(), 2, 10);
+    assert_eq!(rt; book.hand(0, &[row(3, 0, 0)], 3), Err(Fault::NotLawful));
+    assert_eq!(rt; book.hand(0, &[row(2, 0, 0)], 3), Ok(()));
+    assert_eq!(rt; book.hand(0, &[row(2, 0, 0)], 4), Err(Fault::NotLawful));
+    assert_eq!(rt; book.hand(0, &[], 2), Err(Fault::NotLawful));
+    assert_eq!(rt; book.hand(0, &[], 11), Err(Fault::NotLawful));
+    assert_eq!(rt; book.hand(2, &[], 5), Err(Fault::NotLawful));
+    assert_eq!(rt; book.floor(), 0);
+    assert_eq!(rt; book.hand(1, &[], 3), Ok(()));
+    assert!(rt; is_shown(&rt, &book, &[row(2, 0, 0)]));
+}
+
+#[test]
+fn a_closed_book_takes_nothing_more(rt: HostRuntime) {
+    let mut book = Book::new(rt.alloc(), 2, 10);
+    let [early, late] = [row(1, 1, 0), row(9, 0, 0)];
+    assert_eq!(rt; book.hand(0, &[late], 10), Ok(()));
+    assert_eq!(rt; book.hand(1, &[early], 9), Ok(()));
+    assert_eq!(rt; book.close(), Err(Fault::NotLawful));
+    assert_eq!(rt; book.hand(1, &[], 10), Ok(()));
+    assert_eq!(rt; book.floor(), 10);
+    assert_eq!(rt; book.close(), Ok(()));
+    assert!(rt; book.is_closed());
+    assert_eq!(rt; book.close(), Err(Fault::Closed));
+    assert_eq!(rt; book.hand(0, &[], 10), Err(Fault::Closed));
+    assert_eq!(rt; book.hand(7, &[early], 11), Err(Fault::Closed));
+    assert_eq!(rt; book.floor(), 10);
+    assert!(rt; is_shown(&rt, &book, &[early, late]));
+}
+
+// By time, then source, then number, then index: and a row that is handed in twice is there twice.
+#[test]
+fn rows_of_one_time_are_in_order_too(rt: HostRuntime) {
+    let mut book = Book::new(rt.alloc(), 3, 10);
+    let by_source = [row(2, 0, 1), row(2, 1, 0)];
+    let by_number = [row(4, 0, 3), row(4, 0, 4)];
+    let by_index = [
+        row(6, 0, 5),
+        Row {
+            index: 1,
+            ..row(6, 0, 5)
+        },
+    ];
+    assert_eq!(rt; book.hand(2, &[by_index[1], by_number[1]], 10), Ok(()));
+    assert_eq!(rt;
+        book.hand(0, &[by_index[0], by_source[1], by_source[1]], 10),
+        Ok(())
+    );
+    assert_eq!(rt; book.hand(1, &[by_number[0], by_source[0]], 10), Ok(()));
+    let expected = [
+        by_source[0],
+        by_source[1],
+        by_source[1],
+        by_number[0],
+        by_number[1],
+        by_index[0],
+        by_index[1],
+    ];
+    assert!(rt; is_shown(&rt, &book, &expected));
+}
+
+// With `rt try --test --fail-alloc N` the Nth allocation fails: a refused hand-in leaves the book as it was, and succeeds when
+// it is tried again. (The other tests take memory to be there.)
+#[test]
+fn refused_hand_ins_change_nothing(rt: HostRuntime) {
+    let mut book = Book::new(rt.alloc(), 2, 1000);
+    for n in 0..40 {
+        let worker = n % 2;
+        let floor = u64::from(n / 2) * 10 + 10;
+        let rows = [row(floor - 1, worker, 0), row(floor - 10, worker, 1)];
+        let before = (book.floor(), records(&rt, &book));
+        if book.hand(worker, &rows, floor) == Err(Fault::Memory) {
+            assert!(rt; before == (book.floor(), records(&rt, &book)));
+            assert_eq!(rt; book.hand(worker, &rows, floor), Ok(()));
+        }
+    }
+    assert_eq!(rt; book.floor(), 200);
+    assert_eq!(rt; records(&rt, &book).len(), 80);
+}
+
+// Random numbers below 1000, by a linear congruence.
+#[derive(Drop)]
+struct Draws(u64);
+
+impl Draws {
+    fn next(&mut self) -> u64 {
+        self.0 = self
+            .0
+            .wrapping_mul(6364136223846793005)
+            .wrapping_add(1442695040888963407);
+        (self.0 >> 33) % 1000
+    }
+}
+
+// Up to seven rows at random times from one time on and below another.
+fn random_rows(
+    rt: &impl AllocGlobal,
+    draws: &mut Draws,
+    from: Time,
+    to: Time,
+) -> Result<Vec<Row>, AllocError> {
+    let mut rows = Vec::new(rt.alloc());
+    let ticks = to.wrapping_sub(from);
+    if ticks > 0 {
+        for number in 0..draws.next() % 8 {
+            let time = from.wrapping_add(draws.next().wrapping_mul(31) % ticks);
+            let source = (draws.next() % 3) as u32;
+            rows.push(row(time, source, draws.next().wrapping_add(number)))?;
+        }
+    }
+    Ok(rows)
+}
+
+// Workers hand in rows at random up to random floors. Beside that, all rows are sorted each time.
+#[test]
+fn what_is_shown_is_what_sorting_all_would_show(rt: HostRuntime) -> Result<(), Fail> {
+    let mut draws = Draws(1);
+    let mut book = Book::new(rt.alloc(), 64, 100_000);
+    let mut floors = [0u64; 64];
+    let mut all = Vec::new(rt.alloc());
+    for _ in 0..400 {
+        let worker = (draws.next() % 64) as u32;
+        let from = floors[worker as usize];
+        let to = from
+            .wrapping_add(draws.next().wrapping_mul(30))
+            .min(100_000);
+        let rows = random_rows(&rt, &mut draws, from, to)?;
+        assert_eq!(rt; book.hand(worker, &rows, to), Ok(()));
+        floors[worker as usize] = to;
+        all.extend_from_slice(&rows)?;
+        all.sort()?;
+        let least = floors.iter().copied().min().unwrap_or(0);
+        let below = all.iter().filter(|row| row.key.time < least).count();
+        assert_eq!(rt; book.floor(), least);
+        assert!(rt; is_shown(&rt, &book, all.get(..below).unwrap_or(&[])));
+    }
+    Ok(())
+}
+
+fn is_sent<T: Send>(value: T) -> T {
+    value
+}
+
+#[test]
+fn a_book_may_go_to_another_thread(rt: HostRuntime) {
+    let book = is_sent(Book::new(rt.alloc(), 1, 1));
+    assert_eq!(rt; book.floor(), 0);
+}
