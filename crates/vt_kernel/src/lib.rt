@@ -6,5 +6,6 @@
 
 mod counts;
 mod kernel;
+mod local;
 
 pub use kernel::Kernel;

@@ -1,0 +1,2 @@
+pub mod ProcessLemmas
+pub mod OwnSteps
