@@ -1,2 +1,3 @@
 pub mod ProcessLemmas
 pub mod OwnSteps
+pub mod Settling
