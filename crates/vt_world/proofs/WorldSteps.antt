@@ -9,20 +9,21 @@ use Rattle.vt_model.specs.declared.settings.Config.{Config}
 use Rattle.vt_model.specs.Handler.{Handlers}
 use Rattle.vt_model.specs.Simulation.{Simulation, simulation_of}
 use Rattle.vt_steps.specs.declared.step.Step.{Step}
-use Rattle.vt_steps.specs.declared.step.Step.TheVariants.{Send, Fetch, Cut, Report, Commit, Close}
+use Rattle.vt_steps.specs.declared.step.Step.TheVariants.{Home, Accept, Send, Fetch, Cut, Report, Commit, Close}
 use Rattle.vt_steps.specs.declared.step.Reply.{Reply}
 use Rattle.vt_steps.specs.declared.step.Reply.TheVariants.{Done}
 use Rattle.vt_steps.specs.Letters.{is_empty}
 use Rattle.vt_steps.specs.World.{Part, World, Board, Book}
-use Rattle.vt_steps.specs.PartSteps.{part_after_send, mail_of_send, part_after_fetch, part_after_cut, report_sent, report_got, report_least, part_after_commit, rows_of_commit}
+use Rattle.std.specs.Option.{option_and_then, option_map}
+use Rattle.vt_steps.specs.PartSteps.{home, accept, part_after_send, mail_of_send, part_after_fetch, part_after_cut, report_sent, report_got, report_least, part_after_commit, rows_of_commit}
 use Rattle.vt_steps.specs.BoardSteps.{cut_board, may_report, with_report, board_after_report, report_reply}
 use Rattle.vt_steps.specs.BookSteps.{may_commit, with_rows, may_close, closed_book}
-use Rattle.vt_steps.specs.Next.{Outcome, next, refused, replied, may_send, report_lawful}
+use Rattle.vt_steps.specs.Next.{Outcome, next, refused, replied, with_part, done_or_refused, may_send, report_lawful}
 use Rattle.vt_steps.specs.StandsFor.{GoesOn}
 use Rattle.vt_kernel.specs.Held.{HeldWorker, part_memory, StandsFor as WorkerStandsFor}
 use Rattle.vt_world.specs.Held.{HeldWorld, world_memory, StandsForWorld, AreWorkers}
-use Rattle.vt_world.proofs.WorldLemmas.{worker-at, found, part-changed}
-use Rattle.vt_world.proofs.CellSteps.{next-send, next-not_send, next-fetch, next-not_fetch, next-cut, next-not_cut, next-report, next-not_report, next-commit, next-not_commit, next-commit_closed, next-close, next-not_close, next-close_closed}
+use Rattle.vt_world.proofs.WorldLemmas.{nobody-at, worker-at, found, part-changed}
+use Rattle.vt_world.proofs.CellSteps.{next-send, next-not_send, next-fetch, next-not_fetch, next-cut, next-not_cut, next-report, next-not_report, next-commit, next-not_commit, next-commit_closed, next-close, next-not_close, next-close_closed, next-send_nobody, next-fetch_nobody, next-report_nobody, next-commit_nobody}
 
 module _ {M S P K : Type 0} (handlers : Handlers S P K) (held : HeldWorld M S P K) (are : AreWorkers held.config 0 held.workers) where
   -- the worker at its place is it
@@ -234,3 +235,49 @@ module _ {M S P K : Type 0} (handlers : Handlers S P K) (held : HeldWorld M S P 
       → GoesOn (simulation_of handlers held.config) Close (Err Closed) (world_memory handlers held) (world_memory handlers held)
   close-closed closed world h =
       goes world Close (refused world Closed) (Err Closed) held (next-close_closed (simulation_of handlers held.config) world (ap (λ (b : Book). b.is_closed) h.book ∙ closed)) refl refl h
+
+  -- ---- steps of a worker that there is not
+
+  gone : (world : World P) (w : ℕ) → StandsForWorld handlers held world → slice_get held.workers w ≡ None → slice_get world.parts w ≡ None
+  gone world w h none = nobody-at (simulation_of handlers held.config) 0 w (map (part_memory handlers) held.workers) world.parts h.parts (no-image held.workers w none)
+    where
+      no-image : (xs : List (HeldWorker S P K)) (i : ℕ) → slice_get xs i ≡ None → slice_get (map (part_memory handlers) xs) i ≡ None
+      no-image [] i is = refl
+      no-image (x ∷ xs) zero is = absurd (let k : Some x ≡ None = is in cc)
+      no-image (x ∷ xs) (suc i) is = no-image xs i is
+
+  pub send-nobody : (w v : ℕ) → slice_get held.workers w ≡ None
+      → GoesOn (simulation_of handlers held.config) (Send w v) (Err NotLawful) (world_memory handlers held) (world_memory handlers held)
+  send-nobody w v none world h =
+      goes world (Send w v) (refused world NotLawful) (Err NotLawful) held (next-send_nobody (simulation_of handlers held.config) world w v (gone world w h none)) refl refl h
+
+  pub fetch-nobody : (w : ℕ) → slice_get held.workers w ≡ None
+      → GoesOn (simulation_of handlers held.config) (Fetch w) (Err NotLawful) (world_memory handlers held) (world_memory handlers held)
+  fetch-nobody w none world h =
+      goes world (Fetch w) (refused world NotLawful) (Err NotLawful) held (next-fetch_nobody (simulation_of handlers held.config) world w (gone world w h none)) refl refl h
+
+  pub report-nobody : (w : ℕ) → slice_get held.workers w ≡ None
+      → GoesOn (simulation_of handlers held.config) (Report w) (Err NotLawful) (world_memory handlers held) (world_memory handlers held)
+  report-nobody w none world h =
+      goes world (Report w) (refused world NotLawful) (Err NotLawful) held (next-report_nobody (simulation_of handlers held.config) world w (gone world w h none)) refl refl h
+
+  pub commit-nobody : (w : ℕ) → slice_get held.workers w ≡ None → held.book.is_closed ≡ false
+      → GoesOn (simulation_of handlers held.config) (Commit w) (Err NotLawful) (world_memory handlers held) (world_memory handlers held)
+  commit-nobody w none is_open world h =
+      goes world (Commit w) (refused world NotLawful) (Err NotLawful) held
+        (next-commit_nobody (simulation_of handlers held.config) world w (gone world w h none) (ap (λ (b : Book). b.is_closed) h.book ∙ is_open)) refl refl h
+
+  -- Home and Accept of a worker that there is not
+  pub home-nobody : (w : ℕ) → slice_get held.workers w ≡ None
+      → GoesOn (simulation_of handlers held.config) (Home w) (Err NotLawful) (world_memory handlers held) (world_memory handlers held)
+  unfolding next
+  home-nobody w none world h =
+      goes world (Home w) (refused world NotLawful) (Err NotLawful) held
+        (ap (λ q. done_or_refused world (option_map (with_part world w) (option_and_then (home (simulation_of handlers held.config) w) q))) (gone world w h none)) refl refl h
+
+  pub accept-nobody : (w i : ℕ) → slice_get held.workers w ≡ None
+      → GoesOn (simulation_of handlers held.config) (Accept w i) (Err NotLawful) (world_memory handlers held) (world_memory handlers held)
+  unfolding next
+  accept-nobody w i none world h =
+      goes world (Accept w i) (refused world NotLawful) (Err NotLawful) held
+        (ap (λ q. done_or_refused world (option_map (with_part world w) (option_and_then (accept (simulation_of handlers held.config) i) q))) (gone world w h none)) refl refl h
