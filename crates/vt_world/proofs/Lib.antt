@@ -1,3 +1,4 @@
 pub mod WorldLemmas
 pub mod CellSteps
 pub mod WorldSteps
+pub mod CommitRows
