@@ -1,5 +1,6 @@
 -- What a world keeps in memory, and which worlds of the definitions it stands for.
 use Rattle.std.specs.Prelude.{◌≡◌, ℕ, ◌+◌, ◌<◌, ◌≤◌, List, [], ◌∷◌, map, length}
+use Rattle.vt_key.specs.Times.{Time}
 use Rattle.vt_key.specs.declared.letter.Mail.{Mail}
 use Rattle.vt_model.specs.declared.settings.Config.{Config}
 use Rattle.vt_model.specs.Handler.{Handlers}
@@ -48,3 +49,14 @@ module _ {P : Type 0} where
   abbrev pub AreInboxes : Config → ℕ → List (List (Mail P)) → Type 0
   AreInboxes config w [] = Unit {0}
   AreInboxes config w (inbox ∷ rest) = AllOwnMail config w inbox × AreInboxes config (w + 1) rest
+
+-- how the fields of a world go together: it has its workers and their inboxes, the board and the book are of its end, and it
+-- stands for the world after some list of steps from an opening one
+pub record IsWorldInside {M S P K : Type 0} (handlers : Handlers S P K) (held : HeldWorld M S P K) (board_end book_end : Time) : Type 0 where
+  pub all_workers : length held.workers ≡ held.config.workers
+  pub own_workers : AreWorkers held.config 0 held.workers
+  pub all_inboxes : length held.inboxes ≡ held.config.workers
+  pub own_inboxes : AreInboxes held.config 0 held.inboxes
+  pub same_board_end : board_end ≡ held.config.end
+  pub same_book_end : book_end ≡ held.config.end
+  pub is_reached : ∥ ((serial : ℕ) × IsReached handlers serial held) ∥₁
