@@ -1,5 +1,7 @@
 -- What the calls of a world answer, by the steps of the definitions.
 use Rattle.std.specs.Prelude.{◌≡◌, ℕ, ◌+◌, ◌<◌, ◌≤◌, ◌⊎◌, ◌/◌, ◌%◌, List, [], ◌∷◌, ◌++◌, map, Option, Some, None, Result, Ok, Err, slice_get}
+use Rattle.std.specs.List.{flat_map}
+use Rattle.vt_key.specs.Times.{Time}
 use Rattle.vt_key.specs.declared.limits.TheConstants.{MAX_COUNT}
 use Rattle.vt_key.specs.declared.letter.Colour.{Colour}
 use Rattle.vt_key.specs.declared.fault.Fault.{Fault}
@@ -9,10 +11,11 @@ use Rattle.vt_model.specs.Simulation.{Simulation, simulation_of}
 use Rattle.vt_steps.specs.declared.step.Step.{Step}
 use Rattle.vt_steps.specs.declared.step.Step.TheVariants.{Execute, Undo, Cancel, Home, Send, Fetch, Accept, Cut, Report, Commit, Close}
 use Rattle.vt_steps.specs.declared.step.Reply.{Reply}
-use Rattle.vt_steps.specs.Letters.{count_of}
-use Rattle.vt_steps.specs.World.{LogicalProcess, Part, World}
+use Rattle.vt_steps.specs.Letters.{count_of, least_time}
+use Rattle.vt_steps.specs.World.{LogicalProcess, Part, World, book_floor}
 use Rattle.vt_steps.specs.Next.{next}
 use Rattle.vt_lp.specs.Guards.{number_of}
+use Rattle.vt_kernel.specs.Guards.{held_letters}
 use Rattle.vt_world.specs.Held.{HeldWorld, StandsForWorld}
 
 module _ {S P : Type 0} (sim : Simulation S P) where
@@ -47,3 +50,13 @@ module _ {S P : Type 0} (sim : Simulation S P) where
       ⊎ ((reply : Reply) × ((next sim world step).answer ≡ Ok reply)
       × (((fault ≡ Exhausted) × PassesLimit step (next sim world step).world)
       ⊎ ((fault ≡ Memory) × TakesMemory step × (PassesLimit step (next sim world step).world → ⊥))))
+
+module _ {M S P K : Type 0} where
+  -- the least time of all that is unprocessed or travelling: in outboxes, arrived, pending, waiting and in inboxes
+  abbrev pub least_held : HeldWorld M S P K → Time
+  least_held held =
+      least_time held.config.end (flat_map held_letters held.workers ++ map (λ mail. mail.letter) (flat_map (λ inbox. inbox) held.inboxes))
+
+  -- the floor of the book
+  abbrev pub floor_held : HeldWorld M S P K → Time
+  floor_held held = book_floor held.config.end held.book
