@@ -1,5 +1,5 @@
 -- What the calls of a process answer and leave, by the steps of a world's process.
-use Rattle.std.specs.Prelude.{◌≡◌, ℕ, ◌+◌, ◌<◌, ◌≤◌, ◌⊎◌, Bool, true, false, ◌||◌, List, [], ◌∷◌, ◌++◌, if◌then◌else◌, Option, Some, None}
+use Rattle.std.specs.Prelude.{◌≡◌, ℕ, ◌+◌, ◌<◌, ◌≤◌, ◌⊎◌, Bool, true, ◌||◌, List, [], ◌∷◌, ◌++◌, if◌then◌else◌, Option, Some, None}
 use Rattle.std.specs.List.{list_any, last_or}
 use Rattle.vt_key.specs.Order.{rank_before, rank_same}
 use Rattle.vt_key.specs.declared.limits.TheConstants.{MAX_COUNT}
