@@ -5,6 +5,8 @@
 #![tactic(auto)]
 
 mod counts;
+mod cutting;
+mod fetching;
 mod kernel;
 
 pub use kernel::Kernel;

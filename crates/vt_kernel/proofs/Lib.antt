@@ -1,0 +1,3 @@
+pub mod EmptyLemmas
+pub mod InsideLemmas
+pub mod PartLemmas
