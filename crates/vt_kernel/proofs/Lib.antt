@@ -1,3 +1,6 @@
 pub mod EmptyLemmas
 pub mod InsideLemmas
 pub mod PartLemmas
+pub mod PartingLemmas
+pub mod SendLemmas
+pub mod TimeLemmas

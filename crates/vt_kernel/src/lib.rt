@@ -8,5 +8,7 @@ mod counts;
 mod cutting;
 mod fetching;
 mod kernel;
+mod sending;
+mod times;
 
 pub use kernel::Kernel;
