@@ -1,3 +1,9 @@
 pub mod ProcessLemmas
 pub mod OwnSteps
 pub mod Settling
+pub mod EmptyLemmas
+pub mod InsideLemmas
+pub mod PartLemmas
+pub mod PartingLemmas
+pub mod SendLemmas
+pub mod TimeLemmas

@@ -10,7 +10,7 @@ use Rattle.vt_key.specs.declared.letter.Colour.{Colour}
 use Rattle.vt_model.specs.declared.settings.Config.{Config}
 use Rattle.vt_model.specs.Handler.{Handlers}
 use Rattle.vt_model.specs.Simulation.{Simulation, simulation_of}
-use Rattle.vt_steps.specs.Letters.{Counts}
+use Rattle.vt_steps.specs.Letters.{Counts, least_time}
 use Rattle.vt_steps.specs.World.{Part}
 use Rattle.vt_steps.specs.StandsFor.{PartMemory, StandsForPart}
 use Rattle.vt_lp.specs.Held.{HeldProcess, process_memory, AllWithinRun, IsWithinRun}
@@ -62,6 +62,11 @@ module _ {P : Type 0} where
   abbrev pub AllOwnMail : Config → ℕ → List (Mail P) → Type 0
   AllOwnMail config w mails = All (IsOwnMail config w) mails
 
+-- the time of a rank; of none it is the end of the run
+abbrev pub rank_time : Time → Option Rank → Time
+rank_time end None = end
+rank_time end (Some rank) = rank.key.time
+
 module _ {S P K : Type 0} where
   -- the processes of worker w from this place on
   abbrev pub AreProcesses : Config → ℕ → ℕ → List (HeldProcess S P K) → Type 0
@@ -76,6 +81,10 @@ module _ {S P K : Type 0} where
   -- the least rank of what is pending or waits at a process
   abbrev pub earliest_of : HeldProcess S P K → Option Rank
   earliest_of held = lesser_rank (slice_get held.pending 0) (slice_get held.waiting 0)
+
+  -- the least rank of a process tells the least time of what is pending or waits there
+  abbrev pub TellsLeast : HeldProcess S P K → Type 0
+  TellsLeast held = rank_time held.config.end (earliest_of held) ≡ least_time held.config.end (held.pending ++ held.waiting)
 
   -- what these processes enter into a tournament, which has one entry at least
   abbrev pub entries_of : (HeldProcess S P K → Option Rank) → List (HeldProcess S P K) → List (Option Rank)
@@ -100,3 +109,4 @@ pub record IsWorkerInside {S P K : Type 0} (config : Config) (w : ℕ) (processe
   pub few_made : serial ≤ MAX_COUNT
   pub ready_entered : ready ≡ entries_of ready_of processes
   pub earliest_entered : earliest ≡ entries_of earliest_of processes
+  pub least_told : All TellsLeast processes

@@ -5,7 +5,11 @@
 #![tactic(auto)]
 
 mod counts;
+mod cutting;
+mod fetching;
 mod kernel;
 mod local;
+mod sending;
+mod times;
 
 pub use kernel::Kernel;
