@@ -7,5 +7,6 @@
 
 mod entry;
 mod lp;
+mod making;
 
 pub use lp::Lp;
