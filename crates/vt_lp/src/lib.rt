@@ -8,5 +8,6 @@
 mod entry;
 mod lp;
 mod making;
+mod starting;
 
 pub use lp::Lp;

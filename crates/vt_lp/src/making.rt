@@ -1,6 +1,6 @@
 //! Letters of what an event sends.
 
-ghost use Rattle.std.specs.Prelude.{◌≡◌, ◌+◌, ◌≤◌, length, map, IfOk, IfErr};
+ghost use Rattle.std.specs.Prelude.{◌≡◌, ◌+◌, ◌≤◌, ◌↔◌, length, map, IsTrue, IfOk, IfErr};
 ghost use Rattle.vt_key.specs.declared.fault.Fault.TheVariants.{Memory};
 ghost use Rattle.vt_steps.specs.Letters.{stamped, signed};
 
@@ -42,4 +42,11 @@ pub(crate) fn letters<P: Copy>(
         serial += 1;
     }
     Ok(letters)
+}
+
+/// Whether these sends leave the serial at most 2^63.
+pub(crate) fn is_counted<P>(serial: u64, sends: &[Sent<P>]) -> bool
+    ensures { IsTrue result ↔ (serial + length sends.now ≤ MAX_COUNT) }
+{
+    serial <= MAX_COUNT && sends.len() as u64 <= MAX_COUNT - serial
 }
