@@ -13,7 +13,7 @@ use crate::making::{is_counted, letters};
 use std::alloc::Global;
 use vt_key::{Fault, Letter, MAX_COUNT, Sign};
 use vt_list::List;
-use vt_model::{Config, Model as EventModel, Process, Started};
+use vt_model::{Config, Model as EventModel, Out, Process};
 use vt_pending::Pending;
 
 impl<M: EventModel> Lp<M> {
@@ -72,13 +72,15 @@ fn start<M: EventModel>(
     requires known { lp < config.lps }
     ensures triple { IfOk result (λ s. triple_at s.0.state s.0.number s.0.stream ≡ ((simulation_of (M.handlers model.now) config).start lp).triple) }
     ensures messages { IfOk result (λ s. s.1 ≡ map (signed Plus) (stamped (lp % config.workers) serial ((simulation_of (M.handlers model.now) config).start lp).sends)) }
+    ensures all { IfOk result (λ s. length s.1 ≡ length ((simulation_of (M.handlers model.now) config).start lp).sends) }
     ensures within { IfOk result (λ s. AllWithinRun config s.1) }
     ensures numbered { IfOk result (λ s. s.0.number ≤ MAX_COUNT) }
     ensures stream { IfOk result (λ s. IsProcessStream config.seed lp s.0.stream) }
     ensures counted { IfOk result (λ s. serial + length ((simulation_of (M.handlers model.now) config).start lp).sends ≤ MAX_COUNT) }
     ensures refused { IfErr result (λ fault. ((fault ≡ Exhausted) × (MAX_COUNT < serial + length ((simulation_of (M.handlers model.now) config).start lp).sends)) ⊎ ((fault ≡ Memory) × (serial + length ((simulation_of (M.handlers model.now) config).start lp).sends ≤ MAX_COUNT))) }
 {
-    let Started { process, out } = Process::start(model, config, lp);
+    let mut out = Out::new(config, lp, 0, 0);
+    let process = Process::start(model, config, lp, &mut out);
     if !is_counted(serial, out.sends()) {
         return Err(Fault::Exhausted);
     }
