@@ -7,3 +7,4 @@ pub mod PartLemmas
 pub mod PartingLemmas
 pub mod SendLemmas
 pub mod TimeLemmas
+pub mod LocalLemmas

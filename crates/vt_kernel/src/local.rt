@@ -1,8 +1,42 @@
-//! Local steps: Execute, Undo, Cancel, Home and Accept.
+//! Local steps at one process: Execute, Undo and Cancel.
 
-ghost use Rattle.std.specs.Prelude.{◌≡◌, ◌%◌, ◌/◌, ◌<◌, ◌≤◌, IfSome, IfNone};
+ghost use Rattle.std.specs.Prelude.{◌≡◌, ◌^◌, ◌%◌, ◌/◌, ◌<◌, ◌≤◌, IfSome, IfNone, IfOk, IfErr, None, length, slice_set};
+ghost use Rattle.vt_key.specs.declared.fault.Fault.TheVariants.{NotLawful};
+ghost use Rattle.vt_model.specs.Handler.{Handlers};
+ghost use Rattle.vt_model.specs.Simulation.{simulation_of};
+ghost use Rattle.vt_steps.specs.World.{Part};
+ghost use Rattle.vt_steps.specs.declared.step.Step.TheVariants as step;
+ghost use Rattle.vt_kernel.specs.Held.{StandsFor, ready_of, earliest_of, TellsLeast};
+ghost use Rattle.vt_kernel.specs.Local.{local_step};
+ghost use Rattle.vt_kernel.specs.Guards.{IsDone};
 
-use vt_model::Config;
+use crate::kernel::Kernel;
+use vt_key::{Fault, Stamp};
+use vt_lp::Lp;
+use vt_model::{Config, Model as EventModel};
+use vt_tournament::Tournament;
+
+impl<M: EventModel> Kernel<M> {
+    /// Cancel at process `lp`: its waiting anti-message and its pending message of this stamp annihilate each other. It takes no
+    /// memory.
+    ///
+    /// [`Fault::NotLawful`]: `lp` is no process of this worker, or it does not have both, with one key. All is as it was.
+    pub fn cancel(&mut self, lp: u32, stamp: Stamp) -> Result<(), Fault>
+        ensures done { (handlers : Handlers _ _ _) (part : Part _) → StandsFor handlers self.old part → IfOk result (λ done. IsDone handlers self.new (local_step (simulation_of handlers self.old.config) self.old.worker (step.Cancel lp stamp) part)) }
+        ensures refused { (handlers : Handlers _ _ _) (part : Part _) → StandsFor handlers self.old part → IfErr result (λ fault. local_step (simulation_of handlers self.old.config) self.old.worker (step.Cancel lp stamp) part ≡ None) }
+        ensures kept { IfErr result (λ fault. (fault ≡ NotLawful) × (self.new ≡ self.old)) }
+        ensures same { (self.new.worker ≡ self.old.worker) × (self.new.config ≡ self.old.config) }
+    {
+        let Some(place) = place_of(self.config, self.worker, lp) else {
+            return Err(Fault::NotLawful);
+        };
+        if let Err(fault) = self.processes[place].cancel(stamp) {
+            return Err(fault);
+        }
+        enter(&mut self.ready, &mut self.earliest, &self.processes[place], place);
+        Ok(())
+    }
+}
 
 /// Where process `lp` stands among those of the worker; None where it is no process of this worker.
 pub(crate) fn place_of(config: Config, worker: u32, lp: u32) -> Option<usize>
@@ -13,4 +47,17 @@ pub(crate) fn place_of(config: Config, worker: u32, lp: u32) -> Option<usize>
         return None;
     }
     Some((lp / config.workers) as usize)
+}
+
+/// Enters a process that has changed into the tournaments again.
+pub(crate) fn enter<M: EventModel>(ready: &mut Tournament, earliest: &mut Tournament, process: &Lp<M>, place: usize)
+    requires in_ready { place < length ready.old }
+    requires in_earliest { place < length earliest.old }
+    requires small { place < 2 ^ 32 }
+    ensures ready { ready.new ≡ slice_set ready.old place (ready_of process.now) }
+    ensures earliest { earliest.new ≡ slice_set earliest.old place (earliest_of process.now) }
+    ensures told { TellsLeast process.now }
+{
+    ready.set(place as u32, process.ready());
+    earliest.set(place as u32, process.least_rank());
 }
