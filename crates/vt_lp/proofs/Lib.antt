@@ -4,3 +4,4 @@ mod ReadyLemmas
 mod LeastLemmas
 mod AcceptLemmas
 mod CancelLemmas
+mod RipeLemmas
