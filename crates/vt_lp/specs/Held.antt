@@ -11,10 +11,10 @@ use Rattle.vt_model.specs.declared.limits.TheConstants.{MAX_DRAWS}
 use Rattle.vt_model.specs.declared.settings.Config.{Config}
 use Rattle.vt_model.specs.Handler.{Handlers}
 use Rattle.vt_model.specs.Process.{IsProcessStream}
-use Rattle.vt_model.specs.Simulation.{Simulation, Triple, simulation_of, rows_of}
-use Rattle.vt_pending.specs.Letters.{holds_rank}
+use Rattle.vt_model.specs.Simulation.{Triple, simulation_of, rows_of}
 use Rattle.vt_steps.specs.World.{LogicalProcess}
 use Rattle.vt_steps.specs.StandsFor.{Remembered, ProcessMemory, StandsForProcess}
+use Rattle.vt_pending.specs.Letters.{holds_rank}
 use Rattle.vt_lp.specs.declared.entry.PastEvent.{PastEvent}
 
 -- what a contract sees of a process: its number and the config, where it stands, and its past, pending and waiting

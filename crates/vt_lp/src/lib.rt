@@ -6,6 +6,7 @@
 #![tactic(auto)]
 
 mod entry;
+mod executing;
 mod lp;
 mod making;
 mod starting;
