@@ -24,7 +24,7 @@ module _ {P K : Type 0} where
       ∙ ap (λ (t : Bool). if t then Some l.event else None) is
 
 -- a rank that is after another is not the same
-after-differs : (a b : Rank) → RankBefore a b → rank_same b a ≡ false
+pub after-differs : (a b : Rank) → RankBefore a b → rank_same b a ≡ false
 after-differs a b before = elim (cases (rank_same b a)) [
   | inl is ↦ absurd (rank-irreflexive a (subst (RankBefore a) (rank_same-true b a is) before))
   | inr is ↦ is

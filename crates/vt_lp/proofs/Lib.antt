@@ -5,3 +5,5 @@ pub mod AcceptLemmas
 pub mod Stamping
 pub mod Ends
 pub mod Advancing
+pub mod ExecuteLemmas
+pub mod UndoLemmas

@@ -10,5 +10,6 @@ mod executing;
 mod lp;
 mod making;
 mod starting;
+mod undoing;
 
 pub use lp::Lp;

@@ -17,6 +17,10 @@ use Rattle.vt_key.proofs.OrderLemmas.{rank-transitive, rank_before-true}
 use Rattle.vt_model.specs.declared.sending.Sent.{Sent}
 use Rattle.vt_model.specs.declared.settings.Config.{Config}
 use Rattle.vt_model.specs.Handler.{Handlers}
+use Rattle.vt_model.specs.declared.limits.TheConstants.{MAX_DRAWS}
+use Rattle.vt_model.specs.Process.{IsProcessStream}
+use Rattle.vt_stream.specs.Words.{Stream}
+use Rattle.vt_pending.specs.Letters.{letter_rank, has_rank, holds_rank, IsRising}
 use Rattle.vt_model.specs.Simulation.{Simulation, Triple, Fired, simulation_of, after, after_from}
 use Rattle.vt_steps.specs.Letters.{unstamped, stamped, signed}
 use Rattle.vt_steps.specs.World.{Entry, LogicalProcess, entry_events, triple_after}
@@ -26,9 +30,11 @@ use Rattle.vt_steps.proofs.MemoryLemmas.{is_where, goes_on, after-append}
 use Rattle.vt_steps.proofs.Stamped.{length-stamped}
 use Rattle.vt_lp.specs.declared.entry.PastEvent.{PastEvent}
 use Rattle.vt_lp.specs.declared.executing.Trail.{Trail}
-use Rattle.vt_lp.specs.Held.{HeldProcess, StandsFor, process_memory, remembered, way_back, IsOwnLetter, AllAfter, IsRisingPast}
+use Rattle.vt_lp.specs.Held.{HeldProcess, StandsFor, process_memory, remembered, way_back, IsOwnLetter, IsOwnEvent, IsReady, AllAfter, IsRisingPast, IsNotPending, IsProcessInside}
 use Rattle.vt_lp.specs.Guards.{IsDone, IsExecuteRefusal, may_come_after}
 use Rattle.vt_lp.specs.Past.{past_event, ready_event, IsAdvanceRefusal}
+use Rattle.vt_lp.proofs.AcceptLemmas.{right-false}
+use Rattle.vt_lp.proofs.Ends.{none-after}
 use Rattle.vt_lp.proofs.Advancing.{events-signed}
 
 if-some : {A : Type 0} (b : Bool) (x y : A) → Some y ≡ (if b then Some x else None) → (b ≡ true) × (y ≡ x)
@@ -155,6 +161,7 @@ module _ {S P K : Type 0} (handlers : Handlers S P K) where
       StandsFor handlers held h → Some event ≡ ready_event held.pending held.past → q ≡ held.lp →
       IsAdvanceRefusal ((simulation_of handlers held.config).fire q held.triple (unstamped event)) serial fault →
       IsExecuteRefusal (simulation_of handlers held.config) held.lp serial (execute_process (simulation_of handlers held.config) held.lp w serial h) fault
+  unfolding effect_of_execute
   refuses held w serial h q event fault s ready own refused = from held.pending refl ready
     where
       sim : Simulation S P
@@ -162,7 +169,6 @@ module _ {S P K : Type 0} (handlers : Handlers S P K) where
 
       lawful-refusal : (l : Letter P) (ls : List (Letter P)) → IsAdvanceRefusal (sim.fire held.lp held.triple (unstamped l.event)) serial fault →
           IsExecuteRefusal sim held.lp serial (Some (effect_of_execute sim held.lp w serial h l ls)) fault
-      unfolding effect_of_execute
       lawful-refusal l ls r =
           let at : triple_after sim held.lp (h.done ++ h.past) ≡ held.triple = is_where sim held.lp (process_memory handlers held) h s in
           let sends : List (Sent P) = (sim.fire held.lp (triple_after sim held.lp (h.done ++ h.past)) (unstamped l.event)).sends in
@@ -182,7 +188,7 @@ module _ {S P K : Type 0} (handlers : Handlers S P K) where
               | inl m ↦ inl (subst (λ n. MAX_COUNT < n) (sym number) m)
               | inr m ↦ inr (subst (λ n. MAX_COUNT < serial + n) (sym count) m)
             ])
-            | inr x ↦ inr (x.0, record { number = subst (λ n. n ≤ MAX_COUNT) (sym number) x.1.0; serials = subst (λ n. serial + n ≤ MAX_COUNT) (sym count) x.1.1 })
+            | inr x ↦ inr (x.0, record { number = subst (λ n. n ≤ MAX_COUNT) (sym number) x.1; serials = subst (λ n. serial + n ≤ MAX_COUNT) (sym count) x.2 })
           ]
 
       from : (ls : List (Letter P)) → held.pending ≡ ls → Some event ≡ ready_event ls held.past →
@@ -193,6 +199,10 @@ module _ {S P K : Type 0} (handlers : Handlers S P K) where
           subst (λ step. IsExecuteRefusal sim held.lp serial step fault) (sym (execute-some held w serial h l ls event is ready s))
           (lawful-refusal l ls (coe 0 1 (j. IsAdvanceRefusal (sim.fire (own j) held.triple (unstamped (first j))) serial fault) refused))
 
+All-weaker : {X : Type 0} (Q R : X → Type 0) (xs : List X) → ((x : X) → Q x → R x) → All Q xs → All R xs
+All-weaker Q R [] f all = All-nil R
+All-weaker Q R (x ∷ xs) f all = All-cons R x xs (f x (All-head Q x xs all)) (All-weaker Q R xs f (All-tail Q x xs all))
+
 -- ---- what a process keeps to
 
 module _ {P K : Type 0} where
@@ -200,13 +210,57 @@ module _ {P K : Type 0} where
   after-more a e [] all h = (h, tt)
   after-more a e (d ∷ ds) all h = (all.0, after-more a e ds all.1 h)
 
-  before-last : (d e : PastEvent P K) (ds : List (PastEvent P K)) → AllAfter d ds → may_come_after (last_or (Some d) ds) e.letter.event.rank ≡ true → RankBefore d.letter.event.rank e.letter.event.rank
-  before-last d e [] all h = rank_before-true d.letter.event.rank e.letter.event.rank h
-  before-last d e (c ∷ cs) all h = rank-transitive d.letter.event.rank c.letter.event.rank e.letter.event.rank all.0 (before-last' c cs h)
-    where
-      before-last' : (c : PastEvent P K) (cs : List (PastEvent P K)) → may_come_after (last_or (Some c) cs) e.letter.event.rank ≡ true → RankBefore c.letter.event.rank e.letter.event.rank
-      before-last' c cs h = ?
+  before-end : (d e : PastEvent P K) (ds : List (PastEvent P K)) → IsRisingPast (d ∷ ds) → may_come_after (last_or (Some d) ds) e.letter.event.rank ≡ true →
+      RankBefore d.letter.event.rank e.letter.event.rank
+  before-end d e [] rises h = rank_before-true d.letter.event.rank e.letter.event.rank h
+  before-end d e (c ∷ cs) rises h = rank-transitive d.letter.event.rank c.letter.event.rank e.letter.event.rank rises.0.0 (before-end c e cs rises.1 h)
 
-  pub rising-more : (es : List (PastEvent P K)) (e : PastEvent P K) → IsRisingPast es → may_come_after (last_or None es) e.letter.event.rank ≡ true → IsRisingPast (es ++ e ∷ [])
+  rising-more : (es : List (PastEvent P K)) (e : PastEvent P K) → IsRisingPast es → may_come_after (last_or None es) e.letter.event.rank ≡ true → IsRisingPast (es ++ e ∷ [])
   rising-more [] e rises h = (tt, tt)
-  rising-more (d ∷ ds) e rises h = ?
+  rising-more (d ∷ []) e rises h = (after-more d e [] tt (before-end d e [] rises h), (tt, tt))
+  rising-more (d ∷ c ∷ cs) e rises h = (after-more d e (c ∷ cs) rises.0 (before-end d e (c ∷ cs) rises h), rising-more (c ∷ cs) e rises.1 h)
+
+  -- another place in the stream and another send number
+  pub inside-at : (config : Config) (p number new_number : ℕ) (stream new_stream : Stream) (past : List (PastEvent P K)) (pending waiting new_pending : List (Letter P)) (new_past : List (PastEvent P K)) →
+      IsProcessInside config p number stream past pending waiting → new_number ≤ MAX_COUNT → IsProcessStream config.seed p new_stream → new_pending ≡ pending → new_past ≡ past →
+      IsProcessInside config p new_number new_stream new_past new_pending waiting
+  inside-at config p number new_number stream new_stream past pending waiting new_pending new_past inside few own same same_past =
+      coe 0 1 (j. IsProcessInside config p new_number new_stream (sym same_past j) (sym same j) waiting) (record {
+        known = inside.known;
+        few_sends = few;
+        own_stream = own;
+        own_pending = inside.own_pending;
+        own_waiting = inside.own_waiting;
+        own_past = inside.own_past;
+        rising = inside.rising;
+        apart = inside.apart;
+      })
+
+  -- the least pending event became the last past one
+  pub inside-more : (config : Config) (p number new_number : ℕ) (stream new_stream : Stream) (past : List (PastEvent P K)) (pending waiting : List (Letter P)) (event : Event P)
+      (l : Letter P) (ls : List (Letter P)) (trail : Trail P K) (new_past : List (PastEvent P K)) →
+      IsProcessInside config p number stream past pending waiting → IsRising pending → pending ≡ l ∷ ls → Some event ≡ ready_event pending past → new_number ≤ MAX_COUNT →
+      IsProcessStream config.seed p new_stream → trail.drawn ≤ MAX_DRAWS → trail.number ≤ MAX_COUNT → All (IsReady config.lps config.end) trail.anti_messages →
+      new_past ≡ past ++ past_event l trail ∷ [] → IsProcessInside config p new_number new_stream new_past ls waiting
+  inside-more config p number new_number stream new_stream past pending waiting event l ls trail new_past inside rises is ready few own few_words few_sends anti longer =
+      let e : PastEvent P K = past_event l trail in
+      let mine : All (IsOwnLetter p config.end Plus) (l ∷ ls) = subst (λ (xs : List (Letter P)). All (IsOwnLetter p config.end Plus) xs) is inside.own_pending in
+      let up : IsRising (l ∷ ls) = subst IsRising is rises in
+      let apart : All (IsNotPending (l ∷ ls)) past = subst (λ (xs : List (Letter P)). All (IsNotPending xs) past) is inside.apart in
+      subst (λ (es : List (PastEvent P K)). IsProcessInside config p new_number new_stream es ls waiting) (sym longer) (record {
+        known = inside.known;
+        few_sends = few;
+        own_stream = own;
+        own_pending = All-tail (IsOwnLetter p config.end Plus) l ls mine;
+        own_waiting = inside.own_waiting;
+        own_past = All-append (IsOwnEvent config p) past (e ∷ []) inside.own_past (All-cons (IsOwnEvent config p) e [] (record {
+          own = All-head (IsOwnLetter p config.end Plus) l ls mine;
+          few = few_words;
+          numbered = few_sends;
+          ready = anti;
+        }) (All-nil (IsOwnEvent config p)));
+        rising = rising-more past e inside.rising (ready-may l ls past event (ready ∙ ap (λ xs. ready_event xs past) is));
+        apart = All-append (IsNotPending ls) past (e ∷ [])
+            (All-weaker (IsNotPending (l ∷ ls)) (IsNotPending ls) past (λ d h. right-false (has_rank d.letter.event.rank l) (holds_rank d.letter.event.rank ls) h) apart)
+            (All-cons (IsNotPending ls) e [] (none-after (letter_rank l) ls up.0) (All-nil (IsNotPending ls)));
+      })
