@@ -7,3 +7,7 @@ mod CancelLemmas
 mod Sizes
 mod Stamping
 mod RipeLemmas
+mod Ends
+mod Advancing
+mod ExecuteLemmas
+mod UndoLemmas

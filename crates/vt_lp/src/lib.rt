@@ -8,8 +8,10 @@
 mod committing;
 mod entry;
 mod letters;
+mod executing;
 mod lp;
 mod making;
 mod starting;
+mod undoing;
 
 pub use lp::Lp;
