@@ -1,5 +1,5 @@
 -- A local step at one process: what stays of how a worker's fields go together, and what the step does to the part.
-use Rattle.std.proofs.Common.{◌≡◌, ℕ, zero, suc, ◌+◌, ◌-◌, ◌*◌, ◌/◌, ◌%◌, ◌<◌, ◌≤◌, inl, inr, Bool, true, false, List, [], ◌∷◌, ◌++◌, map, length, refl, sym, ◌∙◌, ap, subst, arith, Option, Some, None, slice_get, slice_set, slice_index_or}
+use Rattle.std.proofs.Common.{◌≡◌, ℕ, zero, suc, ◌+◌, ◌-◌, ◌*◌, ◌/◌, ◌%◌, ◌<◌, ◌≤◌, inl, inr, Bool, true, false, List, [], ◌∷◌, ◌++◌, map, length, refl, sym, ◌∙◌, ap, subst, arith, Option, Some, None, Result, Ok, Err, IfOk, IfErr, slice_get, slice_set, slice_index_or}
 use Rattle.std.specs.List.{All}
 use Rattle.std.proofs.Math.ListN.{length-set}
 use Rattle.std.proofs.lemmas.Bool.Decides.{eqb_tells}
@@ -17,7 +17,7 @@ use Rattle.vt_model.specs.Handler.{Handlers}
 use Rattle.vt_model.specs.Simulation.{Simulation, simulation_of}
 use Rattle.vt_steps.specs.Letters.{Counts}
 use Rattle.vt_steps.specs.World.{LogicalProcess, Part, process_at}
-use Rattle.vt_steps.specs.ProcessSteps.{ProcessEffect}
+use Rattle.vt_steps.specs.ProcessSteps.{ProcessEffect, execute_process}
 use Rattle.vt_steps.specs.PartSteps.{with_effect, at_process}
 use Rattle.vt_steps.specs.StandsFor.{ProcessMemory, StandForProcesses}
 use Rattle.vt_lp.specs.Held.{HeldProcess, process_memory, AllWithinRun, StandsFor as ProcessStandsFor}
@@ -176,3 +176,49 @@ pub entered : {S P K : Type 0} {config : Config} {w : ℕ} {processes : List (He
 entered {S} {P} {K} {config} {w} {processes} {outbox} {arrived} {sent} {got} {serial} ready earliest place new now new_ready new_earliest same r e h =
     subst (λ xs. IsWorkerInside config w processes outbox arrived sent got serial xs new_earliest) (sym (r ∙ ap (λ q. slice_set ready place (ready_of q)) same))
     (subst (λ xs. IsWorkerInside config w processes outbox arrived sent got serial (slice_set ready place (ready_of new)) xs) (sym (e ∙ ap (λ q. slice_set earliest place (earliest_of q)) same)) h)
+
+-- ---- results
+
+pub if_ok-more : {A E : Type 0} {Q R : A → Type 0} (result : Result A E) → ((a : A) → Q a → R a) → IfOk result Q → IfOk result R
+if_ok-more (Ok a) more h = more a h
+if_ok-more (Err e) more h = h
+
+pub if_err-more : {A E : Type 0} {Q R : E → Type 0} (result : Result A E) → ((e : E) → Q e → R e) → IfErr result Q → IfErr result R
+if_err-more (Ok a) more h = h
+if_err-more (Err e) more h = more e h
+
+-- what holds after either answer
+pub either-way : {A E : Type 0} {Q : A → Type 0} {R : E → Type 0} {T : Type 0} (result : Result A E) → ((a : A) → Q a → T) → ((e : E) → R e → T) → IfOk result Q → IfErr result R → T
+either-way (Ok a) done refused h k = done a h
+either-way (Err e) done refused h k = refused e k
+
+-- what is done at the process that was found is done at the worker
+pub at-found-done : {S P K : Type 0} (handlers : Handlers S P K) (held : HeldWorker S P K) (are : AreProcesses held.config held.worker 0 held.processes) (part : Part P) (h : StandsFor handlers held part)
+    (p place : ℕ) (q new : HeldProcess S P K) (outbox : List (Letter P)) (serial : ℕ) (step : LogicalProcess P → Option (ProcessEffect P))
+    → place ≡ p / held.config.workers → p % held.config.workers ≡ held.worker → (f : IsFound handlers held part p q) → new.lp ≡ q.lp → new.config ≡ q.config
+    → ProcessIsDone handlers new (step f.process) held.outbox outbox held.serial serial
+    → IsDone handlers (record held { processes = slice_set held.processes place new; outbox = outbox; serial = serial })
+      (at_own (simulation_of handlers held.config) held.worker p (at_process step (p / held.config.workers) part))
+at-found-done handlers held are part h p place q new outbox serial step is own f same_lp same_config done =
+    subst (λ k. IsDone handlers (record held { processes = slice_set held.processes k new; outbox = outbox; serial = serial }) (at_own (simulation_of handlers held.config) held.worker p (at_process step (p / held.config.workers) part)))
+    (sym is) (done-at handlers held part p q new outbox serial step h own f same_lp same_config done)
+
+-- a step that takes no serial leaves any serial
+pub no-serial : {S P K : Type 0} (handlers : Handlers S P K) (new : HeldProcess S P K) (step : Option (ProcessEffect P)) (outbox new_outbox : List (Letter P)) (serial : ℕ)
+    → ProcessIsDone handlers new step outbox new_outbox 0 0 → ProcessIsDone handlers new step outbox new_outbox serial serial
+no-serial handlers new step outbox new_outbox serial done = record {
+  effect = done.effect;
+  lawful = done.lawful;
+  stands = done.stands;
+  letters = done.letters;
+  serials = (let none = done.serials in omega (arith, none));
+}
+
+pub both-errors : {A E : Type 0} {Q R T : E → Type 0} (result : Result A E) → ((e : E) → Q e → R e → T e) → IfErr result Q → IfErr result R → IfErr result T
+both-errors (Ok a) more h k = h
+both-errors (Err e) more h k = more e h k
+
+-- Execute at a process, as the worker's step has it
+abbrev pub execute-step : {S P K : Type 0} → Handlers S P K → HeldWorker S P K → Part P → ℕ → LogicalProcess P → Option (ProcessEffect P)
+execute-step handlers held part p process =
+    execute_process (simulation_of handlers held.config) (process_at (simulation_of handlers held.config) held.worker (p / held.config.workers)) held.worker part.serial process
