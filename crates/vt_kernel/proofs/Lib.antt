@@ -8,3 +8,4 @@ pub mod PartingLemmas
 pub mod SendLemmas
 pub mod TimeLemmas
 pub mod LocalLemmas
+pub mod DeliveryLemmas

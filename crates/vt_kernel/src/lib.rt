@@ -6,6 +6,7 @@
 
 mod counts;
 mod cutting;
+mod delivering;
 mod fetching;
 mod kernel;
 mod local;
