@@ -1,0 +1,11 @@
+pub mod ProcessLemmas
+pub mod OwnSteps
+pub mod Settling
+pub mod EmptyLemmas
+pub mod InsideLemmas
+pub mod PartLemmas
+pub mod PartingLemmas
+pub mod SendLemmas
+pub mod TimeLemmas
+pub mod LocalLemmas
+pub mod DeliveryLemmas

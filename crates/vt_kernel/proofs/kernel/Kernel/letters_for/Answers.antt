@@ -1,0 +1,86 @@
+use Rattle.std.proofs.Common.{◌≡◌, ◌<◌, ◌≤◌, ◌+◌, ◌++◌, ◌∙◌, Bool, false, nat_eq, not, length, map, List, sym, ap, subst, rules, arith}
+use Rattle.std.proofs.lemmas.Bool.Decides.{nat_tests}
+use Rattle.std.proofs.lemmas.List.Elements.{All-filter}
+use Rattle.std.specs.List.{filter}
+use Rattle.vt_key.specs.Times.{Time, earlier}
+use Rattle.vt_key.specs.declared.fault.Fault.{Fault}
+use Rattle.vt_key.specs.declared.letter.Letter.{Letter}
+use Rattle.vt_key.specs.declared.letter.Mail.{Mail}
+use Rattle.vt_key.specs.declared.limits.TheConstants.{MAX_COUNT}
+use Rattle.vt_model.specs.Simulation.{simulation_of}
+use Rattle.vt_steps.specs.Letters.{Counts, least_time, raised, count_of}
+use Rattle.vt_steps.specs.PartSteps.{letters_for}
+use Rattle.vt_lp.specs.Held.{AllWithinRun, IsWithinRun}
+use Rattle.vt_kernel.specs.Held.{HeldWorker, AllOwnMail}
+use Rattle.vt_kernel.specs.Guards.{is_for_worker, mailed, IsSendRefusal}
+use Rattle.vt_kernel.proofs.InsideLemmas.{inside-outbox}
+use Rattle.vt_kernel.proofs.PartLemmas.{stands-send, mail-sent}
+use Rattle.vt_kernel.proofs.SendLemmas.{counted-raised, refused-send, own_mail-sent, count_sent, may_send-yes, if_err}
+use Rattle.vt_kernel.proofs.kernel.Kernel.letters_for.Goals as goal
+
+pub returns-in_err-count-clause-refused : goal.returns-in_err-count-clause-refused
+returns-in_err-count-clause-refused g c handlers part s =
+    let k = c.self.inside in
+    let test : nat_eq k.worker c.args.v ≡ false = grind (arith, nat_tests) in
+    if_err (λ (fault : Fault). IsSendRefusal (simulation_of handlers c.args.self.now.config) c.args.self.now.worker c.args.v part fault)
+    c.from_residual.result c.in_err-count.field-0.0 (search rules)
+    (refused-send c.self.view_is handlers c.args.v part s c.in_err-count.field-0.0 c.room-room.result c.room-room.ensures test c.in_err-count.ensures.refused)
+
+pub invariant_of-self : goal.invariant_of-self
+invariant_of-self g c =
+    let k = c.self.inside in
+    let inv = c.self.invariant in
+    let test : Letter _ → Bool = is_for_worker k.config c.args.v in
+    let letters = c.move_letters-least.ensures.outbox in
+    let count = c.in_ok-count.ensures.count in
+    let few : count_of k.sent k.colour + c.in_ok-count.count ≤ MAX_COUNT = omega (arith, c.room-room.ensures, count.1) in
+    inside-outbox c.move_letters-least.new.outbox c.raise.new.self
+    (subst (AllWithinRun k.config) (sym letters) (All-filter (λ (l : Letter _). not (test l)) (IsWithinRun k.config.lps k.config.end) k.outbox inv.sendable))
+    (rw c.raise.ensures (counted-raised k.sent k.colour c.in_ok-count.count inv.few_sent few))
+    inv
+
+pub returns-clause-sent : goal.returns-clause-sent
+returns-clause-sent g c =
+    let k = c.self.inside in
+    let others : HeldWorker _ _ _ → List (Letter _) = λ v. filter (λ (l : Letter _). not (is_for_worker v.config c.args.v l)) v.outbox in
+    let theirs : HeldWorker _ _ _ → List (Letter _) = λ v. filter (is_for_worker v.config c.args.v) v.outbox in
+    let after : HeldWorker _ _ _ → HeldWorker _ _ _ = λ v. record v {
+      outbox = others v;
+      sent = raised v.sent v.colour (length (theirs v));
+      red_minimum = earlier v.red_minimum (least_time v.config.end (theirs v));
+    } in
+    let sent : c.raise.new.self ≡ raised k.sent k.colour (length (filter (is_for_worker k.config c.args.v) k.outbox)) = c.raise.ensures ∙ ap (raised k.sent k.colour) c.in_ok-count.ensures.count.0 in
+    let red : c.earlier-self-inside.result ≡ earlier k.red_minimum (least_time k.config.end (filter (is_for_worker k.config c.args.v) k.outbox)) = c.earlier-self-inside.ensures ∙ ap (earlier k.red_minimum) c.move_letters-least.ensures.least in
+    (λ j. record {
+      worker = k.worker;
+      config = k.config;
+      processes = k.processes.items;
+      outbox = c.move_letters-least.ensures.outbox j;
+      arrived = k.arrived.items;
+      colour = k.colour;
+      sent = sent j;
+      got = k.got;
+      red_minimum = red j;
+      floor = k.floor;
+      serial = k.serial;
+    }) ∙ ap after c.self.view_is
+
+pub returns-clause-own : goal.returns-clause-own
+returns-clause-own g c =
+    let k = c.self.inside in
+    subst (λ (v : HeldWorker _ _ _). AllOwnMail v.config c.args.v (map (mailed v.colour) (filter (is_for_worker v.config c.args.v) v.outbox))) c.self.view_is
+    (own_mail-sent k.config c.args.v k.colour k.outbox c.self.invariant.sendable)
+
+pub returns-clause-done : goal.returns-clause-done
+returns-clause-done g c handlers part s =
+    let k = c.self.inside in
+    let sent : c.raise.new.self ≡ raised k.sent k.colour (length (filter (is_for_worker k.config c.args.v) k.outbox)) = c.raise.ensures ∙ ap (raised k.sent k.colour) c.in_ok-count.ensures.count.0 in
+    let red : c.earlier-self-inside.result ≡ earlier k.red_minimum (least_time k.config.end (filter (is_for_worker k.config c.args.v) k.outbox)) = c.earlier-self-inside.ensures ∙ ap (earlier k.red_minimum) c.move_letters-least.ensures.least in
+    let own : nat_eq k.worker c.args.v ≡ false = grind (arith, nat_tests) in
+    let other : nat_eq c.args.self.now.worker c.args.v ≡ false = ap (λ (v : HeldWorker _ _ _). nat_eq v.worker c.args.v) (sym c.self.view_is) ∙ own in
+    let number = count_sent c.self.view_is handlers c.args.v part s in
+    let count = c.in_ok-count.ensures.count in
+    let some : 0 < length (letters_for (simulation_of handlers c.args.self.now.config) c.args.v part) = omega (arith, number, count.0, count.2) in
+    (may_send-yes (simulation_of handlers c.args.self.now.config) c.args.self.now.worker c.args.v part other some,
+     stands-send c.self.view_is handlers c.args.v part s _ c.move_letters-least.ensures.outbox _ sent _ red,
+     c.move_letters-least.ensures.mail ∙ (λ j. c.make_room.ensures.items j ++ mail-sent c.self.view_is handlers c.args.v part s j))

@@ -1,0 +1,73 @@
+-- What the calls of a worker answer and leave, by the steps of a world's part.
+use Rattle.std.specs.Prelude.{◌≡◌, ℕ, ◌+◌, ◌<◌, ◌≤◌, ◌⊎◌, ◌/◌, ◌%◌, Bool, nat_eq, true, false, List, [], ◌∷◌, ◌++◌, map, length, Option, Some, None, slice_get, IfSome}
+use Rattle.std.specs.List.{flat_map}
+use Rattle.vt_key.specs.Times.{Time}
+use Rattle.vt_key.specs.declared.limits.TheConstants.{MAX_COUNT}
+use Rattle.vt_key.specs.declared.letter.Letter.{Letter}
+use Rattle.vt_key.specs.declared.letter.Mail.{Mail}
+use Rattle.vt_key.specs.declared.letter.Colour.{Colour}
+use Rattle.vt_key.specs.declared.fault.Fault.{Fault}
+use Rattle.vt_key.specs.declared.fault.Fault.TheVariants.{Memory, NotLawful, Exhausted}
+use Rattle.vt_model.specs.declared.settings.Config.{Config}
+use Rattle.vt_model.specs.Handler.{Handlers}
+use Rattle.vt_model.specs.Simulation.{Simulation}
+use Rattle.vt_steps.specs.declared.step.Step.{Step}
+use Rattle.vt_steps.specs.Letters.{count_of}
+use Rattle.vt_steps.specs.World.{LogicalProcess, Part}
+use Rattle.vt_steps.specs.PartSteps.{letters_for}
+use Rattle.vt_steps.specs.Next.{may_send}
+use Rattle.vt_lp.specs.Held.{HeldProcess}
+use Rattle.vt_lp.specs.Guards.{number_of}
+use Rattle.vt_kernel.specs.Held.{HeldWorker, StandsFor}
+use Rattle.vt_kernel.specs.Local.{local_steps, IsSettled, AreSettling}
+
+-- a step is done: it was lawful, and the worker stands for the part after it
+pub record IsDone {S P K : Type 0} (handlers : Handlers S P K) (new : HeldWorker S P K) (step : Option (Part P)) : Type 0 where
+  pub part : Part P
+  pub lawful : step ≡ Some part
+  pub stands : StandsFor handlers new part
+
+module _ {S P : Type 0} (sim : Simulation S P) where
+  -- the send number of process p in a part
+  abbrev pub NumberIs : ℕ → Part P → ℕ → Type 0
+  NumberIs p part number =
+      (process : LogicalProcess P) × (slice_get part.processes (p / sim.workers) ≡ Some process) × (number ≡ number_of sim p process)
+
+  -- why Execute of process p is refused: it is not lawful; or it is, and the send number or the serial would pass its limit;
+  -- or neither would, and memory was refused
+  abbrev pub IsExecuteRefusal : ℕ → Option (Part P) → Fault → Type 0
+  IsExecuteRefusal p None fault = fault ≡ NotLawful
+  IsExecuteRefusal p (Some part) fault = (number : ℕ) × NumberIs p part number
+      × (((fault ≡ Exhausted) × ((MAX_COUNT < number) ⊎ (MAX_COUNT < part.serial)))
+      ⊎ ((fault ≡ Memory) × (number ≤ MAX_COUNT) × (part.serial ≤ MAX_COUNT)))
+
+  -- why Send from worker w to v is refused: it is not lawful; or it is, and the count of mail sent would pass its limit; or it
+  -- would not, and memory was refused
+  abbrev pub IsSendRefusal : ℕ → ℕ → Part P → Fault → Type 0
+  IsSendRefusal w v part fault =
+      ((fault ≡ NotLawful) × (may_send sim w v part ≡ false))
+      ⊎ ((may_send sim w v part ≡ true)
+      × (((fault ≡ Exhausted) × (MAX_COUNT < count_of part.sent part.colour + length (letters_for sim v part)))
+      ⊎ ((fault ≡ Memory) × (count_of part.sent part.colour + length (letters_for sim v part) ≤ MAX_COUNT))))
+
+  -- Undo and Cancel at process p, as often as one is lawful: steps of these two kinds lead from one part to another, at which
+  -- neither is lawful any more
+  pub record SettlesTo (w p : ℕ) (part new : Part P) : Type 0 where
+    pub steps : List Step
+    pub settling : AreSettling p steps
+    pub led : local_steps sim w steps part ≡ Some new
+    pub settled : IsSettled sim w p new
+
+-- the letter is for a process of worker v
+abbrev pub is_for_worker : {P : Type 0} → Config → ℕ → Letter P → Bool
+is_for_worker config v letter = nat_eq (letter.event.dest % config.workers) v
+
+-- the letter as mail of this colour
+abbrev pub mailed : {P : Type 0} → Colour → Letter P → Mail P
+mailed colour letter = record { letter = letter; colour = colour }
+
+-- all letters that a worker has: in its outbox, arrived, pending and waiting
+abbrev pub held_letters : {S P K : Type 0} → HeldWorker S P K → List (Letter P)
+held_letters held =
+    held.outbox ++ map (λ mail. mail.letter) held.arrived
+    ++ flat_map (λ process. process.pending ++ process.waiting) held.processes

@@ -1,0 +1,112 @@
+-- What a worker keeps in memory, and which parts of a world it stands for.
+use Rattle.std.specs.Prelude.{◌≡◌, ℕ, ◌+◌, ◌-◌, ◌*◌, ◌/◌, ◌%◌, ◌<◌, ◌≤◌, List, [], ◌∷◌, ◌++◌, map, length, All, Option, Some, None, slice_get}
+use Rattle.std.specs.List.{flat_map}
+use Rattle.vt_key.specs.Times.{Time}
+use Rattle.vt_key.specs.declared.limits.TheConstants.{MAX_COUNT}
+use Rattle.vt_key.specs.declared.order.Rank.{Rank}
+use Rattle.vt_key.specs.declared.letter.Letter.{Letter}
+use Rattle.vt_key.specs.declared.letter.Mail.{Mail}
+use Rattle.vt_key.specs.declared.letter.Colour.{Colour}
+use Rattle.vt_model.specs.declared.settings.Config.{Config}
+use Rattle.vt_model.specs.Handler.{Handlers}
+use Rattle.vt_model.specs.Simulation.{Simulation, simulation_of}
+use Rattle.vt_steps.specs.Letters.{Counts, least_time}
+use Rattle.vt_steps.specs.World.{Part}
+use Rattle.vt_steps.specs.StandsFor.{PartMemory, StandsForPart}
+use Rattle.vt_lp.specs.Held.{HeldProcess, process_memory, AllWithinRun, IsWithinRun}
+use Rattle.vt_lp.specs.Guards.{ready_rank, lesser_rank}
+
+-- what a contract sees of a worker: its number and the config, and all that a part of a world has, with its processes as they
+-- are in memory. Process p is at place p / workers
+pub record HeldWorker (S P K : Type 0) : Type 0 where
+  pub worker : ℕ
+  pub config : Config
+  pub processes : List (HeldProcess S P K)
+  pub outbox : List (Letter P)
+  pub arrived : List (Mail P)
+  pub colour : Colour
+  pub sent : Counts
+  pub got : Counts
+  pub red_minimum : Time
+  pub floor : Time
+  pub serial : ℕ
+
+module _ {S P K : Type 0} (handlers : Handlers S P K) where
+  -- what a worker is as memory of a world's part
+  abbrev pub part_memory : HeldWorker S P K → PartMemory S P
+  part_memory held = record {
+    processes = map (process_memory handlers) held.processes;
+    outbox = held.outbox;
+    arrived = held.arrived;
+    colour = held.colour;
+    sent = held.sent;
+    got = held.got;
+    red_minimum = held.red_minimum;
+    floor = held.floor;
+    serial = held.serial;
+  }
+
+  -- the worker stands for this part of a world
+  abbrev pub StandsFor : HeldWorker S P K → Part P → Type 0
+  StandsFor held part = StandsForPart (simulation_of handlers held.config) held.worker (part_memory held) part
+
+-- ---- what a worker keeps to
+
+module _ {P : Type 0} where
+  -- mail that a process of worker w receives before the end of the run
+  pub record IsOwnMail (config : Config) (w : ℕ) (mail : Mail P) : Type 0 where
+    pub within : IsWithinRun config.lps config.end mail.letter
+    pub own : mail.letter.event.dest % config.workers ≡ w
+
+  -- all of this mail is
+  abbrev pub AllOwnMail : Config → ℕ → List (Mail P) → Type 0
+  AllOwnMail config w mails = All (IsOwnMail config w) mails
+
+-- the time of a rank; of none it is the end of the run
+abbrev pub rank_time : Time → Option Rank → Time
+rank_time end None = end
+rank_time end (Some rank) = rank.key.time
+
+module _ {S P K : Type 0} where
+  -- the processes of worker w from this place on
+  abbrev pub AreProcesses : Config → ℕ → ℕ → List (HeldProcess S P K) → Type 0
+  AreProcesses config w place [] = Unit {0}
+  AreProcesses config w place (held ∷ rest) =
+      (held.lp ≡ place * config.workers + w) × (held.config ≡ config) × AreProcesses config w (place + 1) rest
+
+  -- the rank of the event that Execute would execute at a process, if it is lawful there
+  abbrev pub ready_of : HeldProcess S P K → Option Rank
+  ready_of held = ready_rank held.pending held.past
+
+  -- the least rank of what is pending or waits at a process
+  abbrev pub earliest_of : HeldProcess S P K → Option Rank
+  earliest_of held = lesser_rank (slice_get held.pending 0) (slice_get held.waiting 0)
+
+  -- the least rank of a process tells the least time of what is pending or waits there
+  abbrev pub TellsLeast : HeldProcess S P K → Type 0
+  TellsLeast held = rank_time held.config.end (earliest_of held) ≡ least_time held.config.end (held.pending ++ held.waiting)
+
+  -- what these processes enter into a tournament, which has one entry at least
+  abbrev pub entries_of : (HeldProcess S P K → Option Rank) → List (HeldProcess S P K) → List (Option Rank)
+  entries_of entry [] = None ∷ []
+  entries_of entry (held ∷ rest) = map entry (held ∷ rest)
+
+-- both counts are within their limit
+pub record AreCounted (counts : Counts) : Type 0 where
+  pub white : counts.white ≤ MAX_COUNT
+  pub red : counts.red ≤ MAX_COUNT
+
+-- how the fields of a worker go together
+pub record IsWorkerInside {S P K : Type 0} (config : Config) (w : ℕ) (processes : List (HeldProcess S P K)) (outbox : List (Letter P))
+    (arrived : List (Mail P)) (sent got : Counts) (serial : ℕ) (ready earliest : List (Option Rank)) : Type 0 where
+  pub known : w < config.workers
+  pub all_there : length processes ≡ (config.lps + (config.workers - 1) - w) / config.workers
+  pub own_processes : AreProcesses config w 0 processes
+  pub sendable : AllWithinRun config outbox
+  pub own_mail : AllOwnMail config w arrived
+  pub few_sent : AreCounted sent
+  pub few_got : AreCounted got
+  pub few_made : serial ≤ MAX_COUNT
+  pub ready_entered : ready ≡ entries_of ready_of processes
+  pub earliest_entered : earliest ≡ entries_of earliest_of processes
+  pub least_told : All TellsLeast processes

@@ -1,0 +1,38 @@
+-- Lists of local steps at one part.
+use Rattle.std.specs.Prelude.{◌≡◌, ℕ, ◌/◌, ◌%◌, Bool, nat_eq, ◌⊎◌, List, [], ◌∷◌, if◌then◌else◌, Option, Some, None}
+use Rattle.std.specs.Option.{option_and_then}
+use Rattle.vt_key.specs.declared.order.Stamp.{Stamp}
+use Rattle.vt_model.specs.Simulation.{Simulation}
+use Rattle.vt_steps.specs.declared.step.Step.{Step}
+use Rattle.vt_steps.specs.declared.step.Step.TheVariants.{Execute, Undo, Cancel, Home, Send, Fetch, Accept, Cut, Report, Commit, Close}
+use Rattle.vt_steps.specs.World.{Part}
+use Rattle.vt_steps.specs.PartSteps.{execute, undo, cancel, home, accept}
+
+module _ {S P : Type 0} (sim : Simulation S P) (w : ℕ) where
+  -- a step at process p, where it is one of worker w; no step of this worker is lawful at another's
+  abbrev pub at_own : ℕ → Option (Part P) → Option (Part P)
+  at_own p step = if nat_eq (p % sim.workers) w then step else None
+
+  -- a local step of worker w on its part, if it is lawful
+  abbrev pub local_step : Step → Part P → Option (Part P)
+  local_step (Execute p) part = at_own p (execute sim w (p / sim.workers) part)
+  local_step (Undo p) part = at_own p (undo (p / sim.workers) part)
+  local_step (Cancel p stamp) part = at_own p (cancel (p / sim.workers) stamp part)
+  local_step (Home v) part = if nat_eq v w then home sim w part else None
+  local_step (Accept v i) part = if nat_eq v w then accept sim i part else None
+  local_step _ part = None
+
+  -- a list of local steps, each of them lawful
+  abbrev pub local_steps : List Step → Part P → Option (Part P)
+  local_steps [] part = Some part
+  local_steps (step ∷ steps) part = option_and_then (local_steps steps) (local_step step part)
+
+  -- at process p there is nothing to undo and nothing to cancel
+  pub record IsSettled (p : ℕ) (part : Part P) : Type 0 where
+    pub no_undo : local_step (Undo p) part ≡ None
+    pub no_cancel : (stamp : Stamp) → local_step (Cancel p stamp) part ≡ None
+
+-- the steps undo and cancel at process p alone
+abbrev pub AreSettling : ℕ → List Step → Type 0
+AreSettling p [] = Unit {0}
+AreSettling p (step ∷ steps) = ((step ≡ Undo p) ⊎ ((stamp : Stamp) × (step ≡ Cancel p stamp))) × AreSettling p steps

@@ -1,0 +1,41 @@
+//! What has arrived.
+
+ghost use Rattle.std.specs.Prelude.{◌≡◌, ◌+◌, ◌<◌, ◌≤◌, ◌⊎◌, true, false, IfOk, IfErr};
+ghost use Rattle.vt_key.specs.declared.fault.Fault.TheVariants.{NotLawful, Exhausted};
+ghost use Rattle.vt_key.specs.declared.letter.Colour.TheVariants.{White, Red};
+ghost use Rattle.vt_key.specs.declared.limits.TheConstants.{MAX_COUNT};
+ghost use Rattle.vt_model.specs.Handler.{Handlers};
+ghost use Rattle.vt_steps.specs.Letters.{raised, count_colour, is_empty};
+ghost use Rattle.vt_steps.specs.World.{Part};
+ghost use Rattle.vt_steps.specs.PartSteps.{part_after_fetch};
+ghost use Rattle.vt_kernel.specs.Held.{StandsFor, AllOwnMail, AreCounted};
+
+use crate::counts::Counts;
+use crate::kernel::Kernel;
+use vt_key::{Fault, Mail};
+use vt_model::Model as EventModel;
+
+impl<M: EventModel> Kernel<M> {
+    /// The worker's part of a fetch: this mail, which was in its inbox, has arrived, and is counted by colour. It takes no memory.
+    ///
+    /// [`Fault::NotLawful`]: something that arrived before is not accepted yet. [`Fault::Exhausted`]: a count of mail got would
+    /// pass 2^63. After either all is as it was, and the mail is handed back.
+    pub fn take_in(&mut self, mail: Vec<Mail<M::Payload>>) -> Result<(), (Fault, Vec<Mail<M::Payload>>)>
+        requires own { AllOwnMail self.old.config self.old.worker mail.items }
+        ensures taken { IfOk result (λ _. self.new ≡ record self.old { arrived = mail.items; got = raised (raised self.old.got White (count_colour White mail.items)) Red (count_colour Red mail.items) }) }
+        ensures lawful { IfOk result (λ _. (is_empty self.old.arrived ≡ true) × AreCounted self.new.got) }
+        ensures done { (handlers : Handlers _ _ _) (part : Part _) → StandsFor handlers self.old part → IfOk result (λ _. (is_empty part.arrived ≡ true) × StandsFor handlers self.new (part_after_fetch mail.items part)) }
+        ensures refused { IfErr result (λ e. ((e.0 ≡ NotLawful) × (is_empty self.old.arrived ≡ false)) ⊎ ((e.0 ≡ Exhausted) × (is_empty self.old.arrived ≡ true) × ((MAX_COUNT < self.old.got.white + count_colour White mail.items) ⊎ (MAX_COUNT < self.old.got.red + count_colour Red mail.items)))) }
+        ensures kept { IfErr result (λ e. (self.new ≡ self.old) × (e.1.items ≡ mail.items)) }
+    {
+        if !self.arrived.is_empty() {
+            return Err((Fault::NotLawful, mail));
+        }
+        let Some(got) = self.got.plus(&Counts::of_mail(&mail)) else {
+            return Err((Fault::Exhausted, mail));
+        };
+        self.got = got;
+        self.arrived = mail;
+        Ok(())
+    }
+}

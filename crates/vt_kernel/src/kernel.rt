@@ -1,0 +1,100 @@
+//! The worker.
+
+ghost use Rattle.std.specs.Prelude.{◌≡◌, ◌%◌, ◌^◌, length};
+
+use crate::counts::Counts;
+use std::marker::Model;
+use vt_key::{Colour, Letter, Mail, Time};
+use vt_list::List;
+use vt_lp::Lp;
+use vt_model::{Config, Model as EventModel};
+use vt_tournament::Tournament;
+
+/// One worker: its processes, its outbox, the mail that has arrived, its colour, counts, red minimum, floor and serial.
+///
+/// Contracts see these (`HeldWorker`). Committed events are not kept, so a contract speaks of every part of a world that the
+/// value stands for (`StandsFor`).
+#[derive(Drop)]
+pub struct Kernel<M: EventModel> {
+    pub(crate) config: Config,
+    pub(crate) worker: u32,
+    pub(crate) processes: Vec<Lp<M>>,
+    pub(crate) outbox: List<Letter<M::Payload>>,
+    pub(crate) arrived: Vec<Mail<M::Payload>>,
+    pub(crate) colour: Colour,
+    pub(crate) sent: Counts,
+    pub(crate) got: Counts,
+    pub(crate) red_minimum: Time,
+    pub(crate) floor: Time,
+    pub(crate) serial: u64,
+    // Who of the processes may execute, by the rank of its least pending event.
+    pub(crate) ready: Tournament,
+    // The least rank of what is pending or waits at each process.
+    pub(crate) earliest: Tournament,
+}
+
+impl<M: EventModel> Model for Kernel<M> {
+    ghost use Rattle.vt_kernel.specs.Held.{HeldWorker, IsWorkerInside};
+
+    ghost Value = { HeldWorker M.State M.Payload M.Kept };
+
+    ghost view = { λ k. record {
+      worker = k.worker;
+      config = k.config;
+      processes = k.processes.items;
+      outbox = k.outbox;
+      arrived = k.arrived.items;
+      colour = k.colour;
+      sent = k.sent;
+      got = k.got;
+      red_minimum = k.red_minimum;
+      floor = k.floor;
+      serial = k.serial;
+    } };
+
+    ghost invariant = { λ k. IsWorkerInside k.config k.worker k.processes.items k.outbox k.arrived.items k.sent k.got k.serial k.ready k.earliest };
+}
+
+impl<M: EventModel> Kernel<M> {
+    /// The serial of the next event that the worker makes.
+    pub fn serial(&self) -> u64
+        ensures { result ≡ self.now.serial }
+    {
+        self.serial
+    }
+
+    /// How many letters are in the outbox, modulo 2^64: where 2^64 are more than memory holds, this is their number.
+    pub fn outbox_len(&self) -> usize
+        ensures { result ≡ length self.now.outbox % 2 ^ 64 }
+    {
+        self.outbox.len()
+    }
+
+    /// How much mail has arrived and is not accepted yet.
+    pub fn arrived_len(&self) -> usize
+        ensures { result ≡ length self.now.arrived }
+    {
+        self.arrived.len()
+    }
+
+    /// The colour of the mail that the worker sends now.
+    pub fn colour(&self) -> Colour
+        ensures { result ≡ self.now.colour }
+    {
+        self.colour
+    }
+
+    /// The least time of all that the worker sent since it took its colour; the end of the run where it sent nothing.
+    pub fn red_minimum(&self) -> Time
+        ensures { result ≡ self.now.red_minimum }
+    {
+        self.red_minimum
+    }
+
+    /// The time below which the worker may commit.
+    pub fn floor(&self) -> Time
+        ensures { result ≡ self.now.floor }
+    {
+        self.floor
+    }
+}

@@ -1,0 +1,120 @@
+//! The mail that leaves for another worker.
+
+ghost use Rattle.std.specs.Prelude.{◌≡◌, ◌+◌, ◌<◌, ◌≤◌, ◌⊎◌, ◌++◌, true, not, length, map, filter, vec_len, IfOk, IfErr, IfSome, IfNone};
+ghost use Rattle.std.specs.Vec.{vec_capacity};
+ghost use Rattle.vt_key.specs.Times.{earlier};
+ghost use Rattle.vt_key.specs.declared.fault.Fault.TheVariants.{Memory, NotLawful, Exhausted};
+ghost use Rattle.vt_model.specs.Handler.{Handlers};
+ghost use Rattle.vt_model.specs.Simulation.{simulation_of};
+ghost use Rattle.vt_steps.specs.Letters.{least_time, raised};
+ghost use Rattle.vt_steps.specs.World.{Part};
+ghost use Rattle.vt_steps.specs.PartSteps.{part_after_send, mail_of_send};
+ghost use Rattle.vt_steps.specs.Next.{may_send};
+ghost use Rattle.vt_kernel.specs.Held.{StandsFor, AllOwnMail};
+ghost use Rattle.vt_kernel.specs.Guards.{is_for_worker, mailed, IsSendRefusal};
+
+use crate::kernel::Kernel;
+use crate::times::earlier;
+use std::mem;
+use vt_key::{Colour, Fault, Letter, Mail, Time};
+use vt_list::List;
+use vt_model::{Config, Model as EventModel};
+
+impl<M: EventModel> Kernel<M> {
+    /// The worker's part of a send to worker `v`: the letters of the outbox for processes of `v` become mail of the worker's
+    /// colour behind `mail`, in their order. They are counted, and the red minimum falls to the least of their times where that
+    /// is less.
+    ///
+    /// [`Fault::NotLawful`]: `v` is this worker, or the outbox holds no letter for a process of `v`. [`Fault::Exhausted`]: the
+    /// count of mail sent would pass 2^63. [`Fault::Memory`]: memory was refused. After each the worker and `mail` are as they
+    /// were.
+    pub fn letters_for(&mut self, v: u32, mail: &mut Vec<Mail<M::Payload>>) -> Result<(), Fault>
+        ensures sent { let letters = filter (is_for_worker self.old.config v) self.old.outbox in IfOk result (λ _. self.new ≡ record self.old { outbox = filter (λ letter. not (is_for_worker self.old.config v letter)) self.old.outbox; sent = raised self.old.sent self.old.colour (length letters); red_minimum = earlier self.old.red_minimum (least_time self.old.config.end letters) }) }
+        ensures mail { IfOk result (λ _. mail.new.items ≡ mail.old.items ++ map (mailed self.old.colour) (filter (is_for_worker self.old.config v) self.old.outbox)) }
+        ensures own { IfOk result (λ _. AllOwnMail self.old.config v (map (mailed self.old.colour) (filter (is_for_worker self.old.config v) self.old.outbox))) }
+        ensures done { (handlers : Handlers _ _ _) (part : Part _) → StandsFor handlers self.old part → IfOk result (λ _. (may_send (simulation_of handlers self.old.config) self.old.worker v part ≡ true) × StandsFor handlers self.new (part_after_send (simulation_of handlers self.old.config) v part) × (mail.new.items ≡ mail.old.items ++ mail_of_send (simulation_of handlers self.old.config) v part)) }
+        ensures refused { (handlers : Handlers _ _ _) (part : Part _) → StandsFor handlers self.old part → IfErr result (λ fault. IsSendRefusal (simulation_of handlers self.old.config) self.old.worker v part fault) }
+        ensures faults { IfErr result (λ fault. (fault ≡ NotLawful) ⊎ ((fault ≡ Exhausted) ⊎ (fault ≡ Memory))) }
+        ensures kept { IfErr result (λ fault. (self.new ≡ self.old) × (mail.new.items ≡ mail.old.items)) }
+    {
+        if v == self.worker {
+            return Err(Fault::NotLawful);
+        }
+        let room = self.sent.room(self.colour);
+        let count = make_room(&self.outbox, self.config, v, room, mail)?;
+        let least = move_letters(&mut self.outbox, self.config, v, self.colour, mail);
+        self.sent.raise(self.colour, count);
+        self.red_minimum = earlier(self.red_minimum, least);
+        Ok(())
+    }
+}
+
+/// Makes room in `mail` for the letters of an outbox that are for processes of worker `v`, and tells how many they are.
+fn make_room<P: Copy>(
+    outbox: &List<Letter<P>>,
+    config: Config,
+    v: u32,
+    most: u64,
+    mail: &mut Vec<Mail<P>>,
+) -> Result<u64, Fault>
+    ensures items { mail.new.items ≡ mail.old.items }
+    ensures count { IfOk result (λ n. (n ≡ length (filter (is_for_worker config v) outbox.now)) × (n ≤ most) × (0 < n)) }
+    ensures room { IfOk result (λ n. vec_len mail.new + length (filter (is_for_worker config v) outbox.now) ≤ vec_capacity mail.new) }
+    ensures refused { let count = length (filter (is_for_worker config v) outbox.now) in IfErr result (λ fault. ((fault ≡ NotLawful) × (count ≡ 0)) ⊎ ((0 < count) × (((fault ≡ Exhausted) × (most < count)) ⊎ ((fault ≡ Memory) × (count ≤ most))))) }
+{
+    let Some(count) = count_for(outbox, config, v, most) else {
+        return Err(Fault::Exhausted);
+    };
+    if count == 0 {
+        return Err(Fault::NotLawful);
+    }
+    let Ok(()) = mail.reserve(count as usize) else {
+        return Err(Fault::Memory);
+    };
+    Ok(count)
+}
+
+/// How many letters of an outbox are for processes of worker `v`; None where they are more than `most`.
+fn count_for<P: Copy>(outbox: &List<Letter<P>>, config: Config, v: u32, most: u64) -> Option<u64>
+    ensures count { IfSome result (λ n. (n ≡ length (filter (is_for_worker config v) outbox.now)) × (n ≤ most)) }
+    ensures more { IfNone result (most < length (filter (is_for_worker config v) outbox.now)) }
+{
+    let mut count = 0;
+    for letter in outbox.iter() {
+        if config.owner(letter.event.dest) == v {
+            if count == most {
+                return None;
+            }
+            count += 1;
+        }
+    }
+    Some(count)
+}
+
+/// Moves the letters for processes of worker `v` from the outbox to the back of `mail`, and tells their least time; of none
+/// it is the end of the run. There must be room.
+fn move_letters<P: Copy>(
+    outbox: &mut List<Letter<P>>,
+    config: Config,
+    v: u32,
+    colour: Colour,
+    mail: &mut Vec<Mail<P>>,
+) -> Time
+    requires room { vec_len mail.old + length (filter (is_for_worker config v) outbox.old) ≤ vec_capacity mail.old }
+    ensures outbox { outbox.new ≡ filter (λ letter. not (is_for_worker config v letter)) outbox.old }
+    ensures mail { mail.new.items ≡ mail.old.items ++ map (mailed colour) (filter (is_for_worker config v) outbox.old) }
+    ensures least { result ≡ least_time config.end (filter (is_for_worker config v) outbox.old) }
+{
+    let mut letters = mem::replace(outbox, List::new(*mail.allocator()));
+    let mut least = config.end;
+    while let Some(parcel) = letters.pop_front() {
+        if config.owner(parcel.get().event.dest) == v {
+            let letter = parcel.into_value();
+            least = earlier(least, letter.event.rank.key.time);
+            let _ = mail.push(Mail { letter, colour });
+        } else {
+            outbox.push_back(parcel);
+        }
+    }
+    least
+}

@@ -1,0 +1,13 @@
+mod RisingLemmas
+mod PastLemmas
+mod ReadyLemmas
+mod LeastLemmas
+mod AcceptLemmas
+mod CancelLemmas
+mod Sizes
+mod Stamping
+mod RipeLemmas
+mod Ends
+mod Advancing
+mod ExecuteLemmas
+mod UndoLemmas

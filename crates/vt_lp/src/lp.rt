@@ -1,0 +1,135 @@
+//! The process and its readers.
+
+ghost use Rattle.std.specs.Prelude.{◌≡◌, ◌++◌, ◌%◌, ◌^◌, [], length, slice_get, IfSome, IfNone};
+ghost use Rattle.std.specs.Option.{option_copied};
+ghost use Rattle.vt_steps.specs.Letters.{least_time};
+ghost use Rattle.vt_lp.specs.Guards.{ready_rank, lesser_rank};
+
+use crate::entry::PastEvent;
+use std::marker::Model;
+use vt_key::{Letter, Rank, Time};
+use vt_list::List;
+use vt_model::{Config, Model as EventModel, Process};
+use vt_pending::Pending;
+
+/// A logical process with rollback: where it stands, its past events with what undoes them, its pending messages, and the
+/// anti-messages that wait for theirs.
+///
+/// Contracts see these (`HeldProcess`). Committed events are not kept, so a contract speaks of every process of a world that
+/// the value stands for (`StandsFor`): one with the same past, pending and waiting, whose committed events lead to where the
+/// past begins.
+#[derive(Drop)]
+pub struct Lp<M: EventModel> {
+    pub(crate) config: Config,
+    pub(crate) lp: u32,
+    pub(crate) process: Process<M>,
+    pub(crate) past: List<PastEvent<M::Payload, M::Kept>>,
+    pub(crate) pending: Pending<M::Payload>,
+    pub(crate) waiting: Pending<M::Payload>,
+}
+
+impl<M: EventModel> Model for Lp<M> {
+    ghost use Rattle.vt_model.specs.Process.{triple_at};
+    ghost use Rattle.vt_lp.specs.Held.{HeldProcess, IsProcessInside};
+
+    ghost Value = { HeldProcess M.State M.Payload M.Kept };
+
+    ghost view = { λ l. record {
+      lp = l.lp;
+      config = l.config;
+      triple = triple_at l.process.state l.process.number l.process.stream;
+      past = l.past;
+      pending = l.pending;
+      waiting = l.waiting;
+    } };
+
+    ghost invariant = { λ l. IsProcessInside l.config l.lp l.process.number l.process.stream l.past l.pending l.waiting };
+}
+
+impl<M: EventModel> Lp<M> {
+    /// The state.
+    pub fn state(&self) -> &M::State
+        ensures { result.now ≡ self.now.triple.state }
+    {
+        &self.process.state
+    }
+
+    /// The number of the next send: how many events the process has sent, those at or past the end of the run among them.
+    pub fn number(&self) -> u64
+        ensures { result ≡ self.now.triple.number }
+    {
+        self.process.number
+    }
+
+    /// The place of the next random word: how many words the process has drawn, modulo 2^64.
+    pub fn place(&self) -> u64
+        ensures { result ≡ self.now.triple.place }
+    {
+        self.process.stream.place()
+    }
+
+    /// How many past events there are, modulo 2^64: where 2^64 are more than memory holds, this is their number.
+    pub fn past_len(&self) -> usize
+        ensures { result ≡ length self.now.past % 2 ^ 64 }
+    {
+        self.past.len()
+    }
+
+    /// How many messages are pending, modulo 2^64.
+    pub fn pending_len(&self) -> usize
+        ensures { result ≡ length self.now.pending % 2 ^ 64 }
+    {
+        self.pending.len()
+    }
+
+    /// How many anti-messages wait for their messages, modulo 2^64.
+    pub fn waiting_len(&self) -> usize
+        ensures { result ≡ length self.now.waiting % 2 ^ 64 }
+    {
+        self.waiting.len()
+    }
+
+    /// The least time of what is pending or waits; the end of the run where nothing does.
+    pub fn least(&self) -> Time
+        ensures { result ≡ least_time self.now.config.end (self.now.pending ++ self.now.waiting) }
+    {
+        match self.least_rank() {
+            Some(rank) => rank.key.time,
+            None => self.config.end,
+        }
+    }
+
+    /// The least rank of what is pending or waits; None where nothing does.
+    pub fn least_rank(&self) -> Option<Rank>
+        ensures rank { result ≡ lesser_rank (slice_get self.now.pending 0) (slice_get self.now.waiting 0) }
+        ensures time { IfSome result (λ rank. rank.key.time ≡ least_time self.now.config.end (self.now.pending ++ self.now.waiting)) }
+        ensures nothing { IfNone result ((self.now.pending ≡ []) × (self.now.waiting ≡ [])) }
+    {
+        lesser(self.pending.least(), self.waiting.least())
+    }
+
+    /// The rank of the event that [`Lp::execute`] would execute: the least pending one, where it comes after the last past
+    /// one. None where there is no such event.
+    pub fn ready(&self) -> Option<Rank>
+        ensures { result ≡ ready_rank self.now.pending self.now.past }
+    {
+        let least = self.pending.least()?;
+        if let Some(last) = self.past.back() {
+            if !last.letter.get().event.rank.is_before(&least.event.rank) {
+                return None;
+            }
+        }
+        Some(least.event.rank)
+    }
+}
+
+/// The lesser of the ranks of two letters that may be there.
+fn lesser<P>(a: Option<&Letter<P>>, b: Option<&Letter<P>>) -> Option<Rank>
+    ensures { result ≡ lesser_rank (option_copied a.entry) (option_copied b.entry) }
+{
+    match (a, b) {
+        (Some(a), Some(b)) if b.event.rank.is_before(&a.event.rank) => Some(b.event.rank),
+        (Some(a), _) => Some(a.event.rank),
+        (None, b) => b.map(|letter| letter.event.rank),
+    }
+}
