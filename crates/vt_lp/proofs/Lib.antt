@@ -7,3 +7,7 @@ pub mod Ends
 pub mod Advancing
 pub mod ExecuteLemmas
 pub mod UndoLemmas
+pub mod ReadyLemmas
+pub mod LeastLemmas
+pub mod CancelLemmas
+pub mod RipeLemmas

@@ -1,3 +1,4 @@
 pub mod Held
 pub mod Guards
 pub mod Past
+pub mod Ripe

@@ -5,8 +5,10 @@
 //! its event was executed.
 #![tactic(auto)]
 
+mod committing;
 mod entry;
 mod executing;
+mod letters;
 mod lp;
 mod making;
 mod starting;
