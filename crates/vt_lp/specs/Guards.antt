@@ -1,9 +1,10 @@
 -- What the calls of a process answer and leave, by the steps of a world's process.
-use Rattle.std.specs.Prelude.{◌≡◌, ℕ, ◌+◌, ◌<◌, ◌≤◌, ◌⊎◌, Bool, true, false, ◌||◌, List, [], ◌∷◌, ◌++◌, if◌then◌else◌, Option, Some, None}
-use Rattle.std.specs.List.{list_any, last_or}
+use Rattle.std.specs.Prelude.{◌≡◌, ℕ, ◌+◌, ◌<◌, ◌≤◌, ◌⊎◌, Bool, true, ◌||◌, List, [], ◌∷◌, ◌++◌, if◌then◌else◌, Option, Some, None}
+use Rattle.std.specs.List.{find, list_any, last_or}
 use Rattle.vt_key.specs.Order.{rank_before, rank_same}
 use Rattle.vt_key.specs.declared.limits.TheConstants.{MAX_COUNT}
 use Rattle.vt_key.specs.declared.order.Rank.{Rank}
+use Rattle.vt_key.specs.declared.order.Stamp.{Stamp}
 use Rattle.vt_key.specs.declared.letter.Letter.{Letter}
 use Rattle.vt_key.specs.declared.letter.Sign.{Sign}
 use Rattle.vt_key.specs.declared.letter.Sign.TheVariants.{Plus, Minus}
@@ -11,9 +12,9 @@ use Rattle.vt_key.specs.declared.fault.Fault.{Fault}
 use Rattle.vt_key.specs.declared.fault.Fault.TheVariants.{Memory, NotLawful, Exhausted}
 use Rattle.vt_model.specs.Handler.{Handlers}
 use Rattle.vt_model.specs.Simulation.{Simulation}
-use Rattle.vt_steps.specs.Letters.{has_rank}
+use Rattle.vt_steps.specs.Letters.{has_rank, has_stamp}
 use Rattle.vt_steps.specs.World.{LogicalProcess, triple_after}
-use Rattle.vt_steps.specs.ProcessSteps.{ProcessEffect}
+use Rattle.vt_steps.specs.ProcessSteps.{ProcessEffect, are_opposite}
 use Rattle.vt_lp.specs.declared.entry.PastEvent.{PastEvent}
 use Rattle.vt_lp.specs.Held.{HeldProcess, StandsFor}
 
@@ -71,3 +72,7 @@ module _ {P : Type 0} where
   lesser_rank (Some a) None = Some a.event.rank
   lesser_rank None (Some b) = Some b.event.rank
   lesser_rank (Some a) (Some b) = if rank_before b.event.rank a.event.rank then Some b.event.rank else Some a.event.rank
+
+  -- the waiting and the pending letter of this stamp annihilate each other: the first of each are there, with equal keys
+  abbrev pub can_annihilate : Stamp → List (Letter P) → List (Letter P) → Bool
+  can_annihilate stamp pending waiting = are_opposite (find (has_stamp stamp) waiting) (find (has_stamp stamp) pending)

@@ -1,5 +1,5 @@
 -- What a logical process with rollback keeps in memory, and which processes of a world it stands for.
-use Rattle.std.specs.Prelude.{◌≡◌, ℕ, ◌+◌, ◌-◌, ◌%◌, ◌^◌, ◌<◌, ◌≤◌, List, [], ◌∷◌, map, All}
+use Rattle.std.specs.Prelude.{◌≡◌, ℕ, ◌+◌, ◌-◌, ◌%◌, ◌^◌, ◌<◌, ◌≤◌, false, List, [], ◌∷◌, map, All}
 use Rattle.vt_key.specs.Times.{Time, TimeBefore}
 use Rattle.vt_key.specs.Order.{RankBefore}
 use Rattle.vt_key.specs.declared.limits.TheConstants.{MAX_COUNT}
@@ -11,9 +11,10 @@ use Rattle.vt_model.specs.declared.limits.TheConstants.{MAX_DRAWS}
 use Rattle.vt_model.specs.declared.settings.Config.{Config}
 use Rattle.vt_model.specs.Handler.{Handlers}
 use Rattle.vt_model.specs.Process.{IsProcessStream}
-use Rattle.vt_model.specs.Simulation.{Simulation, Triple, simulation_of, rows_of}
+use Rattle.vt_model.specs.Simulation.{Triple, simulation_of, rows_of}
 use Rattle.vt_steps.specs.World.{LogicalProcess}
 use Rattle.vt_steps.specs.StandsFor.{Remembered, ProcessMemory, StandsForProcess}
+use Rattle.vt_pending.specs.Letters.{holds_rank}
 use Rattle.vt_lp.specs.declared.entry.PastEvent.{PastEvent}
 
 -- what a contract sees of a process: its number and the config, where it stands, and its past, pending and waiting
@@ -100,6 +101,10 @@ module _ {P K : Type 0} where
   IsRisingPast [] = Unit {0}
   IsRisingPast (e ∷ es) = AllAfter e es × IsRisingPast es
 
+  -- a past event is not pending too
+  abbrev pub IsNotPending : List (Letter P) → PastEvent P K → Type 0
+  IsNotPending pending e = holds_rank e.letter.event.rank pending ≡ false
+
 -- how the fields of a process go together
 pub record IsProcessInside {P K : Type 0} (config : Config) (p number : ℕ) (stream : Stream) (past : List (PastEvent P K))
     (pending waiting : List (Letter P)) : Type 0 where
@@ -110,3 +115,4 @@ pub record IsProcessInside {P K : Type 0} (config : Config) (p number : ℕ) (st
   pub own_waiting : All (IsOwnLetter p config.end Minus) waiting
   pub own_past : All (IsOwnEvent config p) past
   pub rising : IsRisingPast past
+  pub apart : All (IsNotPending pending) past

@@ -6,6 +6,7 @@
 #![tactic(auto)]
 
 mod entry;
+mod letters;
 mod lp;
 
 pub use lp::Lp;

@@ -1,9 +1,13 @@
 //! The process and its readers.
 
-ghost use Rattle.std.specs.Prelude.{◌≡◌, ◌%◌, ◌^◌, length};
+ghost use Rattle.std.specs.Prelude.{◌≡◌, ◌++◌, ◌%◌, ◌^◌, [], length, slice_get, IfSome, IfNone};
+ghost use Rattle.std.specs.Option.{option_copied};
+ghost use Rattle.vt_steps.specs.Letters.{least_time};
+ghost use Rattle.vt_lp.specs.Guards.{ready_rank, lesser_rank};
 
 use crate::entry::PastEvent;
 use std::marker::Model;
+use vt_key::{Letter, Rank, Time};
 use vt_list::List;
 use vt_model::{Config, Model as EventModel, Process};
 use vt_pending::Pending;
@@ -83,5 +87,49 @@ impl<M: EventModel> Lp<M> {
         ensures { result ≡ length self.now.waiting % 2 ^ 64 }
     {
         self.waiting.len()
+    }
+
+    /// The least time of what is pending or waits; the end of the run where nothing does.
+    pub fn least(&self) -> Time
+        ensures { result ≡ least_time self.now.config.end (self.now.pending ++ self.now.waiting) }
+    {
+        match self.least_rank() {
+            Some(rank) => rank.key.time,
+            None => self.config.end,
+        }
+    }
+
+    /// The least rank of what is pending or waits; None where nothing does.
+    pub fn least_rank(&self) -> Option<Rank>
+        ensures rank { result ≡ lesser_rank (slice_get self.now.pending 0) (slice_get self.now.waiting 0) }
+        ensures time { IfSome result (λ rank. rank.key.time ≡ least_time self.now.config.end (self.now.pending ++ self.now.waiting)) }
+        ensures nothing { IfNone result ((self.now.pending ≡ []) × (self.now.waiting ≡ [])) }
+    {
+        lesser(self.pending.least(), self.waiting.least())
+    }
+
+    /// The rank of the event that [`Lp::execute`] would execute: the least pending one, where it comes after the last past
+    /// one. None where there is no such event.
+    pub fn ready(&self) -> Option<Rank>
+        ensures { result ≡ ready_rank self.now.pending self.now.past }
+    {
+        let least = self.pending.least()?;
+        if let Some(last) = self.past.back() {
+            if !last.letter.get().event.rank.is_before(&least.event.rank) {
+                return None;
+            }
+        }
+        Some(least.event.rank)
+    }
+}
+
+/// The lesser of the ranks of two letters that may be there.
+fn lesser<P>(a: Option<&Letter<P>>, b: Option<&Letter<P>>) -> Option<Rank>
+    ensures { result ≡ lesser_rank (option_copied a.entry) (option_copied b.entry) }
+{
+    match (a, b) {
+        (Some(a), Some(b)) if b.event.rank.is_before(&a.event.rank) => Some(b.event.rank),
+        (Some(a), _) => Some(a.event.rank),
+        (None, b) => b.map(|letter| letter.event.rank),
     }
 }

@@ -87,6 +87,13 @@ impl<P: Copy> Pending<P> {
         self.letters.pop_front()
     }
 
+    /// The letter of least rank among those that pass the test.
+    pub fn find<T: Predicate<Letter<P>>>(&self, test: &T) -> Option<&Letter<P>>
+        ensures { option_copied result ≡ find (T.passes test.now) self.now }
+    {
+        self.letters.find(test)
+    }
+
     /// The letter of least rank among those of this stamp.
     pub fn find_stamp(&self, stamp: Stamp) -> Option<&Letter<P>>
         ensures { option_copied result ≡ first_of_stamp stamp self.now }

@@ -2,7 +2,7 @@ use crate::Pending;
 use std::alloc::AllocError;
 use std::test::*;
 use vt_key::{Event, Key, Letter, Rank, Sign, Stamp};
-use vt_list::Parcel;
+use vt_list::{Parcel, Predicate};
 
 fn rank(key: (u64, u32, u64), stamp: (u32, u64)) -> Rank {
     Rank {
@@ -113,5 +113,34 @@ fn of_one_stamp_the_least_rank_is_meant(rt: HostRuntime) -> Result<(), Fail> {
     assert_eq!(rt; queue.len(), 2);
     assert_eq!(rt; taken(queue.take_least()), Some(other));
     assert_eq!(rt; taken(queue.take_least()), Some(late));
+    Ok(())
+}
+
+// Passes a letter after this time.
+#[derive(Drop)]
+struct IsAfter(u64);
+
+impl Predicate<Letter<u64>> for IsAfter {
+    ghost use Rattle.std.specs.Prelude.{nat_lt};
+
+    ghost passes = { λ t letter. nat_lt t.0 letter.event.rank.key.time };
+
+    fn test(&self, letter: &Letter<u64>) -> bool {
+        letter.event.rank.key.time > self.0
+    }
+}
+
+#[test]
+fn of_those_that_pass_the_least_rank_is_found(rt: HostRuntime) -> Result<(), Fail> {
+    let mut queue = Pending::new(rt.alloc());
+    for time in [4, 2, 9, 7] {
+        let rank = rank((time, 0, 0), (0, time));
+        assert!(rt; put(&mut queue, letter(&rt, rank)?));
+    }
+    let found = [(0, Some(2)), (2, Some(4)), (4, Some(7)), (9, None)];
+    for (time, want) in found {
+        let least = queue.find(&IsAfter(time)).map(|l| l.event.rank.key.time);
+        assert_eq!(rt; least, want);
+    }
     Ok(())
 }

@@ -1,0 +1,162 @@
+-- A letter that comes: what the process keeps to, and the step of each process that it stands for.
+use Rattle.std.proofs.Common.{◌≡◌, ◌||◌, ◌⊎◌, inl, inr, Bool, true, false, if◌then◌else◌, ℕ, List, [], ◌∷◌, Some, None, map, refl, sym, subst, ◌∙◌, ap}
+use Rattle.std.specs.Prelude.{All}
+use Rattle.std.specs.List.{list_any}
+use Rattle.std.proofs.lemmas.List.Elements.{All-nil, All-cons, All-head, All-tail}
+use Rattle.vt_key.specs.Order.{rank_before, rank_same}
+use Rattle.vt_key.specs.declared.order.Rank.{Rank}
+use Rattle.vt_key.specs.declared.letter.Letter.{Letter}
+use Rattle.vt_key.specs.declared.letter.Sign.{Sign}
+use Rattle.vt_key.specs.declared.letter.Sign.TheVariants.{Plus, Minus}
+use Rattle.vt_key.proofs.OrderLemmas.{rank_same-true, same-rank_same}
+use Rattle.vt_stream.specs.Words.{Stream}
+use Rattle.vt_model.specs.declared.settings.Config.{Config}
+use Rattle.vt_model.specs.Handler.{Handlers}
+use Rattle.vt_steps.specs.Letters.{has_rank, insert_ordered}
+use Rattle.vt_steps.specs.World.{LogicalProcess}
+use Rattle.vt_steps.specs.StandsFor.{entry_of}
+use Rattle.vt_steps.specs.ProcessSteps.{ProcessEffect, holds, with_letter, accept_process}
+use Rattle.vt_pending.specs.Letters.{letter_rank, holds_rank, insert_letter}
+use Rattle.vt_lp.specs.declared.entry.PastEvent.{PastEvent}
+use Rattle.vt_lp.specs.Held.{HeldProcess, StandsFor, remembered, IsOwnLetter, IsNotPending, IsProcessInside}
+use Rattle.vt_lp.specs.Guards.{IsDone, holds_letter}
+use Rattle.vt_lp.proofs.RisingLemmas.{insert-same}
+
+-- ---- what the process keeps to
+
+-- neither of two where not one of them
+pub left-false : (a b : Bool) → (a || b) ≡ false → a ≡ false
+left-false true b none = none
+left-false false b none = refl
+
+pub right-false : (a b : Bool) → (a || b) ≡ false → b ≡ false
+right-false true b none = absurd (let h : true ≡ false = none in cc)
+right-false false b none = none
+
+module _ {P : Type 0} where
+  -- what each letter has, and the new one, each has with the new one in its place
+  pub All-insert : (Q : Letter P → Type 0) (x : Letter P) (ls : List (Letter P)) → Q x → All Q ls → All Q (insert_letter x ls)
+  All-insert Q x [] q all = All-cons Q x [] q all
+  All-insert Q x (l ∷ ls) q all = elim (rank_before (letter_rank x) (letter_rank l)) as (λ b. All Q (if b then x ∷ l ∷ ls else l ∷ insert_letter x ls)) [
+    | true ↦ All-cons Q x (l ∷ ls) q all
+    | false ↦ All-cons Q l (insert_letter x ls) (All-head Q l ls all) (All-insert Q x ls q (All-tail Q l ls all))
+  ]
+
+  -- a rank that is neither among the letters nor the new one's
+  pub holds-insert : (r : Rank) (x : Letter P) (ls : List (Letter P)) → rank_same (letter_rank x) r ≡ false → holds_rank r ls ≡ false → holds_rank r (insert_letter x ls) ≡ false
+  holds-insert r x [] other none = ap (λ b. b || false) other
+  holds-insert r x (l ∷ ls) other none = elim (rank_before (letter_rank x) (letter_rank l)) as (λ b. holds_rank r (if b then x ∷ l ∷ ls else l ∷ insert_letter x ls) ≡ false) [
+    | true ↦ ap (λ b. b || holds_rank r (l ∷ ls)) other ∙ none
+    | false ↦
+        let here = left-false (has_rank r l) (holds_rank r ls) none in
+        let there = right-false (has_rank r l) (holds_rank r ls) none in
+        ap (λ b. b || holds_rank r (insert_letter x ls)) here ∙ holds-insert r x ls other there
+  ]
+
+-- sameness of ranks goes both ways
+differs : (a b : Rank) → rank_same a b ≡ false → rank_same b a ≡ false
+differs a b other = elim (cases (rank_same b a)) [
+  | inl is ↦ absurd (let e : true ≡ false = sym (subst (λ (r : Rank). rank_same r b ≡ true) (rank_same-true b a is) (same-rank_same b)) ∙ other in cc)
+  | inr is ↦ is
+] where
+  cases : (t : Bool) → (t ≡ true) ⊎ (t ≡ false)
+  cases true = inl refl
+  cases false = inr refl
+
+module _ {P K : Type 0} where
+  -- past events of other ranks stay apart from what is pending
+  apart-insert : (x : Letter P) (ls : List (Letter P)) (past : List (PastEvent P K)) → list_any (λ e. rank_same e.letter.event.rank (letter_rank x)) past ≡ false →
+      All (IsNotPending ls) past → All (IsNotPending (insert_letter x ls)) past
+  apart-insert x ls [] none apart = All-nil (IsNotPending (insert_letter x ls))
+  apart-insert x ls (e ∷ es) none apart =
+      let here = left-false (rank_same e.letter.event.rank (letter_rank x)) (list_any (λ (d : PastEvent P K). rank_same d.letter.event.rank (letter_rank x)) es) none in
+      let there = right-false (rank_same e.letter.event.rank (letter_rank x)) (list_any (λ (d : PastEvent P K). rank_same d.letter.event.rank (letter_rank x)) es) none in
+      All-cons (IsNotPending (insert_letter x ls)) e es
+      (holds-insert e.letter.event.rank x ls (differs e.letter.event.rank (letter_rank x) here) (All-head (IsNotPending ls) e es apart))
+      (apart-insert x ls es there (All-tail (IsNotPending ls) e es apart))
+
+  -- a message more
+  pub inside-message : (config : Config) (p number : ℕ) (stream : Stream) (past : List (PastEvent P K)) (pending waiting new : List (Letter P)) (x : Letter P) →
+      new ≡ insert_letter x pending → IsOwnLetter p config.end Plus x → holds_letter pending waiting past Plus (letter_rank x) ≡ false →
+      IsProcessInside config p number stream past pending waiting → IsProcessInside config p number stream past new waiting
+  inside-message config p number stream past pending waiting new x is own never i =
+      let none = right-false (list_any (has_rank (letter_rank x)) pending) (list_any (λ (e : PastEvent P K). rank_same e.letter.event.rank (letter_rank x)) past) never in
+      record {
+        known = i.known;
+        few_sends = i.few_sends;
+        own_stream = i.own_stream;
+        own_pending = subst (λ (ls : List (Letter P)). All (IsOwnLetter p config.end Plus) ls) (sym is) (All-insert (IsOwnLetter p config.end Plus) x pending own i.own_pending);
+        own_waiting = i.own_waiting;
+        own_past = i.own_past;
+        rising = i.rising;
+        apart = subst (λ (ls : List (Letter P)). All (IsNotPending ls) past) (sym is) (apart-insert x pending past none i.apart);
+      }
+
+  -- an anti-message more
+  pub inside-anti_message : (config : Config) (p number : ℕ) (stream : Stream) (past : List (PastEvent P K)) (pending waiting new : List (Letter P)) (x : Letter P) →
+      new ≡ insert_letter x waiting → IsOwnLetter p config.end Minus x → IsProcessInside config p number stream past pending waiting →
+      IsProcessInside config p number stream past pending new
+  inside-anti_message config p number stream past pending waiting new x is own i = record {
+    known = i.known;
+    few_sends = i.few_sends;
+    own_stream = i.own_stream;
+    own_pending = i.own_pending;
+    own_waiting = subst (λ (ls : List (Letter P)). All (IsOwnLetter p config.end Minus) ls) (sym is) (All-insert (IsOwnLetter p config.end Minus) x waiting own i.own_waiting);
+    own_past = i.own_past;
+    rising = i.rising;
+    apart = i.apart;
+  }
+
+-- ---- the step
+
+module _ {S P K : Type 0} (handlers : Handlers S P K) where
+  any-past : (p : ℕ) (rank : Rank) (es : List (PastEvent P K)) →
+      list_any (λ e. rank_same e.event.rank rank) (map entry_of (map (remembered handlers p) es)) ≡ list_any (λ e. rank_same e.letter.event.rank rank) es
+  any-past p rank [] = refl
+  any-past p rank (e ∷ es) = ap (λ b. rank_same e.letter.event.rank rank || b) (any-past p rank es)
+
+  -- what a process holds is what the process that it stands for holds
+  pub holds-is : (held : HeldProcess S P K) (h : LogicalProcess P) (sign : Sign) (rank : Rank) → StandsFor handlers held h →
+      holds h sign rank ≡ holds_letter held.pending held.waiting held.past sign rank
+  holds-is held h Plus rank s =
+      (λ j. list_any (has_rank rank) (s.pending j) || list_any (λ e. rank_same e.event.rank rank) (s.past j))
+      ∙ ap (λ b. list_any (has_rank rank) held.pending || b) (any-past held.lp rank held.past)
+  holds-is held h Minus rank s = ap (list_any (has_rank rank)) s.waiting
+
+  -- what comes of a letter
+  abbrev accepted : LogicalProcess P → Sign → Letter P → ProcessEffect P
+  accepted h sign letter = record { process = with_letter h sign letter; letters = []; serials = 0 }
+
+  accept-by : (held : HeldProcess S P K) (h : LogicalProcess P) (letter : Letter P) (b : Bool) → holds_letter held.pending held.waiting held.past letter.sign letter.event.rank ≡ b →
+      StandsFor handlers held h → accept_process letter h ≡ (if b then None else Some (accepted h letter.sign letter))
+  unfolding accept_process
+  accept-by held h letter b is s = ap (λ (t : Bool). if t then None else Some (accepted h letter.sign letter)) (holds-is held h letter.sign letter.event.rank s ∙ is)
+
+  -- it is refused where it is held
+  pub accept-none : (held : HeldProcess S P K) (h : LogicalProcess P) (letter : Letter P) →
+      holds_letter held.pending held.waiting held.past letter.sign letter.event.rank ≡ true → StandsFor handlers held h → accept_process letter h ≡ None
+  accept-none held h letter is s = accept-by held h letter true is s
+
+  -- a message is pending from now on
+  pub accepts-message : (held : HeldProcess S P K) (h : LogicalProcess P) (letter : Letter P) (new : List (Letter P)) → letter.sign ≡ Plus → new ≡ insert_letter letter held.pending →
+      holds_letter held.pending held.waiting held.past letter.sign letter.event.rank ≡ false → StandsFor handlers held h →
+      IsDone handlers (record held { pending = new }) (accept_process letter h) [] [] 0 0
+  accepts-message held h letter new sign is never s = record {
+    effect = accepted h Plus letter;
+    lawful = accept-by held h letter false never s ∙ ap (λ (g : Sign). Some (accepted h g letter)) sign;
+    stands = record { past = s.past; pending = ap (λ ls. insert_ordered letter ls) s.pending ∙ sym (insert-same letter held.pending) ∙ sym is; waiting = s.waiting; leads = s.leads };
+    letters = refl;
+    serials = refl;
+  }
+
+  -- an anti-message waits
+  pub accepts-anti_message : (held : HeldProcess S P K) (h : LogicalProcess P) (letter : Letter P) (new : List (Letter P)) → letter.sign ≡ Minus →
+      new ≡ insert_letter letter held.waiting → holds_letter held.pending held.waiting held.past letter.sign letter.event.rank ≡ false → StandsFor handlers held h →
+      IsDone handlers (record held { waiting = new }) (accept_process letter h) [] [] 0 0
+  accepts-anti_message held h letter new sign is never s = record {
+    effect = accepted h Minus letter;
+    lawful = accept-by held h letter false never s ∙ ap (λ (g : Sign). Some (accepted h g letter)) sign;
+    stands = record { past = s.past; pending = s.pending; waiting = ap (λ ls. insert_ordered letter ls) s.waiting ∙ sym (insert-same letter held.waiting) ∙ sym is; leads = s.leads };
+    letters = refl;
+    serials = refl;
+  }

@@ -1,0 +1,6 @@
+mod RisingLemmas
+mod PastLemmas
+mod ReadyLemmas
+mod LeastLemmas
+mod AcceptLemmas
+mod CancelLemmas

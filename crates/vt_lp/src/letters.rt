@@ -1,0 +1,139 @@
+//! Letters at a process: one that comes, and two that annihilate.
+
+ghost use Rattle.std.specs.Prelude.{◌≡◌, suc, length, IfSome, IfNone, false, true, [], None, IfOk, IfErr};
+ghost use Rattle.vt_key.specs.declared.order.Stamp.{Stamp};
+ghost use Rattle.std.specs.List.{list_any};
+ghost use Rattle.vt_key.specs.Order.{rank_same};
+ghost use Rattle.vt_key.specs.Times.{TimeBefore};
+ghost use Rattle.vt_key.specs.declared.fault.Fault.TheVariants.{NotLawful};
+ghost use Rattle.vt_model.specs.Handler.{Handlers};
+ghost use Rattle.vt_steps.specs.World.{LogicalProcess};
+ghost use Rattle.vt_steps.specs.ProcessSteps.{cancel_process, accept_process};
+ghost use Rattle.vt_lp.specs.Held.{StandsFor, IsRisingPast};
+ghost use Rattle.vt_lp.specs.Guards.{IsDone, holds_letter, can_annihilate};
+
+use crate::Lp;
+use crate::entry::PastEvent;
+use vt_key::{Fault, Letter, Rank, Sign, Stamp};
+use vt_list::{List, Parcel, Predicate};
+use vt_model::Model as EventModel;
+use vt_pending::Pending;
+
+impl<M: EventModel> Lp<M> {
+    /// Whether a letter of this sign and rank is held: a message among the pending and the past, an anti-message among the
+    /// waiting.
+    pub fn holds(&self, sign: Sign, rank: Rank) -> bool
+        ensures { result ≡ holds_letter self.now.pending self.now.waiting self.now.past sign rank }
+    {
+        match sign {
+            Sign::Plus => self.pending.holds(rank) || has_executed(&self.past, rank),
+            Sign::Minus => self.waiting.holds(rank),
+        }
+    }
+
+    /// A letter for this process comes: a message is pending from now on, an anti-message waits.
+    ///
+    /// [`Fault::NotLawful`]: a letter of its sign and rank is held already. The letter is handed back, and all is as it was.
+    pub fn accept(
+        &mut self,
+        letter: Parcel<Letter<M::Payload>>,
+    ) -> Result<(), (Fault, Parcel<Letter<M::Payload>>)>
+        requires dest { letter.event.dest ≡ self.old.lp }
+        requires soon { TimeBefore letter.event.rank.key.time self.old.config.end }
+        ensures done { (handlers : Handlers _ _ _) (h : LogicalProcess _) → StandsFor handlers self.old h → IfOk result (λ done. IsDone handlers self.new (accept_process letter h) [] [] 0 0) }
+        ensures held { IfOk result (λ done. holds_letter self.old.pending self.old.waiting self.old.past letter.sign letter.event.rank ≡ false) }
+        ensures refused { (handlers : Handlers _ _ _) (h : LogicalProcess _) → StandsFor handlers self.old h → IfErr result (λ e. accept_process letter h ≡ None) }
+        ensures kept { IfErr result (λ e. (e.0 ≡ NotLawful) × (e.1 ≡ letter) × (self.new ≡ self.old)) }
+        ensures already { IfErr result (λ e. holds_letter self.old.pending self.old.waiting self.old.past letter.sign letter.event.rank ≡ true) }
+        ensures same { (self.new.lp ≡ self.old.lp) × (self.new.config ≡ self.old.config) × (self.new.triple ≡ self.old.triple) × (self.new.past ≡ self.old.past) }
+    {
+        let Letter { event, sign } = *letter.get();
+        if self.holds(sign, event.rank) {
+            return Err((Fault::NotLawful, letter));
+        }
+        match sign {
+            Sign::Plus => self.pending.insert(letter),
+            Sign::Minus => self.waiting.insert(letter),
+        }
+        Ok(())
+    }
+
+    /// The waiting anti-message and the pending message of this stamp annihilate each other: of each queue the first of this
+    /// stamp, where they have one key.
+    ///
+    /// [`Fault::NotLawful`]: one of the two is not there, or their keys differ. All is as it was.
+    pub fn cancel(&mut self, stamp: Stamp) -> Result<(), Fault>
+        ensures done { (handlers : Handlers _ _ _) (h : LogicalProcess _) → StandsFor handlers self.old h → IfOk result (λ done. IsDone handlers self.new (cancel_process stamp h) [] [] 0 0) }
+        ensures refused { (handlers : Handlers _ _ _) (h : LogicalProcess _) → StandsFor handlers self.old h → IfErr result (λ fault. cancel_process stamp h ≡ None) }
+        ensures kept { IfErr result (λ fault. (fault ≡ NotLawful) × (self.new ≡ self.old)) }
+        ensures lawful { IfOk result (λ done. can_annihilate stamp self.old.pending self.old.waiting ≡ true) }
+        ensures unlawful { IfErr result (λ fault. can_annihilate stamp self.old.pending self.old.waiting ≡ false) }
+        ensures fewer { IfOk result (λ done. (suc (length self.new.pending) ≡ length self.old.pending) × (suc (length self.new.waiting) ≡ length self.old.waiting)) }
+        ensures same { (self.new.lp ≡ self.old.lp) × (self.new.config ≡ self.old.config) × (self.new.triple ≡ self.old.triple) × (self.new.past ≡ self.old.past) }
+    {
+        if !annihilate(stamp, &self.pending, &self.waiting) {
+            return Err(Fault::NotLawful);
+        }
+        self.pending.take_stamp(stamp);
+        self.waiting.take_stamp(stamp);
+        Ok(())
+    }
+
+    /// A stamp by which a waiting anti-message and a pending message annihilate each other: [`Lp::cancel`] of it is lawful. None
+    /// where it is of no stamp.
+    pub fn cancellable(&self) -> Option<Stamp>
+        ensures lawful { IfSome result (λ stamp. can_annihilate stamp self.now.pending self.now.waiting ≡ true) }
+        ensures none { IfNone result ((stamp : Stamp) → can_annihilate stamp self.now.pending self.now.waiting ≡ false) }
+    {
+        let meets_its_message = Annihilates {
+            pending: &self.pending,
+            waiting: &self.waiting,
+        };
+        let letter = self.waiting.find(&meets_its_message)?;
+        Some(letter.event.rank.stamp)
+    }
+}
+
+/// Whether the first pending and the first waiting letter of this stamp annihilate each other.
+fn annihilate<P: Copy>(stamp: Stamp, pending: &Pending<P>, waiting: &Pending<P>) -> bool
+    ensures { result ≡ can_annihilate stamp pending.now waiting.now }
+{
+    match (waiting.find_stamp(stamp), pending.find_stamp(stamp)) {
+        (Some(anti_message), Some(message)) => {
+            anti_message.event.rank.key == message.event.rank.key
+        }
+        _ => false,
+    }
+}
+
+// Passes a letter by whose stamp a waiting and a pending letter annihilate each other.
+#[derive(Drop)]
+struct Annihilates<'a, P: Copy> {
+    pending: &'a Pending<P>,
+    waiting: &'a Pending<P>,
+}
+
+impl<'a, P: Copy> Predicate<Letter<P>> for Annihilates<'a, P> {
+    ghost use Rattle.vt_lp.specs.Guards.{can_annihilate};
+
+    ghost passes = { λ t letter. can_annihilate letter.event.rank.stamp t.pending.now t.waiting.now };
+
+    fn test(&self, letter: &Letter<P>) -> bool {
+        annihilate(letter.event.rank.stamp, self.pending, self.waiting)
+    }
+}
+
+/// Whether a past event has this rank. Past events stand in rising rank, so a rank after the last one's is none of theirs.
+fn has_executed<P: Copy, K: Copy>(past: &List<PastEvent<P, K>>, rank: Rank) -> bool
+    requires { IsRisingPast past.now }
+    ensures { result ≡ list_any (λ e. rank_same e.letter.event.rank rank) past.now }
+{
+    let Some(last) = past.back() else {
+        return false;
+    };
+    if last.letter.get().event.rank.is_before(&rank) {
+        return false;
+    }
+    past.iter()
+        .any(|event| event.letter.get().event.rank.is_same(&rank))
+}
