@@ -1,7 +1,11 @@
 pub mod EmptyLemmas
 pub mod InsideLemmas
+pub mod LeastLemmas
+pub mod OwnSteps
 pub mod PartLemmas
 pub mod PartingLemmas
 pub mod PlaceLemmas
+pub mod ProcessLemmas
 pub mod SendLemmas
+pub mod Settling
 pub mod TimeLemmas

@@ -1,35 +1,13 @@
--- Where a process is in its worker.
-use Rattle.std.proofs.Common.{◌≡◌, ℕ, ◌+◌, ◌-◌, ◌*◌, ◌/◌, ◌%◌, ◌<◌, ◌≤◌, List, length, Option, Some, None, IfSome, IfNone, Bor, arith}
+-- Looking up a process of a worker.
+use Rattle.std.proofs.Common.{◌≡◌, ℕ, ◌+◌, ◌-◌, ◌/◌, ◌%◌, ◌<◌, ◌≤◌, List, length, Option, Some, None, IfSome, IfNone, Bor, arith}
 use Rattle.std.specs.Slice.{IsItemAt}
-use Rattle.std.proofs.Math.Nat.{div-lt_iff_lt-mul, le-div_iff_mul-le}
+use Rattle.vt_kernel.proofs.ProcessLemmas.{place-unknown}
 
--- how many processes worker w of so many has
-abbrev pub count_at : ℕ → ℕ → ℕ → ℕ
-count_at lps workers w = (lps + (workers - 1) - w) / workers
-
-module _ (lps workers w p : ℕ) (some : w < workers) (own : p % workers ≡ w) where
-  at : p / workers * workers + w ≡ p
-  at = omega arith
-
-  -- a process of the run has its place among those of its worker
-  pub place-below : p < lps → p / workers < count_at lps workers w
-  place-below known =
-      let pos : 0 < workers = omega arith in
-      let a = at in
-      let enough : (p / workers + 1) * workers ≤ lps + (workers - 1) - w = omega arith in
-      let le : p / workers + 1 ≤ count_at lps workers w = (le-div_iff_mul-le pos).1 enough in
-      omega arith
-
-  -- and a place among them is that of a process of the run
-  pub process-below : p / workers < count_at lps workers w → p < lps
-  process-below inside =
-      let pos : 0 < workers = omega arith in
-      let a = at in
-      let le : p / workers + 1 ≤ count_at lps workers w = omega arith in
-      let enough : (p / workers + 1) * workers ≤ lps + (workers - 1) - w = (le-div_iff_mul-le pos).0 le in
-      omega arith
-
--- ---- a look-up
+-- a place among those of a worker's processes is that of a process of the run
+pub process-below : (lps workers w p : ℕ) → 1 ≤ workers → p % workers ≡ w → p / workers < (lps + (workers - 1) - w) / workers → p < lps
+process-below lps workers w p some own inside =
+    let no : lps ≤ p → ⊥ = λ past. place-unknown lps workers w p some past own inside in
+    omega arith
 
 module _ {X : Type 0} where
   -- what a reference that was looked up tells of its place

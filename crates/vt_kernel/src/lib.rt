@@ -8,6 +8,7 @@ mod counts;
 mod cutting;
 mod fetching;
 mod kernel;
+mod local;
 mod readers;
 mod sending;
 mod times;

@@ -4,3 +4,5 @@ mod ReadyLemmas
 mod LeastLemmas
 mod AcceptLemmas
 mod CancelLemmas
+mod Sizes
+mod Stamping

@@ -8,5 +8,7 @@
 mod entry;
 mod letters;
 mod lp;
+mod making;
+mod starting;
 
 pub use lp::Lp;

@@ -1,13 +1,13 @@
 //! One logical process, and how it executes an event and undoes it: what the sequential simulator and a process with
 //! rollback have in common.
 
-ghost use Rattle.std.specs.Prelude.{◌≡◌, ◌+◌, ◌-◌, ◌%◌, ◌<◌, ◌≤◌, ◌^◌};
+ghost use Rattle.std.specs.Prelude.{◌≡◌, ◌+◌, ◌-◌, ◌%◌, ◌<◌, ◌≤◌, ◌^◌, []};
 ghost use Rattle.vt_key.specs.Times.{TimeBefore};
 ghost use Rattle.vt_stream.specs.Words.{moved};
 ghost use Rattle.vt_model.specs.Simulation.{simulation_of, IsFiring};
 ghost use Rattle.vt_model.specs.Process.{triple_at, IsProcessStream};
 
-use crate::{Bits, Config, Draws, MAX_DRAWS, Model as EventModel, Out, Sent};
+use crate::{Bits, Config, Draws, MAX_DRAWS, MAX_SENDS, Model as EventModel, Out, Sent};
 use vt_key::MAX_COUNT;
 use vt_stream::LpStream;
 
@@ -36,6 +36,26 @@ pub struct Executed<M: EventModel> {
 }
 
 impl<M: EventModel> Process<M> {
+    /// Starts logical process `lp`, which is below `config.lps`, by the model's `start`. What it sends goes into `out`, which
+    /// is as [`Out::new`] gives it for this config and process at time 0, with 0 as the next send number.
+    pub fn start(model: &M, config: Config, lp: u32, out: &mut Out<M::Payload>) -> Process<M>
+        requires known { lp < config.lps }
+        requires fresh { out.old ≡ record { lps = config.lps; end = config.end; lp = lp; time = 0; first = 0; number = 0; sends = []; records = [] } }
+        ensures triple { triple_at result.state result.number result.stream ≡ ((simulation_of (M.handlers model.now) config).start lp).triple }
+        ensures sends { out.new.sends ≡ ((simulation_of (M.handlers model.now) config).start lp).sends }
+        ensures stream { IsProcessStream config.seed lp result.stream }
+        ensures few { result.number ≤ MAX_SENDS }
+    {
+        let mut stream = LpStream::new(config.seed, lp);
+        let mut draws = Draws::new(&mut stream);
+        let state = model.start(lp, &mut draws, out);
+        Process {
+            state,
+            number: out.number(),
+            stream,
+        }
+    }
+
     /// Executes an event for this process by the model's `forward`.
     ///
     /// The event's receiver is below `config.lps`, its time below `config.end`, the send number at most 2^63, and the

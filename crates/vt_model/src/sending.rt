@@ -179,4 +179,11 @@ impl<P: Copy> Out<P> {
     {
         self.records.as_slice()
     }
+
+    /// The records, in the order in which they were made, to be kept. For simulators.
+    pub fn into_records(self) -> ArrayVec<Record, MAX_RECORDS>
+        ensures { result.items ≡ self.records }
+    {
+        self.records
+    }
 }

@@ -1,0 +1,3 @@
+pub mod Flags
+pub mod PassLemmas
+pub mod Sums

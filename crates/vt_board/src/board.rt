@@ -1,0 +1,215 @@
+//! The board of a run.
+
+ghost use Rattle.std.specs.Prelude.{◌≡◌, ◌+◌, ◌<◌, ◌≤◌, IsTrue, true, false, Some, Ok, Err, IfOk, IfErr, OnOk, OnErr, is_ok, length, slice_get};
+ghost use Rattle.vt_key.specs.Times.{TimeAtMost};
+ghost use Rattle.vt_key.specs.declared.fault.Fault.TheVariants.{NotLawful};
+ghost use Rattle.vt_key.specs.declared.limits.TheConstants.{MAX_COUNT, MAX_END, MAX_WORKERS};
+ghost use Rattle.vt_steps.specs.BoardSteps.{all_set, is_clear, with_open_round, with_report, after_pass, board_after_report, report_reply};
+ghost use Rattle.vt_board.specs.BoardOfRun.{with_board, opening_run, after_rounds, with_new_pass};
+ghost use Rattle.vt_board.specs.Calls.{cut_outcome, takes_report, reply_of};
+
+use crate::worker_set::WorkerSet;
+use std::marker::Model;
+use vt_key::{Fault, MAX_COUNT, Time};
+
+/// What a report comes to.
+#[derive(Debug, Clone, Copy, PartialEq, Eq)]
+pub enum Report {
+    /// The report was taken, and others are awaited in this pass.
+    Waiting,
+    /// All have reported, and mail of the old colour was still travelling: a new pass of the same round has begun.
+    Again,
+    /// All have reported, and no mail of the old colour was travelling: the round is over, and this is the new announced
+    /// time, in ticks.
+    Announced(Time),
+}
+
+/// The board of a run: which of the workers have cut in the open round and which have reported in its pass, the sums of their
+/// counts, their least value, and the announced time. Its calls take no memory.
+///
+/// Contracts see the definition's board, and the end of the run beside it.
+#[derive(Drop)]
+pub struct Board {
+    end: Time,
+    announced: Time,
+    is_open: bool,
+    has_cut: WorkerSet,
+    has_reported: WorkerSet,
+    sent: u128,
+    got: u128,
+    least: Time,
+    rounds: u64,
+}
+
+impl Model for Board {
+    ghost use Rattle.vt_board.specs.BoardOfRun.{BoardOfRun, IsBoardOfRun};
+
+    ghost Value = { BoardOfRun };
+
+    ghost use Rattle.vt_board.specs.Kept.{kept_board};
+
+    ghost view = { kept_board };
+
+    ghost invariant = { λ b. IsBoardOfRun (kept_board b) };
+}
+
+impl Board {
+    /// The board of a run of `workers` workers, from 1 to 64, that ends at `end`, from 1 to 2^62 ticks. No round is open, and
+    /// the announced time is 0.
+    pub fn new(workers: u32, end: Time) -> Board
+        requires some_worker { 1 ≤ workers }
+        requires few_workers { workers ≤ MAX_WORKERS }
+        requires some_time { 1 ≤ end }
+        requires in_time { end ≤ MAX_END }
+        ensures { result ≡ opening_run workers end }
+    {
+        Board::with_rounds(workers, end, 0)
+    }
+
+    /// The same board with so many rounds behind it, at most 2^63.
+    pub fn with_rounds(workers: u32, end: Time, rounds: u64) -> Board
+        requires some_worker { 1 ≤ workers }
+        requires few_workers { workers ≤ MAX_WORKERS }
+        requires some_time { 1 ≤ end }
+        requires in_time { end ≤ MAX_END }
+        requires countable { rounds ≤ MAX_COUNT }
+        ensures { result ≡ after_rounds rounds (opening_run workers end) }
+    {
+        Board {
+            end,
+            announced: 0,
+            is_open: false,
+            has_cut: WorkerSet::none_of(workers),
+            has_reported: WorkerSet::none_of(workers),
+            sent: 0,
+            got: 0,
+            least: end,
+            rounds,
+        }
+    }
+
+    /// The announced time, in ticks: nothing that is still to be executed or that travels between workers is before it. It
+    /// is at most the end of the run.
+    pub fn announced(&self) -> Time
+        ensures announced { result ≡ self.now.board.announced }
+        ensures in_time { TimeAtMost result self.now.end }
+    {
+        self.announced
+    }
+
+    #[tactic(auto, unfolding(vt_steps::specs::BoardSteps::with_open_round))]
+    /// Worker `w` cuts in the open round; where none is open a new one begins. The answer is the announced time.
+    ///
+    /// [`Fault::NotLawful`]: `w` is no worker, or it has cut in the open round. [`Fault::Exhausted`]: one more round would be
+    /// more than 2^63. A refused cut changes nothing.
+    pub fn cut(&mut self, w: u32) -> Result<Time, Fault>
+        ensures cut { OnOk result (cut_outcome self.old.end w self.old.board ≡ Ok self.new.board) }
+        ensures announced { IfOk result (λ time. time ≡ self.old.board.announced) }
+        ensures in_time { IfOk result (λ time. TimeAtMost time self.old.end) }
+        ensures refused { IfErr result (λ fault. cut_outcome self.old.end w self.old.board ≡ Err fault) }
+        ensures kept { OnErr result (self.new ≡ self.old) }
+        ensures same_end { self.new.end ≡ self.old.end }
+    {
+        if self.is_open {
+            if !self.has_cut.lacks(w) {
+                return Err(Fault::NotLawful);
+            }
+        } else {
+            if !self.has_cut.knows(w) {
+                return Err(Fault::NotLawful);
+            }
+            if self.rounds == MAX_COUNT {
+                return Err(Fault::Exhausted);
+            }
+            self.open_round();
+        }
+        self.has_cut.insert(w);
+        Ok(self.announced)
+    }
+
+    #[tactic(auto, unfolding(vt_steps::specs::BoardSteps::board_after_report, vt_steps::specs::BoardSteps::report_reply))]
+    /// Worker `w` reports: how much mail of the old colour it has ever sent and got, and the least time, in ticks, of all that
+    /// it has and of all that it sent since its cut. The last report closes the pass.
+    ///
+    /// [`Fault::NotLawful`]: `w` is no worker, no round is open, somebody hasn't cut, `w` has reported in this pass, or the
+    /// value is below the announced time or above the end of the run. A refused report changes nothing.
+    pub fn report(&mut self, w: u32, sent: u64, got: u64, least: Time) -> Result<Report, Fault>
+        ensures lawful { is_ok result ≡ takes_report self.old.end w least self.old.board }
+        ensures reported { OnOk result (self.new ≡ with_board self.old (board_after_report self.old.end (with_report w sent got least self.old.board))) }
+        ensures answer { IfOk result (λ report. reply_of report ≡ report_reply (with_report w sent got least self.old.board)) }
+        ensures refused { IfErr result (λ fault. fault ≡ NotLawful) }
+        ensures kept { OnErr result (self.new ≡ self.old) }
+    {
+        if !self.takes(w, least) {
+            return Err(Fault::NotLawful);
+        }
+        self.add(w, sent, got, least);
+        if !self.has_reported.is_full() {
+            return Ok(Report::Waiting);
+        }
+        Ok(self.close_pass())
+    }
+
+    /// Whether a report of this value by worker `w` is lawful.
+    fn takes(&self, w: u32, least: Time) -> bool
+        ensures { result ≡ takes_report self.now.end w least self.now.board }
+    {
+        self.is_open
+            && self.has_cut.is_full()
+            && self.has_reported.lacks(w)
+            && self.announced <= least
+            && least <= self.end
+    }
+
+    #[tactic(auto, unfolding(vt_steps::specs::BoardSteps::with_open_round))]
+    /// Opens a round.
+    fn open_round(&mut self)
+        requires none_open { self.old.board.is_open ≡ false }
+        requires countable { self.old.board.rounds < MAX_COUNT }
+        ensures { self.new ≡ with_board self.old (with_open_round self.old.end self.old.board) }
+    {
+        self.is_open = true;
+        self.has_cut.clear();
+        self.rounds += 1;
+        self.begin_pass();
+    }
+
+    /// Begins a pass, in which nobody has reported yet.
+    fn begin_pass(&mut self)
+        ensures { self.new ≡ with_board self.old (with_new_pass self.old.end self.old.board) }
+    {
+        self.has_reported.clear();
+        self.sent = 0;
+        self.got = 0;
+        self.least = self.end;
+    }
+
+    #[tactic(auto, using(crate::proofs::Sums::summed, crate::proofs::Sums::room), unfolding(vt_steps::specs::BoardSteps::with_report))]
+    /// Adds the report of a worker that hasn't reported in this pass.
+    fn add(&mut self, w: u32, sent: u64, got: u64, least: Time)
+        requires first { is_clear (slice_get self.old.board.has_reported w) ≡ true }
+        requires in_time { TimeAtMost least self.old.end }
+        ensures { self.new ≡ with_board self.old (with_report w sent got least self.old.board) }
+    {
+        self.has_reported.insert(w);
+        self.sent += u128::from(sent);
+        self.got += u128::from(got);
+        self.least = self.least.min(least);
+    }
+
+    #[tactic(auto, unfolding(vt_steps::specs::BoardSteps::after_pass, vt_steps::specs::BoardSteps::report_reply))]
+    /// Closes a pass in which all have reported.
+    fn close_pass(&mut self) -> Report
+        requires all { all_set self.old.board.has_reported ≡ true }
+        ensures closed { self.new ≡ with_board self.old (after_pass self.old.end self.old.board) }
+        ensures answer { reply_of result ≡ report_reply self.old.board }
+    {
+        if self.sent != self.got {
+            self.begin_pass();
+            return Report::Again;
+        }
+        self.announced = self.least;
+        self.is_open = false;
+        Report::Announced(self.announced)
+    }
+}

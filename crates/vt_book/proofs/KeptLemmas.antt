@@ -1,0 +1,145 @@
+-- What a book keeps: how rows go in, how the first are taken out, and what is kept after a hand-in.
+use Rattle.std.proofs.Common.{◌≡◌, ℕ, ◌+◌, ◌<◌, ◌≤◌, true, false, ◌&&◌, cond, List, [], ◌∷◌, ◌++◌, length, take, get_or, refl, sym, ◌∙◌, ap, arith, Option, Some, None, slice_get}
+use Rattle.std.specs.List.{sum_by, list_all}
+use Rattle.std.proofs.lemmas.Bool.Decides.{nat_tests}
+use Rattle.std.proofs.lemmas.List.{map-append, take_more}
+use Rattle.std.proofs.lemmas.List.Elements.{filter-append}
+use Rattle.std.proofs.lemmas.List.Sums.{sum_by-cons, sum_by-append}
+use Rattle.vt_key.specs.Times.{Time, time_before, time_at_most}
+use Rattle.vt_model.specs.declared.rows.Record.{Record}
+use Rattle.vt_model.specs.declared.rows.Row.{Row}
+use Rattle.vt_model.specs.Sequential.{rows_before, records_of}
+use Rattle.vt_steps.specs.BookSteps.{may_commit}
+use Rattle.vt_steps.specs.Rows.{rows_in_order}
+use Rattle.vt_steps.specs.World.{least_floor}
+use Rattle.vt_steps.proofs.Tests.{both_pass}
+use Rattle.vt_book.specs.Books.{is_within, are_within}
+use Rattle.vt_book.specs.Kept.{AreSameRows, AreNotBefore, IsKept}
+use Rattle.vt_book.proofs.FloorLemmas.{not-after}
+use Rattle.vt_book.proofs.RowLists.{same-before, same-none, one-order, first-in-order, every-not-before, every-before, late-rows, order-apart, before-twice}
+
+-- ---- rows that go in
+
+-- a row that goes in after others of a list
+pub one-more : (start rows now more : List Row) (i : ℕ) (d : Row) → i < length rows → AreSameRows now (start ++ take i rows) → AreSameRows more (get_or rows i d ∷ now) → AreSameRows more (start ++ take (i + 1) rows)
+one-more start rows now more i d within h k f =
+    let a = k f in let b = sum_by-cons f (get_or rows i d) now in let c = h f in let e = sum_by-append f start (take i rows) in
+    let g = sum_by-append f start (take (i + 1) rows) in
+    let m : sum_by f (take (i + 1) rows) ≡ sum_by f (take i rows) + f (get_or rows i d) =
+    ap (sum_by f) (take_more rows i d within) ∙ sum_by-append f (take i rows) (get_or rows i d ∷ []) ∙ (let n = sum_by-cons f (get_or rows i d) [] in omega arith) in
+    omega arith
+
+-- ---- rows that are taken out
+
+-- of rows, one of which is before a time, that one first
+front-before : (t : Time) (row : Row) (rows : List Row) → time_before row.key.time t ≡ true → rows_before t (row ∷ rows) ≡ row ∷ rows_before t rows
+front-before t row rows e = ap (λ b. cond b (row ∷ rows_before t rows) (rows_before t rows)) e
+
+-- the first in order of those before a time
+pub first-taken : (t : Time) (row : Row) (now rest : List Row) → time_before row.key.time t ≡ true → AreNotBefore row rest → AreSameRows now (row ∷ rest) →
+    rows_in_order (rows_before t now) ≡ row ∷ rows_in_order (rows_before t rest)
+first-taken t row now rest early first same =
+    one-order (rows_before t now) (row ∷ rows_before t rest) (λ f. same-before t now (row ∷ rest) same f ∙ ap (sum_by f) (front-before t row rest early))
+    ∙ first-in-order row (rows_before t rest) (every-before _ t rest (every-not-before row rest first))
+
+-- the rows that are left, beside those that were there at first
+pub others-left : (t : Time) (row : Row) (start now rest : List Row) → time_before row.key.time t ≡ true → AreSameRows now (row ∷ rest) →
+    AreSameRows (start ++ rows_before t now) (rows_before t start ++ now) → AreSameRows (start ++ rows_before t rest) (rows_before t start ++ rest)
+others-left t row start now rest early same h f =
+    let a = h f in
+    let b = sum_by-append f start (rows_before t now) in
+    let c = sum_by-append f (rows_before t start) now in
+    let d = same f in
+    let e = sum_by-cons f row rest in
+    let g = same-before t now (row ∷ rest) same f ∙ ap (sum_by f) (front-before t row rest early) in
+    let k = sum_by-cons f row (rows_before t rest) in
+    let l = sum_by-append f start (rows_before t rest) in
+    let m = sum_by-append f (rows_before t start) rest in
+    omega arith
+
+-- ---- a lawful hand-in
+
+-- rows from a floor on are not before a time that is not after it
+late-within : (t handed_in floor : Time) (rows : List Row) → t ≤ handed_in → list_all (is_within handed_in floor) rows ≡ true → rows_before t rows ≡ []
+late-within t handed_in floor [] le h = refl
+late-within t handed_in floor (r ∷ rs) le h =
+    let both = both_pass (is_within handed_in floor r) (list_all (is_within handed_in floor) rs) h in
+    let from = (both_pass (time_at_most handed_in r.key.time) (time_before r.key.time floor) both.0).0 in
+    let no : time_before r.key.time t ≡ false = grind (arith, nat_tests) in
+    ap (λ b. cond b (r ∷ rows_before t rs) (rows_before t rs)) no ∙ late-within t handed_in floor rs le both.1
+
+-- what a lawful hand-in is
+pub record IsLawful (end : Time) (floors : List Time) (w : ℕ) (rows : List Row) (floor : Time) : Type 0 where
+  pub handed_in : Time
+  pub at : slice_get floors w ≡ Some handed_in
+  pub rising : handed_in ≤ floor
+  pub late : rows_before (least_floor end floors) rows ≡ []
+
+pub lawful : (end : Time) (floors : List Time) (w : ℕ) (rows : List Row) (floor : Time) → (may_commit (slice_get floors w) floor && (time_at_most floor end && are_within (slice_get floors w) floor rows)) ≡ true → IsLawful end floors w rows floor
+lawful end floors w rows floor h = known (slice_get floors w) refl h
+  where
+    known : (at : Option Time) → slice_get floors w ≡ at → (may_commit at floor && (time_at_most floor end && are_within at floor rows)) ≡ true → IsLawful end floors w rows floor
+    known None is k = absurd (let no : false ≡ true = k in cc)
+    known (Some handed_in) is k =
+        let both = both_pass (time_at_most handed_in floor) _ k in
+        let rises = both.0 in
+        record {
+          handed_in = handed_in;
+          at = is;
+          rising = (let l : handed_in ≤ floor = grind (arith, nat_tests) in l);
+          late = late-within (least_floor end floors) handed_in floor rows (not-after end floors w handed_in is) (both_pass (time_at_most floor end) _ both.1).1;
+        }
+
+-- ---- what is kept after it
+
+module _ (floor later : Time) (history rows : List Row) (shown : List Record) (waiting all rest : List Row) (rises : floor ≤ later) (kept : IsKept floor history shown waiting)
+    (late : rows_before floor rows ≡ []) (whole : AreSameRows all (waiting ++ rows)) where
+  -- no row that waits is before the floor
+  late-waiting : rows_before floor waiting ≡ []
+  late-waiting = same-none (rows_before floor waiting) (λ f. (
+      let a = same-before floor history (rows_before floor history ++ waiting) kept.all_there f in
+      let b : sum_by f (rows_before floor (rows_before floor history ++ waiting)) ≡ sum_by f (rows_before floor history) + sum_by f (rows_before floor waiting) =
+      ap (sum_by f) (filter-append _ (rows_before floor history) waiting ∙ ap (λ rs. rs ++ rows_before floor waiting) (before-twice floor floor history (omega arith))) ∙ sum_by-append f (rows_before floor history) (rows_before floor waiting) in
+      omega arith))
+
+  -- nor any of those with the new rows
+  late-all : rows_before floor all ≡ []
+  late-all = same-none (rows_before floor all) (λ f. same-before floor all (waiting ++ rows) whole f ∙ ap (sum_by f) (filter-append _ waiting rows ∙ ap (λ rs. rs ++ rows_before floor rows) late-waiting ∙ late))
+
+  -- the rows handed in are those that were shown, and these
+  same-all : AreSameRows (history ++ rows) (rows_before floor history ++ all)
+  same-all f =
+      let a = kept.all_there f in
+      let b = whole f in
+      let c = sum_by-append f history rows in
+      let d = sum_by-append f (rows_before floor history) waiting in
+      let e = sum_by-append f waiting rows in
+      let g = sum_by-append f (rows_before floor history) all in
+      omega arith
+
+  -- so those before the later floor are those that were shown, and these before the later floor
+  same-early : AreSameRows (rows_before later (history ++ rows)) (rows_before floor history ++ rows_before later all)
+  same-early f =
+      same-before later (history ++ rows) (rows_before floor history ++ all) same-all f
+      ∙ ap (sum_by f) (filter-append _ (rows_before floor history) all ∙ ap (λ rs. rs ++ rows_before later all) (before-twice floor later history rises))
+
+  -- in order: first those that were shown
+  in-two : rows_in_order (rows_before later (history ++ rows)) ≡ rows_in_order (rows_before floor history) ++ rows_in_order (rows_before later all)
+  in-two =
+      one-order (rows_before later (history ++ rows)) (rows_before floor history ++ rows_before later all) same-early
+      ∙ order-apart floor history (rows_before later all) (every-before _ later all (late-rows floor all late-all))
+
+  pub kept-after : (shown' : List Record) → shown' ≡ shown ++ records_of (rows_in_order (rows_before later all)) → AreSameRows all (rows_before later all ++ rest) → IsKept later (history ++ rows) shown' rest
+  kept-after shown' is left = record {
+    in_order = is ∙ ap (λ rs. rs ++ records_of (rows_in_order (rows_before later all))) kept.in_order
+        ∙ sym (map-append _ (rows_in_order (rows_before floor history)) (rows_in_order (rows_before later all))) ∙ ap records_of (sym in-two);
+    all_there = λ f. (
+        let a = same-all f in
+        let b = sum_by-append f (rows_before floor history) all in
+        let c = left f in
+        let d = sum_by-append f (rows_before later all) rest in
+        let e = same-early f in
+        let g = sum_by-append f (rows_before floor history) (rows_before later all) in
+        let k = sum_by-append f (rows_before later (history ++ rows)) rest in
+        omega arith);
+  }

@@ -1,0 +1,6 @@
+pub mod Empty
+pub mod RowCmp
+pub mod WaitingLemmas
+pub mod RowLists
+pub mod FloorLemmas
+pub mod KeptLemmas

@@ -1,0 +1,10 @@
+use Rattle.std.proofs.Common.{◌≡◌, ◌≤◌, drop}
+use Rattle.vt_key.specs.Times.{earlier}
+use Rattle.vt_steps.specs.World.{least_floor}
+use Rattle.vt_book.proofs.floors.least.Given as goal
+
+abbrev pub invariant-loop-time : goal.invariant-loop-time
+invariant-loop-time l = record {
+  least : earlier l.least (least_floor l.end (drop l.time-index l.times)) ≡ least_floor l.end l.times;
+  ended : l.least ≤ l.end;
+}

@@ -1,0 +1,28 @@
+-- How a book keeps its rows: the records of those that it shows in order, and the others so that the first comes out first.
+use Rattle.std.specs.Prelude.{◌≡◌, ℕ, false, List, [], ◌∷◌, ◌++◌}
+use Rattle.std.specs.List.{sum_by}
+use Rattle.vt_key.specs.Times.{Time}
+use Rattle.vt_model.specs.declared.rows.Row.{Row}
+use Rattle.vt_model.specs.declared.rows.Record.{Record}
+use Rattle.vt_model.specs.Sequential.{rows_before, records_of}
+use Rattle.vt_steps.specs.Rows.{row_before, rows_in_order}
+
+-- two lists have the same rows, each as often: they have the same sums, whatever each row weighs
+abbrev pub AreSameRows : List Row → List Row → Type 0
+AreSameRows xs ys = (f : Row → ℕ) → sum_by f xs ≡ sum_by f ys
+
+-- none of these rows is before a row
+abbrev pub AreNotBefore : Row → List Row → Type 0
+AreNotBefore row [] = Unit {0}
+AreNotBefore row (r ∷ rs) = (row_before r row ≡ false) × AreNotBefore row rs
+
+-- rows that wait, in no particular order, and how many can
+pub record WaitingRows : Type 0 where
+  pub rows : List Row
+  pub capacity : ℕ
+
+-- what is kept of the rows that were handed in: the records of those before the floor, in the order of the rows, and the
+-- other rows
+pub record IsKept (floor : Time) (handed_in : List Row) (shown : List Record) (waiting : List Row) : Type 0 where
+  pub in_order : shown ≡ records_of (rows_in_order (rows_before floor handed_in))
+  pub all_there : AreSameRows handed_in (rows_before floor handed_in ++ waiting)

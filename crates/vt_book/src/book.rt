@@ -1,0 +1,188 @@
+//! The book.
+
+ghost use Rattle.std.specs.Prelude.{◌≡◌, ◌≤◌, ◌+◌, ◌++◌, length, None, Ok, Err, IfOk, IfErr, IfSome, OnOk, MatchOption, MatchResult, vec_len, vec_capacity};
+ghost use Rattle.std.specs.List.{list_all};
+ghost use Rattle.vt_key.specs.declared.fault.Fault.TheVariants.{Memory};
+ghost use Rattle.vt_key.specs.declared.limits.TheConstants.{MAX_WORKERS};
+ghost use Rattle.vt_model.specs.Sequential.{rows_before, records_of};
+ghost use Rattle.vt_steps.specs.Rows.{rows_in_order};
+ghost use Rattle.vt_steps.specs.World.{opening_book, book_floor, book_records, least_floor};
+ghost use Rattle.vt_steps.specs.BookSteps.{with_rows, closed_book};
+ghost use Rattle.vt_book.specs.Books.{may_hand, are_within, is_within, refusal_of_hand, refusal_of_close};
+ghost use Rattle.vt_book.specs.Kept.{AreSameRows};
+
+use crate::floors::Floors;
+use crate::history::History;
+use crate::waiting::Waiting;
+use std::alloc::Global;
+use std::marker::Model;
+use vt_key::{Fault, Time};
+use vt_model::{Record, Row};
+
+/// The rows that the workers of a run have handed in, and the floor up to which each has.
+///
+/// The book's floor is the least of the workers'. Contracts see the end of the run and the book of the definitions: the rows in
+/// the order in which they were handed in, the floors by worker, and whether it is closed.
+#[derive(Drop)]
+pub struct Book {
+    end: Time,
+    floors: Floors,
+    history: History,
+    shown: Vec<Record>,
+    waiting: Waiting,
+    is_closed: bool,
+}
+
+impl Model for Book {
+    ghost use Rattle.vt_steps.specs.World.{least_floor};
+    ghost use Rattle.vt_book.specs.Books.{RunBook};
+    ghost use Rattle.vt_book.specs.Kept.{IsKept};
+
+    ghost Value = { RunBook };
+
+    ghost view = { λ b. record {
+      end = b.end;
+      book = record { rows = b.history.rows; floors = b.floors; is_closed = b.is_closed };
+    } };
+
+    ghost invariant = { λ b. IsKept (least_floor b.end b.floors) b.history.rows b.shown.items b.waiting.rows };
+}
+
+impl Book {
+    /// The book of a run with so many workers, up to 64, and this end: nothing was handed in, and it is open. It takes no
+    /// memory.
+    pub fn new(alloc: Global, workers: u32, end: Time) -> Book
+        requires { workers ≤ MAX_WORKERS }
+        ensures end { result.end ≡ end }
+        ensures book { result.book ≡ opening_book workers }
+    {
+        Book {
+            end,
+            floors: Floors::new(workers),
+            history: History::new(),
+            shown: Vec::new(alloc),
+            waiting: Waiting::new(alloc),
+            is_closed: false,
+        }
+    }
+
+    /// Takes what a worker hands in: rows, in any order, and the floor up to which it has handed in with them. From then on
+    /// that is the worker's floor, and the rows are in the book.
+    ///
+    /// [`Fault::Closed`]: the book is closed. [`Fault::NotLawful`]: there is no such worker, the floor is below the worker's
+    /// or after the end of the run, or a row's time isn't from the worker's floor on and below the new one.
+    /// [`Fault::Memory`]: memory was refused. After any of them the book is as it was.
+    pub fn hand(&mut self, worker: u32, rows: &[Row], floor: Time) -> Result<(), Fault>
+        ensures refused { IfSome (refusal_of_hand self.old worker rows.now floor) (λ fault. result ≡ Err fault) }
+        ensures taken { refusal_of_hand self.old worker rows.now floor ≡ None → MatchResult result
+            (λ _. self.new ≡ record self.old { book = with_rows worker rows.now floor self.old.book })
+            (λ fault. fault ≡ Memory) }
+        ensures unchanged { IfErr result (λ _. self.new ≡ self.old) }
+    {
+        if self.is_closed {
+            return Err(Fault::Closed);
+        }
+        if !self.may_hand(worker, rows, floor) {
+            return Err(Fault::NotLawful);
+        }
+        make_room(&mut self.waiting, &mut self.shown, rows.len())?;
+        self.waiting.insert_all(rows);
+        self.history = self.history.with(rows);
+        self.floors.set(worker, floor);
+        show_before(
+            &mut self.waiting,
+            &mut self.shown,
+            self.floors.least(self.end),
+        );
+        Ok(())
+    }
+
+    /// Whether what a worker hands in is lawful, the book's being closed aside.
+    fn may_hand(&self, worker: u32, rows: &[Row], floor: Time) -> bool
+        ensures { result ≡ may_hand self.now worker rows.now floor }
+    {
+        let Some(handed_in) = self.floors.get(worker) else {
+            return false;
+        };
+        handed_in <= floor && floor <= self.end && are_within(rows, handed_in, floor)
+    }
+
+    /// The book's floor, in ticks: the least of the floors up to which the workers have handed in, which are 0 at first. No
+    /// row below it can be handed in any more.
+    pub fn floor(&self) -> Time
+        ensures { result ≡ book_floor self.now.end self.now.book }
+    {
+        self.floors.least(self.end)
+    }
+
+    /// The records of the rows below the book's floor, in the order of the rows.
+    ///
+    /// [`Fault::Memory`]: memory was refused.
+    pub fn records(&self, alloc: Global) -> Result<Vec<Record>, Fault>
+        ensures records { IfOk result (λ records. records.items ≡ book_records self.now.end self.now.book) }
+        ensures refused { IfErr result (λ fault. fault ≡ Memory) }
+    {
+        Vec::from_slice(alloc, &self.shown).map_err(|_| Fault::Memory)
+    }
+
+    /// Closes the book, which takes nothing more then. It takes no memory.
+    ///
+    /// [`Fault::Closed`]: it is closed. [`Fault::NotLawful`]: its floor isn't the end of the run. After either the book is as
+    /// it was.
+    pub fn close(&mut self) -> Result<(), Fault>
+        ensures { MatchOption (refusal_of_close self.old)
+            ((result ≡ Ok tt) × (self.new ≡ record self.old { book = closed_book self.old.book }))
+            (λ fault. (result ≡ Err fault) × (self.new ≡ self.old)) }
+    {
+        if self.is_closed {
+            return Err(Fault::Closed);
+        }
+        if self.floor() != self.end {
+            return Err(Fault::NotLawful);
+        }
+        self.is_closed = true;
+        Ok(())
+    }
+
+    /// Whether the book is closed.
+    pub fn is_closed(&self) -> bool
+        ensures { result ≡ self.now.book.is_closed }
+    {
+        self.is_closed
+    }
+}
+
+/// Whether all rows have times from one time on and below another.
+fn are_within(rows: &[Row], from: Time, to: Time) -> bool
+    ensures { result ≡ list_all (is_within from to) rows.now }
+{
+    rows.iter()
+        .all(|row| from <= row.key.time && row.key.time < to)
+}
+
+/// Makes room for so many more rows that wait, and for the records of all that then wait.
+///
+/// [`Fault::Memory`]: memory was refused.
+fn make_room(waiting: &mut Waiting, shown: &mut Vec<Record>, more: usize) -> Result<(), Fault>
+    ensures waiting { waiting.new.rows ≡ waiting.old.rows }
+    ensures shown { shown.new.items ≡ shown.old.items }
+    ensures room { OnOk result (length waiting.new.rows + more ≤ waiting.new.capacity) }
+    ensures all { OnOk result (vec_len shown.new + (length waiting.new.rows + more) ≤ vec_capacity shown.new) }
+    ensures refused { IfErr result (λ fault. fault ≡ Memory) }
+{
+    waiting.reserve(more)?;
+    shown
+        .reserve(waiting.len() + more)
+        .map_err(|_| Fault::Memory)
+}
+
+/// Takes out the rows that wait and are before a time, and shows their records, in the order of the rows.
+fn show_before(waiting: &mut Waiting, shown: &mut Vec<Record>, time: Time)
+    requires { vec_len shown.old + length waiting.old.rows ≤ vec_capacity shown.old }
+    ensures shown { shown.new.items ≡ shown.old.items ++ records_of (rows_in_order (rows_before time waiting.old.rows)) }
+    ensures waiting { AreSameRows waiting.old.rows (rows_before time waiting.old.rows ++ waiting.new.rows) }
+{
+    while let Some(row) = waiting.take_before(time) {
+        shown.push_reserved(row.rec);
+    }
+}

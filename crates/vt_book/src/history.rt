@@ -1,0 +1,35 @@
+//! What was handed in, for contracts alone.
+
+ghost use Rattle.std.specs.Prelude.{◌≡◌, List, [], ◌++◌};
+ghost use Rattle.vt_model.specs.declared.rows.Row.{Row as RowValue};
+ghost use base.Fml.{ftrue};
+
+use std::marker::Model;
+use vt_model::Row;
+
+/// The rows that were handed in, in the order in which they were. Contracts alone see them: a value takes no space, so rows
+/// may be kept in another order, and not all that was handed in need be kept.
+#[derive(Drop)]
+pub(crate) struct History {
+    pub(crate) ghost rows: { List RowValue },
+}
+
+impl Model for History {
+    ghost also_owns = { λ _. ftrue };
+}
+
+impl History {
+    /// Nothing was handed in.
+    pub(crate) fn new() -> History
+        ensures { result.rows ≡ [] }
+    {
+        History {}
+    }
+
+    /// The same and these rows, which are handed in last.
+    pub(crate) fn with(&self, rows: &[Row]) -> History
+        ensures { result.rows ≡ self.now.rows ++ rows.now }
+    {
+        History {}
+    }
+}

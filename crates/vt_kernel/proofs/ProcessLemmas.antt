@@ -1,0 +1,144 @@
+-- The processes of a worker: one looked up, one changed; and the steps at one process as steps of the part.
+use Rattle.std.proofs.Common.{◌≡◌, ℕ, zero, suc, ◌+◌, ◌-◌, ◌*◌, ◌/◌, ◌%◌, ◌<◌, ◌≤◌, List, [], ◌∷◌, ◌++◌, map, length, refl, sym, ◌∙◌, ap, subst, arith, Option, Some, None, slice_get, slice_set}
+use Rattle.std.proofs.Math.Nat.{le-div_iff_mul-le, div-add-mod', suc-mul, mod-lt}
+use Rattle.vt_key.specs.declared.order.Rank.{Rank}
+use Rattle.vt_key.specs.declared.letter.Letter.{Letter}
+use Rattle.vt_model.specs.declared.settings.Config.{Config}
+use Rattle.vt_model.specs.Handler.{Handlers}
+use Rattle.vt_model.specs.Simulation.{Simulation, simulation_of}
+use Rattle.vt_steps.specs.World.{LogicalProcess, Part, process_at}
+use Rattle.vt_steps.specs.ProcessSteps.{ProcessEffect}
+use Rattle.vt_steps.specs.PartSteps.{with_effect, at_process}
+use Rattle.vt_steps.specs.StandsFor.{ProcessMemory, StandsForProcess, StandForProcesses, StandsForPart}
+use Rattle.vt_lp.specs.Held.{HeldProcess, process_memory}
+use Rattle.vt_kernel.specs.Held.{HeldWorker, part_memory, StandsFor, AreProcesses, entries_of}
+
+-- ---- lists
+
+pub map-put : {X Y : Type 0} (f : X → Y) (xs : List X) (i : ℕ) (x : X) → map f (slice_set xs i x) ≡ slice_set (map f xs) i (f x)
+map-put f [] i x = refl
+map-put f (y ∷ ys) zero x = refl
+map-put f (y ∷ ys) (suc i) x = ap (λ zs. f y ∷ zs) (map-put f ys i x)
+
+pub get-map_of : {X Y : Type 0} (f : X → Y) (xs : List X) (i : ℕ) (x : X) → slice_get xs i ≡ Some x → slice_get (map f xs) i ≡ Some (f x)
+get-map_of f [] i x at = absurd (let h : None ≡ Some x = at in cc)
+get-map_of f (y ∷ ys) zero x at = let h : Some y ≡ Some x = at in let same : y ≡ x = cc in ap (λ z. Some (f z)) same
+get-map_of f (y ∷ ys) (suc i) x at = get-map_of f ys i x at
+
+-- ---- the processes of a worker
+
+module _ {S P : Type 0} (sim : Simulation S P) (w : ℕ) where
+  -- a value at a place stands for the process at that place
+  pub stands-at : (base place : ℕ) (memories : List (ProcessMemory S P)) (processes : List (LogicalProcess P)) (memory : ProcessMemory S P)
+      → StandForProcesses sim w base memories processes → slice_get memories place ≡ Some memory
+      → (process : LogicalProcess P) × (slice_get processes place ≡ Some process) × StandsForProcess sim (process_at sim w (base + place)) memory process
+  stands-at base place [] processes memory h at = absurd (let k : None ≡ Some memory = at in cc)
+  stands-at base place (m ∷ ms) [] memory h at = absurd h
+  stands-at base zero (m ∷ ms) (q ∷ qs) memory h at =
+      let k : Some m ≡ Some memory = at in
+      let same : m ≡ memory = cc in
+      let here : base ≡ base + 0 = omega arith in
+      (q, refl, subst (λ b. StandsForProcess sim (process_at sim w b) memory q) here (subst (λ x. StandsForProcess sim (process_at sim w base) x q) same h.0))
+  stands-at base (suc place) (m ∷ ms) (q ∷ qs) memory h at =
+      let rest = stands-at (base + 1) place ms qs memory h.1 at in
+      let here : (base + 1) + place ≡ base + suc place = omega arith in
+      (rest.0, rest.1, subst (λ b. StandsForProcess sim (process_at sim w b) memory rest.0) here rest.2)
+
+  -- values stand for the processes where one of each is changed
+  pub stand-changed : (base place : ℕ) (memories : List (ProcessMemory S P)) (processes : List (LogicalProcess P)) (memory : ProcessMemory S P) (process : LogicalProcess P)
+      → StandForProcesses sim w base memories processes → StandsForProcess sim (process_at sim w (base + place)) memory process
+      → StandForProcesses sim w base (slice_set memories place memory) (slice_set processes place process)
+  stand-changed base place [] [] memory process h k = h
+  stand-changed base place [] (q ∷ qs) memory process h k = absurd h
+  stand-changed base place (m ∷ ms) [] memory process h k = absurd h
+  stand-changed base zero (m ∷ ms) (q ∷ qs) memory process h k =
+      let here : base + 0 ≡ base = omega arith in
+      (subst (λ b. StandsForProcess sim (process_at sim w b) memory process) here k, h.1)
+  stand-changed base (suc place) (m ∷ ms) (q ∷ qs) memory process h k =
+      let here : base + suc place ≡ (base + 1) + place = omega arith in
+      (h.0, stand-changed (base + 1) place ms qs memory process h.1 (subst (λ b. StandsForProcess sim (process_at sim w b) memory process) here k))
+
+module _ {S P K : Type 0} where
+  -- which process is at a place, and of which config
+  pub process-at : (config : Config) (w base place : ℕ) (held : List (HeldProcess S P K)) (q : HeldProcess S P K)
+      → AreProcesses config w base held → slice_get held place ≡ Some q → (q.lp ≡ (base + place) * config.workers + w) × (q.config ≡ config)
+  process-at config w base place [] q h at = absurd (let k : None ≡ Some q = at in cc)
+  process-at config w base zero (x ∷ xs) q h at =
+      let k : Some x ≡ Some q = at in
+      let same : x ≡ q = cc in
+      let here : base ≡ base + 0 = omega arith in
+      (subst (λ (y : HeldProcess S P K). y.lp ≡ (base + 0) * config.workers + w) same (h.0 ∙ ap (λ b. b * config.workers + w) here), subst (λ (y : HeldProcess S P K). y.config ≡ config) same h.1)
+  process-at config w base (suc place) (x ∷ xs) q h at =
+      let rest = process-at config w (base + 1) place xs q h.2 at in
+      let here : (base + 1) + place ≡ base + suc place = omega arith in
+      (rest.0 ∙ ap (λ b. b * config.workers + w) here, rest.1)
+
+  -- a changed process stays who it is
+  pub processes-changed : (config : Config) (w base place : ℕ) (held : List (HeldProcess S P K)) (q : HeldProcess S P K)
+      → AreProcesses config w base held → q.lp ≡ (base + place) * config.workers + w → q.config ≡ config
+      → AreProcesses config w base (slice_set held place q)
+  processes-changed config w base place [] q h is of = h
+  processes-changed config w base zero (x ∷ xs) q h is of =
+      let here : base + 0 ≡ base = omega arith in
+      (is ∙ ap (λ b. b * config.workers + w) here, of, h.2)
+  processes-changed config w base (suc place) (x ∷ xs) q h is of =
+      let here : base + suc place ≡ (base + 1) + place = omega arith in
+      (h.0, h.1, processes-changed config w (base + 1) place xs q h.2 (is ∙ ap (λ b. b * config.workers + w) here) of)
+
+  -- what a changed process enters into a tournament
+  pub entered-changed : (entry : HeldProcess S P K → Option Rank) (held : List (HeldProcess S P K)) (place : ℕ) (q : HeldProcess S P K)
+      → place < length held → entries_of entry (slice_set held place q) ≡ slice_set (entries_of entry held) place (entry q)
+  entered-changed entry [] place q within = absurd (omega arith)
+  entered-changed entry (x ∷ xs) zero q within = refl
+  entered-changed entry (x ∷ xs) (suc place) q within = ap (λ zs. entry x ∷ zs) (map-put entry xs place q)
+
+-- the worker stands for the part after a step at the process of a place, once the process stands for the one after it
+pub stands-after : {S P K : Type 0} (handlers : Handlers S P K) (held : HeldWorker S P K) (part : Part P) (place : ℕ) (q : HeldProcess S P K) (effect : ProcessEffect P)
+    (outbox : List (Letter P)) (serial : ℕ)
+    → StandsFor handlers held part → q.lp ≡ process_at (simulation_of handlers held.config) held.worker place → q.config ≡ held.config
+    → StandsForProcess (simulation_of handlers q.config) q.lp (process_memory handlers q) effect.process
+    → outbox ≡ held.outbox ++ effect.letters → serial ≡ held.serial + effect.serials
+    → StandsFor handlers (record held { processes = slice_set held.processes place q; outbox = outbox; serial = serial }) (with_effect part place effect)
+stands-after handlers held part place q effect outbox serial h is of stands sent counted =
+    let sim = simulation_of handlers held.config in
+    let moved = subst (λ (c : Config). StandsForProcess (simulation_of handlers c) q.lp (process_memory handlers q) effect.process) of stands in
+    let here : process_at sim held.worker place ≡ process_at sim held.worker (0 + place) = ap (λ k. process_at sim held.worker k) (let k : place ≡ 0 + place = omega arith in k) in
+    let placed = subst (λ p. StandsForProcess sim p (process_memory handlers q) effect.process) (is ∙ here) moved in
+    let changed = stand-changed sim held.worker 0 place (map (process_memory handlers) held.processes) part.processes (process_memory handlers q) effect.process h.processes placed in
+    record {
+      processes = subst (λ ms. StandForProcesses sim held.worker 0 ms (slice_set part.processes place effect.process)) (sym (map-put (process_memory handlers) held.processes place q)) changed;
+      outbox = ap (λ ls. ls ++ effect.letters) h.outbox ∙ sym sent;
+      arrived = h.arrived;
+      colour = h.colour;
+      sent = h.sent;
+      got = h.got;
+      red_minimum = h.red_minimum;
+      floor = h.floor;
+      serial = ap (λ n. n + effect.serials) h.serial ∙ sym counted;
+    }
+
+-- ---- places
+
+-- a process of the run has a place at its worker
+pub place-known : (lps workers w p : ℕ) → 1 ≤ workers → p < lps → p % workers ≡ w → p / workers < (lps + (workers - 1) - w) / workers
+place-known lps workers w p some less own =
+    let whole : p / workers * workers + p % workers ≡ p = div-add-mod' p workers in
+    let within : p % workers < workers = mod-lt p some in
+    let more : suc (p / workers) * workers ≡ p / workers * workers + workers = suc-mul (p / workers) workers in
+    let fits : suc (p / workers) * workers ≤ lps + (workers - 1) - w = omega arith in
+    (le-div_iff_mul-le {k = workers} {x = suc (p / workers)} {y = lps + (workers - 1) - w} some).1 fits
+
+-- a process past the end of the run has none
+pub place-unknown : (lps workers w p : ℕ) → 1 ≤ workers → lps ≤ p → p % workers ≡ w → p / workers < (lps + (workers - 1) - w) / workers → ⊥
+place-unknown lps workers w p some past own less =
+    let whole : p / workers * workers + p % workers ≡ p = div-add-mod' p workers in
+    let within : p % workers < workers = mod-lt p some in
+    let more : suc (p / workers) * workers ≡ p / workers * workers + workers = suc-mul (p / workers) workers in
+    let fits : suc (p / workers) * workers ≤ lps + (workers - 1) - w = (le-div_iff_mul-le {k = workers} {x = suc (p / workers)} {y = lps + (workers - 1) - w} some).0 less in
+    omega arith
+
+-- what is past the end of a list is not there
+pub get-past : {X : Type 0} (xs : List X) (i : ℕ) → length xs ≤ i → slice_get xs i ≡ None
+get-past [] i h = refl
+get-past (x ∷ xs) zero h = absurd (omega arith)
+get-past (x ∷ xs) (suc i) h = get-past xs i (omega arith)

@@ -1,0 +1,132 @@
+-- Undo and Cancel at one process, again and again, as local steps of the part.
+use Rattle.std.proofs.Common.{◌≡◌, ℕ, zero, suc, ◌+◌, ◌-◌, ◌*◌, ◌/◌, ◌%◌, ◌<◌, ◌≤◌, ◌⊎◌, inl, inr, Bool, true, false, nat_eq, List, [], ◌∷◌, ◌++◌, map, length, refl, sym, ◌∙◌, ap, subst, arith, Option, Some, None, slice_get, slice_set, if◌then◌else◌}
+use Rattle.std.specs.Option.{option_and_then, option_map}
+use Rattle.std.proofs.lemmas.List.{append_assoc, append-nil}
+use Rattle.vt_key.specs.declared.order.Stamp.{Stamp}
+use Rattle.vt_key.specs.declared.letter.Letter.{Letter}
+use Rattle.vt_model.specs.declared.settings.Config.{Config}
+use Rattle.vt_model.specs.Handler.{Handlers}
+use Rattle.vt_model.specs.Simulation.{Simulation, simulation_of}
+use Rattle.vt_steps.specs.declared.step.Step.{Step}
+use Rattle.vt_steps.specs.declared.step.Step.TheVariants.{Execute, Undo, Cancel, Home, Send, Fetch, Accept, Cut, Report, Commit, Close}
+use Rattle.vt_steps.specs.World.{LogicalProcess, Part}
+use Rattle.vt_steps.specs.ProcessSteps.{ProcessEffect, undo_process, cancel_process}
+use Rattle.vt_steps.specs.PartSteps.{with_effect, at_process}
+use Rattle.vt_steps.proofs.Places.{get-put_same}
+use Rattle.vt_kernel.specs.Local.{at_own, local_step, local_steps, AreSettling, IsSettled}
+use Rattle.vt_kernel.proofs.OwnSteps.{own-step, no-process, not-own}
+
+-- what is written twice at a place is what was written last
+pub put-put : {X : Type 0} (xs : List X) (i : ℕ) (x y : X) → slice_set (slice_set xs i x) i y ≡ slice_set xs i y
+put-put [] i x y = refl
+put-put (z ∷ zs) zero x y = refl
+put-put (z ∷ zs) (suc i) x y = ap (λ rest. z ∷ rest) (put-put zs i x y)
+
+-- what is written where it stands already changes nothing
+pub put-there : {X : Type 0} (xs : List X) (i : ℕ) (x : X) → slice_get xs i ≡ Some x → slice_set xs i x ≡ xs
+put-there [] i x there = refl
+put-there (z ∷ zs) zero x there = (let h : Some z ≡ Some x = there in let same : z ≡ x = cc in ap (λ y. y ∷ zs) (sym same))
+put-there (z ∷ zs) (suc i) x there = ap (λ rest. z ∷ rest) (put-there zs i x there)
+
+-- one settling step more
+pub settling-more : (p : ℕ) (steps : List Step) (step : Step) → AreSettling p steps → ((step ≡ Undo p) ⊎ ((stamp : Stamp) × (step ≡ Cancel p stamp))) → AreSettling p (steps ++ step ∷ [])
+settling-more p [] step h k = (k, tt)
+settling-more p (first ∷ rest) step h k = (h.0, settling-more p rest step h.1 k)
+
+module _ {P : Type 0} where
+  -- one effect and then another
+  abbrev pub and_then : ProcessEffect P → ProcessEffect P → ProcessEffect P
+  and_then first second = record { process = second.process; letters = first.letters ++ second.letters; serials = first.serials + second.serials }
+
+  -- nothing is done
+  abbrev pub nothing_done : LogicalProcess P → ProcessEffect P
+  nothing_done process = record { process = process; letters = []; serials = 0 }
+
+  -- these steps, each lawful, lead a process to this effect, from one that is there already
+  pub data LedTo (p : ℕ) (process : LogicalProcess P) : List Step → ProcessEffect P → Type 0 where
+    not_moved : LedTo p process [] (nothing_done process)
+    undone : (steps : List Step) (so_far effect : ProcessEffect P) → LedTo p process steps so_far → undo_process so_far.process ≡ Some effect
+      → LedTo p process (steps ++ Undo p ∷ []) (and_then so_far effect)
+    cancelled : (stamp : Stamp) (steps : List Step) (so_far effect : ProcessEffect P) → LedTo p process steps so_far → cancel_process stamp so_far.process ≡ Some effect
+      → LedTo p process (steps ++ Cancel p stamp ∷ []) (and_then so_far effect)
+
+  -- the part after two effects at a place
+  pub with-both : (part : Part P) (place : ℕ) (first second : ProcessEffect P)
+      → with_effect (with_effect part place first) place second ≡ with_effect part place (and_then first second)
+  with-both part place first second = λ j. record part {
+    processes = put-put part.processes place first.process second.process j;
+    outbox = append_assoc part.outbox first.letters second.letters j;
+    serial = (let same : (part.serial + first.serials) + second.serials ≡ part.serial + (first.serials + second.serials) = omega arith in same) j;
+  }
+
+module _ {S P : Type 0} (sim : Simulation S P) (w : ℕ) where
+  -- a list of steps and then one more
+  pub steps-more : (steps : List Step) (step : Step) (part mid : Part P) → local_steps sim w steps part ≡ Some mid
+      → local_steps sim w (steps ++ step ∷ []) part ≡ local_step sim w step mid
+  steps-more [] step part mid led =
+      let same : part ≡ mid = (let h : Some part ≡ Some mid = led in cc) in
+      and-then-some (local_step sim w step part) ∙ ap (local_step sim w step) same
+    where
+      and-then-some : (next : Option (Part P)) → option_and_then (local_steps sim w []) next ≡ next
+      and-then-some None = refl
+      and-then-some (Some x) = refl
+  steps-more (first ∷ rest) step part mid led = go (λ x h. steps-more rest step x mid h) (local_step sim w first part) led
+    where
+      go : ((x : Part P) → local_steps sim w rest x ≡ Some mid → local_steps sim w (rest ++ step ∷ []) x ≡ local_step sim w step mid) →
+          (next : Option (Part P)) → option_and_then (local_steps sim w rest) next ≡ Some mid → option_and_then (local_steps sim w (rest ++ step ∷ [])) next ≡ local_step sim w step mid
+      go more None h = absurd (let k : None ≡ Some mid = h in cc)
+      go more (Some x) h = more x h
+
+  -- nothing done at a process leaves its part
+  pub not-moved : (part : Part P) (place : ℕ) (process : LogicalProcess P) → slice_get part.processes place ≡ Some process
+      → part ≡ with_effect part place (nothing_done process)
+  not-moved part place process there = λ j. record part {
+    processes = sym (put-there part.processes place process there) j;
+    outbox = sym (append-nil part.outbox) j;
+    serial = (let same : part.serial ≡ part.serial + 0 = omega arith in same) j;
+  }
+
+  -- steps that lead a process lead its part
+  pub led-at : (p : ℕ) (process : LogicalProcess P) (steps : List Step) (effect : ProcessEffect P) (part : Part P) → LedTo p process steps effect
+      → p % sim.workers ≡ w → slice_get part.processes (p / sim.workers) ≡ Some process
+      → local_steps sim w steps part ≡ Some (with_effect part (p / sim.workers) effect)
+  led-at p process _ _ part not_moved own there = ap Some (not-moved part (p / sim.workers) process there)
+  led-at p process _ _ part (undone steps so_far effect led lawful) own there =
+      let place = p / sim.workers in
+      let mid = with_effect part place so_far in
+      let before = led-at p process steps so_far part led own there in
+      let here : slice_get mid.processes place ≡ Some so_far.process = get-put_same part.processes place process so_far.process there in
+      steps-more steps (Undo p) part mid before
+      ∙ own-step sim w p undo_process mid so_far.process own here
+      ∙ ap (option_map (with_effect mid place)) lawful
+      ∙ ap Some (with-both part place so_far effect)
+  led-at p process _ _ part (cancelled stamp steps so_far effect led lawful) own there =
+      let place = p / sim.workers in
+      let mid = with_effect part place so_far in
+      let before = led-at p process steps so_far part led own there in
+      let here : slice_get mid.processes place ≡ Some so_far.process = get-put_same part.processes place process so_far.process there in
+      steps-more steps (Cancel p stamp) part mid before
+      ∙ own-step sim w p (cancel_process stamp) mid so_far.process own here
+      ∙ ap (option_map (with_effect mid place)) lawful
+      ∙ ap Some (with-both part place so_far effect)
+
+  -- they are steps Undo and Cancel
+  pub are-settling : (p : ℕ) (process : LogicalProcess P) (steps : List Step) (effect : ProcessEffect P) → LedTo p process steps effect → AreSettling p steps
+  are-settling p process _ _ not_moved = tt
+  are-settling p process _ _ (undone steps so_far effect led lawful) = settling-more p steps (Undo p) (are-settling p process steps so_far led) (inl refl)
+  are-settling p process _ _ (cancelled stamp steps so_far effect led lawful) = settling-more p steps (Cancel p stamp) (are-settling p process steps so_far led) (inr (stamp, refl))
+
+  -- a part is settled where its process is
+  pub settled-at : (p : ℕ) (part : Part P) (process : LogicalProcess P) → p % sim.workers ≡ w → slice_get part.processes (p / sim.workers) ≡ Some process
+      → undo_process process ≡ None → ((stamp : Stamp) → cancel_process stamp process ≡ None) → IsSettled sim w p part
+  settled-at p part process own there no_undo no_cancel = record {
+    no_undo = own-step sim w p undo_process part process own there ∙ ap (option_map (with_effect part (p / sim.workers))) no_undo;
+    no_cancel = λ stamp. own-step sim w p (cancel_process stamp) part process own there ∙ ap (option_map (with_effect part (p / sim.workers))) (no_cancel stamp);
+  }
+
+  -- and where it has no such process
+  pub settled-elsewhere : (p : ℕ) (part : Part P) → (p % sim.workers ≡ w → ⊥) → IsSettled sim w p part
+  settled-elsewhere p part apart = record { no_undo = not-own sim w p _ apart; no_cancel = λ stamp. not-own sim w p _ apart }
+
+  pub settled-nowhere : (p : ℕ) (part : Part P) → slice_get part.processes (p / sim.workers) ≡ None → IsSettled sim w p part
+  settled-nowhere p part gone = record { no_undo = no-process sim w p undo_process part gone; no_cancel = λ stamp. no-process sim w p (cancel_process stamp) part gone }

@@ -1,0 +1,61 @@
+use Rattle.std.proofs.Common.{◌≡◌, ℕ, ◌+◌, ◌<◌, ◌^◌, ◌≤◌, ◌∙◌, List, map, length, ap, sym, subst, arith, max}
+use Rattle.std.specs.List.{All}
+use prog.Memory.{up, align, size}
+use denote.Memory.{lone}
+use Rattle.vt_key.specs.declared.letter.Letter.{Letter}
+use Rattle.vt_key.specs.declared.letter.Sign.TheVariants.{Plus}
+use Rattle.vt_model.specs.declared.sending.Sent.{Sent}
+use Rattle.vt_model.specs.Simulation.{simulation_of}
+use Rattle.vt_model.proofs.LawLemmas.{lawful_of}
+use Rattle.vt_steps.specs.Letters.{stamped, signed}
+use Rattle.vt_lp.specs.Held.{AllWithinRun}
+use Rattle.vt_lp.proofs.Sizes.{payload_place}
+use Rattle.vt_lp.proofs.Stamping.{length-letters, letters-within}
+use Rattle.vt_lp.proofs.starting.start.Goals as goal
+
+pub new-out-requires : goal.new-out-requires
+new-out-requires g c =
+    let bounds = g.met.M.Model.payload_align in
+    let at = payload_place (align (lone g.row.M-Payload.mir)) bounds.0 bounds.1 in
+    let al = at.whole in let place = at.place in
+    let size_small : size (lone g.row.M-Payload.mir) < 2 ^ 32 = g.met.M.Model.payload_size in
+    (simp al (omega (arith, place, size_small)), (c.requires.known, (c.args.config.some_time, (let z : 0 ≤ 2 ^ 63 = omega arith in z))))
+
+pub sends-requires : goal.sends-requires
+sends-requires g c =
+    let bounds = g.met.M.Model.payload_align in
+    let at = payload_place (align (lone g.row.M-Payload.mir)) bounds.0 bounds.1 in
+    let al = at.whole in let place = at.place in
+    let size_small : size (lone g.row.M-Payload.mir) < 2 ^ 32 = g.met.M.Model.payload_size in
+    simp al (omega (arith, place, size_small))
+
+pub sends-requires-2 : goal.sends-requires-2
+sends-requires-2 g c =
+    let bounds = g.met.M.Model.payload_align in
+    let at = payload_place (align (lone g.row.M-Payload.mir)) bounds.0 bounds.1 in
+    let al = at.whole in let place = at.place in
+    let size_small : size (lone g.row.M-Payload.mir) < 2 ^ 32 = g.met.M.Model.payload_size in
+    simp al (omega (arith, place, size_small))
+
+pub start-process-requires-after_bounds : goal.start-process-requires-after_bounds
+start-process-requires-after_bounds g c κs within =
+    let bounds = g.met.M.Model.payload_align in
+    let at = payload_place (align (lone g.row.M-Payload.mir)) bounds.0 bounds.1 in
+    let al = at.whole in let place = at.place in
+    let size_small : size (lone g.row.M-Payload.mir) < 2 ^ 32 = g.met.M.Model.payload_size in
+    (simp al (omega (arith, place, size_small)), (c.requires.known, c.new-out.ensures.whole))
+
+pub returns-in-Ok-clause-all : goal.returns-in-Ok-clause-all
+returns-in-Ok-clause-all g c =
+    ap length c.in-Ok.ensures.letters ∙ length-letters Plus c.owner-worker.result c.args.serial _ ∙ ap length (c.sends-2.ensures ∙ c.start-process.ensures.sends)
+
+pub returns-in-Ok-clause-within : goal.returns-in-Ok-clause-within
+returns-in-Ok-clause-within g c =
+    let config = c.args.config in
+    let sim = simulation_of (g.M.Model.handlers c.args.model.now) config in
+    let lawful = lawful_of (g.M.Model.handlers c.args.model.now) config (g.met.M.Model.start_within c.args.model.now) (g.met.M.Model.forward_within c.args.model.now) in
+    let made : c.in-Ok.messages ≡ map (signed Plus) (stamped c.owner-worker.result c.args.serial (sim.start c.args.lp).sends) =
+        c.in-Ok.ensures.letters ∙ ap (λ (xs : List (Sent _)). map (signed Plus) (stamped c.owner-worker.result c.args.serial xs)) (c.sends-2.ensures ∙ c.start-process.ensures.sends) in
+    subst (λ (xs : List (Letter _)). AllWithinRun config xs) (sym made)
+    (letters-within config.lps config.end Plus c.owner-worker.result c.args.serial (sim.start c.args.lp).sends
+    (λ d m. lawful.known_start c.args.lp d c.requires.known m) (λ d m. lawful.ends_start c.args.lp d c.requires.known m))

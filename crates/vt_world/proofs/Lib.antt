@@ -1,0 +1,5 @@
+pub mod WorldLemmas
+pub mod CellSteps
+pub mod WorldSteps
+pub mod CommitRows
+pub mod ReachedLemmas

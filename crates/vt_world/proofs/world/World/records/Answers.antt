@@ -1,0 +1,21 @@
+use Rattle.std.proofs.Common.{rules, ◌≡◌, sym, subst, ◌∙◌, ap, IfOk, Ok, Err}
+use Rattle.std.proofs.Math.Logic.{∥∥₁_elim}
+use Rattle.std.proofs.Props.{props}
+use Rattle.vt_model.specs.Simulation.{simulation_of}
+use Rattle.vt_model.specs.Sequential.{seq_records}
+use Rattle.vt_steps.specs.World.{book_records}
+use Rattle.vt_model.proofs.LawLemmas.{lawful_of}
+use Rattle.vt_world.specs.Calls.{floor_held}
+use Rattle.vt_world.specs.Held.{HeldWorld}
+use Rattle.vt_world.proofs.ReachedLemmas.{records-sequential, inside_view, if_ok-more}
+use Rattle.vt_world.proofs.world.World.records.Goals as goal
+
+pub returns-clause-records : goal.returns-clause-records
+returns-clause-records g c =
+    let i = c.self.inside in
+    let m = i.model.now in
+    let held = inside_view m i.config i.kernels.items i.inboxes.items i.board.board i.book.book in
+    let lawful = lawful_of (g.M.Model.handlers m) i.config (g.met.M.Model.start_within m) (g.met.M.Model.forward_within m) in
+    let right = ∥∥₁_elim c.self.invariant.is_reached (Prim.hlevel props) (records-sequential (g.M.Model.handlers m) held lawful) in
+    subst (λ (v : HeldWorld _ _ _ _). IfOk c.records.result (λ r. r.items ≡ seq_records (simulation_of (g.M.Model.handlers v.model) v.config) (floor_held v))) c.self.view_is
+    (if_ok-more c.records.result (λ r is. is ∙ ap (λ t. book_records t i.book.book) c.self.invariant.same_book_end ∙ right) c.records.ensures.records)

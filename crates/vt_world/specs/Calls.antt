@@ -1,0 +1,62 @@
+-- What the calls of a world answer, by the steps of the definitions.
+use Rattle.std.specs.Prelude.{◌≡◌, ℕ, ◌+◌, ◌<◌, ◌≤◌, ◌⊎◌, ◌/◌, ◌%◌, List, [], ◌∷◌, ◌++◌, map, Option, Some, None, Result, Ok, Err, slice_get}
+use Rattle.std.specs.List.{flat_map}
+use Rattle.vt_key.specs.Times.{Time}
+use Rattle.vt_key.specs.declared.limits.TheConstants.{MAX_COUNT}
+use Rattle.vt_key.specs.declared.letter.Colour.{Colour}
+use Rattle.vt_key.specs.declared.fault.Fault.{Fault}
+use Rattle.vt_key.specs.declared.fault.Fault.TheVariants.{Memory, NotLawful, Closed, Exhausted}
+use Rattle.vt_model.specs.Handler.{Handlers}
+use Rattle.vt_model.specs.Simulation.{Simulation, simulation_of}
+use Rattle.vt_steps.specs.declared.step.Step.{Step}
+use Rattle.vt_steps.specs.declared.step.Step.TheVariants.{Execute, Undo, Cancel, Home, Send, Fetch, Accept, Cut, Report, Commit, Close}
+use Rattle.vt_steps.specs.declared.step.Reply.{Reply}
+use Rattle.vt_steps.specs.Letters.{count_of, least_time}
+use Rattle.vt_steps.specs.World.{LogicalProcess, Part, World, book_floor}
+use Rattle.vt_steps.specs.Next.{next}
+use Rattle.vt_lp.specs.Guards.{number_of}
+use Rattle.vt_kernel.specs.Guards.{held_letters}
+use Rattle.vt_world.specs.Held.{HeldWorld, StandsForWorld}
+
+module _ {S P : Type 0} (sim : Simulation S P) where
+  -- this is the part of worker w of a world
+  abbrev pub IsPart : World P → ℕ → Part P → Type 0
+  IsPart world w part = slice_get world.parts w ≡ Some part
+
+  -- a counter that the step raises is past its limit in the world after it: the send number of the process that executed, or
+  -- its worker's serial; how much mail of its colour the worker sent; how much of either colour it got; the number of rounds
+  abbrev pub PassesLimit : Step → World P → Type 0
+  PassesLimit (Execute p) after =
+      (part : Part P) × IsPart after (p % sim.workers) part
+      × ((MAX_COUNT < part.serial) ⊎ ((process : LogicalProcess P) × (slice_get part.processes (p / sim.workers) ≡ Some process) × (MAX_COUNT < number_of sim p process)))
+  PassesLimit (Send w v) after = (part : Part P) × IsPart after w part × (MAX_COUNT < count_of part.sent part.colour)
+  PassesLimit (Fetch w) after = (part : Part P) × IsPart after w part × ((MAX_COUNT < part.got.white) ⊎ (MAX_COUNT < part.got.red))
+  PassesLimit (Cut w) after = MAX_COUNT < after.board.rounds
+  PassesLimit _ after = ⊥
+
+  -- the step takes memory
+  abbrev pub TakesMemory : Step → Type 0
+  TakesMemory (Execute p) = Unit {0}
+  TakesMemory (Accept w i) = Unit {0}
+  TakesMemory (Send w v) = Unit {0}
+  TakesMemory (Commit w) = Unit {0}
+  TakesMemory _ = ⊥
+
+  -- why a step of a world is refused: as the definitions refuse it; or it is lawful, and a counter would pass its limit; or none
+  -- would, and memory was refused
+  abbrev pub IsStepRefusal : Step → World P → Fault → Type 0
+  IsStepRefusal step world fault =
+      ((next sim world step).answer ≡ Err fault)
+      ⊎ ((reply : Reply) × ((next sim world step).answer ≡ Ok reply)
+      × (((fault ≡ Exhausted) × PassesLimit step (next sim world step).world)
+      ⊎ ((fault ≡ Memory) × TakesMemory step × (PassesLimit step (next sim world step).world → ⊥))))
+
+module _ {M S P K : Type 0} where
+  -- the least time of all that is unprocessed or travelling: in outboxes, arrived, pending, waiting and in inboxes
+  abbrev pub least_held : HeldWorld M S P K → Time
+  least_held held =
+      least_time held.config.end (flat_map held_letters held.workers ++ map (λ mail. mail.letter) (flat_map (λ inbox. inbox) held.inboxes))
+
+  -- the floor of the book
+  abbrev pub floor_held : HeldWorld M S P K → Time
+  floor_held held = book_floor held.config.end held.book

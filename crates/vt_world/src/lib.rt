@@ -1,0 +1,9 @@
+//! A Time Warp world that is driven by hand, step by step: its workers, what travels between them, the board on which global
+//! virtual time is agreed, and the book of committed records.
+#![tactic(auto)]
+
+mod inbox;
+mod world;
+
+pub use vt_steps::{Reply, Step};
+pub use world::World;
