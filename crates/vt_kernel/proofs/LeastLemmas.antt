@@ -1,8 +1,8 @@
 -- The least time of all letters that wait at a worker's processes, by a tournament over their least ranks.
-use Rattle.std.proofs.Common.{◌≡◌, ◌∙◌, ℕ, zero, suc, ◌+◌, List, [], ◌∷◌, ◌++◌, map, Option, Some, None, slice_get, refl, sym, ap, subst, inl, arith}
-use Rattle.std.specs.List.{flat_map}
-use Rattle.vt_key.specs.Times.{Time, TimeBefore, TimeAtMost, earlier}
-use Rattle.vt_key.specs.Order.{RankBefore}
+use Rattle.std.proofs.Common.{◌≡◌, ◌∙◌, ℕ, zero, suc, List, [], ◌∷◌, ◌++◌, Option, Some, None, slice_get, refl, sym, ap, subst, inl, arith}
+use Rattle.std.specs.List.{All, flat_map}
+use Rattle.std.proofs.lemmas.Option.{get_or_from_slice_get, slice_get_within}
+use Rattle.vt_key.specs.Times.{Time, TimeAtMost}
 use Rattle.vt_key.specs.declared.order.Rank.{Rank}
 use Rattle.vt_key.specs.declared.letter.Letter.{Letter}
 use Rattle.vt_model.specs.declared.settings.Config.{Config}
@@ -11,7 +11,18 @@ use Rattle.vt_tournament.specs.Least.{IsLeast}
 use Rattle.vt_lp.specs.Held.{HeldProcess}
 use Rattle.vt_kernel.specs.Held.{AreProcesses, TellsLeast, earliest_of, entries_of, rank_time}
 use Rattle.vt_kernel.proofs.ProcessLemmas.{get-map_of, process-at}
-use Rattle.vt_kernel.proofs.TimeLemmas.{least_time-low, least_time-append, same_low, same_times, at_most_both, at_most_along, earlier_low, earlier_low_right, not_before}
+use Rattle.vt_kernel.proofs.TimeLemmas.{least_time-low, least_time-append, same_low, same_times, at_most_both, earlier_low, earlier_low_right, not_before}
+
+same_entry : {X : Type 0} (a b : X) → Some a ≡ Some b → a ≡ b
+same_entry a b e = cc
+
+all-at : {X : Type 0} (Q : X → Type 0) (xs : List X) (i : ℕ) (x : X) → All Q xs → slice_get xs i ≡ Some x → Q x
+all-at Q xs i x all at = subst Q (get_or_from_slice_get xs i x x at) (all i x (slice_get_within xs i x at))
+
+-- a time is at most that of an entry, if it is at most that of its rank
+rank_low : (end t : Time) (o : Option Rank) → TimeAtMost t end → ((rank : Rank) → o ≡ Some rank → TimeAtMost t rank.key.time) → TimeAtMost t (rank_time end o)
+rank_low end t None low each = low
+rank_low end t (Some rank) low each = each rank refl
 
 module _ {X P : Type 0} (end : Time) (letters : X → List (Letter P)) where
   -- a time that is at most each one's least time is at most the least of all
@@ -35,7 +46,7 @@ module _ {X P : Type 0} (end : Time) (letters : X → List (Letter P)) where
       subst (λ (t : Time). TimeAtMost t (least_time end (letters x))) (sym (least_time-append end (letters y) (flat_map letters ys)))
       (earlier_low_right (least_time end (letters y)) (least_time end (flat_map letters ys)) (least_time end (letters x)) (flat-at ys i x at))
 
-module _ {S P K : Type 0} (config : Config) (w : ℕ) where
+module _ {S P K : Type 0} where
   -- what a process has
   abbrev pub kept_letters : HeldProcess S P K → List (Letter P)
   kept_letters held = held.pending ++ held.waiting
@@ -55,6 +66,7 @@ module _ {S P K : Type 0} (config : Config) (w : ℕ) where
   entrant (x ∷ []) (suc i) rank at = absurd (let h : None ≡ Some (Some rank) = at in cc)
   entrant (x ∷ y ∷ ys) (suc i) rank at = entrant (y ∷ ys) i rank at
 
+module _ {S P K : Type 0} (config : Config) (w : ℕ) where
   -- the least time of a process, by its entry
   pub told : (processes : List (HeldProcess S P K)) (i : ℕ) (held : HeldProcess S P K) → AreProcesses config w 0 processes → All TellsLeast processes → slice_get processes i ≡ Some held →
       rank_time config.end (earliest_of held) ≡ least_time config.end (kept_letters held)
@@ -66,9 +78,25 @@ module _ {S P K : Type 0} (config : Config) (w : ℕ) where
     -- where a process has the least rank of all, its least time is the least of all
     pub winner_time : (i : ℕ) (held : HeldProcess S P K) → slice_get processes i ≡ Some held → IsLeast (entries_of earliest_of processes) i →
         least_time config.end (flat_map kept_letters processes) ≡ least_time config.end (kept_letters held)
-    winner_time i held at least = ?
+    winner_time i held at least =
+        let rank = least.rank in
+        let mine : earliest_of held ≡ Some rank = same_entry (earliest_of held) (Some rank) (sym (entered processes i held at) ∙ least.entered) in
+        let time : rank.key.time ≡ least_time config.end (kept_letters held) = ap (rank_time config.end) (sym mine) ∙ told processes i held are tells at in
+        let low : TimeAtMost rank.key.time config.end = subst (λ (t : Time). TimeAtMost t config.end) (sym time) (least_time-low config.end (kept_letters held)) in
+        let each : (j : ℕ) (other : HeldProcess S P K) → slice_get processes j ≡ Some other → TimeAtMost rank.key.time (least_time config.end (kept_letters other)) =
+            λ j other there. subst (TimeAtMost rank.key.time) (told processes j other are tells there)
+            (rank_low config.end rank.key.time (earliest_of other) low (λ r is. not_before r.key.time rank.key.time (λ before. least.least j r (entered processes j other there ∙ ap Some is) (inl (inl before))))) in
+        same_times (least_time config.end (flat_map kept_letters processes)) (least_time config.end (kept_letters held))
+        (flat-at config.end kept_letters processes i held at)
+        (subst (λ (t : Time). TimeAtMost t (least_time config.end (flat_map kept_letters processes))) time (flat-low config.end kept_letters rank.key.time processes low each))
 
     -- where nobody has a rank, nothing is there
     pub nobody_time : ((i : ℕ) (rank : Rank) → slice_get (entries_of earliest_of processes) i ≡ Some (Some rank) → ⊥) →
         least_time config.end (flat_map kept_letters processes) ≡ config.end
-    nobody_time nobody = ?
+    nobody_time nobody =
+        let each : (j : ℕ) (other : HeldProcess S P K) → slice_get processes j ≡ Some other → TimeAtMost config.end (least_time config.end (kept_letters other)) =
+            λ j other there. subst (TimeAtMost config.end) (told processes j other are tells there)
+            (rank_low config.end config.end (earliest_of other) (same_low config.end) (λ r is. absurd (nobody j r (entered processes j other there ∙ ap Some is)))) in
+        same_times (least_time config.end (flat_map kept_letters processes)) config.end
+        (least_time-low config.end (flat_map kept_letters processes))
+        (flat-low config.end kept_letters config.end processes (same_low config.end) each)

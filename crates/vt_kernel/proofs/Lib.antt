@@ -6,6 +6,7 @@ pub mod PartLemmas
 pub mod PartingLemmas
 pub mod PlaceLemmas
 pub mod ProcessLemmas
+pub mod ReportLemmas
 pub mod SendLemmas
 pub mod Settling
 pub mod TimeLemmas

@@ -22,14 +22,11 @@ earlier_low_right a b c low = omega arith
 pub at_most_both : (t a b : Time) → TimeAtMost t a → TimeAtMost t b → TimeAtMost t (earlier a b)
 at_most_both t a b low also = omega arith
 
-pub at_most_along : (a b c : Time) → TimeAtMost a b → TimeAtMost b c → TimeAtMost a c
-at_most_along a b c low more = omega arith
-
 pub same_times : (a b : Time) → TimeAtMost a b → TimeAtMost b a → a ≡ b
 same_times a b low high = omega arith
 
 pub not_before : (a b : Time) → (TimeBefore a b → ⊥) → TimeAtMost b a
-not_before a b no = omega arith
+not_before a b never = omega arith
 
 pub same_low : (a : Time) → TimeAtMost a a
 same_low a = omega arith
