@@ -6,3 +6,4 @@ mod AcceptLemmas
 mod CancelLemmas
 mod Sizes
 mod Stamping
+mod RipeLemmas

@@ -5,6 +5,7 @@
 //! its event was executed.
 #![tactic(auto)]
 
+mod committing;
 mod entry;
 mod letters;
 mod lp;
