@@ -2,6 +2,7 @@ pub mod CommitLemmas
 pub mod EmptyLemmas
 pub mod InsideLemmas
 pub mod LeastLemmas
+pub mod MakeLemmas
 pub mod OwnSteps
 pub mod PartLemmas
 pub mod PartingLemmas
@@ -10,4 +11,5 @@ pub mod ProcessLemmas
 pub mod ReportLemmas
 pub mod SendLemmas
 pub mod Settling
+pub mod Sizes
 pub mod TimeLemmas

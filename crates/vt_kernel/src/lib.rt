@@ -10,6 +10,7 @@ mod cutting;
 mod fetching;
 mod kernel;
 mod local;
+mod making;
 mod readers;
 mod sending;
 mod times;
