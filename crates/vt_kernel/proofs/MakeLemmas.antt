@@ -1,5 +1,6 @@
 -- The starts of a worker's processes: how many there are, and what they send.
-use Rattle.std.proofs.Common.{◌≡◌, ◌∙◌, ℕ, zero, suc, ◌+◌, ◌-◌, ◌*◌, ◌/◌, ◌%◌, ◌<◌, ◌≤◌, List, [], ◌∷◌, ◌++◌, map, replicate, length, slice_index_or, refl, sym, ap, subst, arith, Option, Some, None, slice_get, add-one, max}
+use Rattle.std.proofs.Common.{◌≡◌, ◌∙◌, ℕ, zero, suc, ◌+◌, ◌-◌, ◌*◌, ◌/◌, ◌%◌, ◌<◌, ◌≤◌, List, [], ◌∷◌, ◌++◌, map, replicate, length, slice_index_or, refl, sym, ap, subst, arith, Option, Some, None, slice_get, max, Result, Ok, Err}
+use Rattle.std.specs.Result.{IfOk}
 use Rattle.std.specs.List.{All, flat_map, range_with_len}
 use Rattle.std.proofs.lemmas.List.{append-nil, append_assoc, length-append}
 use Rattle.std.proofs.lemmas.List.Elements.{All-head, All-tail}
@@ -140,15 +141,12 @@ numbered-few p low high (e ∷ es) h = let rest = numbered-few p (suc e.key.numb
 
 -- ---- the opening
 
-abbrev none_of : {Y : Type 0} → Option Y
-none_of = None
-
 abbrev no_rank : Option Rank
 no_rank = None
 
-pub map-none : {X Y : Type 0} (xs : List X) → replicate (length xs) none_of {Y} ≡ map (λ (x : X). none_of {Y}) xs
+pub map-none : {X : Type 0} (xs : List X) → replicate (length xs) no_rank ≡ map (λ (x : X). no_rank) xs
 map-none [] = refl
-map-none {X} {Y} (x ∷ xs) = ap (λ (os : List (Option Y)). None ∷ os) (map-none {X} {Y} xs)
+map-none (x ∷ xs) = ap (λ (os : List (Option Rank)). no_rank ∷ os) (map-none xs)
 
 module _ {S P K : Type 0} where
   -- entries of which none takes part
@@ -202,3 +200,8 @@ module _ {S P K : Type 0} where
         StandForProcesses (simulation_of handlers config) w 0 (map (process_memory handlers) xs) (replicate n opening_process)
     stand-opening config w n xs are all len =
         subst (λ (k : ℕ). StandForProcesses (simulation_of handlers config) w 0 (map (process_memory handlers) xs) (replicate k opening_process)) len (stand-all config w 0 xs are all)
+
+-- what follows of the value of an `Ok`
+pub if_ok : {V E : Type 0} {A B : V → Type 0} (r : Result V E) → ((v : V) → A v → B v) → IfOk r A → IfOk r B
+if_ok (Ok v) f h = f v h
+if_ok (Err e) f h = tt

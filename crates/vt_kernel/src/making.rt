@@ -1,6 +1,6 @@
 //! How a worker is made.
 
-ghost use Rattle.std.specs.Prelude.{◌≡◌, ◌+◌, ◌<◌, ◌≤◌, ◌⊎◌, ◌↔◌, ◌^◌, [], length, map, All, None, IsTrue, IfOk, IfErr};
+ghost use Rattle.std.specs.Prelude.{◌≡◌, ◌+◌, ◌<◌, ◌≤◌, ◌⊎◌, ◌↔◌, ◌^◌, [], length, map, max, All, None, IsTrue, IfOk, IfErr};
 ghost use Rattle.vt_key.specs.declared.fault.Fault.TheVariants.{Memory, Exhausted};
 ghost use Rattle.vt_key.specs.declared.letter.Sign.TheVariants.{Plus};
 ghost use Rattle.vt_key.specs.declared.limits.TheConstants.{MAX_COUNT};
@@ -134,9 +134,16 @@ fn tournament<M: EventModel>(alloc: Global, processes: &[Lp<M>]) -> Result<Tourn
     ensures nobody { IfOk result (λ t. t ≡ entries_of (λ _. None) processes.now) }
     ensures refused { IfErr result (λ fault. fault ≡ Memory) }
 {
-    // A tournament has one contestant at least.
-    let contestants = processes.len().max(1);
+    let count = processes.len();
+    let contestants = at_least_one(count);
     Tournament::new(alloc, contestants as u32)
+}
+
+/// The number, or 1 in the place of 0: a tournament has one contestant at least.
+fn at_least_one(n: usize) -> usize
+    ensures { result ≡ max n 1 }
+{
+    if n == 0 { 1 } else { n }
 }
 
 /// Whether the serial stays within its limit at the starts of worker `w`. The starts are run, and nothing of them is kept.
