@@ -1,6 +1,5 @@
 -- A worker's processes after they committed, and the rows of what they commit.
-use Rattle.std.proofs.Common.{◌≡◌, ◌∙◌, ℕ, zero, suc, ◌+◌, ◌*◌, ◌<◌, ◌≤◌, List, [], ◌∷◌, ◌++◌, map, take, length, slice_index_or, refl, sym, ap, subst, arith, Option, Some, slice_get}
-use Rattle.std.specs.List.{All}
+use Rattle.std.proofs.Common.{◌≡◌, ◌∙◌, ℕ, suc, ◌+◌, ◌*◌, ◌<◌, List, [], ◌∷◌, ◌++◌, map, take, length, slice_index_or, refl, sym, ap, subst, arith, Option, Some, slice_get}
 use Rattle.std.proofs.lemmas.List.{append-nil, append_assoc, take_more, length-take}
 use Rattle.std.proofs.lemmas.Option.{get_or_from_slice_get, slice_get_within}
 use Rattle.vt_key.specs.Times.{Time}
@@ -79,12 +78,13 @@ module _ {S P K : Type 0} (floor : Time) where
   stand-forgotten handlers config w base (x ∷ xs) (y ∷ ys) [] f h s = absurd s
   stand-forgotten handlers config w base (x ∷ xs) (y ∷ ys) (q ∷ qs) f h s =
       let mine : ProcessStandsFor handlers x q =
-          subst (λ (c : Config). StandsForProcess (simulation_of handlers c) x.lp (process_memory handlers x) q) (sym h.1)
-          (subst (λ (p : ℕ). StandsForProcess (simulation_of handlers config) p (process_memory handlers x) q) (sym h.0) s.0) in
-      let after : ProcessStandsFor handlers y (process_after_commit floor q) = f.0.committed handlers q mine in
-      (subst (λ (p : ℕ). StandsForProcess (simulation_of handlers config) p (process_memory handlers y) (process_after_commit floor q)) (f.0.lp ∙ h.0)
-       (subst (λ (c : Config). StandsForProcess (simulation_of handlers c) y.lp (process_memory handlers y) (process_after_commit floor q)) (f.0.config ∙ h.1) after),
-       stand-forgotten handlers config w (base + 1) xs ys qs f.1 h.2 s.1)
+      subst (λ (c : Config). StandsForProcess (simulation_of handlers c) x.lp (process_memory handlers x) q) (sym h.1)
+      (subst (λ (p : ℕ). StandsForProcess (simulation_of handlers config) p (process_memory handlers x) q) (sym h.0) s.0) in
+      let after : ProcessStandsFor handlers y (process_after_commit floor q) = f.0.committed handlers q mine in (
+        subst (λ (p : ℕ). StandsForProcess (simulation_of handlers config) p (process_memory handlers y) (process_after_commit floor q)) (f.0.lp ∙ h.0)
+            (subst (λ (c : Config). StandsForProcess (simulation_of handlers c) y.lp (process_memory handlers y) (process_after_commit floor q)) (f.0.config ∙ h.1) after),
+        stand-forgotten handlers config w (base + 1) xs ys qs f.1 h.2 s.1,
+      )
 
 module _ {S P K : Type 0} where
   pub stands-commit : {held now : HeldWorker S P K} → held ≡ now → (handlers : Handlers S P K) (part : Part P) → StandsFor handlers now part →
@@ -95,7 +95,7 @@ module _ {S P K : Type 0} where
       let h : StandsFor handlers held part = stands_along e handlers part s in
       record {
         processes = subst (λ (t : Time). StandForProcesses (simulation_of handlers held.config) held.worker 0 (map (process_memory handlers) ys) (map (process_after_commit t) part.processes)) (sym h.floor)
-          (stand-forgotten held.floor handlers held.config held.worker 0 held.processes ys part.processes f are h.processes);
+            (stand-forgotten held.floor handlers held.config held.worker 0 held.processes ys part.processes f are h.processes);
         outbox = h.outbox;
         arrived = h.arrived;
         colour = h.colour;
@@ -188,7 +188,7 @@ module _ {S P K : Type 0} (handlers : Handlers S P K) where
       let p = found.process in
       let within : place < length part.processes = slice_get_within part.processes place p found.there in
       let longer : take (place + 1) part.processes ≡ take place part.processes ++ p ∷ [] =
-          take_more part.processes place p within ∙ ap (λ (x : LogicalProcess P). take place part.processes ++ x ∷ []) (get_or_from_slice_get part.processes place p p found.there) in
+      take_more part.processes place p within ∙ ap (λ (x : LogicalProcess P). take place part.processes ++ x ∷ []) (get_or_from_slice_get part.processes place p p found.there) in
       let long : 0 + length (take place part.processes) ≡ place = simp length-take (omega (arith, within)) in
       ripe p found.stands
       ∙ (λ j. so_far j ++ ripe_rows (simulation_of handlers (found.config j)) (found.lp j) held.floor p)

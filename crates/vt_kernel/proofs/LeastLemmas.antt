@@ -1,5 +1,5 @@
 -- The least time of all letters that wait at a worker's processes, by a tournament over their least ranks.
-use Rattle.std.proofs.Common.{◌≡◌, ◌∙◌, ℕ, zero, suc, List, [], ◌∷◌, ◌++◌, Option, Some, None, slice_get, refl, sym, ap, subst, inl, arith}
+use Rattle.std.proofs.Common.{◌≡◌, ◌∙◌, ℕ, zero, suc, List, [], ◌∷◌, ◌++◌, Option, Some, None, slice_get, refl, sym, ap, subst, inl}
 use Rattle.std.specs.List.{All, flat_map}
 use Rattle.std.proofs.lemmas.Option.{get_or_from_slice_get, slice_get_within}
 use Rattle.vt_key.specs.Times.{Time, TimeAtMost}
@@ -84,8 +84,8 @@ module _ {S P K : Type 0} (config : Config) (w : ℕ) where
         let time : rank.key.time ≡ least_time config.end (kept_letters held) = ap (rank_time config.end) (sym mine) ∙ told processes i held are tells at in
         let low : TimeAtMost rank.key.time config.end = subst (λ (t : Time). TimeAtMost t config.end) (sym time) (least_time-low config.end (kept_letters held)) in
         let each : (j : ℕ) (other : HeldProcess S P K) → slice_get processes j ≡ Some other → TimeAtMost rank.key.time (least_time config.end (kept_letters other)) =
-            λ j other there. subst (TimeAtMost rank.key.time) (told processes j other are tells there)
-            (rank_low config.end rank.key.time (earliest_of other) low (λ r is. not_before r.key.time rank.key.time (λ before. least.least j r (entered processes j other there ∙ ap Some is) (inl (inl before))))) in
+        λ j other there. subst (TimeAtMost rank.key.time) (told processes j other are tells there)
+        (rank_low config.end rank.key.time (earliest_of other) low (λ r is. not_before r.key.time rank.key.time (λ before. least.least j r (entered processes j other there ∙ ap Some is) (inl (inl before))))) in
         same_times (least_time config.end (flat_map kept_letters processes)) (least_time config.end (kept_letters held))
         (flat-at config.end kept_letters processes i held at)
         (subst (λ (t : Time). TimeAtMost t (least_time config.end (flat_map kept_letters processes))) time (flat-low config.end kept_letters rank.key.time processes low each))
@@ -95,8 +95,8 @@ module _ {S P K : Type 0} (config : Config) (w : ℕ) where
         least_time config.end (flat_map kept_letters processes) ≡ config.end
     nobody_time nobody =
         let each : (j : ℕ) (other : HeldProcess S P K) → slice_get processes j ≡ Some other → TimeAtMost config.end (least_time config.end (kept_letters other)) =
-            λ j other there. subst (TimeAtMost config.end) (told processes j other are tells there)
-            (rank_low config.end config.end (earliest_of other) (same_low config.end) (λ r is. absurd (nobody j r (entered processes j other there ∙ ap Some is)))) in
+        λ j other there. subst (TimeAtMost config.end) (told processes j other are tells there)
+        (rank_low config.end config.end (earliest_of other) (same_low config.end) (λ r is. absurd (nobody j r (entered processes j other there ∙ ap Some is)))) in
         same_times (least_time config.end (flat_map kept_letters processes)) config.end
         (least_time-low config.end (flat_map kept_letters processes))
         (flat-low config.end kept_letters config.end processes (same_low config.end) each)

@@ -1,5 +1,5 @@
 -- The starts of a worker's processes: how many there are, and what they send.
-use Rattle.std.proofs.Common.{◌≡◌, ◌∙◌, ℕ, zero, suc, ◌+◌, ◌-◌, ◌*◌, ◌/◌, ◌%◌, ◌<◌, ◌≤◌, List, [], ◌∷◌, ◌++◌, map, replicate, length, slice_index_or, refl, sym, ap, subst, arith, Option, Some, None, slice_get, max, Result, Ok, Err}
+use Rattle.std.proofs.Common.{◌≡◌, ◌∙◌, ℕ, zero, suc, ◌+◌, ◌-◌, ◌*◌, ◌/◌, ◌%◌, ◌<◌, ◌≤◌, List, [], ◌∷◌, ◌++◌, map, replicate, length, slice_index_or, refl, sym, ap, subst, arith, Option, None, slice_get, max, Result, Ok, Err}
 use Rattle.std.specs.Result.{IfOk}
 use Rattle.std.specs.List.{All, flat_map, range_with_len}
 use Rattle.std.proofs.lemmas.List.{append-nil, append_assoc, length-append}
@@ -75,9 +75,9 @@ module _ {S P : Type 0} (sim : Simulation S P) (w : ℕ) where
   few-starts each some =
       let pos : 0 < sim.workers = omega arith in
       let known : (place : ℕ) → place < process_count sim w → process_at sim w place < sim.lps = λ place less.
-          let enough = (le-div_iff_mul-le {k = sim.workers} {x = suc place} {y = sim.lps + (sim.workers - 1) - w} pos).0 less in
-          let more = suc-mul place sim.workers in
-          omega (arith, enough, more, some) in
+      let enough = (le-div_iff_mul-le {k = sim.workers} {x = suc place} {y = sim.lps + (sim.workers - 1) - w} pos).0 less in
+      let more = suc-mul place sim.workers in
+      omega (arith, enough, more, some) in
       let all = few-started each (process_count sim w) known in
       let less = div-le_self (sim.lps + (sim.workers - 1) - w) sim.workers in
       omega (arith, all, less)
@@ -191,10 +191,11 @@ module _ {S P K : Type 0} where
     stand-all : (config : Config) (w base : ℕ) (xs : List (HeldProcess S P K)) → AreProcesses config w base xs → All IsOpening xs →
         StandForProcesses (simulation_of handlers config) w base (map (process_memory handlers) xs) (replicate (length xs) opening_process)
     stand-all config w base [] are all = tt
-    stand-all config w base (x ∷ xs) are all =
-        (subst (λ (p : ℕ). StandsForProcess (simulation_of handlers config) p (process_memory handlers x) opening_process) are.0
-         (subst (λ (c : Config). StandsForProcess (simulation_of handlers c) x.lp (process_memory handlers x) opening_process) are.1 (All-head IsOpening x xs all)),
-         stand-all config w (base + 1) xs are.2 (All-tail IsOpening x xs all))
+    stand-all config w base (x ∷ xs) are all = (
+      subst (λ (p : ℕ). StandsForProcess (simulation_of handlers config) p (process_memory handlers x) opening_process) are.0
+          (subst (λ (c : Config). StandsForProcess (simulation_of handlers c) x.lp (process_memory handlers x) opening_process) are.1 (All-head IsOpening x xs all)),
+      stand-all config w (base + 1) xs are.2 (All-tail IsOpening x xs all),
+    )
 
     pub stand-opening : (config : Config) (w n : ℕ) (xs : List (HeldProcess S P K)) → AreProcesses config w 0 xs → All IsOpening xs → length xs ≡ n →
         StandForProcesses (simulation_of handlers config) w 0 (map (process_memory handlers) xs) (replicate n opening_process)

@@ -1,9 +1,8 @@
 -- What a worker reports, by the part that it stands for.
-use Rattle.std.proofs.Common.{◌≡◌, ◌∙◌, ℕ, ◌+◌, List, [], ◌∷◌, ◌++◌, map, refl, sym, ap}
+use Rattle.std.proofs.Common.{◌≡◌, ℕ, ◌+◌, List, [], ◌∷◌, ◌++◌, map, refl, sym}
 use Rattle.std.specs.List.{flat_map}
 use Rattle.vt_key.specs.Letters.{other_colour}
 use Rattle.vt_key.specs.Times.{earlier}
-use Rattle.vt_key.specs.declared.letter.Letter.{Letter}
 use Rattle.vt_key.specs.declared.letter.Mail.{Mail}
 use Rattle.vt_model.specs.Handler.{Handlers}
 use Rattle.vt_model.specs.Simulation.{Simulation, simulation_of}
@@ -35,7 +34,8 @@ module _ {S P K : Type 0} (handlers : Handlers S P K) where
       (count_of held.sent (other_colour held.colour) ≡ report_sent part) × (count_of held.got (other_colour held.colour) ≡ report_got part)
       × (earlier held.red_minimum (least_time held.config.end (held_letters held)) ≡ report_least held.config.end part)
   same-report held part s =
-      let letters = same-letters held part s in
-      ((λ j. count_of (sym s.sent j) (other_colour (sym s.colour j))),
-       (λ j. count_of (sym s.got j) (other_colour (sym s.colour j))),
-       (λ j. earlier (sym s.red_minimum j) (least_time held.config.end (sym letters j))))
+      let letters = same-letters held part s in (
+        (λ j. count_of (sym s.sent j) (other_colour (sym s.colour j))),
+        (λ j. count_of (sym s.got j) (other_colour (sym s.colour j))),
+        (λ j. earlier (sym s.red_minimum j) (least_time held.config.end (sym letters j))),
+      )

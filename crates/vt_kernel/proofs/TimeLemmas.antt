@@ -1,5 +1,5 @@
 -- The earlier of two times, and the least time of letters.
-use Rattle.std.proofs.Common.{◌≡◌, ◌∙◌, List, [], ◌∷◌, ◌++◌, refl, sym, ap, arith}
+use Rattle.std.proofs.Common.{◌≡◌, ◌∙◌, List, [], ◌∷◌, ◌++◌, sym, ap, arith}
 use Rattle.vt_key.specs.Times.{Time, TimeBefore, TimeAtMost, earlier}
 use Rattle.vt_key.specs.declared.letter.Letter.{Letter}
 use Rattle.vt_steps.specs.Letters.{letter_time, least_time}

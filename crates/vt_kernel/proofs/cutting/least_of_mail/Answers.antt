@@ -1,4 +1,4 @@
-use Rattle.std.proofs.Common.{◌≡◌, ◌∙◌, ◌+◌, ◌∷◌, List, map, drop, sym, ap}
+use Rattle.std.proofs.Common.{◌∙◌, ◌+◌, ◌∷◌, List, map, drop, sym, ap}
 use Rattle.std.proofs.lemmas.List.{drop_more}
 use Rattle.vt_key.specs.Times.{Time, earlier}
 use Rattle.vt_key.specs.declared.letter.Letter.{Letter}

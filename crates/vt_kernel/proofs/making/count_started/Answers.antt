@@ -1,5 +1,5 @@
-use Rattle.std.proofs.Common.{◌≡◌, ◌<◌, ◌^◌, ◌≤◌, arith, max}
-use prog.Memory.{up, align, size}
+use Rattle.std.proofs.Common.{◌<◌, ◌^◌, ◌≤◌, arith}
+use prog.Memory.{align, size}
 use denote.Memory.{lone}
 use Rattle.vt_kernel.proofs.Sizes.{payload_place}
 use Rattle.vt_kernel.proofs.making.count_started.Goals as goal

@@ -1,15 +1,14 @@
-use Rattle.std.proofs.Common.{rules, ◌≡◌, ◌∙◌, ℕ, suc, ◌+◌, ◌-◌, ◌*◌, ◌%◌, ◌/◌, ◌<◌, ◌≤◌, List, ◌∷◌, [], ◌++◌, length, map, sym, ap, subst, arith, inl, inr}
+use Rattle.std.proofs.Common.{rules, ◌≡◌, ◌∙◌, ℕ, suc, ◌+◌, ◌*◌, ◌%◌, ◌<◌, List, ◌∷◌, [], ◌++◌, length, map, sym, ap, subst, arith, inl, inr}
 use Rattle.std.specs.List.{All}
 use Rattle.std.proofs.lemmas.List.{length_push, map-append, length-append}
 use Rattle.std.proofs.lemmas.List.Elements.{All-push}
 use Rattle.std.proofs.Math.Nat.{suc-mul}
 use Rattle.vt_key.specs.declared.fault.Fault.{Fault}
 use Rattle.vt_key.specs.declared.fault.Fault.TheVariants.{Memory}
-use Rattle.vt_key.specs.declared.letter.Letter.{Letter}
 use Rattle.vt_key.specs.declared.letter.Sign.TheVariants.{Plus}
 use Rattle.vt_model.specs.Simulation.{simulation_of}
 use Rattle.vt_steps.specs.Letters.{stamped, signed}
-use Rattle.vt_steps.specs.World.{process_at, process_count, start_sends}
+use Rattle.vt_steps.specs.World.{process_at}
 use Rattle.vt_lp.specs.Held.{HeldProcess, StandsFor as ProcessStandsFor, opening_process}
 use Rattle.vt_kernel.specs.Held.{AreProcesses}
 use Rattle.vt_kernel.proofs.MakeLemmas.{started_sends, started-more, started-fits, place-left, places-done, place-own, stamped-append, are-push}

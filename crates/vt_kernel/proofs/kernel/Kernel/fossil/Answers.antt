@@ -1,4 +1,4 @@
-use Rattle.std.proofs.Common.{◌≡◌, ◌<◌, ◌≤◌, ◌+◌, ◌-◌, ◌/◌, ◌^◌, length, arith}
+use Rattle.std.proofs.Common.{◌<◌, ◌+◌, ◌-◌, ◌^◌, length, arith}
 use Rattle.std.proofs.Math.Nat.{div-le_self}
 use Rattle.vt_kernel.proofs.CommitLemmas.{forgotten-each, stands-commit, inside-commit}
 use Rattle.vt_kernel.proofs.kernel.Kernel.fossil.Goals as goal

@@ -28,5 +28,5 @@ returns-clause-unknown g c =
     let all : length k.processes.items ≡ (k.config.lps + (k.config.workers - 1) - k.worker) / k.config.workers = c.self.invariant.all_there in
     subst (λ (v : HeldWorker _ _ _). IfNone c.get.result (IsProcessOf v.config v.worker p → ⊥)) c.self.view_is
     (if_none c.get.result (λ (past : length k.processes.items ≤ place) (is : IsProcessOf k.config k.worker p).
-      let below = place-known k.config.lps k.config.workers k.worker p k.config.some_worker is.known is.own in
-      omega (arith, past, below, all)) (missed-past k.processes.items place c.get.result looked))
+    let below = place-known k.config.lps k.config.workers k.worker p k.config.some_worker is.known is.own in
+    omega (arith, past, below, all)) (missed-past k.processes.items place c.get.result looked))

@@ -16,19 +16,19 @@ loop-process-preserved g c handlers part s =
     let q : HeldProcess _ _ _ = c.process-item.result in
     let items : c.deref-process-items.result.now ≡ k.processes.items = c.deref-process-items.ensures.value in
     let there : slice_get k.processes.items place ≡ Some q =
-        ap (λ (xs : List (HeldProcess _ _ _)). slice_get xs place) (sym items) ∙ slice_get_read c.deref-process-items.result.now _ place q refl c.loop-process-test.true c.process-item.is in
+    ap (λ (xs : List (HeldProcess _ _ _)). slice_get xs place) (sym items) ∙ slice_get_read c.deref-process-items.result.now _ place q refl c.loop-process-test.true c.process-item.is in
     let at : slice_get now.processes place ≡ Some q = ap (λ (v : HeldWorker _ _ _). slice_get v.processes place) (sym c.self.view_is) ∙ there in
     let are : AreProcesses now.config now.worker 0 now.processes = subst (λ (v : HeldWorker _ _ _). AreProcesses v.config v.worker 0 v.processes) c.self.view_is c.self.invariant.own_processes in
     rows-next handlers now part place q c.loop-process.rows.items c.ripe.new.rows.items s are at (c.loop-process.invariant handlers part s)
     (λ h stands. c.in_ok-ripe.ensures.rows handlers h stands
-      ∙ ap (λ (v : HeldWorker _ _ _). c.loop-process.rows.items ++ ripe_rows (simulation_of handlers q.config) q.lp v.floor h) c.self.view_is)
+    ∙ ap (λ (v : HeldWorker _ _ _). c.loop-process.rows.items ++ ripe_rows (simulation_of handlers q.config) q.lp v.floor h) c.self.view_is)
 
 pub returns-clause-rows : goal.returns-clause-rows
 unfolding rows_of_commit
 returns-clause-rows g c handlers part s =
     let now = c.args.self.now in
     let items : length c.deref-process-items.result.now ≡ length now.processes =
-        ap length c.deref-process-items.ensures.value ∙ ap (λ (v : HeldWorker _ _ _). length v.processes) c.self.view_is in
+    ap length c.deref-process-items.ensures.value ∙ ap (λ (v : HeldWorker _ _ _). length v.processes) c.self.view_is in
     let all = same-length handlers (simulation_of handlers now.config) now.worker 0 now.processes part.processes s.processes in
     let past : length part.processes ≤ c.loop-process.process-index = omega (arith, all, items, c.loop-process-test.false) in
     c.loop-process.invariant handlers part s
