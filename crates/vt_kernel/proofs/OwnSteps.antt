@@ -1,5 +1,5 @@
 -- A step at one process of a worker as a step of the worker's part.
-use Rattle.std.proofs.Common.{◌≡◌, ℕ, ◌+◌, ◌-◌, ◌*◌, ◌/◌, ◌%◌, ◌<◌, ◌≤◌, ◌⊎◌, inl, inr, Bool, true, false, nat_eq, List, [], ◌∷◌, ◌++◌, map, length, refl, sym, ◌∙◌, ap, subst, arith, Option, Some, None, slice_get, slice_set, if◌then◌else◌}
+use Rattle.std.proofs.Common.{◌≡◌, ℕ, ◌+◌, ◌*◌, ◌/◌, ◌%◌, ◌<◌, ◌≤◌, inl, inr, Bool, List, map, refl, sym, ◌∙◌, ap, subst, arith, Option, Some, None, slice_get, slice_set, if◌then◌else◌}
 use Rattle.std.specs.Option.{option_and_then, option_map}
 use Rattle.std.proofs.lemmas.Bool.Decides.{eqb_tells}
 use Rattle.std.proofs.Math.Nat.{div-add-mod'}
@@ -12,12 +12,12 @@ use Rattle.vt_model.specs.Simulation.{Simulation, simulation_of}
 use Rattle.vt_steps.specs.World.{LogicalProcess, Part, process_at}
 use Rattle.vt_steps.specs.ProcessSteps.{ProcessEffect, execute_process}
 use Rattle.vt_steps.specs.PartSteps.{with_effect, at_process}
-use Rattle.vt_steps.specs.StandsFor.{ProcessMemory, StandsForProcess, StandForProcesses, StandsForPart}
+use Rattle.vt_steps.specs.StandsFor.{StandsForProcess}
 use Rattle.vt_steps.proofs.Places.{get-put_same}
 use Rattle.vt_lp.specs.Held.{HeldProcess, process_memory, StandsFor as ProcessStandsFor}
 use Rattle.vt_lp.specs.Guards.{IsDone as ProcessIsDone, IsExecuteRefusal as ProcessIsExecuteRefusal, number_of}
-use Rattle.vt_kernel.specs.Held.{HeldWorker, part_memory, StandsFor, AreProcesses, entries_of}
-use Rattle.vt_kernel.specs.Local.{at_own, local_step}
+use Rattle.vt_kernel.specs.Held.{HeldWorker, StandsFor, AreProcesses}
+use Rattle.vt_kernel.specs.Local.{at_own}
 use Rattle.vt_kernel.specs.Guards.{IsDone, IsExecuteRefusal, NumberIs}
 use Rattle.vt_kernel.proofs.ProcessLemmas.{get-map_of, stands-at, process-at, stands-after}
 
@@ -104,7 +104,7 @@ module _ {S P K : Type 0} (handlers : Handlers S P K) where
   pub same-execute : (held : HeldWorker S P K) (part : Part P) (p : ℕ) (q : HeldProcess S P K) (process : LogicalProcess P) → StandsFor handlers held part
       → p % held.config.workers ≡ held.worker → q.lp ≡ p → q.config ≡ held.config
       → execute_process (simulation_of handlers q.config) q.lp (q.lp % q.config.workers) held.serial process
-        ≡ execute_process (simulation_of handlers held.config) (process_at (simulation_of handlers held.config) held.worker (p / held.config.workers)) held.worker part.serial process
+      ≡ execute_process (simulation_of handlers held.config) (process_at (simulation_of handlers held.config) held.worker (p / held.config.workers)) held.worker part.serial process
   same-execute held part p q process h own lp config =
       let number : p ≡ process_at (simulation_of handlers held.config) held.worker (p / held.config.workers) = sym (div-add-mod' p held.config.workers) ∙ ap (λ r. p / held.config.workers * held.config.workers + r) own in
       let worker : q.lp % q.config.workers ≡ held.worker = ap (λ k. k % q.config.workers) lp ∙ ap (λ (c : Config). p % c.workers) config ∙ own in
@@ -123,8 +123,11 @@ module _ {S P K : Type 0} (handlers : Handlers S P K) where
       let sim = simulation_of handlers held.config in
       let place = p / held.config.workers in
       let is : NumberIs sim p (with_effect part place effect) (number_of sim p effect.process) = (effect.process, get-put_same part.processes place process effect.process there, refl) in
-      let serial : part.serial + effect.serials ≡ held.serial + effect.serials = ap (λ k. k + effect.serials) h.serial in
-      (number_of sim p effect.process, is, elim why [
-        | inl e ↦ inl (e.0, elim e.1 [ inl a ↦ inl a | inr b ↦ inr (subst (λ k. MAX_COUNT < k) (sym serial) b) ])
-        | inr e ↦ inr (e.0, e.1.number, subst (λ k. k ≤ MAX_COUNT) (sym serial) e.1.serials)
-      ])
+      let serial : part.serial + effect.serials ≡ held.serial + effect.serials = ap (λ k. k + effect.serials) h.serial in (
+        number_of sim p effect.process,
+        is,
+        elim why [
+          | inl e ↦ inl (e.0, elim e.1 [ inl a ↦ inl a | inr b ↦ inr (subst (λ k. MAX_COUNT < k) (sym serial) b) ])
+          | inr e ↦ inr (e.0, e.1.number, subst (λ k. k ≤ MAX_COUNT) (sym serial) e.1.serials)
+        ],
+      )

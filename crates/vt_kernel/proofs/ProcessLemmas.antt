@@ -8,10 +8,10 @@ use Rattle.vt_model.specs.Handler.{Handlers}
 use Rattle.vt_model.specs.Simulation.{Simulation, simulation_of}
 use Rattle.vt_steps.specs.World.{LogicalProcess, Part, process_at}
 use Rattle.vt_steps.specs.ProcessSteps.{ProcessEffect}
-use Rattle.vt_steps.specs.PartSteps.{with_effect, at_process}
-use Rattle.vt_steps.specs.StandsFor.{ProcessMemory, StandsForProcess, StandForProcesses, StandsForPart}
+use Rattle.vt_steps.specs.PartSteps.{with_effect}
+use Rattle.vt_steps.specs.StandsFor.{ProcessMemory, StandsForProcess, StandForProcesses}
 use Rattle.vt_lp.specs.Held.{HeldProcess, process_memory}
-use Rattle.vt_kernel.specs.Held.{HeldWorker, part_memory, StandsFor, AreProcesses, entries_of}
+use Rattle.vt_kernel.specs.Held.{HeldWorker, StandsFor, AreProcesses, entries_of}
 
 -- ---- lists
 

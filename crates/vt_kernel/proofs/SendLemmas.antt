@@ -20,7 +20,6 @@ use Rattle.vt_steps.specs.Next.{may_send}
 use Rattle.vt_lp.specs.Held.{AllWithinRun, IsWithinRun}
 use Rattle.vt_kernel.specs.Held.{HeldWorker, StandsFor, AreCounted, AllOwnMail, IsOwnMail}
 use Rattle.vt_kernel.specs.Guards.{is_for_worker, mailed, IsSendRefusal}
-use Rattle.vt_kernel.proofs.PartLemmas.{stands_along}
 
 -- ---- counts
 
@@ -81,16 +80,19 @@ module _ {S P K : Type 0} where
       let sim = simulation_of handlers now.config in
       let count = count_sent e handlers v part s in
       let sent : count_of held.sent held.colour ≡ count_of part.sent part.colour =
-          ap (λ (u : HeldWorker S P K). count_of u.sent u.colour) e ∙ (λ j. count_of (sym s.sent j) (sym s.colour j)) in
+      ap (λ (u : HeldWorker S P K). count_of u.sent u.colour) e ∙ (λ j. count_of (sym s.sent j) (sym s.colour j)) in
       let else_worker : nat_eq now.worker v ≡ false = ap (λ (u : HeldWorker S P K). nat_eq u.worker v) (sym e) ∙ other in
       elim why [
         | inl none ↦ inl (none.0, may_send-none sim now.worker v part else_worker (sym count ∙ none.1))
         | inr some ↦
-          let yes : 0 < length (letters_for sim v part) = omega (arith, count, some.0) in
-          inr (may_send-yes sim now.worker v part else_worker yes, elim some.1 [
-            | inl full ↦ inl (full.0, omega (arith, full.1, room, count, sent))
-            | inr refused ↦ inr (refused.0, omega (arith, refused.1, room, count, sent))
-          ])
+            let yes : 0 < length (letters_for sim v part) = omega (arith, count, some.0) in
+            inr (
+              may_send-yes sim now.worker v part else_worker yes,
+              elim some.1 [
+                | inl full ↦ inl (full.0, omega (arith, full.1, room, count, sent))
+                | inr refused ↦ inr (refused.0, omega (arith, refused.1, room, count, sent))
+              ],
+            )
       ]
 
 -- ---- the mail is for its worker

@@ -1,19 +1,16 @@
 -- Undo and Cancel at one process, again and again, as local steps of the part.
-use Rattle.std.proofs.Common.{◌≡◌, ℕ, zero, suc, ◌+◌, ◌-◌, ◌*◌, ◌/◌, ◌%◌, ◌<◌, ◌≤◌, ◌⊎◌, inl, inr, Bool, true, false, nat_eq, List, [], ◌∷◌, ◌++◌, map, length, refl, sym, ◌∙◌, ap, subst, arith, Option, Some, None, slice_get, slice_set, if◌then◌else◌}
+use Rattle.std.proofs.Common.{◌≡◌, ℕ, zero, suc, ◌+◌, ◌/◌, ◌%◌, ◌⊎◌, inl, inr, List, [], ◌∷◌, ◌++◌, refl, sym, ◌∙◌, ap, arith, Option, Some, None, slice_get, slice_set}
 use Rattle.std.specs.Option.{option_and_then, option_map}
 use Rattle.std.proofs.lemmas.List.{append_assoc, append-nil}
 use Rattle.vt_key.specs.declared.order.Stamp.{Stamp}
-use Rattle.vt_key.specs.declared.letter.Letter.{Letter}
-use Rattle.vt_model.specs.declared.settings.Config.{Config}
-use Rattle.vt_model.specs.Handler.{Handlers}
-use Rattle.vt_model.specs.Simulation.{Simulation, simulation_of}
+use Rattle.vt_model.specs.Simulation.{Simulation}
 use Rattle.vt_steps.specs.declared.step.Step.{Step}
-use Rattle.vt_steps.specs.declared.step.Step.TheVariants.{Execute, Undo, Cancel, Home, Send, Fetch, Accept, Cut, Report, Commit, Close}
+use Rattle.vt_steps.specs.declared.step.Step.TheVariants.{Undo, Cancel}
 use Rattle.vt_steps.specs.World.{LogicalProcess, Part}
 use Rattle.vt_steps.specs.ProcessSteps.{ProcessEffect, undo_process, cancel_process}
-use Rattle.vt_steps.specs.PartSteps.{with_effect, at_process}
+use Rattle.vt_steps.specs.PartSteps.{with_effect}
 use Rattle.vt_steps.proofs.Places.{get-put_same}
-use Rattle.vt_kernel.specs.Local.{at_own, local_step, local_steps, AreSettling, IsSettled}
+use Rattle.vt_kernel.specs.Local.{local_step, local_steps, AreSettling, IsSettled}
 use Rattle.vt_kernel.proofs.OwnSteps.{own-step, no-process, not-own}
 
 -- what is written twice at a place is what was written last
@@ -46,9 +43,9 @@ module _ {P : Type 0} where
   pub data LedTo (p : ℕ) (process : LogicalProcess P) : List Step → ProcessEffect P → Type 0 where
     not_moved : LedTo p process [] (nothing_done process)
     undone : (steps : List Step) (so_far effect : ProcessEffect P) → LedTo p process steps so_far → undo_process so_far.process ≡ Some effect
-      → LedTo p process (steps ++ Undo p ∷ []) (and_then so_far effect)
+        → LedTo p process (steps ++ Undo p ∷ []) (and_then so_far effect)
     cancelled : (stamp : Stamp) (steps : List Step) (so_far effect : ProcessEffect P) → LedTo p process steps so_far → cancel_process stamp so_far.process ≡ Some effect
-      → LedTo p process (steps ++ Cancel p stamp ∷ []) (and_then so_far effect)
+        → LedTo p process (steps ++ Cancel p stamp ∷ []) (and_then so_far effect)
 
   -- the part after two effects at a place
   pub with-both : (part : Part P) (place : ℕ) (first second : ProcessEffect P)

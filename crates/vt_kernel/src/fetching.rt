@@ -20,7 +20,10 @@ impl<M: EventModel> Kernel<M> {
     ///
     /// [`Fault::NotLawful`]: something that arrived before is not accepted yet. [`Fault::Exhausted`]: a count of mail got would
     /// pass 2^63. After either all is as it was, and the mail is handed back.
-    pub fn take_in(&mut self, mail: Vec<Mail<M::Payload>>) -> Result<(), (Fault, Vec<Mail<M::Payload>>)>
+    pub fn take_in(
+        &mut self,
+        mail: Vec<Mail<M::Payload>>,
+    ) -> Result<(), (Fault, Vec<Mail<M::Payload>>)>
         requires own { AllOwnMail self.old.config self.old.worker mail.items }
         ensures taken { IfOk result (λ _. self.new ≡ record self.old { arrived = mail.items; got = raised (raised self.old.got White (count_colour White mail.items)) Red (count_colour Red mail.items) }) }
         ensures lawful { IfOk result (λ _. (is_empty self.old.arrived ≡ true) × AreCounted self.new.got) }

@@ -4,12 +4,15 @@
 //! thread) rests on the same contracts.
 #![tactic(auto)]
 
+mod committing;
 mod counts;
 mod cutting;
 mod delivering;
 mod fetching;
 mod kernel;
 mod local;
+mod making;
+mod readers;
 mod sending;
 mod times;
 

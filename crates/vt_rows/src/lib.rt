@@ -10,3 +10,5 @@ mod pieces;
 mod sequential;
 #[cfg(test)]
 mod streams;
+#[cfg(test)]
+mod workers;

@@ -1,4 +1,4 @@
-use Rattle.std.proofs.Common.{rules, ◌≡◌, ◌<◌, ◌∙◌, ◌++◌, ℕ, ◌%◌, ◌+◌, Bool, true, not, length, map, nat_eq, vec_len, [], ◌∷◌, List, sym, ap, arith, eq-eqb}
+use Rattle.std.proofs.Common.{rules, ◌≡◌, ◌<◌, ◌∙◌, ◌++◌, ℕ, ◌%◌, ◌+◌, Bool, true, not, length, map, vec_len, [], ◌∷◌, List, sym, ap, arith, eq-eqb}
 use Rattle.std.proofs.lemmas.List.{append_assoc}
 use Rattle.std.specs.List.{filter}
 use Rattle.std.specs.Vec.{vec_capacity}

@@ -2,13 +2,12 @@ use Rattle.std.proofs.Common.{◌≡◌, ◌<◌, ◌≤◌, ◌+◌, ◌++◌, 
 use Rattle.std.proofs.lemmas.Bool.Decides.{nat_tests}
 use Rattle.std.proofs.lemmas.List.Elements.{All-filter}
 use Rattle.std.specs.List.{filter}
-use Rattle.vt_key.specs.Times.{Time, earlier}
+use Rattle.vt_key.specs.Times.{earlier}
 use Rattle.vt_key.specs.declared.fault.Fault.{Fault}
 use Rattle.vt_key.specs.declared.letter.Letter.{Letter}
-use Rattle.vt_key.specs.declared.letter.Mail.{Mail}
 use Rattle.vt_key.specs.declared.limits.TheConstants.{MAX_COUNT}
 use Rattle.vt_model.specs.Simulation.{simulation_of}
-use Rattle.vt_steps.specs.Letters.{Counts, least_time, raised, count_of}
+use Rattle.vt_steps.specs.Letters.{least_time, raised, count_of}
 use Rattle.vt_steps.specs.PartSteps.{letters_for}
 use Rattle.vt_lp.specs.Held.{AllWithinRun, IsWithinRun}
 use Rattle.vt_kernel.specs.Held.{HeldWorker, AllOwnMail}
@@ -80,7 +79,8 @@ returns-clause-done g c handlers part s =
     let other : nat_eq c.args.self.now.worker c.args.v ≡ false = ap (λ (v : HeldWorker _ _ _). nat_eq v.worker c.args.v) (sym c.self.view_is) ∙ own in
     let number = count_sent c.self.view_is handlers c.args.v part s in
     let count = c.in_ok-count.ensures.count in
-    let some : 0 < length (letters_for (simulation_of handlers c.args.self.now.config) c.args.v part) = omega (arith, number, count.0, count.2) in
-    (may_send-yes (simulation_of handlers c.args.self.now.config) c.args.self.now.worker c.args.v part other some,
-     stands-send c.self.view_is handlers c.args.v part s _ c.move_letters-least.ensures.outbox _ sent _ red,
-     c.move_letters-least.ensures.mail ∙ (λ j. c.make_room.ensures.items j ++ mail-sent c.self.view_is handlers c.args.v part s j))
+    let some : 0 < length (letters_for (simulation_of handlers c.args.self.now.config) c.args.v part) = omega (arith, number, count.0, count.2) in (
+      may_send-yes (simulation_of handlers c.args.self.now.config) c.args.self.now.worker c.args.v part other some,
+      stands-send c.self.view_is handlers c.args.v part s _ c.move_letters-least.ensures.outbox _ sent _ red,
+      c.move_letters-least.ensures.mail ∙ (λ j. c.make_room.ensures.items j ++ mail-sent c.self.view_is handlers c.args.v part s j),
+    )

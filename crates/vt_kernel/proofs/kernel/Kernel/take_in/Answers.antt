@@ -1,4 +1,4 @@
-use Rattle.std.proofs.Common.{◌≡◌, ◌+◌, ◌<◌, ◌∙◌, true, inl, inr, arith, sym, ap, subst, rules, refl}
+use Rattle.std.proofs.Common.{◌≡◌, ◌+◌, ◌∙◌, true, inl, inr, arith, sym, ap, subst, rules, refl}
 use Rattle.vt_key.specs.declared.letter.Colour.TheVariants.{White, Red}
 use Rattle.vt_steps.specs.Letters.{is_empty, count_colour}
 use Rattle.vt_kernel.specs.Held.{HeldWorker, AllOwnMail}
@@ -19,10 +19,14 @@ returns-in_default-clause-refused g c =
     let red : c.of_mail.result.red ≡ count_colour Red c.args.mail.items = c.of_mail.ensures.red ∙ ap (count_colour Red) c.deref.ensures.value in
     let got_white : c.self.inside.got.white ≡ c.args.self.now.got.white = ap (λ (v : HeldWorker _ _ _). v.got.white) c.self.view_is in
     let got_red : c.self.inside.got.red ≡ c.args.self.now.got.red = ap (λ (v : HeldWorker _ _ _). v.got.red) c.self.view_is in
-    inr (refl, none, elim c.in_default.ensures.passed [
-      | inl a ↦ inl (omega (arith, a, white, got_white))
-      | inr b ↦ inr (omega (arith, b, red, got_red))
-    ])
+    inr (
+      refl,
+      none,
+      elim c.in_default.ensures.passed [
+        | inl a ↦ inl (omega (arith, a, white, got_white))
+        | inr b ↦ inr (omega (arith, b, red, got_red))
+      ],
+    )
 
 pub returns-clause-lawful : goal.returns-clause-lawful
 returns-clause-lawful g c =
@@ -32,7 +36,8 @@ pub returns-clause-done : goal.returns-clause-done
 returns-clause-done g c handlers part s =
     let none : is_empty c.args.self.now.arrived ≡ true = ap (λ (v : HeldWorker _ _ _). is_empty v.arrived) (sym c.self.view_is) ∙ is_empty-answer c.self.inside.arrived.items _ c.is_empty.result (search rules) c.is_empty.ensures ∙ c.if-not-is_empty.false in
     let white : c.of_mail.result.white ≡ count_colour White c.args.mail.items = c.of_mail.ensures.white ∙ ap (count_colour White) c.deref.ensures.value in
-    let red : c.of_mail.result.red ≡ count_colour Red c.args.mail.items = c.of_mail.ensures.red ∙ ap (count_colour Red) c.deref.ensures.value in
-    (ap is_empty s.arrived ∙ none,
-     stands-fetch c.self.view_is handlers c.args.mail.items c.in-Some.got part s
-     (c.in-Some.ensures.sum ∙ (λ j. record { white = c.self.inside.got.white + white j; red = c.self.inside.got.red + red j })))
+    let red : c.of_mail.result.red ≡ count_colour Red c.args.mail.items = c.of_mail.ensures.red ∙ ap (count_colour Red) c.deref.ensures.value in (
+      ap is_empty s.arrived ∙ none,
+      stands-fetch c.self.view_is handlers c.args.mail.items c.in-Some.got part s
+          (c.in-Some.ensures.sum ∙ (λ j. record { white = c.self.inside.got.white + white j; red = c.self.inside.got.red + red j })),
+    )

@@ -1,0 +1,208 @@
+-- The starts of a worker's processes: how many there are, and what they send.
+use Rattle.std.proofs.Common.{◌≡◌, ◌∙◌, ℕ, zero, suc, ◌+◌, ◌-◌, ◌*◌, ◌/◌, ◌%◌, ◌<◌, ◌≤◌, List, [], ◌∷◌, ◌++◌, map, replicate, length, slice_index_or, refl, sym, ap, subst, arith, Option, None, slice_get, max, Result, Ok, Err}
+use Rattle.std.specs.Result.{IfOk}
+use Rattle.std.specs.List.{All, flat_map, range_with_len}
+use Rattle.std.proofs.lemmas.List.{append-nil, append_assoc, length-append}
+use Rattle.std.proofs.lemmas.List.Elements.{All-head, All-tail}
+use Rattle.std.proofs.Math.Nat.{le-div_iff_mul-le, div-lt_iff_lt-mul, div-le_self, suc-mul, div-add-mod'}
+use Rattle.std.proofs.lemmas.Nat.{div-mul-add}
+use Rattle.vt_key.specs.declared.order.Rank.{Rank}
+use Rattle.vt_key.specs.declared.letter.Letter.{Letter}
+use Rattle.vt_key.specs.declared.letter.Event.{Event}
+use Rattle.vt_model.specs.declared.sending.Sent.{Sent}
+use Rattle.vt_model.specs.declared.settings.Config.{Config}
+use Rattle.vt_model.specs.Handler.{Handlers, StartResult}
+use Rattle.vt_model.specs.Histories.{AreNumbered}
+use Rattle.vt_model.specs.Simulation.{Simulation, simulation_of, start_of}
+use Rattle.vt_steps.specs.Letters.{stamped, least_time}
+use Rattle.vt_steps.specs.World.{process_at, process_count, start_sends}
+use Rattle.vt_steps.specs.StandsFor.{StandsForProcess, StandForProcesses}
+use Rattle.vt_lp.specs.Held.{HeldProcess, process_memory, StandsFor as ProcessStandsFor, opening_process}
+use Rattle.vt_lp.specs.Guards.{ready_rank, lesser_rank}
+use Rattle.vt_kernel.specs.Held.{AreProcesses, TellsLeast, entries_of, ready_of, earliest_of, rank_time}
+
+-- ---- lists
+
+flat-range : {X : Type 0} (f : ℕ → List X) (a n : ℕ) → flat_map f (range_with_len a (suc n)) ≡ flat_map f (range_with_len a n) ++ f (a + n)
+flat-range f a zero = let here : a ≡ a + 0 = omega arith in append-nil (f a) ∙ ap f here
+flat-range f a (suc n) =
+    let here : (a + 1) + n ≡ a + suc n = omega arith in
+    ap (λ xs. f a ++ xs) (flat-range f (a + 1) n)
+    ∙ sym (append_assoc (f a) (flat_map f (range_with_len (a + 1) n)) (f ((a + 1) + n)))
+    ∙ ap (λ k. (f a ++ flat_map f (range_with_len (a + 1) n)) ++ f k) here
+
+module _ {S P : Type 0} (sim : Simulation S P) (w : ℕ) where
+  -- what the processes of the first places send at their starts
+  abbrev pub started_sends : ℕ → List (Sent P)
+  started_sends n = flat_map (λ place. (sim.start (process_at sim w place)).sends) (range_with_len 0 n)
+
+  pub started-more : (n : ℕ) → started_sends (suc n) ≡ started_sends n ++ (sim.start (process_at sim w n)).sends
+  started-more n = let here : 0 + n ≡ n = omega arith in
+      flat-range (λ place. (sim.start (process_at sim w place)).sends) 0 n ∙ ap (λ k. started_sends n ++ (sim.start (process_at sim w k)).sends) here
+
+  started-length : (n : ℕ) → length (started_sends (suc n)) ≡ length (started_sends n) + length (sim.start (process_at sim w n)).sends
+  started-length n = ap length (started-more n) ∙ length-append (started_sends n) (sim.start (process_at sim w n)).sends
+
+  -- more places, more sends
+  grows : (n k : ℕ) → length (started_sends n) ≤ length (started_sends (n + k))
+  grows n zero = let same : n ≡ n + 0 = omega arith in subst (λ m. length (started_sends n) ≤ length (started_sends m)) same (omega arith)
+  grows n (suc k) =
+      let rest = grows n k in
+      let next = started-length (n + k) in
+      let same : suc (n + k) ≡ n + suc k = omega arith in
+      subst (λ m. length (started_sends n) ≤ length (started_sends m)) same (omega (arith, rest, next))
+
+  -- with one place more it is not yet more than all
+  pub started-fits : (n : ℕ) → suc n ≤ process_count sim w →
+      length (started_sends n) + length (sim.start (process_at sim w n)).sends ≤ length (start_sends sim w)
+  started-fits n within =
+      let rest = grows (suc n) (process_count sim w - suc n) in
+      let same : suc n + (process_count sim w - suc n) ≡ process_count sim w = omega arith in
+      let all : length (started_sends (suc n)) ≤ length (start_sends sim w) = subst (λ m. length (started_sends (suc n)) ≤ length (started_sends m)) same rest in
+      let next = started-length n in
+      omega (arith, all, next)
+
+  few-started : (each : (p : ℕ) → p < sim.lps → length (sim.start p).sends ≤ 8) → (n : ℕ) → ((place : ℕ) → place < n → process_at sim w place < sim.lps) → length (started_sends n) ≤ 8 * n
+  few-started each zero known = omega arith
+  few-started each (suc n) known =
+      let rest = few-started each n (λ place less. known place (omega arith)) in
+      let next = started-length n in
+      let last = each (process_at sim w n) (known n (omega arith)) in
+      omega (arith, rest, next, last)
+
+  -- the starts of a worker send little
+  pub few-starts : (each : (p : ℕ) → p < sim.lps → length (sim.start p).sends ≤ 8) → w < sim.workers → length (start_sends sim w) ≤ 8 * (sim.lps + sim.workers)
+  few-starts each some =
+      let pos : 0 < sim.workers = omega arith in
+      let known : (place : ℕ) → place < process_count sim w → process_at sim w place < sim.lps = λ place less.
+      let enough = (le-div_iff_mul-le {k = sim.workers} {x = suc place} {y = sim.lps + (sim.workers - 1) - w} pos).0 less in
+      let more = suc-mul place sim.workers in
+      omega (arith, enough, more, some) in
+      let all = few-started each (process_count sim w) known in
+      let less = div-le_self (sim.lps + (sim.workers - 1) - w) sim.workers in
+      omega (arith, all, less)
+
+-- ---- how many places there are
+
+module _ (lps workers w n p : ℕ) (some : w < workers) (at : p ≡ n * workers + w) where
+  pub place-left : p < lps → suc n ≤ (lps + (workers - 1) - w) / workers
+  place-left less =
+      let pos : 0 < workers = omega arith in
+      let more : suc n * workers ≡ n * workers + workers = suc-mul n workers in
+      let fits : suc n * workers ≤ lps + (workers - 1) - w = omega (arith, more, less, at, some) in
+      (le-div_iff_mul-le {k = workers} {x = suc n} {y = lps + (workers - 1) - w} pos).1 fits
+
+  pub places-done : lps ≤ p → p < lps + workers → n ≡ (lps + (workers - 1) - w) / workers
+  places-done past less =
+      let pos : 0 < workers = omega arith in
+      let more : suc n * workers ≡ n * workers + workers = suc-mul n workers in
+      let fits : n * workers ≤ lps + (workers - 1) - w = omega (arith, at, less, some) in
+      let low : n ≤ (lps + (workers - 1) - w) / workers = (le-div_iff_mul-le {k = workers} {x = n} {y = lps + (workers - 1) - w} pos).1 fits in
+      let over : lps + (workers - 1) - w < suc n * workers = omega (arith, more, at, past, some) in
+      let high : (lps + (workers - 1) - w) / workers < suc n = (div-lt_iff_lt-mul {k = workers} {x = lps + (workers - 1) - w} {y = suc n} pos).1 over in
+      omega (arith, low, high)
+
+pub place-own : (workers w n p : ℕ) → w < workers → p ≡ n * workers + w → p % workers ≡ w
+place-own workers w n p some at =
+    let pos : 0 < workers = omega arith in
+    let whole : p / workers * workers + p % workers ≡ p = div-add-mod' p workers in
+    let part : p / workers ≡ n = ap (λ k. k / workers) at ∙ div-mul-add n workers w some in
+    let same : p / workers * workers ≡ n * workers = ap (λ k. k * workers) part in
+    omega (arith, whole, same, at)
+
+-- ---- stamps
+
+pub stamped-append : {P : Type 0} (w serial : ℕ) (xs ys : List (Sent P)) → stamped w serial (xs ++ ys) ≡ stamped w serial xs ++ stamped w (serial + length xs) ys
+stamped-append w serial [] ys = let here : serial ≡ serial + 0 = omega arith in ap (λ n. stamped w n ys) here
+stamped-append {P} w serial (x ∷ xs) ys =
+    let here : (serial + 1) + length xs ≡ serial + length (x ∷ xs) = omega arith in
+    let first : Event P = record { rank = record { key = x.key; stamp = record { worker = w; serial = serial } }; dest = x.dest; payload = x.payload } in
+    ap (λ es. first ∷ es) (stamped-append w (serial + 1) xs ys) ∙ ap (λ n. first ∷ (stamped w (serial + 1) xs ++ stamped w n ys)) here
+
+-- ---- processes
+
+module _ {S P K : Type 0} where
+  pub are-push : (config : Config) (w base : ℕ) (xs : List (HeldProcess S P K)) (q : HeldProcess S P K) → AreProcesses config w base xs →
+      q.lp ≡ (base + length xs) * config.workers + w → q.config ≡ config → AreProcesses config w base (xs ++ q ∷ [])
+  are-push config w base [] q h is of = let here : base + 0 ≡ base = omega arith in (is ∙ ap (λ b. b * config.workers + w) here, of, tt)
+  are-push config w base (x ∷ xs) q h is of =
+      let here : base + length (x ∷ xs) ≡ (base + 1) + length xs = omega arith in
+      (h.0, h.1, are-push config w (base + 1) xs q h.2 (is ∙ ap (λ b. b * config.workers + w) here) of)
+
+-- ---- few
+
+pub start-number : {S P : Type 0} (end p : ℕ) (started : StartResult S P) → (start_of end p started).triple.number ≡ length started.send_requests
+unfolding start_of
+start-number end p started = refl
+
+pub numbered-few : {P : Type 0} (p low high : ℕ) (es : List (Sent P)) → AreNumbered p low high es → length es + low ≤ high
+numbered-few p low high [] h = omega (arith, h)
+numbered-few p low high (e ∷ es) h = let rest = numbered-few p (suc e.key.number) high es h.2 in omega (arith, rest, h.1)
+
+-- ---- the opening
+
+abbrev no_rank : Option Rank
+no_rank = None
+
+pub map-none : {X : Type 0} (xs : List X) → replicate (length xs) no_rank ≡ map (λ (x : X). no_rank) xs
+map-none [] = refl
+map-none (x ∷ xs) = ap (λ (os : List (Option Rank)). no_rank ∷ os) (map-none xs)
+
+module _ {S P K : Type 0} where
+  -- entries of which none takes part
+  pub entries-none : (xs : List (HeldProcess S P K)) (n : ℕ) → n ≡ max (length xs) 1 → replicate n None ≡ entries_of (λ (x : HeldProcess S P K). no_rank) xs
+  entries-none [] n e = let one : n ≡ 1 = omega arith in ap (λ k. replicate k no_rank) one
+  entries-none (x ∷ xs) n e = let all : n ≡ length (x ∷ xs) = omega arith in ap (λ k. replicate k no_rank) all ∙ map-none (x ∷ xs)
+
+  module _ (handlers : Handlers S P K) where
+    -- a process that has only started
+    abbrev pub IsOpening : HeldProcess S P K → Type 0
+    IsOpening held = ProcessStandsFor handlers held opening_process
+
+    ready-none : (held : HeldProcess S P K) → IsOpening held → ready_of held ≡ None
+    ready-none held s = ap (λ (ls : List (Letter P)). ready_rank ls held.past) (sym s.pending)
+
+    earliest-none : (held : HeldProcess S P K) → IsOpening held → earliest_of held ≡ None
+    earliest-none held s = (λ j. lesser_rank (slice_get (sym s.pending j) 0) (slice_get (sym s.waiting j) 0))
+
+    tells-none : (held : HeldProcess S P K) → IsOpening held → TellsLeast held
+    tells-none held s =
+        ap (rank_time held.config.end) (earliest-none held s) ∙ (λ j. least_time held.config.end (s.pending j ++ s.waiting j))
+
+    pub tells-opening : (xs : List (HeldProcess S P K)) → All IsOpening xs → All TellsLeast xs
+    tells-opening xs all = λ k d within. tells-none (slice_index_or xs k d) (all k d within)
+
+    map-opening : (entry : HeldProcess S P K → Option Rank) → ((held : HeldProcess S P K) → IsOpening held → entry held ≡ None) → (xs : List (HeldProcess S P K)) → All IsOpening xs →
+        map entry xs ≡ map (λ (x : HeldProcess S P K). no_rank) xs
+    map-opening entry none [] all = refl
+    map-opening entry none (x ∷ xs) all = (λ j. none x (All-head IsOpening x xs all) j ∷ map-opening entry none xs (All-tail IsOpening x xs all) j)
+
+    entries-opening : (entry : HeldProcess S P K → Option Rank) → ((held : HeldProcess S P K) → IsOpening held → entry held ≡ None) → (xs : List (HeldProcess S P K)) → All IsOpening xs →
+        entries_of entry xs ≡ entries_of (λ (x : HeldProcess S P K). no_rank) xs
+    entries-opening entry none [] all = refl
+    entries-opening entry none (x ∷ xs) all = map-opening entry none (x ∷ xs) all
+
+    pub ready-opening : (xs : List (HeldProcess S P K)) → All IsOpening xs → entries_of ready_of xs ≡ entries_of (λ (x : HeldProcess S P K). no_rank) xs
+    ready-opening xs all = entries-opening ready_of ready-none xs all
+
+    pub earliest-opening : (xs : List (HeldProcess S P K)) → All IsOpening xs → entries_of earliest_of xs ≡ entries_of (λ (x : HeldProcess S P K). no_rank) xs
+    earliest-opening xs all = entries-opening earliest_of earliest-none xs all
+
+    stand-all : (config : Config) (w base : ℕ) (xs : List (HeldProcess S P K)) → AreProcesses config w base xs → All IsOpening xs →
+        StandForProcesses (simulation_of handlers config) w base (map (process_memory handlers) xs) (replicate (length xs) opening_process)
+    stand-all config w base [] are all = tt
+    stand-all config w base (x ∷ xs) are all = (
+      subst (λ (p : ℕ). StandsForProcess (simulation_of handlers config) p (process_memory handlers x) opening_process) are.0
+          (subst (λ (c : Config). StandsForProcess (simulation_of handlers c) x.lp (process_memory handlers x) opening_process) are.1 (All-head IsOpening x xs all)),
+      stand-all config w (base + 1) xs are.2 (All-tail IsOpening x xs all),
+    )
+
+    pub stand-opening : (config : Config) (w n : ℕ) (xs : List (HeldProcess S P K)) → AreProcesses config w 0 xs → All IsOpening xs → length xs ≡ n →
+        StandForProcesses (simulation_of handlers config) w 0 (map (process_memory handlers) xs) (replicate n opening_process)
+    stand-opening config w n xs are all len =
+        subst (λ (k : ℕ). StandForProcesses (simulation_of handlers config) w 0 (map (process_memory handlers) xs) (replicate k opening_process)) len (stand-all config w 0 xs are all)
+
+-- what follows of the value of an `Ok`
+pub if_ok : {V E : Type 0} {A B : V → Type 0} (r : Result V E) → ((v : V) → A v → B v) → IfOk r A → IfOk r B
+if_ok (Ok v) f h = f v h
+if_ok (Err e) f h = tt
