@@ -1,6 +1,6 @@
 pub mod ProcessLemmas
 pub mod OwnSteps
-pub mod Settling
+pub mod SettlingLemmas
 pub mod EmptyLemmas
 pub mod InsideLemmas
 pub mod PartLemmas
@@ -8,3 +8,4 @@ pub mod PartingLemmas
 pub mod SendLemmas
 pub mod TimeLemmas
 pub mod LocalLemmas
+pub mod SettledWorker

@@ -10,6 +10,7 @@ mod fetching;
 mod kernel;
 mod local;
 mod sending;
+mod settling;
 mod times;
 
 pub use kernel::Kernel;
