@@ -9,3 +9,4 @@ pub mod SendLemmas
 pub mod TimeLemmas
 pub mod LocalLemmas
 pub mod SettledWorker
+pub mod ChoosingLemmas

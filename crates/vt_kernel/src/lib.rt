@@ -4,6 +4,7 @@
 //! thread) rests on the same contracts.
 #![tactic(auto)]
 
+mod choosing;
 mod counts;
 mod cutting;
 mod fetching;
