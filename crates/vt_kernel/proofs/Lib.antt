@@ -1,13 +1,14 @@
 pub mod CommitLemmas
+pub mod ProcessLemmas
+pub mod OwnSteps
+pub mod SettlingLemmas
 pub mod EmptyLemmas
 pub mod InsideLemmas
 pub mod LeastLemmas
 pub mod MakeLemmas
-pub mod OwnSteps
 pub mod PartLemmas
 pub mod PartingLemmas
 pub mod PlaceLemmas
-pub mod ProcessLemmas
 pub mod ReportLemmas
 pub mod SendLemmas
 pub mod Settling
@@ -15,3 +16,5 @@ pub mod Sizes
 pub mod TimeLemmas
 pub mod LocalLemmas
 pub mod DeliveryLemmas
+pub mod SettledWorker
+pub mod ChoosingLemmas

@@ -27,7 +27,7 @@ use Rattle.vt_kernel.specs.Local.{at_own}
 use Rattle.vt_kernel.specs.Guards.{IsDone}
 use Rattle.vt_kernel.proofs.ProcessLemmas.{process-at, processes-changed, entered-changed, place-known, place-unknown, get-past}
 use Rattle.vt_steps.proofs.Places.{get-put_same}
-use Rattle.vt_kernel.proofs.Settling.{put-there}
+use Rattle.vt_kernel.proofs.SettlingLemmas.{put-there}
 use Rattle.vt_kernel.proofs.OwnSteps.{not-own, no-process, found, done-at, refused-at, IsFound}
 
 -- what a contract sees of a worker with these fields

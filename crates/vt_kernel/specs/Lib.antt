@@ -1,3 +1,4 @@
 pub mod Held
 pub mod Local
 pub mod Guards
+pub mod Settled

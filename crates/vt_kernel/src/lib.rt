@@ -5,6 +5,7 @@
 #![tactic(auto)]
 
 mod committing;
+mod choosing;
 mod counts;
 mod cutting;
 mod delivering;
@@ -14,6 +15,7 @@ mod local;
 mod making;
 mod readers;
 mod sending;
+mod settling;
 mod times;
 
 pub use kernel::Kernel;

@@ -1,9 +1,17 @@
 -- Undo and Cancel at one process, again and again, as local steps of the part.
 use Rattle.std.proofs.Common.{◌≡◌, ℕ, zero, suc, ◌+◌, ◌/◌, ◌%◌, ◌⊎◌, inl, inr, List, [], ◌∷◌, ◌++◌, refl, sym, ◌∙◌, ap, arith, Option, Some, None, slice_get, slice_set}
+use Rattle.std.proofs.Common.{◌≡◌, ℕ, zero, suc, ◌+◌, ◌-◌, ◌*◌, ◌/◌, ◌%◌, ◌<◌, ◌≤◌, ◌⊎◌, inl, inr, Bool, true, false, nat_eq, List, [], ◌∷◌, ◌++◌, map, length, refl, sym, ◌∙◌, ap, subst, arith, Option, Some, None, Result, Ok, Err, IfOk, IfErr, slice_get, slice_set, if◌then◌else◌}
 use Rattle.std.specs.Option.{option_and_then, option_map}
+use Rattle.std.specs.Result.{is_ok}
 use Rattle.std.proofs.lemmas.List.{append_assoc, append-nil}
 use Rattle.vt_key.specs.declared.order.Stamp.{Stamp}
 use Rattle.vt_model.specs.Simulation.{Simulation}
+use Rattle.vt_key.specs.declared.letter.Letter.{Letter}
+use Rattle.vt_key.specs.declared.fault.Fault.{Fault}
+use Rattle.vt_key.specs.declared.fault.Fault.TheVariants.{NotLawful}
+use Rattle.vt_model.specs.declared.settings.Config.{Config}
+use Rattle.vt_model.specs.Handler.{Handlers}
+use Rattle.vt_model.specs.Simulation.{Simulation, simulation_of}
 use Rattle.vt_steps.specs.declared.step.Step.{Step}
 use Rattle.vt_steps.specs.declared.step.Step.TheVariants.{Undo, Cancel}
 use Rattle.vt_steps.specs.World.{LogicalProcess, Part}
@@ -11,6 +19,10 @@ use Rattle.vt_steps.specs.ProcessSteps.{ProcessEffect, undo_process, cancel_proc
 use Rattle.vt_steps.specs.PartSteps.{with_effect}
 use Rattle.vt_steps.proofs.Places.{get-put_same}
 use Rattle.vt_kernel.specs.Local.{local_step, local_steps, AreSettling, IsSettled}
+use Rattle.vt_kernel.specs.Local.{at_own, local_step, local_steps, AreSettling, IsSettled}
+use Rattle.vt_lp.specs.Held.{HeldProcess, StandsFor as ProcessStandsFor}
+use Rattle.vt_lp.specs.Guards.{IsDone as ProcessIsDone, can_annihilate}
+use Rattle.vt_kernel.specs.Settled.{and_then, nothing_done, LedTo, not_moved, undone, cancelled, IsLed, IsSettledTo}
 use Rattle.vt_kernel.proofs.OwnSteps.{own-step, no-process, not-own}
 
 -- what is written twice at a place is what was written last
@@ -127,3 +139,87 @@ module _ {S P : Type 0} (sim : Simulation S P) (w : ℕ) where
 
   pub settled-nowhere : (p : ℕ) (part : Part P) → slice_get part.processes (p / sim.workers) ≡ None → IsSettled sim w p part
   settled-nowhere p part gone = record { no_undo = no-process sim w p undo_process part gone; no_cancel = λ stamp. no-process sim w p (cancel_process stamp) part gone }
+
+-- ---- a process that is being settled
+
+-- letters that do not annihilate each other are not cancelled
+pub cannot-cancel : {P : Type 0} (stamp : Stamp) (process : LogicalProcess P) → can_annihilate stamp process.pending process.waiting ≡ false → cancel_process stamp process ≡ None
+unfolding cancel_process
+cannot-cancel stamp process not_opposite = rw not_opposite refl
+
+module _ {S P K : Type 0} (handlers : Handlers S P K) where
+  -- nothing is done yet
+  pub led-start : (process : LogicalProcess P) (q : HeldProcess S P K) (outbox : List (Letter P)) → ProcessStandsFor handlers q process → IsLed handlers process q outbox outbox
+  led-start process q outbox stands = record {
+    steps = [];
+    effect = nothing_done process;
+    led = not_moved;
+    stands = stands;
+    letters = sym (append-nil outbox);
+    serials = refl;
+  }
+
+  -- one undo more
+  pub led-undone : (process : LogicalProcess P) (q new : HeldProcess S P K) (outbox now new_outbox : List (Letter P)) (so_far : IsLed handlers process q outbox now)
+      → new.lp ≡ q.lp → ProcessIsDone handlers new (undo_process so_far.effect.process) now new_outbox 0 0 → IsLed handlers process new outbox new_outbox
+  led-undone process q new outbox now new_outbox so_far same done = record {
+    steps = so_far.steps ++ Undo new.lp ∷ [];
+    effect = and_then so_far.effect done.effect;
+    led = undone so_far.steps so_far.effect done.effect (subst (λ p. LedTo p process so_far.steps so_far.effect) (sym same) so_far.led) done.lawful;
+    stands = done.stands;
+    letters = done.letters ∙ ap (λ ls. ls ++ done.effect.letters) so_far.letters ∙ append_assoc outbox so_far.effect.letters done.effect.letters;
+    serials = (let a = so_far.serials in let b = done.serials in omega (arith, a, b));
+  }
+
+  -- one cancel more
+  pub led-cancelled : (stamp : Stamp) (process : LogicalProcess P) (q new : HeldProcess S P K) (outbox now : List (Letter P)) (so_far : IsLed handlers process q outbox now)
+      → new.lp ≡ q.lp → ProcessIsDone handlers new (cancel_process stamp so_far.effect.process) [] [] 0 0 → IsLed handlers process new outbox now
+  led-cancelled stamp process q new outbox now so_far same done = record {
+    steps = so_far.steps ++ Cancel new.lp stamp ∷ [];
+    effect = and_then so_far.effect done.effect;
+    led = cancelled stamp so_far.steps so_far.effect done.effect (subst (λ p. LedTo p process so_far.steps so_far.effect) (sym same) so_far.led) done.lawful;
+    stands = done.stands;
+    letters = so_far.letters ∙ ap (λ ls. outbox ++ ls) (sym (append-nil so_far.effect.letters) ∙ ap (λ ls. so_far.effect.letters ++ ls) done.letters);
+    serials = (let a = so_far.serials in let b = done.serials in omega (arith, a, b));
+  }
+
+  -- a process that stays as it is
+  pub led-same : (process : LogicalProcess P) (q new : HeldProcess S P K) (outbox now new_outbox : List (Letter P)) → IsLed handlers process q outbox now
+      → new ≡ q → new_outbox ≡ now → IsLed handlers process new outbox new_outbox
+  led-same process q new outbox now new_outbox so_far same_q same_outbox =
+      subst (λ ls. IsLed handlers process new outbox ls) (sym same_outbox) (subst (λ x. IsLed handlers process x outbox now) (sym same_q) so_far)
+
+  -- neither is lawful any more
+  pub settled-now : (process : LogicalProcess P) (q new : HeldProcess S P K) (outbox now new_outbox : List (Letter P)) (so_far : IsLed handlers process q outbox now)
+      → new ≡ q → new_outbox ≡ now → undo_process so_far.effect.process ≡ None → ((stamp : Stamp) → can_annihilate stamp new.pending new.waiting ≡ false)
+      → IsSettledTo handlers process new outbox new_outbox
+  settled-now process q new outbox now new_outbox so_far same_q same_outbox no_undo apart =
+      let here : IsSettledTo handlers process q outbox now = record {
+        led = so_far;
+        no_undo = no_undo;
+        no_cancel = λ stamp. cannot-cancel stamp so_far.effect.process
+          ((λ j. can_annihilate stamp (so_far.stands.pending j) (so_far.stands.waiting j))
+          ∙ ap (λ (x : HeldProcess S P K). can_annihilate stamp x.pending x.waiting) (sym same_q) ∙ apart stamp);
+      } in
+      subst (λ ls. IsSettledTo handlers process new outbox ls) (sym same_outbox) (subst (λ x. IsSettledTo handlers process x outbox now) (sym same_q) here)
+
+-- ---- results that are known
+
+pub in-ok : {A E : Type 0} {Q : Type 0} (result : Result A E) → is_ok result ≡ true → IfOk result (λ _. Q) → Q
+in-ok (Ok a) ok h = h
+in-ok (Err e) ok h = absurd (let k : false ≡ true = ok in cc)
+
+pub in-err : {A E : Type 0} {Q : Type 0} (result : Result A E) → is_ok result ≡ false → IfErr result (λ _. Q) → Q
+in-err (Ok a) ok h = absurd (let k : true ≡ false = ok in cc)
+in-err (Err e) ok h = h
+
+-- what is refused only where a test fails is done where it holds
+pub cannot-err : {A E : Type 0} (result : Result A E) (test : Bool) → IfErr result (λ _. test ≡ false) → test ≡ true → is_ok result ≡ true
+cannot-err (Ok a) test h holds = refl
+cannot-err (Err e) test h holds = absurd (let k : test ≡ false = h in cc)
+
+-- what a refusal leaves as it was
+pub kept-err : {A X Y : Type 0} (result : Result A Fault) (new old : X) (new_other old_other : Y) → is_ok result ≡ false
+    → IfErr result (λ fault. (fault ≡ NotLawful) × (new ≡ old) × (new_other ≡ old_other)) → (new ≡ old) × (new_other ≡ old_other)
+kept-err (Ok a) new old new_other old_other ok h = absurd (let k : true ≡ false = ok in cc)
+kept-err (Err e) new old new_other old_other ok h = (h.1, h.2)

@@ -1,0 +1,68 @@
+-- A process that was settled, as steps of its worker.
+use Rattle.std.proofs.Common.{◌≡◌, ℕ, ◌+◌, ◌-◌, ◌*◌, ◌/◌, ◌%◌, ◌<◌, ◌≤◌, List, [], ◌∷◌, ◌++◌, length, refl, sym, ◌∙◌, ap, subst, arith, Option, Some, None, slice_get, slice_set}
+use Rattle.std.proofs.Math.Nat.{div-add-mod'}
+use Rattle.vt_key.specs.declared.letter.Letter.{Letter}
+use Rattle.vt_model.specs.Handler.{Handlers}
+use Rattle.vt_model.specs.Simulation.{simulation_of}
+use Rattle.vt_steps.specs.World.{LogicalProcess, Part, process_at}
+use Rattle.vt_steps.specs.ProcessSteps.{undo_process, cancel_process}
+use Rattle.vt_steps.specs.PartSteps.{with_effect}
+use Rattle.vt_steps.proofs.Places.{get-put_same}
+use Rattle.vt_lp.specs.Held.{HeldProcess, StandsFor as ProcessStandsFor}
+use Rattle.vt_kernel.specs.Held.{HeldWorker, StandsFor, AreProcesses}
+use Rattle.vt_kernel.specs.Guards.{SettlesTo}
+use Rattle.vt_kernel.specs.Settled.{LedTo, IsSettledTo}
+use Rattle.vt_kernel.proofs.ProcessLemmas.{stands-after}
+use Rattle.vt_kernel.proofs.OwnSteps.{found, IsFound}
+use Rattle.vt_kernel.proofs.SettlingLemmas.{led-at, are-settling, settled-at}
+use Rattle.vt_kernel.proofs.LocalLemmas.{unknown-refused}
+
+module _ {S P K : Type 0} (handlers : Handlers S P K) (held : HeldWorker S P K) (are : AreProcesses held.config held.worker 0 held.processes) (part : Part P) (h : StandsFor handlers held part) where
+  -- at a process that is none of the worker's there is nothing to settle
+  pub unknown-settled : (p : ℕ) → 1 ≤ held.config.workers → length held.processes ≡ (held.config.lps + (held.config.workers - 1) - held.worker) / held.config.workers
+      → (p % held.config.workers ≡ held.worker → held.config.lps ≤ p) → SettlesTo (simulation_of handlers held.config) held.worker p part part
+  unknown-settled p some all past = record {
+    steps = [];
+    settling = tt;
+    led = refl;
+    settled = record {
+      no_undo = unknown-refused handlers held are part h p undo_process some all past;
+      no_cancel = λ stamp. unknown-refused handlers held are part h p (cancel_process stamp) some all past;
+    };
+  }
+
+  -- what settles the process that was found
+  pub found-settled : (p : ℕ) (q new : HeldProcess S P K) (outbox : List (Letter P)) → p % held.config.workers ≡ held.worker
+      → (f : IsFound handlers held part p q) → new.lp ≡ q.lp → new.config ≡ q.config → IsSettledTo handlers f.process new held.outbox outbox
+      → (after : Part P) × SettlesTo (simulation_of handlers held.config) held.worker p part after
+        × StandsFor handlers (record held { processes = slice_set held.processes (p / held.config.workers) new; outbox = outbox }) after
+  found-settled p q new outbox own f same_lp same_config settled =
+      let sim = simulation_of handlers held.config in
+      let place = p / held.config.workers in
+      let effect = settled.led.effect in
+      let steps = settled.led.steps in
+      let after = with_effect part place effect in
+      let led : LedTo p f.process steps effect = subst (λ k. LedTo k f.process steps effect) (same_lp ∙ f.lp) settled.led.led in
+      let number : p ≡ process_at sim held.worker place = sym (div-add-mod' p held.config.workers) ∙ ap (λ r. place * held.config.workers + r) own in
+      let here : slice_get after.processes place ≡ Some effect.process = get-put_same part.processes place f.process effect.process f.there in
+      (after,
+        record {
+          steps = steps;
+          settling = are-settling sim held.worker p f.process steps effect led;
+          led = led-at sim held.worker p f.process steps effect part led own f.there;
+          settled = settled-at sim held.worker p after effect.process own here settled.no_undo settled.no_cancel;
+        },
+        stands-after handlers held part place new effect outbox held.serial h (same_lp ∙ f.lp ∙ number) (same_config ∙ f.config) settled.led.stands settled.led.letters
+          (let none = settled.led.serials in omega (arith, none)))
+
+  -- what settles the process at a place
+  pub settled-worker : (p place : ℕ) (q new : HeldProcess S P K) (outbox : List (Letter P)) → place ≡ p / held.config.workers → p % held.config.workers ≡ held.worker
+      → slice_get held.processes place ≡ Some q → new.lp ≡ q.lp → new.config ≡ q.config
+      → ((process : LogicalProcess P) → ProcessStandsFor handlers q process → IsSettledTo handlers process new held.outbox outbox)
+      → (after : Part P) × SettlesTo (simulation_of handlers held.config) held.worker p part after
+        × StandsFor handlers (record held { processes = slice_set held.processes place new; outbox = outbox }) after
+  settled-worker p place q new outbox is own at same_lp same_config settled =
+      let f = found handlers held part p q h are own (subst (λ k. slice_get held.processes k ≡ Some q) is at) in
+      subst (λ k. (after : Part P) × SettlesTo (simulation_of handlers held.config) held.worker p part after
+        × StandsFor handlers (record held { processes = slice_set held.processes k new; outbox = outbox }) after) (sym is)
+      (found-settled p q new outbox own f same_lp same_config (settled f.process f.stands))

@@ -1,0 +1,78 @@
+use Rattle.std.proofs.Common.{rules, ◌≡◌, length, slice_set, sym, subst}
+use Rattle.vt_model.specs.declared.settings.Config.{Config}
+use Rattle.vt_model.specs.Simulation.{simulation_of}
+use Rattle.vt_steps.specs.World.{Part}
+use Rattle.vt_lp.specs.Held.{HeldProcess, AllWithinRun}
+use Rattle.vt_kernel.specs.Held.{HeldWorker, StandsFor, TellsLeast, ready_of, earliest_of}
+use Rattle.vt_kernel.specs.Guards.{SettlesTo}
+use Rattle.vt_kernel.proofs.ProcessLemmas.{process-at}
+use Rattle.vt_kernel.proofs.LocalLemmas.{worker_view, index-get, place-within, in-entries, inside-changed, found-again, entered}
+use Rattle.vt_kernel.proofs.SettledWorker.{unknown-settled, settled-worker}
+use Rattle.vt_kernel.proofs.kernel.Kernel.settle.Goals as goal
+
+pub index_mut-requires : goal.index_mut-requires
+index_mut-requires g c =
+    let own = c.in-Some.ensures.own in
+    let less = place-within c.self.invariant c.args.lp c.in-Some.place c.self.inside.config.some_worker own.0 own.1 own.2 in
+    search (rules, less)
+
+pub index-requires : goal.index-requires
+index-requires g c =
+    let own = c.in-Some.ensures.own in
+    let less = place-within c.self.invariant c.args.lp c.in-Some.place c.self.inside.config.some_worker own.0 own.1 own.2 in
+    search (rules, less)
+
+pub enter-requires-clause-in_ready : goal.enter-requires-clause-in_ready
+enter-requires-clause-in_ready g c κs within =
+    let i = c.self.inside in
+    let own = c.in-Some.ensures.own in
+    let less = place-within c.self.invariant c.args.lp c.in-Some.place i.config.some_worker own.0 own.1 own.2 in
+    in-entries c.self.invariant ready_of c.in-Some.place i.ready c.self.invariant.ready_entered less
+
+pub enter-requires-clause-in_earliest : goal.enter-requires-clause-in_earliest
+enter-requires-clause-in_earliest g c κs within =
+    let i = c.self.inside in
+    let own = c.in-Some.ensures.own in
+    let less = place-within c.self.invariant c.args.lp c.in-Some.place i.config.some_worker own.0 own.1 own.2 in
+    in-entries c.self.invariant earliest_of c.in-Some.place i.earliest c.self.invariant.earliest_entered less
+
+pub returns-in_default-clause-settles : goal.returns-in_default-clause-settles
+returns-in_default-clause-settles g c part s =
+    let i = c.self.inside in
+    let handlers = g.M.Model.handlers c.args.model.now in
+    let held = worker_view i.worker i.config i.processes.items i.outbox i.arrived.items i.colour i.sent i.got i.red_minimum i.floor i.serial in
+    let h = subst (λ (v : HeldWorker _ _ _). StandsFor handlers v part) (sym c.self.view_is) s in
+    (part, subst (λ (v : HeldWorker _ _ _). SettlesTo (simulation_of handlers v.config) v.worker c.args.lp part part) c.self.view_is
+      (unknown-settled handlers held c.self.invariant.own_processes part h c.args.lp i.config.some_worker c.self.invariant.all_there c.in_default.ensures.other), s)
+
+pub invariant_of-self : goal.invariant_of-self
+invariant_of-self g c =
+    let i = c.self.inside in
+    let own = c.in-Some.ensures.own in
+    let less = place-within c.self.invariant c.args.lp c.in-Some.place i.config.some_worker own.0 own.1 own.2 in
+    let old = c.index_mut.result.now in
+    let new = c.settle_process.new.process in
+    let at = index-get i.processes.items c.in-Some.place old less (sym c.index_mut.ensures.value) in
+    let f = process-at i.config i.worker 0 c.in-Some.place i.processes.items old c.self.invariant.own_processes at in
+    let again : c.index.result.now ≡ new = found-again i.processes.items c.in-Some.place old new c.index.result.now at c.index.ensures in
+    let same = c.settle_process.ensures.same in
+    let within = subst (λ (k : Config). AllWithinRun k i.outbox → AllWithinRun k c.settle_process.new.outbox) f.1 c.settle_process.ensures.within in
+    entered i.ready i.earliest c.in-Some.place new c.index.result.now c.enter.new.ready c.enter.new.earliest again c.enter.ensures.ready c.enter.ensures.earliest
+    (inside-changed c.self.invariant c.in-Some.place old new c.settle_process.new.outbox i.serial at same.0 same.1 (subst (λ (q : HeldProcess _ _ _). TellsLeast q) again c.enter.ensures.told) (within c.self.invariant.sendable) c.self.invariant.few_made)
+
+pub returns-clause-settles : goal.returns-clause-settles
+returns-clause-settles g c part s =
+    let i = c.self.inside in
+    let handlers = g.M.Model.handlers c.args.model.now in
+    let held = worker_view i.worker i.config i.processes.items i.outbox i.arrived.items i.colour i.sent i.got i.red_minimum i.floor i.serial in
+    let own = c.in-Some.ensures.own in
+    let less = place-within c.self.invariant c.args.lp c.in-Some.place i.config.some_worker own.0 own.1 own.2 in
+    let old = c.index_mut.result.now in
+    let new = c.settle_process.new.process in
+    let at = index-get i.processes.items c.in-Some.place old less (sym c.index_mut.ensures.value) in
+    let same = c.settle_process.ensures.same in
+    let h = subst (λ (v : HeldWorker _ _ _). StandsFor handlers v part) (sym c.self.view_is) s in
+    let done = settled-worker handlers held c.self.invariant.own_processes part h c.args.lp c.in-Some.place old new c.settle_process.new.outbox own.0 own.1 at same.0 same.1 c.settle_process.ensures.settled in
+    subst (λ (v : HeldWorker _ _ _). (after : Part _) × SettlesTo (simulation_of handlers v.config) v.worker c.args.lp part after
+      × StandsFor handlers (worker_view i.worker i.config (slice_set i.processes.items c.in-Some.place new) c.settle_process.new.outbox i.arrived.items i.colour i.sent i.got i.red_minimum i.floor i.serial) after)
+    c.self.view_is done

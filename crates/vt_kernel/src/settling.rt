@@ -1,0 +1,52 @@
+//! Undo and Cancel at one process, as often as one is lawful.
+
+ghost use Rattle.std.specs.Prelude.{◌≡◌};
+ghost use Rattle.vt_model.specs.Simulation.{simulation_of};
+ghost use Rattle.vt_steps.specs.World.{LogicalProcess, Part};
+ghost use Rattle.vt_lp.specs.Held.{StandsFor as ProcessStandsFor, AllWithinRun};
+ghost use Rattle.vt_kernel.specs.Held.{StandsFor};
+ghost use Rattle.vt_kernel.specs.Guards.{SettlesTo};
+ghost use Rattle.vt_kernel.specs.Settled.{IsSettledTo};
+
+use crate::kernel::Kernel;
+use crate::local::{enter, place_of};
+use vt_key::Letter;
+use vt_list::List;
+use vt_lp::Lp;
+use vt_model::Model as EventModel;
+
+impl<M: EventModel> Kernel<M> {
+    /// Undoes and cancels at process `lp` until neither is lawful there. At a process that is none of the worker's neither is,
+    /// and all stays as it was. It takes no memory.
+    pub fn settle(&mut self, model: &M, lp: u32)
+        ensures settles { (part : Part _) → StandsFor (M.handlers model.now) self.old part → (new : Part _) × SettlesTo (simulation_of (M.handlers model.now) self.old.config) self.old.worker lp part new × StandsFor (M.handlers model.now) self.new new }
+        ensures same { (self.new.worker ≡ self.old.worker) × (self.new.config ≡ self.old.config) }
+    {
+        let Some(place) = place_of(self.config, self.worker, lp) else {
+            return;
+        };
+        settle_process(&mut self.processes[place], model, &mut self.outbox);
+        enter(&mut self.ready, &mut self.earliest, &self.processes[place], place);
+    }
+}
+
+/// Undoes and cancels at one process until neither is lawful. What goes out goes to the back of the outbox.
+fn settle_process<M: EventModel>(
+    process: &mut Lp<M>,
+    model: &M,
+    outbox: &mut List<Letter<M::Payload>>,
+)
+    ensures settled { (h : LogicalProcess _) → ProcessStandsFor (M.handlers model.now) process.old h → IsSettledTo (M.handlers model.now) h process.new outbox.old outbox.new }
+    ensures within { AllWithinRun process.old.config outbox.old → AllWithinRun process.old.config outbox.new }
+    ensures same { (process.new.lp ≡ process.old.lp) × (process.new.config ≡ process.old.config) }
+{
+    loop {
+        if process.undo(model, outbox).is_ok() {
+            continue;
+        }
+        let Some(stamp) = process.cancellable() else {
+            return;
+        };
+        let _ = process.cancel(stamp);
+    }
+}
