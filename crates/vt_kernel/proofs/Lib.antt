@@ -11,7 +11,6 @@ pub mod PartingLemmas
 pub mod PlaceLemmas
 pub mod ReportLemmas
 pub mod SendLemmas
-pub mod Settling
 pub mod Sizes
 pub mod TimeLemmas
 pub mod LocalLemmas

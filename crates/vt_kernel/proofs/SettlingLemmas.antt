@@ -1,11 +1,9 @@
 -- Undo and Cancel at one process, again and again, as local steps of the part.
-use Rattle.std.proofs.Common.{◌≡◌, ℕ, zero, suc, ◌+◌, ◌/◌, ◌%◌, ◌⊎◌, inl, inr, List, [], ◌∷◌, ◌++◌, refl, sym, ◌∙◌, ap, arith, Option, Some, None, slice_get, slice_set}
 use Rattle.std.proofs.Common.{◌≡◌, ℕ, zero, suc, ◌+◌, ◌-◌, ◌*◌, ◌/◌, ◌%◌, ◌<◌, ◌≤◌, ◌⊎◌, inl, inr, Bool, true, false, nat_eq, List, [], ◌∷◌, ◌++◌, map, length, refl, sym, ◌∙◌, ap, subst, arith, Option, Some, None, Result, Ok, Err, IfOk, IfErr, slice_get, slice_set, if◌then◌else◌}
 use Rattle.std.specs.Option.{option_and_then, option_map}
 use Rattle.std.specs.Result.{is_ok}
 use Rattle.std.proofs.lemmas.List.{append_assoc, append-nil}
 use Rattle.vt_key.specs.declared.order.Stamp.{Stamp}
-use Rattle.vt_model.specs.Simulation.{Simulation}
 use Rattle.vt_key.specs.declared.letter.Letter.{Letter}
 use Rattle.vt_key.specs.declared.fault.Fault.{Fault}
 use Rattle.vt_key.specs.declared.fault.Fault.TheVariants.{NotLawful}
@@ -13,12 +11,11 @@ use Rattle.vt_model.specs.declared.settings.Config.{Config}
 use Rattle.vt_model.specs.Handler.{Handlers}
 use Rattle.vt_model.specs.Simulation.{Simulation, simulation_of}
 use Rattle.vt_steps.specs.declared.step.Step.{Step}
-use Rattle.vt_steps.specs.declared.step.Step.TheVariants.{Undo, Cancel}
+use Rattle.vt_steps.specs.declared.step.Step.TheVariants.{Execute, Undo, Cancel, Home, Send, Fetch, Accept, Cut, Report, Commit, Close}
 use Rattle.vt_steps.specs.World.{LogicalProcess, Part}
 use Rattle.vt_steps.specs.ProcessSteps.{ProcessEffect, undo_process, cancel_process}
-use Rattle.vt_steps.specs.PartSteps.{with_effect}
+use Rattle.vt_steps.specs.PartSteps.{with_effect, at_process}
 use Rattle.vt_steps.proofs.Places.{get-put_same}
-use Rattle.vt_kernel.specs.Local.{local_step, local_steps, AreSettling, IsSettled}
 use Rattle.vt_kernel.specs.Local.{at_own, local_step, local_steps, AreSettling, IsSettled}
 use Rattle.vt_lp.specs.Held.{HeldProcess, StandsFor as ProcessStandsFor}
 use Rattle.vt_lp.specs.Guards.{IsDone as ProcessIsDone, can_annihilate}
@@ -43,22 +40,6 @@ settling-more p [] step h k = (k, tt)
 settling-more p (first ∷ rest) step h k = (h.0, settling-more p rest step h.1 k)
 
 module _ {P : Type 0} where
-  -- one effect and then another
-  abbrev pub and_then : ProcessEffect P → ProcessEffect P → ProcessEffect P
-  and_then first second = record { process = second.process; letters = first.letters ++ second.letters; serials = first.serials + second.serials }
-
-  -- nothing is done
-  abbrev pub nothing_done : LogicalProcess P → ProcessEffect P
-  nothing_done process = record { process = process; letters = []; serials = 0 }
-
-  -- these steps, each lawful, lead a process to this effect, from one that is there already
-  pub data LedTo (p : ℕ) (process : LogicalProcess P) : List Step → ProcessEffect P → Type 0 where
-    not_moved : LedTo p process [] (nothing_done process)
-    undone : (steps : List Step) (so_far effect : ProcessEffect P) → LedTo p process steps so_far → undo_process so_far.process ≡ Some effect
-        → LedTo p process (steps ++ Undo p ∷ []) (and_then so_far effect)
-    cancelled : (stamp : Stamp) (steps : List Step) (so_far effect : ProcessEffect P) → LedTo p process steps so_far → cancel_process stamp so_far.process ≡ Some effect
-        → LedTo p process (steps ++ Cancel p stamp ∷ []) (and_then so_far effect)
-
   -- the part after two effects at a place
   pub with-both : (part : Part P) (place : ℕ) (first second : ProcessEffect P)
       → with_effect (with_effect part place first) place second ≡ with_effect part place (and_then first second)
