@@ -55,7 +55,7 @@ module _ (lps workers : ℕ) where
       let later = steps_from lps workers (line + 1) (lines_of after) in
       ap (with_front front) (ap (steps_from lps workers line) e ∙ said_line line first (lines_of after) (some_line after) p ∙ ap (λ (o : Option Step). with_step line o later) (sym s))
 
-  at_end : (line : ℕ) → steps_from lps workers line ([] ∷ []) ≡ Ok []
+  pub at_end : (line : ℕ) → steps_from lps workers line ([] ∷ []) ≡ Ok []
   unfolding steps_from
   at_end line = refl
 

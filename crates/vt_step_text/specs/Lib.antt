@@ -1,3 +1,5 @@
 pub mod Words
 pub mod StepText
 pub mod Replies
+pub mod Replays
+pub mod StepLines

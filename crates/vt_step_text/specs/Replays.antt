@@ -1,0 +1,61 @@
+-- What the steps of a replay are answered, and its output.
+use Rattle.std.specs.Prelude.{◌≡◌, ◌⊎◌, ℕ, Bool, true, false, IsTrue, List, [], ◌∷◌, map, Result, Err, if◌then◌else◌}
+use Rattle.std.specs.List.{AllByRecursion}
+use Rattle.vt_key.specs.declared.fault.Fault.{Fault}
+use Rattle.vt_key.specs.declared.fault.Fault.TheVariants.{Memory, Exhausted}
+use Rattle.vt_model.specs.Simulation.{Simulation}
+use Rattle.vt_steps.specs.declared.step.Step.{Step}
+use Rattle.vt_steps.specs.declared.step.Reply.{Reply}
+use Rattle.vt_steps.specs.World.{World, opening_world, least, book_floor, book_records}
+use Rattle.vt_steps.specs.Next.{next, run, answers}
+use Rattle.vt_step_text.specs.declared.reading.NumberedStep.{NumberedStep}
+use Rattle.vt_step_text.specs.Replies.{Answered, replay_text}
+
+-- an answer that stands for no step: memory was refused, or a counter is spent
+abbrev pub is_no_step : Result Reply Fault → Bool
+is_no_step (Err Memory) = true
+is_no_step (Err Exhausted) = true
+is_no_step _ = false
+
+module _ {S P : Type 0} (sim : Simulation S P) where
+  -- the world after a step that was answered so
+  abbrev pub world_after : World P → Step → Result Reply Fault → World P
+  world_after world step answer = if is_no_step answer then world else (next sim world step).world
+
+  -- the step of a line may be answered so: as it is answered in this world, or by an answer that stands for no step
+  pub record IsAnswered (world : World P) (step : NumberedStep) (reply : Answered) : Type 0 where
+    pub line : reply.line ≡ step.line
+    pub answer : IsTrue (is_no_step reply.answer) ⊎ (reply.answer ≡ (next sim world step.step).answer)
+
+  -- steps may be answered so, one after the other, from one world on to another
+  abbrev pub AreAnswered : World P → List NumberedStep → List Answered → World P → Type 0
+  AreAnswered world [] [] end = end ≡ world
+  AreAnswered world (step ∷ steps) (reply ∷ replies) end =
+      IsAnswered world step reply × AreAnswered (world_after world step.step reply.answer) steps replies end
+  AreAnswered world [] (reply ∷ replies) end = ⊥
+  AreAnswered world (step ∷ steps) [] end = ⊥
+
+  -- the steps that were taken: those whose answer stands for a step
+  abbrev pub steps_taken : List NumberedStep → List Answered → List Step
+  steps_taken (step ∷ steps) (reply ∷ replies) =
+      if is_no_step reply.answer then steps_taken steps replies else step.step ∷ steps_taken steps replies
+  steps_taken _ _ = []
+
+  -- the output of a replay that was answered so and ended in this world
+  abbrev pub output_of : List Answered → World P → List ℕ
+  output_of replies end = replay_text replies end.board.announced (book_floor sim.end end.book) (least sim.end end) (book_records sim.end end.book)
+
+  -- a text may be the output of a replay of these steps from the opening world with these first serials
+  pub record IsOutput (serial : ℕ) (steps : List NumberedStep) (text : List ℕ) : Type 0 where
+    pub replies : List Answered
+    pub end : World P
+    pub answered : AreAnswered (opening_world sim serial) steps replies end
+    pub output : text ≡ output_of replies end
+
+  -- what holds of steps that were answered so: the world at the end is that after the steps taken; and where each answer
+  -- stands for a step, all steps were taken, and the answers are theirs
+  pub record AreRightlyAnswered (world : World P) (steps : List NumberedStep) (replies : List Answered) (end : World P) : Type 0 where
+    pub taken : end ≡ run sim world (steps_taken steps replies)
+    pub all : AllByRecursion (λ reply. is_no_step reply.answer ≡ false) replies → end ≡ run sim world (map (λ step. step.step) steps)
+    pub replied : AllByRecursion (λ reply. is_no_step reply.answer ≡ false) replies
+        → map (λ reply. reply.answer) replies ≡ answers sim world (map (λ step. step.step) steps)
