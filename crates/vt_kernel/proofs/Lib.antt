@@ -10,3 +10,4 @@ pub mod TimeLemmas
 pub mod LocalLemmas
 pub mod SettledWorker
 pub mod ChoosingLemmas
+pub mod ReadyLemmas
