@@ -27,6 +27,12 @@ module _ {S P K : Type 0} (entry : HeldProcess S P K → Option Rank) where
   winner-least [] place least = absurd (let none = winner-there [] place least in omega (arith, none))
   winner-least (q ∷ qs) place least = least
 
+  -- where nobody wins no process takes part
+  pub nobody-there : (processes : List (HeldProcess S P K)) → ((i : ℕ) (rank : Rank) → slice_get (entries_of entry processes) i ≡ Some (Some rank) → ⊥)
+      → (i : ℕ) (rank : Rank) → slice_get (map entry processes) i ≡ Some (Some rank) → ⊥
+  nobody-there [] nobody i rank at = (let k : None ≡ Some (Some rank) = at in cc)
+  nobody-there (q ∷ qs) nobody i rank at = nobody i rank at
+
   -- what is said of the process of the place that wins
   abbrev pub NextIs : HeldWorker S P K → ℕ → Type 0
   NextIs held p = (p < held.config.lps) × (p % held.config.workers ≡ held.worker) × IsLeast (map entry held.processes) (p / held.config.workers)

@@ -17,3 +17,4 @@ pub mod LocalLemmas
 pub mod DeliveryLemmas
 pub mod SettledWorker
 pub mod ChoosingLemmas
+pub mod ReadyLemmas

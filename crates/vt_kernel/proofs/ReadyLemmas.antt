@@ -1,0 +1,132 @@
+-- Execute is lawful exactly at the processes that take part in the tournament of who is ready.
+use Rattle.std.proofs.Common.{◌≡◌, ℕ, zero, suc, ◌+◌, ◌*◌, ◌/◌, ◌%◌, ◌<◌, ◌≤◌, inl, inr, Bool, true, false, List, [], ◌∷◌, map, length, refl, sym, ◌∙◌, ap, subst, arith, if◌then◌else◌, Option, Some, None, IfNone, slice_get}
+use Rattle.std.specs.List.{last_or}
+use Rattle.std.specs.Option.{option_map}
+use Rattle.std.proofs.lemmas.Bool.Decides.{eqb_tells}
+use Rattle.std.proofs.lemmas.List.{length-map}
+use Rattle.vt_key.specs.declared.order.Rank.{Rank}
+use Rattle.vt_key.specs.declared.letter.Event.{Event}
+use Rattle.vt_key.specs.declared.letter.Letter.{Letter}
+use Rattle.vt_model.specs.Handler.{Handlers}
+use Rattle.vt_model.specs.Simulation.{Simulation, simulation_of}
+use Rattle.vt_steps.specs.declared.step.Step.TheVariants.{Execute}
+use Rattle.vt_steps.specs.World.{Entry, LogicalProcess, Part}
+use Rattle.vt_steps.specs.ProcessSteps.{ProcessEffect, may_follow, effect_of_execute, execute_least, execute_process}
+use Rattle.vt_steps.specs.PartSteps.{with_effect}
+use Rattle.vt_steps.specs.StandsFor.{entry_of}
+use Rattle.vt_lp.specs.declared.entry.PastEvent.{PastEvent}
+use Rattle.vt_lp.specs.Held.{HeldProcess, process_memory, remembered, StandsFor as ProcessStandsFor}
+use Rattle.vt_lp.specs.Guards.{may_come_after, ready_rank}
+use Rattle.vt_kernel.specs.Held.{HeldWorker, StandsFor, AreProcesses, ready_of}
+use Rattle.vt_kernel.specs.Local.{local_step}
+use Rattle.vt_kernel.proofs.ProcessLemmas.{get-past}
+use Rattle.vt_kernel.proofs.OwnSteps.{not-own, no-process, own-step, found, refused-at}
+use Rattle.vt_kernel.proofs.LocalLemmas.{stand-length, execute-step}
+
+-- ---- lists and options
+
+if-true : {A : Type 0} (b : Bool) (x y : A) → (if b then Some x else None) ≡ Some y → b ≡ true
+if-true true x y e = refl
+if-true false x y e = absurd (let h : None ≡ Some y = e in cc)
+
+if-false : {A : Type 0} (b : Bool) (x : A) → (if b then Some x else None) ≡ None → b ≡ false
+if-false true x e = absurd (let h : Some x ≡ None = e in cc)
+if-false false x e = refl
+
+-- what is mapped at a place is what is there
+get-mapped : {X Y : Type 0} (f : X → Y) (xs : List X) (i : ℕ) (y : Y) → slice_get (map f xs) i ≡ Some y → (x : X) × (slice_get xs i ≡ Some x) × (f x ≡ y)
+get-mapped f [] i y at = absurd (let h : None ≡ Some y = at in cc)
+get-mapped f (x ∷ xs) zero y at = (x, refl, (let h : Some (f x) ≡ Some y = at in cc))
+get-mapped f (x ∷ xs) (suc i) y at = get-mapped f xs i y at
+
+get-of-map : {X Y : Type 0} (f : X → Y) (xs : List X) (i : ℕ) (x : X) → slice_get xs i ≡ Some x → slice_get (map f xs) i ≡ Some (f x)
+get-of-map f [] i x at = absurd (let h : None ≡ Some x = at in cc)
+get-of-map f (y ∷ ys) zero x at = (let h : Some y ≡ Some x = at in let same : y ≡ x = cc in ap (λ z. Some (f z)) same)
+get-of-map f (y ∷ ys) (suc i) x at = get-of-map f ys i x at
+
+past-get : {X : Type 0} (xs : List X) (i : ℕ) → slice_get xs i ≡ None → length xs ≤ i
+past-get [] i gone = omega arith
+past-get (x ∷ xs) zero gone = absurd (let h : Some x ≡ None = gone in cc)
+past-get (x ∷ xs) (suc i) gone = (let rest = past-get xs i gone in omega (arith, rest))
+
+pub none-says : {X : Type 0} (o : Option X) (Q : Type 0) → Q → IfNone o Q
+none-says None Q q = q
+none-says (Some x) Q q = tt
+
+-- either it is there or not
+one-of : {X Q : Type 0} (o : Option X) → (o ≡ None → Q) → ((x : X) → o ≡ Some x → Q) → Q
+one-of None none some = none refl
+one-of (Some x) none some = some x refl
+
+module _ {S P K : Type 0} (handlers : Handlers S P K) where
+  -- ---- at a process
+
+  last-may : (p : ℕ) (o : Option (PastEvent P K)) (r : Option (Entry P)) (es : List (PastEvent P K)) (event : Event P) →
+      may_follow r event ≡ may_come_after o event.rank → may_follow (last_or r (map entry_of (map (remembered handlers p) es))) event ≡ may_come_after (last_or o es) event.rank
+  last-may p o r [] event h = h
+  last-may p o r (e ∷ es) event h = last-may p (Some e) (Some (entry_of (remembered handlers p e))) es event refl
+
+  may-is : (held : HeldProcess S P K) (process : LogicalProcess P) (event : Event P) → ProcessStandsFor handlers held process
+      → may_follow (last_or None process.past) event ≡ may_come_after (last_or None held.past) event.rank
+  may-is held process event s = ap (λ (es : List (Entry P)). may_follow (last_or None es) event) s.past ∙ last-may held.lp None None held.past event refl
+
+  -- Execute is lawful where a rank is ready
+  pub ready-lawful : (sim : Simulation S P) (p w serial : ℕ) (held : HeldProcess S P K) (process : LogicalProcess P) (rank : Rank) → ProcessStandsFor handlers held process
+      → ready_of held ≡ Some rank → (effect : ProcessEffect P) × (execute_process sim p w serial process ≡ Some effect)
+  ready-lawful sim p w serial held process rank s ready =
+      subst (λ ls. (effect : ProcessEffect P) × (execute_least sim p w serial process ls ≡ Some effect)) (sym s.pending) (go held.pending ready)
+    where
+      go : (ls : List (Letter P)) → ready_rank ls held.past ≡ Some rank → (effect : ProcessEffect P) × (execute_least sim p w serial process ls ≡ Some effect)
+      go [] is = absurd (let h : None ≡ Some rank = is in cc)
+      go (l ∷ ls) is =
+          (effect_of_execute sim p w serial process l ls,
+            ap (λ b. if b then Some (effect_of_execute sim p w serial process l ls) else None)
+              (may-is held process l.event s ∙ if-true (may_come_after (last_or None held.past) l.event.rank) l.event.rank rank is))
+
+  -- and where none is it is not
+  pub none-ready : (sim : Simulation S P) (p w serial : ℕ) (held : HeldProcess S P K) (process : LogicalProcess P) → ProcessStandsFor handlers held process
+      → ready_of held ≡ None → execute_process sim p w serial process ≡ None
+  none-ready sim p w serial held process s ready =
+      subst (λ ls. execute_least sim p w serial process ls ≡ None) (sym s.pending) (go held.pending ready)
+    where
+      go : (ls : List (Letter P)) → ready_rank ls held.past ≡ None → execute_least sim p w serial process ls ≡ None
+      go [] is = refl
+      go (l ∷ ls) is =
+          ap (λ b. if b then Some (effect_of_execute sim p w serial process l ls) else None)
+            (may-is held process l.event s ∙ if-false (may_come_after (last_or None held.past) l.event.rank) l.event.rank is)
+
+  -- ---- at a worker
+
+  module _ (held : HeldWorker S P K) (are : AreProcesses held.config held.worker 0 held.processes) (part : Part P) (h : StandsFor handlers held part) where
+    pub lawful-at : (p : ℕ) (rank : Rank) → p % held.config.workers ≡ held.worker → slice_get (map ready_of held.processes) (p / held.config.workers) ≡ Some (Some rank)
+        → (after : Part P) × (local_step (simulation_of handlers held.config) held.worker (Execute p) part ≡ Some after)
+    lawful-at p rank own at =
+        let sim = simulation_of handlers held.config in
+        let place = p / held.config.workers in
+        let there = get-mapped ready_of held.processes place (Some rank) at in
+        let f = found handlers held part p there.0 h are own there.1 in
+        let step = execute-step handlers held part p in
+        let done = ready-lawful sim (place * held.config.workers + held.worker) held.worker part.serial there.0 f.process rank f.stands there.2 in
+        (with_effect part place done.0, own-step sim held.worker p step part f.process own f.there ∙ ap (option_map (with_effect part place)) done.1)
+
+    pub unlawful-at : ((place : ℕ) (rank : Rank) → slice_get (map ready_of held.processes) place ≡ Some (Some rank) → ⊥)
+        → (p : ℕ) → local_step (simulation_of handlers held.config) held.worker (Execute p) part ≡ None
+    unlawful-at nobody p =
+        let sim = simulation_of handlers held.config in
+        let place = p / held.config.workers in
+        let step = execute-step handlers held part p in
+        elim (eqb_tells (p % held.config.workers) held.worker) [
+          | inr e ↦ not-own sim held.worker p _ e.1
+          | inl e ↦
+              one-of (slice_get held.processes place)
+              (λ gone.
+                (let size = stand-length sim held.worker 0 (map (process_memory handlers) held.processes) part.processes h.processes ∙ length-map held.processes (process_memory handlers) in
+                let beyond = past-get held.processes place gone in
+                no-process sim held.worker p step part (get-past part.processes place (omega (arith, size, beyond)))))
+              (λ q at.
+                (let f = found handlers held part p q h are e.1 at in
+                refused-at handlers held part p q step e.1 f
+                (one-of (ready_of q)
+                  (λ none. none-ready sim (place * held.config.workers + held.worker) held.worker part.serial q f.process f.stands none)
+                  (λ rank some. absurd (nobody place rank (get-of-map ready_of held.processes place q at ∙ ap Some some))))))
+        ]
