@@ -3,3 +3,6 @@ pub mod CellSteps
 pub mod WorldSteps
 pub mod CommitRows
 pub mod ReachedLemmas
+pub mod StepLemmas
+pub mod Places
+pub mod Refusals

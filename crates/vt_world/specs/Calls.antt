@@ -1,5 +1,5 @@
 -- What the calls of a world answer, by the steps of the definitions.
-use Rattle.std.specs.Prelude.{◌≡◌, ℕ, ◌+◌, ◌<◌, ◌≤◌, ◌⊎◌, ◌/◌, ◌%◌, List, [], ◌∷◌, ◌++◌, map, Option, Some, None, Result, Ok, Err, slice_get}
+use Rattle.std.specs.Prelude.{◌≡◌, ℕ, ◌+◌, ◌<◌, ◌≤◌, ◌⊎◌, ◌/◌, ◌%◌, List, [], ◌∷◌, ◌++◌, map, Option, Some, None, Result, Ok, Err, slice_get, IfOk, IfErr}
 use Rattle.std.specs.List.{flat_map}
 use Rattle.vt_key.specs.Times.{Time}
 use Rattle.vt_key.specs.declared.limits.TheConstants.{MAX_COUNT}
@@ -14,9 +14,10 @@ use Rattle.vt_steps.specs.declared.step.Reply.{Reply}
 use Rattle.vt_steps.specs.Letters.{count_of, least_time}
 use Rattle.vt_steps.specs.World.{LogicalProcess, Part, World, book_floor}
 use Rattle.vt_steps.specs.Next.{next}
+use Rattle.vt_steps.specs.StandsFor.{GoesOn}
 use Rattle.vt_lp.specs.Guards.{number_of}
 use Rattle.vt_kernel.specs.Guards.{held_letters}
-use Rattle.vt_world.specs.Held.{HeldWorld, StandsForWorld}
+use Rattle.vt_world.specs.Held.{HeldWorld, world_memory, StandsForWorld}
 
 module _ {S P : Type 0} (sim : Simulation S P) where
   -- this is the part of worker w of a world
@@ -60,3 +61,12 @@ module _ {M S P K : Type 0} where
   -- the floor of the book
   abbrev pub floor_held : HeldWorld M S P K → Time
   floor_held held = book_floor held.config.end held.book
+
+-- what a call that does a step of a world answers and leaves: where it is done, it was lawful and answered so, and the world
+-- goes on by it; where it is refused, it says why, and all is as it was. The model and the config stay
+pub record IsStepOf {M S P K : Type 0} (handlers : Handlers S P K) (step : Step) (old new : HeldWorld M S P K) (result : Result Reply Fault) : Type 0 where
+  pub done : IfOk result (λ reply. GoesOn (simulation_of handlers old.config) step (Ok reply) (world_memory handlers old) (world_memory handlers new))
+  pub refused : (world : World P) → StandsForWorld handlers old world → IfErr result (λ fault. IsStepRefusal (simulation_of handlers old.config) step world fault)
+  pub unchanged : IfErr result (λ fault. new ≡ old)
+  pub same_model : new.model ≡ old.model
+  pub same_config : new.config ≡ old.config
