@@ -1,9 +1,12 @@
-pub mod ProcessLemmas
-pub mod OwnSteps
-pub mod Settling
 pub mod EmptyLemmas
 pub mod InsideLemmas
+pub mod LeastLemmas
+pub mod OwnSteps
 pub mod PartLemmas
 pub mod PartingLemmas
+pub mod PlaceLemmas
+pub mod ProcessLemmas
+pub mod ReportLemmas
 pub mod SendLemmas
+pub mod Settling
 pub mod TimeLemmas

@@ -1,6 +1,6 @@
 -- The earlier of two times, and the least time of letters.
 use Rattle.std.proofs.Common.{◌≡◌, ◌∙◌, List, [], ◌∷◌, ◌++◌, refl, sym, ap, arith}
-use Rattle.vt_key.specs.Times.{Time, TimeAtMost, earlier}
+use Rattle.vt_key.specs.Times.{Time, TimeBefore, TimeAtMost, earlier}
 use Rattle.vt_key.specs.declared.letter.Letter.{Letter}
 use Rattle.vt_steps.specs.Letters.{letter_time, least_time}
 
@@ -15,6 +15,18 @@ earlier_first a b low = omega arith
 
 pub earlier_low : (a b c : Time) → TimeAtMost a c → TimeAtMost (earlier a b) c
 earlier_low a b c low = omega arith
+
+pub earlier_low_right : (a b c : Time) → TimeAtMost b c → TimeAtMost (earlier a b) c
+earlier_low_right a b c low = omega arith
+
+pub at_most_both : (t a b : Time) → TimeAtMost t a → TimeAtMost t b → TimeAtMost t (earlier a b)
+at_most_both t a b low also = omega arith
+
+pub same_times : (a b : Time) → TimeAtMost a b → TimeAtMost b a → a ≡ b
+same_times a b low high = omega arith
+
+pub not_before : (a b : Time) → (TimeBefore a b → ⊥) → TimeAtMost b a
+not_before a b never = omega arith
 
 pub same_low : (a : Time) → TimeAtMost a a
 same_low a = omega arith

@@ -1,5 +1,5 @@
 -- What a worker keeps in memory, and which parts of a world it stands for.
-use Rattle.std.specs.Prelude.{◌≡◌, ℕ, ◌+◌, ◌-◌, ◌*◌, ◌/◌, ◌%◌, ◌<◌, ◌≤◌, List, [], ◌∷◌, ◌++◌, map, length, All, Option, Some, None, slice_get}
+use Rattle.std.specs.Prelude.{◌≡◌, ℕ, nat_eq, if◌then◌else◌, ◌+◌, ◌-◌, ◌*◌, ◌/◌, ◌%◌, ◌<◌, ◌≤◌, List, [], ◌∷◌, ◌++◌, map, length, All, Option, Some, None, slice_get}
 use Rattle.std.specs.List.{flat_map}
 use Rattle.vt_key.specs.Times.{Time}
 use Rattle.vt_key.specs.declared.limits.TheConstants.{MAX_COUNT}
@@ -49,6 +49,15 @@ module _ {S P K : Type 0} (handlers : Handlers S P K) where
   -- the worker stands for this part of a world
   abbrev pub StandsFor : HeldWorker S P K → Part P → Type 0
   StandsFor held part = StandsForPart (simulation_of handlers held.config) held.worker (part_memory held) part
+
+-- p is a process of worker w
+pub record IsProcessOf (config : Config) (w p : ℕ) : Type 0 where
+  pub known : p < config.lps
+  pub own : p % config.workers ≡ w
+
+-- process p of a worker; None where it is not one of its processes
+abbrev pub process_of : {S P K : Type 0} → HeldWorker S P K → ℕ → Option (HeldProcess S P K)
+process_of held p = if nat_eq (p % held.config.workers) held.worker then slice_get held.processes (p / held.config.workers) else None
 
 -- ---- what a worker keeps to
 

@@ -1,14 +1,19 @@
 //! The worker's part of a cut, and what it reports.
 
-ghost use Rattle.std.specs.Prelude.{◌≡◌};
+ghost use Rattle.std.specs.Prelude.{◌≡◌, ◌++◌, map, flat_map};
 ghost use Rattle.vt_key.specs.Letters.{other_colour};
+ghost use Rattle.vt_key.specs.Times.{earlier};
 ghost use Rattle.vt_model.specs.Handler.{Handlers};
+ghost use Rattle.vt_steps.specs.Letters.{least_time, count_of};
 ghost use Rattle.vt_steps.specs.World.{Part};
-ghost use Rattle.vt_steps.specs.PartSteps.{part_after_cut};
+ghost use Rattle.vt_steps.specs.PartSteps.{part_after_cut, report_sent, report_got, report_least};
 ghost use Rattle.vt_kernel.specs.Held.{StandsFor};
+ghost use Rattle.vt_kernel.specs.Guards.{held_letters};
 
 use crate::kernel::Kernel;
-use vt_key::Time;
+use crate::times::earlier;
+use vt_key::{Letter, Mail, Time};
+use vt_list::List;
 use vt_model::Model as EventModel;
 
 impl<M: EventModel> Kernel<M> {
@@ -29,4 +34,60 @@ impl<M: EventModel> Kernel<M> {
     {
         self.floor = floor;
     }
+
+    /// What the worker reports: how much mail it sent and how much it got of the colour that it has left, and the lesser of its
+    /// red minimum and the least time of the letters that it has.
+    pub fn report_values(&self) -> (u64, u64, Time)
+        ensures sent { result.0 ≡ count_of self.now.sent (other_colour self.now.colour) }
+        ensures got { result.1 ≡ count_of self.now.got (other_colour self.now.colour) }
+        ensures least { result.2 ≡ earlier self.now.red_minimum (least_time self.now.config.end (held_letters self.now)) }
+        ensures reports { (handlers : Handlers _ _ _) (part : Part _) → StandsFor handlers self.now part → (result.0 ≡ report_sent part) × (result.1 ≡ report_got part) × (result.2 ≡ report_least self.now.config.end part) }
+    {
+        let left = self.colour.other();
+        let least = earlier(self.red_minimum, self.least());
+        (self.sent.of(left), self.got.of(left), least)
+    }
+
+    /// The least time of all letters that the worker has: in its outbox, arrived, pending and waiting. Where it has none, the
+    /// end of the run.
+    pub fn least(&self) -> Time
+        ensures { result ≡ least_time self.now.config.end (held_letters self.now) }
+    {
+        let end = self.config.end;
+        let unsent = least_of_letters(&self.outbox, end);
+        let arrived = least_of_mail(&self.arrived, end);
+        earlier(earlier(unsent, arrived), self.least_of_processes())
+    }
+
+    /// The least time of what is pending or waits at a process of this worker; the end of the run where nothing does.
+    fn least_of_processes(&self) -> Time
+        ensures { result ≡ least_time self.now.config.end (flat_map (λ process. process.pending ++ process.waiting) self.now.processes) }
+    {
+        let Some(place) = self.earliest.winner() else {
+            return self.config.end;
+        };
+        self.processes[place as usize].least()
+    }
+}
+
+/// The least time of these letters; of none it is the end of the run.
+fn least_of_letters<P: Copy>(letters: &List<Letter<P>>, end: Time) -> Time
+    ensures { result ≡ least_time end letters.now }
+{
+    let mut least = end;
+    for letter in letters.iter() {
+        least = earlier(least, letter.event.rank.key.time);
+    }
+    least
+}
+
+/// The least time of this mail; of none it is the end of the run.
+fn least_of_mail<P: Copy>(mails: &[Mail<P>], end: Time) -> Time
+    ensures { result ≡ least_time end (map (λ mail. mail.letter) mails.now) }
+{
+    let mut least = end;
+    for mail in mails {
+        least = earlier(least, mail.letter.event.rank.key.time);
+    }
+    least
 }

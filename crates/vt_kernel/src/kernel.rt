@@ -1,6 +1,7 @@
 //! The worker.
 
 ghost use Rattle.std.specs.Prelude.{◌≡◌, ◌%◌, ◌^◌, length};
+ghost use Rattle.vt_steps.specs.Letters.{count_of};
 
 use crate::counts::Counts;
 use std::marker::Model;
@@ -96,5 +97,19 @@ impl<M: EventModel> Kernel<M> {
         ensures { result ≡ self.now.floor }
     {
         self.floor
+    }
+
+    /// How much mail of this colour the worker sent.
+    pub fn sent(&self, colour: Colour) -> u64
+        ensures { result ≡ count_of self.now.sent colour }
+    {
+        self.sent.of(colour)
+    }
+
+    /// How much mail of this colour the worker got.
+    pub fn got(&self, colour: Colour) -> u64
+        ensures { result ≡ count_of self.now.got colour }
+    {
+        self.got.of(colour)
     }
 }

@@ -9,6 +9,7 @@ mod cutting;
 mod fetching;
 mod kernel;
 mod local;
+mod readers;
 mod sending;
 mod times;
 

@@ -1,0 +1,69 @@
+//! What a worker tells of its processes.
+
+ghost use Rattle.std.specs.Prelude.{◌≡◌, ◌%◌, ◌^◌, length, IfSome, IfNone};
+ghost use Rattle.std.specs.Option.{option_copied, option_map};
+ghost use Rattle.vt_kernel.specs.Held.{process_of, IsProcessOf};
+
+use crate::kernel::Kernel;
+use vt_lp::Lp;
+use vt_model::Model as EventModel;
+
+impl<M: EventModel> Kernel<M> {
+    /// Process `p`; None where it isn't one of this worker's.
+    pub(crate) fn process(&self, p: u32) -> Option<&Lp<M>>
+        ensures value { option_copied result ≡ process_of self.now p }
+        ensures known { IfSome result (λ _. IsProcessOf self.now.config self.now.worker p) }
+        ensures unknown { IfNone result (IsProcessOf self.now.config self.now.worker p → ⊥) }
+    {
+        if self.config.owner(p) != self.worker {
+            return None;
+        }
+        let place = p / self.config.workers;
+        self.processes.get(place as usize)
+    }
+
+    /// The state of process `p`; None where it isn't one of this worker's.
+    pub fn state(&self, p: u32) -> Option<&M::State>
+        ensures value { option_copied result ≡ option_map (λ process. process.triple.state) (process_of self.now p) }
+        ensures known { IfSome result (λ _. IsProcessOf self.now.config self.now.worker p) }
+        ensures unknown { IfNone result (IsProcessOf self.now.config self.now.worker p → ⊥) }
+    {
+        Some(self.process(p)?.state())
+    }
+
+    /// The number of the next send of process `p`; None where it isn't one of this worker's.
+    pub fn number(&self, p: u32) -> Option<u64>
+        ensures value { result ≡ option_map (λ process. process.triple.number) (process_of self.now p) }
+        ensures known { IfSome result (λ _. IsProcessOf self.now.config self.now.worker p) }
+        ensures unknown { IfNone result (IsProcessOf self.now.config self.now.worker p → ⊥) }
+    {
+        Some(self.process(p)?.number())
+    }
+
+    /// The place of the next random word of process `p`; None where it isn't one of this worker's.
+    pub fn place(&self, p: u32) -> Option<u64>
+        ensures value { result ≡ option_map (λ process. process.triple.place) (process_of self.now p) }
+        ensures known { IfSome result (λ _. IsProcessOf self.now.config self.now.worker p) }
+        ensures unknown { IfNone result (IsProcessOf self.now.config self.now.worker p → ⊥) }
+    {
+        Some(self.process(p)?.place())
+    }
+
+    /// How many messages are pending at process `p`, modulo 2^64; None where it isn't one of this worker's.
+    pub fn pending_len(&self, p: u32) -> Option<usize>
+        ensures value { result ≡ option_map (λ process. length process.pending % 2 ^ 64) (process_of self.now p) }
+        ensures known { IfSome result (λ _. IsProcessOf self.now.config self.now.worker p) }
+        ensures unknown { IfNone result (IsProcessOf self.now.config self.now.worker p → ⊥) }
+    {
+        Some(self.process(p)?.pending_len())
+    }
+
+    /// How many anti-messages wait at process `p`, modulo 2^64; None where it isn't one of this worker's.
+    pub fn waiting_len(&self, p: u32) -> Option<usize>
+        ensures value { result ≡ option_map (λ process. length process.waiting % 2 ^ 64) (process_of self.now p) }
+        ensures known { IfSome result (λ _. IsProcessOf self.now.config self.now.worker p) }
+        ensures unknown { IfNone result (IsProcessOf self.now.config self.now.worker p → ⊥) }
+    {
+        Some(self.process(p)?.waiting_len())
+    }
+}
