@@ -10,3 +10,4 @@ pub mod ReportLemmas
 pub mod SendLemmas
 pub mod Settling
 pub mod TimeLemmas
+pub mod LocalLemmas

@@ -1,8 +1,81 @@
-//! Local steps: Execute, Undo, Cancel, Home and Accept.
+//! Local steps at one process: Execute, Undo and Cancel.
 
-ghost use Rattle.std.specs.Prelude.{◌≡◌, ◌%◌, ◌/◌, ◌<◌, ◌≤◌, IfSome, IfNone};
+ghost use Rattle.std.specs.Prelude.{◌≡◌, ◌^◌, ◌%◌, ◌/◌, ◌<◌, ◌≤◌, IfSome, IfNone, IfOk, IfErr, None, length, slice_set};
+ghost use Rattle.vt_key.specs.declared.fault.Fault.TheVariants.{NotLawful};
+ghost use Rattle.vt_model.specs.Handler.{Handlers};
+ghost use Rattle.vt_model.specs.Simulation.{simulation_of};
+ghost use Rattle.vt_steps.specs.World.{Part};
+ghost use Rattle.vt_steps.specs.declared.step.Step.TheVariants as step;
+ghost use Rattle.vt_kernel.specs.Held.{StandsFor, ready_of, earliest_of, TellsLeast};
+ghost use Rattle.vt_kernel.specs.Local.{local_step};
+ghost use Rattle.vt_kernel.specs.Guards.{IsDone, IsExecuteRefusal};
 
-use vt_model::Config;
+use crate::kernel::Kernel;
+use std::alloc::Global;
+use vt_key::{Fault, Stamp};
+use vt_lp::Lp;
+use vt_model::{Config, Model as EventModel};
+use vt_tournament::Tournament;
+
+impl<M: EventModel> Kernel<M> {
+    /// Execute at process `lp`: its least pending event is executed, and what it sends goes to the back of the outbox.
+    ///
+    /// [`Fault::NotLawful`]: `lp` is no process of this worker, it has no pending event, or the least one does not come after
+    /// its last past one. [`Fault::Exhausted`]: its send number or the worker's serial would pass 2^63. [`Fault::Memory`]:
+    /// memory was refused. After each all is as it was.
+    pub fn execute(&mut self, alloc: Global, model: &M, lp: u32) -> Result<(), Fault>
+        ensures done { (part : Part _) → StandsFor (M.handlers model.now) self.old part → IfOk result (λ done. IsDone (M.handlers model.now) self.new (local_step (simulation_of (M.handlers model.now) self.old.config) self.old.worker (step.Execute lp) part)) }
+        ensures refused { (part : Part _) → StandsFor (M.handlers model.now) self.old part → IfErr result (λ fault. IsExecuteRefusal (simulation_of (M.handlers model.now) self.old.config) lp (local_step (simulation_of (M.handlers model.now) self.old.config) self.old.worker (step.Execute lp) part) fault) }
+        ensures unchanged { (part : Part _) → StandsFor (M.handlers model.now) self.old part → IfErr result (λ fault. self.new ≡ self.old) }
+        ensures same { (self.new.worker ≡ self.old.worker) × (self.new.config ≡ self.old.config) }
+    {
+        let Some(place) = place_of(self.config, self.worker, lp) else {
+            return Err(Fault::NotLawful);
+        };
+        let result = self.processes[place].execute(alloc, model, &mut self.serial, &mut self.outbox);
+        enter(&mut self.ready, &mut self.earliest, &self.processes[place], place);
+        result
+    }
+
+    /// Undo at process `lp`: its last past event, which a pending message or a waiting anti-message overtakes, is pending
+    /// again, and the anti-messages of what it sent go to the back of the outbox. It takes no memory.
+    ///
+    /// [`Fault::NotLawful`]: `lp` is no process of this worker, it has no past event, or no letter overtakes the last one. All
+    /// is as it was.
+    pub fn undo(&mut self, model: &M, lp: u32) -> Result<(), Fault>
+        ensures done { (part : Part _) → StandsFor (M.handlers model.now) self.old part → IfOk result (λ done. IsDone (M.handlers model.now) self.new (local_step (simulation_of (M.handlers model.now) self.old.config) self.old.worker (step.Undo lp) part)) }
+        ensures refused { (part : Part _) → StandsFor (M.handlers model.now) self.old part → IfErr result (λ fault. local_step (simulation_of (M.handlers model.now) self.old.config) self.old.worker (step.Undo lp) part ≡ None) }
+        ensures kept { IfErr result (λ fault. (fault ≡ NotLawful) × (self.new ≡ self.old)) }
+        ensures same { (self.new.worker ≡ self.old.worker) × (self.new.config ≡ self.old.config) }
+    {
+        let Some(place) = place_of(self.config, self.worker, lp) else {
+            return Err(Fault::NotLawful);
+        };
+        let result = self.processes[place].undo(model, &mut self.outbox);
+        enter(&mut self.ready, &mut self.earliest, &self.processes[place], place);
+        result
+    }
+
+    /// Cancel at process `lp`: its waiting anti-message and its pending message of this stamp annihilate each other. It takes no
+    /// memory.
+    ///
+    /// [`Fault::NotLawful`]: `lp` is no process of this worker, or it does not have both, with one key. All is as it was.
+    pub fn cancel(&mut self, lp: u32, stamp: Stamp) -> Result<(), Fault>
+        ensures done { (handlers : Handlers _ _ _) (part : Part _) → StandsFor handlers self.old part → IfOk result (λ done. IsDone handlers self.new (local_step (simulation_of handlers self.old.config) self.old.worker (step.Cancel lp stamp) part)) }
+        ensures refused { (handlers : Handlers _ _ _) (part : Part _) → StandsFor handlers self.old part → IfErr result (λ fault. local_step (simulation_of handlers self.old.config) self.old.worker (step.Cancel lp stamp) part ≡ None) }
+        ensures kept { IfErr result (λ fault. (fault ≡ NotLawful) × (self.new ≡ self.old)) }
+        ensures same { (self.new.worker ≡ self.old.worker) × (self.new.config ≡ self.old.config) }
+    {
+        let Some(place) = place_of(self.config, self.worker, lp) else {
+            return Err(Fault::NotLawful);
+        };
+        if let Err(fault) = self.processes[place].cancel(stamp) {
+            return Err(fault);
+        }
+        enter(&mut self.ready, &mut self.earliest, &self.processes[place], place);
+        Ok(())
+    }
+}
 
 /// Where process `lp` stands among those of the worker; None where it is no process of this worker.
 pub(crate) fn place_of(config: Config, worker: u32, lp: u32) -> Option<usize>
@@ -13,4 +86,17 @@ pub(crate) fn place_of(config: Config, worker: u32, lp: u32) -> Option<usize>
         return None;
     }
     Some((lp / config.workers) as usize)
+}
+
+/// Enters a process that has changed into the tournaments again.
+pub(crate) fn enter<M: EventModel>(ready: &mut Tournament, earliest: &mut Tournament, process: &Lp<M>, place: usize)
+    requires in_ready { place < length ready.old }
+    requires in_earliest { place < length earliest.old }
+    requires small { place < 2 ^ 32 }
+    ensures ready { ready.new ≡ slice_set ready.old place (ready_of process.now) }
+    ensures earliest { earliest.new ≡ slice_set earliest.old place (earliest_of process.now) }
+    ensures told { TellsLeast process.now }
+{
+    ready.set(place as u32, process.ready());
+    earliest.set(place as u32, process.least_rank());
 }

@@ -6,3 +6,8 @@ mod AcceptLemmas
 mod CancelLemmas
 mod Sizes
 mod Stamping
+mod RipeLemmas
+mod Ends
+mod Advancing
+mod ExecuteLemmas
+mod UndoLemmas

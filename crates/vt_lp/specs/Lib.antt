@@ -1,2 +1,4 @@
 pub mod Held
 pub mod Guards
+pub mod Ripe
+pub mod Past

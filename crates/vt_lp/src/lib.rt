@@ -5,10 +5,13 @@
 //! its event was executed.
 #![tactic(auto)]
 
+mod committing;
 mod entry;
 mod letters;
+mod executing;
 mod lp;
 mod making;
 mod starting;
+mod undoing;
 
 pub use lp::Lp;

@@ -1,0 +1,224 @@
+-- A local step at one process: what stays of how a worker's fields go together, and what the step does to the part.
+use Rattle.std.proofs.Common.{◌≡◌, ℕ, zero, suc, ◌+◌, ◌-◌, ◌*◌, ◌/◌, ◌%◌, ◌<◌, ◌≤◌, inl, inr, Bool, true, false, List, [], ◌∷◌, ◌++◌, map, length, refl, sym, ◌∙◌, ap, subst, arith, Option, Some, None, Result, Ok, Err, IfOk, IfErr, slice_get, slice_set, slice_index_or}
+use Rattle.std.specs.List.{All}
+use Rattle.std.proofs.Math.ListN.{length-set}
+use Rattle.std.proofs.lemmas.Bool.Decides.{eqb_tells}
+use Rattle.std.proofs.lemmas.List.{length-map}
+use Rattle.std.proofs.lemmas.List.Elements.{All-cons, All-head, All-tail}
+use Rattle.std.proofs.lemmas.Option.{slice_get_within}
+use Rattle.vt_key.specs.Times.{Time}
+use Rattle.vt_key.specs.declared.limits.TheConstants.{MAX_COUNT}
+use Rattle.vt_key.specs.declared.order.Rank.{Rank}
+use Rattle.vt_key.specs.declared.letter.Letter.{Letter}
+use Rattle.vt_key.specs.declared.letter.Mail.{Mail}
+use Rattle.vt_key.specs.declared.letter.Colour.{Colour}
+use Rattle.vt_model.specs.declared.settings.Config.{Config}
+use Rattle.vt_model.specs.Handler.{Handlers}
+use Rattle.vt_model.specs.Simulation.{Simulation, simulation_of}
+use Rattle.vt_steps.specs.Letters.{Counts}
+use Rattle.vt_steps.specs.World.{LogicalProcess, Part, process_at}
+use Rattle.vt_steps.specs.ProcessSteps.{ProcessEffect, execute_process}
+use Rattle.vt_steps.specs.PartSteps.{with_effect, at_process}
+use Rattle.vt_steps.specs.StandsFor.{ProcessMemory, StandForProcesses}
+use Rattle.vt_lp.specs.Held.{HeldProcess, process_memory, AllWithinRun, StandsFor as ProcessStandsFor}
+use Rattle.vt_lp.specs.Guards.{IsDone as ProcessIsDone}
+use Rattle.vt_kernel.specs.Held.{HeldWorker, IsWorkerInside, StandsFor, AreProcesses, TellsLeast, ready_of, earliest_of, entries_of}
+use Rattle.vt_kernel.specs.Local.{at_own}
+use Rattle.vt_kernel.specs.Guards.{IsDone}
+use Rattle.vt_kernel.proofs.ProcessLemmas.{process-at, processes-changed, entered-changed, place-known, place-unknown, get-past}
+use Rattle.vt_steps.proofs.Places.{get-put_same}
+use Rattle.vt_kernel.proofs.Settling.{put-there}
+use Rattle.vt_kernel.proofs.OwnSteps.{not-own, no-process, found, done-at, refused-at, IsFound}
+
+-- what a contract sees of a worker with these fields
+abbrev pub worker_view : {S P K : Type 0} → ℕ → Config → List (HeldProcess S P K) → List (Letter P) → List (Mail P) → Colour → Counts → Counts → Time → Time → ℕ → HeldWorker S P K
+worker_view worker config processes outbox arrived colour sent got red_minimum floor serial = record {
+  worker = worker;
+  config = config;
+  processes = processes;
+  outbox = outbox;
+  arrived = arrived;
+  colour = colour;
+  sent = sent;
+  got = got;
+  red_minimum = red_minimum;
+  floor = floor;
+  serial = serial;
+}
+
+-- what an index finds is there
+pub index-get : {X : Type 0} (xs : List X) (i : ℕ) (x : X) → i < length xs → slice_index_or xs i x ≡ x → slice_get xs i ≡ Some x
+index-get [] i x within is = absurd (omega arith)
+index-get (y ∷ ys) zero x within is = ap Some is
+index-get (y ∷ ys) (suc i) x within is = index-get ys i x (omega arith) is
+
+pub all-changed : {X : Type 0} (Q : X → Type 0) (xs : List X) (i : ℕ) (x : X) → All Q xs → Q x → All Q (slice_set xs i x)
+all-changed Q [] i x h q = h
+all-changed Q (y ∷ ys) zero x h q = All-cons Q x ys q (All-tail Q y ys h)
+all-changed Q (y ∷ ys) (suc i) x h q = All-cons Q y (slice_set ys i x) (All-head Q y ys h) (all-changed Q ys i x (All-tail Q y ys h) q)
+
+module _ {S P K : Type 0} {config : Config} {w : ℕ} {processes : List (HeldProcess S P K)} {outbox : List (Letter P)} {arrived : List (Mail P)} {sent got : Counts} {serial : ℕ} {ready earliest : List (Option Rank)}
+    (h : IsWorkerInside config w processes outbox arrived sent got serial ready earliest) where
+  -- the place of one of the worker's processes is within
+  pub place-within : (p place : ℕ) → 1 ≤ config.workers → place ≡ p / config.workers → p % config.workers ≡ w → p < config.lps → place < length processes
+  place-within p place some is own less =
+      let known = place-known config.lps config.workers w p some less own in
+      let all = h.all_there in
+      omega (arith, known, all, is)
+
+  -- and within the tournaments
+  pub in-entries : (entry : HeldProcess S P K → Option Rank) (place : ℕ) (entries : List (Option Rank)) → entries ≡ entries_of entry processes → place < length processes → place < length entries
+  in-entries entry place entries is less = subst (λ es. place < length es) (sym is) (go processes less)
+    where
+      go : (ps : List (HeldProcess S P K)) → place < length ps → place < length (entries_of entry ps)
+      go [] less = absurd (omega arith)
+      go (q ∷ qs) less = subst (λ n. place < n) (sym (length-map (q ∷ qs) entry)) less
+
+  -- a process that has changed, with what was made by it
+  pub inside-changed : (place : ℕ) (q new : HeldProcess S P K) (letters : List (Letter P)) (next : ℕ) → slice_get processes place ≡ Some q
+      → new.lp ≡ q.lp → new.config ≡ q.config → TellsLeast new → AllWithinRun config letters → next ≤ MAX_COUNT
+      → IsWorkerInside config w (slice_set processes place new) letters arrived sent got next (slice_set ready place (ready_of new)) (slice_set earliest place (earliest_of new))
+  inside-changed place q new letters next at same_lp same_config told within few =
+      let less = slice_get_within processes place q at in
+      let who = process-at config w 0 place processes q h.own_processes at in
+      record {
+        known = h.known;
+        all_there = length-set processes place new ∙ h.all_there;
+        own_processes = processes-changed config w 0 place processes new h.own_processes (same_lp ∙ who.0) (same_config ∙ who.1);
+        sendable = within;
+        own_mail = h.own_mail;
+        few_sent = h.few_sent;
+        few_got = h.few_got;
+        few_made = few;
+        ready_entered = ap (λ es. slice_set es place (ready_of new)) h.ready_entered ∙ sym (entered-changed ready_of processes place new less);
+        earliest_entered = ap (λ es. slice_set es place (earliest_of new)) h.earliest_entered ∙ sym (entered-changed earliest_of processes place new less);
+        least_told = all-changed TellsLeast processes place new h.least_told told;
+      }
+
+-- as many processes stand for as there are
+pub stand-length : {S P : Type 0} (sim : Simulation S P) (w base : ℕ) (memories : List (ProcessMemory S P)) (processes : List (LogicalProcess P)) → StandForProcesses sim w base memories processes
+    → length processes ≡ length memories
+stand-length sim w base [] [] h = refl
+stand-length sim w base [] (q ∷ qs) h = absurd h
+stand-length sim w base (m ∷ ms) [] h = absurd h
+stand-length sim w base (m ∷ ms) (q ∷ qs) h = (let rest = stand-length sim w (base + 1) ms qs h.1 in omega (arith, rest))
+
+-- a step that sends nothing and takes no serial leaves the outbox and the serial
+pub plain-done : {S P K : Type 0} (handlers : Handlers S P K) (new : HeldProcess S P K) (step : Option (ProcessEffect P)) (outbox : List (Letter P)) (serial : ℕ)
+    → ProcessIsDone handlers new step [] [] 0 0 → ProcessIsDone handlers new step outbox outbox serial serial
+plain-done handlers new step outbox serial done = record {
+  effect = done.effect;
+  lawful = done.lawful;
+  stands = done.stands;
+  letters = sym (append-nothing outbox) ∙ ap (λ ls. outbox ++ ls) done.letters;
+  serials = (let none = done.serials in omega (arith, none));
+}
+  where
+    append-nothing : {X : Type 0} (xs : List X) → xs ++ [] ≡ xs
+    append-nothing [] = refl
+    append-nothing (x ∷ xs) = ap (λ ys. x ∷ ys) (append-nothing xs)
+
+module _ {S P K : Type 0} (handlers : Handlers S P K) (held : HeldWorker S P K) (are : AreProcesses held.config held.worker 0 held.processes) (part : Part P) (h : StandsFor handlers held part) where
+  -- a step at a process that is none of the worker's is not lawful
+  pub unknown-refused : (p : ℕ) (step : LogicalProcess P → Option (ProcessEffect P)) → 1 ≤ held.config.workers
+      → length held.processes ≡ (held.config.lps + (held.config.workers - 1) - held.worker) / held.config.workers → (p % held.config.workers ≡ held.worker → held.config.lps ≤ p)
+      → at_own (simulation_of handlers held.config) held.worker p (at_process step (p / held.config.workers) part) ≡ None
+  unknown-refused p step some all past =
+      elim (eqb_tells (p % held.config.workers) held.worker) [
+        | inl e ↦
+            (let own : p % held.config.workers ≡ held.worker = e.1 in
+            let size : length part.processes ≡ length held.processes = stand-length (simulation_of handlers held.config) held.worker 0 (map (process_memory handlers) held.processes) part.processes h.processes ∙ length-map held.processes (process_memory handlers) in
+            let beyond : (p / held.config.workers < length part.processes → ⊥) = λ less. place-unknown held.config.lps held.config.workers held.worker p some (past own) own (subst (λ n. p / held.config.workers < n) (size ∙ all) less) in
+            no-process (simulation_of handlers held.config) held.worker p step part (get-past part.processes (p / held.config.workers) (omega (arith, beyond))))
+        | inr e ↦ not-own (simulation_of handlers held.config) held.worker p (at_process step (p / held.config.workers) part) e.1
+      ]
+
+  -- what is done at a process is done at the worker
+  pub changed-done : (p place : ℕ) (q new : HeldProcess S P K) (outbox : List (Letter P)) (serial : ℕ) (step : LogicalProcess P → Option (ProcessEffect P))
+      → place ≡ p / held.config.workers → p % held.config.workers ≡ held.worker → slice_get held.processes place ≡ Some q → new.lp ≡ q.lp → new.config ≡ q.config
+      → ((process : LogicalProcess P) → ProcessStandsFor handlers q process → ProcessIsDone handlers new (step process) held.outbox outbox held.serial serial)
+      → IsDone handlers (record held { processes = slice_set held.processes place new; outbox = outbox; serial = serial })
+        (at_own (simulation_of handlers held.config) held.worker p (at_process step (p / held.config.workers) part))
+  changed-done p place q new outbox serial step is own at same_lp same_config done =
+      let f = found handlers held part p q h are own (subst (λ k. slice_get held.processes k ≡ Some q) is at) in
+      subst (λ k. IsDone handlers (record held { processes = slice_set held.processes k new; outbox = outbox; serial = serial }) (at_own (simulation_of handlers held.config) held.worker p (at_process step (p / held.config.workers) part)))
+      (sym is) (done-at handlers held part p q new outbox serial step h own f same_lp same_config (done f.process f.stands))
+
+  -- what is not lawful at a process is not at the worker
+  pub changed-refused : (p place : ℕ) (q : HeldProcess S P K) (step : LogicalProcess P → Option (ProcessEffect P))
+      → place ≡ p / held.config.workers → p % held.config.workers ≡ held.worker → slice_get held.processes place ≡ Some q
+      → ((process : LogicalProcess P) → ProcessStandsFor handlers q process → step process ≡ None)
+      → at_own (simulation_of handlers held.config) held.worker p (at_process step (p / held.config.workers) part) ≡ None
+  changed-refused p place q step is own at none =
+      let f = found handlers held part p q h are own (subst (λ k. slice_get held.processes k ≡ Some q) is at) in
+      refused-at handlers held part p q step own f (none f.process f.stands)
+
+-- a process that was written is found again
+pub found-again : {X : Type 0} (xs : List X) (i : ℕ) (old new now : X) → slice_get xs i ≡ Some old → now ≡ slice_index_or (slice_set xs i new) i now → now ≡ new
+found-again xs i old new now there is =
+    let less = slice_get_within xs i old there in
+    let size = length-set xs i new in
+    let a : slice_get (slice_set xs i new) i ≡ Some now = index-get (slice_set xs i new) i now (omega (arith, less, size)) (sym is) in
+    let b : slice_get (slice_set xs i new) i ≡ Some new = get-put_same xs i old new there in
+    let both : Some new ≡ Some now = sym b ∙ a in
+    let same : new ≡ now = cc in
+    sym same
+
+-- a process that was written as it was leaves them all
+pub written-same : {X : Type 0} (xs : List X) (i : ℕ) (old new : X) → slice_get xs i ≡ Some old → new ≡ old → slice_set xs i new ≡ xs
+written-same xs i old new there same = ap (λ x. slice_set xs i x) same ∙ put-there xs i old there
+
+-- the tournaments that the changed process has entered
+pub entered : {S P K : Type 0} {config : Config} {w : ℕ} {processes : List (HeldProcess S P K)} {outbox : List (Letter P)} {arrived : List (Mail P)} {sent got : Counts} {serial : ℕ} (ready earliest : List (Option Rank))
+    (place : ℕ) (new now : HeldProcess S P K) (new_ready new_earliest : List (Option Rank)) → now ≡ new → new_ready ≡ slice_set ready place (ready_of now) → new_earliest ≡ slice_set earliest place (earliest_of now)
+    → IsWorkerInside config w processes outbox arrived sent got serial (slice_set ready place (ready_of new)) (slice_set earliest place (earliest_of new))
+    → IsWorkerInside config w processes outbox arrived sent got serial new_ready new_earliest
+entered {S} {P} {K} {config} {w} {processes} {outbox} {arrived} {sent} {got} {serial} ready earliest place new now new_ready new_earliest same r e h =
+    subst (λ xs. IsWorkerInside config w processes outbox arrived sent got serial xs new_earliest) (sym (r ∙ ap (λ q. slice_set ready place (ready_of q)) same))
+    (subst (λ xs. IsWorkerInside config w processes outbox arrived sent got serial (slice_set ready place (ready_of new)) xs) (sym (e ∙ ap (λ q. slice_set earliest place (earliest_of q)) same)) h)
+
+-- ---- results
+
+pub if_ok-more : {A E : Type 0} {Q R : A → Type 0} (result : Result A E) → ((a : A) → Q a → R a) → IfOk result Q → IfOk result R
+if_ok-more (Ok a) more h = more a h
+if_ok-more (Err e) more h = h
+
+pub if_err-more : {A E : Type 0} {Q R : E → Type 0} (result : Result A E) → ((e : E) → Q e → R e) → IfErr result Q → IfErr result R
+if_err-more (Ok a) more h = h
+if_err-more (Err e) more h = more e h
+
+-- what holds after either answer
+pub either-way : {A E : Type 0} {Q : A → Type 0} {R : E → Type 0} {T : Type 0} (result : Result A E) → ((a : A) → Q a → T) → ((e : E) → R e → T) → IfOk result Q → IfErr result R → T
+either-way (Ok a) done refused h k = done a h
+either-way (Err e) done refused h k = refused e k
+
+-- what is done at the process that was found is done at the worker
+pub at-found-done : {S P K : Type 0} (handlers : Handlers S P K) (held : HeldWorker S P K) (are : AreProcesses held.config held.worker 0 held.processes) (part : Part P) (h : StandsFor handlers held part)
+    (p place : ℕ) (q new : HeldProcess S P K) (outbox : List (Letter P)) (serial : ℕ) (step : LogicalProcess P → Option (ProcessEffect P))
+    → place ≡ p / held.config.workers → p % held.config.workers ≡ held.worker → (f : IsFound handlers held part p q) → new.lp ≡ q.lp → new.config ≡ q.config
+    → ProcessIsDone handlers new (step f.process) held.outbox outbox held.serial serial
+    → IsDone handlers (record held { processes = slice_set held.processes place new; outbox = outbox; serial = serial })
+      (at_own (simulation_of handlers held.config) held.worker p (at_process step (p / held.config.workers) part))
+at-found-done handlers held are part h p place q new outbox serial step is own f same_lp same_config done =
+    subst (λ k. IsDone handlers (record held { processes = slice_set held.processes k new; outbox = outbox; serial = serial }) (at_own (simulation_of handlers held.config) held.worker p (at_process step (p / held.config.workers) part)))
+    (sym is) (done-at handlers held part p q new outbox serial step h own f same_lp same_config done)
+
+-- a step that takes no serial leaves any serial
+pub no-serial : {S P K : Type 0} (handlers : Handlers S P K) (new : HeldProcess S P K) (step : Option (ProcessEffect P)) (outbox new_outbox : List (Letter P)) (serial : ℕ)
+    → ProcessIsDone handlers new step outbox new_outbox 0 0 → ProcessIsDone handlers new step outbox new_outbox serial serial
+no-serial handlers new step outbox new_outbox serial done = record {
+  effect = done.effect;
+  lawful = done.lawful;
+  stands = done.stands;
+  letters = done.letters;
+  serials = (let none = done.serials in omega (arith, none));
+}
+
+pub both-errors : {A E : Type 0} {Q R T : E → Type 0} (result : Result A E) → ((e : E) → Q e → R e → T e) → IfErr result Q → IfErr result R → IfErr result T
+both-errors (Ok a) more h k = h
+both-errors (Err e) more h k = more e h k
+
+-- Execute at a process, as the worker's step has it
+abbrev pub execute-step : {S P K : Type 0} → Handlers S P K → HeldWorker S P K → Part P → ℕ → LogicalProcess P → Option (ProcessEffect P)
+execute-step handlers held part p process =
+    execute_process (simulation_of handlers held.config) (process_at (simulation_of handlers held.config) held.worker (p / held.config.workers)) held.worker part.serial process

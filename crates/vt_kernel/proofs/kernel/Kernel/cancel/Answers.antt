@@ -1,0 +1,93 @@
+use Rattle.std.proofs.Common.{rules, ◌≡◌, ◌/◌, ◌%◌, ◌<◌, ◌≤◌, ◌∙◌, IfOk, IfErr, Ok, Err, None, Some, length, slice_get, slice_set, slice_index_or, ℕ, List, [], sym, ap, subst, refl, arith}
+use Rattle.vt_model.specs.Simulation.{simulation_of}
+use Rattle.vt_steps.specs.ProcessSteps.{cancel_process}
+use Rattle.vt_steps.specs.declared.step.Step.TheVariants as step
+use Rattle.vt_lp.specs.Held.{HeldProcess}
+use Rattle.vt_kernel.specs.Held.{HeldWorker, IsWorkerInside, StandsFor, TellsLeast, ready_of, earliest_of}
+use Rattle.vt_kernel.specs.Local.{local_step}
+use Rattle.vt_kernel.specs.Guards.{IsDone}
+use Rattle.vt_kernel.proofs.LocalLemmas.{worker_view, index-get, place-within, in-entries, inside-changed, unknown-refused, changed-done, changed-refused, plain-done, found-again, written-same, entered}
+use Rattle.vt_kernel.proofs.kernel.Kernel.cancel.Goals as goal
+
+pub returns-in_default-clause-refused : goal.returns-in_default-clause-refused
+returns-in_default-clause-refused g c handlers part s =
+    let i = c.self.inside in
+    let held = worker_view i.worker i.config i.processes.items i.outbox i.arrived.items i.colour i.sent i.got i.red_minimum i.floor i.serial in
+    subst (λ (v : HeldWorker _ _ _). local_step (simulation_of handlers v.config) v.worker (step.Cancel c.args.lp c.args.stamp) part ≡ None) c.self.view_is
+    (unknown-refused handlers held c.self.invariant.own_processes part (subst (λ (v : HeldWorker _ _ _). StandsFor handlers v part) (sym c.self.view_is) s)
+    c.args.lp (cancel_process c.args.stamp) i.config.some_worker c.self.invariant.all_there c.in_default.ensures.other)
+
+pub index_mut-requires : goal.index_mut-requires
+index_mut-requires g c =
+    let own = c.in-Some.ensures.own in
+    let less = place-within c.self.invariant c.args.lp c.in-Some.place c.self.inside.config.some_worker own.0 own.1 own.2 in
+    search (rules, less)
+
+pub invariant_of-self : goal.invariant_of-self
+invariant_of-self g c =
+    let i = c.self.inside in
+    let own = c.in-Some.ensures.own in
+    let less = place-within c.self.invariant c.args.lp c.in-Some.place i.config.some_worker own.0 own.1 own.2 in
+    let at = index-get i.processes.items c.in-Some.place c.index_mut.result.now less (sym c.index_mut.ensures.value) in
+    subst (λ (ps : List (HeldProcess _ _ _)). IsWorkerInside i.config i.worker ps i.outbox i.arrived.items i.sent i.got i.serial i.ready i.earliest)
+    (sym (written-same i.processes.items c.in-Some.place c.index_mut.result.now c.cancel.new.self at c.in-Err.ensures.kept.1)) c.self.invariant
+
+pub returns-in-Err-clause-refused : goal.returns-in-Err-clause-refused
+returns-in-Err-clause-refused g c handlers part s =
+    let i = c.self.inside in
+    let held = worker_view i.worker i.config i.processes.items i.outbox i.arrived.items i.colour i.sent i.got i.red_minimum i.floor i.serial in
+    let own = c.in-Some.ensures.own in
+    let less = place-within c.self.invariant c.args.lp c.in-Some.place i.config.some_worker own.0 own.1 own.2 in
+    let at = index-get i.processes.items c.in-Some.place c.index_mut.result.now less (sym c.index_mut.ensures.value) in
+    subst (λ (v : HeldWorker _ _ _). local_step (simulation_of handlers v.config) v.worker (step.Cancel c.args.lp c.args.stamp) part ≡ None) c.self.view_is
+    (changed-refused handlers held c.self.invariant.own_processes part (subst (λ (v : HeldWorker _ _ _). StandsFor handlers v part) (sym c.self.view_is) s)
+    c.args.lp c.in-Some.place c.index_mut.result.now (cancel_process c.args.stamp) own.0 own.1 at (λ process st. c.in-Err.ensures.refused handlers process st))
+
+pub index-requires : goal.index-requires
+index-requires g c =
+    let own = c.in-Some.ensures.own in
+    let less = place-within c.self.invariant c.args.lp c.in-Some.place c.self.inside.config.some_worker own.0 own.1 own.2 in
+    search (rules, less)
+
+pub enter-requires-clause-in_ready : goal.enter-requires-clause-in_ready
+enter-requires-clause-in_ready g c κs within =
+    let i = c.self.inside in
+    let own = c.in-Some.ensures.own in
+    let less = place-within c.self.invariant c.args.lp c.in-Some.place i.config.some_worker own.0 own.1 own.2 in
+    in-entries c.self.invariant ready_of c.in-Some.place i.ready c.self.invariant.ready_entered less
+
+pub enter-requires-clause-in_earliest : goal.enter-requires-clause-in_earliest
+enter-requires-clause-in_earliest g c κs within =
+    let i = c.self.inside in
+    let own = c.in-Some.ensures.own in
+    let less = place-within c.self.invariant c.args.lp c.in-Some.place i.config.some_worker own.0 own.1 own.2 in
+    in-entries c.self.invariant earliest_of c.in-Some.place i.earliest c.self.invariant.earliest_entered less
+
+pub invariant_of-self-2 : goal.invariant_of-self-2
+invariant_of-self-2 g c =
+    let i = c.self.inside in
+    let own = c.in-Some.ensures.own in
+    let less = place-within c.self.invariant c.args.lp c.in-Some.place i.config.some_worker own.0 own.1 own.2 in
+    let old = c.index_mut.result.now in
+    let new = c.cancel.new.self in
+    let at = index-get i.processes.items c.in-Some.place old less (sym c.index_mut.ensures.value) in
+    let again : c.index.result.now ≡ new = found-again i.processes.items c.in-Some.place old new c.index.result.now at c.index.ensures in
+    let same = c.in_default-cancel.ensures.same in
+    entered i.ready i.earliest c.in-Some.place new c.index.result.now c.enter.new.ready c.enter.new.earliest again c.enter.ensures.ready c.enter.ensures.earliest
+    (inside-changed c.self.invariant c.in-Some.place old new i.outbox i.serial at same.0 same.1 (subst (λ (q : HeldProcess _ _ _). TellsLeast q) again c.enter.ensures.told) c.self.invariant.sendable c.self.invariant.few_made)
+
+pub returns-clause-done : goal.returns-clause-done
+returns-clause-done g c handlers part s =
+    let i = c.self.inside in
+    let held = worker_view i.worker i.config i.processes.items i.outbox i.arrived.items i.colour i.sent i.got i.red_minimum i.floor i.serial in
+    let own = c.in-Some.ensures.own in
+    let less = place-within c.self.invariant c.args.lp c.in-Some.place i.config.some_worker own.0 own.1 own.2 in
+    let old = c.index_mut.result.now in
+    let new = c.cancel.new.self in
+    let at = index-get i.processes.items c.in-Some.place old less (sym c.index_mut.ensures.value) in
+    let same = c.in_default-cancel.ensures.same in
+    subst (λ (v : HeldWorker _ _ _). IsDone handlers (worker_view i.worker i.config (slice_set i.processes.items c.in-Some.place new) i.outbox i.arrived.items i.colour i.sent i.got i.red_minimum i.floor i.serial)
+      (local_step (simulation_of handlers v.config) v.worker (step.Cancel c.args.lp c.args.stamp) part)) c.self.view_is
+    (changed-done handlers held c.self.invariant.own_processes part (subst (λ (v : HeldWorker _ _ _). StandsFor handlers v part) (sym c.self.view_is) s)
+    c.args.lp c.in-Some.place old new i.outbox i.serial (cancel_process c.args.stamp) own.0 own.1 at same.0 same.1
+    (λ process st. plain-done handlers new (cancel_process c.args.stamp process) i.outbox i.serial (c.in_default-cancel.ensures.done handlers process st)))

@@ -1,0 +1,112 @@
+use Rattle.std.proofs.Common.{rules, ◌≡◌, ◌/◌, ◌%◌, ◌<◌, ◌≤◌, ◌∙◌, IfOk, IfErr, Ok, Err, None, Some, length, slice_get, slice_set, slice_index_or, ℕ, List, [], sym, ap, subst, refl, arith}
+use Rattle.vt_key.specs.declared.fault.Fault.TheVariants.{NotLawful}
+use Rattle.vt_key.specs.declared.limits.TheConstants.{MAX_COUNT}
+use Rattle.vt_key.specs.declared.letter.Letter.{Letter}
+use Rattle.vt_model.specs.declared.settings.Config.{Config}
+use Rattle.vt_model.specs.Simulation.{simulation_of}
+use Rattle.vt_steps.specs.World.{process_at}
+use Rattle.vt_steps.specs.ProcessSteps.{execute_process, undo_process}
+use Rattle.vt_steps.specs.declared.step.Step.TheVariants as step
+use Rattle.vt_lp.specs.Held.{HeldProcess, AllWithinRun}
+use Rattle.vt_lp.specs.Guards.{IsDone as ProcessIsDone}
+use Rattle.vt_kernel.specs.Held.{HeldWorker, IsWorkerInside, StandsFor, TellsLeast, ready_of, earliest_of}
+use Rattle.vt_kernel.specs.Local.{local_step}
+use Rattle.vt_kernel.specs.Guards.{IsDone, IsExecuteRefusal}
+use Rattle.vt_kernel.proofs.ProcessLemmas.{process-at}
+use Rattle.vt_kernel.proofs.OwnSteps.{found, refused-at}
+use Rattle.vt_kernel.proofs.LocalLemmas.{worker_view, index-get, place-within, in-entries, inside-changed, unknown-refused, changed-done, changed-refused, plain-done, found-again, written-same, entered, if_ok-more, if_err-more, either-way, at-found-done, no-serial}
+use Rattle.vt_kernel.proofs.kernel.Kernel.undo.Goals as goal
+
+pub index_mut-requires : goal.index_mut-requires
+index_mut-requires g c =
+    let own = c.in-Some.ensures.own in
+    let less = place-within c.self.invariant c.args.lp c.in-Some.place c.self.inside.config.some_worker own.0 own.1 own.2 in
+    search (rules, less)
+
+pub index-requires : goal.index-requires
+index-requires g c =
+    let own = c.in-Some.ensures.own in
+    let less = place-within c.self.invariant c.args.lp c.in-Some.place c.self.inside.config.some_worker own.0 own.1 own.2 in
+    search (rules, less)
+
+pub enter-requires-clause-in_ready : goal.enter-requires-clause-in_ready
+enter-requires-clause-in_ready g c κs within =
+    let i = c.self.inside in
+    let own = c.in-Some.ensures.own in
+    let less = place-within c.self.invariant c.args.lp c.in-Some.place i.config.some_worker own.0 own.1 own.2 in
+    in-entries c.self.invariant ready_of c.in-Some.place i.ready c.self.invariant.ready_entered less
+
+pub enter-requires-clause-in_earliest : goal.enter-requires-clause-in_earliest
+enter-requires-clause-in_earliest g c κs within =
+    let i = c.self.inside in
+    let own = c.in-Some.ensures.own in
+    let less = place-within c.self.invariant c.args.lp c.in-Some.place i.config.some_worker own.0 own.1 own.2 in
+    in-entries c.self.invariant earliest_of c.in-Some.place i.earliest c.self.invariant.earliest_entered less
+
+pub returns-in_default-clause-refused : goal.returns-in_default-clause-refused
+returns-in_default-clause-refused g c part s =
+    let i = c.self.inside in
+    let handlers = g.M.Model.handlers c.args.model.now in
+    let held = worker_view i.worker i.config i.processes.items i.outbox i.arrived.items i.colour i.sent i.got i.red_minimum i.floor i.serial in
+    subst (λ (v : HeldWorker _ _ _). local_step (simulation_of handlers v.config) v.worker (step.Undo c.args.lp) part ≡ None) c.self.view_is
+    (unknown-refused handlers held c.self.invariant.own_processes part (subst (λ (v : HeldWorker _ _ _). StandsFor handlers v part) (sym c.self.view_is) s)
+    c.args.lp undo_process i.config.some_worker c.self.invariant.all_there c.in_default.ensures.other)
+
+pub invariant_of-self : goal.invariant_of-self
+invariant_of-self g c =
+    let i = c.self.inside in
+    let own = c.in-Some.ensures.own in
+    let less = place-within c.self.invariant c.args.lp c.in-Some.place i.config.some_worker own.0 own.1 own.2 in
+    let old = c.index_mut.result.now in
+    let new = c.undo-result.new.self in
+    let at = index-get i.processes.items c.in-Some.place old less (sym c.index_mut.ensures.value) in
+    let f = process-at i.config i.worker 0 c.in-Some.place i.processes.items old c.self.invariant.own_processes at in
+    let again : c.index.result.now ≡ new = found-again i.processes.items c.in-Some.place old new c.index.result.now at c.index.ensures in
+    let same = c.undo-result.ensures.same in
+    let within = subst (λ (k : Config). AllWithinRun k i.outbox → AllWithinRun k c.undo-result.new.outbox) f.1 c.undo-result.ensures.within in
+    entered i.ready i.earliest c.in-Some.place new c.index.result.now c.enter.new.ready c.enter.new.earliest again c.enter.ensures.ready c.enter.ensures.earliest
+    (inside-changed c.self.invariant c.in-Some.place old new c.undo-result.new.outbox i.serial at same.0 same.1 (subst (λ (q : HeldProcess _ _ _). TellsLeast q) again c.enter.ensures.told) (within c.self.invariant.sendable) c.self.invariant.few_made)
+
+pub returns-clause-done : goal.returns-clause-done
+returns-clause-done g c part s =
+    let i = c.self.inside in
+    let handlers = g.M.Model.handlers c.args.model.now in
+    let held = worker_view i.worker i.config i.processes.items i.outbox i.arrived.items i.colour i.sent i.got i.red_minimum i.floor i.serial in
+    let own = c.in-Some.ensures.own in
+    let less = place-within c.self.invariant c.args.lp c.in-Some.place i.config.some_worker own.0 own.1 own.2 in
+    let old = c.index_mut.result.now in
+    let new = c.undo-result.new.self in
+    let at = index-get i.processes.items c.in-Some.place old less (sym c.index_mut.ensures.value) in
+    let same = c.undo-result.ensures.same in
+    let h = subst (λ (v : HeldWorker _ _ _). StandsFor handlers v part) (sym c.self.view_is) s in
+    let at_p = subst (λ k. slice_get i.processes.items k ≡ Some old) own.0 at in
+    let f = found handlers held part c.args.lp old h c.self.invariant.own_processes own.1 at_p in
+    subst (λ (v : HeldWorker _ _ _). IfOk c.undo-result.result (λ _. IsDone handlers (worker_view i.worker i.config (slice_set i.processes.items c.in-Some.place new) c.undo-result.new.outbox i.arrived.items i.colour i.sent i.got i.red_minimum i.floor i.serial)
+      (local_step (simulation_of handlers v.config) v.worker (step.Undo c.args.lp) part))) c.self.view_is
+    (if_ok-more c.undo-result.result (λ _ done. at-found-done handlers held c.self.invariant.own_processes part h c.args.lp c.in-Some.place old new c.undo-result.new.outbox i.serial undo_process own.0 own.1 f same.0 same.1
+      (no-serial handlers new (undo_process f.process) i.outbox c.undo-result.new.outbox i.serial done)) (c.undo-result.ensures.done f.process f.stands))
+
+pub returns-clause-refused : goal.returns-clause-refused
+returns-clause-refused g c part s =
+    let i = c.self.inside in
+    let handlers = g.M.Model.handlers c.args.model.now in
+    let held = worker_view i.worker i.config i.processes.items i.outbox i.arrived.items i.colour i.sent i.got i.red_minimum i.floor i.serial in
+    let own = c.in-Some.ensures.own in
+    let less = place-within c.self.invariant c.args.lp c.in-Some.place i.config.some_worker own.0 own.1 own.2 in
+    let old = c.index_mut.result.now in
+    let at = index-get i.processes.items c.in-Some.place old less (sym c.index_mut.ensures.value) in
+    let h = subst (λ (v : HeldWorker _ _ _). StandsFor handlers v part) (sym c.self.view_is) s in
+    let f = found handlers held part c.args.lp old h c.self.invariant.own_processes own.1 (subst (λ k. slice_get i.processes.items k ≡ Some old) own.0 at) in
+    subst (λ (v : HeldWorker _ _ _). IfErr c.undo-result.result (λ _. local_step (simulation_of handlers v.config) v.worker (step.Undo c.args.lp) part ≡ None)) c.self.view_is
+    (if_err-more c.undo-result.result (λ _ none. refused-at handlers held part c.args.lp old undo_process own.1 f none) (c.undo-result.ensures.refused f.process f.stands))
+
+pub returns-clause-kept : goal.returns-clause-kept
+returns-clause-kept g c =
+    let i = c.self.inside in
+    let own = c.in-Some.ensures.own in
+    let less = place-within c.self.invariant c.args.lp c.in-Some.place i.config.some_worker own.0 own.1 own.2 in
+    let old = c.index_mut.result.now in
+    let new = c.undo-result.new.self in
+    let at = index-get i.processes.items c.in-Some.place old less (sym c.index_mut.ensures.value) in
+    if_err-more c.undo-result.result (λ _ kept. (kept.0,
+      (λ j. worker_view i.worker i.config (written-same i.processes.items c.in-Some.place old new at kept.1 j) (kept.2 j) i.arrived.items i.colour i.sent i.got i.red_minimum i.floor i.serial) ∙ c.self.view_is)) c.undo-result.ensures.kept

@@ -1,0 +1,112 @@
+use Rattle.std.proofs.Common.{◌≡◌, ℕ, ◌+◌, ◌<◌, ◌^◌, ◌≤◌, ◌%◌, ◌∙◌, List, map, ap, sym, subst, refl, arith, max}
+use Rattle.std.specs.List.{All}
+use prog.Memory.{up, align, size}
+use denote.Memory.{lone}
+use Rattle.vt_key.specs.declared.letter.Letter.{Letter}
+use Rattle.vt_key.specs.declared.letter.Sign.TheVariants.{Plus, Minus}
+use Rattle.vt_stream.specs.Words.{Stream}
+use Rattle.vt_model.specs.declared.sending.Sent.{Sent}
+use Rattle.vt_model.specs.declared.rows.Record.{Record}
+use Rattle.vt_model.specs.Process.{triple_at}
+use Rattle.vt_model.specs.Simulation.{simulation_of, rows_of, Triple}
+use Rattle.vt_model.proofs.LawLemmas.{lawful_of}
+use Rattle.vt_steps.specs.Letters.{unstamped, stamped, signed}
+use Rattle.vt_lp.specs.Held.{AllWithinRun, IsReady}
+use Rattle.vt_lp.proofs.Sizes.{payload_place, kept_place}
+use Rattle.vt_lp.proofs.Stamping.{letters-all, letters-within}
+use Rattle.vt_lp.proofs.Advancing.{remembers}
+use Rattle.vt_lp.proofs.executing.advance.Goals as goal
+
+pub number-requires : goal.number-requires
+number-requires g c =
+    let bounds = g.met.M.Model.payload_align in
+    let at = payload_place (align (lone g.row.M-Payload.mir)) bounds.0 bounds.1 in
+    let al = at.whole in let place = at.place in
+    let size_small : size (lone g.row.M-Payload.mir) < 2 ^ 32 = g.met.M.Model.payload_size in
+    simp al (omega (arith, place, size_small))
+
+pub sends-requires : goal.sends-requires
+sends-requires g c =
+    let bounds = g.met.M.Model.payload_align in
+    let at = payload_place (align (lone g.row.M-Payload.mir)) bounds.0 bounds.1 in
+    let al = at.whole in let place = at.place in
+    let size_small : size (lone g.row.M-Payload.mir) < 2 ^ 32 = g.met.M.Model.payload_size in
+    simp al (omega (arith, place, size_small))
+
+pub sends-requires-2 : goal.sends-requires-2
+sends-requires-2 g c =
+    let bounds = g.met.M.Model.payload_align in
+    let at = payload_place (align (lone g.row.M-Payload.mir)) bounds.0 bounds.1 in
+    let al = at.whole in let place = at.place in
+    let size_small : size (lone g.row.M-Payload.mir) < 2 ^ 32 = g.met.M.Model.payload_size in
+    simp al (omega (arith, place, size_small))
+
+pub into_records-requires : goal.into_records-requires
+into_records-requires g c =
+    let bounds = g.met.M.Model.payload_align in
+    let at = payload_place (align (lone g.row.M-Payload.mir)) bounds.0 bounds.1 in
+    let al = at.whole in let place = at.place in
+    let size_small : size (lone g.row.M-Payload.mir) < 2 ^ 32 = g.met.M.Model.payload_size in
+    simp al (omega (arith, place, size_small))
+
+pub execute-drawn-requires-after_bounds : goal.execute-drawn-requires-after_bounds
+execute-drawn-requires-after_bounds g c κs within =
+    let bounds = g.met.M.Model.payload_align in
+    let at = payload_place (align (lone g.row.M-Payload.mir)) bounds.0 bounds.1 in
+    let al = at.whole in let place = at.place in
+    let size_small : size (lone g.row.M-Payload.mir) < 2 ^ 32 = g.met.M.Model.payload_size in
+    let kept_bounds = g.met.M.Model.kept_align in
+    let kept = kept_place (align (lone g.row.M-Kept.mir)) kept_bounds.0 kept_bounds.1 in
+    let kept_al = kept.whole in let kept_at = kept.place in
+    let kept_small : size (lone g.row.M-Kept.mir) < 2 ^ 32 = g.met.M.Model.kept_size in
+    (simp (al, kept_al) (omega (arith, place, size_small, kept_at, kept_small)), (c.requires.known, (c.requires.early, (c.requires.numbered, c.requires.stream))))
+
+pub returns-clause-remembered : goal.returns-clause-remembered
+returns-clause-remembered g c ok =
+    let config = c.args.config in
+    let event = c.args.event in
+    let sim = simulation_of (g.M.Model.handlers c.args.model.now) config in
+    let p = c.args.process.now in
+    let t = triple_at p.state p.number p.stream in
+    let fired = sim.fire event.dest t (unstamped event) in
+    let sends = c.sends-2.ensures ∙ c.execute-drawn.ensures.fires.sends in
+    remembers (g.M.Model.handlers c.args.model.now) config event.dest c.owner-worker.result c.args.serial event t
+        (triple_at c.execute-drawn.new.self.state c.execute-drawn.new.self.number c.execute-drawn.new.self.stream) _
+        ((λ j. record { state = c.execute-drawn.new.self.state; number = c.execute-drawn.ensures.number j; place = c.execute-drawn.new.self.stream.place }) ∙ c.execute-drawn.ensures.fires.triple)
+        (c.execute-drawn.ensures.undoes ok) refl c.execute-drawn.ensures.in_range c.execute-drawn.ensures.few
+        (ap (λ (w : Stream). w.place) c.execute-drawn.ensures.stream)
+        (c.in-Ok.ensures.anti_messages ∙ ap (λ (xs : List (Sent _)). map (signed Minus) (stamped c.owner-worker.result c.args.serial xs)) sends)
+        (ap (λ (xs : List Record). rows_of event.rank.key xs) c.into_records.ensures ∙ c.execute-drawn.ensures.fires.rows)
+
+pub returns-clause-ready : goal.returns-clause-ready
+returns-clause-ready g c =
+    let config = c.args.config in
+    let event = c.args.event in
+    let sim = simulation_of (g.M.Model.handlers c.args.model.now) config in
+    let p = c.args.process.now in
+    let t = triple_at p.state p.number p.stream in
+    let fired = sim.fire event.dest t (unstamped event) in
+    let sends = c.sends-2.ensures ∙ c.execute-drawn.ensures.fires.sends in
+    let lawful = lawful_of (g.M.Model.handlers c.args.model.now) config (g.met.M.Model.start_within c.args.model.now) (g.met.M.Model.forward_within c.args.model.now) in
+    subst (λ (xs : List (Letter _)). All (IsReady config.lps config.end) xs)
+    (sym (c.in-Ok.ensures.anti_messages ∙ ap (λ (xs : List (Sent _)). map (signed Minus) (stamped c.owner-worker.result c.args.serial xs)) sends))
+    (letters-all (IsReady config.lps config.end) Minus c.owner-worker.result c.args.serial fired.sends
+    (λ e m. record {
+      within = record { known = lawful.known event.dest t (unstamped event) (unstamped e) c.requires.known m; soon = lawful.ends event.dest t (unstamped event) (unstamped e) c.requires.known m };
+      minus = refl;
+    }))
+
+pub returns-clause-within : goal.returns-clause-within
+returns-clause-within g c =
+    let config = c.args.config in
+    let event = c.args.event in
+    let sim = simulation_of (g.M.Model.handlers c.args.model.now) config in
+    let p = c.args.process.now in
+    let t = triple_at p.state p.number p.stream in
+    let fired = sim.fire event.dest t (unstamped event) in
+    let sends = c.sends-2.ensures ∙ c.execute-drawn.ensures.fires.sends in
+    let lawful = lawful_of (g.M.Model.handlers c.args.model.now) config (g.met.M.Model.start_within c.args.model.now) (g.met.M.Model.forward_within c.args.model.now) in
+    subst (λ (xs : List (Letter _)). AllWithinRun config xs)
+    (sym (c.in-Ok.ensures.messages ∙ ap (λ (xs : List (Sent _)). map (signed Plus) (stamped c.owner-worker.result c.args.serial xs)) sends))
+    (letters-within config.lps config.end Plus c.owner-worker.result c.args.serial fired.sends
+    (λ d m. lawful.known event.dest t (unstamped event) d c.requires.known m) (λ d m. lawful.ends event.dest t (unstamped event) d c.requires.known m))

@@ -1,0 +1,49 @@
+-- How an executed event becomes a past one, and when the last past one has to be undone.
+use Rattle.std.specs.Prelude.{ℕ, ◌≡◌, ◌+◌, ◌<◌, ◌≤◌, ◌⊎◌, length, Bool, false, not, ◌||◌, List, [], ◌∷◌, if◌then◌else◌, Option, Some, None}
+use Rattle.std.specs.List.{list_any, last_or}
+use Rattle.vt_key.specs.Order.{rank_before}
+use Rattle.vt_key.specs.declared.order.Rank.{Rank}
+use Rattle.vt_key.specs.declared.limits.TheConstants.{MAX_COUNT}
+use Rattle.vt_key.specs.declared.fault.Fault.{Fault}
+use Rattle.vt_key.specs.declared.fault.Fault.TheVariants.{Memory, Exhausted}
+use Rattle.vt_key.specs.declared.letter.Event.{Event}
+use Rattle.vt_key.specs.declared.letter.Letter.{Letter}
+use Rattle.vt_model.specs.Simulation.{Fired}
+use Rattle.vt_lp.specs.declared.entry.PastEvent.{PastEvent}
+use Rattle.vt_lp.specs.declared.executing.Trail.{Trail}
+use Rattle.vt_lp.specs.Guards.{may_come_after}
+
+-- why an event that may be executed is not: a counter would pass its limit; or none would, and memory was refused
+abbrev pub IsAdvanceRefusal : {S P : Type 0} → Fired S P → ℕ → Fault → Type 0
+IsAdvanceRefusal fired serial fault =
+    ((fault ≡ Exhausted) × ((MAX_COUNT < fired.triple.number) ⊎ (MAX_COUNT < serial + length fired.sends)))
+    ⊎ ((fault ≡ Memory) × (fired.triple.number ≤ MAX_COUNT) × (serial + length fired.sends ≤ MAX_COUNT))
+
+-- the letters force the undo of an event of this rank: a pending one is before it, or a waiting one is not after it
+abbrev pub is_forced : {P : Type 0} → List (Letter P) → List (Letter P) → Rank → Bool
+is_forced pending waiting rank =
+    list_any (λ letter. rank_before letter.event.rank rank) pending
+    || list_any (λ letter. not (rank_before rank letter.event.rank)) waiting
+
+module _ {P K : Type 0} where
+  -- the past event of this letter, which left this
+  abbrev pub past_event : Letter P → Trail P K → PastEvent P K
+  past_event letter trail = record {
+    letter = letter;
+    kept = trail.kept;
+    bits = trail.bits;
+    drawn = trail.drawn;
+    number = trail.number;
+    records = trail.records;
+    anti_messages = trail.anti_messages;
+  }
+
+  -- the event that Execute would execute, if it is lawful
+  abbrev pub ready_event : List (Letter P) → List (PastEvent P K) → Option (Event P)
+  ready_event [] past = None
+  ready_event (least ∷ rest) past = if may_come_after (last_or None past) least.event.rank then Some least.event else None
+
+  -- the last past event, if there is one, has to be undone
+  abbrev pub must_undo_last : List (Letter P) → List (Letter P) → Option (PastEvent P K) → Bool
+  must_undo_last pending waiting None = false
+  must_undo_last pending waiting (Some last) = is_forced pending waiting last.letter.event.rank

@@ -1,0 +1,114 @@
+//! Past events that are committed: their rows, and how they are forgotten.
+
+ghost use Rattle.std.specs.Prelude.{◌≡◌, ◌++◌, List, map, IfOk, IfErr};
+ghost use Rattle.vt_key.specs.declared.fault.Fault.TheVariants.{Memory};
+ghost use Rattle.vt_model.specs.declared.rows.Row.{Row};
+ghost use Rattle.vt_model.specs.Handler.{Handlers};
+ghost use Rattle.vt_model.specs.Simulation.{simulation_of, rows_of};
+ghost use Rattle.vt_steps.specs.World.{LogicalProcess};
+ghost use Rattle.vt_steps.specs.PartSteps.{ripe_rows, process_after_commit};
+ghost use Rattle.vt_lp.specs.Held.{StandsFor};
+ghost use Rattle.vt_lp.specs.Ripe.{unripe_events, rows_of_ripe};
+
+use crate::Lp;
+use crate::entry::PastEvent;
+use arrayvec::ArrayVec;
+use std::alloc::Global;
+use vt_key::{Event, Fault, Key, Time};
+use vt_list::List;
+use vt_model::{MAX_RECORDS, Model as EventModel, Record, Row};
+
+impl<M: EventModel> Lp<M> {
+    /// The past events, in the order of their execution.
+    ///
+    /// [`Fault::Memory`]: memory was refused.
+    pub fn past_events(&self, alloc: Global) -> Result<Vec<Event<M::Payload>>, Fault>
+        ensures events { IfOk result (λ v. v.items ≡ map (λ e. e.letter.event) self.now.past) }
+        ensures refused { IfErr result (λ fault. fault ≡ Memory) }
+    {
+        let mut events = Vec::new(alloc);
+        for past_event in self.past.iter() {
+            events
+                .push(past_event.letter.get().event)
+                .map_err(|_| Fault::Memory)?;
+        }
+        Ok(events)
+    }
+
+    /// The rows of the past events before the floor go behind the others, in the order of their execution: those that
+    /// [`Lp::fossil`] will commit.
+    ///
+    /// [`Fault::Memory`]: memory was refused, and the rows are as they were.
+    pub fn ripe(&self, floor: Time, rows: &mut Vec<Row>) -> Result<(), Fault>
+        ensures rows { (handlers : Handlers _ _ _) (h : LogicalProcess _) → StandsFor handlers self.now h → IfOk result (λ done. rows.new.items ≡ rows.old.items ++ ripe_rows (simulation_of handlers self.now.config) self.now.lp floor h) }
+        ensures refused { IfErr result (λ fault. (fault ≡ Memory) × (rows.new.items ≡ rows.old.items)) }
+    {
+        let others = rows.len();
+        let appended = append_ripe(&self.past, floor, rows);
+        if appended.is_err() {
+            rows.truncate(others);
+        }
+        appended
+    }
+
+    /// The past events before the floor are committed: they are forgotten. It takes no memory.
+    pub fn fossil(&mut self, floor: Time)
+        ensures committed { (handlers : Handlers _ _ _) (h : LogicalProcess _) → StandsFor handlers self.old h → StandsFor handlers self.new (process_after_commit floor h) }
+        ensures same { (self.new.lp ≡ self.old.lp) × (self.new.config ≡ self.old.config) × (self.new.triple ≡ self.old.triple) × (self.new.pending ≡ self.old.pending) × (self.new.waiting ≡ self.old.waiting) }
+    {
+        drop_ripe(&mut self.past, floor);
+    }
+}
+
+/// Drops the first past events, as many as are before the floor.
+fn drop_ripe<P: Copy, K: Copy>(past: &mut List<PastEvent<P, K>>, floor: Time)
+    ensures { past.new ≡ unripe_events floor past.old }
+{
+    while let Some(first) = past.front() {
+        if first.letter.get().event.rank.key.time >= floor {
+            break;
+        }
+        past.pop_front();
+    }
+}
+
+/// Appends the rows of the first past events, as many as are before the floor. Refused memory, some may have been appended.
+fn append_ripe<P: Copy, K: Copy>(
+    past: &List<PastEvent<P, K>>,
+    floor: Time,
+    rows: &mut Vec<Row>,
+) -> Result<(), Fault>
+    ensures rows { IfOk result (λ done. rows.new.items ≡ rows.old.items ++ rows_of_ripe floor past.now) }
+    ensures refused { IfErr result (λ fault. (fault ≡ Memory) × ((some : List Row) × (rows.new.items ≡ rows.old.items ++ some))) }
+{
+    for event in past.iter() {
+        let key = event.letter.get().event.rank.key;
+        if key.time >= floor {
+            break;
+        }
+        append_rows(key, &event.records, rows)?;
+    }
+    Ok(())
+}
+
+/// Appends the rows of an event's records. Refused memory, some may have been appended.
+fn append_rows(
+    key: Key,
+    records: &ArrayVec<Record, MAX_RECORDS>,
+    rows: &mut Vec<Row>,
+) -> Result<(), Fault>
+    ensures rows { IfOk result (λ done. rows.new.items ≡ rows.old.items ++ rows_of key records.now.items) }
+    ensures refused { IfErr result (λ fault. (fault ≡ Memory) × ((some : List Row) × (rows.new.items ≡ rows.old.items ++ some))) }
+{
+    let mut index = 0;
+    for record in records.as_slice() {
+        let row = Row {
+            key,
+            index,
+            rec: *record,
+        };
+        rows.push(row).map_err(|_| Fault::Memory)?;
+        index += 1;
+    }
+    Ok(())
+}

@@ -1,0 +1,257 @@
+//! How a process with rollback executes its least pending event.
+
+ghost use Rattle.std.specs.Prelude.{◌≡◌, ◌+◌, ◌%◌, ◌<◌, ◌≤◌, ◌⊎◌, [], ◌∷◌, ◌++◌, length, map, All, IfOk, IfErr};
+ghost use Rattle.vt_key.specs.Times.{TimeBefore};
+ghost use Rattle.vt_key.specs.declared.fault.Fault.TheVariants.{Memory, Exhausted};
+ghost use Rattle.vt_key.specs.declared.letter.Letter.{Letter};
+ghost use Rattle.vt_key.specs.declared.letter.Sign.TheVariants.{Plus, Minus};
+ghost use Rattle.vt_model.specs.Process.{triple_at, IsProcessStream};
+ghost use Rattle.vt_model.specs.Simulation.{simulation_of};
+ghost use Rattle.vt_pending.specs.Letters.{IsRising};
+ghost use Rattle.vt_steps.specs.Letters.{unstamped, stamped, signed};
+ghost use Rattle.vt_steps.specs.ProcessSteps.{execute_process};
+ghost use Rattle.vt_steps.specs.StandsFor.{IsRemembered};
+ghost use Rattle.vt_steps.specs.World.{LogicalProcess};
+ghost use Rattle.vt_lp.specs.Held.{StandsFor, AllWithinRun, IsReady, remembered};
+ghost use Rattle.vt_lp.specs.Guards.{IsDone, IsExecuteRefusal};
+ghost use Rattle.vt_lp.specs.Past.{past_event, ready_event, IsAdvanceRefusal};
+
+use crate::entry::PastEvent;
+use crate::lp::Lp;
+use crate::making::{is_counted, letters};
+use arrayvec::ArrayVec;
+use std::alloc::Global;
+use vt_key::{Event, Fault, Letter, MAX_COUNT, Sign};
+use vt_list::{List, Parcel};
+use vt_model::{Bits, Config, Executed, MAX_DRAWS, MAX_RECORDS, Model as EventModel, Process, Record, Sent};
+use vt_pending::Pending;
+
+/// What an executed event leaves for its undo and its commit.
+#[derive(Drop)]
+pub(crate) struct Trail<P: Copy, K: Copy> {
+    /// What `forward` kept.
+    pub(crate) kept: K,
+    /// The flags that `forward` set.
+    pub(crate) bits: Bits,
+    /// How many random words it drew.
+    pub(crate) drawn: u32,
+    /// The send number before it.
+    pub(crate) number: u64,
+    /// The records that it made.
+    pub(crate) records: ArrayVec<Record, MAX_RECORDS>,
+    /// The anti-messages of what it sent, in the order of the sends.
+    pub(crate) anti_messages: List<Letter<P>>,
+}
+
+impl<M: EventModel> Lp<M> {
+    /// Executes the least pending event: the model's `forward` takes the process on, the event becomes the last past one, and
+    /// what it sent below the end goes to the back of the outbox, with stamps of the process's worker from `serial` on;
+    /// `serial` is the next one afterwards.
+    ///
+    /// [`Fault::NotLawful`]: nothing is pending, or the least pending event does not come after the last past one.
+    /// [`Fault::Exhausted`]: the send number or the serial would pass 2^63. [`Fault::Memory`]: memory was refused. After each
+    /// the process, the outbox and the serial are as they were.
+    pub fn execute(
+        &mut self,
+        alloc: Global,
+        model: &M,
+        serial: &mut u64,
+        outbox: &mut List<Letter<M::Payload>>,
+    ) -> Result<(), Fault>
+        ensures done { let sim = simulation_of (M.handlers model.now) self.old.config in (h : LogicalProcess _) → StandsFor (M.handlers model.now) self.old h → IfOk result (λ _. IsDone (M.handlers model.now) self.new (execute_process sim self.old.lp (self.old.lp % self.old.config.workers) serial.old h) outbox.old outbox.new serial.old serial.new) }
+        ensures refused { let sim = simulation_of (M.handlers model.now) self.old.config in (h : LogicalProcess _) → StandsFor (M.handlers model.now) self.old h → IfErr result (λ fault. IsExecuteRefusal sim self.old.lp serial.old (execute_process sim self.old.lp (self.old.lp % self.old.config.workers) serial.old h) fault) }
+        ensures unchanged { (h : LogicalProcess _) → StandsFor (M.handlers model.now) self.old h → IfErr result (λ fault. self.new ≡ self.old) }
+        ensures kept { IfErr result (λ fault. (outbox.new ≡ outbox.old) × (serial.new ≡ serial.old)) }
+        ensures counted { IfOk result (λ _. (self.new.triple.number ≤ MAX_COUNT) × (serial.new ≤ MAX_COUNT)) }
+        ensures within { AllWithinRun self.old.config outbox.old → AllWithinRun self.old.config outbox.new }
+        ensures same { (self.new.lp ≡ self.old.lp) × (self.new.config ≡ self.old.config) }
+    {
+        let Some(event) = ready_event(&self.pending, &self.past) else {
+            return Err(Fault::NotLawful);
+        };
+        let (trail, mut messages) = match advance(&mut self.process, alloc, model, self.config, *serial, event) {
+            Ok(advanced) => advanced,
+            Err(fault) => return Err(fault),
+        };
+        let bits = trail.bits;
+        let kept = trail.kept;
+        let drawn = trail.drawn;
+        let number = trail.number;
+        if let Err(fault) = keep(alloc, &mut self.pending, &mut self.past, trail) {
+            let sent = Sent {
+                key: event.rank.key,
+                dest: event.dest,
+                payload: event.payload,
+            };
+            self.process.undo(model, sent, bits, kept, drawn, number);
+            return Err(fault);
+        }
+        *serial += messages.len() as u64;
+        outbox.append(&mut messages);
+        Ok(())
+    }
+}
+
+/// The least pending event, if it comes after the last past one.
+fn ready_event<P: Copy, K: Copy>(
+    pending: &Pending<P>,
+    past: &List<PastEvent<P, K>>,
+) -> Option<Event<P>>
+    ensures event { result ≡ ready_event pending.now past.now }
+    ensures rising { IsRising pending.now }
+{
+    let least = pending.least()?;
+    if let Some(last) = past.back() {
+        if !last.letter.get().event.rank.is_before(&least.event.rank) {
+            return None;
+        }
+    }
+    Some(least.event)
+}
+
+/// Executes an event at its receiver, and makes the messages of what it sends and the anti-messages that it leaves. Refused,
+/// the process is as it was.
+///
+/// [`Fault::Exhausted`]: the send number or the serial would pass 2^63. [`Fault::Memory`]: memory was refused.
+fn advance<M: EventModel>(
+    process: &mut Process<M>,
+    alloc: Global,
+    model: &M,
+    config: Config,
+    serial: u64,
+    event: Event<M::Payload>,
+) -> Result<(Trail<M::Payload, M::Kept>, List<Letter<M::Payload>>), Fault>
+    requires known { event.dest < config.lps }
+    requires early { TimeBefore event.rank.key.time config.end }
+    requires numbered { process.old.number ≤ MAX_COUNT }
+    requires stream { IsProcessStream config.seed event.dest process.old.stream }
+    ensures triple { let fired = (simulation_of (M.handlers model.now) config).fire event.dest (triple_at process.old.state process.old.number process.old.stream) (unstamped event) in IfOk result (λ a. triple_at process.new.state process.new.number process.new.stream ≡ fired.triple) }
+    ensures messages { let fired = (simulation_of (M.handlers model.now) config).fire event.dest (triple_at process.old.state process.old.number process.old.stream) (unstamped event) in IfOk result (λ a. a.1 ≡ map (signed Plus) (stamped (event.dest % config.workers) serial fired.sends)) }
+    ensures anti_messages { let fired = (simulation_of (M.handlers model.now) config).fire event.dest (triple_at process.old.state process.old.number process.old.stream) (unstamped event) in IfOk result (λ a. a.0.anti_messages ≡ map (signed Minus) (stamped (event.dest % config.workers) serial fired.sends)) }
+    ensures remembered { M.IsState model.now process.old.state → IfOk result (λ a. IsRemembered (simulation_of (M.handlers model.now) config) event.dest (triple_at process.old.state process.old.number process.old.stream) (remembered (M.handlers model.now) event.dest (past_event (signed Plus event) a.0))) }
+    ensures few { IfOk result (λ a. a.0.drawn ≤ MAX_DRAWS) }
+    ensures few_sends { IfOk result (λ a. a.0.number ≤ MAX_COUNT) }
+    ensures ready { IfOk result (λ a. All (IsReady config.lps config.end) a.0.anti_messages) }
+    ensures within { IfOk result (λ a. AllWithinRun config a.1) }
+    ensures counted { let fired = (simulation_of (M.handlers model.now) config).fire event.dest (triple_at process.old.state process.old.number process.old.stream) (unstamped event) in IfOk result (λ a. serial + length fired.sends ≤ MAX_COUNT) }
+    ensures numbered { process.new.number ≤ MAX_COUNT }
+    ensures stream { IsProcessStream config.seed event.dest process.new.stream }
+    ensures unchanged { M.IsState model.now process.old.state → IfErr result (λ fault. process.new ≡ process.old) }
+    ensures refused { let fired = (simulation_of (M.handlers model.now) config).fire event.dest (triple_at process.old.state process.old.number process.old.stream) (unstamped event) in IfErr result (λ fault. IsAdvanceRefusal fired serial fault) }
+{
+    let number = process.number;
+    let sent = Sent {
+        key: event.rank.key,
+        dest: event.dest,
+        payload: event.payload,
+    };
+    let Executed {
+        bits,
+        kept,
+        drawn,
+        out,
+    } = process.execute(model, config, sent);
+    if out.number() > MAX_COUNT || !is_counted(serial, out.sends()) {
+        process.undo(model, sent, bits, kept, drawn, number);
+        return Err(Fault::Exhausted);
+    }
+    let worker = config.owner(event.dest);
+    let (messages, anti_messages) = match both_letters(alloc, worker, serial, out.sends()) {
+        Ok(made) => made,
+        Err(fault) => {
+            process.undo(model, sent, bits, kept, drawn, number);
+            return Err(fault);
+        }
+    };
+    let trail = Trail {
+        kept,
+        bits,
+        drawn,
+        number,
+        records: out.into_records(),
+        anti_messages,
+    };
+    Ok((trail, messages))
+}
+
+/// The messages of these sends and the anti-messages that take them back.
+///
+/// [`Fault::Memory`]: memory was refused.
+fn both_letters<P: Copy>(
+    alloc: Global,
+    worker: u32,
+    serial: u64,
+    sends: &[Sent<P>],
+) -> Result<(List<Letter<P>>, List<Letter<P>>), Fault>
+    requires few { serial + length sends.now ≤ MAX_COUNT }
+    ensures messages { IfOk result (λ made. made.0 ≡ map (signed Plus) (stamped worker serial sends.now)) }
+    ensures anti_messages { IfOk result (λ made. made.1 ≡ map (signed Minus) (stamped worker serial sends.now)) }
+    ensures refused { IfErr result (λ fault. fault ≡ Memory) }
+{
+    let messages = match letters(alloc, Sign::Plus, worker, serial, sends) {
+        Ok(messages) => messages,
+        Err(fault) => return Err(fault),
+    };
+    let anti_messages = match letters(alloc, Sign::Minus, worker, serial, sends) {
+        Ok(anti_messages) => anti_messages,
+        Err(fault) => return Err(fault),
+    };
+    Ok((messages, anti_messages))
+}
+
+/// The least pending event becomes the last past one, with what it left. Refused, both lists are as they were.
+///
+/// [`Fault::Memory`]: memory was refused.
+fn keep<P: Copy, K: Copy>(
+    alloc: Global,
+    pending: &mut Pending<P>,
+    past: &mut List<PastEvent<P, K>>,
+    trail: Trail<P, K>,
+) -> Result<(), Fault>
+    requires some { 0 < length pending.old }
+    requires rising { IsRising pending.old }
+    ensures kept { IfOk result (λ _. (letter : Letter _) × (pending.old ≡ letter ∷ pending.new) × (past.new ≡ past.old ++ past_event letter trail ∷ [])) }
+    ensures rising { IsRising pending.new }
+    ensures unchanged { IfErr result (λ fault. (pending.new ≡ pending.old) × (past.new ≡ past.old)) }
+    ensures refused { IfErr result (λ fault. fault ≡ Memory) }
+{
+    let Some(letter) = pending.take_least() else {
+        return Err(Fault::NotLawful);
+    };
+    let Trail {
+        kept,
+        bits,
+        drawn,
+        number,
+        records,
+        anti_messages,
+    } = trail;
+    let event = PastEvent {
+        letter,
+        kept,
+        bits,
+        drawn,
+        number,
+        records,
+        anti_messages,
+    };
+    match Parcel::new(alloc, event) {
+        Ok(event) => {
+            past.push_back(event);
+            Ok(())
+        }
+        Err(event) => {
+            let PastEvent {
+                letter,
+                kept: _,
+                bits: _,
+                drawn: _,
+                number: _,
+                records: _,
+                anti_messages: _,
+            } = event;
+            pending.insert(letter);
+            Err(Fault::Memory)
+        }
+    }
+}

@@ -1,0 +1,98 @@
+//! How a process with rollback undoes its last past event.
+
+ghost use Rattle.std.specs.Prelude.{◌≡◌, suc, true, not, None, length, IfOk, IfErr};
+ghost use Rattle.std.specs.List.{last_or, list_any};
+ghost use Rattle.vt_key.specs.Order.{rank_before};
+ghost use Rattle.vt_key.specs.declared.fault.Fault.TheVariants.{NotLawful};
+ghost use Rattle.vt_pending.specs.Letters.{IsRising};
+ghost use Rattle.vt_steps.specs.ProcessSteps.{undo_process};
+ghost use Rattle.vt_steps.specs.World.{LogicalProcess};
+ghost use Rattle.vt_lp.specs.Held.{StandsFor, AllWithinRun};
+ghost use Rattle.vt_lp.specs.Guards.{IsDone};
+ghost use Rattle.vt_lp.specs.Past.{must_undo_last};
+
+use crate::entry::PastEvent;
+use crate::lp::Lp;
+use vt_key::{Fault, Letter, Rank};
+use vt_list::List;
+use vt_model::{Model as EventModel, Sent};
+use vt_pending::Pending;
+
+impl<M: EventModel> Lp<M> {
+    /// Undoes the last past event: the state goes back by the model's `reverse`, the send number and the drawn words are given
+    /// back, the event is pending again, and the anti-messages of what it sent, made when it was executed, go to the back of
+    /// the outbox. It takes no memory.
+    ///
+    /// [`Fault::NotLawful`]: there is no past event, or no letter forces the last one's undo: no pending one is before it, and
+    /// every waiting one is after it. All is as it was then.
+    pub fn undo(&mut self, model: &M, outbox: &mut List<Letter<M::Payload>>) -> Result<(), Fault>
+        ensures done { (h : LogicalProcess _) → StandsFor (M.handlers model.now) self.old h → IfOk result (λ _. IsDone (M.handlers model.now) self.new (undo_process h) outbox.old outbox.new 0 0) }
+        ensures refused { (h : LogicalProcess _) → StandsFor (M.handlers model.now) self.old h → IfErr result (λ fault. undo_process h ≡ None) }
+        ensures kept { IfErr result (λ fault. (fault ≡ NotLawful) × (self.new ≡ self.old) × (outbox.new ≡ outbox.old)) }
+        ensures within { AllWithinRun self.old.config outbox.old → AllWithinRun self.old.config outbox.new }
+        ensures same { (self.new.lp ≡ self.old.lp) × (self.new.config ≡ self.old.config) }
+        ensures shorter { IfOk result (λ _. (suc (length self.new.past) ≡ length self.old.past) × (length self.new.pending ≡ suc (length self.old.pending)) × (self.new.waiting ≡ self.old.waiting)) }
+    {
+        if !must_undo_last(&self.pending, &self.waiting, &self.past) {
+            return Err(Fault::NotLawful);
+        }
+        let Some(last) = self.past.pop_back() else {
+            return Err(Fault::NotLawful);
+        };
+        let PastEvent {
+            letter,
+            kept,
+            bits,
+            drawn,
+            number,
+            records: _,
+            mut anti_messages,
+        } = last.into_value();
+        let event = letter.get().event;
+        let sent = Sent {
+            key: event.rank.key,
+            dest: event.dest,
+            payload: event.payload,
+        };
+        self.process.undo(model, sent, bits, kept, drawn, number);
+        outbox.append(&mut anti_messages);
+        self.pending.insert(letter);
+        Ok(())
+    }
+}
+
+/// Whether there is a past event and a letter forces the undo of the last one. Letters lie in rising rank, so it looks at the
+/// least ones alone.
+fn must_undo_last<P: Copy, K: Copy>(
+    pending: &Pending<P>,
+    waiting: &Pending<P>,
+    past: &List<PastEvent<P, K>>,
+) -> bool
+    ensures { result ≡ must_undo_last pending.now waiting.now (last_or None past.now) }
+{
+    let Some(last) = past.back() else {
+        return false;
+    };
+    let rank = last.letter.get().event.rank;
+    has_before(pending, rank) || has_not_after(waiting, rank)
+}
+
+/// Whether some letter is before this rank.
+fn has_before<P: Copy>(letters: &Pending<P>, rank: Rank) -> bool
+    ensures { result ≡ list_any (λ letter. rank_before letter.event.rank rank) letters.now }
+{
+    match letters.least() {
+        Some(least) => least.event.rank.is_before(&rank),
+        None => false,
+    }
+}
+
+/// Whether some letter is not after this rank.
+fn has_not_after<P: Copy>(letters: &Pending<P>, rank: Rank) -> bool
+    ensures { result ≡ list_any (λ letter. not (rank_before rank letter.event.rank)) letters.now }
+{
+    match letters.least() {
+        Some(least) => !rank.is_before(&least.event.rank),
+        None => false,
+    }
+}
