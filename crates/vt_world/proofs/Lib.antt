@@ -6,3 +6,5 @@ pub mod ReachedLemmas
 pub mod StepLemmas
 pub mod Places
 pub mod Refusals
+pub mod ReportLemmas
+pub mod LocalLemmas

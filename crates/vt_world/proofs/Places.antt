@@ -35,6 +35,10 @@ put-there [] i x y h = absurd (let k : None ≡ Some x = h in cc)
 put-there (z ∷ zs) zero x y h = refl
 put-there (z ∷ zs) (suc i) x y h = put-there zs i x y h
 
+-- what is there is one
+pub same-there : {X : Type 0} (xs : List X) (i : ℕ) (x y : X) → slice_get xs i ≡ Some x → slice_get xs i ≡ Some y → x ≡ y
+same-there xs i x y h k = let e : Some x ≡ Some y = sym h ∙ k in let same : x ≡ y = cc in same
+
 -- below the length there is an item
 pub some-at : {X : Type 0} (xs : List X) (i : ℕ) → i < length xs → (x : X) × (slice_get xs i ≡ Some x)
 some-at [] i h = absurd (omega (arith, h))

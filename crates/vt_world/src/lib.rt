@@ -5,6 +5,7 @@
 mod committing;
 mod cutting;
 mod inbox;
+mod local;
 mod sending;
 mod world;
 
