@@ -8,3 +8,4 @@ pub mod Places
 pub mod Refusals
 pub mod ReportLemmas
 pub mod LocalLemmas
+pub mod CommitLemmas
