@@ -1,3 +1,4 @@
+pub mod CommitLemmas
 pub mod EmptyLemmas
 pub mod InsideLemmas
 pub mod LeastLemmas

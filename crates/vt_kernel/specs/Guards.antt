@@ -14,9 +14,9 @@ use Rattle.vt_model.specs.Simulation.{Simulation}
 use Rattle.vt_steps.specs.declared.step.Step.{Step}
 use Rattle.vt_steps.specs.Letters.{count_of}
 use Rattle.vt_steps.specs.World.{LogicalProcess, Part}
-use Rattle.vt_steps.specs.PartSteps.{letters_for}
+use Rattle.vt_steps.specs.PartSteps.{letters_for, process_after_commit}
 use Rattle.vt_steps.specs.Next.{may_send}
-use Rattle.vt_lp.specs.Held.{HeldProcess}
+use Rattle.vt_lp.specs.Held.{HeldProcess, StandsFor as ProcessStandsFor}
 use Rattle.vt_lp.specs.Guards.{number_of}
 use Rattle.vt_kernel.specs.Held.{HeldWorker, StandsFor}
 use Rattle.vt_kernel.specs.Local.{local_steps, IsSettled, AreSettling}
@@ -71,3 +71,12 @@ abbrev pub held_letters : {S P K : Type 0} → HeldWorker S P K → List (Letter
 held_letters held =
     held.outbox ++ map (λ mail. mail.letter) held.arrived
     ++ flat_map (λ process. process.pending ++ process.waiting) held.processes
+
+-- a process after it committed below a floor: whatever process it stood for, it stands for the one after; what is pending or
+-- waits there stays
+pub record IsForgotten {S P K : Type 0} (floor : Time) (old new : HeldProcess S P K) : Type 0 where
+  pub committed : (handlers : Handlers S P K) (process : LogicalProcess P) → ProcessStandsFor handlers old process → ProcessStandsFor handlers new (process_after_commit floor process)
+  pub lp : new.lp ≡ old.lp
+  pub config : new.config ≡ old.config
+  pub pending : new.pending ≡ old.pending
+  pub waiting : new.waiting ≡ old.waiting

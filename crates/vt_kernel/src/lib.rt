@@ -4,6 +4,7 @@
 //! thread) rests on the same contracts.
 #![tactic(auto)]
 
+mod committing;
 mod counts;
 mod cutting;
 mod fetching;

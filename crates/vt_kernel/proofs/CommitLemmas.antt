@@ -1,0 +1,197 @@
+-- A worker's processes after they committed, and the rows of what they commit.
+use Rattle.std.proofs.Common.{◌≡◌, ◌∙◌, ℕ, zero, suc, ◌+◌, ◌*◌, ◌<◌, ◌≤◌, List, [], ◌∷◌, ◌++◌, map, take, length, slice_index_or, refl, sym, ap, subst, arith, Option, Some, slice_get}
+use Rattle.std.specs.List.{All}
+use Rattle.std.proofs.lemmas.List.{append-nil, append_assoc, take_more, length-take}
+use Rattle.std.proofs.lemmas.Option.{get_or_from_slice_get, slice_get_within}
+use Rattle.vt_key.specs.Times.{Time}
+use Rattle.vt_key.specs.declared.order.Rank.{Rank}
+use Rattle.vt_key.specs.declared.letter.Letter.{Letter}
+use Rattle.vt_key.specs.declared.letter.Mail.{Mail}
+use Rattle.vt_model.specs.declared.rows.Row.{Row}
+use Rattle.vt_model.specs.declared.settings.Config.{Config}
+use Rattle.vt_model.specs.Handler.{Handlers}
+use Rattle.vt_model.specs.Simulation.{Simulation, simulation_of}
+use Rattle.vt_steps.specs.Letters.{Counts}
+use Rattle.vt_steps.specs.World.{LogicalProcess, Part, process_at}
+use Rattle.vt_steps.specs.PartSteps.{process_after_commit, part_after_commit, ripe_rows, rows_of_processes}
+use Rattle.vt_steps.specs.StandsFor.{StandsForProcess, StandForProcesses}
+use Rattle.vt_lp.specs.Held.{HeldProcess, process_memory, StandsFor as ProcessStandsFor}
+use Rattle.vt_kernel.specs.Held.{HeldWorker, StandsFor, AreProcesses, TellsLeast, IsWorkerInside, entries_of, earliest_of, ready_of}
+use Rattle.vt_kernel.specs.Guards.{IsForgotten}
+use Rattle.vt_kernel.proofs.PartLemmas.{stands_along}
+use Rattle.vt_kernel.proofs.ProcessLemmas.{get-map_of, stands-at, process-at}
+
+module _ {S P K : Type 0} (floor : Time) where
+  -- each process of the one list is forgotten to that of the other
+  abbrev pub AllForgotten : List (HeldProcess S P K) → List (HeldProcess S P K) → Type 0
+  AllForgotten [] [] = Unit {0}
+  AllForgotten (x ∷ xs) (y ∷ ys) = IsForgotten floor x y × AllForgotten xs ys
+  AllForgotten _ _ = ⊥
+
+  pub forgotten-each : (xs ys : List (HeldProcess S P K)) → length ys ≡ length xs
+      → ((k : ℕ) (d : HeldProcess S P K) → k < length xs → IsForgotten floor (slice_index_or xs k d) (slice_index_or ys k d)) → AllForgotten xs ys
+  forgotten-each [] [] long each = tt
+  forgotten-each [] (y ∷ ys) long each = absurd (omega arith)
+  forgotten-each (x ∷ xs) [] long each = absurd (omega arith)
+  forgotten-each (x ∷ xs) (y ∷ ys) long each =
+      (each 0 x (omega arith), forgotten-each xs ys (omega arith) (λ k d within. each (suc k) d (omega arith)))
+
+  pub are-forgotten : (config : Config) (w base : ℕ) (xs ys : List (HeldProcess S P K)) → AllForgotten xs ys → AreProcesses config w base xs → AreProcesses config w base ys
+  are-forgotten config w base [] [] f h = tt
+  are-forgotten config w base [] (y ∷ ys) f h = absurd f
+  are-forgotten config w base (x ∷ xs) [] f h = absurd f
+  are-forgotten config w base (x ∷ xs) (y ∷ ys) f h = (f.0.lp ∙ h.0, f.0.config ∙ h.1, are-forgotten config w (base + 1) xs ys f.1 h.2)
+
+  earliest-one : (x y : HeldProcess S P K) → IsForgotten floor x y → earliest_of y ≡ earliest_of x
+  earliest-one x y f = (λ j. earliest_of (record x { pending = f.pending j; waiting = f.waiting j }))
+
+  earliest-map : (xs ys : List (HeldProcess S P K)) → AllForgotten xs ys → map earliest_of ys ≡ map earliest_of xs
+  earliest-map [] [] f = refl
+  earliest-map [] (y ∷ ys) f = absurd f
+  earliest-map (x ∷ xs) [] f = absurd f
+  earliest-map (x ∷ xs) (y ∷ ys) f = (λ j. earliest-one x y f.0 j ∷ earliest-map xs ys f.1 j)
+
+  pub earliest-forgotten : (xs ys : List (HeldProcess S P K)) → AllForgotten xs ys → entries_of earliest_of ys ≡ entries_of earliest_of xs
+  earliest-forgotten [] [] f = refl
+  earliest-forgotten [] (y ∷ ys) f = absurd f
+  earliest-forgotten (x ∷ xs) [] f = absurd f
+  earliest-forgotten (x ∷ xs) (y ∷ ys) f = earliest-map (x ∷ xs) (y ∷ ys) f
+
+  pub least-forgotten : (x y : HeldProcess S P K) → IsForgotten floor x y → TellsLeast x → TellsLeast y
+  least-forgotten x y f h =
+      subst TellsLeast (λ j. record {
+        lp = y.lp;
+        config = sym f.config j;
+        triple = y.triple;
+        past = y.past;
+        pending = sym f.pending j;
+        waiting = sym f.waiting j;
+      }) h
+
+  pub stand-forgotten : (handlers : Handlers S P K) (config : Config) (w base : ℕ) (xs ys : List (HeldProcess S P K)) (processes : List (LogicalProcess P))
+      → AllForgotten xs ys → AreProcesses config w base xs
+      → StandForProcesses (simulation_of handlers config) w base (map (process_memory handlers) xs) processes
+      → StandForProcesses (simulation_of handlers config) w base (map (process_memory handlers) ys) (map (process_after_commit floor) processes)
+  stand-forgotten handlers config w base [] [] [] f h s = tt
+  stand-forgotten handlers config w base [] [] (q ∷ qs) f h s = absurd s
+  stand-forgotten handlers config w base [] (y ∷ ys) processes f h s = absurd f
+  stand-forgotten handlers config w base (x ∷ xs) [] processes f h s = absurd f
+  stand-forgotten handlers config w base (x ∷ xs) (y ∷ ys) [] f h s = absurd s
+  stand-forgotten handlers config w base (x ∷ xs) (y ∷ ys) (q ∷ qs) f h s =
+      let mine : ProcessStandsFor handlers x q =
+          subst (λ (c : Config). StandsForProcess (simulation_of handlers c) x.lp (process_memory handlers x) q) (sym h.1)
+          (subst (λ (p : ℕ). StandsForProcess (simulation_of handlers config) p (process_memory handlers x) q) (sym h.0) s.0) in
+      let after : ProcessStandsFor handlers y (process_after_commit floor q) = f.0.committed handlers q mine in
+      (subst (λ (p : ℕ). StandsForProcess (simulation_of handlers config) p (process_memory handlers y) (process_after_commit floor q)) (f.0.lp ∙ h.0)
+       (subst (λ (c : Config). StandsForProcess (simulation_of handlers c) y.lp (process_memory handlers y) (process_after_commit floor q)) (f.0.config ∙ h.1) after),
+       stand-forgotten handlers config w (base + 1) xs ys qs f.1 h.2 s.1)
+
+module _ {S P K : Type 0} where
+  pub stands-commit : {held now : HeldWorker S P K} → held ≡ now → (handlers : Handlers S P K) (part : Part P) → StandsFor handlers now part →
+      AreProcesses held.config held.worker 0 held.processes → (ys : List (HeldProcess S P K)) → AllForgotten held.floor held.processes ys →
+      StandsFor handlers (record held { processes = ys }) (part_after_commit part)
+  unfolding part_after_commit
+  stands-commit {held} e handlers part s are ys f =
+      let h : StandsFor handlers held part = stands_along e handlers part s in
+      record {
+        processes = subst (λ (t : Time). StandForProcesses (simulation_of handlers held.config) held.worker 0 (map (process_memory handlers) ys) (map (process_after_commit t) part.processes)) (sym h.floor)
+          (stand-forgotten held.floor handlers held.config held.worker 0 held.processes ys part.processes f are h.processes);
+        outbox = h.outbox;
+        arrived = h.arrived;
+        colour = h.colour;
+        sent = h.sent;
+        got = h.got;
+        red_minimum = h.red_minimum;
+        floor = h.floor;
+        serial = h.serial;
+      }
+
+  -- how the fields of a worker go together then
+  pub inside-commit : {config : Config} {w : ℕ} {xs : List (HeldProcess S P K)} {outbox : List (Letter P)} {arrived : List (Mail P)} {sent got : Counts} {serial : ℕ} {ready earliest : List (Option Rank)} →
+      (floor : Time) (ys : List (HeldProcess S P K)) (entered : List (Option Rank)) → length ys ≡ length xs →
+      ((k : ℕ) (d : HeldProcess S P K) → k < length xs → IsForgotten floor (slice_index_or xs k d) (slice_index_or ys k d)) →
+      entered ≡ entries_of ready_of ys →
+      IsWorkerInside config w xs outbox arrived sent got serial ready earliest →
+      IsWorkerInside config w ys outbox arrived sent got serial entered earliest
+  inside-commit {config} {w} {xs} floor ys entered long each is h =
+      let all : AllForgotten floor xs ys = forgotten-each floor xs ys long each in
+      record {
+        known = h.known;
+        all_there = long ∙ h.all_there;
+        own_processes = are-forgotten floor config w 0 xs ys all h.own_processes;
+        sendable = h.sendable;
+        own_mail = h.own_mail;
+        few_sent = h.few_sent;
+        few_got = h.few_got;
+        few_made = h.few_made;
+        ready_entered = is;
+        earliest_entered = h.earliest_entered ∙ sym (earliest-forgotten floor xs ys all);
+        least_told = λ k d within. let inside : k < length xs = omega arith in least-forgotten floor (slice_index_or xs k d) (slice_index_or ys k d) (each k d inside) (h.least_told k d inside);
+      }
+
+-- ---- rows
+
+module _ {S P : Type 0} (sim : Simulation S P) (w : ℕ) (floor : Time) where
+  pub rows-more : (base : ℕ) (qs : List (LogicalProcess P)) (q : LogicalProcess P) →
+      rows_of_processes sim w floor base (qs ++ q ∷ []) ≡ rows_of_processes sim w floor base qs ++ ripe_rows sim (process_at sim w (base + length qs)) floor q
+  rows-more base [] q =
+      let here : base ≡ base + 0 = omega arith in
+      append-nil (ripe_rows sim (process_at sim w base) floor q) ∙ ap (λ (n : ℕ). ripe_rows sim (process_at sim w n) floor q) here
+  rows-more base (x ∷ xs) q =
+      let here : (base + 1) + length xs ≡ base + length (x ∷ xs) = omega arith in
+      let first = ripe_rows sim (process_at sim w base) floor x in
+      ap (λ (rs : List Row). first ++ rs) (rows-more (base + 1) xs q)
+      ∙ sym (append_assoc first (rows_of_processes sim w floor (base + 1) xs) (ripe_rows sim (process_at sim w ((base + 1) + length xs)) floor q))
+      ∙ ap (λ (n : ℕ). (first ++ rows_of_processes sim w floor (base + 1) xs) ++ ripe_rows sim (process_at sim w n) floor q) here
+
+module _ {S P K : Type 0} (handlers : Handlers S P K) where
+  pub same-length : (sim : Simulation S P) (w base : ℕ) (held : List (HeldProcess S P K)) (processes : List (LogicalProcess P)) →
+      StandForProcesses sim w base (map (process_memory handlers) held) processes → length processes ≡ length held
+  same-length sim w base [] [] h = refl
+  same-length sim w base [] (q ∷ qs) h = absurd h
+  same-length sim w base (x ∷ xs) [] h = absurd h
+  same-length sim w base (x ∷ xs) (q ∷ qs) h = ap suc (same-length sim w (base + 1) xs qs h.1)
+
+  -- the process of a part that a worker's process stands for
+  pub record IsStoodFor (held : HeldWorker S P K) (part : Part P) (place : ℕ) (q : HeldProcess S P K) : Type 0 where
+    pub process : LogicalProcess P
+    pub there : slice_get part.processes place ≡ Some process
+    pub stands : ProcessStandsFor handlers q process
+    pub lp : q.lp ≡ process_at (simulation_of handlers held.config) held.worker place
+    pub config : q.config ≡ held.config
+
+  pub stood_for : (held : HeldWorker S P K) (part : Part P) (place : ℕ) (q : HeldProcess S P K) → StandsFor handlers held part →
+      AreProcesses held.config held.worker 0 held.processes → slice_get held.processes place ≡ Some q → IsStoodFor held part place q
+  stood_for held part place q s are at =
+      let sim = simulation_of handlers held.config in
+      let here = stands-at sim held.worker 0 place (map (process_memory handlers) held.processes) part.processes (process_memory handlers q) s.processes (get-map_of (process_memory handlers) held.processes place q at) in
+      let who = process-at held.config held.worker 0 place held.processes q are at in
+      let plain : 0 + place ≡ place = omega arith in
+      let stands : StandsForProcess sim q.lp (process_memory handlers q) here.0 = subst (λ (k : ℕ). StandsForProcess sim k (process_memory handlers q) here.0) (sym who.0) here.2 in
+      record {
+        process = here.0;
+        there = here.1;
+        stands = subst (λ (c : Config). StandsForProcess (simulation_of handlers c) q.lp (process_memory handlers q) here.0) (sym who.1) stands;
+        lp = who.0 ∙ ap (λ (k : ℕ). k * held.config.workers + held.worker) plain;
+        config = who.1;
+      }
+
+  -- the rows of one process more
+  pub rows-next : (held : HeldWorker S P K) (part : Part P) (place : ℕ) (q : HeldProcess S P K) (rows more : List Row) → StandsFor handlers held part →
+      AreProcesses held.config held.worker 0 held.processes → slice_get held.processes place ≡ Some q →
+      rows ≡ rows_of_processes (simulation_of handlers held.config) held.worker held.floor 0 (take place part.processes) →
+      ((h : LogicalProcess P) → ProcessStandsFor handlers q h → more ≡ rows ++ ripe_rows (simulation_of handlers q.config) q.lp held.floor h) →
+      more ≡ rows_of_processes (simulation_of handlers held.config) held.worker held.floor 0 (take (place + 1) part.processes)
+  rows-next held part place q rows more s are at so_far ripe =
+      let sim = simulation_of handlers held.config in
+      let found = stood_for held part place q s are at in
+      let p = found.process in
+      let within : place < length part.processes = slice_get_within part.processes place p found.there in
+      let longer : take (place + 1) part.processes ≡ take place part.processes ++ p ∷ [] =
+          take_more part.processes place p within ∙ ap (λ (x : LogicalProcess P). take place part.processes ++ x ∷ []) (get_or_from_slice_get part.processes place p p found.there) in
+      let long : 0 + length (take place part.processes) ≡ place = simp length-take (omega (arith, within)) in
+      ripe p found.stands
+      ∙ (λ j. so_far j ++ ripe_rows (simulation_of handlers (found.config j)) (found.lp j) held.floor p)
+      ∙ ap (λ (n : ℕ). rows_of_processes sim held.worker held.floor 0 (take place part.processes) ++ ripe_rows sim (process_at sim held.worker n) held.floor p) (sym long)
+      ∙ sym (rows-more sim held.worker held.floor 0 (take place part.processes) p)
+      ∙ ap (rows_of_processes sim held.worker held.floor 0) (sym longer)

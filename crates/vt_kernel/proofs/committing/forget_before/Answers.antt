@@ -1,0 +1,39 @@
+use Rattle.std.proofs.Common.{rules, ◌≡◌, ◌≢◌, ◌∙◌, ℕ, ◌<◌, ◌≤◌, ◌+◌, length, slice_index_or, slice_set, sym, subst, arith, below_more}
+use Rattle.std.proofs.lemmas.List.{length-set, get_or_default, get_or-set_same, get_or-set_other}
+use Rattle.vt_lp.specs.Held.{HeldProcess}
+use Rattle.vt_kernel.specs.Held.{entries_of, ready_of}
+use Rattle.vt_kernel.specs.Guards.{IsForgotten}
+use Rattle.vt_kernel.proofs.ProcessLemmas.{entered-changed}
+use Rattle.vt_kernel.proofs.committing.forget_before.Goals as goal
+
+pub loop-place-preserved : goal.loop-place-preserved
+loop-place-preserved g c =
+    let inv = c.loop-place.invariant in
+    let i = c.loop-place.place in
+    let old = c.args.processes.now.items in
+    let now = c.loop-place.processes.items in
+    let q : HeldProcess _ _ _ = c.fossil.new.self in
+    let was : HeldProcess _ _ _ = c.index_mut-process.result.now in
+    let floor = c.args.floor in
+    let len : length old ≡ c.len-place-end.result = search (rules, c.len-place-end.ensures) in
+    let inside : i < length old = omega (arith, len, c.loop-place-test.true) in
+    let within : i < length now = omega (arith, inside, inv.count) in
+    let same = c.fossil.ensures.same in
+    let one : IsForgotten floor was q = record {
+      committed = c.fossil.ensures.committed;
+      lp = same.0;
+      config = same.1;
+      pending = same.3;
+      waiting = same.4;
+    } in
+    let before : (d : HeldProcess _ _ _) → was ≡ slice_index_or old i d =
+        λ d. c.index_mut-process.ensures.value ∙ inv.left i was (omega arith) ∙ get_or_default old i was d inside in
+    record {
+      count = length-set now i q ∙ inv.count;
+      forgotten = λ k d less. below_more (λ (n : ℕ). IsForgotten floor (slice_index_or old n d) (slice_index_or (slice_set now i q) n d)) i
+        (λ n below. let other : n ≢ i = omega arith in subst (IsForgotten floor (slice_index_or old n d)) (sym (get_or-set_other now i n q d other)) (inv.forgotten n d below))
+        (subst (IsForgotten floor (slice_index_or old i d)) (sym (get_or-set_same now i q d within)) (subst (λ (x : HeldProcess _ _ _). IsForgotten floor x q) (before d) one))
+        k less;
+      left = λ k d more. let other : k ≢ i = omega arith in get_or-set_other now i k q d other ∙ inv.left k d (omega arith);
+      entered = c.set.ensures ∙ (λ j. slice_set (inv.entered j) i (c.ready.ensures j)) ∙ sym (entered-changed ready_of now i q within);
+    }

@@ -1,0 +1,56 @@
+//! What a worker commits.
+
+ghost use Rattle.std.specs.Prelude.{◌≡◌, ℕ, ◌<◌, ◌≤◌, ◌^◌, length, slice_index_or, IfOk, IfErr};
+ghost use Rattle.vt_key.specs.declared.fault.Fault.TheVariants.{Memory};
+ghost use Rattle.vt_model.specs.Handler.{Handlers};
+ghost use Rattle.vt_model.specs.Simulation.{simulation_of};
+ghost use Rattle.vt_steps.specs.World.{Part};
+ghost use Rattle.vt_steps.specs.PartSteps.{part_after_commit, rows_of_commit};
+ghost use Rattle.vt_kernel.specs.Held.{StandsFor, entries_of, ready_of};
+ghost use Rattle.vt_kernel.specs.Guards.{IsForgotten};
+
+use crate::kernel::Kernel;
+use std::alloc::Global;
+use vt_key::{Fault, Time};
+use vt_lp::Lp;
+use vt_model::{Model as EventModel, Row};
+use vt_tournament::Tournament;
+
+impl<M: EventModel> Kernel<M> {
+    /// The rows of the past events before the worker's floor: process after process, and for each in the order of its execution.
+    ///
+    /// [`Fault::Memory`]: memory was refused.
+    pub fn rows(&self, alloc: Global) -> Result<Vec<Row>, Fault>
+        ensures rows { (handlers : Handlers _ _ _) (part : Part _) → StandsFor handlers self.now part → IfOk result (λ v. v.items ≡ rows_of_commit (simulation_of handlers self.now.config) self.now.worker part) }
+        ensures refused { IfErr result (λ fault. fault ≡ Memory) }
+    {
+        let mut rows = Vec::new(alloc);
+        for process in &self.processes {
+            process.ripe(self.floor, &mut rows)?;
+        }
+        Ok(rows)
+    }
+
+    /// The past events before the worker's floor are committed: they are forgotten. It takes no memory.
+    pub fn fossil(&mut self)
+        ensures stands { (handlers : Handlers _ _ _) (part : Part _) → StandsFor handlers self.old part → StandsFor handlers self.new (part_after_commit part) }
+        ensures others { self.new ≡ record self.old { processes = self.new.processes } }
+    {
+        forget_before(&mut self.processes, &mut self.ready, self.floor);
+    }
+}
+
+/// Each process forgets its past events before the floor, and enters anew whether it may execute.
+fn forget_before<M: EventModel>(processes: &mut Vec<Lp<M>>, ready: &mut Tournament, floor: Time)
+    requires few { length processes.old.items < 2 ^ 32 }
+    requires entered { ready.old ≡ entries_of ready_of processes.old.items }
+    ensures count { length processes.new.items ≡ length processes.old.items }
+    ensures forgotten { (k : ℕ) (d : _) → k < length processes.old.items → IsForgotten floor (slice_index_or processes.old.items k d) (slice_index_or processes.new.items k d) }
+    ensures entered { ready.new ≡ entries_of ready_of processes.new.items }
+{
+    for place in 0..processes.len() {
+        let process = &mut processes[place];
+        process.fossil(floor);
+        ready.set(place as u32, process.ready());
+    }
+}
