@@ -12,3 +12,4 @@ pub mod SendLemmas
 pub mod Settling
 pub mod TimeLemmas
 pub mod LocalLemmas
+pub mod DeliveryLemmas

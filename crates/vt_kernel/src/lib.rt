@@ -7,6 +7,7 @@
 mod committing;
 mod counts;
 mod cutting;
+mod delivering;
 mod fetching;
 mod kernel;
 mod local;

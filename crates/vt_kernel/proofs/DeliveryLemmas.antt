@@ -1,0 +1,194 @@
+-- Home and Accept: a letter leaves the outbox or the mail that has arrived, and reaches its process.
+use Rattle.std.proofs.Common.{◌≡◌, ℕ, zero, suc, ◌+◌, ◌-◌, ◌*◌, ◌/◌, ◌%◌, ◌<◌, ◌≤◌, inl, inr, Bool, true, false, cond, ◌||◌, nat_eq, List, [], ◌∷◌, ◌++◌, map, length, refl, sym, ◌∙◌, ap, subst, arith, Option, Some, None, slice_get, slice_set, if◌then◌else◌}
+use Rattle.std.specs.List.{All, find, remove, list_any}
+use Rattle.vt_key.specs.Order.{rank_same}
+use Rattle.vt_key.specs.declared.letter.Sign.{Sign}
+use Rattle.vt_key.specs.declared.letter.Sign.TheVariants.{Plus, Minus}
+use Rattle.vt_steps.specs.StandsFor.{entry_of}
+use Rattle.vt_lp.specs.declared.entry.PastEvent.{PastEvent}
+use Rattle.std.proofs.lemmas.List.Elements.{All-cons, All-head, All-tail}
+use Rattle.std.proofs.lemmas.Bool.Decides.{eqb_tells}
+use Rattle.vt_key.specs.declared.order.Rank.{Rank}
+use Rattle.vt_key.specs.declared.letter.Letter.{Letter}
+use Rattle.vt_key.specs.declared.letter.Mail.{Mail}
+use Rattle.vt_list.specs.First.{without_first as list_without_first}
+use Rattle.vt_model.specs.declared.settings.Config.{Config}
+use Rattle.vt_model.specs.Handler.{Handlers}
+use Rattle.vt_model.specs.Simulation.{Simulation, simulation_of}
+use Rattle.vt_steps.specs.declared.step.Step.TheVariants as step
+use Rattle.vt_steps.specs.Letters.{without_first, has_rank, Counts}
+use Rattle.vt_steps.specs.World.{Entry, LogicalProcess, Part}
+use Rattle.vt_steps.specs.ProcessSteps.{ProcessEffect, holds, with_letter, accept_process}
+use Rattle.vt_steps.specs.PartSteps.{at_process, is_for, home, home_letter, accept, accept_mail}
+use Rattle.vt_lp.specs.Held.{HeldProcess, remembered, IsWithinRun, StandsFor as ProcessStandsFor}
+use Rattle.vt_lp.specs.Guards.{holds_letter, IsDone as ProcessIsDone}
+use Rattle.vt_kernel.specs.Held.{HeldWorker, StandsFor, AreProcesses, IsWorkerInside}
+use Rattle.vt_kernel.specs.Local.{at_own, local_step}
+use Rattle.vt_kernel.specs.Guards.{IsDone}
+use Rattle.vt_kernel.proofs.OwnSteps.{own, found, refused-at, IsFound}
+use Rattle.vt_kernel.proofs.LocalLemmas.{at-found-done, plain-done}
+
+-- the two ways to leave out the first that passes are one
+pub without-same : {X : Type 0} (test : X → Bool) (xs : List X) → list_without_first test xs ≡ without_first test xs
+without-same test [] = refl
+without-same test (x ∷ xs) = ap (λ ys. if test x then xs else x ∷ ys) (without-same test xs)
+
+-- what is found passes the test
+pub find-passes : {X : Type 0} (test : X → Bool) (xs : List X) (x : X) → find test xs ≡ Some x → test x ≡ true
+find-passes test [] x is = absurd (let k : None ≡ Some x = is in cc)
+find-passes test (y ∷ ys) x is =
+    elim (test y) as (λ b. test y ≡ b → (cond b (Some y) (find test ys)) ≡ Some x → test x ≡ true) [
+      | true ↦ λ passes e. (let same : y ≡ x = cc in subst (λ z. test z ≡ true) same passes)
+      | false ↦ λ fails e. find-passes test ys x e
+    ] refl is
+
+-- and has what all have
+pub find-all : {X : Type 0} (Q : X → Type 0) (test : X → Bool) (xs : List X) (x : X) → All Q xs → find test xs ≡ Some x → Q x
+find-all Q test [] x h is = absurd (let k : None ≡ Some x = is in cc)
+find-all Q test (y ∷ ys) x h is =
+    elim (test y) as (λ b. (cond b (Some y) (find test ys)) ≡ Some x → Q x) [
+      | true ↦ λ e. (let same : y ≡ x = cc in subst Q same (All-head Q y ys h))
+      | false ↦ λ e. find-all Q test ys x (All-tail Q y ys h) e
+    ] is
+
+-- those that are left have it too
+pub without-all : {X : Type 0} (Q : X → Type 0) (test : X → Bool) (xs : List X) → All Q xs → All Q (list_without_first test xs)
+without-all Q test [] h = h
+without-all Q test (y ∷ ys) h =
+    elim (test y) as (λ b. All Q (cond b ys (y ∷ list_without_first test ys))) [
+      | true ↦ All-tail Q y ys h
+      | false ↦ All-cons Q y (list_without_first test ys) (All-head Q y ys h) (without-all Q test ys (All-tail Q y ys h))
+    ]
+
+-- a letter for this worker, by the test
+pub for-worker : (workers w dest : ℕ) → nat_eq (dest % workers) w ≡ true → dest % workers ≡ w
+for-worker workers w dest is = elim (eqb_tells (dest % workers) w) [ inl e ↦ e.1 | inr e ↦ absurd (let k : true ≡ false = sym is ∙ e.0 in cc) ]
+
+-- a worker is itself
+same-worker : (w : ℕ) → nat_eq w w ≡ true
+same-worker w = elim (eqb_tells w w) [ inl e ↦ e.0 | inr e ↦ absurd (e.1 refl) ]
+
+module _ {S P K : Type 0} (handlers : Handlers S P K) (held : HeldWorker S P K) (are : AreProcesses held.config held.worker 0 held.processes) (part : Part P) (h : StandsFor handlers held part) where
+  -- Home, where its letter was found
+  home-is : (letter : Letter P) → find (is_for (simulation_of handlers held.config) held.worker) held.outbox ≡ Some letter
+      → local_step (simulation_of handlers held.config) held.worker (step.Home held.worker) part
+        ≡ at_process (accept_process letter) (letter.event.dest / held.config.workers) (record part { outbox = without_first (is_for (simulation_of handlers held.config) held.worker) part.outbox })
+  home-is letter there =
+      ap (λ (b : Bool). if b then home (simulation_of handlers held.config) held.worker part else None) (same-worker held.worker)
+      ∙ ap (home_letter (simulation_of handlers held.config) held.worker part) (ap (find (is_for (simulation_of handlers held.config) held.worker)) h.outbox ∙ there)
+
+  pub home-done : (letter : Letter P) (place : ℕ) (q new : HeldProcess S P K) → find (is_for (simulation_of handlers held.config) held.worker) held.outbox ≡ Some letter
+      → place ≡ letter.event.dest / held.config.workers → letter.event.dest % held.config.workers ≡ held.worker → slice_get held.processes place ≡ Some q → new.lp ≡ q.lp → new.config ≡ q.config
+      → ((process : LogicalProcess P) → ProcessStandsFor handlers q process → ProcessIsDone handlers new (accept_process letter process) [] [] 0 0)
+      → IsDone handlers (record held { processes = slice_set held.processes place new; outbox = list_without_first (is_for (simulation_of handlers held.config) held.worker) held.outbox })
+        (local_step (simulation_of handlers held.config) held.worker (step.Home held.worker) part)
+  home-done letter place q new there is own_letter at same_lp same_config done =
+      let sim = simulation_of handlers held.config in
+      let rest = list_without_first (is_for sim held.worker) held.outbox in
+      let mid = record part { outbox = without_first (is_for sim held.worker) part.outbox } in
+      let kept : without_first (is_for sim held.worker) part.outbox ≡ rest = ap (without_first (is_for sim held.worker)) h.outbox ∙ sym (without-same (is_for sim held.worker) held.outbox) in
+      let less = record held { outbox = rest } in
+      let stands : StandsFor handlers less mid = record { processes = h.processes; outbox = kept; arrived = h.arrived; colour = h.colour; sent = h.sent; got = h.got; red_minimum = h.red_minimum; floor = h.floor; serial = h.serial } in
+      let f = found handlers less mid letter.event.dest q stands are own_letter (subst (λ k. slice_get held.processes k ≡ Some q) is at) in
+      let one = at-found-done handlers less are mid stands letter.event.dest place q new rest held.serial (accept_process letter) is own_letter f same_lp same_config
+          (plain-done handlers new (accept_process letter f.process) rest held.serial (done f.process f.stands)) in
+      subst (IsDone handlers (record held { processes = slice_set held.processes place new; outbox = rest }))
+      (own sim held.worker letter.event.dest (at_process (accept_process letter) (letter.event.dest / held.config.workers) mid) own_letter ∙ sym (home-is letter there)) one
+
+  pub home-refused : (letter : Letter P) (place : ℕ) (q : HeldProcess S P K) → find (is_for (simulation_of handlers held.config) held.worker) held.outbox ≡ Some letter
+      → place ≡ letter.event.dest / held.config.workers → letter.event.dest % held.config.workers ≡ held.worker → slice_get held.processes place ≡ Some q
+      → ((process : LogicalProcess P) → ProcessStandsFor handlers q process → accept_process letter process ≡ None)
+      → local_step (simulation_of handlers held.config) held.worker (step.Home held.worker) part ≡ None
+  home-refused letter place q there is own_letter at none =
+      let sim = simulation_of handlers held.config in
+      let rest = list_without_first (is_for sim held.worker) held.outbox in
+      let mid = record part { outbox = without_first (is_for sim held.worker) part.outbox } in
+      let kept : without_first (is_for sim held.worker) part.outbox ≡ rest = ap (without_first (is_for sim held.worker)) h.outbox ∙ sym (without-same (is_for sim held.worker) held.outbox) in
+      let less = record held { outbox = rest } in
+      let stands : StandsFor handlers less mid = record { processes = h.processes; outbox = kept; arrived = h.arrived; colour = h.colour; sent = h.sent; got = h.got; red_minimum = h.red_minimum; floor = h.floor; serial = h.serial } in
+      let f = found handlers less mid letter.event.dest q stands are own_letter (subst (λ k. slice_get held.processes k ≡ Some q) is at) in
+      home-is letter there
+      ∙ sym (own sim held.worker letter.event.dest (at_process (accept_process letter) (letter.event.dest / held.config.workers) mid) own_letter)
+      ∙ refused-at handlers less mid letter.event.dest q (accept_process letter) own_letter f (none f.process f.stands)
+
+  pub home-nothing : find (is_for (simulation_of handlers held.config) held.worker) held.outbox ≡ None
+      → local_step (simulation_of handlers held.config) held.worker (step.Home held.worker) part ≡ None
+  home-nothing none =
+      ap (λ (b : Bool). if b then home (simulation_of handlers held.config) held.worker part else None) (same-worker held.worker)
+      ∙ ap (home_letter (simulation_of handlers held.config) held.worker part) (ap (find (is_for (simulation_of handlers held.config) held.worker)) h.outbox ∙ none)
+
+  -- Accept at place i
+  accept-is : (i : ℕ) (mail : Mail P) → slice_get held.arrived i ≡ Some mail
+      → local_step (simulation_of handlers held.config) held.worker (step.Accept held.worker i) part
+        ≡ at_process (accept_process mail.letter) (mail.letter.event.dest / held.config.workers) (record part { arrived = remove part.arrived i })
+  accept-is i mail there =
+      ap (λ (b : Bool). if b then accept (simulation_of handlers held.config) i part else None) (same-worker held.worker)
+      ∙ ap (accept_mail (simulation_of handlers held.config) i part) (ap (λ ms. slice_get ms i) h.arrived ∙ there)
+
+  pub accept-done : (i : ℕ) (mail : Mail P) (place : ℕ) (q new : HeldProcess S P K) → slice_get held.arrived i ≡ Some mail
+      → place ≡ mail.letter.event.dest / held.config.workers → mail.letter.event.dest % held.config.workers ≡ held.worker → slice_get held.processes place ≡ Some q → new.lp ≡ q.lp → new.config ≡ q.config
+      → ((process : LogicalProcess P) → ProcessStandsFor handlers q process → ProcessIsDone handlers new (accept_process mail.letter process) [] [] 0 0)
+      → IsDone handlers (record held { processes = slice_set held.processes place new; arrived = remove held.arrived i })
+        (local_step (simulation_of handlers held.config) held.worker (step.Accept held.worker i) part)
+  accept-done i mail place q new there is own_letter at same_lp same_config done =
+      let sim = simulation_of handlers held.config in
+      let mid = record part { arrived = remove part.arrived i } in
+      let less = record held { arrived = remove held.arrived i } in
+      let stands : StandsFor handlers less mid = record { processes = h.processes; outbox = h.outbox; arrived = ap (λ ms. remove ms i) h.arrived; colour = h.colour; sent = h.sent; got = h.got; red_minimum = h.red_minimum; floor = h.floor; serial = h.serial } in
+      let f = found handlers less mid mail.letter.event.dest q stands are own_letter (subst (λ k. slice_get held.processes k ≡ Some q) is at) in
+      let one = at-found-done handlers less are mid stands mail.letter.event.dest place q new held.outbox held.serial (accept_process mail.letter) is own_letter f same_lp same_config
+          (plain-done handlers new (accept_process mail.letter f.process) held.outbox held.serial (done f.process f.stands)) in
+      subst (IsDone handlers (record held { processes = slice_set held.processes place new; arrived = remove held.arrived i }))
+      (own sim held.worker mail.letter.event.dest (at_process (accept_process mail.letter) (mail.letter.event.dest / held.config.workers) mid) own_letter ∙ sym (accept-is i mail there)) one
+
+  pub accept-refused : (i : ℕ) (mail : Mail P) (place : ℕ) (q : HeldProcess S P K) → slice_get held.arrived i ≡ Some mail
+      → place ≡ mail.letter.event.dest / held.config.workers → mail.letter.event.dest % held.config.workers ≡ held.worker → slice_get held.processes place ≡ Some q
+      → ((process : LogicalProcess P) → ProcessStandsFor handlers q process → accept_process mail.letter process ≡ None)
+      → local_step (simulation_of handlers held.config) held.worker (step.Accept held.worker i) part ≡ None
+  accept-refused i mail place q there is own_letter at none =
+      let sim = simulation_of handlers held.config in
+      let mid = record part { arrived = remove part.arrived i } in
+      let less = record held { arrived = remove held.arrived i } in
+      let stands : StandsFor handlers less mid = record { processes = h.processes; outbox = h.outbox; arrived = ap (λ ms. remove ms i) h.arrived; colour = h.colour; sent = h.sent; got = h.got; red_minimum = h.red_minimum; floor = h.floor; serial = h.serial } in
+      let f = found handlers less mid mail.letter.event.dest q stands are own_letter (subst (λ k. slice_get held.processes k ≡ Some q) is at) in
+      accept-is i mail there
+      ∙ sym (own sim held.worker mail.letter.event.dest (at_process (accept_process mail.letter) (mail.letter.event.dest / held.config.workers) mid) own_letter)
+      ∙ refused-at handlers less mid mail.letter.event.dest q (accept_process mail.letter) own_letter f (none f.process f.stands)
+
+  pub accept-nothing : (i : ℕ) → slice_get held.arrived i ≡ None → local_step (simulation_of handlers held.config) held.worker (step.Accept held.worker i) part ≡ None
+  accept-nothing i none =
+      ap (λ (b : Bool). if b then accept (simulation_of handlers held.config) i part else None) (same-worker held.worker)
+      ∙ ap (accept_mail (simulation_of handlers held.config) i part) (ap (λ ms. slice_get ms i) h.arrived ∙ none)
+
+-- a letter that was found in the outbox is for one of the worker's processes, before the end of the run
+pub found-in : {S P K : Type 0} {config : Config} {w : ℕ} {processes : List (HeldProcess S P K)} {outbox : List (Letter P)} {arrived : List (Mail P)} {sent got : Counts} {serial : ℕ} {ready earliest : List (Option Rank)}
+    → IsWorkerInside config w processes outbox arrived sent got serial ready earliest → (letter : Letter P) → find (λ (l : Letter P). nat_eq (l.event.dest % config.workers) w) outbox ≡ Some letter
+    → (letter.event.dest % config.workers ≡ w) × IsWithinRun config.lps config.end letter
+found-in {config = config} {w = w} {outbox = outbox} h letter is =
+    (for-worker config.workers w letter.event.dest (find-passes (λ l. nat_eq (l.event.dest % config.workers) w) outbox letter is),
+     find-all (IsWithinRun config.lps config.end) (λ l. nat_eq (l.event.dest % config.workers) w) outbox letter h.sendable is)
+
+-- one letter was found and taken
+pub one-letter : {X : Type 0} (found : Option X) (a b : X) → found ≡ Some a → found ≡ Some b → a ≡ b
+one-letter found a b x y = (let both : Some a ≡ Some b = sym x ∙ y in cc)
+
+-- what a process holds is what the process that it stands for holds
+any-past : {S P K : Type 0} (handlers : Handlers S P K) (p : ℕ) (rank : Rank) (es : List (PastEvent P K)) →
+    list_any (λ (e : Entry P). rank_same e.event.rank rank) (map entry_of (map (remembered handlers p) es)) ≡ list_any (λ (e : PastEvent P K). rank_same e.letter.event.rank rank) es
+any-past handlers p rank [] = refl
+any-past handlers p rank (e ∷ es) = ap (λ b. rank_same e.letter.event.rank rank || b) (any-past handlers p rank es)
+
+held-same : {S P K : Type 0} (handlers : Handlers S P K) (q : HeldProcess S P K) (process : LogicalProcess P) → ProcessStandsFor handlers q process → (sign : Sign) (rank : Rank)
+    → holds process sign rank ≡ holds_letter q.pending q.waiting q.past sign rank
+held-same handlers q process st Plus rank =
+    (λ j. list_any (has_rank rank) (st.pending j) || list_any (λ e. rank_same e.event.rank rank) (st.past j))
+    ∙ ap (λ b. list_any (has_rank rank) q.pending || b) (any-past handlers q.lp rank q.past)
+held-same handlers q process st Minus rank = ap (list_any (has_rank rank)) st.waiting
+
+-- a letter that the process holds is not accepted
+pub held-refused : {S P K : Type 0} (handlers : Handlers S P K) (q : HeldProcess S P K) (letter : Letter P) (process : LogicalProcess P) → ProcessStandsFor handlers q process
+    → holds_letter q.pending q.waiting q.past letter.sign letter.event.rank ≡ true → accept_process letter process ≡ None
+unfolding accept_process
+held-refused handlers q letter process st is =
+    ap (λ (b : Bool). if b then None else Some (record { process = with_letter process letter.sign letter; letters = []; serials = 0 }))
+    (held-same handlers q process st letter.sign letter.event.rank ∙ is)

@@ -1,0 +1,82 @@
+//! Letters that reach a process of the worker: those of its own outbox, and those of the mail that has arrived.
+
+ghost use Rattle.std.specs.Prelude.{◌≡◌, ◌%◌, ◌<◌, ◌≤◌, ◌⊎◌, IfOk, IfErr, None, [], false, nat_eq};
+ghost use Rattle.std.specs.Option.{is_none};
+ghost use Rattle.vt_key.specs.Times.{TimeBefore};
+ghost use Rattle.vt_key.specs.declared.fault.Fault.TheVariants.{NotLawful, Memory};
+ghost use Rattle.vt_model.specs.Handler.{Handlers};
+ghost use Rattle.vt_model.specs.Simulation.{simulation_of};
+ghost use Rattle.vt_steps.specs.World.{LogicalProcess, Part};
+ghost use Rattle.vt_steps.specs.ProcessSteps.{accept_process};
+ghost use Rattle.vt_steps.specs.declared.step.Step.TheVariants as step;
+ghost use Rattle.vt_lp.specs.Held.{StandsFor as ProcessStandsFor};
+ghost use Rattle.vt_lp.specs.Guards.{holds_letter, IsDone as ProcessIsDone};
+ghost use Rattle.vt_kernel.specs.Held.{StandsFor};
+ghost use Rattle.vt_kernel.specs.Local.{local_step};
+ghost use Rattle.vt_kernel.specs.Guards.{IsDone};
+
+use crate::kernel::Kernel;
+use crate::local::enter;
+use vt_key::{Fault, Letter};
+use vt_list::{Parcel, Predicate};
+use vt_lp::Lp;
+use vt_model::{Config, Model as EventModel};
+
+impl<M: EventModel> Kernel<M> {
+    /// Home: the first letter of the outbox that is for a process of this worker reaches it. It takes no memory.
+    ///
+    /// [`Fault::NotLawful`]: there is no such letter, or its process holds it already. All is as it was.
+    pub fn home(&mut self) -> Result<(), Fault>
+        ensures done { (handlers : Handlers _ _ _) (part : Part _) → StandsFor handlers self.old part → IfOk result (λ done. IsDone handlers self.new (local_step (simulation_of handlers self.old.config) self.old.worker (step.Home self.old.worker) part)) }
+        ensures refused { (handlers : Handlers _ _ _) (part : Part _) → StandsFor handlers self.old part → IfErr result (λ fault. local_step (simulation_of handlers self.old.config) self.old.worker (step.Home self.old.worker) part ≡ None) }
+        ensures kept { IfErr result (λ fault. (fault ≡ NotLawful) × (self.new ≡ self.old)) }
+        ensures same { (self.new.worker ≡ self.old.worker) × (self.new.config ≡ self.old.config) }
+    {
+        let own = IsFor {
+            config: self.config,
+            worker: self.worker,
+        };
+        let Some(letter) = self.outbox.find(&own) else {
+            return Err(Fault::NotLawful);
+        };
+        let Letter { event, sign } = *letter;
+        let place = (event.dest / self.config.workers) as usize;
+        if self.processes[place].holds(sign, event.rank) {
+            return Err(Fault::NotLawful);
+        }
+        let Some(letter) = self.outbox.remove_first(&own) else {
+            return Err(Fault::NotLawful);
+        };
+        deliver(&mut self.processes[place], letter);
+        enter(&mut self.ready, &mut self.earliest, &self.processes[place], place);
+        Ok(())
+    }
+}
+
+/// A letter reaches its process, which does not hold it already.
+pub(crate) fn deliver<M: EventModel>(process: &mut Lp<M>, letter: Parcel<Letter<M::Payload>>)
+    requires dest { letter.event.dest ≡ process.old.lp }
+    requires soon { TimeBefore letter.event.rank.key.time process.old.config.end }
+    requires new { holds_letter process.old.pending process.old.waiting process.old.past letter.sign letter.event.rank ≡ false }
+    ensures done { (handlers : Handlers _ _ _) (h : LogicalProcess _) → ProcessStandsFor handlers process.old h → ProcessIsDone handlers process.new (accept_process letter h) [] [] 0 0 }
+    ensures same { (process.new.lp ≡ process.old.lp) × (process.new.config ≡ process.old.config) }
+{
+    let _ = process.accept(letter);
+}
+
+// Passes a letter for a process of this worker.
+#[derive(Drop)]
+pub(crate) struct IsFor {
+    pub(crate) config: Config,
+    pub(crate) worker: u32,
+}
+
+impl<P> Predicate<Letter<P>> for IsFor {
+    ghost use Rattle.std.specs.Prelude.{nat_eq, ◌%◌};
+
+    ghost passes = { λ t letter. nat_eq (letter.event.dest % t.config.workers) t.worker };
+
+    fn test(&self, letter: &Letter<P>) -> bool {
+        self.config.owner(letter.event.dest) == self.worker
+    }
+}
