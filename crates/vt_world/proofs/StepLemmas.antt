@@ -1,37 +1,59 @@
 -- What a call that does a step of a world owes: what it answers and leaves, and that the world keeps to itself.
 use Rattle.std.proofs.Common.{◌≡◌, ℕ, zero, suc, ◌+◌, ◌<◌, ◌⊎◌, inl, inr, Bool, true, false, List, [], ◌∷◌, ◌++◌, map, length, refl, sym, ◌∙◌, ap, subst, arith, Option, Some, None, Result, Ok, Err, IfOk, IfErr, IsErrAnd, slice_get, slice_set, if◌then◌else◌}
 use Rattle.std.specs.Prelude.{MatchOption}
-use Rattle.std.proofs.Math.Logic.{∥∥₁_map}
-use Rattle.vt_key.specs.Times.{Time}
+use Rattle.std.proofs.Math.Logic.{∥∥₁_map, ∥∥₁_elim}
+use Rattle.std.proofs.Math.Nat.{le_refl}
+use Rattle.std.proofs.Props.{props}
+use Rattle.vt_key.specs.Times.{Time, TimeAtMost}
 use Rattle.vt_key.specs.declared.letter.Mail.{Mail}
 use Rattle.vt_key.specs.declared.fault.Fault.{Fault}
 use Rattle.vt_key.specs.declared.fault.Fault.TheVariants.{NotLawful, Closed}
 use Rattle.vt_model.specs.declared.settings.Config.{Config}
 use Rattle.vt_model.specs.Handler.{Handlers}
+use Rattle.vt_model.specs.Histories.{IsLawful}
 use Rattle.vt_model.specs.Simulation.{Simulation, simulation_of}
 use Rattle.vt_steps.specs.declared.step.Step.{Step}
 use Rattle.vt_steps.specs.declared.step.Step.TheVariants.{Close}
 use Rattle.vt_steps.specs.declared.step.Reply.{Reply}
 use Rattle.vt_steps.specs.declared.step.Reply.TheVariants.{Done}
-use Rattle.vt_steps.specs.World.{World, Board, Book}
+use Rattle.vt_steps.specs.World.{World, Board, Book, book_floor}
+use Rattle.vt_steps.specs.Next.{run, reached}
+use Rattle.vt_steps.proofs.Floors.{nothing-falls, reached-times}
 use Rattle.vt_steps.specs.StandsFor.{GoesOn}
 use Rattle.vt_steps.proofs.MemoryLemmas.{still_reached}
 use Rattle.vt_kernel.specs.Held.{HeldWorker, AllOwnMail}
 use Rattle.vt_steps.specs.BookSteps.{may_close, closed_book}
 use Rattle.vt_book.specs.Books.{RunBook, refusal_where, refusal_of_close}
-use Rattle.vt_world.specs.Held.{HeldWorld, world_memory, StandsForWorld, AreWorkers, AreInboxes, IsWorldInside}
-use Rattle.vt_world.specs.Calls.{IsStepRefusal, IsStepOf}
+use Rattle.vt_world.specs.Held.{HeldWorld, world_memory, StandsForWorld, AreWorkers, AreInboxes, IsWorldInside, IsReached}
+use Rattle.vt_world.specs.Calls.{IsStepRefusal, IsStepOf, floor_held}
 use Rattle.vt_world.proofs.ReachedLemmas.{inside_view}
 use Rattle.vt_world.proofs.WorldSteps.{close-done, close-refused, close-closed}
 
+-- neither the announced time nor the book's floor falls by a step
+rises : {M S P K : Type 0} (handlers : Handlers S P K) (held new : HeldWorld M S P K) (step : Step) (answer : Result Reply Fault) → IsLawful (simulation_of handlers held.config) → new.config ≡ held.config
+    → GoesOn (simulation_of handlers held.config) step answer (world_memory handlers held) (world_memory handlers new)
+    → (x : (serial : ℕ) × IsReached handlers serial held) → TimeAtMost held.board.announced new.board.announced × TimeAtMost (floor_held held) (floor_held new)
+unfolding run
+rises handlers held new step answer lawful same_config goes x =
+    let sim = simulation_of handlers held.config in
+    let world = reached sim x.0 x.1.0 in
+    let after = (goes world x.1.1).1 in
+    let up = nothing-falls sim lawful (step ∷ []) world (reached-times sim lawful x.0 x.1.0) in
+    (subst (λ (b : Board). TimeAtMost b.announced new.board.announced) x.1.1.board (subst (λ (b : Board). TimeAtMost world.board.announced b.announced) after.board up.1),
+     subst (λ (b : Book). TimeAtMost (book_floor held.config.end b) (floor_held new)) x.1.1.book
+     (subst (λ (c : Config). TimeAtMost (book_floor held.config.end world.book) (book_floor c.end new.book)) (sym same_config)
+     (subst (λ (b : Book). TimeAtMost (book_floor held.config.end world.book) (book_floor held.config.end b)) after.book up.0)))
+
 module _ {M S P K : Type 0} (meaning : M → Handlers S P K) {held seen : HeldWorld M S P K} (seen_is : held ≡ seen) where
   -- a step is done
-  pub step-done : (new : HeldWorld M S P K) (step : Step) (reply : Reply)
+  pub step-done : {board_end book_end : Time} → IsWorldInside (meaning held.model) held board_end book_end → IsLawful (simulation_of (meaning held.model) held.config)
+      → (new : HeldWorld M S P K) (step : Step) (reply : Reply)
       → GoesOn (simulation_of (meaning held.model) held.config) step (Ok reply) (world_memory (meaning held.model) held) (world_memory (meaning held.model) new)
       → new.model ≡ held.model → new.config ≡ held.config → IsStepOf (meaning seen.model) step seen new (Ok reply)
-  step-done new step reply goes same_model same_config =
+  step-done inside lawful new step reply goes same_model same_config =
+      let up = ∥∥₁_elim inside.is_reached (Prim.hlevel props) (rises (meaning held.model) held new step (Ok reply) lawful same_config goes) in
       subst (λ (v : HeldWorld M S P K). IsStepOf (meaning v.model) step v new (Ok reply)) seen_is
-      (record { done = goes; refused = λ world h. tt; unchanged = tt; same_model = same_model; same_config = same_config })
+      (record { done = goes; refused = λ world h. tt; unchanged = tt; same_model = same_model; same_config = same_config; announced = up.0; floor = up.1 })
 
   -- a step is refused, and why
   pub step-refused : (new : HeldWorld M S P K) (step : Step) (fault : Fault) (result : Result Reply Fault) → IsErrAnd result (λ e. e ≡ fault) → new ≡ held
@@ -46,6 +68,8 @@ module _ {M S P K : Type 0} (meaning : M → Handlers S P K) {held seen : HeldWo
         unchanged = same;
         same_model = ap (λ (v : HeldWorld M S P K). v.model) same;
         same_config = ap (λ (v : HeldWorld M S P K). v.config) same;
+        announced = subst (λ (v : HeldWorld M S P K). TimeAtMost held.board.announced v.board.announced) (sym same) (le_refl _);
+        floor = subst (λ (v : HeldWorld M S P K). TimeAtMost (floor_held held) (floor_held v)) (sym same) (le_refl _);
       })
 
   -- a step is refused as the definitions refuse it

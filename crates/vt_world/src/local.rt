@@ -36,4 +36,15 @@ impl<'m, M: EventModel> World<'m, M> {
         self.kernels[owner as usize].cancel(lp, stamp)?;
         Ok(Reply::Done)
     }
+
+    /// The first letter of the outbox of worker `w` that is for one of its own processes goes there.
+    pub(crate) fn home(&mut self, w: u32) -> Result<Reply, Fault>
+        ensures { IsStepOf (M.handlers self.old.model) (step.Home w) self.old self.new result }
+    {
+        if w >= self.config.workers {
+            return Err(Fault::NotLawful);
+        }
+        self.kernels[w as usize].home()?;
+        Ok(Reply::Done)
+    }
 }

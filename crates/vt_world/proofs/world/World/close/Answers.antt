@@ -2,6 +2,7 @@ use Rattle.std.proofs.Common.{rules, ◌≡◌, ℕ, ◌∙◌, ap, sym, subst, 
 use Rattle.vt_steps.specs.declared.step.Step.TheVariants.{Close}
 use Rattle.vt_steps.specs.declared.step.Reply.TheVariants.{Done}
 use Rattle.vt_book.specs.Books.{RunBook}
+use Rattle.vt_model.proofs.LawLemmas.{lawful_of}
 use Rattle.vt_world.proofs.ReachedLemmas.{inside_view}
 use Rattle.vt_world.proofs.StepLemmas.{step-done, step-unlawful, inside-stepped, inside-same, close-refuses, close-closes}
 use Rattle.vt_world.proofs.world.World.close.Goals as goal
@@ -37,4 +38,4 @@ returns g c =
     let i = c.self.inside in
     let m = i.model.now in
     let closes = close-closes (g.M.Model.handlers m) m i.config i.kernels.items i.inboxes.items i.board.board i.book c.self.invariant.same_book_end c.self.invariant.own_workers c.close.new.self c.close.result tt c.in_ok-close.field-0 c.in_ok-close.was c.close.ensures in
-    step-done (g.M.Model.handlers) c.self.view_is (inside_view m i.config i.kernels.items i.inboxes.items i.board.board c.close.new.self.book) Close Done closes.1 refl refl
+    step-done (g.M.Model.handlers) c.self.view_is c.self.invariant (lawful_of (g.M.Model.handlers m) i.config (g.met.M.Model.start_within m) (g.met.M.Model.forward_within m)) (inside_view m i.config i.kernels.items i.inboxes.items i.board.board c.close.new.self.book) Close Done closes.1 refl refl

@@ -9,6 +9,7 @@ use Rattle.vt_steps.specs.PartSteps.{part_after_cut}
 use Rattle.vt_kernel.specs.Held.{HeldWorker, StandsFor}
 use Rattle.vt_board.specs.BoardOfRun.{BoardOfRun}
 use Rattle.vt_board.specs.Calls.{cut_outcome}
+use Rattle.vt_model.proofs.LawLemmas.{lawful_of}
 use Rattle.vt_world.proofs.ReachedLemmas.{inside_view}
 use Rattle.vt_world.proofs.StepLemmas.{step-done, step-refused, step-unlawful, inside-same}
 use Rattle.vt_world.proofs.Places.{inside-worker}
@@ -77,6 +78,6 @@ returns g c =
         ap (λ t. cut_board t c.args.w i.board.board) (sym c.self.invariant.same_board_end) ∙ counted-ok (cut_board i.board.end c.args.w i.board.board) c.cut.new.self.board c.in_ok-announced.ensures.cut in
     let same_worker = ap (λ (x : HeldWorker _ _ _). x.worker) c.turn.ensures.turned in
     let same_config = ap (λ (x : HeldWorker _ _ _). x.config) c.turn.ensures.turned in
-    step-done (g.M.Model.handlers) c.self.view_is (inside_view m i.config (slice_set i.kernels.items c.args.w c.turn.new.self) i.inboxes.items c.cut.new.self.board i.book.book) (Cut c.args.w) Done
+    step-done (g.M.Model.handlers) c.self.view_is c.self.invariant (lawful_of (g.M.Model.handlers m) i.config (g.met.M.Model.start_within m) (g.met.M.Model.forward_within m)) (inside_view m i.config (slice_set i.kernels.items c.args.w c.turn.new.self) i.inboxes.items c.cut.new.self.board i.book.book) (Cut c.args.w) Done
       (cut-done H held c.self.invariant.own_workers c.args.w k c.turn.new.self c.cut.new.self.board at cuts same_worker same_config
         (λ part s. subst (λ (t : Time). StandsFor H c.turn.new.self (part_after_cut k.config.end t part)) c.in_ok-announced.ensures.announced (c.turn.ensures.stands H part s))) refl refl

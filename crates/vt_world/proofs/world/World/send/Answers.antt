@@ -12,6 +12,7 @@ use Rattle.vt_steps.specs.PartSteps.{part_after_send, mail_of_send}
 use Rattle.vt_steps.specs.Next.{may_send}
 use Rattle.vt_kernel.specs.Held.{HeldWorker, StandsFor, AllOwnMail, IsOwnMail}
 use Rattle.vt_kernel.specs.Guards.{is_for_worker, mailed}
+use Rattle.vt_model.proofs.LawLemmas.{lawful_of}
 use Rattle.vt_world.proofs.ReachedLemmas.{inside_view}
 use Rattle.vt_world.proofs.StepLemmas.{step-done, step-refused, step-unlawful, inside-same}
 use Rattle.vt_world.proofs.Places.{inside-mail, inbox-at, put-same}
@@ -128,5 +129,5 @@ returns g c =
     let goes = send-done H held c.self.invariant.own_workers c.args.w c.args.v k c.letters_for.new.self box c.letters_for.new.mail.items at here same_worker same_config
         (λ part s. subst (λ (b : List (Mail _)). (may_send (simulation_of H k.config) k.worker c.args.v part ≡ true) × StandsFor H c.letters_for.new.self (part_after_send (simulation_of H k.config) c.args.v part)
             × (c.letters_for.new.mail.items ≡ b ++ mail_of_send (simulation_of H k.config) c.args.v part)) c.behind-self.view_is (c.in_ok-letters_for.ensures.done H part s)) in
-    step-done (g.M.Model.handlers) c.self.view_is
+    step-done (g.M.Model.handlers) c.self.view_is c.self.invariant (lawful_of (g.M.Model.handlers m) i.config (g.met.M.Model.start_within m) (g.met.M.Model.forward_within m))
       (inside_view m i.config (slice_set i.kernels.items c.args.w c.letters_for.new.self) (slice_set i.inboxes.items c.args.v c.letters_for.new.mail.items) i.board.board i.book.book) (Send c.args.w c.args.v) Done goes refl refl
