@@ -9,3 +9,4 @@ pub mod Refusals
 pub mod ReportLemmas
 pub mod LocalLemmas
 pub mod CommitLemmas
+pub mod RunLemmas

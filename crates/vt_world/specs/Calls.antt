@@ -75,3 +75,9 @@ pub record IsStepOf {M S P K : Type 0} (handlers : Handlers S P K) (step : Step)
   pub same_config : new.config ≡ old.config
   pub announced : TimeAtMost old.board.announced new.board.announced
   pub floor : TimeAtMost (floor_held old) (floor_held new)
+
+-- how many of these answers are refusals
+abbrev pub refusals : List (Result Reply Fault) → ℕ
+refusals [] = 0
+refusals (Ok reply ∷ answers) = refusals answers
+refusals (Err fault ∷ answers) = 1 + refusals answers
