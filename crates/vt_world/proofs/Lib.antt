@@ -3,3 +3,10 @@ pub mod CellSteps
 pub mod WorldSteps
 pub mod CommitRows
 pub mod ReachedLemmas
+pub mod StepLemmas
+pub mod Places
+pub mod Refusals
+pub mod ReportLemmas
+pub mod LocalLemmas
+pub mod CommitLemmas
+pub mod RunLemmas

@@ -238,7 +238,7 @@ module _ {M S P K : Type 0} (handlers : Handlers S P K) (held : HeldWorld M S P 
 
   -- ---- steps of a worker that there is not
 
-  gone : (world : World P) (w : ℕ) → StandsForWorld handlers held world → slice_get held.workers w ≡ None → slice_get world.parts w ≡ None
+  pub gone : (world : World P) (w : ℕ) → StandsForWorld handlers held world → slice_get held.workers w ≡ None → slice_get world.parts w ≡ None
   gone world w h none = nobody-at (simulation_of handlers held.config) 0 w (map (part_memory handlers) held.workers) world.parts h.parts (no-image held.workers w none)
     where
       no-image : (xs : List (HeldWorker S P K)) (i : ℕ) → slice_get xs i ≡ None → slice_get (map (part_memory handlers) xs) i ≡ None

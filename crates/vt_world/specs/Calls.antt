@@ -1,7 +1,7 @@
 -- What the calls of a world answer, by the steps of the definitions.
-use Rattle.std.specs.Prelude.{◌≡◌, ℕ, ◌+◌, ◌<◌, ◌≤◌, ◌⊎◌, ◌/◌, ◌%◌, List, [], ◌∷◌, ◌++◌, map, Option, Some, None, Result, Ok, Err, slice_get}
+use Rattle.std.specs.Prelude.{◌≡◌, ℕ, ◌+◌, ◌<◌, ◌≤◌, ◌⊎◌, ◌/◌, ◌%◌, List, [], ◌∷◌, ◌++◌, map, Option, Some, None, Result, Ok, Err, slice_get, IfOk, IfErr}
 use Rattle.std.specs.List.{flat_map}
-use Rattle.vt_key.specs.Times.{Time}
+use Rattle.vt_key.specs.Times.{Time, TimeAtMost}
 use Rattle.vt_key.specs.declared.limits.TheConstants.{MAX_COUNT}
 use Rattle.vt_key.specs.declared.letter.Colour.{Colour}
 use Rattle.vt_key.specs.declared.fault.Fault.{Fault}
@@ -14,9 +14,10 @@ use Rattle.vt_steps.specs.declared.step.Reply.{Reply}
 use Rattle.vt_steps.specs.Letters.{count_of, least_time}
 use Rattle.vt_steps.specs.World.{LogicalProcess, Part, World, book_floor}
 use Rattle.vt_steps.specs.Next.{next}
+use Rattle.vt_steps.specs.StandsFor.{GoesOn}
 use Rattle.vt_lp.specs.Guards.{number_of}
 use Rattle.vt_kernel.specs.Guards.{held_letters}
-use Rattle.vt_world.specs.Held.{HeldWorld, StandsForWorld}
+use Rattle.vt_world.specs.Held.{HeldWorld, world_memory, StandsForWorld}
 
 module _ {S P : Type 0} (sim : Simulation S P) where
   -- this is the part of worker w of a world
@@ -42,14 +43,16 @@ module _ {S P : Type 0} (sim : Simulation S P) where
   TakesMemory (Commit w) = Unit {0}
   TakesMemory _ = ⊥
 
-  -- why a step of a world is refused: as the definitions refuse it; or it is lawful, and a counter would pass its limit; or none
-  -- would, and memory was refused
-  abbrev pub IsStepRefusal : Step → World P → Fault → Type 0
-  IsStepRefusal step world fault =
-      ((next sim world step).answer ≡ Err fault)
-      ⊎ ((reply : Reply) × ((next sim world step).answer ≡ Ok reply)
+  -- a lawful step can't be done: a counter would pass its limit; or none would, and memory was refused
+  abbrev pub IsSpent : Step → World P → Fault → Type 0
+  IsSpent step world fault =
+      (reply : Reply) × ((next sim world step).answer ≡ Ok reply)
       × (((fault ≡ Exhausted) × PassesLimit step (next sim world step).world)
-      ⊎ ((fault ≡ Memory) × TakesMemory step × (PassesLimit step (next sim world step).world → ⊥))))
+      ⊎ ((fault ≡ Memory) × TakesMemory step × (PassesLimit step (next sim world step).world → ⊥)))
+
+  -- why a step of a world is refused: as the definitions refuse it; or it is lawful and can't be done
+  abbrev pub IsStepRefusal : Step → World P → Fault → Type 0
+  IsStepRefusal step world fault = ((next sim world step).answer ≡ Err fault) ⊎ IsSpent step world fault
 
 module _ {M S P K : Type 0} where
   -- the least time of all that is unprocessed or travelling: in outboxes, arrived, pending, waiting and in inboxes
@@ -60,3 +63,21 @@ module _ {M S P K : Type 0} where
   -- the floor of the book
   abbrev pub floor_held : HeldWorld M S P K → Time
   floor_held held = book_floor held.config.end held.book
+
+-- what a call that does a step of a world answers and leaves: where it is done, it was lawful and answered so, and the world
+-- goes on by it; where it is refused, it says why, and all is as it was. The model and the config stay, and neither the
+-- announced time nor the book's floor falls
+pub record IsStepOf {M S P K : Type 0} (handlers : Handlers S P K) (step : Step) (old new : HeldWorld M S P K) (result : Result Reply Fault) : Type 0 where
+  pub done : IfOk result (λ reply. GoesOn (simulation_of handlers old.config) step (Ok reply) (world_memory handlers old) (world_memory handlers new))
+  pub refused : (world : World P) → StandsForWorld handlers old world → IfErr result (λ fault. IsStepRefusal (simulation_of handlers old.config) step world fault)
+  pub unchanged : IfErr result (λ fault. new ≡ old)
+  pub same_model : new.model ≡ old.model
+  pub same_config : new.config ≡ old.config
+  pub announced : TimeAtMost old.board.announced new.board.announced
+  pub floor : TimeAtMost (floor_held old) (floor_held new)
+
+-- how many of these answers are refusals
+abbrev pub refusals : List (Result Reply Fault) → ℕ
+refusals [] = 0
+refusals (Ok reply ∷ answers) = refusals answers
+refusals (Err fault ∷ answers) = 1 + refusals answers

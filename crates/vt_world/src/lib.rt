@@ -2,7 +2,11 @@
 //! virtual time is agreed, and the book of committed records.
 #![tactic(auto)]
 
+mod committing;
+mod cutting;
 mod inbox;
+mod local;
+mod sending;
 mod world;
 
 pub use vt_steps::{Reply, Step};

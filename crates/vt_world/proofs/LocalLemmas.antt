@@ -1,0 +1,124 @@
+-- The local steps of a worker as steps of the world.
+use Rattle.std.proofs.Common.{◌≡◌, ℕ, ◌+◌, ◌/◌, ◌%◌, ◌<◌, ◌≤◌, ◌⊎◌, inl, inr, Bool, true, false, List, refl, sym, ◌∙◌, ap, subst, arith, Option, Some, None, Result, Ok, Err, slice_get, slice_set}
+use Rattle.std.specs.Option.{option_map}
+use Rattle.vt_key.specs.Times.{Time}
+use Rattle.vt_key.specs.declared.limits.TheConstants.{MAX_COUNT}
+use Rattle.vt_key.specs.declared.fault.Fault.{Fault}
+use Rattle.vt_key.specs.declared.fault.Fault.TheVariants.{NotLawful, Exhausted, Memory}
+use Rattle.vt_model.specs.declared.settings.Config.{Config}
+use Rattle.vt_model.specs.Handler.{Handlers}
+use Rattle.vt_model.specs.Simulation.{Simulation, simulation_of}
+use Rattle.vt_steps.specs.declared.step.Step.{Step}
+use Rattle.vt_steps.specs.declared.step.Step.TheVariants.{Execute, Accept}
+use Rattle.vt_steps.specs.declared.step.Reply.{Reply}
+use Rattle.vt_steps.specs.declared.step.Reply.TheVariants.{Done}
+use Rattle.vt_steps.specs.World.{LogicalProcess, Part, World, Board, Book}
+use Rattle.vt_steps.specs.Next.{Outcome, next, refused, replied, with_part, done_or_refused, reached}
+use Rattle.vt_steps.specs.StandsFor.{GoesOn}
+use Rattle.vt_lp.specs.Guards.{number_of}
+use Rattle.vt_kernel.specs.Held.{HeldWorker, StandsFor as WorkerStandsFor}
+use Rattle.vt_kernel.specs.Local.{local_step}
+use Rattle.vt_kernel.specs.Guards.{IsDone, IsExecuteRefusal}
+use Rattle.vt_world.specs.Held.{HeldWorld, world_memory, StandsForWorld, AreWorkers, IsReached, IsWorldInside}
+use Rattle.vt_world.specs.Calls.{IsStepRefusal, PassesLimit, TakesMemory, IsStepOf}
+use Rattle.vt_world.proofs.ReachedLemmas.{inside_view}
+use Rattle.vt_world.proofs.WorldLemmas.{IsLocalAt, IsFound, found, next-locally, local-done, local-refused}
+use Rattle.vt_world.proofs.WorldSteps.{who}
+use Rattle.vt_world.proofs.Places.{put-there, inside-worker}
+
+module _ {M S P K : Type 0} (handlers : Handlers S P K) (held : HeldWorld M S P K) where
+  -- a step that isn't lawful, answered so
+  pub answered-fault : (step : Step) (fault : Fault) → fault ≡ NotLawful
+      → GoesOn (simulation_of handlers held.config) step (Err NotLawful) (world_memory handlers held) (world_memory handlers held)
+      → GoesOn (simulation_of handlers held.config) step (Err fault) (world_memory handlers held) (world_memory handlers held)
+  answered-fault step fault is goes = subst (λ f. GoesOn (simulation_of handlers held.config) step (Err f) (world_memory handlers held) (world_memory handlers held)) (sym is) goes
+
+module _ {M S P K : Type 0} (handlers : Handlers S P K) (held : HeldWorld M S P K) (are : AreWorkers held.config 0 held.workers) where
+  -- a step that isn't lawful for its worker, answered so
+  pub local-unlawful : (w : ℕ) (k : HeldWorker S P K) (step : Step) (fault : Fault) → slice_get held.workers w ≡ Some k → IsLocalAt (simulation_of handlers held.config) w step
+      → fault ≡ NotLawful → ((part : Part P) → WorkerStandsFor handlers k part → local_step (simulation_of handlers k.config) k.worker step part ≡ None)
+      → GoesOn (simulation_of handlers held.config) step (Err fault) (world_memory handlers held) (world_memory handlers held)
+  local-unlawful w k step fault at is not_lawful none =
+      subst (λ f. GoesOn (simulation_of handlers held.config) step (Err f) (world_memory handlers held) (world_memory handlers held)) (sym not_lawful)
+      (local-refused handlers held w k step are at is none)
+
+  -- what a local step of a worker comes to in a world
+  locally-is : (world : World P) (w : ℕ) (step : Step) (part : Part P) (after : Option (Part P)) → IsLocalAt (simulation_of handlers held.config) w step → slice_get world.parts w ≡ Some part
+      → local_step (simulation_of handlers held.config) w step part ≡ after → next (simulation_of handlers held.config) world step ≡ done_or_refused world (option_map (with_part world w) after)
+  locally-is world w step part after is there e =
+      next-locally (simulation_of handlers held.config) world w step part is there ∙ ap (λ s. done_or_refused world (option_map (with_part world w) s)) e
+
+  -- why Execute is refused
+  pub execute-why : (p w : ℕ) (k : HeldWorker S P K) (fault : Fault) → slice_get held.workers w ≡ Some k → p % held.config.workers ≡ w
+      → ((part : Part P) → WorkerStandsFor handlers k part → IsExecuteRefusal (simulation_of handlers k.config) p (local_step (simulation_of handlers k.config) k.worker (Execute p) part) fault)
+      → (world : World P) → StandsForWorld handlers held world → IsStepRefusal (simulation_of handlers held.config) (Execute p) world fault
+  execute-why p w k fault at own why world s = go (local_step sim w (Execute p) f.part) refl refusal
+    where
+      sim : Simulation S P
+      sim = simulation_of handlers held.config
+
+      f : IsFound handlers held world w k
+      f = found handlers held world w k are s at
+
+      refusal : IsExecuteRefusal sim p (local_step sim w (Execute p) f.part) fault
+      refusal =
+          let is = who handlers held are w k at in
+          subst (λ u. IsExecuteRefusal sim p (local_step sim u (Execute p) f.part) fault) is.0
+          (subst (λ (c : Config). IsExecuteRefusal (simulation_of handlers c) p (local_step (simulation_of handlers c) k.worker (Execute p) f.part) fault) is.1 (why f.part f.stands))
+
+      go : (after : Option (Part P)) → local_step sim w (Execute p) f.part ≡ after → IsExecuteRefusal sim p after fault → IsStepRefusal sim (Execute p) world fault
+      go None e r = inl (ap (λ (o : Outcome P). o.answer) (locally-is world w (Execute p) f.part None own f.there e) ∙ ap Err (sym r))
+      go (Some after) e r =
+          let next_is : next sim world (Execute p) ≡ replied (with_part world w after) Done = locally-is world w (Execute p) f.part (Some after) own f.there e in
+          let there : slice_get (slice_set world.parts w after) (p % held.config.workers) ≡ Some after = ap (slice_get (slice_set world.parts w after)) own ∙ put-there world.parts w f.part after f.there in
+          let answer = ap (λ (o : Outcome P). o.answer) next_is in
+          elim r.2 [
+            | inl a ↦
+                inr (Done, answer, inl (a.0, subst (λ (o : Outcome P). PassesLimit sim (Execute p) o.world) (sym next_is)
+                  (after, there, elim a.1 [
+                    | inl b ↦ inr (r.1.0, r.1.1, subst (λ n. MAX_COUNT < n) r.1.2 b)
+                    | inr b ↦ inl b
+                  ])))
+            | inr a ↦
+                inr (Done, answer, inr (a.0, tt, λ past.
+                  (let q = subst (λ (o : Outcome P). PassesLimit sim (Execute p) o.world) next_is past in
+                  let same : Some after ≡ Some q.0 = sym there ∙ q.1 in
+                  let e2 : after ≡ q.0 = cc in
+                  let few = a.2 in
+                  let few_sent = a.1 in
+                  elim q.2 [
+                    | inl b ↦ (let b2 : MAX_COUNT < after.serial = subst (λ (x : Part P). MAX_COUNT < x.serial) (sym e2) b in omega (arith, b2, few))
+                    | inr b ↦
+                        (let here : slice_get after.processes (p / held.config.workers) ≡ Some b.0 = ap (λ (x : Part P). slice_get x.processes (p / held.config.workers)) e2 ∙ b.1 in
+                        let same2 : Some r.1.0 ≡ Some b.0 = sym r.1.1 ∙ here in
+                        let e3 : r.1.0 ≡ b.0 = cc in
+                        let b3 : MAX_COUNT < number_of sim p r.1.0 = subst (λ (x : LogicalProcess P). MAX_COUNT < number_of sim p x) (sym e3) b.2 in
+                        let number = r.1.2 in
+                        omega (arith, b3, few_sent, number))
+                  ])))
+          ]
+
+  -- why Accept is refused
+  pub accept-why : (w i : ℕ) (k : HeldWorker S P K) (fault : Fault) → slice_get held.workers w ≡ Some k
+      → ((part : Part P) → WorkerStandsFor handlers k part → ((fault ≡ NotLawful) × (local_step (simulation_of handlers k.config) k.worker (Accept w i) part ≡ None))
+          ⊎ ((fault ≡ Memory) × ((after : Part P) × (local_step (simulation_of handlers k.config) k.worker (Accept w i) part ≡ Some after))))
+      → (world : World P) → StandsForWorld handlers held world → IsStepRefusal (simulation_of handlers held.config) (Accept w i) world fault
+  accept-why w i k fault at why world s =
+      let sim = simulation_of handlers held.config in
+      let is = who handlers held are w k at in
+      let f = found handlers held world w k are s at in
+      let refusal = subst (λ u. ((fault ≡ NotLawful) × (local_step sim u (Accept w i) f.part ≡ None)) ⊎ ((fault ≡ Memory) × ((after : Part P) × (local_step sim u (Accept w i) f.part ≡ Some after)))) is.0
+          (subst (λ (c : Config). ((fault ≡ NotLawful) × (local_step (simulation_of handlers c) k.worker (Accept w i) f.part ≡ None))
+            ⊎ ((fault ≡ Memory) × ((after : Part P) × (local_step (simulation_of handlers c) k.worker (Accept w i) f.part ≡ Some after)))) is.1 (why f.part f.stands)) in
+      elim refusal [
+        | inl a ↦ inl (ap (λ (o : Outcome P). o.answer) (locally-is world w (Accept w i) f.part None refl f.there a.1) ∙ ap Err (sym a.0))
+        | inr a ↦ inr (Done, ap (λ (o : Outcome P). o.answer) (locally-is world w (Accept w i) f.part (Some a.1.0) refl f.there a.1.1), inr (a.0, tt, λ past. past))
+      ]
+
+module _ {M S P K : Type 0} (handlers : Handlers S P K) (held : HeldWorld M S P K) {board_end book_end : Time} (inside : IsWorldInside handlers held board_end book_end) where
+  -- what a world keeps to after a local step
+  pub inside-local : (w : ℕ) (k new : HeldWorker S P K) (step : Step) → slice_get held.workers w ≡ Some k → new.worker ≡ k.worker → new.config ≡ k.config → IsLocalAt (simulation_of handlers held.config) w step
+      → ((part : Part P) → WorkerStandsFor handlers k part → IsDone handlers new (local_step (simulation_of handlers k.config) k.worker step part))
+      → IsWorldInside handlers (inside_view held.model held.config (slice_set held.workers w new) held.inboxes held.board held.book) board_end book_end
+  inside-local w k new step at same_worker same_config is done =
+      inside-worker handlers held inside step Done w k new held.board held.book at same_worker same_config refl refl (local-done handlers held w k new step inside.own_workers at same_worker same_config is done)

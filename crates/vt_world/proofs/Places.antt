@@ -1,0 +1,95 @@
+-- Workers and inboxes looked up and changed, and what a world keeps to then.
+use Rattle.std.proofs.Common.{◌≡◌, ℕ, zero, suc, ◌+◌, ◌<◌, ◌≤◌, ◌⊎◌, inl, inr, Bool, true, false, List, [], ◌∷◌, ◌++◌, map, length, refl, sym, ◌∙◌, ap, subst, arith, Option, Some, None, Result, Ok, Err, slice_get, slice_set, slice_index_or}
+use Rattle.std.proofs.lemmas.List.{length-set}
+use Rattle.vt_key.specs.Times.{Time}
+use Rattle.vt_key.specs.declared.letter.Mail.{Mail}
+use Rattle.vt_key.specs.declared.fault.Fault.{Fault}
+use Rattle.vt_model.specs.declared.settings.Config.{Config}
+use Rattle.vt_model.specs.Handler.{Handlers}
+use Rattle.vt_model.specs.Simulation.{Simulation, simulation_of}
+use Rattle.vt_steps.specs.declared.step.Step.{Step}
+use Rattle.vt_steps.specs.declared.step.Reply.{Reply}
+use Rattle.vt_steps.specs.World.{World, Board, Book}
+use Rattle.vt_steps.specs.StandsFor.{GoesOn}
+use Rattle.vt_kernel.specs.Held.{HeldWorker, AllOwnMail}
+use Rattle.vt_world.specs.Held.{HeldWorld, world_memory, StandsForWorld, AreWorkers, AreInboxes, IsWorldInside}
+use Rattle.vt_world.proofs.ReachedLemmas.{inside_view}
+use Rattle.vt_world.proofs.WorldLemmas.{worker-at, workers-changed}
+use Rattle.vt_world.proofs.StepLemmas.{inside-stepped}
+
+-- an item put where it is changes nothing
+pub put-same : {X : Type 0} (xs : List X) (i : ℕ) (x : X) → slice_get xs i ≡ Some x → slice_set xs i x ≡ xs
+put-same [] i x h = absurd (let k : None ≡ Some x = h in cc)
+put-same (y ∷ ys) zero x h = let k : Some y ≡ Some x = h in let e : x ≡ y = cc in ap (λ z. z ∷ ys) e
+put-same (y ∷ ys) (suc i) x h = ap (λ zs. y ∷ zs) (put-same ys i x h)
+
+-- of two items put at one place the second is there
+pub put-twice : {X : Type 0} (xs : List X) (i : ℕ) (x y : X) → slice_set (slice_set xs i x) i y ≡ slice_set xs i y
+put-twice [] i x y = refl
+put-twice (z ∷ zs) zero x y = refl
+put-twice (z ∷ zs) (suc i) x y = ap (λ ws. z ∷ ws) (put-twice zs i x y)
+
+-- an item that was put is there
+pub put-there : {X : Type 0} (xs : List X) (i : ℕ) (x y : X) → slice_get xs i ≡ Some x → slice_get (slice_set xs i y) i ≡ Some y
+put-there [] i x y h = absurd (let k : None ≡ Some x = h in cc)
+put-there (z ∷ zs) zero x y h = refl
+put-there (z ∷ zs) (suc i) x y h = put-there zs i x y h
+
+-- what is there is one
+pub same-there : {X : Type 0} (xs : List X) (i : ℕ) (x y : X) → slice_get xs i ≡ Some x → slice_get xs i ≡ Some y → x ≡ y
+same-there xs i x y h k = let e : Some x ≡ Some y = sym h ∙ k in let same : x ≡ y = cc in same
+
+-- below the length there is an item
+pub some-at : {X : Type 0} (xs : List X) (i : ℕ) → i < length xs → (x : X) × (slice_get xs i ≡ Some x)
+some-at [] i h = absurd (omega (arith, h))
+some-at (y ∷ ys) zero h = (y, refl)
+some-at (y ∷ ys) (suc i) h = some-at ys i (let l : i < length ys = omega (arith, h) in l)
+
+module _ {P : Type 0} (config : Config) where
+  -- the inbox at a place holds mail for its worker
+  pub inbox-at : (base w : ℕ) (inboxes : List (List (Mail P))) (inbox : List (Mail P)) → AreInboxes config base inboxes → slice_get inboxes w ≡ Some inbox → AllOwnMail config (base + w) inbox
+  inbox-at base w [] inbox h at = absurd (let k : None ≡ Some inbox = at in cc)
+  inbox-at base zero (x ∷ xs) inbox h at =
+      let k : Some x ≡ Some inbox = at in
+      let same : x ≡ inbox = cc in
+      let here : base ≡ base + 0 = omega arith in
+      subst (AllOwnMail config (base + 0)) same (subst (λ n. AllOwnMail config n x) here h.0)
+  inbox-at base (suc w) (x ∷ xs) inbox h at =
+      let here : (base + 1) + w ≡ base + suc w = omega arith in
+      subst (λ n. AllOwnMail config n inbox) here (inbox-at (base + 1) w xs inbox h.1 at)
+
+  -- a changed inbox
+  pub inboxes-changed : (base w : ℕ) (inboxes : List (List (Mail P))) (inbox : List (Mail P)) → AreInboxes config base inboxes → AllOwnMail config (base + w) inbox → AreInboxes config base (slice_set inboxes w inbox)
+  inboxes-changed base w [] inbox h own = h
+  inboxes-changed base zero (x ∷ xs) inbox h own =
+      let here : base + 0 ≡ base = omega arith in
+      (subst (λ n. AllOwnMail config n inbox) here own, h.1)
+  inboxes-changed base (suc w) (x ∷ xs) inbox h own =
+      let here : base + suc w ≡ (base + 1) + w = omega arith in
+      (h.0, inboxes-changed (base + 1) w xs inbox h.1 (subst (λ n. AllOwnMail config n inbox) here own))
+
+module _ {M S P K : Type 0} (handlers : Handlers S P K) (held : HeldWorld M S P K) {board_end book_end : Time} (inside : IsWorldInside handlers held board_end book_end) where
+  -- the workers after one of them changed
+  pub are-workers : (w : ℕ) (k new : HeldWorker S P K) → slice_get held.workers w ≡ Some k → new.worker ≡ k.worker → new.config ≡ k.config → AreWorkers held.config 0 (slice_set held.workers w new)
+  are-workers w k new at same_worker same_config =
+      let is = worker-at held.config 0 w held.workers k inside.own_workers at in
+      workers-changed held.config 0 w held.workers new inside.own_workers (same_worker ∙ is.0) (same_config ∙ is.1)
+
+  -- a step changes a worker
+  pub inside-worker : (step : Step) (reply : Reply) (w : ℕ) (k new : HeldWorker S P K) (board : Board) (book : Book) {new_board_end new_book_end : Time}
+      → slice_get held.workers w ≡ Some k → new.worker ≡ k.worker → new.config ≡ k.config → new_board_end ≡ board_end → new_book_end ≡ book_end
+      → GoesOn (simulation_of handlers held.config) step (Ok reply) (world_memory handlers held) (world_memory handlers (inside_view held.model held.config (slice_set held.workers w new) held.inboxes board book))
+      → IsWorldInside handlers (inside_view held.model held.config (slice_set held.workers w new) held.inboxes board book) new_board_end new_book_end
+  inside-worker step reply w k new board book at same_worker same_config same_board same_book goes =
+      inside-stepped handlers held inside step reply (slice_set held.workers w new) held.inboxes board book (length-set held.workers w new) (are-workers w k new at same_worker same_config)
+        refl inside.own_inboxes same_board same_book goes
+
+  -- a step changes a worker and an inbox
+  pub inside-mail : (step : Step) (reply : Reply) (w v : ℕ) (k new : HeldWorker S P K) (inbox : List (Mail P))
+      → slice_get held.workers w ≡ Some k → new.worker ≡ k.worker → new.config ≡ k.config → AllOwnMail held.config v inbox
+      → GoesOn (simulation_of handlers held.config) step (Ok reply) (world_memory handlers held) (world_memory handlers (inside_view held.model held.config (slice_set held.workers w new) (slice_set held.inboxes v inbox) held.board held.book))
+      → IsWorldInside handlers (inside_view held.model held.config (slice_set held.workers w new) (slice_set held.inboxes v inbox) held.board held.book) board_end book_end
+  inside-mail step reply w v k new inbox at same_worker same_config own goes =
+      let here : v ≡ 0 + v = omega arith in
+      inside-stepped handlers held inside step reply (slice_set held.workers w new) (slice_set held.inboxes v inbox) held.board held.book (length-set held.workers w new) (are-workers w k new at same_worker same_config)
+        (length-set held.inboxes v inbox) (inboxes-changed held.config 0 v held.inboxes inbox inside.own_inboxes (subst (λ n. AllOwnMail held.config n inbox) here own)) refl refl goes

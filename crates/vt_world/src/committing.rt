@@ -1,0 +1,37 @@
+//! Commit and Close.
+
+ghost use Rattle.vt_steps.specs.declared.step.Step.TheVariants as step;
+ghost use Rattle.vt_world.specs.Calls.{IsStepOf};
+
+use crate::world::World;
+use std::alloc::Global;
+use vt_key::Fault;
+use vt_model::Model as EventModel;
+use vt_steps::Reply;
+
+impl<'m, M: EventModel> World<'m, M> {
+    /// Worker `w` hands the rows of its events below its floor in to the book, and forgets these events.
+    pub(crate) fn commit(&mut self, alloc: Global, w: u32) -> Result<Reply, Fault>
+        ensures { IsStepOf (M.handlers self.old.model) (step.Commit w) self.old self.new result }
+    {
+        if self.book.is_closed() {
+            return Err(Fault::Closed);
+        }
+        if w >= self.config.workers {
+            return Err(Fault::NotLawful);
+        }
+        let floor = self.kernels[w as usize].floor();
+        let rows = self.kernels[w as usize].rows(alloc)?;
+        self.book.hand(w, &rows, floor)?;
+        self.kernels[w as usize].fossil();
+        Ok(Reply::Done)
+    }
+
+    /// The book is closed, where its floor is the end of the run.
+    pub(crate) fn close(&mut self) -> Result<Reply, Fault>
+        ensures { IsStepOf (M.handlers self.old.model) step.Close self.old self.new result }
+    {
+        self.book.close()?;
+        Ok(Reply::Done)
+    }
+}
