@@ -1,12 +1,13 @@
 -- Home and Accept: a letter leaves the outbox or the mail that has arrived, and reaches its process.
-use Rattle.std.proofs.Common.{◌≡◌, ℕ, zero, suc, ◌+◌, ◌-◌, ◌*◌, ◌/◌, ◌%◌, ◌<◌, ◌≤◌, inl, inr, Bool, true, false, cond, ◌||◌, nat_eq, List, [], ◌∷◌, ◌++◌, map, length, refl, sym, ◌∙◌, ap, subst, arith, Option, Some, None, slice_get, slice_set, if◌then◌else◌}
+use Rattle.std.proofs.Common.{◌≡◌, ℕ, zero, suc, ◌+◌, ◌-◌, ◌*◌, ◌/◌, ◌%◌, ◌<◌, ◌≤◌, inl, inr, Bool, true, false, cond, ◌||◌, nat_eq, List, [], ◌∷◌, ◌++◌, map, length, take, drop, refl, sym, ◌∙◌, ap, subst, arith, Option, Some, None, slice_get, slice_set, if◌then◌else◌}
 use Rattle.std.specs.List.{All, find, remove, list_any}
 use Rattle.vt_key.specs.Order.{rank_same}
 use Rattle.vt_key.specs.declared.letter.Sign.{Sign}
 use Rattle.vt_key.specs.declared.letter.Sign.TheVariants.{Plus, Minus}
 use Rattle.vt_steps.specs.StandsFor.{entry_of}
 use Rattle.vt_lp.specs.declared.entry.PastEvent.{PastEvent}
-use Rattle.std.proofs.lemmas.List.Elements.{All-cons, All-head, All-tail}
+use Rattle.std.proofs.lemmas.List.Elements.{All-cons, All-head, All-tail, All-append, All-take, All-drop}
+use Rattle.std.specs.Option.{option_map}
 use Rattle.std.proofs.lemmas.Bool.Decides.{eqb_tells}
 use Rattle.vt_key.specs.declared.order.Rank.{Rank}
 use Rattle.vt_key.specs.declared.letter.Letter.{Letter}
@@ -19,13 +20,13 @@ use Rattle.vt_steps.specs.declared.step.Step.TheVariants as step
 use Rattle.vt_steps.specs.Letters.{without_first, has_rank, Counts}
 use Rattle.vt_steps.specs.World.{Entry, LogicalProcess, Part}
 use Rattle.vt_steps.specs.ProcessSteps.{ProcessEffect, holds, with_letter, accept_process}
-use Rattle.vt_steps.specs.PartSteps.{at_process, is_for, home, home_letter, accept, accept_mail}
+use Rattle.vt_steps.specs.PartSteps.{at_process, with_effect, is_for, home, home_letter, accept, accept_mail}
 use Rattle.vt_lp.specs.Held.{HeldProcess, remembered, IsWithinRun, StandsFor as ProcessStandsFor}
 use Rattle.vt_lp.specs.Guards.{holds_letter, IsDone as ProcessIsDone}
 use Rattle.vt_kernel.specs.Held.{HeldWorker, StandsFor, AreProcesses, IsWorkerInside}
 use Rattle.vt_kernel.specs.Local.{at_own, local_step}
 use Rattle.vt_kernel.specs.Guards.{IsDone}
-use Rattle.vt_kernel.proofs.OwnSteps.{own, found, refused-at, IsFound}
+use Rattle.vt_kernel.proofs.OwnSteps.{own, own-step, found, refused-at, IsFound}
 use Rattle.vt_kernel.proofs.LocalLemmas.{at-found-done, plain-done}
 
 -- the two ways to leave out the first that passes are one
@@ -192,3 +193,40 @@ unfolding accept_process
 held-refused handlers q letter process st is =
     ap (λ (b : Bool). if b then None else Some (record { process = with_letter process letter.sign letter; letters = []; serials = 0 }))
     (held-same handlers q process st letter.sign letter.event.rank ∙ is)
+
+-- a letter that the process does not hold is accepted
+held-not : {S P K : Type 0} (handlers : Handlers S P K) (q : HeldProcess S P K) (letter : Letter P) (process : LogicalProcess P) → ProcessStandsFor handlers q process
+    → holds_letter q.pending q.waiting q.past letter.sign letter.event.rank ≡ false → (effect : ProcessEffect P) × (accept_process letter process ≡ Some effect)
+unfolding accept_process
+held-not handlers q letter process st is =
+    (record { process = with_letter process letter.sign letter; letters = []; serials = 0 },
+     ap (λ (b : Bool). if b then None else Some (record { process = with_letter process letter.sign letter; letters = []; serials = 0 })) (held-same handlers q process st letter.sign letter.event.rank ∙ is))
+
+-- so Accept of it is lawful
+pub accept-lawful : {S P K : Type 0} (handlers : Handlers S P K) (held : HeldWorker S P K) (are : AreProcesses held.config held.worker 0 held.processes) (part : Part P) (h : StandsFor handlers held part)
+    (i : ℕ) (mail : Mail P) (place : ℕ) (q : HeldProcess S P K) → slice_get held.arrived i ≡ Some mail
+    → place ≡ mail.letter.event.dest / held.config.workers → mail.letter.event.dest % held.config.workers ≡ held.worker → slice_get held.processes place ≡ Some q
+    → holds_letter q.pending q.waiting q.past mail.letter.sign mail.letter.event.rank ≡ false
+    → (new : Part P) × (local_step (simulation_of handlers held.config) held.worker (step.Accept held.worker i) part ≡ Some new)
+accept-lawful handlers held are part h i mail place q there is own_letter at new =
+    let sim = simulation_of handlers held.config in
+    let mid = record part { arrived = remove part.arrived i } in
+    let less = record held { arrived = remove held.arrived i } in
+    let stands : StandsFor handlers less mid = record { processes = h.processes; outbox = h.outbox; arrived = ap (λ ms. remove ms i) h.arrived; colour = h.colour; sent = h.sent; got = h.got; red_minimum = h.red_minimum; floor = h.floor; serial = h.serial } in
+    let f = found handlers less mid mail.letter.event.dest q stands are own_letter (subst (λ k. slice_get held.processes k ≡ Some q) is at) in
+    let one = held-not handlers q mail.letter f.process f.stands new in
+    (with_effect mid (mail.letter.event.dest / held.config.workers) one.0,
+     accept-is handlers held are part h i mail there
+     ∙ sym (own sim held.worker mail.letter.event.dest (at_process (accept_process mail.letter) (mail.letter.event.dest / held.config.workers) mid) own_letter)
+     ∙ own-step sim held.worker mail.letter.event.dest (accept_process mail.letter) mid f.process own_letter f.there
+     ∙ ap (option_map (with_effect mid (mail.letter.event.dest / held.config.workers))) one.1)
+
+-- what all have, the one at a place has
+pub get-all : {X : Type 0} (Q : X → Type 0) (xs : List X) (i : ℕ) (x : X) → All Q xs → slice_get xs i ≡ Some x → Q x
+get-all Q [] i x h at = absurd (let k : None ≡ Some x = at in cc)
+get-all Q (y ∷ ys) zero x h at = (let k : Some y ≡ Some x = at in let same : y ≡ x = cc in subst Q same (All-head Q y ys h))
+get-all Q (y ∷ ys) (suc i) x h at = get-all Q ys i x (All-tail Q y ys h) at
+
+-- and those that are left when it is removed
+pub removed-all : {X : Type 0} (Q : X → Type 0) (xs : List X) (i : ℕ) → All Q xs → All Q (remove xs i)
+removed-all Q xs i h = All-append Q (take i xs) (drop (suc i) xs) (All-take Q i xs h) (All-drop Q (suc i) xs h)

@@ -27,6 +27,11 @@ pub record IsDone {S P K : Type 0} (handlers : Handlers S P K) (new : HeldWorker
   pub lawful : step ≡ Some part
   pub stands : StandsFor handlers new part
 
+-- why Accept is refused: it is not lawful; or it is, and memory was refused
+abbrev pub IsAcceptRefusal : {P : Type 0} → Option (Part P) → Fault → Type 0
+IsAcceptRefusal None fault = fault ≡ NotLawful
+IsAcceptRefusal (Some part) fault = fault ≡ Memory
+
 module _ {S P : Type 0} (sim : Simulation S P) where
   -- the send number of process p in a part
   abbrev pub NumberIs : ℕ → Part P → ℕ → Type 0

@@ -13,10 +13,11 @@ ghost use Rattle.vt_lp.specs.Held.{StandsFor as ProcessStandsFor};
 ghost use Rattle.vt_lp.specs.Guards.{holds_letter, IsDone as ProcessIsDone};
 ghost use Rattle.vt_kernel.specs.Held.{StandsFor};
 ghost use Rattle.vt_kernel.specs.Local.{local_step};
-ghost use Rattle.vt_kernel.specs.Guards.{IsDone};
+ghost use Rattle.vt_kernel.specs.Guards.{IsDone, IsAcceptRefusal};
 
 use crate::kernel::Kernel;
 use crate::local::enter;
+use std::alloc::Global;
 use vt_key::{Fault, Letter};
 use vt_list::{Parcel, Predicate};
 use vt_lp::Lp;
@@ -48,6 +49,34 @@ impl<M: EventModel> Kernel<M> {
             return Err(Fault::NotLawful);
         };
         deliver(&mut self.processes[place], letter);
+        enter(&mut self.ready, &mut self.earliest, &self.processes[place], place);
+        Ok(())
+    }
+
+    /// Accept: the letter at place `i`, from 0, of the mail that has arrived reaches its process, and those after it move up.
+    ///
+    /// [`Fault::NotLawful`]: there is no such place, or its process holds the letter already. [`Fault::Memory`]: memory was
+    /// refused. After either all is as it was.
+    pub fn accept(&mut self, alloc: Global, i: u64) -> Result<(), Fault>
+        ensures done { (handlers : Handlers _ _ _) (part : Part _) → StandsFor handlers self.old part → IfOk result (λ done. IsDone handlers self.new (local_step (simulation_of handlers self.old.config) self.old.worker (step.Accept self.old.worker i) part)) }
+        ensures refused { (handlers : Handlers _ _ _) (part : Part _) → StandsFor handlers self.old part → IfErr result (λ fault. IsAcceptRefusal (local_step (simulation_of handlers self.old.config) self.old.worker (step.Accept self.old.worker i) part) fault) }
+        ensures kept { IfErr result (λ fault. self.new ≡ self.old) }
+        ensures same { (self.new.worker ≡ self.old.worker) × (self.new.config ≡ self.old.config) }
+    {
+        let i = i as usize;
+        let Some(mail) = self.arrived.get(i) else {
+            return Err(Fault::NotLawful);
+        };
+        let letter = mail.letter;
+        let place = (letter.event.dest / self.config.workers) as usize;
+        if self.processes[place].holds(letter.sign, letter.event.rank) {
+            return Err(Fault::NotLawful);
+        }
+        let Ok(parcel) = Parcel::new(alloc, letter) else {
+            return Err(Fault::Memory);
+        };
+        self.arrived.remove(i);
+        deliver(&mut self.processes[place], parcel);
         enter(&mut self.ready, &mut self.earliest, &self.processes[place], place);
         Ok(())
     }
