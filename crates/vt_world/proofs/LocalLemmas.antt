@@ -18,7 +18,7 @@ use Rattle.vt_steps.specs.StandsFor.{GoesOn}
 use Rattle.vt_lp.specs.Guards.{number_of}
 use Rattle.vt_kernel.specs.Held.{HeldWorker, StandsFor as WorkerStandsFor}
 use Rattle.vt_kernel.specs.Local.{local_step}
-use Rattle.vt_kernel.specs.Guards.{IsDone, IsExecuteRefusal}
+use Rattle.vt_kernel.specs.Guards.{IsDone, IsExecuteRefusal, IsAcceptRefusal}
 use Rattle.vt_world.specs.Held.{HeldWorld, world_memory, StandsForWorld, AreWorkers, IsReached, IsWorldInside}
 use Rattle.vt_world.specs.Calls.{IsStepRefusal, PassesLimit, TakesMemory, IsStepOf}
 use Rattle.vt_world.proofs.ReachedLemmas.{inside_view}
@@ -100,20 +100,25 @@ module _ {M S P K : Type 0} (handlers : Handlers S P K) (held : HeldWorld M S P 
 
   -- why Accept is refused
   pub accept-why : (w i : ℕ) (k : HeldWorker S P K) (fault : Fault) → slice_get held.workers w ≡ Some k
-      → ((part : Part P) → WorkerStandsFor handlers k part → ((fault ≡ NotLawful) × (local_step (simulation_of handlers k.config) k.worker (Accept w i) part ≡ None))
-          ⊎ ((fault ≡ Memory) × ((after : Part P) × (local_step (simulation_of handlers k.config) k.worker (Accept w i) part ≡ Some after))))
+      → ((part : Part P) → WorkerStandsFor handlers k part → IsAcceptRefusal (local_step (simulation_of handlers k.config) k.worker (Accept k.worker i) part) fault)
       → (world : World P) → StandsForWorld handlers held world → IsStepRefusal (simulation_of handlers held.config) (Accept w i) world fault
-  accept-why w i k fault at why world s =
-      let sim = simulation_of handlers held.config in
-      let is = who handlers held are w k at in
-      let f = found handlers held world w k are s at in
-      let refusal = subst (λ u. ((fault ≡ NotLawful) × (local_step sim u (Accept w i) f.part ≡ None)) ⊎ ((fault ≡ Memory) × ((after : Part P) × (local_step sim u (Accept w i) f.part ≡ Some after)))) is.0
-          (subst (λ (c : Config). ((fault ≡ NotLawful) × (local_step (simulation_of handlers c) k.worker (Accept w i) f.part ≡ None))
-            ⊎ ((fault ≡ Memory) × ((after : Part P) × (local_step (simulation_of handlers c) k.worker (Accept w i) f.part ≡ Some after)))) is.1 (why f.part f.stands)) in
-      elim refusal [
-        | inl a ↦ inl (ap (λ (o : Outcome P). o.answer) (locally-is world w (Accept w i) f.part None refl f.there a.1) ∙ ap Err (sym a.0))
-        | inr a ↦ inr (Done, ap (λ (o : Outcome P). o.answer) (locally-is world w (Accept w i) f.part (Some a.1.0) refl f.there a.1.1), inr (a.0, tt, λ past. past))
-      ]
+  accept-why w i k fault at why world s = go (local_step sim w (Accept w i) f.part) refl refusal
+    where
+      sim : Simulation S P
+      sim = simulation_of handlers held.config
+
+      f : IsFound handlers held world w k
+      f = found handlers held world w k are s at
+
+      refusal : IsAcceptRefusal (local_step sim w (Accept w i) f.part) fault
+      refusal =
+          let is = who handlers held are w k at in
+          subst (λ u. IsAcceptRefusal (local_step sim u (Accept u i) f.part) fault) is.0
+          (subst (λ (c : Config). IsAcceptRefusal (local_step (simulation_of handlers c) k.worker (Accept k.worker i) f.part) fault) is.1 (why f.part f.stands))
+
+      go : (after : Option (Part P)) → local_step sim w (Accept w i) f.part ≡ after → IsAcceptRefusal after fault → IsStepRefusal sim (Accept w i) world fault
+      go None e r = inl (ap (λ (o : Outcome P). o.answer) (locally-is world w (Accept w i) f.part None refl f.there e) ∙ ap Err (sym r))
+      go (Some after) e r = inr (Done, ap (λ (o : Outcome P). o.answer) (locally-is world w (Accept w i) f.part (Some after) refl f.there e), inr (r, tt, λ past. past))
 
 module _ {M S P K : Type 0} (handlers : Handlers S P K) (held : HeldWorld M S P K) {board_end book_end : Time} (inside : IsWorldInside handlers held board_end book_end) where
   -- what a world keeps to after a local step

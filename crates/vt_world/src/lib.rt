@@ -7,6 +7,7 @@ mod cutting;
 mod inbox;
 mod local;
 mod sending;
+mod step;
 mod world;
 
 pub use vt_steps::{Reply, Step};

@@ -47,4 +47,15 @@ impl<'m, M: EventModel> World<'m, M> {
         self.kernels[w as usize].home()?;
         Ok(Reply::Done)
     }
+
+    /// The letter at place `i` of the mail that has arrived at worker `w` goes to its process.
+    pub(crate) fn accept(&mut self, alloc: Global, w: u32, i: u64) -> Result<Reply, Fault>
+        ensures { IsStepOf (M.handlers self.old.model) (step.Accept w i) self.old self.new result }
+    {
+        if w >= self.config.workers {
+            return Err(Fault::NotLawful);
+        }
+        self.kernels[w as usize].accept(alloc, i)?;
+        Ok(Reply::Done)
+    }
 }
