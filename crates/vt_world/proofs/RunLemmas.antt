@@ -1,5 +1,5 @@
 -- Lists of steps, one step after the other.
-use Rattle.std.proofs.Common.{◌≡◌, ℕ, zero, suc, ◌+◌, ◌<◌, ◌≤◌, ◌⊎◌, inl, inr, Bool, true, false, List, [], ◌∷◌, ◌++◌, length, take, refl, sym, ◌∙◌, ap, subst, arith, Option, Some, None, Result, Ok, Err, slice_get, slice_index_or}
+use Rattle.std.proofs.Common.{◌≡◌, ℕ, zero, suc, ◌+◌, ◌<◌, ◌≤◌, ◌⊎◌, inl, inr, Bool, true, false, List, [], ◌∷◌, ◌++◌, length, take, refl, sym, ◌∙◌, ap, subst, arith, Option, Some, None, Result, Ok, Err, IfOk, IfErr, slice_get, slice_index_or}
 use Rattle.std.proofs.lemmas.List.{take_more}
 use Rattle.vt_key.specs.declared.fault.Fault.{Fault}
 use Rattle.vt_key.specs.declared.fault.Fault.TheVariants.{Memory, NotLawful, Closed, Exhausted}
@@ -13,7 +13,7 @@ use Rattle.vt_steps.specs.StandsFor.{WorldMemory, StandsFor, GoesOn, RunsTo}
 use Rattle.vt_steps.proofs.MemoryLemmas.{run-append}
 use Rattle.vt_steps.proofs.Refusals.{refusals as refusal-laws}
 use Rattle.vt_world.specs.Held.{HeldWorld, world_memory, StandsForWorld}
-use Rattle.vt_world.specs.Calls.{IsStepOf, IsStepRefusal, IsSpent, refusals}
+use Rattle.vt_world.specs.Calls.{IsStepOf, IsStepRefusal, IsSpent, IsAnsweredBy, refusals}
 
 -- one more answer
 refusals-more : (xs : List (Result Reply Fault)) (x : Result Reply Fault) → refusals (xs ++ x ∷ []) ≡ refusals xs + refusals (x ∷ [])
@@ -53,7 +53,7 @@ module _ {M S P K : Type 0} (handlers : Handlers S P K) (step : Step) (old new :
   pub refused-goes : (fault ≡ NotLawful) ⊎ (fault ≡ Closed) → GoesOn (simulation_of handlers old.config) step (Err fault) (world_memory handlers old) (world_memory handlers new)
   refused-goes plain world h =
       let sim = simulation_of handlers old.config in
-      let stays : (next sim world step).answer ≡ Err fault → StandsForWorld handlers new (next sim world step).world =
+      let stays : (next sim world step).answer ≡ Err fault → StandsFor sim (world_memory handlers new) (next sim world step).world =
           λ e. subst (λ w. StandsFor sim (world_memory handlers new) w) (sym ((refusal-laws sim world step).keeps fault e)) (subst (λ (v : HeldWorld M S P K). StandsFor sim (world_memory handlers v) world) (sym is.unchanged) h) in
       elim (is.refused world h) [
         | inl e ↦ (e, stays e)
@@ -70,18 +70,59 @@ module _ {M S P K : Type 0} (handlers : Handlers S P K) (step : Step) (old new :
       ]
 
   -- any other one is lawful there, and can't be done
-  pub refused-spent : (fault ≡ Exhausted) ⊎ (fault ≡ Memory) → (world : World P) → StandsForWorld handlers old world → IsSpent (simulation_of handlers old.config) step world fault
-  refused-spent spent world h =
+  pub refused-spent : (fault ≡ NotLawful → ⊥) → (fault ≡ Closed → ⊥) → (world : World P) → StandsForWorld handlers old world → IsSpent (simulation_of handlers old.config) step world fault
+  refused-spent lawful unclosed world h =
       elim (is.refused world h) [
-        | inl e ↦ absurd (elim ((refusal-laws (simulation_of handlers old.config) world step).other fault e) [
-            | inl p ↦ elim spent [
-                | inl b ↦ (let k : NotLawful ≡ Exhausted = sym p ∙ b in cc)
-                | inr b ↦ (let k : NotLawful ≡ Memory = sym p ∙ b in cc)
-              ]
-            | inr p ↦ elim spent [
-                | inl b ↦ (let k : Closed ≡ Exhausted = sym p ∙ b in cc)
-                | inr b ↦ (let k : Closed ≡ Memory = sym p ∙ b in cc)
-              ]
-          ])
+        | inl e ↦ absurd (elim ((refusal-laws (simulation_of handlers old.config) world step).other fault e) [ inl p ↦ lawful p | inr p ↦ unclosed p ])
         | inr a ↦ a
       ]
+
+-- a step that was done, and one that is passed over
+pub answered-ok : {M S P K : Type 0} (handlers : Handlers S P K) (step : Step) (old new : HeldWorld M S P K) (reply : Reply) → IsStepOf handlers step old new (Ok reply) → IsAnsweredBy handlers step old new 0
+answered-ok handlers step old new reply is = record { answer = Ok reply; goes = is.done; counted = refl; one = omega arith }
+
+pub answered-err : {M S P K : Type 0} (handlers : Handlers S P K) (step : Step) (old new : HeldWorld M S P K) (fault : Fault) → IsStepOf handlers step old new (Err fault) → (fault ≡ NotLawful) ⊎ (fault ≡ Closed)
+    → IsAnsweredBy handlers step old new 1
+answered-err handlers step old new fault is plain = record { answer = Err fault; goes = refused-goes handlers step old new fault is plain; counted = refl; one = omega arith }
+
+-- what a fault comes to in a list of steps
+pub passed-goes : {M S P K : Type 0} (handlers : Handlers S P K) (step : Step) (old new : HeldWorld M S P K) (fault : Fault) (result : Result ℕ Fault) → IsStepOf handlers step old new (Err fault)
+    → IfOk result (λ more. (more ≡ 1) × ((fault ≡ NotLawful) ⊎ (fault ≡ Closed))) → IfOk result (λ more. IsAnsweredBy handlers step old new more)
+passed-goes handlers step old new fault (Ok more) is h = subst (IsAnsweredBy handlers step old new) (sym h.0) (answered-err handlers step old new fault is h.1)
+passed-goes handlers step old new fault (Err why) is h = tt
+
+pub passed-spent : {M S P K : Type 0} (handlers : Handlers S P K) (step : Step) (old new : HeldWorld M S P K) (fault : Fault) (result : Result ℕ Fault) → IsStepOf handlers step old new (Err fault)
+    → IfErr result (λ why. (why ≡ fault) × (fault ≡ NotLawful → ⊥) × (fault ≡ Closed → ⊥))
+    → (world : World P) → StandsForWorld handlers old world → IfErr result (λ why. IsSpent (simulation_of handlers old.config) step world why)
+passed-spent handlers step old new fault (Ok more) is h world s = tt
+passed-spent handlers step old new fault (Err why) is h world s =
+    subst (IsSpent (simulation_of handlers old.config) step world) (sym h.0) (refused-spent handlers step old new fault is h.1 h.2 world s)
+
+module _ {M S P K : Type 0} (meaning : M → Handlers S P K) (steps : List Step) (at : ℕ) (step : Step) (here : take (at + 1) steps ≡ take at steps ++ step ∷ []) (first old new : HeldWorld M S P K)
+    (model : old.model ≡ first.model) (config : old.config ≡ first.config) where
+  -- the run of a list and one step more
+  pub run-on : (more : ℕ) → IsAnsweredBy (meaning old.model) step old new more
+      → RunsTo (simulation_of (meaning first.model) first.config) (take at steps) (world_memory (meaning first.model) first) (world_memory (meaning first.model) old)
+      → RunsTo (simulation_of (meaning first.model) first.config) (take (at + 1) steps) (world_memory (meaning first.model) first) (world_memory (meaning first.model) new)
+  run-on more is runs =
+      let sim = simulation_of (meaning first.model) first.config in
+      let goes : GoesOn sim step is.answer (world_memory (meaning first.model) old) (world_memory (meaning first.model) new) =
+          subst (λ m. GoesOn (simulation_of (meaning m) first.config) step is.answer (world_memory (meaning m) old) (world_memory (meaning m) new)) model
+          (subst (λ c. GoesOn (simulation_of (meaning old.model) c) step is.answer (world_memory (meaning old.model) old) (world_memory (meaning old.model) new)) config is.goes) in
+      subst (λ xs. RunsTo sim xs (world_memory (meaning first.model) first) (world_memory (meaning first.model) new)) (sym here)
+      (runs-more sim (take at steps) step is.answer (world_memory (meaning first.model) first) (world_memory (meaning first.model) old) (world_memory (meaning first.model) new) runs goes)
+
+  -- and its refusals
+  pub count-on : (more refused : ℕ) → IsAnsweredBy (meaning old.model) step old new more
+      → RunsTo (simulation_of (meaning first.model) first.config) (take at steps) (world_memory (meaning first.model) first) (world_memory (meaning first.model) old)
+      → (world : World P) → StandsForWorld (meaning first.model) first world → refused ≡ refusals (answers (simulation_of (meaning first.model) first.config) world (take at steps))
+      → refused + more ≡ refusals (answers (simulation_of (meaning first.model) first.config) world (take (at + 1) steps))
+  count-on more refused is runs world h so_far =
+      let sim = simulation_of (meaning first.model) first.config in
+      let goes : GoesOn sim step is.answer (world_memory (meaning first.model) old) (world_memory (meaning first.model) new) =
+          subst (λ m. GoesOn (simulation_of (meaning m) first.config) step is.answer (world_memory (meaning m) old) (world_memory (meaning m) new)) model
+          (subst (λ c. GoesOn (simulation_of (meaning old.model) c) step is.answer (world_memory (meaning old.model) old) (world_memory (meaning old.model) new)) config is.goes) in
+      let total = ap (λ xs. refusals (answers sim world xs)) here
+          ∙ counts-more sim (take at steps) step is.answer (world_memory (meaning first.model) first) (world_memory (meaning first.model) old) (world_memory (meaning first.model) new) runs goes world h in
+      let n = is.counted in
+      omega (arith, total, n, so_far)

@@ -81,3 +81,10 @@ abbrev pub refusals : List (Result Reply Fault) → ℕ
 refusals [] = 0
 refusals (Ok reply ∷ answers) = refusals answers
 refusals (Err fault ∷ answers) = 1 + refusals answers
+
+-- a world goes on by a step, lawful or not, and its answer is so many refusals: none or one
+pub record IsAnsweredBy {M S P K : Type 0} (handlers : Handlers S P K) (step : Step) (old new : HeldWorld M S P K) (more : ℕ) : Type 0 where
+  pub answer : Result Reply Fault
+  pub goes : GoesOn (simulation_of handlers old.config) step answer (world_memory handlers old) (world_memory handlers new)
+  pub counted : more ≡ refusals (answer ∷ [])
+  pub one : more ≤ 1

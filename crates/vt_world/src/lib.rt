@@ -10,5 +10,6 @@ mod sending;
 mod step;
 mod world;
 
+pub use step::Stop;
 pub use vt_steps::{Reply, Step};
 pub use world::World;

@@ -1,13 +1,28 @@
 //! The eleven steps of a world, and lists of them.
 
+ghost use Rattle.std.specs.Prelude.{◌≡◌, ◌⊎◌, take, slice_get, IfOk, IfErr, MatchOption};
 ghost use Rattle.vt_key.specs.Times.{TimeAtMost};
-ghost use Rattle.vt_world.specs.Calls.{IsStepOf, floor_held};
+ghost use Rattle.vt_key.specs.declared.fault.Fault.TheVariants.{NotLawful, Closed};
+ghost use Rattle.vt_model.specs.Simulation.{simulation_of};
+ghost use Rattle.vt_steps.specs.Next.{answers};
+ghost use Rattle.vt_steps.specs.StandsFor.{RunsTo};
+ghost use Rattle.vt_world.specs.Held.{world_memory, StandsForWorld};
+ghost use Rattle.vt_world.specs.Calls.{IsStepOf, IsSpent, IsAnsweredBy, floor_held, refusals};
 
 use crate::world::World;
 use std::alloc::Global;
 use vt_key::Fault;
 use vt_model::Model as EventModel;
 use vt_steps::{Reply, Step};
+
+/// Where and why a list of steps stopped.
+#[derive(Debug, Clone, Copy, PartialEq, Eq)]
+pub struct Stop {
+    /// The place of the step that couldn't be done, counted from 0.
+    pub at: usize,
+    /// [`Fault::Memory`] or [`Fault::Exhausted`].
+    pub fault: Fault,
+}
 
 impl<'m, M: EventModel> World<'m, M> {
     /// Does one step, and tells what it is answered.
@@ -33,5 +48,55 @@ impl<'m, M: EventModel> World<'m, M> {
             Step::Commit(w) => self.commit(alloc, w),
             Step::Close => self.close(),
         }
+    }
+
+    /// Does steps one after the other. A step that isn't lawful, or that the closed book refuses, changes nothing, and the
+    /// next one follows; the answer is how many were refused so.
+    ///
+    /// [`Stop`]: a lawful step couldn't be done, since memory was refused or a counter would pass 2^63. The world is then that
+    /// after the steps before it.
+    pub fn run(&mut self, alloc: Global, steps: &[Step]) -> Result<u64, Stop>
+        ensures whole { let sim = simulation_of (M.handlers self.old.model) self.old.config in IfOk result (λ n. RunsTo sim steps.now (world_memory (M.handlers self.old.model) self.old) (world_memory (M.handlers self.old.model) self.new)) }
+        ensures count { let sim = simulation_of (M.handlers self.old.model) self.old.config in (world : _) → StandsForWorld (M.handlers self.old.model) self.old world → IfOk result (λ n. n ≡ refusals (answers sim world steps.now)) }
+        ensures before { let sim = simulation_of (M.handlers self.old.model) self.old.config in IfErr result (λ stop. RunsTo sim (take stop.at steps.now) (world_memory (M.handlers self.old.model) self.old) (world_memory (M.handlers self.old.model) self.new)) }
+        ensures stopped { let sim = simulation_of (M.handlers self.old.model) self.old.config in (world : _) → StandsForWorld (M.handlers self.old.model) self.new world → IfErr result (λ stop. MatchOption (slice_get steps.now stop.at) ⊥ (λ step. IsSpent sim step world stop.fault)) }
+        ensures same { (self.new.model ≡ self.old.model) × (self.new.config ≡ self.old.config) }
+        ensures announced { TimeAtMost self.old.board.announced self.new.board.announced }
+        ensures floor { TimeAtMost (floor_held self.old) (floor_held self.new) }
+    {
+        let mut refused = 0;
+        for at in 0..steps.len() {
+            match self.advance(alloc, &steps[at]) {
+                Ok(more) => refused += more,
+                Err(fault) => return Err(Stop { at, fault }),
+            }
+        }
+        Ok(refused)
+    }
+
+    /// Does one step of a list, and tells how many refusals it adds: one where it isn't lawful, or the closed book refuses it.
+    fn advance(&mut self, alloc: Global, step: &Step) -> Result<u64, Fault>
+        ensures goes { IfOk result (λ more. IsAnsweredBy (M.handlers self.old.model) step.now self.old self.new more) }
+        ensures spent { (world : _) → StandsForWorld (M.handlers self.old.model) self.old world → IfErr result (λ fault. IsSpent (simulation_of (M.handlers self.old.model) self.old.config) step.now world fault) }
+        ensures unchanged { IfErr result (λ fault. self.new ≡ self.old) }
+        ensures same { (self.new.model ≡ self.old.model) × (self.new.config ≡ self.old.config) }
+        ensures announced { TimeAtMost self.old.board.announced self.new.board.announced }
+        ensures floor { TimeAtMost (floor_held self.old) (floor_held self.new) }
+    {
+        match self.step(alloc, step) {
+            Ok(_) => Ok(0),
+            Err(fault) => passed_over(fault),
+        }
+    }
+}
+
+/// The refusal that a fault is in a list of steps; the fault itself where the list stops at it.
+fn passed_over(fault: Fault) -> Result<u64, Fault>
+    ensures passed { IfOk result (λ more. (more ≡ 1) × ((fault ≡ NotLawful) ⊎ (fault ≡ Closed))) }
+    ensures stopped { IfErr result (λ why. (why ≡ fault) × (fault ≡ NotLawful → ⊥) × (fault ≡ Closed → ⊥)) }
+{
+    match fault {
+        Fault::NotLawful | Fault::Closed => Ok(1),
+        _ => Err(fault),
     }
 }
