@@ -32,7 +32,7 @@ module _ {S P K : Type 0} (handlers : Handlers S P K) (config : Config) where
       IsRemembered (simulation_of handlers config) p before (remembered handlers p (past_event (signed Plus event) trail))
   remembers p w serial event before now trail triple state number small few place anti rows =
       let place_is : (now.place + (2 ^ 64 - trail.drawn)) % 2 ^ 64 ≡ before.place =
-          ap (λ (n : ℕ). (n + (2 ^ 64 - trail.drawn)) % 2 ^ 64) place ∙ place-back before.place trail.drawn small few in
+      ap (λ (n : ℕ). (n + (2 ^ 64 - trail.drawn)) % 2 ^ 64) place ∙ place-back before.place trail.drawn small few in
       record {
         back = ap (way_back handlers p (past_event (signed Plus event) trail)) (sym triple)
             ∙ (λ j. record { state = state j; number = number j; place = place_is j });

@@ -1,12 +1,11 @@
 -- What the ends of the lists tell: which event may be executed next, and that the least letter can go out and come back.
-use Rattle.std.proofs.Common.{◌≡◌, ◌-◌, ◌||◌, Bool, true, false, if◌then◌else◌, List, [], ◌∷◌, Option, Some, None, slice_get, length, refl, sym, subst, ◌∙◌, ap, ◌⊎◌, inl, inr}
-use Rattle.std.specs.List.{last_or, list_any}
-use Rattle.vt_key.specs.Order.{RankBefore, rank_before, rank_same}
+use Rattle.std.proofs.Common.{◌≡◌, ◌-◌, ◌||◌, Bool, true, false, if◌then◌else◌, List, [], ◌∷◌, Option, Some, None, slice_get, length, refl, subst, ◌∙◌, ap, ◌⊎◌, inl, inr}
+use Rattle.std.specs.List.{last_or}
+use Rattle.vt_key.specs.Order.{RankBefore, rank_same}
 use Rattle.vt_key.specs.declared.order.Rank.{Rank}
-use Rattle.vt_key.specs.declared.letter.Event.{Event}
 use Rattle.vt_key.specs.declared.letter.Letter.{Letter}
 use Rattle.vt_key.proofs.OrderLemmas.{rank-irreflexive, rank_same-true, before-rank_before}
-use Rattle.vt_pending.specs.Letters.{letter_rank, holds_rank, insert_letter, AllAfter, IsRising}
+use Rattle.vt_pending.specs.Letters.{letter_rank, holds_rank, insert_letter, AllAfter}
 use Rattle.vt_lp.specs.declared.entry.PastEvent.{PastEvent}
 use Rattle.vt_lp.specs.Guards.{may_come_after}
 use Rattle.vt_lp.specs.Past.{ready_event}

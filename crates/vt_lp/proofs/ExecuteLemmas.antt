@@ -1,17 +1,14 @@
 -- Execute: what the code does is the step of each process that it stands for.
-use Rattle.std.proofs.Common.{◌≡◌, ℕ, ◌+◌, ◌-◌, ◌%◌, ◌<◌, ◌≤◌, ◌⊎◌, inl, inr, List, [], ◌∷◌, ◌++◌, map, length, Bool, true, false, Option, Some, None, if◌then◌else◌, refl, sym, subst, ap, ◌∙◌, arith}
+use Rattle.std.proofs.Common.{◌≡◌, ℕ, ◌+◌, ◌<◌, ◌≤◌, inl, inr, List, [], ◌∷◌, ◌++◌, map, length, Bool, true, false, Option, Some, None, if◌then◌else◌, refl, sym, subst, ap, ◌∙◌, arith}
 use Rattle.std.specs.List.{All, last_or}
 use Rattle.std.proofs.lemmas.List.{map-append}
 use Rattle.std.proofs.lemmas.List.Elements.{All-head, All-tail, All-cons, All-nil, All-append}
 use Rattle.vt_key.specs.Times.{Time, TimeBefore}
-use Rattle.vt_key.specs.Order.{RankBefore, rank_before}
+use Rattle.vt_key.specs.Order.{RankBefore}
 use Rattle.vt_key.specs.declared.limits.TheConstants.{MAX_COUNT}
-use Rattle.vt_key.specs.declared.order.Rank.{Rank}
 use Rattle.vt_key.specs.declared.fault.Fault.{Fault}
-use Rattle.vt_key.specs.declared.fault.Fault.TheVariants.{Memory, NotLawful, Exhausted}
 use Rattle.vt_key.specs.declared.letter.Event.{Event}
 use Rattle.vt_key.specs.declared.letter.Letter.{Letter}
-use Rattle.vt_key.specs.declared.letter.Sign.{Sign}
 use Rattle.vt_key.specs.declared.letter.Sign.TheVariants.{Plus, Minus}
 use Rattle.vt_key.proofs.OrderLemmas.{rank-transitive, rank_before-true}
 use Rattle.vt_model.specs.declared.sending.Sent.{Sent}
@@ -21,11 +18,11 @@ use Rattle.vt_model.specs.declared.limits.TheConstants.{MAX_DRAWS}
 use Rattle.vt_model.specs.Process.{IsProcessStream}
 use Rattle.vt_stream.specs.Words.{Stream}
 use Rattle.vt_pending.specs.Letters.{letter_rank, has_rank, holds_rank, IsRising}
-use Rattle.vt_model.specs.Simulation.{Simulation, Triple, Fired, simulation_of, after, after_from}
+use Rattle.vt_model.specs.Simulation.{Simulation, Triple, Fired, simulation_of}
 use Rattle.vt_steps.specs.Letters.{unstamped, stamped, signed}
-use Rattle.vt_steps.specs.World.{Entry, LogicalProcess, entry_events, triple_after}
-use Rattle.vt_steps.specs.ProcessSteps.{ProcessEffect, may_follow, effect_of_execute, execute_least, execute_process}
-use Rattle.vt_steps.specs.StandsFor.{Remembered, entry_of, fired_at, IsRemembered, LeadTo, StandsForProcess}
+use Rattle.vt_steps.specs.World.{Entry, LogicalProcess, triple_after}
+use Rattle.vt_steps.specs.ProcessSteps.{may_follow, effect_of_execute, execute_least, execute_process}
+use Rattle.vt_steps.specs.StandsFor.{entry_of, IsRemembered, LeadTo}
 use Rattle.vt_steps.proofs.MemoryLemmas.{is_where, goes_on, after-append}
 use Rattle.vt_steps.proofs.Stamped.{length-stamped}
 use Rattle.vt_lp.specs.declared.entry.PastEvent.{PastEvent}
@@ -98,7 +95,7 @@ module _ {S P K : Type 0} (handlers : Handlers S P K) where
   execute-some held w serial h l ls e is ready s =
       ap (λ xs. execute_least (simulation_of handlers held.config) held.lp w serial h xs) (s.pending ∙ is)
       ∙ ap (λ b. if b then Some (effect_of_execute (simulation_of handlers held.config) held.lp w serial h l ls) else None)
-        (may-is held h l.event s ∙ ready-may l ls held.past e (ready ∙ ap (λ xs. ready_event xs held.past) is))
+      (may-is held h l.event s ∙ ready-may l ls held.past e (ready ∙ ap (λ xs. ready_event xs held.past) is))
 
   -- a process that an event took on and back stands where it stood
   pub came-back : (config : Config) (p : ℕ) (before now : Triple S) (event : Event P) (trail : Trail P K) →
@@ -119,7 +116,7 @@ module _ {S P K : Type 0} (handlers : Handlers S P K) where
       new_outbox ≡ outbox ++ messages →
       new_serial ≡ serial + length ((simulation_of handlers held.config).fire q held.triple (unstamped event)).sends →
       IsDone handlers (record { lp = held.lp; config = held.config; triple = now; past = past; pending = ls; waiting = held.waiting })
-        (execute_process (simulation_of handlers held.config) held.lp w serial h) outbox new_outbox serial new_serial
+      (execute_process (simulation_of handlers held.config) held.lp w serial h) outbox new_outbox serial new_serial
   unfolding effect_of_execute
   executes held w serial h l ls q event now trail past outbox new_outbox messages new_serial s is ready plus own longer triple kept anti mess box next =
       let p : ℕ = held.lp in
@@ -131,12 +128,12 @@ module _ {S P K : Type 0} (handlers : Handlers S P K) where
       let at : triple_after sim p (h.done ++ h.past) ≡ held.triple = is_where sim p (process_memory handlers held) h s in
       let e : PastEvent P K = past_event l trail in
       let kept_own : IsRemembered sim p held.triple (remembered handlers p e) =
-          coe 0 1 (j. IsRemembered sim (own j) held.triple (remembered handlers (own j) (past_event (letter j) trail))) kept in
+      coe 0 1 (j. IsRemembered sim (own j) held.triple (remembered handlers (own j) (past_event (letter j) trail))) kept in
       let gone = goes_on sim p (process_memory handlers held) h (remembered handlers p e) s kept_own in
       let grown : map (remembered handlers p) held.past ++ remembered handlers p e ∷ [] ≡ map (remembered handlers p) past =
-          sym (map-append (remembered handlers p) held.past (e ∷ [])) ∙ ap (map (remembered handlers p)) (sym longer) in
+      sym (map-append (remembered handlers p) held.past (e ∷ [])) ∙ ap (map (remembered handlers p)) (sym longer) in
       let sent : map (λ x. x.event) trail.anti_messages ≡ stamped w serial fired.sends =
-          ap (map (λ x. x.event)) (anti ∙ ap (λ (f : Fired S P). map (signed Minus) (stamped w serial f.sends)) same) ∙ events-signed Minus (stamped w serial fired.sends) in
+      ap (map (λ x. x.event)) (anti ∙ ap (λ (f : Fired S P). map (signed Minus) (stamped w serial f.sends)) same) ∙ events-signed Minus (stamped w serial fired.sends) in
       let there : fired ≡ sim.fire p (triple_after sim p (h.done ++ h.past)) (unstamped l.event) = ap (λ (t : Triple S). sim.fire p t (unstamped l.event)) (sym at) in
       let now_is : fired.triple ≡ now = ap (λ (f : Fired S P). f.triple) (sym same) ∙ sym triple in
       record {
@@ -174,20 +171,23 @@ module _ {S P K : Type 0} (handlers : Handlers S P K) where
           let sends : List (Sent P) = (sim.fire held.lp (triple_after sim held.lp (h.done ++ h.past)) (unstamped l.event)).sends in
           let e : Entry P = record { event = l.event; sent = stamped w serial sends } in
           let same : sim.fire held.lp held.triple (unstamped l.event) ≡ sim.fire held.lp (triple_after sim held.lp (h.done ++ h.past)) (unstamped l.event) =
-              ap (λ (t : Triple S). sim.fire held.lp t (unstamped l.event)) (sym at) in
+          ap (λ (t : Triple S). sim.fire held.lp t (unstamped l.event)) (sym at) in
           let after : triple_after sim held.lp (h.done ++ (h.past ++ e ∷ [])) ≡ (sim.fire held.lp (triple_after sim held.lp (h.done ++ h.past)) (unstamped l.event)).triple =
-              after-append sim held.lp (sim.start held.lp).triple h.done (h.past ++ e ∷ [])
-              ∙ after-append sim held.lp (triple_after sim held.lp h.done) h.past (e ∷ [])
-              ∙ ap (λ (t : Triple S). (sim.fire held.lp t (unstamped l.event)).triple) (sym (after-append sim held.lp (sim.start held.lp).triple h.done h.past)) in
+          after-append sim held.lp (sim.start held.lp).triple h.done (h.past ++ e ∷ [])
+          ∙ after-append sim held.lp (triple_after sim held.lp h.done) h.past (e ∷ [])
+          ∙ ap (λ (t : Triple S). (sim.fire held.lp t (unstamped l.event)).triple) (sym (after-append sim held.lp (sim.start held.lp).triple h.done h.past)) in
           let number : (triple_after sim held.lp (h.done ++ (h.past ++ e ∷ []))).number ≡ (sim.fire held.lp held.triple (unstamped l.event)).triple.number =
-              ap (λ (t : Triple S). t.number) after ∙ ap (λ (f : Fired S P). f.triple.number) (sym same) in
+          ap (λ (t : Triple S). t.number) after ∙ ap (λ (f : Fired S P). f.triple.number) (sym same) in
           let count : length (stamped w serial sends) ≡ length (sim.fire held.lp held.triple (unstamped l.event)).sends =
-              length-stamped w serial sends ∙ ap (λ (f : Fired S P). length f.sends) (sym same) in
+          length-stamped w serial sends ∙ ap (λ (f : Fired S P). length f.sends) (sym same) in
           elim r [
-            | inl x ↦ inl (x.0, elim x.1 [
-              | inl m ↦ inl (subst (λ n. MAX_COUNT < n) (sym number) m)
-              | inr m ↦ inr (subst (λ n. MAX_COUNT < serial + n) (sym count) m)
-            ])
+            | inl x ↦ inl (
+              x.0,
+              elim x.1 [
+                | inl m ↦ inl (subst (λ n. MAX_COUNT < n) (sym number) m)
+                | inr m ↦ inr (subst (λ n. MAX_COUNT < serial + n) (sym count) m)
+              ],
+            )
             | inr x ↦ inr (x.0, record { number = subst (λ n. n ≤ MAX_COUNT) (sym number) x.1; serials = subst (λ n. serial + n ≤ MAX_COUNT) (sym count) x.2 })
           ]
 

@@ -1,11 +1,10 @@
 -- Undo: what the code does is the step of each process that it stands for.
-use Rattle.std.proofs.Common.{◌≡◌, ℕ, suc, ◌+◌, ◌-◌, ◌≤◌, ◌||◌, List, [], ◌∷◌, ◌++◌, map, take, length, Bool, true, false, Option, Some, None, if◌then◌else◌, refl, sym, subst, ap, ◌∙◌, arith}
+use Rattle.std.proofs.Common.{◌≡◌, ℕ, suc, ◌+◌, ◌-◌, ◌≤◌, List, [], ◌∷◌, ◌++◌, map, take, length, true, false, Option, Some, None, if◌then◌else◌, refl, sym, subst, ap, ◌∙◌, arith}
 use Rattle.std.specs.List.{All, last_or}
 use Rattle.std.proofs.lemmas.List.{map-append}
 use Rattle.std.proofs.lemmas.List.Elements.{All-head, All-tail, All-cons, All-nil}
 use Rattle.vt_key.specs.Order.{rank_before, rank_same}
 use Rattle.vt_key.specs.declared.limits.TheConstants.{MAX_COUNT}
-use Rattle.vt_key.specs.declared.letter.Event.{Event}
 use Rattle.vt_key.specs.declared.letter.Letter.{Letter}
 use Rattle.vt_key.specs.declared.letter.Sign.TheVariants.{Plus, Minus}
 use Rattle.vt_stream.specs.Words.{Stream}
@@ -13,10 +12,10 @@ use Rattle.vt_model.specs.declared.settings.Config.{Config}
 use Rattle.vt_model.specs.Handler.{Handlers}
 use Rattle.vt_model.specs.Process.{IsProcessStream}
 use Rattle.vt_model.specs.Simulation.{Simulation, Triple, simulation_of}
-use Rattle.vt_pending.specs.Letters.{letter_rank, holds_rank, insert_letter}
+use Rattle.vt_pending.specs.Letters.{letter_rank, insert_letter}
 use Rattle.vt_steps.specs.Letters.{signed, insert_ordered}
 use Rattle.vt_steps.specs.World.{Entry, LogicalProcess, triple_after}
-use Rattle.vt_steps.specs.ProcessSteps.{ProcessEffect, must_undo, effect_of_undo, undo_last, undo_process}
+use Rattle.vt_steps.specs.ProcessSteps.{must_undo, effect_of_undo, undo_last, undo_process}
 use Rattle.vt_steps.specs.StandsFor.{entry_of, LeadTo}
 use Rattle.vt_steps.proofs.MemoryLemmas.{goes_back}
 use Rattle.vt_lp.specs.declared.entry.PastEvent.{PastEvent}
@@ -24,7 +23,6 @@ use Rattle.vt_lp.specs.Held.{HeldProcess, StandsFor, process_memory, remembered,
 use Rattle.vt_lp.specs.Guards.{IsDone}
 use Rattle.vt_lp.specs.Past.{is_forced, must_undo_last}
 use Rattle.vt_lp.proofs.RisingLemmas.{insert-same}
-use Rattle.vt_lp.proofs.PastLemmas.{before-differs}
 use Rattle.vt_lp.proofs.AcceptLemmas.{All-insert, holds-insert}
 use Rattle.vt_lp.proofs.Ends.{after-differs}
 
@@ -102,15 +100,15 @@ module _ {S P K : Type 0} (handlers : Handlers S P K) where
       let sim : Simulation S P = simulation_of handlers held.config in
       let entry : Entry P = entry_of (remembered handlers p e) in
       let shorter : map (remembered handlers p) held.past ≡ map (remembered handlers p) past ++ remembered handlers p e ∷ [] =
-          ap (map (remembered handlers p)) longer ∙ map-append (remembered handlers p) past (e ∷ []) in
+      ap (map (remembered handlers p)) longer ∙ map-append (remembered handlers p) past (e ∷ []) in
       let past_is : h.past ≡ map entry_of (map (remembered handlers p) past) ++ entry ∷ [] =
-          s.past ∙ ap (map entry_of) shorter ∙ map-append entry_of (map (remembered handlers p) past) (remembered handlers p e ∷ []) in
+      s.past ∙ ap (map entry_of) shorter ∙ map-append entry_of (map (remembered handlers p) past) (remembered handlers p e ∷ []) in
       let last_is : last_or None h.past ≡ Some entry = ap (λ (es : List (Entry P)). last_or None es) past_is ∙ last-push None (map entry_of (map (remembered handlers p) past)) entry in
       let front_is : take (length h.past - 1) h.past ≡ map entry_of (map (remembered handlers p) past) =
-          ap (λ (es : List (Entry P)). take (length es - 1) es) past_is ∙ front-of (map entry_of (map (remembered handlers p) past)) entry in
+      ap (λ (es : List (Entry P)). take (length es - 1) es) past_is ∙ front-of (map entry_of (map (remembered handlers p) past)) entry in
       let must : must_undo h e.letter.event ≡ true =
-          (λ j. is_forced (s.pending j) (s.waiting j) e.letter.event.rank)
-          ∙ ap (must_undo_last held.pending held.waiting) (sym (ap (λ (es : List (PastEvent P K)). last_or None es) longer ∙ last-push None past e)) ∙ forced in
+      (λ j. is_forced (s.pending j) (s.waiting j) e.letter.event.rank)
+      ∙ ap (must_undo_last held.pending held.waiting) (sym (ap (λ (es : List (PastEvent P K)). last_or None es) longer ∙ last-push None past e)) ∙ forced in
       let gone = goes_back sim p (process_memory handlers held) h (map (remembered handlers p) past) (remembered handlers p e) s shorter in
       let plus : signed Plus e.letter.event ≡ e.letter = λ j. record { event = e.letter.event; sign = sym mine.own.signed j } in
       record {

@@ -23,7 +23,9 @@ use arrayvec::ArrayVec;
 use std::alloc::Global;
 use vt_key::{Event, Fault, Letter, MAX_COUNT, Sign};
 use vt_list::{List, Parcel};
-use vt_model::{Bits, Config, Executed, MAX_DRAWS, MAX_RECORDS, Model as EventModel, Process, Record, Sent};
+use vt_model::{
+    Bits, Config, Executed, MAX_DRAWS, MAX_RECORDS, Model as EventModel, Process, Record, Sent,
+};
 use vt_pending::Pending;
 
 /// What an executed event leaves for its undo and its commit.
@@ -69,7 +71,14 @@ impl<M: EventModel> Lp<M> {
         let Some(event) = ready_event(&self.pending, &self.past) else {
             return Err(Fault::NotLawful);
         };
-        let (trail, mut messages) = match advance(&mut self.process, alloc, model, self.config, *serial, event) {
+        let (trail, mut messages) = match advance(
+            &mut self.process,
+            alloc,
+            model,
+            self.config,
+            *serial,
+            event,
+        ) {
             Ok(advanced) => advanced,
             Err(fault) => return Err(fault),
         };

@@ -1,6 +1,6 @@
-use Rattle.std.proofs.Common.{◌≡◌, ℕ, ◌+◌, ◌<◌, ◌^◌, ◌≤◌, ◌%◌, ◌∙◌, List, map, ap, sym, subst, refl, arith, max}
+use Rattle.std.proofs.Common.{◌<◌, ◌^◌, ◌∙◌, List, map, ap, sym, subst, refl, arith}
 use Rattle.std.specs.List.{All}
-use prog.Memory.{up, align, size}
+use prog.Memory.{align, size}
 use denote.Memory.{lone}
 use Rattle.vt_key.specs.declared.letter.Letter.{Letter}
 use Rattle.vt_key.specs.declared.letter.Sign.TheVariants.{Plus, Minus}
@@ -8,7 +8,7 @@ use Rattle.vt_stream.specs.Words.{Stream}
 use Rattle.vt_model.specs.declared.sending.Sent.{Sent}
 use Rattle.vt_model.specs.declared.rows.Record.{Record}
 use Rattle.vt_model.specs.Process.{triple_at}
-use Rattle.vt_model.specs.Simulation.{simulation_of, rows_of, Triple}
+use Rattle.vt_model.specs.Simulation.{simulation_of, rows_of}
 use Rattle.vt_model.proofs.LawLemmas.{lawful_of}
 use Rattle.vt_steps.specs.Letters.{unstamped, stamped, signed}
 use Rattle.vt_lp.specs.Held.{AllWithinRun, IsReady}
@@ -71,12 +71,12 @@ returns-clause-remembered g c ok =
     let fired = sim.fire event.dest t (unstamped event) in
     let sends = c.sends-2.ensures ∙ c.execute-drawn.ensures.fires.sends in
     remembers (g.M.Model.handlers c.args.model.now) config event.dest c.owner-worker.result c.args.serial event t
-        (triple_at c.execute-drawn.new.self.state c.execute-drawn.new.self.number c.execute-drawn.new.self.stream) _
-        ((λ j. record { state = c.execute-drawn.new.self.state; number = c.execute-drawn.ensures.number j; place = c.execute-drawn.new.self.stream.place }) ∙ c.execute-drawn.ensures.fires.triple)
-        (c.execute-drawn.ensures.undoes ok) refl c.execute-drawn.ensures.in_range c.execute-drawn.ensures.few
-        (ap (λ (w : Stream). w.place) c.execute-drawn.ensures.stream)
-        (c.in-Ok.ensures.anti_messages ∙ ap (λ (xs : List (Sent _)). map (signed Minus) (stamped c.owner-worker.result c.args.serial xs)) sends)
-        (ap (λ (xs : List Record). rows_of event.rank.key xs) c.into_records.ensures ∙ c.execute-drawn.ensures.fires.rows)
+    (triple_at c.execute-drawn.new.self.state c.execute-drawn.new.self.number c.execute-drawn.new.self.stream) _
+    ((λ j. record { state = c.execute-drawn.new.self.state; number = c.execute-drawn.ensures.number j; place = c.execute-drawn.new.self.stream.place }) ∙ c.execute-drawn.ensures.fires.triple)
+    (c.execute-drawn.ensures.undoes ok) refl c.execute-drawn.ensures.in_range c.execute-drawn.ensures.few
+    (ap (λ (w : Stream). w.place) c.execute-drawn.ensures.stream)
+    (c.in-Ok.ensures.anti_messages ∙ ap (λ (xs : List (Sent _)). map (signed Minus) (stamped c.owner-worker.result c.args.serial xs)) sends)
+    (ap (λ (xs : List Record). rows_of event.rank.key xs) c.into_records.ensures ∙ c.execute-drawn.ensures.fires.rows)
 
 pub returns-clause-ready : goal.returns-clause-ready
 returns-clause-ready g c =

@@ -1,4 +1,4 @@
-use Rattle.std.proofs.Common.{◌≡◌, ◌∙◌, List, [], ◌∷◌, ◌++◌, ap, sym, subst, refl}
+use Rattle.std.proofs.Common.{◌≡◌, ◌∙◌, [], ◌∷◌, ◌++◌, ap, sym, subst, refl}
 use Rattle.vt_key.specs.declared.letter.Letter.{Letter}
 use Rattle.vt_pending.specs.Letters.{letter_rank, holds_rank, insert_letter, IsRising}
 use Rattle.vt_lp.specs.declared.entry.PastEvent.{PastEvent}

@@ -1,4 +1,4 @@
-use Rattle.std.proofs.Common.{◌≡◌, ◌+◌, ◌<◌, ◌∙◌, length, map, List, [], ◌∷◌, ◌++◌, take, ap, sym, arith, length-take}
+use Rattle.std.proofs.Common.{◌≡◌, ◌+◌, ◌∙◌, length, map, List, [], ◌∷◌, ◌++◌, take, ap, sym, arith, length-take}
 use Rattle.std.proofs.lemmas.List.{take_more}
 use Rattle.vt_model.specs.declared.sending.Sent.{Sent}
 use Rattle.vt_steps.specs.Letters.{stamped, signed}
@@ -10,7 +10,7 @@ loop-send-preserved g c =
     let send = c.send-item.result in
     let before = take c.loop-send.send-index c.args.sends.now in
     let more : take (c.loop-send.send-index + 1) c.args.sends.now ≡ before ++ send ∷ [] =
-        take_more c.args.sends.now c.loop-send.send-index send c.loop-send-test.true ∙ ap (λ (x : Sent _). before ++ x ∷ []) (sym c.send-item.is) in
+    take_more c.args.sends.now c.loop-send.send-index send c.loop-send-test.true ∙ ap (λ (x : Sent _). before ++ x ∷ []) (sym c.send-item.is) in
     let there : length before ≡ c.loop-send.send-index = omega (arith, length-take c.loop-send.send-index c.args.sends.now, c.loop-send-test.true) in
     let at : c.loop-send.serial ≡ c.args.serial + length before = omega (arith, there, c.loop-send.invariant.next) in
     let made : c.in-Ok.letter ≡ signed c.args.sign (event_of c.args.worker c.loop-send.serial send) = c.in-Ok.ensures.made in

@@ -1,6 +1,5 @@
-use Rattle.std.proofs.Common.{◌≡◌, ℕ, ◌+◌, ◌<◌, ◌^◌, ◌≤◌, ◌∙◌, List, map, length, ap, sym, subst, arith, max}
-use Rattle.std.specs.List.{All}
-use prog.Memory.{up, align, size}
+use Rattle.std.proofs.Common.{◌≡◌, ◌<◌, ◌^◌, ◌≤◌, ◌∙◌, List, map, length, ap, sym, subst, arith}
+use prog.Memory.{align, size}
 use denote.Memory.{lone}
 use Rattle.vt_key.specs.declared.letter.Letter.{Letter}
 use Rattle.vt_key.specs.declared.letter.Sign.TheVariants.{Plus}
@@ -55,7 +54,7 @@ returns-in-Ok-clause-within g c =
     let sim = simulation_of (g.M.Model.handlers c.args.model.now) config in
     let lawful = lawful_of (g.M.Model.handlers c.args.model.now) config (g.met.M.Model.start_within c.args.model.now) (g.met.M.Model.forward_within c.args.model.now) in
     let made : c.in-Ok.messages ≡ map (signed Plus) (stamped c.owner-worker.result c.args.serial (sim.start c.args.lp).sends) =
-        c.in-Ok.ensures.letters ∙ ap (λ (xs : List (Sent _)). map (signed Plus) (stamped c.owner-worker.result c.args.serial xs)) (c.sends-2.ensures ∙ c.start-process.ensures.sends) in
+    c.in-Ok.ensures.letters ∙ ap (λ (xs : List (Sent _)). map (signed Plus) (stamped c.owner-worker.result c.args.serial xs)) (c.sends-2.ensures ∙ c.start-process.ensures.sends) in
     subst (λ (xs : List (Letter _)). AllWithinRun config xs) (sym made)
     (letters-within config.lps config.end Plus c.owner-worker.result c.args.serial (sim.start c.args.lp).sends
     (λ d m. lawful.known_start c.args.lp d c.requires.known m) (λ d m. lawful.ends_start c.args.lp d c.requires.known m))

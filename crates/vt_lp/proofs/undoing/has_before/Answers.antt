@@ -1,4 +1,4 @@
-use Rattle.std.proofs.Common.{◌≡◌, ◌∙◌, ap, sym}
+use Rattle.std.proofs.Common.{◌∙◌, ap, sym}
 use Rattle.std.specs.Option.{option_copied}
 use Rattle.vt_lp.proofs.RisingLemmas.{any-before-least, any-none}
 use Rattle.vt_lp.proofs.undoing.has_before.Goals as goal

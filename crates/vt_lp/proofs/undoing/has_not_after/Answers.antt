@@ -1,4 +1,4 @@
-use Rattle.std.proofs.Common.{◌≡◌, ◌∙◌, not, ap, sym}
+use Rattle.std.proofs.Common.{◌∙◌, not, ap, sym}
 use Rattle.std.specs.Option.{option_copied}
 use Rattle.vt_lp.proofs.RisingLemmas.{any-not-after-least, any-none}
 use Rattle.vt_lp.proofs.undoing.has_not_after.Goals as goal

@@ -1,5 +1,5 @@
-use Rattle.std.proofs.Common.{◌≡◌, ◌∙◌, ◌||◌, not, Some, None, ap, sym}
-use Rattle.std.specs.List.{last_or, list_any}
+use Rattle.std.proofs.Common.{◌≡◌, ◌∙◌, ◌||◌, not, ap, sym}
+use Rattle.std.specs.List.{list_any}
 use Rattle.std.specs.Option.{option_copied}
 use Rattle.vt_key.specs.Order.{rank_before}
 use Rattle.vt_key.specs.declared.letter.Letter.{Letter}
@@ -17,8 +17,8 @@ returns-then-has_before g c =
     let at : c.get.result.now.event.rank ≡ rank = ap (λ (l : Letter _). l.event.rank) c.get.ensures in
     c.if-has_before.true
     ∙ sym (ap (must_undo_last c.args.pending.now c.args.waiting.now) (last-at c.args.past.now ∙ sym c.in-Some.ensures)
-      ∙ ap (is_forced c.args.pending.now c.args.waiting.now) (sym at)
-      ∙ ap (λ b. b || list_any (λ letter. not (rank_before c.get.result.now.event.rank letter.event.rank)) c.args.waiting.now) (sym c.has_before.ensures ∙ c.if-has_before.true))
+    ∙ ap (is_forced c.args.pending.now c.args.waiting.now) (sym at)
+    ∙ ap (λ b. b || list_any (λ letter. not (rank_before c.get.result.now.event.rank letter.event.rank)) c.args.waiting.now) (sym c.has_before.ensures ∙ c.if-has_before.true))
 
 pub returns-else-has_before : goal.returns-else-has_before
 returns-else-has_before g c =
@@ -26,5 +26,5 @@ returns-else-has_before g c =
     let at : c.get.result.now.event.rank ≡ rank = ap (λ (l : Letter _). l.event.rank) c.get.ensures in
     c.has_not_after.ensures
     ∙ sym (ap (must_undo_last c.args.pending.now c.args.waiting.now) (last-at c.args.past.now ∙ sym c.in-Some.ensures)
-      ∙ ap (is_forced c.args.pending.now c.args.waiting.now) (sym at)
-      ∙ ap (λ b. b || list_any (λ letter. not (rank_before c.get.result.now.event.rank letter.event.rank)) c.args.waiting.now) (sym c.has_before.ensures ∙ c.if-has_before.false))
+    ∙ ap (is_forced c.args.pending.now c.args.waiting.now) (sym at)
+    ∙ ap (λ b. b || list_any (λ letter. not (rank_before c.get.result.now.event.rank letter.event.rank)) c.args.waiting.now) (sym c.has_before.ensures ∙ c.if-has_before.false))

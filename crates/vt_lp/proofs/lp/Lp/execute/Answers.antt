@@ -1,4 +1,4 @@
-use Rattle.std.proofs.Common.{◌≡◌, ◌∙◌, ◌+◌, ◌<◌, ◌≤◌, ◌%◌, ◌^◌, ◌++◌, ◌∷◌, inr, List, map, length, sym, subst, refl, ap, arith}
+use Rattle.std.proofs.Common.{◌≡◌, ◌∙◌, ◌+◌, ◌≤◌, ◌%◌, ◌++◌, ◌∷◌, inr, List, map, length, sym, subst, refl, ap, arith}
 use Rattle.std.specs.List.{All}
 use Rattle.std.proofs.lemmas.List.Elements.{All-head, All-append}
 use Rattle.vt_key.specs.declared.limits.TheConstants.{MAX_COUNT}
@@ -87,7 +87,7 @@ returns-in-Err-clause-unchanged g c h s =
     let w = l.lp % l.config.workers in
     let now = subst (λ (v : HeldProcess _ _ _). StandsFor handlers v h) (sym c.self.view_is) s in
     let ok = subst (λ (t : Triple _). g.M.Model.IsState c.args.model.now t.state) (is_where (simulation_of handlers l.config) l.lp (process_memory handlers held) h now)
-        (after_state handlers l.config (g.M.Model.IsState c.args.model.now) (g.met.M.Model.start_state c.args.model.now) (g.met.M.Model.forward_state c.args.model.now) l.lp (entry_events (h.done ++ h.past))) in
+    (after_state handlers l.config (g.M.Model.IsState c.args.model.now) (g.met.M.Model.start_state c.args.model.now) (g.met.M.Model.forward_state c.args.model.now) l.lp (entry_events (h.done ++ h.past))) in
     let same = c.in-Err.ensures.unchanged ok in
     (λ j. record { lp = l.lp; config = l.config; triple = triple_at (same j).state (same j).number (same j).stream; past = l.past; pending = l.pending; waiting = l.waiting }) ∙ c.self.view_is
 
@@ -133,12 +133,12 @@ returns-in-Err-keep-clause-unchanged g c h s =
     let own = ready-own l.lp l.config.end l.pending l.past event inside.own_pending c.in-Some.ensures.event in
     let now = subst (λ (v : HeldProcess _ _ _). StandsFor handlers v h) (sym c.self.view_is) s in
     let ok = subst (λ (t : Triple _). g.M.Model.IsState c.args.model.now t.state) (is_where (simulation_of handlers l.config) l.lp (process_memory handlers held) h now)
-        (after_state handlers l.config (g.M.Model.IsState c.args.model.now) (g.met.M.Model.start_state c.args.model.now) (g.met.M.Model.forward_state c.args.model.now) l.lp (entry_events (h.done ++ h.past))) in
+    (after_state handlers l.config (g.M.Model.IsState c.args.model.now) (g.met.M.Model.start_state c.args.model.now) (g.met.M.Model.forward_state c.args.model.now) l.lp (entry_events (h.done ++ h.past))) in
     let left = c.in-Err-keep.ensures.unchanged in
     let after = c.advance.new.process in
     let back : triple_at c.undo.new.self.state c.undo.new.self.number c.undo.new.self.stream ≡ held.triple =
-        (λ j. record { state = c.undo.ensures.state j; number = c.undo.ensures.number j; place = (c.undo.ensures.stream j).place })
-        ∙ came-back handlers l.config event.dest held.triple (triple_at after.state after.number after.stream) event c.in-Ok.advanced.0 c.in-Ok.ensures.triple (c.in-Ok.ensures.remembered ok) in
+    (λ j. record { state = c.undo.ensures.state j; number = c.undo.ensures.number j; place = (c.undo.ensures.stream j).place })
+    ∙ came-back handlers l.config event.dest held.triple (triple_at after.state after.number after.stream) event c.in-Ok.advanced.0 c.in-Ok.ensures.triple (c.in-Ok.ensures.remembered ok) in
     (λ j. record { lp = l.lp; config = l.config; triple = back j; past = left.1 j; pending = left.0 j; waiting = l.waiting }) ∙ c.self.view_is
 
 pub invariant_of-self-in_default-keep : goal.invariant_of-self-in_default-keep
@@ -180,7 +180,7 @@ returns-clause-within g c =
     let l = c.self.inside in
     subst (λ (v : HeldProcess _ _ _). AllWithinRun v.config c.args.outbox.now → AllWithinRun v.config c.append.new.self) c.self.view_is
     (λ all. subst (λ (xs : List (Letter _)). AllWithinRun l.config xs) (sym c.append.ensures.0)
-      (All-append (IsWithinRun l.config.lps l.config.end) c.args.outbox.now c.in-Ok.advanced.1 all c.in-Ok.ensures.within))
+    (All-append (IsWithinRun l.config.lps l.config.end) c.args.outbox.now c.in-Ok.advanced.1 all c.in-Ok.ensures.within))
 
 pub returns-clause-done : goal.returns-clause-done
 returns-clause-done g c h s =
@@ -193,7 +193,7 @@ returns-clause-done g c h s =
     let own = ready-own l.lp l.config.end l.pending l.past event inside.own_pending c.in-Some.ensures.event in
     let now = subst (λ (v : HeldProcess _ _ _). StandsFor handlers v h) (sym c.self.view_is) s in
     let ok = subst (λ (t : Triple _). g.M.Model.IsState c.args.model.now t.state) (is_where (simulation_of handlers l.config) l.lp (process_memory handlers held) h now)
-        (after_state handlers l.config (g.M.Model.IsState c.args.model.now) (g.met.M.Model.start_state c.args.model.now) (g.met.M.Model.forward_state c.args.model.now) l.lp (entry_events (h.done ++ h.past))) in
+    (after_state handlers l.config (g.M.Model.IsState c.args.model.now) (g.met.M.Model.start_state c.args.model.now) (g.met.M.Model.forward_state c.args.model.now) l.lp (entry_events (h.done ++ h.past))) in
     let k = c.in_default-keep.ensures.kept in
     let after = c.advance.new.process in
     let fired = (simulation_of handlers l.config).fire event.dest held.triple (unstamped event) in
