@@ -90,7 +90,7 @@ impl<M: EventModel> Stage<M> {
 /// What is told of a letter: its sign, its key as time, source and number, and its stamp as worker and serial.
 pub(crate) type Told = (Sign, (Time, u32, u64), (u32, u64));
 
-/// What is told of the letters of a list, at most eight.
+/// The sign, the key and the stamp of a letter.
 pub(crate) fn told<P: Copy>(letter: &Letter<P>) -> Told {
     let key = letter.event.rank.key;
     let stamp = letter.event.rank.stamp;
