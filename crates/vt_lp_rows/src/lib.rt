@@ -1,0 +1,14 @@
+//! Worked examples of one logical process with rollback, run through public calls. Expected numbers were worked out by hand
+//! from the models' rules.
+#![tactic(auto)]
+
+#[cfg(test)]
+mod commits;
+#[cfg(test)]
+mod counting;
+#[cfg(test)]
+mod refusals;
+#[cfg(test)]
+mod rollbacks;
+#[cfg(test)]
+mod stage;
