@@ -39,7 +39,8 @@ module _ {S P K : Type 0} (entry : HeldProcess S P K → Option Rank) where
 
   pub next-is : (held : HeldWorker S P K) (place : ℕ) → held.worker < held.config.workers → length held.processes ≡ (held.config.lps + (held.config.workers - 1) - held.worker) / held.config.workers
       → IsLeast (entries_of entry held.processes) place → NextIs held (place * held.config.workers + held.worker)
-  next-is held place known all least =
-      (process-known held.config.lps held.config.workers held.worker place known (subst (λ n. place < n) all (winner-there held.processes place least)),
-        mod-mul-add place held.config.workers held.worker known,
-        subst (λ k. IsLeast (map entry held.processes) k) (sym (div-mul-add place held.config.workers held.worker known)) (winner-least held.processes place least))
+  next-is held place known all least = (
+    process-known held.config.lps held.config.workers held.worker place known (subst (λ n. place < n) all (winner-there held.processes place least)),
+    mod-mul-add place held.config.workers held.worker known,
+    subst (λ k. IsLeast (map entry held.processes) k) (sym (div-mul-add place held.config.workers held.worker known)) (winner-least held.processes place least),
+  )

@@ -73,7 +73,7 @@ module _ {S P K : Type 0} (handlers : Handlers S P K) (held : HeldWorker S P K) 
   -- Home, where its letter was found
   home-is : (letter : Letter P) → find (is_for (simulation_of handlers held.config) held.worker) held.outbox ≡ Some letter
       → local_step (simulation_of handlers held.config) held.worker (step.Home held.worker) part
-        ≡ at_process (accept_process letter) (letter.event.dest / held.config.workers) (record part { outbox = without_first (is_for (simulation_of handlers held.config) held.worker) part.outbox })
+      ≡ at_process (accept_process letter) (letter.event.dest / held.config.workers) (record part { outbox = without_first (is_for (simulation_of handlers held.config) held.worker) part.outbox })
   home-is letter there =
       ap (λ (b : Bool). if b then home (simulation_of handlers held.config) held.worker part else None) (same-worker held.worker)
       ∙ ap (home_letter (simulation_of handlers held.config) held.worker part) (ap (find (is_for (simulation_of handlers held.config) held.worker)) h.outbox ∙ there)
@@ -82,7 +82,7 @@ module _ {S P K : Type 0} (handlers : Handlers S P K) (held : HeldWorker S P K) 
       → place ≡ letter.event.dest / held.config.workers → letter.event.dest % held.config.workers ≡ held.worker → slice_get held.processes place ≡ Some q → new.lp ≡ q.lp → new.config ≡ q.config
       → ((process : LogicalProcess P) → ProcessStandsFor handlers q process → ProcessIsDone handlers new (accept_process letter process) [] [] 0 0)
       → IsDone handlers (record held { processes = slice_set held.processes place new; outbox = list_without_first (is_for (simulation_of handlers held.config) held.worker) held.outbox })
-        (local_step (simulation_of handlers held.config) held.worker (step.Home held.worker) part)
+      (local_step (simulation_of handlers held.config) held.worker (step.Home held.worker) part)
   home-done letter place q new there is own_letter at same_lp same_config done =
       let sim = simulation_of handlers held.config in
       let rest = list_without_first (is_for sim held.worker) held.outbox in
@@ -92,7 +92,7 @@ module _ {S P K : Type 0} (handlers : Handlers S P K) (held : HeldWorker S P K) 
       let stands : StandsFor handlers less mid = record { processes = h.processes; outbox = kept; arrived = h.arrived; colour = h.colour; sent = h.sent; got = h.got; red_minimum = h.red_minimum; floor = h.floor; serial = h.serial } in
       let f = found handlers less mid letter.event.dest q stands are own_letter (subst (λ k. slice_get held.processes k ≡ Some q) is at) in
       let one = at-found-done handlers less are mid stands letter.event.dest place q new rest held.serial (accept_process letter) is own_letter f same_lp same_config
-          (plain-done handlers new (accept_process letter f.process) rest held.serial (done f.process f.stands)) in
+      (plain-done handlers new (accept_process letter f.process) rest held.serial (done f.process f.stands)) in
       subst (IsDone handlers (record held { processes = slice_set held.processes place new; outbox = rest }))
       (own sim held.worker letter.event.dest (at_process (accept_process letter) (letter.event.dest / held.config.workers) mid) own_letter ∙ sym (home-is letter there)) one
 
@@ -121,7 +121,7 @@ module _ {S P K : Type 0} (handlers : Handlers S P K) (held : HeldWorker S P K) 
   -- Accept at place i
   accept-is : (i : ℕ) (mail : Mail P) → slice_get held.arrived i ≡ Some mail
       → local_step (simulation_of handlers held.config) held.worker (step.Accept held.worker i) part
-        ≡ at_process (accept_process mail.letter) (mail.letter.event.dest / held.config.workers) (record part { arrived = remove part.arrived i })
+      ≡ at_process (accept_process mail.letter) (mail.letter.event.dest / held.config.workers) (record part { arrived = remove part.arrived i })
   accept-is i mail there =
       ap (λ (b : Bool). if b then accept (simulation_of handlers held.config) i part else None) (same-worker held.worker)
       ∙ ap (accept_mail (simulation_of handlers held.config) i part) (ap (λ ms. slice_get ms i) h.arrived ∙ there)
@@ -130,7 +130,7 @@ module _ {S P K : Type 0} (handlers : Handlers S P K) (held : HeldWorker S P K) 
       → place ≡ mail.letter.event.dest / held.config.workers → mail.letter.event.dest % held.config.workers ≡ held.worker → slice_get held.processes place ≡ Some q → new.lp ≡ q.lp → new.config ≡ q.config
       → ((process : LogicalProcess P) → ProcessStandsFor handlers q process → ProcessIsDone handlers new (accept_process mail.letter process) [] [] 0 0)
       → IsDone handlers (record held { processes = slice_set held.processes place new; arrived = remove held.arrived i })
-        (local_step (simulation_of handlers held.config) held.worker (step.Accept held.worker i) part)
+      (local_step (simulation_of handlers held.config) held.worker (step.Accept held.worker i) part)
   accept-done i mail place q new there is own_letter at same_lp same_config done =
       let sim = simulation_of handlers held.config in
       let mid = record part { arrived = remove part.arrived i } in
@@ -138,7 +138,7 @@ module _ {S P K : Type 0} (handlers : Handlers S P K) (held : HeldWorker S P K) 
       let stands : StandsFor handlers less mid = record { processes = h.processes; outbox = h.outbox; arrived = ap (λ ms. remove ms i) h.arrived; colour = h.colour; sent = h.sent; got = h.got; red_minimum = h.red_minimum; floor = h.floor; serial = h.serial } in
       let f = found handlers less mid mail.letter.event.dest q stands are own_letter (subst (λ k. slice_get held.processes k ≡ Some q) is at) in
       let one = at-found-done handlers less are mid stands mail.letter.event.dest place q new held.outbox held.serial (accept_process mail.letter) is own_letter f same_lp same_config
-          (plain-done handlers new (accept_process mail.letter f.process) held.outbox held.serial (done f.process f.stands)) in
+      (plain-done handlers new (accept_process mail.letter f.process) held.outbox held.serial (done f.process f.stands)) in
       subst (IsDone handlers (record held { processes = slice_set held.processes place new; arrived = remove held.arrived i }))
       (own sim held.worker mail.letter.event.dest (at_process (accept_process mail.letter) (mail.letter.event.dest / held.config.workers) mid) own_letter ∙ sym (accept-is i mail there)) one
 
@@ -165,9 +165,10 @@ module _ {S P K : Type 0} (handlers : Handlers S P K) (held : HeldWorker S P K) 
 pub found-in : {S P K : Type 0} {config : Config} {w : ℕ} {processes : List (HeldProcess S P K)} {outbox : List (Letter P)} {arrived : List (Mail P)} {sent got : Counts} {serial : ℕ} {ready earliest : List (Option Rank)}
     → IsWorkerInside config w processes outbox arrived sent got serial ready earliest → (letter : Letter P) → find (λ (l : Letter P). nat_eq (l.event.dest % config.workers) w) outbox ≡ Some letter
     → (letter.event.dest % config.workers ≡ w) × IsWithinRun config.lps config.end letter
-found-in {config = config} {w = w} {outbox = outbox} h letter is =
-    (for-worker config.workers w letter.event.dest (find-passes (λ l. nat_eq (l.event.dest % config.workers) w) outbox letter is),
-     find-all (IsWithinRun config.lps config.end) (λ l. nat_eq (l.event.dest % config.workers) w) outbox letter h.sendable is)
+found-in {config = config} {w = w} {outbox = outbox} h letter is = (
+  for-worker config.workers w letter.event.dest (find-passes (λ l. nat_eq (l.event.dest % config.workers) w) outbox letter is),
+  find-all (IsWithinRun config.lps config.end) (λ l. nat_eq (l.event.dest % config.workers) w) outbox letter h.sendable is,
+)
 
 -- one letter was found and taken
 pub one-letter : {X : Type 0} (found : Option X) (a b : X) → found ≡ Some a → found ≡ Some b → a ≡ b
@@ -198,9 +199,10 @@ held-refused handlers q letter process st is =
 held-not : {S P K : Type 0} (handlers : Handlers S P K) (q : HeldProcess S P K) (letter : Letter P) (process : LogicalProcess P) → ProcessStandsFor handlers q process
     → holds_letter q.pending q.waiting q.past letter.sign letter.event.rank ≡ false → (effect : ProcessEffect P) × (accept_process letter process ≡ Some effect)
 unfolding accept_process
-held-not handlers q letter process st is =
-    (record { process = with_letter process letter.sign letter; letters = []; serials = 0 },
-     ap (λ (b : Bool). if b then None else Some (record { process = with_letter process letter.sign letter; letters = []; serials = 0 })) (held-same handlers q process st letter.sign letter.event.rank ∙ is))
+held-not handlers q letter process st is = (
+  record { process = with_letter process letter.sign letter; letters = []; serials = 0 },
+  ap (λ (b : Bool). if b then None else Some (record { process = with_letter process letter.sign letter; letters = []; serials = 0 })) (held-same handlers q process st letter.sign letter.event.rank ∙ is),
+)
 
 -- so Accept of it is lawful
 pub accept-lawful : {S P K : Type 0} (handlers : Handlers S P K) (held : HeldWorker S P K) (are : AreProcesses held.config held.worker 0 held.processes) (part : Part P) (h : StandsFor handlers held part)
@@ -214,12 +216,13 @@ accept-lawful handlers held are part h i mail place q there is own_letter at new
     let less = record held { arrived = remove held.arrived i } in
     let stands : StandsFor handlers less mid = record { processes = h.processes; outbox = h.outbox; arrived = ap (λ ms. remove ms i) h.arrived; colour = h.colour; sent = h.sent; got = h.got; red_minimum = h.red_minimum; floor = h.floor; serial = h.serial } in
     let f = found handlers less mid mail.letter.event.dest q stands are own_letter (subst (λ k. slice_get held.processes k ≡ Some q) is at) in
-    let one = held-not handlers q mail.letter f.process f.stands new in
-    (with_effect mid (mail.letter.event.dest / held.config.workers) one.0,
-     accept-is handlers held are part h i mail there
-     ∙ sym (own sim held.worker mail.letter.event.dest (at_process (accept_process mail.letter) (mail.letter.event.dest / held.config.workers) mid) own_letter)
-     ∙ own-step sim held.worker mail.letter.event.dest (accept_process mail.letter) mid f.process own_letter f.there
-     ∙ ap (option_map (with_effect mid (mail.letter.event.dest / held.config.workers))) one.1)
+    let one = held-not handlers q mail.letter f.process f.stands new in (
+      with_effect mid (mail.letter.event.dest / held.config.workers) one.0,
+      accept-is handlers held are part h i mail there
+          ∙ sym (own sim held.worker mail.letter.event.dest (at_process (accept_process mail.letter) (mail.letter.event.dest / held.config.workers) mid) own_letter)
+          ∙ own-step sim held.worker mail.letter.event.dest (accept_process mail.letter) mid f.process own_letter f.there
+          ∙ ap (option_map (with_effect mid (mail.letter.event.dest / held.config.workers))) one.1,
+    )
 
 -- what all have, the one at a place has
 pub get-all : {X : Type 0} (Q : X → Type 0) (xs : List X) (i : ℕ) (x : X) → All Q xs → slice_get xs i ≡ Some x → Q x

@@ -138,7 +138,7 @@ module _ {S P K : Type 0} (handlers : Handlers S P K) (held : HeldWorker S P K) 
       → place ≡ p / held.config.workers → p % held.config.workers ≡ held.worker → slice_get held.processes place ≡ Some q → new.lp ≡ q.lp → new.config ≡ q.config
       → ((process : LogicalProcess P) → ProcessStandsFor handlers q process → ProcessIsDone handlers new (step process) held.outbox outbox held.serial serial)
       → IsDone handlers (record held { processes = slice_set held.processes place new; outbox = outbox; serial = serial })
-        (at_own (simulation_of handlers held.config) held.worker p (at_process step (p / held.config.workers) part))
+      (at_own (simulation_of handlers held.config) held.worker p (at_process step (p / held.config.workers) part))
   changed-done p place q new outbox serial step is own at same_lp same_config done =
       let f = found handlers held part p q h are own (subst (λ k. slice_get held.processes k ≡ Some q) is at) in
       subst (λ k. IsDone handlers (record held { processes = slice_set held.processes k new; outbox = outbox; serial = serial }) (at_own (simulation_of handlers held.config) held.worker p (at_process step (p / held.config.workers) part)))
@@ -198,7 +198,7 @@ pub at-found-done : {S P K : Type 0} (handlers : Handlers S P K) (held : HeldWor
     → place ≡ p / held.config.workers → p % held.config.workers ≡ held.worker → (f : IsFound handlers held part p q) → new.lp ≡ q.lp → new.config ≡ q.config
     → ProcessIsDone handlers new (step f.process) held.outbox outbox held.serial serial
     → IsDone handlers (record held { processes = slice_set held.processes place new; outbox = outbox; serial = serial })
-      (at_own (simulation_of handlers held.config) held.worker p (at_process step (p / held.config.workers) part))
+    (at_own (simulation_of handlers held.config) held.worker p (at_process step (p / held.config.workers) part))
 at-found-done handlers held are part h p place q new outbox serial step is own f same_lp same_config done =
     subst (λ k. IsDone handlers (record held { processes = slice_set held.processes k new; outbox = outbox; serial = serial }) (at_own (simulation_of handlers held.config) held.worker p (at_process step (p / held.config.workers) part)))
     (sym is) (done-at handlers held part p q new outbox serial step h own f same_lp same_config done)

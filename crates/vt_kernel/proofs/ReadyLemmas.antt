@@ -78,10 +78,11 @@ module _ {S P K : Type 0} (handlers : Handlers S P K) where
     where
       go : (ls : List (Letter P)) → ready_rank ls held.past ≡ Some rank → (effect : ProcessEffect P) × (execute_least sim p w serial process ls ≡ Some effect)
       go [] is = absurd (let h : None ≡ Some rank = is in cc)
-      go (l ∷ ls) is =
-          (effect_of_execute sim p w serial process l ls,
-            ap (λ b. if b then Some (effect_of_execute sim p w serial process l ls) else None)
-              (may-is held process l.event s ∙ if-true (may_come_after (last_or None held.past) l.event.rank) l.event.rank rank is))
+      go (l ∷ ls) is = (
+        effect_of_execute sim p w serial process l ls,
+        ap (λ b. if b then Some (effect_of_execute sim p w serial process l ls) else None)
+            (may-is held process l.event s ∙ if-true (may_come_after (last_or None held.past) l.event.rank) l.event.rank rank is),
+      )
 
   -- and where none is it is not
   pub none-ready : (sim : Simulation S P) (p w serial : ℕ) (held : HeldProcess S P K) (process : LogicalProcess P) → ProcessStandsFor handlers held process
@@ -93,7 +94,7 @@ module _ {S P K : Type 0} (handlers : Handlers S P K) where
       go [] is = refl
       go (l ∷ ls) is =
           ap (λ b. if b then Some (effect_of_execute sim p w serial process l ls) else None)
-            (may-is held process l.event s ∙ if-false (may_come_after (last_or None held.past) l.event.rank) l.event.rank is)
+          (may-is held process l.event s ∙ if-false (may_come_after (last_or None held.past) l.event.rank) l.event.rank is)
 
   -- ---- at a worker
 
@@ -120,13 +121,13 @@ module _ {S P K : Type 0} (handlers : Handlers S P K) where
           | inl e ↦
               one-of (slice_get held.processes place)
               (λ gone.
-                (let size = stand-length sim held.worker 0 (map (process_memory handlers) held.processes) part.processes h.processes ∙ length-map held.processes (process_memory handlers) in
-                let beyond = past-get held.processes place gone in
-                no-process sim held.worker p step part (get-past part.processes place (omega (arith, size, beyond)))))
+              (let size = stand-length sim held.worker 0 (map (process_memory handlers) held.processes) part.processes h.processes ∙ length-map held.processes (process_memory handlers) in
+              let beyond = past-get held.processes place gone in
+              no-process sim held.worker p step part (get-past part.processes place (omega (arith, size, beyond)))))
               (λ q at.
-                (let f = found handlers held part p q h are e.1 at in
-                refused-at handlers held part p q step e.1 f
-                (one-of (ready_of q)
-                  (λ none. none-ready sim (place * held.config.workers + held.worker) held.worker part.serial q f.process f.stands none)
-                  (λ rank some. absurd (nobody place rank (get-of-map ready_of held.processes place q at ∙ ap Some some))))))
+              (let f = found handlers held part p q h are e.1 at in
+              refused-at handlers held part p q step e.1 f
+              (one-of (ready_of q)
+              (λ none. none-ready sim (place * held.config.workers + held.worker) held.worker part.serial q f.process f.stands none)
+              (λ rank some. absurd (nobody place rank (get-of-map ready_of held.processes place q at ∙ ap Some some))))))
         ]

@@ -35,7 +35,7 @@ module _ {S P K : Type 0} (handlers : Handlers S P K) (held : HeldWorker S P K) 
   pub found-settled : (p : ℕ) (q new : HeldProcess S P K) (outbox : List (Letter P)) → p % held.config.workers ≡ held.worker
       → (f : IsFound handlers held part p q) → new.lp ≡ q.lp → new.config ≡ q.config → IsSettledTo handlers f.process new held.outbox outbox
       → (after : Part P) × SettlesTo (simulation_of handlers held.config) held.worker p part after
-        × StandsFor handlers (record held { processes = slice_set held.processes (p / held.config.workers) new; outbox = outbox }) after
+      × StandsFor handlers (record held { processes = slice_set held.processes (p / held.config.workers) new; outbox = outbox }) after
   found-settled p q new outbox own f same_lp same_config settled =
       let sim = simulation_of handlers held.config in
       let place = p / held.config.workers in
@@ -44,8 +44,8 @@ module _ {S P K : Type 0} (handlers : Handlers S P K) (held : HeldWorker S P K) 
       let after = with_effect part place effect in
       let led : LedTo p f.process steps effect = subst (λ k. LedTo k f.process steps effect) (same_lp ∙ f.lp) settled.led.led in
       let number : p ≡ process_at sim held.worker place = sym (div-add-mod' p held.config.workers) ∙ ap (λ r. place * held.config.workers + r) own in
-      let here : slice_get after.processes place ≡ Some effect.process = get-put_same part.processes place f.process effect.process f.there in
-      (after,
+      let here : slice_get after.processes place ≡ Some effect.process = get-put_same part.processes place f.process effect.process f.there in (
+        after,
         record {
           steps = steps;
           settling = are-settling sim held.worker p f.process steps effect led;
@@ -53,16 +53,17 @@ module _ {S P K : Type 0} (handlers : Handlers S P K) (held : HeldWorker S P K) 
           settled = settled-at sim held.worker p after effect.process own here settled.no_undo settled.no_cancel;
         },
         stands-after handlers held part place new effect outbox held.serial h (same_lp ∙ f.lp ∙ number) (same_config ∙ f.config) settled.led.stands settled.led.letters
-          (let none = settled.led.serials in omega (arith, none)))
+            (let none = settled.led.serials in omega (arith, none)),
+      )
 
   -- what settles the process at a place
   pub settled-worker : (p place : ℕ) (q new : HeldProcess S P K) (outbox : List (Letter P)) → place ≡ p / held.config.workers → p % held.config.workers ≡ held.worker
       → slice_get held.processes place ≡ Some q → new.lp ≡ q.lp → new.config ≡ q.config
       → ((process : LogicalProcess P) → ProcessStandsFor handlers q process → IsSettledTo handlers process new held.outbox outbox)
       → (after : Part P) × SettlesTo (simulation_of handlers held.config) held.worker p part after
-        × StandsFor handlers (record held { processes = slice_set held.processes place new; outbox = outbox }) after
+      × StandsFor handlers (record held { processes = slice_set held.processes place new; outbox = outbox }) after
   settled-worker p place q new outbox is own at same_lp same_config settled =
       let f = found handlers held part p q h are own (subst (λ k. slice_get held.processes k ≡ Some q) is at) in
       subst (λ k. (after : Part P) × SettlesTo (simulation_of handlers held.config) held.worker p part after
-        × StandsFor handlers (record held { processes = slice_set held.processes k new; outbox = outbox }) after) (sym is)
+      × StandsFor handlers (record held { processes = slice_set held.processes k new; outbox = outbox }) after) (sym is)
       (found-settled p q new outbox own f same_lp same_config (settled f.process f.stands))

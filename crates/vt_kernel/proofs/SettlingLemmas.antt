@@ -179,8 +179,8 @@ module _ {S P K : Type 0} (handlers : Handlers S P K) where
         led = so_far;
         no_undo = no_undo;
         no_cancel = λ stamp. cannot-cancel stamp so_far.effect.process
-          ((λ j. can_annihilate stamp (so_far.stands.pending j) (so_far.stands.waiting j))
-          ∙ ap (λ (x : HeldProcess S P K). can_annihilate stamp x.pending x.waiting) (sym same_q) ∙ apart stamp);
+            ((λ j. can_annihilate stamp (so_far.stands.pending j) (so_far.stands.waiting j))
+            ∙ ap (λ (x : HeldProcess S P K). can_annihilate stamp x.pending x.waiting) (sym same_q) ∙ apart stamp);
       } in
       subst (λ ls. IsSettledTo handlers process new outbox ls) (sym same_outbox) (subst (λ x. IsSettledTo handlers process x outbox now) (sym same_q) here)
 

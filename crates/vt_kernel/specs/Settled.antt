@@ -22,9 +22,9 @@ module _ {P : Type 0} where
   pub data LedTo (p : ℕ) (process : LogicalProcess P) : List Step → ProcessEffect P → Type 0 where
     not_moved : LedTo p process [] (nothing_done process)
     undone : (steps : List Step) (so_far effect : ProcessEffect P) → LedTo p process steps so_far → undo_process so_far.process ≡ Some effect
-      → LedTo p process (steps ++ Undo p ∷ []) (and_then so_far effect)
+        → LedTo p process (steps ++ Undo p ∷ []) (and_then so_far effect)
     cancelled : (stamp : Stamp) (steps : List Step) (so_far effect : ProcessEffect P) → LedTo p process steps so_far → cancel_process stamp so_far.process ≡ Some effect
-      → LedTo p process (steps ++ Cancel p stamp ∷ []) (and_then so_far effect)
+        → LedTo p process (steps ++ Cancel p stamp ∷ []) (and_then so_far effect)
 
 module _ {S P K : Type 0} (handlers : Handlers S P K) where
   -- Undo and Cancel at a process, each lawful, lead to one that this value stands for; their letters went to the back of the

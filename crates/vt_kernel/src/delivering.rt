@@ -49,7 +49,12 @@ impl<M: EventModel> Kernel<M> {
             return Err(Fault::NotLawful);
         };
         deliver(&mut self.processes[place], letter);
-        enter(&mut self.ready, &mut self.earliest, &self.processes[place], place);
+        enter(
+            &mut self.ready,
+            &mut self.earliest,
+            &self.processes[place],
+            place,
+        );
         Ok(())
     }
 
@@ -77,7 +82,12 @@ impl<M: EventModel> Kernel<M> {
         };
         self.arrived.remove(i);
         deliver(&mut self.processes[place], parcel);
-        enter(&mut self.ready, &mut self.earliest, &self.processes[place], place);
+        enter(
+            &mut self.ready,
+            &mut self.earliest,
+            &self.processes[place],
+            place,
+        );
         Ok(())
     }
 }

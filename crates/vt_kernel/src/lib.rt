@@ -4,8 +4,8 @@
 //! thread) rests on the same contracts.
 #![tactic(auto)]
 
-mod committing;
 mod choosing;
+mod committing;
 mod counts;
 mod cutting;
 mod delivering;

@@ -32,8 +32,18 @@ impl<M: EventModel> Kernel<M> {
         let Some(place) = place_of(self.config, self.worker, lp) else {
             return Err(Fault::NotLawful);
         };
-        let result = self.processes[place].execute(alloc, model, &mut self.serial, &mut self.outbox);
-        enter(&mut self.ready, &mut self.earliest, &self.processes[place], place);
+        let result = self.processes[place].execute(
+            alloc,
+            model,
+            &mut self.serial,
+            &mut self.outbox,
+        );
+        enter(
+            &mut self.ready,
+            &mut self.earliest,
+            &self.processes[place],
+            place,
+        );
         result
     }
 
@@ -52,7 +62,12 @@ impl<M: EventModel> Kernel<M> {
             return Err(Fault::NotLawful);
         };
         let result = self.processes[place].undo(model, &mut self.outbox);
-        enter(&mut self.ready, &mut self.earliest, &self.processes[place], place);
+        enter(
+            &mut self.ready,
+            &mut self.earliest,
+            &self.processes[place],
+            place,
+        );
         result
     }
 
@@ -72,7 +87,12 @@ impl<M: EventModel> Kernel<M> {
         if let Err(fault) = self.processes[place].cancel(stamp) {
             return Err(fault);
         }
-        enter(&mut self.ready, &mut self.earliest, &self.processes[place], place);
+        enter(
+            &mut self.ready,
+            &mut self.earliest,
+            &self.processes[place],
+            place,
+        );
         Ok(())
     }
 }
@@ -89,7 +109,12 @@ pub(crate) fn place_of(config: Config, worker: u32, lp: u32) -> Option<usize>
 }
 
 /// Enters a process that has changed into the tournaments again.
-pub(crate) fn enter<M: EventModel>(ready: &mut Tournament, earliest: &mut Tournament, process: &Lp<M>, place: usize)
+pub(crate) fn enter<M: EventModel>(
+    ready: &mut Tournament,
+    earliest: &mut Tournament,
+    process: &Lp<M>,
+    place: usize,
+)
     requires in_ready { place < length ready.old }
     requires in_earliest { place < length earliest.old }
     requires small { place < 2 ^ 32 }

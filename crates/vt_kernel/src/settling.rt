@@ -26,7 +26,12 @@ impl<M: EventModel> Kernel<M> {
             return;
         };
         settle_process(&mut self.processes[place], model, &mut self.outbox);
-        enter(&mut self.ready, &mut self.earliest, &self.processes[place], place);
+        enter(
+            &mut self.ready,
+            &mut self.earliest,
+            &self.processes[place],
+            place,
+        );
     }
 }
 

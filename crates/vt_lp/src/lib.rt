@@ -7,8 +7,8 @@
 
 mod committing;
 mod entry;
-mod letters;
 mod executing;
+mod letters;
 mod lp;
 mod making;
 mod starting;

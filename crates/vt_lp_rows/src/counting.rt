@@ -54,7 +54,8 @@ impl<M: EventModel> EventModel for Counting<M> {
         out: &mut Out<M::Payload>,
     ) -> M::Kept {
         count(&self.forwards);
-        self.model.forward(lp, now, payload, state, bits, draws, out)
+        self.model
+            .forward(lp, now, payload, state, bits, draws, out)
     }
 
     fn reverse(

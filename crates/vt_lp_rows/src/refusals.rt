@@ -19,7 +19,14 @@ fn a_refused_execute_is_taken_back(rt: HostRuntime) {
     assert_eq!(rt; stage.accept_own(&rt), Ok(()));
     let executed = stage.execute(rt.alloc(), &model);
     if executed == Err(Fault::Memory) {
-        assert_eq!(rt; (*stage.process.state(), stage.process.number(), stage.process.place()), (0, 1, 0));
+        assert_eq!(rt;
+            (
+                *stage.process.state(),
+                stage.process.number(),
+                stage.process.place()
+            ),
+            (0, 1, 0)
+        );
         assert_eq!(rt; stage.serial, 1);
         assert!(rt; holds_exactly(&stage.outbox, &[]));
         assert_eq!(rt; stage.sizes(), (0, 1, 0));
@@ -27,7 +34,14 @@ fn a_refused_execute_is_taken_back(rt: HostRuntime) {
     } else {
         assert_eq!(rt; executed, Ok(()));
     }
-    assert_eq!(rt; (*stage.process.state(), stage.process.number(), stage.process.place()), (1, 2, 0));
+    assert_eq!(rt;
+        (
+            *stage.process.state(),
+            stage.process.number(),
+            stage.process.place()
+        ),
+        (1, 2, 0)
+    );
     assert_eq!(rt; stage.serial, 2);
     assert!(rt; holds_exactly(&stage.outbox, &[(Sign::Plus, (2, 0, 1), (0, 1))]));
     assert_eq!(rt; stage.sizes(), (1, 0, 0));
@@ -44,7 +58,14 @@ fn serials_end_at_their_limit(rt: HostRuntime) {
     assert_eq!(rt; stage.serial, limit);
     assert_eq!(rt; stage.accept_own(&rt), Ok(()));
     assert_eq!(rt; stage.execute(rt.alloc(), &model), Err(Fault::Exhausted));
-    assert_eq!(rt; (*stage.process.state(), stage.process.number(), stage.process.place()), (0, 1, 0));
+    assert_eq!(rt;
+        (
+            *stage.process.state(),
+            stage.process.number(),
+            stage.process.place()
+        ),
+        (0, 1, 0)
+    );
     assert_eq!(rt; stage.serial, limit);
     assert!(rt; holds_exactly(&stage.outbox, &[]));
     assert_eq!(rt; stage.sizes(), (0, 1, 0));

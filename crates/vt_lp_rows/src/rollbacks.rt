@@ -16,11 +16,17 @@ fn a_straggler_rolls_a_token_back(rt: HostRuntime) {
     let sent_again = (Sign::Plus, (3, 1, 1), (1, 2));
     let mut stage = Stage::new(rt.alloc(), &model, config, 1, 0).expect(&rt, "memory");
     assert!(rt; holds_exactly(&stage.outbox, &[token]));
-    assert_eq!(rt; (*stage.process.state(), stage.process.number(), stage.serial), (0, 1, 1));
+    assert_eq!(rt;
+        (*stage.process.state(), stage.process.number(), stage.serial),
+        (0, 1, 1)
+    );
 
     assert_eq!(rt; stage.accept_own(&rt), Ok(()));
     assert_eq!(rt; stage.execute(rt.alloc(), &model), Ok(()));
-    assert_eq!(rt; (*stage.process.state(), stage.process.number(), stage.serial), (2, 2, 2));
+    assert_eq!(rt;
+        (*stage.process.state(), stage.process.number(), stage.serial),
+        (2, 2, 2)
+    );
     assert!(rt; holds_exactly(&stage.outbox, &[sent]));
 
     assert_eq!(rt; stage.undo(&model), Err(Fault::NotLawful));
@@ -35,7 +41,10 @@ fn a_straggler_rolls_a_token_back(rt: HostRuntime) {
     assert_eq!(rt; stage.sizes(), (1, 1, 0));
 
     assert_eq!(rt; stage.execute(rt.alloc(), &model), Err(Fault::NotLawful));
-    assert_eq!(rt; (*stage.process.state(), stage.process.number(), stage.serial), (2, 2, 2));
+    assert_eq!(rt;
+        (*stage.process.state(), stage.process.number(), stage.serial),
+        (2, 2, 2)
+    );
     assert_eq!(rt; stage.sizes(), (1, 1, 0));
 
     assert_eq!(rt; stage.undo(&model), Ok(()));
@@ -44,9 +53,15 @@ fn a_straggler_rolls_a_token_back(rt: HostRuntime) {
     assert_eq!(rt; stage.sizes(), (0, 2, 0));
 
     assert_eq!(rt; stage.execute(rt.alloc(), &model), Ok(()));
-    assert_eq!(rt; (*stage.process.state(), stage.process.number(), stage.serial), (1, 1, 2));
+    assert_eq!(rt;
+        (*stage.process.state(), stage.process.number(), stage.serial),
+        (1, 1, 2)
+    );
     assert_eq!(rt; stage.execute(rt.alloc(), &model), Ok(()));
-    assert_eq!(rt; (*stage.process.state(), stage.process.number(), stage.serial), (258, 2, 3));
+    assert_eq!(rt;
+        (*stage.process.state(), stage.process.number(), stage.serial),
+        (258, 2, 3)
+    );
     assert!(rt; holds_exactly(&stage.outbox, &[sent, taken_back, sent_again]));
 
     let parcel = letter(&rt, rt.alloc(), 1, straggler, payload);
@@ -67,14 +82,23 @@ fn anti_messages_take_a_job_out_of_a_station(rt: HostRuntime) {
     let mut stage = Stage::new(rt.alloc(), &model, config, 1, 0).expect(&rt, "memory");
     assert!(rt; holds_exactly(&stage.outbox, &[]));
 
-    let arrive = letter(&rt, rt.alloc(), 1, (Sign::Plus, arrival.0, arrival.1), JobEvent::Arrive);
+    let arrive = letter(
+        &rt,
+        rt.alloc(),
+        1,
+        (Sign::Plus, arrival.0, arrival.1),
+        JobEvent::Arrive,
+    );
     assert!(rt; stage.accept(&rt, arrive).is_ok());
     assert_eq!(rt; stage.execute(rt.alloc(), &model), Ok(()));
     let server = stage.process.state();
     assert_eq!(rt; (server.length, server.served), (1, 0));
     assert_eq!(rt; (stage.process.number(), stage.process.place()), (1, 1));
     assert!(rt; holds_exactly(&stage.outbox, &[depart]));
-    assert_eq!(rt; stage.outbox.front().map(|l| l.event.payload), Some(JobEvent::Depart));
+    assert_eq!(rt;
+        stage.outbox.front().map(|l| l.event.payload),
+        Some(JobEvent::Depart)
+    );
     assert_eq!(rt; stage.accept_own(&rt), Ok(()));
     assert_eq!(rt; stage.sizes(), (1, 1, 0));
 
@@ -88,8 +112,20 @@ fn anti_messages_take_a_job_out_of_a_station(rt: HostRuntime) {
     assert_eq!(rt; (stage.process.number(), stage.process.place()), (0, 0));
     assert!(rt; holds_exactly(&stage.outbox, &[taken_back]));
     assert_eq!(rt; stage.sizes(), (0, 2, 1));
-    assert_eq!(rt; stage.process.cancellable(), Some(Stamp { worker: 0, serial: 9 }));
-    assert_eq!(rt; stage.cancel(Stamp { worker: 0, serial: 9 }), Ok(()));
+    assert_eq!(rt;
+        stage.process.cancellable(),
+        Some(Stamp {
+            worker: 0,
+            serial: 9
+        })
+    );
+    assert_eq!(rt;
+        stage.cancel(Stamp {
+            worker: 0,
+            serial: 9
+        }),
+        Ok(())
+    );
     assert_eq!(rt; stage.sizes(), (0, 1, 0));
 
     // The departure comes too early now: it finds no job, sets bit 2 and does nothing.
@@ -106,8 +142,17 @@ fn anti_messages_take_a_job_out_of_a_station(rt: HostRuntime) {
     assert_eq!(rt; stage.undo(&model), Ok(()));
     let server = stage.process.state();
     assert_eq!(rt; (server.length, server.served), (0, 0));
-    assert_eq!(rt; stage.process.ready().map(|rank| rank.stamp.serial), Some(0));
-    assert_eq!(rt; stage.cancel(Stamp { worker: 1, serial: 0 }), Ok(()));
+    assert_eq!(rt;
+        stage.process.ready().map(|rank| rank.stamp.serial),
+        Some(0)
+    );
+    assert_eq!(rt;
+        stage.cancel(Stamp {
+            worker: 1,
+            serial: 0
+        }),
+        Ok(())
+    );
     assert_eq!(rt; stage.sizes(), (0, 0, 0));
     assert_eq!(rt; stage.process.least(), 10);
     assert!(rt; stage.process.least_rank().is_none() && stage.process.ready().is_none());

@@ -24,7 +24,13 @@ pub(crate) struct Stage<M: EventModel> {
 
 impl<M: EventModel> Stage<M> {
     /// Process `lp`, started with this serial.
-    pub(crate) fn new(alloc: Global, model: &M, config: Config, lp: u32, serial: u64) -> Result<Stage<M>, Fault> {
+    pub(crate) fn new(
+        alloc: Global,
+        model: &M,
+        config: Config,
+        lp: u32,
+        serial: u64,
+    ) -> Result<Stage<M>, Fault> {
         let mut serial = serial;
         let mut outbox = List::new(alloc);
         match Lp::new(alloc, model, config, lp, &mut serial, &mut outbox) {
@@ -40,7 +46,8 @@ impl<M: EventModel> Stage<M> {
     }
 
     pub(crate) fn execute(&mut self, alloc: Global, model: &M) -> Result<(), Fault> {
-        self.process.execute(alloc, model, &mut self.serial, &mut self.outbox)
+        self.process
+            .execute(alloc, model, &mut self.serial, &mut self.outbox)
     }
 
     pub(crate) fn undo(&mut self, model: &M) -> Result<(), Fault> {
@@ -104,9 +111,7 @@ pub(crate) fn told<P: Copy>(letter: &Letter<P>) -> Told {
 /// Whether a list has exactly these letters.
 pub(crate) fn holds_exactly<P: Copy>(letters: &List<Letter<P>>, wanted: &[Told]) -> bool {
     let mut letters = letters.iter();
-    wanted
-        .iter()
-        .all(|want| letters.next().is_some_and(|letter| told(letter) == *want))
+    wanted.iter().all(|want| letters.next().is_some_and(|letter| told(letter) == *want))
         && letters.next().is_none()
 }
 
@@ -132,5 +137,7 @@ pub(crate) fn letter<P: Copy>(
         dest,
         payload,
     };
-    Parcel::new(alloc, Letter { event, sign }).ok().expect(rt, "memory")
+    Parcel::new(alloc, Letter { event, sign })
+        .ok()
+        .expect(rt, "memory")
 }

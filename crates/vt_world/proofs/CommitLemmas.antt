@@ -80,12 +80,12 @@ module _ {M S P K : Type 0} (handlers : Handlers S P K) (held : HeldWorld M S P 
       let test : time_at_most k.floor end ≡ true = grind (arith, nat_tests) in
       let here : slice_get held.book.floors w ≡ Some floor.0 = ap (λ (b : Book). slice_get b.floors w) (sym x.1.1.book) ∙ floor.1 in
       let rows_is : rows ≡ rows_of_commit sim w f.part =
-          rows_are f.part f.stands ∙ ap (λ (c : Config). rows_of_commit (simulation_of handlers c) k.worker f.part) is.1 ∙ ap (λ v. rows_of_commit sim v f.part) is.0 in
+      rows_are f.part f.stands ∙ ap (λ (c : Config). rows_of_commit (simulation_of handlers c) k.worker f.part) is.1 ∙ ap (λ v. rows_of_commit sim v f.part) is.0 in
       let between : Every (IsBetween floor.0 k.floor) rows =
-          subst (λ t. Every (IsBetween floor.0 t) rows) own (subst (Every (IsBetween floor.0 f.part.floor)) (sym rows_is) (commit-between sim lawful x.0 x.1.0 w f.part floor.0 f.there floor.1)) in
+      subst (λ t. Every (IsBetween floor.0 t) rows) own (subst (Every (IsBetween floor.0 f.part.floor)) (sym rows_is) (commit-between sim lawful x.0 x.1.0 w f.part floor.0 f.there floor.1)) in
       passes_both (may_commit (slice_get held.book.floors w) k.floor) (time_at_most k.floor end && are_within (slice_get held.book.floors w) k.floor rows) (commit-may x)
-        (passes_both (time_at_most k.floor end) (are_within (slice_get held.book.floors w) k.floor rows) test
-          (ap (λ o. are_within o k.floor rows) here ∙ all-within floor.0 k.floor rows between))
+      (passes_both (time_at_most k.floor end) (are_within (slice_get held.book.floors w) k.floor rows) test
+      (ap (λ o. are_within o k.floor rows) here ∙ all-within floor.0 k.floor rows between))
 
   -- so it is not refused
   pub hand-unrefused : (end : Time) (rows : List Row) → end ≡ held.config.end → held.book.is_closed ≡ false

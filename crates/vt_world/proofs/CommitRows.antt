@@ -41,7 +41,7 @@ front-below floor (entry ∷ entries) =
       | true ↦ λ is.
           (let before : TimeBefore entry.event.rank.key.time floor = grind (arith, nat_tests) in
           subst (λ n. Every (λ (e : Entry _). TimeBefore e.event.rank.key.time floor) (take n (entry ∷ entries)))
-            (let z : suc (prefix_len (is_below floor) entries) ≡ 1 + prefix_len (is_below floor) entries = omega arith in z) (before, front-below floor entries))
+          (let z : suc (prefix_len (is_below floor) entries) ≡ 1 + prefix_len (is_below floor) entries = omega arith in z) (before, front-below floor entries))
       | false ↦ λ is. tt
     ] refl
 
@@ -60,9 +60,9 @@ module _ {S P : Type 0} (sim : Simulation S P) (lawful : IsLawful sim) (from to 
       events-between p (triple_after sim p process.done) (entry_events (ripe to process))
       (every-map _ (IsEventBetween from to) (ripe to process)
       (every-both (λ (e : Entry P). TimeAtMost from e.event.rank.key.time) (λ (e : Entry P). TimeBefore e.event.rank.key.time to)
-        (λ (e : Entry P). TimeAtMost from e.event.rank.key.time × TimeBefore e.event.rank.key.time to) (ripe to process) (λ e a b. (a, b))
-        (every-take (λ (e : Entry P). TimeAtMost from e.event.rank.key.time) (prefix_len (is_below to) process.past) process.past late)
-        (front-below to process.past)))
+      (λ (e : Entry P). TimeAtMost from e.event.rank.key.time × TimeBefore e.event.rank.key.time to) (ripe to process) (λ e a b. (a, b))
+      (every-take (λ (e : Entry P). TimeAtMost from e.event.rank.key.time) (prefix_len (is_below to) process.past) process.past late)
+      (front-below to process.past)))
 
   -- and of all processes of a worker
   processes-between : (w place : ℕ) (processes : List (LogicalProcess P)) → ((i : ℕ) (process : LogicalProcess P) → slice_get processes i ≡ Some process → AreNotBefore from process.past)

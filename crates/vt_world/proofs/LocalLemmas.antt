@@ -74,28 +74,46 @@ module _ {M S P K : Type 0} (handlers : Handlers S P K) (held : HeldWorld M S P 
           let answer = ap (λ (o : Outcome P). o.answer) next_is in
           elim r.2 [
             | inl a ↦
-                inr (Done, answer, inl (a.0, subst (λ (o : Outcome P). PassesLimit sim (Execute p) o.world) (sym next_is)
-                  (after, there, elim a.1 [
-                    | inl b ↦ inr (r.1.0, r.1.1, subst (λ n. MAX_COUNT < n) r.1.2 b)
-                    | inr b ↦ inl b
-                  ])))
+                inr (
+                  Done,
+                  answer,
+                  inl (
+                    a.0,
+                    subst (λ (o : Outcome P). PassesLimit sim (Execute p) o.world) (sym next_is) (
+                      after,
+                      there,
+                      elim a.1 [
+                        | inl b ↦ inr (r.1.0, r.1.1, subst (λ n. MAX_COUNT < n) r.1.2 b)
+                        | inr b ↦ inl b
+                      ],
+                    ),
+                  ),
+                )
             | inr a ↦
-                inr (Done, answer, inr (a.0, tt, λ past.
-                  (let q = subst (λ (o : Outcome P). PassesLimit sim (Execute p) o.world) next_is past in
-                  let same : Some after ≡ Some q.0 = sym there ∙ q.1 in
-                  let e2 : after ≡ q.0 = cc in
-                  let few = a.2 in
-                  let few_sent = a.1 in
-                  elim q.2 [
-                    | inl b ↦ (let b2 : MAX_COUNT < after.serial = subst (λ (x : Part P). MAX_COUNT < x.serial) (sym e2) b in omega (arith, b2, few))
-                    | inr b ↦
-                        (let here : slice_get after.processes (p / held.config.workers) ≡ Some b.0 = ap (λ (x : Part P). slice_get x.processes (p / held.config.workers)) e2 ∙ b.1 in
-                        let same2 : Some r.1.0 ≡ Some b.0 = sym r.1.1 ∙ here in
-                        let e3 : r.1.0 ≡ b.0 = cc in
-                        let b3 : MAX_COUNT < number_of sim p r.1.0 = subst (λ (x : LogicalProcess P). MAX_COUNT < number_of sim p x) (sym e3) b.2 in
-                        let number = r.1.2 in
-                        omega (arith, b3, few_sent, number))
-                  ])))
+                inr (
+                  Done,
+                  answer,
+                  inr (
+                    a.0,
+                    tt,
+                    λ past.
+                        (let q = subst (λ (o : Outcome P). PassesLimit sim (Execute p) o.world) next_is past in
+                        let same : Some after ≡ Some q.0 = sym there ∙ q.1 in
+                        let e2 : after ≡ q.0 = cc in
+                        let few = a.2 in
+                        let few_sent = a.1 in
+                        elim q.2 [
+                          | inl b ↦ (let b2 : MAX_COUNT < after.serial = subst (λ (x : Part P). MAX_COUNT < x.serial) (sym e2) b in omega (arith, b2, few))
+                          | inr b ↦
+                              (let here : slice_get after.processes (p / held.config.workers) ≡ Some b.0 = ap (λ (x : Part P). slice_get x.processes (p / held.config.workers)) e2 ∙ b.1 in
+                              let same2 : Some r.1.0 ≡ Some b.0 = sym r.1.1 ∙ here in
+                              let e3 : r.1.0 ≡ b.0 = cc in
+                              let b3 : MAX_COUNT < number_of sim p r.1.0 = subst (λ (x : LogicalProcess P). MAX_COUNT < number_of sim p x) (sym e3) b.2 in
+                              let number = r.1.2 in
+                              omega (arith, b3, few_sent, number))
+                        ]),
+                  ),
+                )
           ]
 
   -- why Accept is refused

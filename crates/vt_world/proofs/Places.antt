@@ -82,7 +82,7 @@ module _ {M S P K : Type 0} (handlers : Handlers S P K) (held : HeldWorld M S P 
       → IsWorldInside handlers (inside_view held.model held.config (slice_set held.workers w new) held.inboxes board book) new_board_end new_book_end
   inside-worker step reply w k new board book at same_worker same_config same_board same_book goes =
       inside-stepped handlers held inside step reply (slice_set held.workers w new) held.inboxes board book (length-set held.workers w new) (are-workers w k new at same_worker same_config)
-        refl inside.own_inboxes same_board same_book goes
+      refl inside.own_inboxes same_board same_book goes
 
   -- a step changes a worker and an inbox
   pub inside-mail : (step : Step) (reply : Reply) (w v : ℕ) (k new : HeldWorker S P K) (inbox : List (Mail P))
@@ -92,4 +92,4 @@ module _ {M S P K : Type 0} (handlers : Handlers S P K) (held : HeldWorld M S P 
   inside-mail step reply w v k new inbox at same_worker same_config own goes =
       let here : v ≡ 0 + v = omega arith in
       inside-stepped handlers held inside step reply (slice_set held.workers w new) (slice_set held.inboxes v inbox) held.board held.book (length-set held.workers w new) (are-workers w k new at same_worker same_config)
-        (length-set held.inboxes v inbox) (inboxes-changed held.config 0 v held.inboxes inbox inside.own_inboxes (subst (λ n. AllOwnMail held.config n inbox) here own)) refl refl goes
+      (length-set held.inboxes v inbox) (inboxes-changed held.config 0 v held.inboxes inbox inside.own_inboxes (subst (λ n. AllOwnMail held.config n inbox) here own)) refl refl goes

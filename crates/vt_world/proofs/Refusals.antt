@@ -57,7 +57,7 @@ pub counted-err : (board : Option Board) (fault : Fault) → counted board ≡ E
 counted-err None fault h = let k : Err NotLawful ≡ Err fault = h in let same : fault ≡ NotLawful = cc in inl (refl, same)
 counted-err (Some board) fault h =
     elim (nat_le board.rounds MAX_COUNT) as (λ b. nat_le board.rounds MAX_COUNT ≡ b → ((if b then Ok board else Err Exhausted) ≡ Err fault)
-        → ((Some board ≡ None) × (fault ≡ NotLawful)) ⊎ ((new : Board) × (Some board ≡ Some new) × (fault ≡ Exhausted) × (MAX_COUNT < new.rounds))) [
+    → ((Some board ≡ None) × (fault ≡ NotLawful)) ⊎ ((new : Board) × (Some board ≡ Some new) × (fault ≡ Exhausted) × (MAX_COUNT < new.rounds))) [
       | true ↦ λ is k. absurd (let e : Ok board ≡ Err fault = k in cc)
       | false ↦ λ is k.
           (let e : Err Exhausted ≡ Err fault = k in
@@ -80,7 +80,7 @@ module _ {M S P K : Type 0} (handlers : Handlers S P K) (held : HeldWorld M S P 
   send-nowhere w v none world h =
       let box : slice_get world.inboxes v ≡ None = ap (λ xs. slice_get xs v) h.inboxes ∙ none in
       goes handlers held are world (Send w v) (refused world NotLawful) (Err NotLawful) held
-        (ap (λ i. done_or_refused world (send (simulation_of handlers held.config) world w v (slice_get world.parts w) i)) box ∙ none-sent (slice_get world.parts w)) refl refl h
+      (ap (λ i. done_or_refused world (send (simulation_of handlers held.config) world w v (slice_get world.parts w) i)) box ∙ none-sent (slice_get world.parts w)) refl refl h
     where
       none-sent : (q : Option (Part P)) → done_or_refused world (send (simulation_of handlers held.config) world w v q None) ≡ refused world NotLawful
       none-sent None = refl
@@ -92,7 +92,7 @@ module _ {M S P K : Type 0} (handlers : Handlers S P K) (held : HeldWorld M S P 
   unfolding next cut
   cut-nobody w none world h =
       goes handlers held are world (Cut w) (refused world NotLawful) (Err NotLawful) held
-        (ap (λ q. done_or_refused world (cut (simulation_of handlers held.config) world w q (cut_board held.config.end w world.board))) (gone handlers held are world w h none)) refl refl h
+      (ap (λ q. done_or_refused world (cut (simulation_of handlers held.config) world w q (cut_board held.config.end w world.board))) (gone handlers held are world w h none)) refl refl h
 
   -- why Cut is refused
   pub cut-why : (board_end : Time) (w : ℕ) (fault : Fault) → board_end ≡ held.config.end → w < length held.workers → cut_outcome board_end w held.board ≡ Err fault
@@ -131,14 +131,22 @@ module _ {M S P K : Type 0} (handlers : Handlers S P K) (held : HeldWorld M S P 
             (let next_is : next sim world (Send w v) ≡ replied after Done = next-send sim world w v f.part inbox f.there box a.0 in
             elim a.1 [
               | inl b ↦ exhausted world (Send w v) Done after fault next_is b.0 (part_after_send sim v f.part, there, (let l = b.1 in let m = sent-after sim v f.part in omega (arith, l, m)))
-              | inr b ↦ inr (Done, ap (λ (o : Outcome P). o.answer) next_is, inr (b.0, tt, λ past.
-                  (let q = subst (λ (o : Outcome P). PassesLimit sim (Send w v) o.world) next_is past in
-                  let same : Some (part_after_send sim v f.part) ≡ Some q.0 = sym there ∙ q.1 in
-                  let e : part_after_send sim v f.part ≡ q.0 = cc in
-                  let l = b.1 in
-                  let m = sent-after sim v f.part in
-                  let n : MAX_COUNT < count_of (part_after_send sim v f.part).sent (part_after_send sim v f.part).colour = subst (λ (p : Part P). MAX_COUNT < count_of p.sent p.colour) (sym e) q.2 in
-                  omega (arith, l, m, n))))
+              | inr b ↦ inr (
+                Done,
+                ap (λ (o : Outcome P). o.answer) next_is,
+                inr (
+                  b.0,
+                  tt,
+                  λ past.
+                      (let q = subst (λ (o : Outcome P). PassesLimit sim (Send w v) o.world) next_is past in
+                      let same : Some (part_after_send sim v f.part) ≡ Some q.0 = sym there ∙ q.1 in
+                      let e : part_after_send sim v f.part ≡ q.0 = cc in
+                      let l = b.1 in
+                      let m = sent-after sim v f.part in
+                      let n : MAX_COUNT < count_of (part_after_send sim v f.part).sent (part_after_send sim v f.part).colour = subst (λ (p : Part P). MAX_COUNT < count_of p.sent p.colour) (sym e) q.2 in
+                      omega (arith, l, m, n)),
+                ),
+              )
             ])
       ]
 
@@ -150,7 +158,7 @@ module _ {M S P K : Type 0} (handlers : Handlers S P K) (held : HeldWorld M S P 
   -- why Fetch is refused
   pub fetch-why : (w : ℕ) (k : HeldWorker S P K) (inbox : List (Mail P)) (fault : Fault) → slice_get held.workers w ≡ Some k → slice_get held.inboxes w ≡ Some inbox
       → (((fault ≡ NotLawful) × (is_empty k.arrived ≡ false)) ⊎ ((fault ≡ Exhausted) × (is_empty k.arrived ≡ true)
-          × ((MAX_COUNT < k.got.white + count_colour White inbox) ⊎ (MAX_COUNT < k.got.red + count_colour Red inbox))))
+      × ((MAX_COUNT < k.got.white + count_colour White inbox) ⊎ (MAX_COUNT < k.got.red + count_colour Red inbox))))
       → (world : World P) → StandsForWorld handlers held world → IsStepRefusal (simulation_of handlers held.config) (Fetch w) world fault
   fetch-why w k inbox fault at here why world s =
       let sim = simulation_of handlers held.config in
@@ -166,9 +174,12 @@ module _ {M S P K : Type 0} (handlers : Handlers S P K) (held : HeldWorld M S P 
       elim why [
         | inl a ↦ inl (ap (λ (o : Outcome P). o.answer) (next-not_fetch sim world w f.part f.there (ap is_empty f.stands.arrived ∙ a.1)) ∙ ap Err (sym a.0))
         | inr a ↦
-            exhausted world (Fetch w) Done after fault (next-fetch sim world w f.part inbox f.there box (ap is_empty f.stands.arrived ∙ a.1)) a.0
-            (part_after_fetch inbox f.part, there, elim a.2 [
-              | inl b ↦ inl (omega (arith, b, white, got_white))
-              | inr b ↦ inr (omega (arith, b, red, got_red))
-            ])
+            exhausted world (Fetch w) Done after fault (next-fetch sim world w f.part inbox f.there box (ap is_empty f.stands.arrived ∙ a.1)) a.0 (
+              part_after_fetch inbox f.part,
+              there,
+              elim a.2 [
+                | inl b ↦ inl (omega (arith, b, white, got_white))
+                | inr b ↦ inr (omega (arith, b, red, got_red))
+              ],
+            )
       ]

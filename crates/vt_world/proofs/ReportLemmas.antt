@@ -42,11 +42,11 @@ module _ {M S P K : Type 0} (handlers : Handlers S P K) (held : HeldWorld M S P 
   report-taken w k new sent got least board reply at same_worker same_config takes board_is reply_is values stands =
       let may = (both_pass (may_report w least held.board) (time_at_most least held.config.end) takes).0 in
       let goes = report-done handlers held are w k new sent got least at may same_worker same_config
-          (λ part s. (let v = values part s in (v.0, v.1, v.2, subst (λ (b : Board). WorkerStandsFor handlers new (record part { floor = b.announced })) board_is (stands part s)))) in
+      (λ part s. (let v = values part s in (v.0, v.1, v.2, subst (λ (b : Board). WorkerStandsFor handlers new (record part { floor = b.announced })) board_is (stands part s)))) in
       subst (λ (b : Board). GoesOn (simulation_of handlers held.config) (Report w) (Ok reply) (world_memory handlers held) (world_memory handlers (inside_view held.model held.config (slice_set held.workers w new) held.inboxes b held.book)))
-        (sym board_is)
+      (sym board_is)
       (subst (λ r. GoesOn (simulation_of handlers held.config) (Report w) (Ok r) (world_memory handlers held)
-          (world_memory handlers (inside_view held.model held.config (slice_set held.workers w new) held.inboxes (board_after_report held.config.end (with_report w sent got least held.board)) held.book))) (sym reply_is) goes)
+      (world_memory handlers (inside_view held.model held.config (slice_set held.workers w new) held.inboxes (board_after_report held.config.end (with_report w sent got least held.board)) held.book))) (sym reply_is) goes)
 
   -- and one that it doesn't
   pub report-untaken : (w : ℕ) (k : HeldWorker S P K) (least : Time) → slice_get held.workers w ≡ Some k → takes_report held.config.end w least held.board ≡ false → TimeAtMost least held.config.end

@@ -54,19 +54,19 @@ module _ {M S P K : Type 0} (handlers : Handlers S P K) (step : Step) (old new :
   refused-goes plain world h =
       let sim = simulation_of handlers old.config in
       let stays : (next sim world step).answer ≡ Err fault → StandsFor sim (world_memory handlers new) (next sim world step).world =
-          λ e. subst (λ w. StandsFor sim (world_memory handlers new) w) (sym ((refusal-laws sim world step).keeps fault e)) (subst (λ (v : HeldWorld M S P K). StandsFor sim (world_memory handlers v) world) (sym is.unchanged) h) in
+      λ e. subst (λ w. StandsFor sim (world_memory handlers new) w) (sym ((refusal-laws sim world step).keeps fault e)) (subst (λ (v : HeldWorld M S P K). StandsFor sim (world_memory handlers v) world) (sym is.unchanged) h) in
       elim (is.refused world h) [
         | inl e ↦ (e, stays e)
         | inr a ↦ absurd (elim plain [
-            | inl p ↦ elim a.2 [
-                | inl b ↦ (let k : NotLawful ≡ Exhausted = sym p ∙ b.0 in cc)
-                | inr b ↦ (let k : NotLawful ≡ Memory = sym p ∙ b.0 in cc)
-              ]
-            | inr p ↦ elim a.2 [
-                | inl b ↦ (let k : Closed ≡ Exhausted = sym p ∙ b.0 in cc)
-                | inr b ↦ (let k : Closed ≡ Memory = sym p ∙ b.0 in cc)
-              ]
-          ])
+          | inl p ↦ elim a.2 [
+            | inl b ↦ (let k : NotLawful ≡ Exhausted = sym p ∙ b.0 in cc)
+            | inr b ↦ (let k : NotLawful ≡ Memory = sym p ∙ b.0 in cc)
+          ]
+          | inr p ↦ elim a.2 [
+            | inl b ↦ (let k : Closed ≡ Exhausted = sym p ∙ b.0 in cc)
+            | inr b ↦ (let k : Closed ≡ Memory = sym p ∙ b.0 in cc)
+          ]
+        ])
       ]
 
   -- any other one is lawful there, and can't be done
@@ -107,8 +107,8 @@ module _ {M S P K : Type 0} (meaning : M → Handlers S P K) (steps : List Step)
   run-on more is runs =
       let sim = simulation_of (meaning first.model) first.config in
       let goes : GoesOn sim step is.answer (world_memory (meaning first.model) old) (world_memory (meaning first.model) new) =
-          subst (λ m. GoesOn (simulation_of (meaning m) first.config) step is.answer (world_memory (meaning m) old) (world_memory (meaning m) new)) model
-          (subst (λ c. GoesOn (simulation_of (meaning old.model) c) step is.answer (world_memory (meaning old.model) old) (world_memory (meaning old.model) new)) config is.goes) in
+      subst (λ m. GoesOn (simulation_of (meaning m) first.config) step is.answer (world_memory (meaning m) old) (world_memory (meaning m) new)) model
+      (subst (λ c. GoesOn (simulation_of (meaning old.model) c) step is.answer (world_memory (meaning old.model) old) (world_memory (meaning old.model) new)) config is.goes) in
       subst (λ xs. RunsTo sim xs (world_memory (meaning first.model) first) (world_memory (meaning first.model) new)) (sym here)
       (runs-more sim (take at steps) step is.answer (world_memory (meaning first.model) first) (world_memory (meaning first.model) old) (world_memory (meaning first.model) new) runs goes)
 
@@ -120,9 +120,9 @@ module _ {M S P K : Type 0} (meaning : M → Handlers S P K) (steps : List Step)
   count-on more refused is runs world h so_far =
       let sim = simulation_of (meaning first.model) first.config in
       let goes : GoesOn sim step is.answer (world_memory (meaning first.model) old) (world_memory (meaning first.model) new) =
-          subst (λ m. GoesOn (simulation_of (meaning m) first.config) step is.answer (world_memory (meaning m) old) (world_memory (meaning m) new)) model
-          (subst (λ c. GoesOn (simulation_of (meaning old.model) c) step is.answer (world_memory (meaning old.model) old) (world_memory (meaning old.model) new)) config is.goes) in
+      subst (λ m. GoesOn (simulation_of (meaning m) first.config) step is.answer (world_memory (meaning m) old) (world_memory (meaning m) new)) model
+      (subst (λ c. GoesOn (simulation_of (meaning old.model) c) step is.answer (world_memory (meaning old.model) old) (world_memory (meaning old.model) new)) config is.goes) in
       let total = ap (λ xs. refusals (answers sim world xs)) here
-          ∙ counts-more sim (take at steps) step is.answer (world_memory (meaning first.model) first) (world_memory (meaning first.model) old) (world_memory (meaning first.model) new) runs goes world h in
+      ∙ counts-more sim (take at steps) step is.answer (world_memory (meaning first.model) first) (world_memory (meaning first.model) old) (world_memory (meaning first.model) new) runs goes world h in
       let n = is.counted in
       omega (arith, total, n, so_far)

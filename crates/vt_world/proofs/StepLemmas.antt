@@ -38,11 +38,12 @@ rises handlers held new step answer lawful same_config goes x =
     let sim = simulation_of handlers held.config in
     let world = reached sim x.0 x.1.0 in
     let after = (goes world x.1.1).1 in
-    let up = nothing-falls sim lawful (step ∷ []) world (reached-times sim lawful x.0 x.1.0) in
-    (subst (λ (b : Board). TimeAtMost b.announced new.board.announced) x.1.1.board (subst (λ (b : Board). TimeAtMost world.board.announced b.announced) after.board up.1),
-     subst (λ (b : Book). TimeAtMost (book_floor held.config.end b) (floor_held new)) x.1.1.book
-     (subst (λ (c : Config). TimeAtMost (book_floor held.config.end world.book) (book_floor c.end new.book)) (sym same_config)
-     (subst (λ (b : Book). TimeAtMost (book_floor held.config.end world.book) (book_floor held.config.end b)) after.book up.0)))
+    let up = nothing-falls sim lawful (step ∷ []) world (reached-times sim lawful x.0 x.1.0) in (
+      subst (λ (b : Board). TimeAtMost b.announced new.board.announced) x.1.1.board (subst (λ (b : Board). TimeAtMost world.board.announced b.announced) after.board up.1),
+      subst (λ (b : Book). TimeAtMost (book_floor held.config.end b) (floor_held new)) x.1.1.book
+          (subst (λ (c : Config). TimeAtMost (book_floor held.config.end world.book) (book_floor c.end new.book)) (sym same_config)
+          (subst (λ (b : Book). TimeAtMost (book_floor held.config.end world.book) (book_floor held.config.end b)) after.book up.0)),
+    )
 
 module _ {M S P K : Type 0} (meaning : M → Handlers S P K) {held seen : HeldWorld M S P K} (seen_is : held ≡ seen) where
   -- a step is done
@@ -93,8 +94,11 @@ module _ {M S P K : Type 0} (handlers : Handlers S P K) (held : HeldWorld M S P 
     own_inboxes = own;
     same_board_end = same_board ∙ inside.same_board_end;
     same_book_end = same_book ∙ inside.same_book_end;
-    is_reached = ∥∥₁_map inside.is_reached (λ x. (x.0, still_reached (simulation_of handlers held.config) x.0 step (Ok reply) (world_memory handlers held)
-        (world_memory handlers (inside_view held.model held.config workers inboxes board book)) goes x.1));
+    is_reached = ∥∥₁_map inside.is_reached (λ x. (
+      x.0,
+      still_reached (simulation_of handlers held.config) x.0 step (Ok reply) (world_memory handlers held)
+          (world_memory handlers (inside_view held.model held.config workers inboxes board book)) goes x.1,
+    ));
   }
 
   -- nothing has changed
@@ -128,12 +132,12 @@ module _ {M S P K : Type 0} (handlers : Handlers S P K) (model : M) (config : Co
             let f : Closed ≡ fault = cc in
             (a.1.1, subst (λ v. GoesOn (simulation_of handlers config) Close (Err v) (world_memory handlers held) (world_memory handlers held)) f (close-closed handlers held are a.0))
         | inr b ↦ elim b [
-            | inl a ↦
-                let e : Err fault ≡ Err NotLawful = sym is ∙ a.2.0 in
-                let f : NotLawful ≡ fault = cc in
-                (a.2.1, subst (λ v. GoesOn (simulation_of handlers config) Close (Err v) (world_memory handlers held) (world_memory handlers held)) f (close-refused handlers held are a.0 (sym lawful ∙ a.1)))
-            | inr a ↦ absurd (let e : Err fault ≡ Ok x = sym is ∙ a.2.0 in cc)
-          ]
+          | inl a ↦
+              let e : Err fault ≡ Err NotLawful = sym is ∙ a.2.0 in
+              let f : NotLawful ≡ fault = cc in
+              (a.2.1, subst (λ v. GoesOn (simulation_of handlers config) Close (Err v) (world_memory handlers held) (world_memory handlers held)) f (close-refused handlers held are a.0 (sym lawful ∙ a.1)))
+          | inr a ↦ absurd (let e : Err fault ≡ Ok x = sym is ∙ a.2.0 in cc)
+        ]
       ]
 
   -- what it closes, the world does
@@ -147,9 +151,11 @@ module _ {M S P K : Type 0} (handlers : Handlers S P K) (model : M) (config : Co
       elim (refusal-cases of.book.is_closed (may_close of.end of.book) ((result ≡ Ok x) × (new ≡ record of { book = closed_book of.book })) (λ f. (result ≡ Err f) × (new ≡ of)) h) [
         | inl a ↦ absurd (let e : Ok y ≡ Err Closed = sym is ∙ a.1.0 in cc)
         | inr b ↦ elim b [
-            | inl a ↦ absurd (let e : Ok y ≡ Err NotLawful = sym is ∙ a.2.0 in cc)
-            | inr a ↦
-                (a.2.1, subst (λ (r : RunBook). GoesOn (simulation_of handlers config) Close (Ok Done) (world_memory handlers held) (world_memory handlers (inside_view model config workers inboxes board r.book))) (sym a.2.1)
-                  (close-done handlers held are a.0 (sym lawful ∙ a.1)))
-          ]
+          | inl a ↦ absurd (let e : Ok y ≡ Err NotLawful = sym is ∙ a.2.0 in cc)
+          | inr a ↦ (
+            a.2.1,
+            subst (λ (r : RunBook). GoesOn (simulation_of handlers config) Close (Ok Done) (world_memory handlers held) (world_memory handlers (inside_view model config workers inboxes board r.book))) (sym a.2.1)
+                (close-done handlers held are a.0 (sym lawful ∙ a.1)),
+          )
+        ]
       ]

@@ -165,8 +165,8 @@ module _ {M S P K : Type 0} (handlers : Handlers S P K) where
       let sim = simulation_of handlers held.config in
       let here : w ≡ 0 + w = omega arith in
       let moved =
-          subst (λ v. StandsForPart sim v (part_memory handlers k) part) (is ∙ here)
-          (subst (λ (c : Config). StandsForPart (simulation_of handlers c) k.worker (part_memory handlers k) part) of stands) in
+      subst (λ v. StandsForPart sim v (part_memory handlers k) part) (is ∙ here)
+      (subst (λ (c : Config). StandsForPart (simulation_of handlers c) k.worker (part_memory handlers k) part) of stands) in
       subst (λ ms. StandForParts sim 0 ms (slice_set world.parts w part)) (sym (map-put (part_memory handlers) held.workers w k))
       (stand-changed sim 0 w (map (part_memory handlers) held.workers) world.parts (part_memory handlers k) part h.parts moved)
 
@@ -182,16 +182,17 @@ module _ {M S P K : Type 0} (handlers : Handlers S P K) where
       let f = found held world w k are h at in
       let d = done f.part f.stands in
       let lawful : local_step sim w step f.part ≡ Some d.part =
-          ap (λ v. local_step sim v step f.part) (sym (who.0 ∙ plain)) ∙ ap (λ (c : Config). local_step (simulation_of handlers c) k.worker step f.part) (sym who.1) ∙ d.lawful in
+      ap (λ v. local_step sim v step f.part) (sym (who.0 ∙ plain)) ∙ ap (λ (c : Config). local_step (simulation_of handlers c) k.worker step f.part) (sym who.1) ∙ d.lawful in
       let out = next-locally sim world w step f.part is f.there ∙ ap (λ s. done_or_refused world (option_map (with_part world w) s)) lawful in
       let stands : StandsForWorld handlers (record held { workers = slice_set held.workers w new }) (with_part world w d.part) = record {
         parts = part-changed held world w new d.part h (same_worker ∙ who.0 ∙ plain) (same_config ∙ who.1) d.stands;
         inboxes = h.inboxes;
         board = h.board;
         book = h.book;
-      } in
-      (ap (λ (o : Outcome P). o.answer) out,
-       subst (λ (o : Outcome P). StandsForWorld handlers (record held { workers = slice_set held.workers w new }) o.world) (sym out) stands)
+      } in (
+        ap (λ (o : Outcome P). o.answer) out,
+        subst (λ (o : Outcome P). StandsForWorld handlers (record held { workers = slice_set held.workers w new }) o.world) (sym out) stands,
+      )
 
   -- one that is not lawful for the worker is not for the world, which stays
   pub local-refused : (held : HeldWorld M S P K) (w : ℕ) (k : HeldWorker S P K) (step : Step) → AreWorkers held.config 0 held.workers
@@ -204,6 +205,6 @@ module _ {M S P K : Type 0} (handlers : Handlers S P K) where
       let plain : 0 + w ≡ w = omega arith in
       let f = found held world w k are h at in
       let gone : local_step sim w step f.part ≡ None =
-          ap (λ v. local_step sim v step f.part) (sym (who.0 ∙ plain)) ∙ ap (λ (c : Config). local_step (simulation_of handlers c) k.worker step f.part) (sym who.1) ∙ none f.part f.stands in
+      ap (λ v. local_step sim v step f.part) (sym (who.0 ∙ plain)) ∙ ap (λ (c : Config). local_step (simulation_of handlers c) k.worker step f.part) (sym who.1) ∙ none f.part f.stands in
       let out = next-locally sim world w step f.part is f.there ∙ ap (λ s. done_or_refused world (option_map (with_part world w) s)) gone in
       (ap (λ (o : Outcome P). o.answer) out, subst (λ (o : Outcome P). StandsForWorld handlers held o.world) (sym out) h)

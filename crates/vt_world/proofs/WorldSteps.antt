@@ -43,26 +43,26 @@ module _ {M S P K : Type 0} (handlers : Handlers S P K) (held : HeldWorld M S P 
   pub send-done : (w v : ℕ) (k new : HeldWorker S P K) (inbox new_inbox : List (Mail P)) → slice_get held.workers w ≡ Some k → slice_get held.inboxes v ≡ Some inbox
       → new.worker ≡ k.worker → new.config ≡ k.config
       → ((part : Part P) → WorkerStandsFor handlers k part → (may_send (simulation_of handlers k.config) k.worker v part ≡ true)
-          × WorkerStandsFor handlers new (part_after_send (simulation_of handlers k.config) v part) × (new_inbox ≡ inbox ++ mail_of_send (simulation_of handlers k.config) v part))
+      × WorkerStandsFor handlers new (part_after_send (simulation_of handlers k.config) v part) × (new_inbox ≡ inbox ++ mail_of_send (simulation_of handlers k.config) v part))
       → GoesOn (simulation_of handlers held.config) (Send w v) (Ok Done) (world_memory handlers held)
-        (world_memory handlers (record held { workers = slice_set held.workers w new; inboxes = slice_set held.inboxes v new_inbox }))
+      (world_memory handlers (record held { workers = slice_set held.workers w new; inboxes = slice_set held.inboxes v new_inbox }))
   send-done w v k new inbox new_inbox at here same_worker same_config done world h =
       let sim = simulation_of handlers held.config in
       let is = who w k at in
       let f = found handlers held world w k are h at in
       let d = subst (λ (c : Config). (may_send (simulation_of handlers c) k.worker v f.part ≡ true) × WorkerStandsFor handlers new (part_after_send (simulation_of handlers c) v f.part)
-          × (new_inbox ≡ inbox ++ mail_of_send (simulation_of handlers c) v f.part)) is.1 (done f.part f.stands) in
+      × (new_inbox ≡ inbox ++ mail_of_send (simulation_of handlers c) v f.part)) is.1 (done f.part f.stands) in
       let may : may_send sim w v f.part ≡ true = ap (λ u. may_send sim u v f.part) (sym is.0) ∙ d.0 in
       let box : slice_get world.inboxes v ≡ Some inbox = ap (λ xs. slice_get xs v) h.inboxes ∙ here in
       goes world (Send w v) (replied (record world { parts = slice_set world.parts w (part_after_send sim v f.part); inboxes = slice_set world.inboxes v (inbox ++ mail_of_send sim v f.part) }) Done)
-        (Ok Done) (record held { workers = slice_set held.workers w new; inboxes = slice_set held.inboxes v new_inbox })
-        (next-send sim world w v f.part inbox f.there box may) refl refl
-        (record {
-          parts = part-changed handlers held world w new (part_after_send sim v f.part) h (same_worker ∙ is.0) (same_config ∙ is.1) d.1;
-          inboxes = ap (λ xs. slice_set xs v (inbox ++ mail_of_send sim v f.part)) h.inboxes ∙ ap (λ m. slice_set held.inboxes v m) (sym d.2);
-          board = h.board;
-          book = h.book;
-        })
+      (Ok Done) (record held { workers = slice_set held.workers w new; inboxes = slice_set held.inboxes v new_inbox })
+      (next-send sim world w v f.part inbox f.there box may) refl refl
+      (record {
+        parts = part-changed handlers held world w new (part_after_send sim v f.part) h (same_worker ∙ is.0) (same_config ∙ is.1) d.1;
+        inboxes = ap (λ xs. slice_set xs v (inbox ++ mail_of_send sim v f.part)) h.inboxes ∙ ap (λ m. slice_set held.inboxes v m) (sym d.2);
+        board = h.board;
+        book = h.book;
+      })
 
   pub send-refused : (w v : ℕ) (k : HeldWorker S P K) → slice_get held.workers w ≡ Some k
       → ((part : Part P) → WorkerStandsFor handlers k part → may_send (simulation_of handlers k.config) k.worker v part ≡ false)
@@ -72,14 +72,14 @@ module _ {M S P K : Type 0} (handlers : Handlers S P K) (held : HeldWorld M S P 
       let is = who w k at in
       let f = found handlers held world w k are h at in
       let may : may_send sim w v f.part ≡ false =
-          ap (λ u. may_send sim u v f.part) (sym is.0) ∙ ap (λ (c : Config). may_send (simulation_of handlers c) k.worker v f.part) (sym is.1) ∙ none f.part f.stands in
+      ap (λ u. may_send sim u v f.part) (sym is.0) ∙ ap (λ (c : Config). may_send (simulation_of handlers c) k.worker v f.part) (sym is.1) ∙ none f.part f.stands in
       goes world (Send w v) (refused world NotLawful) (Err NotLawful) held (next-not_send sim world w v f.part f.there may) refl refl h
 
   pub fetch-done : (w : ℕ) (k new : HeldWorker S P K) (inbox : List (Mail P)) → slice_get held.workers w ≡ Some k → slice_get held.inboxes w ≡ Some inbox
       → new.worker ≡ k.worker → new.config ≡ k.config
       → ((part : Part P) → WorkerStandsFor handlers k part → (is_empty part.arrived ≡ true) × WorkerStandsFor handlers new (part_after_fetch inbox part))
       → GoesOn (simulation_of handlers held.config) (Fetch w) (Ok Done) (world_memory handlers held)
-        (world_memory handlers (record held { workers = slice_set held.workers w new; inboxes = slice_set held.inboxes w [] }))
+      (world_memory handlers (record held { workers = slice_set held.workers w new; inboxes = slice_set held.inboxes w [] }))
   fetch-done w k new inbox at here same_worker same_config done world h =
       let sim = simulation_of handlers held.config in
       let is = who w k at in
@@ -87,14 +87,14 @@ module _ {M S P K : Type 0} (handlers : Handlers S P K) (held : HeldWorld M S P 
       let d = done f.part f.stands in
       let box : slice_get world.inboxes w ≡ Some inbox = ap (λ xs. slice_get xs w) h.inboxes ∙ here in
       goes world (Fetch w) (replied (record world { parts = slice_set world.parts w (part_after_fetch inbox f.part); inboxes = slice_set world.inboxes w [] }) Done)
-        (Ok Done) (record held { workers = slice_set held.workers w new; inboxes = slice_set held.inboxes w [] })
-        (next-fetch sim world w f.part inbox f.there box d.0) refl refl
-        (record {
-          parts = part-changed handlers held world w new (part_after_fetch inbox f.part) h (same_worker ∙ is.0) (same_config ∙ is.1) d.1;
-          inboxes = ap (λ xs. slice_set xs w []) h.inboxes;
-          board = h.board;
-          book = h.book;
-        })
+      (Ok Done) (record held { workers = slice_set held.workers w new; inboxes = slice_set held.inboxes w [] })
+      (next-fetch sim world w f.part inbox f.there box d.0) refl refl
+      (record {
+        parts = part-changed handlers held world w new (part_after_fetch inbox f.part) h (same_worker ∙ is.0) (same_config ∙ is.1) d.1;
+        inboxes = ap (λ xs. slice_set xs w []) h.inboxes;
+        board = h.board;
+        book = h.book;
+      })
 
   pub fetch-refused : (w : ℕ) (k : HeldWorker S P K) → slice_get held.workers w ≡ Some k
       → ((part : Part P) → WorkerStandsFor handlers k part → is_empty part.arrived ≡ false)
@@ -107,7 +107,7 @@ module _ {M S P K : Type 0} (handlers : Handlers S P K) (held : HeldWorld M S P 
       → new.worker ≡ k.worker → new.config ≡ k.config
       → ((part : Part P) → WorkerStandsFor handlers k part → WorkerStandsFor handlers new (part_after_cut k.config.end held.board.announced part))
       → GoesOn (simulation_of handlers held.config) (Cut w) (Ok Done) (world_memory handlers held)
-        (world_memory handlers (record held { workers = slice_set held.workers w new; board = board }))
+      (world_memory handlers (record held { workers = slice_set held.workers w new; board = board }))
   cut-done w k new board at cuts same_worker same_config done world h =
       let sim = simulation_of handlers held.config in
       let is = who w k at in
@@ -115,20 +115,20 @@ module _ {M S P K : Type 0} (handlers : Handlers S P K) (held : HeldWorld M S P 
       let d = subst (λ (c : Config). WorkerStandsFor handlers new (part_after_cut c.end held.board.announced f.part)) is.1 (done f.part f.stands) in
       let e = subst (λ (b : Board). WorkerStandsFor handlers new (part_after_cut held.config.end b.announced f.part)) (sym h.board) d in
       goes world (Cut w) (replied (record world { parts = slice_set world.parts w (part_after_cut held.config.end world.board.announced f.part); board = board }) Done)
-        (Ok Done) (record held { workers = slice_set held.workers w new; board = board })
-        (next-cut sim world w f.part board f.there (ap (λ b. cut_board held.config.end w b) h.board ∙ cuts)) refl refl
-        (record {
-          parts = part-changed handlers held world w new (part_after_cut held.config.end world.board.announced f.part) h (same_worker ∙ is.0) (same_config ∙ is.1) e;
-          inboxes = h.inboxes;
-          board = refl;
-          book = h.book;
-        })
+      (Ok Done) (record held { workers = slice_set held.workers w new; board = board })
+      (next-cut sim world w f.part board f.there (ap (λ b. cut_board held.config.end w b) h.board ∙ cuts)) refl refl
+      (record {
+        parts = part-changed handlers held world w new (part_after_cut held.config.end world.board.announced f.part) h (same_worker ∙ is.0) (same_config ∙ is.1) e;
+        inboxes = h.inboxes;
+        board = refl;
+        book = h.book;
+      })
 
   pub cut-refused : (w : ℕ) → cut_board held.config.end w held.board ≡ None
       → GoesOn (simulation_of handlers held.config) (Cut w) (Err NotLawful) (world_memory handlers held) (world_memory handlers held)
   cut-refused w none world h =
       goes world (Cut w) (refused world NotLawful) (Err NotLawful) held
-        (next-not_cut (simulation_of handlers held.config) world w (ap (λ b. cut_board held.config.end w b) h.board ∙ none)) refl refl h
+      (next-not_cut (simulation_of handlers held.config) world w (ap (λ b. cut_board held.config.end w b) h.board ∙ none)) refl refl h
 
   -- the world after a lawful report stands as the worker and the board do
   reported : (world : World P) (w : ℕ) (new : HeldWorker S P K) (part : Part P) (board : Board) → StandsForWorld handlers held world → new.worker ≡ w → new.config ≡ held.config
@@ -149,9 +149,9 @@ module _ {M S P K : Type 0} (handlers : Handlers S P K) (held : HeldWorld M S P 
   pub report-done : (w : ℕ) (k new : HeldWorker S P K) (sent got : ℕ) (least : Time) → slice_get held.workers w ≡ Some k
       → may_report w least held.board ≡ true → new.worker ≡ k.worker → new.config ≡ k.config
       → ((part : Part P) → WorkerStandsFor handlers k part → (sent ≡ report_sent part) × (got ≡ report_got part) × (least ≡ report_least k.config.end part)
-          × WorkerStandsFor handlers new (record part { floor = (board_after_report held.config.end (with_report w sent got least held.board)).announced }))
+      × WorkerStandsFor handlers new (record part { floor = (board_after_report held.config.end (with_report w sent got least held.board)).announced }))
       → GoesOn (simulation_of handlers held.config) (Report w) (Ok (report_reply (with_report w sent got least held.board))) (world_memory handlers held)
-        (world_memory handlers (record held { workers = slice_set held.workers w new; board = board_after_report held.config.end (with_report w sent got least held.board) }))
+      (world_memory handlers (record held { workers = slice_set held.workers w new; board = board_after_report held.config.end (with_report w sent got least held.board) }))
   report-done w k new sent got least at may same_worker same_config done world h =
       let sim = simulation_of handlers held.config in
       let is = who w k at in
@@ -160,14 +160,14 @@ module _ {M S P K : Type 0} (handlers : Handlers S P K) (held : HeldWorld M S P 
       let value : report_least held.config.end f.part ≡ least = ap (λ (c : Config). report_least c.end f.part) (sym is.1) ∙ sym d.2 in
       let lawful : may_report w (report_least held.config.end f.part) world.board ≡ true = ap (λ t. may_report w t world.board) value ∙ ap (may_report w least) h.board ∙ may in
       let board : with_report w (report_sent f.part) (report_got f.part) (report_least held.config.end f.part) world.board ≡ with_report w sent got least held.board =
-          ap (λ n. with_report w n (report_got f.part) (report_least held.config.end f.part) world.board) (sym d.0)
-          ∙ ap (λ n. with_report w sent n (report_least held.config.end f.part) world.board) (sym d.1)
-          ∙ ap (λ t. with_report w sent got t world.board) value
-          ∙ ap (with_report w sent got least) h.board in
+      ap (λ n. with_report w n (report_got f.part) (report_least held.config.end f.part) world.board) (sym d.0)
+      ∙ ap (λ n. with_report w sent n (report_least held.config.end f.part) world.board) (sym d.1)
+      ∙ ap (λ t. with_report w sent got t world.board) value
+      ∙ ap (with_report w sent got least) h.board in
       goes world (Report w) (report_lawful sim world w f.part (with_report w sent got least held.board))
-        (Ok (report_reply (with_report w sent got least held.board))) (record held { workers = slice_set held.workers w new; board = board_after_report held.config.end (with_report w sent got least held.board) })
-        (next-report sim world w f.part f.there lawful ∙ ap (report_lawful sim world w f.part) board) (answered world w f.part (with_report w sent got least held.board)) refl
-        (reported world w new f.part (with_report w sent got least held.board) h (same_worker ∙ is.0) (same_config ∙ is.1) d.3)
+      (Ok (report_reply (with_report w sent got least held.board))) (record held { workers = slice_set held.workers w new; board = board_after_report held.config.end (with_report w sent got least held.board) })
+      (next-report sim world w f.part f.there lawful ∙ ap (report_lawful sim world w f.part) board) (answered world w f.part (with_report w sent got least held.board)) refl
+      (reported world w new f.part (with_report w sent got least held.board) h (same_worker ∙ is.0) (same_config ∙ is.1) d.3)
 
   pub report-refused : (w : ℕ) (k : HeldWorker S P K) (least : Time) → slice_get held.workers w ≡ Some k → may_report w least held.board ≡ false
       → ((part : Part P) → WorkerStandsFor handlers k part → least ≡ report_least k.config.end part)
@@ -177,13 +177,13 @@ module _ {M S P K : Type 0} (handlers : Handlers S P K) (held : HeldWorld M S P 
       let f = found handlers held world w k are h at in
       let value : report_least held.config.end f.part ≡ least = ap (λ (c : Config). report_least c.end f.part) (sym is.1) ∙ sym (none f.part f.stands) in
       goes world (Report w) (refused world NotLawful) (Err NotLawful) held
-        (next-not_report (simulation_of handlers held.config) world w f.part f.there (ap (λ t. may_report w t world.board) value ∙ ap (may_report w least) h.board ∙ may)) refl refl h
+      (next-not_report (simulation_of handlers held.config) world w f.part f.there (ap (λ t. may_report w t world.board) value ∙ ap (may_report w least) h.board ∙ may)) refl refl h
 
   pub commit-done : (w : ℕ) (k new : HeldWorker S P K) (rows : List Row) → slice_get held.workers w ≡ Some k → held.book.is_closed ≡ false
       → may_commit (slice_get held.book.floors w) k.floor ≡ true → new.worker ≡ k.worker → new.config ≡ k.config
       → ((part : Part P) → WorkerStandsFor handlers k part → (rows ≡ rows_of_commit (simulation_of handlers k.config) k.worker part) × WorkerStandsFor handlers new (part_after_commit part))
       → GoesOn (simulation_of handlers held.config) (Commit w) (Ok Done) (world_memory handlers held)
-        (world_memory handlers (record held { workers = slice_set held.workers w new; book = with_rows w rows k.floor held.book }))
+      (world_memory handlers (record held { workers = slice_set held.workers w new; book = with_rows w rows k.floor held.book }))
   commit-done w k new rows at is_open may same_worker same_config done world h =
       let sim = simulation_of handlers held.config in
       let is = who w k at in
@@ -192,16 +192,16 @@ module _ {M S P K : Type 0} (handlers : Handlers S P K) (held : HeldWorld M S P 
       let own_rows : rows_of_commit sim w f.part ≡ rows = ap (λ v. rows_of_commit sim v f.part) (sym is.0) ∙ ap (λ (c : Config). rows_of_commit (simulation_of handlers c) k.worker f.part) (sym is.1) ∙ sym d.0 in
       let lawful : may_commit (slice_get world.book.floors w) f.part.floor ≡ true = ap (λ (b : Book). may_commit (slice_get b.floors w) f.part.floor) h.book ∙ ap (λ t. may_commit (slice_get held.book.floors w) t) f.stands.floor ∙ may in
       let book : with_rows w (rows_of_commit sim w f.part) f.part.floor world.book ≡ with_rows w rows k.floor held.book =
-          ap (λ rs. with_rows w rs f.part.floor world.book) own_rows ∙ ap (λ t. with_rows w rows t world.book) f.stands.floor ∙ ap (with_rows w rows k.floor) h.book in
+      ap (λ rs. with_rows w rs f.part.floor world.book) own_rows ∙ ap (λ t. with_rows w rows t world.book) f.stands.floor ∙ ap (with_rows w rows k.floor) h.book in
       goes world (Commit w) (replied (record world { parts = slice_set world.parts w (part_after_commit f.part); book = with_rows w (rows_of_commit sim w f.part) f.part.floor world.book }) Done)
-        (Ok Done) (record held { workers = slice_set held.workers w new; book = with_rows w rows k.floor held.book })
-        (next-commit sim world w f.part f.there (ap (λ (b : Book). b.is_closed) h.book ∙ is_open) lawful) refl refl
-        (record {
-          parts = part-changed handlers held world w new (part_after_commit f.part) h (same_worker ∙ is.0) (same_config ∙ is.1) d.1;
-          inboxes = h.inboxes;
-          board = h.board;
-          book = book;
-        })
+      (Ok Done) (record held { workers = slice_set held.workers w new; book = with_rows w rows k.floor held.book })
+      (next-commit sim world w f.part f.there (ap (λ (b : Book). b.is_closed) h.book ∙ is_open) lawful) refl refl
+      (record {
+        parts = part-changed handlers held world w new (part_after_commit f.part) h (same_worker ∙ is.0) (same_config ∙ is.1) d.1;
+        inboxes = h.inboxes;
+        board = h.board;
+        book = book;
+      })
 
   pub commit-refused : (w : ℕ) (k : HeldWorker S P K) → slice_get held.workers w ≡ Some k → held.book.is_closed ≡ false
       → may_commit (slice_get held.book.floors w) k.floor ≡ false
@@ -210,7 +210,7 @@ module _ {M S P K : Type 0} (handlers : Handlers S P K) (held : HeldWorld M S P 
       let f = found handlers held world w k are h at in
       let no : may_commit (slice_get world.book.floors w) f.part.floor ≡ false = ap (λ (b : Book). may_commit (slice_get b.floors w) f.part.floor) h.book ∙ ap (λ t. may_commit (slice_get held.book.floors w) t) f.stands.floor ∙ may in
       goes world (Commit w) (refused world NotLawful) (Err NotLawful) held
-        (next-not_commit (simulation_of handlers held.config) world w f.part f.there (ap (λ (b : Book). b.is_closed) h.book ∙ is_open) no) refl refl h
+      (next-not_commit (simulation_of handlers held.config) world w f.part f.there (ap (λ (b : Book). b.is_closed) h.book ∙ is_open) no) refl refl h
 
   pub commit-closed : (w : ℕ) → held.book.is_closed ≡ true
       → GoesOn (simulation_of handlers held.config) (Commit w) (Err Closed) (world_memory handlers held) (world_memory handlers held)
@@ -222,14 +222,14 @@ module _ {M S P K : Type 0} (handlers : Handlers S P K) (held : HeldWorld M S P 
   close-done is_open may world h =
       let sim = simulation_of handlers held.config in
       goes world Close (replied (record world { book = closed_book world.book }) Done) (Ok Done) (record held { book = closed_book held.book })
-        (next-close sim world (ap (λ (b : Book). b.is_closed) h.book ∙ is_open) (ap (may_close held.config.end) h.book ∙ may)) refl refl
-        (record { parts = h.parts; inboxes = h.inboxes; board = h.board; book = ap closed_book h.book })
+      (next-close sim world (ap (λ (b : Book). b.is_closed) h.book ∙ is_open) (ap (may_close held.config.end) h.book ∙ may)) refl refl
+      (record { parts = h.parts; inboxes = h.inboxes; board = h.board; book = ap closed_book h.book })
 
   pub close-refused : held.book.is_closed ≡ false → may_close held.config.end held.book ≡ false
       → GoesOn (simulation_of handlers held.config) Close (Err NotLawful) (world_memory handlers held) (world_memory handlers held)
   close-refused is_open may world h =
       goes world Close (refused world NotLawful) (Err NotLawful) held
-        (next-not_close (simulation_of handlers held.config) world (ap (λ (b : Book). b.is_closed) h.book ∙ is_open) (ap (may_close held.config.end) h.book ∙ may)) refl refl h
+      (next-not_close (simulation_of handlers held.config) world (ap (λ (b : Book). b.is_closed) h.book ∙ is_open) (ap (may_close held.config.end) h.book ∙ may)) refl refl h
 
   pub close-closed : held.book.is_closed ≡ true
       → GoesOn (simulation_of handlers held.config) Close (Err Closed) (world_memory handlers held) (world_memory handlers held)
@@ -265,7 +265,7 @@ module _ {M S P K : Type 0} (handlers : Handlers S P K) (held : HeldWorld M S P 
       → GoesOn (simulation_of handlers held.config) (Commit w) (Err NotLawful) (world_memory handlers held) (world_memory handlers held)
   commit-nobody w none is_open world h =
       goes world (Commit w) (refused world NotLawful) (Err NotLawful) held
-        (next-commit_nobody (simulation_of handlers held.config) world w (gone world w h none) (ap (λ (b : Book). b.is_closed) h.book ∙ is_open)) refl refl h
+      (next-commit_nobody (simulation_of handlers held.config) world w (gone world w h none) (ap (λ (b : Book). b.is_closed) h.book ∙ is_open)) refl refl h
 
   -- Home and Accept of a worker that there is not
   pub home-nobody : (w : ℕ) → slice_get held.workers w ≡ None
@@ -273,11 +273,11 @@ module _ {M S P K : Type 0} (handlers : Handlers S P K) (held : HeldWorld M S P 
   unfolding next
   home-nobody w none world h =
       goes world (Home w) (refused world NotLawful) (Err NotLawful) held
-        (ap (λ q. done_or_refused world (option_map (with_part world w) (option_and_then (home (simulation_of handlers held.config) w) q))) (gone world w h none)) refl refl h
+      (ap (λ q. done_or_refused world (option_map (with_part world w) (option_and_then (home (simulation_of handlers held.config) w) q))) (gone world w h none)) refl refl h
 
   pub accept-nobody : (w i : ℕ) → slice_get held.workers w ≡ None
       → GoesOn (simulation_of handlers held.config) (Accept w i) (Err NotLawful) (world_memory handlers held) (world_memory handlers held)
   unfolding next
   accept-nobody w i none world h =
       goes world (Accept w i) (refused world NotLawful) (Err NotLawful) held
-        (ap (λ q. done_or_refused world (option_map (with_part world w) (option_and_then (accept (simulation_of handlers held.config) i) q))) (gone world w h none)) refl refl h
+      (ap (λ q. done_or_refused world (option_map (with_part world w) (option_and_then (accept (simulation_of handlers held.config) i) q))) (gone world w h none)) refl refl h

@@ -21,9 +21,9 @@ loop-process-preserved-then-is_ok g c =
     let same = c.undo.ensures.same in
     record {
       led = λ h s.
-        (let so_far = inv.led h s in
-        led-undone handlers h c.loop-process.process c.undo.new.self c.args.outbox.now c.loop-process.outbox c.undo.new.outbox so_far same.0
-        (in-ok c.undo.result ok (c.undo.ensures.done so_far.effect.process so_far.stands)));
+          (let so_far = inv.led h s in
+          led-undone handlers h c.loop-process.process c.undo.new.self c.args.outbox.now c.loop-process.outbox c.undo.new.outbox so_far same.0
+          (in-ok c.undo.result ok (c.undo.ensures.done so_far.effect.process so_far.stands)));
       within = λ w. subst (λ (k : Config). AllWithinRun k c.loop-process.outbox → AllWithinRun k c.undo.new.outbox) inv.config c.undo.ensures.within (inv.within w);
       lp = same.0 ∙ inv.lp;
       config = same.1 ∙ inv.config;
@@ -48,9 +48,9 @@ loop-process-preserved g c =
     let same = c.cancel.ensures.same in
     record {
       led = λ h s.
-        (let so_far = led-same handlers h c.loop-process.process c.undo.new.self c.args.outbox.now c.loop-process.outbox c.undo.new.outbox (inv.led h s) kept.0 kept.1 in
-        led-cancelled handlers c.in-Some.stamp h c.undo.new.self c.cancel.new.self c.args.outbox.now c.undo.new.outbox so_far same.0
-        (in-ok c.cancel.result ok (c.cancel.ensures.done handlers so_far.effect.process so_far.stands)));
+          (let so_far = led-same handlers h c.loop-process.process c.undo.new.self c.args.outbox.now c.loop-process.outbox c.undo.new.outbox (inv.led h s) kept.0 kept.1 in
+          led-cancelled handlers c.in-Some.stamp h c.undo.new.self c.cancel.new.self c.args.outbox.now c.undo.new.outbox so_far same.0
+          (in-ok c.cancel.result ok (c.cancel.ensures.done handlers so_far.effect.process so_far.stands)));
       within = λ w. subst (λ (k : Config). AllWithinRun k c.loop-process.outbox → AllWithinRun k c.undo.new.outbox) inv.config c.undo.ensures.within (inv.within w);
       lp = same.0 ∙ c.undo.ensures.same.0 ∙ inv.lp;
       config = same.1 ∙ c.undo.ensures.same.1 ∙ inv.config;

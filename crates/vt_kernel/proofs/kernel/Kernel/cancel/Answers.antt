@@ -87,7 +87,7 @@ returns-clause-done g c handlers part s =
     let at = index-get i.processes.items c.in-Some.place old less (sym c.index_mut.ensures.value) in
     let same = c.in_default-cancel.ensures.same in
     subst (λ (v : HeldWorker _ _ _). IsDone handlers (worker_view i.worker i.config (slice_set i.processes.items c.in-Some.place new) i.outbox i.arrived.items i.colour i.sent i.got i.red_minimum i.floor i.serial)
-      (local_step (simulation_of handlers v.config) v.worker (step.Cancel c.args.lp c.args.stamp) part)) c.self.view_is
+    (local_step (simulation_of handlers v.config) v.worker (step.Cancel c.args.lp c.args.stamp) part)) c.self.view_is
     (changed-done handlers held c.self.invariant.own_processes part (subst (λ (v : HeldWorker _ _ _). StandsFor handlers v part) (sym c.self.view_is) s)
     c.args.lp c.in-Some.place old new i.outbox i.serial (cancel_process c.args.stamp) own.0 own.1 at same.0 same.1
     (λ process st. plain-done handlers new (cancel_process c.args.stamp process) i.outbox i.serial (c.in_default-cancel.ensures.done handlers process st)))

@@ -84,10 +84,10 @@ returns-clause-done g c part s =
     let f = found handlers held part c.args.lp old h c.self.invariant.own_processes own.1 (subst (λ k. slice_get i.processes.items k ≡ Some old) own.0 at) in
     let one = same-execute handlers held part c.args.lp old f.process h own.1 f.lp f.config in
     subst (λ (v : HeldWorker _ _ _). IfOk c.execute-result.result (λ _. IsDone handlers (worker_view i.worker i.config (slice_set i.processes.items c.in-Some.place new) c.execute-result.new.outbox i.arrived.items i.colour i.sent i.got i.red_minimum i.floor c.execute-result.new.serial)
-      (local_step (simulation_of handlers v.config) v.worker (step.Execute c.args.lp) part))) c.self.view_is
+    (local_step (simulation_of handlers v.config) v.worker (step.Execute c.args.lp) part))) c.self.view_is
     (if_ok-more c.execute-result.result (λ _ done. at-found-done handlers held c.self.invariant.own_processes part h c.args.lp c.in-Some.place old new c.execute-result.new.outbox c.execute-result.new.serial
-      (execute-step handlers held part c.args.lp) own.0 own.1 f same.0 same.1
-      (subst (λ x. ProcessIsDone handlers new x i.outbox c.execute-result.new.outbox i.serial c.execute-result.new.serial) one done)) (c.execute-result.ensures.done f.process f.stands))
+    (execute-step handlers held part c.args.lp) own.0 own.1 f same.0 same.1
+    (subst (λ x. ProcessIsDone handlers new x i.outbox c.execute-result.new.outbox i.serial c.execute-result.new.serial) one done)) (c.execute-result.ensures.done f.process f.stands))
 
 pub returns-clause-refused : goal.returns-clause-refused
 returns-clause-refused g c part s =
@@ -105,12 +105,12 @@ returns-clause-refused g c part s =
     let at_worker = own-step sim i.worker c.args.lp (execute-step handlers held part c.args.lp) part f.process own.1 f.there in
     subst (λ (v : HeldWorker _ _ _). IfErr c.execute-result.result (λ fault. IsExecuteRefusal (simulation_of handlers v.config) c.args.lp (local_step (simulation_of handlers v.config) v.worker (step.Execute c.args.lp) part) fault)) c.self.view_is
     (if_err-more c.execute-result.result (λ fault why.
-      subst (λ x. IsExecuteRefusal sim c.args.lp x fault) (sym at_worker)
-      (refusal-at handlers held part c.args.lp (execute-step handlers held part c.args.lp f.process) f.process fault h f.there
-      (subst (λ x. ProcessRefusal sim c.args.lp i.serial x fault) one
-      (subst (λ k. ProcessRefusal sim k i.serial (execute_process (simulation_of handlers old.config) old.lp (old.lp % old.config.workers) i.serial f.process) fault) f.lp
-      (subst (λ (k : Config). ProcessRefusal (simulation_of handlers k) old.lp i.serial (execute_process (simulation_of handlers old.config) old.lp (old.lp % old.config.workers) i.serial f.process) fault) f.config why)))))
-      (c.execute-result.ensures.refused f.process f.stands))
+    subst (λ x. IsExecuteRefusal sim c.args.lp x fault) (sym at_worker)
+    (refusal-at handlers held part c.args.lp (execute-step handlers held part c.args.lp f.process) f.process fault h f.there
+    (subst (λ x. ProcessRefusal sim c.args.lp i.serial x fault) one
+    (subst (λ k. ProcessRefusal sim k i.serial (execute_process (simulation_of handlers old.config) old.lp (old.lp % old.config.workers) i.serial f.process) fault) f.lp
+    (subst (λ (k : Config). ProcessRefusal (simulation_of handlers k) old.lp i.serial (execute_process (simulation_of handlers old.config) old.lp (old.lp % old.config.workers) i.serial f.process) fault) f.config why)))))
+    (c.execute-result.ensures.refused f.process f.stands))
 
 pub returns-clause-unchanged : goal.returns-clause-unchanged
 returns-clause-unchanged g c part s =
@@ -125,5 +125,5 @@ returns-clause-unchanged g c part s =
     let h = subst (λ (v : HeldWorker _ _ _). StandsFor handlers v part) (sym c.self.view_is) s in
     let f = found handlers held part c.args.lp old h c.self.invariant.own_processes own.1 (subst (λ k. slice_get i.processes.items k ≡ Some old) own.0 at) in
     both-errors c.execute-result.result (λ _ same kept.
-      (λ j. worker_view i.worker i.config (written-same i.processes.items c.in-Some.place old new at same j) (kept.0 j) i.arrived.items i.colour i.sent i.got i.red_minimum i.floor (kept.1 j)) ∙ c.self.view_is)
-      (c.execute-result.ensures.unchanged f.process f.stands) c.execute-result.ensures.kept
+    (λ j. worker_view i.worker i.config (written-same i.processes.items c.in-Some.place old new at same j) (kept.0 j) i.arrived.items i.colour i.sent i.got i.red_minimum i.floor (kept.1 j)) ∙ c.self.view_is)
+    (c.execute-result.ensures.unchanged f.process f.stands) c.execute-result.ensures.kept

@@ -41,9 +41,12 @@ returns-in_default-clause-settles g c part s =
     let i = c.self.inside in
     let handlers = g.M.Model.handlers c.args.model.now in
     let held = worker_view i.worker i.config i.processes.items i.outbox i.arrived.items i.colour i.sent i.got i.red_minimum i.floor i.serial in
-    let h = subst (λ (v : HeldWorker _ _ _). StandsFor handlers v part) (sym c.self.view_is) s in
-    (part, subst (λ (v : HeldWorker _ _ _). SettlesTo (simulation_of handlers v.config) v.worker c.args.lp part part) c.self.view_is
-      (unknown-settled handlers held c.self.invariant.own_processes part h c.args.lp i.config.some_worker c.self.invariant.all_there c.in_default.ensures.other), s)
+    let h = subst (λ (v : HeldWorker _ _ _). StandsFor handlers v part) (sym c.self.view_is) s in (
+      part,
+      subst (λ (v : HeldWorker _ _ _). SettlesTo (simulation_of handlers v.config) v.worker c.args.lp part part) c.self.view_is
+          (unknown-settled handlers held c.self.invariant.own_processes part h c.args.lp i.config.some_worker c.self.invariant.all_there c.in_default.ensures.other),
+      s,
+    )
 
 pub invariant_of-self : goal.invariant_of-self
 invariant_of-self g c =
@@ -74,5 +77,5 @@ returns-clause-settles g c part s =
     let h = subst (λ (v : HeldWorker _ _ _). StandsFor handlers v part) (sym c.self.view_is) s in
     let done = settled-worker handlers held c.self.invariant.own_processes part h c.args.lp c.in-Some.place old new c.settle_process.new.outbox own.0 own.1 at same.0 same.1 c.settle_process.ensures.settled in
     subst (λ (v : HeldWorker _ _ _). (after : Part _) × SettlesTo (simulation_of handlers v.config) v.worker c.args.lp part after
-      × StandsFor handlers (worker_view i.worker i.config (slice_set i.processes.items c.in-Some.place new) c.settle_process.new.outbox i.arrived.items i.colour i.sent i.got i.red_minimum i.floor i.serial) after)
+    × StandsFor handlers (worker_view i.worker i.config (slice_set i.processes.items c.in-Some.place new) c.settle_process.new.outbox i.arrived.items i.colour i.sent i.got i.red_minimum i.floor i.serial) after)
     c.self.view_is done

@@ -82,9 +82,9 @@ returns-clause-done g c part s =
     let at_p = subst (λ k. slice_get i.processes.items k ≡ Some old) own.0 at in
     let f = found handlers held part c.args.lp old h c.self.invariant.own_processes own.1 at_p in
     subst (λ (v : HeldWorker _ _ _). IfOk c.undo-result.result (λ _. IsDone handlers (worker_view i.worker i.config (slice_set i.processes.items c.in-Some.place new) c.undo-result.new.outbox i.arrived.items i.colour i.sent i.got i.red_minimum i.floor i.serial)
-      (local_step (simulation_of handlers v.config) v.worker (step.Undo c.args.lp) part))) c.self.view_is
+    (local_step (simulation_of handlers v.config) v.worker (step.Undo c.args.lp) part))) c.self.view_is
     (if_ok-more c.undo-result.result (λ _ done. at-found-done handlers held c.self.invariant.own_processes part h c.args.lp c.in-Some.place old new c.undo-result.new.outbox i.serial undo_process own.0 own.1 f same.0 same.1
-      (no-serial handlers new (undo_process f.process) i.outbox c.undo-result.new.outbox i.serial done)) (c.undo-result.ensures.done f.process f.stands))
+    (no-serial handlers new (undo_process f.process) i.outbox c.undo-result.new.outbox i.serial done)) (c.undo-result.ensures.done f.process f.stands))
 
 pub returns-clause-refused : goal.returns-clause-refused
 returns-clause-refused g c part s =
@@ -108,5 +108,7 @@ returns-clause-kept g c =
     let old = c.index_mut.result.now in
     let new = c.undo-result.new.self in
     let at = index-get i.processes.items c.in-Some.place old less (sym c.index_mut.ensures.value) in
-    if_err-more c.undo-result.result (λ _ kept. (kept.0,
-      (λ j. worker_view i.worker i.config (written-same i.processes.items c.in-Some.place old new at kept.1 j) (kept.2 j) i.arrived.items i.colour i.sent i.got i.red_minimum i.floor i.serial) ∙ c.self.view_is)) c.undo-result.ensures.kept
+    if_err-more c.undo-result.result (λ _ kept. (
+      kept.0,
+      (λ j. worker_view i.worker i.config (written-same i.processes.items c.in-Some.place old new at kept.1 j) (kept.2 j) i.arrived.items i.colour i.sent i.got i.red_minimum i.floor i.serial) ∙ c.self.view_is,
+    )) c.undo-result.ensures.kept

@@ -45,9 +45,9 @@ returns-in_err-accept g c =
     let is = who H held c.self.invariant.own_workers w k at in
     let kernels : slice_set i.kernels.items w c.accept.new.self ≡ i.kernels.items = ap (slice_set i.kernels.items w) c.in_err-accept.ensures.kept ∙ put-same i.kernels.items w k at in
     step-refused (g.M.Model.handlers) c.self.view_is (inside_view m i.config (slice_set i.kernels.items w c.accept.new.self) i.inboxes.items i.board.board i.book.book)
-      (Accept c.args.w c.args.i) c.in_err-accept.field-0.0 c.from_residual.result (search rules)
-      (λ j. inside_view m i.config (kernels j) i.inboxes.items i.board.board i.book.book)
-      (accept-why H held c.self.invariant.own_workers c.args.w c.args.i k c.in_err-accept.field-0.0 at (λ part s. c.in_err-accept.ensures.refused H part s))
+    (Accept c.args.w c.args.i) c.in_err-accept.field-0.0 c.from_residual.result (search rules)
+    (λ j. inside_view m i.config (kernels j) i.inboxes.items i.board.board i.book.book)
+    (accept-why H held c.self.invariant.own_workers c.args.w c.args.i k c.in_err-accept.field-0.0 at (λ part s. c.in_err-accept.ensures.refused H part s))
 
 pub invariant_of-self-2 : goal.invariant_of-self-2
 invariant_of-self-2 g c =
@@ -76,7 +76,7 @@ returns g c =
     let at : slice_get i.kernels.items w ≡ Some k = slice_get_read i.kernels.items (length i.kernels.items) w k refl below c.index_mut.ensures.value in
     let is = who H held c.self.invariant.own_workers w k at in
     step-done (g.M.Model.handlers) c.self.view_is c.self.invariant (lawful_of (g.M.Model.handlers m) i.config (g.met.M.Model.start_within m) (g.met.M.Model.forward_within m)) (inside_view m i.config (slice_set i.kernels.items w c.accept.new.self) i.inboxes.items i.board.board i.book.book) (Accept c.args.w c.args.i) Done
-      (local-done H held w k c.accept.new.self (Accept c.args.w c.args.i) c.self.invariant.own_workers at c.accept.ensures.same.0 c.accept.ensures.same.1 refl (λ part s. subst (λ v. IsDone H c.accept.new.self (local_step (simulation_of H k.config) k.worker (Accept v c.args.i) part)) is.0 (c.in_ok-accept.ensures.done H part s))) refl refl
+    (local-done H held w k c.accept.new.self (Accept c.args.w c.args.i) c.self.invariant.own_workers at c.accept.ensures.same.0 c.accept.ensures.same.1 refl (λ part s. subst (λ v. IsDone H c.accept.new.self (local_step (simulation_of H k.config) k.worker (Accept v c.args.i) part)) is.0 (c.in_ok-accept.ensures.done H part s))) refl refl
 
 pub returns-then-w-self : goal.returns-then-w-self
 returns-then-w-self g c =
@@ -86,4 +86,4 @@ returns-then-w-self g c =
     let many = c.self.invariant.all_workers in
     let past : length i.kernels.items ≤ c.args.w = omega (arith, many, c.if-w-self.true) in
     step-unlawful (g.M.Model.handlers) c.self.view_is c.args.self.now (Accept c.args.w c.args.i) NotLawful (Err NotLawful) refl (sym c.self.view_is)
-      (accept-nobody (g.M.Model.handlers m) held c.self.invariant.own_workers c.args.w c.args.i (slice_get_past i.kernels.items c.args.w past))
+    (accept-nobody (g.M.Model.handlers m) held c.self.invariant.own_workers c.args.w c.args.i (slice_get_past i.kernels.items c.args.w past))

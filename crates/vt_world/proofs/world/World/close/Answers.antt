@@ -14,7 +14,7 @@ invariant_of-self g c =
     let held = inside_view m i.config i.kernels.items i.inboxes.items i.board.board i.book.book in
     let refuses = close-refuses (g.M.Model.handlers m) m i.config i.kernels.items i.inboxes.items i.board.board i.book c.self.invariant.same_book_end c.self.invariant.own_workers c.close.new.self c.close.result tt c.in_err-close.field-0.0 _ c.in_err-close.was c.close.ensures in
     inside-same (g.M.Model.handlers m) held c.self.invariant (inside_view m i.config i.kernels.items i.inboxes.items i.board.board c.close.new.self.book)
-      (ap (λ (r : RunBook). inside_view m i.config i.kernels.items i.inboxes.items i.board.board r.book) refuses.0) refl (ap (λ (r : RunBook). r.end) refuses.0)
+    (ap (λ (r : RunBook). inside_view m i.config i.kernels.items i.inboxes.items i.board.board r.book) refuses.0) refl (ap (λ (r : RunBook). r.end) refuses.0)
 
 pub returns-in_err-close : goal.returns-in_err-close
 returns-in_err-close g c =
@@ -22,7 +22,7 @@ returns-in_err-close g c =
     let m = i.model.now in
     let refuses = close-refuses (g.M.Model.handlers m) m i.config i.kernels.items i.inboxes.items i.board.board i.book c.self.invariant.same_book_end c.self.invariant.own_workers c.close.new.self c.close.result tt c.in_err-close.field-0.0 _ c.in_err-close.was c.close.ensures in
     step-unlawful (g.M.Model.handlers) c.self.view_is (inside_view m i.config i.kernels.items i.inboxes.items i.board.board c.close.new.self.book) Close c.in_err-close.field-0.0 c.from_residual.result (search rules)
-      (ap (λ (r : RunBook). inside_view m i.config i.kernels.items i.inboxes.items i.board.board r.book) refuses.0) refuses.1
+    (ap (λ (r : RunBook). inside_view m i.config i.kernels.items i.inboxes.items i.board.board r.book) refuses.0) refuses.1
 
 pub invariant_of-self-2 : goal.invariant_of-self-2
 invariant_of-self-2 g c =
@@ -31,7 +31,7 @@ invariant_of-self-2 g c =
     let held = inside_view m i.config i.kernels.items i.inboxes.items i.board.board i.book.book in
     let closes = close-closes (g.M.Model.handlers m) m i.config i.kernels.items i.inboxes.items i.board.board i.book c.self.invariant.same_book_end c.self.invariant.own_workers c.close.new.self c.close.result tt c.in_ok-close.field-0 c.in_ok-close.was c.close.ensures in
     inside-stepped (g.M.Model.handlers m) held c.self.invariant Close Done i.kernels.items i.inboxes.items i.board.board c.close.new.self.book refl c.self.invariant.own_workers refl c.self.invariant.own_inboxes refl
-      (ap (λ (r : RunBook). r.end) closes.0) closes.1
+    (ap (λ (r : RunBook). r.end) closes.0) closes.1
 
 pub returns : goal.returns
 returns g c =

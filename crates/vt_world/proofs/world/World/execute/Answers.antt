@@ -29,8 +29,8 @@ invariant_of-self g c =
     let at : slice_get i.kernels.items w ≡ Some k = slice_get_read i.kernels.items (length i.kernels.items) w k refl below c.index_mut.ensures.value in
     let own : c.args.lp % i.config.workers ≡ w = sym c.owner-owner.ensures.value in
     let kept : c.execute.new.self ≡ k =
-        ∥∥₁_elim c.self.invariant.is_reached (Prim.hlevel (props, Coded-set g.row.M-State.coded, Coded-set g.row.M-Payload.coded, Coded-set g.row.M-Kept.coded))
-          (λ x. (let f = found H held (reached (simulation_of H i.config) x.0 x.1.0) w k c.self.invariant.own_workers x.1.1 at in c.in_err-execute.ensures.unchanged f.part f.stands)) in
+    ∥∥₁_elim c.self.invariant.is_reached (Prim.hlevel (props, Coded-set g.row.M-State.coded, Coded-set g.row.M-Payload.coded, Coded-set g.row.M-Kept.coded))
+    (λ x. (let f = found H held (reached (simulation_of H i.config) x.0 x.1.0) w k c.self.invariant.own_workers x.1.1 at in c.in_err-execute.ensures.unchanged f.part f.stands)) in
     let kernels : slice_set i.kernels.items w c.execute.new.self ≡ i.kernels.items = ap (slice_set i.kernels.items w) kept ∙ put-same i.kernels.items w k at in
     inside-same H held c.self.invariant _ (λ j. inside_view m i.config (kernels j) i.inboxes.items i.board.board i.book.book) refl refl
 
@@ -47,13 +47,13 @@ returns-in_err-execute g c =
     let at : slice_get i.kernels.items w ≡ Some k = slice_get_read i.kernels.items (length i.kernels.items) w k refl below c.index_mut.ensures.value in
     let own : c.args.lp % i.config.workers ≡ w = sym c.owner-owner.ensures.value in
     let kept : c.execute.new.self ≡ k =
-        ∥∥₁_elim c.self.invariant.is_reached (Prim.hlevel (props, Coded-set g.row.M-State.coded, Coded-set g.row.M-Payload.coded, Coded-set g.row.M-Kept.coded))
-          (λ x. (let f = found H held (reached (simulation_of H i.config) x.0 x.1.0) w k c.self.invariant.own_workers x.1.1 at in c.in_err-execute.ensures.unchanged f.part f.stands)) in
+    ∥∥₁_elim c.self.invariant.is_reached (Prim.hlevel (props, Coded-set g.row.M-State.coded, Coded-set g.row.M-Payload.coded, Coded-set g.row.M-Kept.coded))
+    (λ x. (let f = found H held (reached (simulation_of H i.config) x.0 x.1.0) w k c.self.invariant.own_workers x.1.1 at in c.in_err-execute.ensures.unchanged f.part f.stands)) in
     let kernels : slice_set i.kernels.items w c.execute.new.self ≡ i.kernels.items = ap (slice_set i.kernels.items w) kept ∙ put-same i.kernels.items w k at in
     step-refused (g.M.Model.handlers) c.self.view_is (inside_view m i.config (slice_set i.kernels.items w c.execute.new.self) i.inboxes.items i.board.board i.book.book)
-      (Execute c.args.lp) c.in_err-execute.field-0.0 c.from_residual.result (search rules)
-      (λ j. inside_view m i.config (kernels j) i.inboxes.items i.board.board i.book.book)
-      (execute-why H held c.self.invariant.own_workers c.args.lp w k c.in_err-execute.field-0.0 at own (λ part s. c.in_err-execute.ensures.refused part s))
+    (Execute c.args.lp) c.in_err-execute.field-0.0 c.from_residual.result (search rules)
+    (λ j. inside_view m i.config (kernels j) i.inboxes.items i.board.board i.book.book)
+    (execute-why H held c.self.invariant.own_workers c.args.lp w k c.in_err-execute.field-0.0 at own (λ part s. c.in_err-execute.ensures.refused part s))
 
 pub invariant_of-self-2 : goal.invariant_of-self-2
 invariant_of-self-2 g c =
@@ -82,4 +82,4 @@ returns g c =
     let at : slice_get i.kernels.items w ≡ Some k = slice_get_read i.kernels.items (length i.kernels.items) w k refl below c.index_mut.ensures.value in
     let own : c.args.lp % i.config.workers ≡ w = sym c.owner-owner.ensures.value in
     step-done (g.M.Model.handlers) c.self.view_is c.self.invariant (lawful_of (g.M.Model.handlers m) i.config (g.met.M.Model.start_within m) (g.met.M.Model.forward_within m)) (inside_view m i.config (slice_set i.kernels.items w c.execute.new.self) i.inboxes.items i.board.board i.book.book) (Execute c.args.lp) Done
-      (local-done H held w k c.execute.new.self (Execute c.args.lp) c.self.invariant.own_workers at c.execute.ensures.same.0 c.execute.ensures.same.1 own (λ part s. c.in_ok-execute.ensures.done part s)) refl refl
+    (local-done H held w k c.execute.new.self (Execute c.args.lp) c.self.invariant.own_workers at c.execute.ensures.same.0 c.execute.ensures.same.1 own (λ part s. c.in_ok-execute.ensures.done part s)) refl refl

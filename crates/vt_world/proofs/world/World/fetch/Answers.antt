@@ -28,7 +28,7 @@ returns-then-w-self g c =
     let many = c.self.invariant.all_workers in
     let past : length i.kernels.items ≤ c.args.w = omega (arith, many, c.if-w-self.true) in
     step-unlawful (g.M.Model.handlers) c.self.view_is c.args.self.now (Fetch c.args.w) NotLawful (Err NotLawful) refl (sym c.self.view_is)
-      (fetch-nobody (g.M.Model.handlers m) held c.self.invariant.own_workers c.args.w (slice_get_past i.kernels.items c.args.w past))
+    (fetch-nobody (g.M.Model.handlers m) held c.self.invariant.own_workers c.args.w (slice_get_past i.kernels.items c.args.w past))
 
 pub take_in-requires-clause-own : goal.take_in-requires-clause-own
 take_in-requires-clause-own g c κs within =
@@ -65,9 +65,9 @@ invariant_of-self g c =
     let mail : c.replace-mail.result.items ≡ box = ap (λ v. v.items) c.replace-mail.ensures.value ∙ c.behind-self.view_is in
     let kernels : slice_set i.kernels.items c.args.w c.take_in.new.self ≡ i.kernels.items = ap (slice_set i.kernels.items c.args.w) c.in-Err.ensures.kept.0 ∙ put-same i.kernels.items c.args.w k at in
     let inboxes : slice_set (slice_set i.inboxes.items c.args.w c.replace-mail.new.dest.items) c.args.w c.in-Err.mail.items ≡ i.inboxes.items =
-        put-twice i.inboxes.items c.args.w c.replace-mail.new.dest.items c.in-Err.mail.items ∙ ap (slice_set i.inboxes.items c.args.w) (c.in-Err.ensures.kept.1 ∙ mail) ∙ put-same i.inboxes.items c.args.w box here in
+    put-twice i.inboxes.items c.args.w c.replace-mail.new.dest.items c.in-Err.mail.items ∙ ap (slice_set i.inboxes.items c.args.w) (c.in-Err.ensures.kept.1 ∙ mail) ∙ put-same i.inboxes.items c.args.w box here in
     inside-same (g.M.Model.handlers m) held c.self.invariant _
-      (λ j. inside_view m i.config (kernels j) (inboxes j) i.board.board i.book.book) refl refl
+    (λ j. inside_view m i.config (kernels j) (inboxes j) i.board.board i.book.book) refl refl
 
 pub returns-in-Err : goal.returns-in-Err
 returns-in-Err g c =
@@ -85,14 +85,14 @@ returns-in-Err g c =
     let mail : c.replace-mail.result.items ≡ box = ap (λ v. v.items) c.replace-mail.ensures.value ∙ c.behind-self.view_is in
     let kernels : slice_set i.kernels.items c.args.w c.take_in.new.self ≡ i.kernels.items = ap (slice_set i.kernels.items c.args.w) c.in-Err.ensures.kept.0 ∙ put-same i.kernels.items c.args.w k at in
     let inboxes : slice_set (slice_set i.inboxes.items c.args.w c.replace-mail.new.dest.items) c.args.w c.in-Err.mail.items ≡ i.inboxes.items =
-        put-twice i.inboxes.items c.args.w c.replace-mail.new.dest.items c.in-Err.mail.items ∙ ap (slice_set i.inboxes.items c.args.w) (c.in-Err.ensures.kept.1 ∙ mail) ∙ put-same i.inboxes.items c.args.w box here in
+    put-twice i.inboxes.items c.args.w c.replace-mail.new.dest.items c.in-Err.mail.items ∙ ap (slice_set i.inboxes.items c.args.w) (c.in-Err.ensures.kept.1 ∙ mail) ∙ put-same i.inboxes.items c.args.w box here in
     let why = subst (λ (ms : List (Mail _)). ((c.in-Err.fault ≡ NotLawful) × (is_empty k.arrived ≡ false)) ⊎ ((c.in-Err.fault ≡ Exhausted) × (is_empty k.arrived ≡ true)
-          × ((MAX_COUNT < k.got.white + count_colour White ms) ⊎ (MAX_COUNT < k.got.red + count_colour Red ms)))) mail c.in-Err.ensures.refused in
+    × ((MAX_COUNT < k.got.white + count_colour White ms) ⊎ (MAX_COUNT < k.got.red + count_colour Red ms)))) mail c.in-Err.ensures.refused in
     step-refused (g.M.Model.handlers) c.self.view_is
-      (inside_view m i.config (slice_set i.kernels.items c.args.w c.take_in.new.self) (slice_set (slice_set i.inboxes.items c.args.w c.replace-mail.new.dest.items) c.args.w c.in-Err.mail.items) i.board.board i.book.book)
-      (Fetch c.args.w) c.in-Err.fault (Err c.in-Err.fault) refl
-      (λ j. inside_view m i.config (kernels j) (inboxes j) i.board.board i.book.book)
-      (fetch-why (g.M.Model.handlers m) held c.self.invariant.own_workers c.args.w k box c.in-Err.fault at here why)
+    (inside_view m i.config (slice_set i.kernels.items c.args.w c.take_in.new.self) (slice_set (slice_set i.inboxes.items c.args.w c.replace-mail.new.dest.items) c.args.w c.in-Err.mail.items) i.board.board i.book.book)
+    (Fetch c.args.w) c.in-Err.fault (Err c.in-Err.fault) refl
+    (λ j. inside_view m i.config (kernels j) (inboxes j) i.board.board i.book.book)
+    (fetch-why (g.M.Model.handlers m) held c.self.invariant.own_workers c.args.w k box c.in-Err.fault at here why)
 
 pub invariant_of-self-in_default : goal.invariant_of-self-in_default
 invariant_of-self-in_default g c =
@@ -113,11 +113,11 @@ invariant_of-self-in_default g c =
     let same_worker = ap (λ (x : HeldWorker _ _ _). x.worker) c.in_default.ensures.taken in
     let same_config = ap (λ (x : HeldWorker _ _ _). x.config) c.in_default.ensures.taken in
     let goes = fetch-done H held c.self.invariant.own_workers c.args.w k c.take_in.new.self box at here same_worker same_config
-        (λ part s. subst (λ (ms : List (Mail _)). (is_empty part.arrived ≡ true) × StandsFor H c.take_in.new.self (part_after_fetch ms part)) mail (c.in_default.ensures.done H part s)) in
+    (λ part s. subst (λ (ms : List (Mail _)). (is_empty part.arrived ≡ true) × StandsFor H c.take_in.new.self (part_after_fetch ms part)) mail (c.in_default.ensures.done H part s)) in
     inside-mail H held c.self.invariant (Fetch c.args.w) Done c.args.w c.args.w k c.take_in.new.self c.replace-mail.new.dest.items at same_worker same_config
-      (subst (AllOwnMail i.config c.args.w) (sym none) (λ n d l. absurd (omega (arith, l))))
-      (subst (λ (b : List (Mail _)). GoesOn (simulation_of H i.config) (Fetch c.args.w) (Ok Done) (world_memory H held)
-          (world_memory H (inside_view m i.config (slice_set i.kernels.items c.args.w c.take_in.new.self) (slice_set i.inboxes.items c.args.w b) i.board.board i.book.book))) (sym none) goes)
+    (subst (AllOwnMail i.config c.args.w) (sym none) (λ n d l. absurd (omega (arith, l))))
+    (subst (λ (b : List (Mail _)). GoesOn (simulation_of H i.config) (Fetch c.args.w) (Ok Done) (world_memory H held)
+    (world_memory H (inside_view m i.config (slice_set i.kernels.items c.args.w c.take_in.new.self) (slice_set i.inboxes.items c.args.w b) i.board.board i.book.book))) (sym none) goes)
 
 pub returns : goal.returns
 returns g c =
@@ -138,8 +138,8 @@ returns g c =
     let same_worker = ap (λ (x : HeldWorker _ _ _). x.worker) c.in_default.ensures.taken in
     let same_config = ap (λ (x : HeldWorker _ _ _). x.config) c.in_default.ensures.taken in
     let goes = fetch-done H held c.self.invariant.own_workers c.args.w k c.take_in.new.self box at here same_worker same_config
-        (λ part s. subst (λ (ms : List (Mail _)). (is_empty part.arrived ≡ true) × StandsFor H c.take_in.new.self (part_after_fetch ms part)) mail (c.in_default.ensures.done H part s)) in
+    (λ part s. subst (λ (ms : List (Mail _)). (is_empty part.arrived ≡ true) × StandsFor H c.take_in.new.self (part_after_fetch ms part)) mail (c.in_default.ensures.done H part s)) in
     step-done (g.M.Model.handlers) c.self.view_is c.self.invariant (lawful_of (g.M.Model.handlers m) i.config (g.met.M.Model.start_within m) (g.met.M.Model.forward_within m))
-      (inside_view m i.config (slice_set i.kernels.items c.args.w c.take_in.new.self) (slice_set i.inboxes.items c.args.w c.replace-mail.new.dest.items) i.board.board i.book.book) (Fetch c.args.w) Done
-      (subst (λ (b : List (Mail _)). GoesOn (simulation_of H i.config) (Fetch c.args.w) (Ok Done) (world_memory H held)
-          (world_memory H (inside_view m i.config (slice_set i.kernels.items c.args.w c.take_in.new.self) (slice_set i.inboxes.items c.args.w b) i.board.board i.book.book))) (sym none) goes) refl refl
+    (inside_view m i.config (slice_set i.kernels.items c.args.w c.take_in.new.self) (slice_set i.inboxes.items c.args.w c.replace-mail.new.dest.items) i.board.board i.book.book) (Fetch c.args.w) Done
+    (subst (λ (b : List (Mail _)). GoesOn (simulation_of H i.config) (Fetch c.args.w) (Ok Done) (world_memory H held)
+    (world_memory H (inside_view m i.config (slice_set i.kernels.items c.args.w c.take_in.new.self) (slice_set i.inboxes.items c.args.w b) i.board.board i.book.book))) (sym none) goes) refl refl

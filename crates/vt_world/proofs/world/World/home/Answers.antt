@@ -45,10 +45,10 @@ returns-in_err-home g c =
     let is = who H held c.self.invariant.own_workers w k at in
     let kernels : slice_set i.kernels.items w c.home.new.self ≡ i.kernels.items = ap (slice_set i.kernels.items w) c.in_err-home.ensures.kept.1 ∙ put-same i.kernels.items w k at in
     step-unlawful (g.M.Model.handlers) c.self.view_is (inside_view m i.config (slice_set i.kernels.items w c.home.new.self) i.inboxes.items i.board.board i.book.book)
-      (Home c.args.w) c.in_err-home.field-0.0 c.from_residual.result (search rules)
-      (λ j. inside_view m i.config (kernels j) i.inboxes.items i.board.board i.book.book)
-      (local-unlawful H held c.self.invariant.own_workers w k (Home c.args.w) c.in_err-home.field-0.0 at refl c.in_err-home.ensures.kept.0
-        (λ part s. subst (λ v. local_step (simulation_of H k.config) k.worker (Home v) part ≡ None) is.0 (c.in_err-home.ensures.refused H part s)))
+    (Home c.args.w) c.in_err-home.field-0.0 c.from_residual.result (search rules)
+    (λ j. inside_view m i.config (kernels j) i.inboxes.items i.board.board i.book.book)
+    (local-unlawful H held c.self.invariant.own_workers w k (Home c.args.w) c.in_err-home.field-0.0 at refl c.in_err-home.ensures.kept.0
+    (λ part s. subst (λ v. local_step (simulation_of H k.config) k.worker (Home v) part ≡ None) is.0 (c.in_err-home.ensures.refused H part s)))
 
 pub invariant_of-self-2 : goal.invariant_of-self-2
 invariant_of-self-2 g c =
@@ -77,7 +77,7 @@ returns g c =
     let at : slice_get i.kernels.items w ≡ Some k = slice_get_read i.kernels.items (length i.kernels.items) w k refl below c.index_mut.ensures.value in
     let is = who H held c.self.invariant.own_workers w k at in
     step-done (g.M.Model.handlers) c.self.view_is c.self.invariant (lawful_of (g.M.Model.handlers m) i.config (g.met.M.Model.start_within m) (g.met.M.Model.forward_within m)) (inside_view m i.config (slice_set i.kernels.items w c.home.new.self) i.inboxes.items i.board.board i.book.book) (Home c.args.w) Done
-      (local-done H held w k c.home.new.self (Home c.args.w) c.self.invariant.own_workers at c.home.ensures.same.0 c.home.ensures.same.1 refl (λ part s. subst (λ v. IsDone H c.home.new.self (local_step (simulation_of H k.config) k.worker (Home v) part)) is.0 (c.in_ok-home.ensures.done H part s))) refl refl
+    (local-done H held w k c.home.new.self (Home c.args.w) c.self.invariant.own_workers at c.home.ensures.same.0 c.home.ensures.same.1 refl (λ part s. subst (λ v. IsDone H c.home.new.self (local_step (simulation_of H k.config) k.worker (Home v) part)) is.0 (c.in_ok-home.ensures.done H part s))) refl refl
 
 pub returns-then-w-self : goal.returns-then-w-self
 returns-then-w-self g c =
@@ -87,4 +87,4 @@ returns-then-w-self g c =
     let many = c.self.invariant.all_workers in
     let past : length i.kernels.items ≤ c.args.w = omega (arith, many, c.if-w-self.true) in
     step-unlawful (g.M.Model.handlers) c.self.view_is c.args.self.now (Home c.args.w) NotLawful (Err NotLawful) refl (sym c.self.view_is)
-      (home-nobody (g.M.Model.handlers m) held c.self.invariant.own_workers c.args.w (slice_get_past i.kernels.items c.args.w past))
+    (home-nobody (g.M.Model.handlers m) held c.self.invariant.own_workers c.args.w (slice_get_past i.kernels.items c.args.w past))

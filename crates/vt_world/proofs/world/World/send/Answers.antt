@@ -33,12 +33,12 @@ returns-then-w-self g c =
           let over = w.if-w-self.true in
           let past : length i.kernels.items ≤ c.args.w = omega (arith, many, over) in
           step-unlawful (g.M.Model.handlers) c.self.view_is c.args.self.now (Send c.args.w c.args.v) NotLawful (Err NotLawful) refl (sym c.self.view_is)
-            (send-nobody (g.M.Model.handlers m) held c.self.invariant.own_workers c.args.w c.args.v (slice_get_past i.kernels.items c.args.w past))
+          (send-nobody (g.M.Model.handlers m) held c.self.invariant.own_workers c.args.w c.args.v (slice_get_past i.kernels.items c.args.w past))
       | then-w-self-via-else-w-self+then-v-self w ↦
           let over = w.if-v-self.true in
           let past : length i.inboxes.items ≤ c.args.v = omega (arith, all, over) in
           step-unlawful (g.M.Model.handlers) c.self.view_is c.args.self.now (Send c.args.w c.args.v) NotLawful (Err NotLawful) refl (sym c.self.view_is)
-            (send-nowhere (g.M.Model.handlers m) held c.self.invariant.own_workers c.args.w c.args.v (slice_get_past i.inboxes.items c.args.v past))
+          (send-nowhere (g.M.Model.handlers m) held c.self.invariant.own_workers c.args.w c.args.v (slice_get_past i.inboxes.items c.args.v past))
     ]
 
 pub invariant_of-self : goal.invariant_of-self
@@ -56,7 +56,7 @@ invariant_of-self g c =
     let here : slice_get i.inboxes.items c.args.v ≡ Some box = slice_get_read i.inboxes.items (length i.inboxes.items) c.args.v box refl within_inboxes c.index_mut-2.ensures.value in
     let kernels : slice_set i.kernels.items c.args.w c.letters_for.new.self ≡ i.kernels.items = ap (slice_set i.kernels.items c.args.w) c.in_err-letters_for.ensures.kept.0 ∙ put-same i.kernels.items c.args.w k at in
     let inboxes : slice_set i.inboxes.items c.args.v c.letters_for.new.mail.items ≡ i.inboxes.items =
-        ap (slice_set i.inboxes.items c.args.v) (c.in_err-letters_for.ensures.kept.1 ∙ c.behind-self.view_is) ∙ put-same i.inboxes.items c.args.v box here in
+    ap (slice_set i.inboxes.items c.args.v) (c.in_err-letters_for.ensures.kept.1 ∙ c.behind-self.view_is) ∙ put-same i.inboxes.items c.args.v box here in
     inside-same (g.M.Model.handlers m) held c.self.invariant _ (λ j. inside_view m i.config (kernels j) (inboxes j) i.board.board i.book.book) refl refl
 
 pub returns-in_err-letters_for : goal.returns-in_err-letters_for
@@ -75,12 +75,12 @@ returns-in_err-letters_for g c =
     let here : slice_get i.inboxes.items c.args.v ≡ Some box = slice_get_read i.inboxes.items (length i.inboxes.items) c.args.v box refl within_inboxes c.index_mut-2.ensures.value in
     let kernels : slice_set i.kernels.items c.args.w c.letters_for.new.self ≡ i.kernels.items = ap (slice_set i.kernels.items c.args.w) c.in_err-letters_for.ensures.kept.0 ∙ put-same i.kernels.items c.args.w k at in
     let inboxes : slice_set i.inboxes.items c.args.v c.letters_for.new.mail.items ≡ i.inboxes.items =
-        ap (slice_set i.inboxes.items c.args.v) (c.in_err-letters_for.ensures.kept.1 ∙ c.behind-self.view_is) ∙ put-same i.inboxes.items c.args.v box here in
+    ap (slice_set i.inboxes.items c.args.v) (c.in_err-letters_for.ensures.kept.1 ∙ c.behind-self.view_is) ∙ put-same i.inboxes.items c.args.v box here in
     step-refused (g.M.Model.handlers) c.self.view_is
-      (inside_view m i.config (slice_set i.kernels.items c.args.w c.letters_for.new.self) (slice_set i.inboxes.items c.args.v c.letters_for.new.mail.items) i.board.board i.book.book)
-      (Send c.args.w c.args.v) c.in_err-letters_for.field-0.0 c.from_residual.result (search rules)
-      (λ j. inside_view m i.config (kernels j) (inboxes j) i.board.board i.book.book)
-      (send-why H held c.self.invariant.own_workers c.args.w c.args.v k box c.in_err-letters_for.field-0.0 at here (λ part s. c.in_err-letters_for.ensures.refused H part s))
+    (inside_view m i.config (slice_set i.kernels.items c.args.w c.letters_for.new.self) (slice_set i.inboxes.items c.args.v c.letters_for.new.mail.items) i.board.board i.book.book)
+    (Send c.args.w c.args.v) c.in_err-letters_for.field-0.0 c.from_residual.result (search rules)
+    (λ j. inside_view m i.config (kernels j) (inboxes j) i.board.board i.book.book)
+    (send-why H held c.self.invariant.own_workers c.args.w c.args.v k box c.in_err-letters_for.field-0.0 at here (λ part s. c.in_err-letters_for.ensures.refused H part s))
 
 pub invariant_of-self-2 : goal.invariant_of-self-2
 invariant_of-self-2 g c =
@@ -105,10 +105,10 @@ invariant_of-self-2 g c =
     let own_new : AllOwnMail i.config c.args.v letters = subst (λ (f : Config). AllOwnMail f c.args.v letters) is.1 c.in_ok-letters_for.ensures.own in
     let own_old : AllOwnMail i.config c.args.v box = subst (λ n. AllOwnMail i.config n box) plain (inbox-at i.config 0 c.args.v i.inboxes.items box c.self.invariant.own_inboxes here) in
     let goes = send-done H held c.self.invariant.own_workers c.args.w c.args.v k c.letters_for.new.self box c.letters_for.new.mail.items at here same_worker same_config
-        (λ part s. subst (λ (b : List (Mail _)). (may_send (simulation_of H k.config) k.worker c.args.v part ≡ true) × StandsFor H c.letters_for.new.self (part_after_send (simulation_of H k.config) c.args.v part)
-            × (c.letters_for.new.mail.items ≡ b ++ mail_of_send (simulation_of H k.config) c.args.v part)) c.behind-self.view_is (c.in_ok-letters_for.ensures.done H part s)) in
+    (λ part s. subst (λ (b : List (Mail _)). (may_send (simulation_of H k.config) k.worker c.args.v part ≡ true) × StandsFor H c.letters_for.new.self (part_after_send (simulation_of H k.config) c.args.v part)
+    × (c.letters_for.new.mail.items ≡ b ++ mail_of_send (simulation_of H k.config) c.args.v part)) c.behind-self.view_is (c.in_ok-letters_for.ensures.done H part s)) in
     inside-mail H held c.self.invariant (Send c.args.w c.args.v) Done c.args.w c.args.v k c.letters_for.new.self c.letters_for.new.mail.items at same_worker same_config
-      (subst (AllOwnMail i.config c.args.v) (sym mail) (All-append (IsOwnMail i.config c.args.v) box letters own_old own_new)) goes
+    (subst (AllOwnMail i.config c.args.v) (sym mail) (All-append (IsOwnMail i.config c.args.v) box letters own_old own_new)) goes
 
 pub returns : goal.returns
 returns g c =
@@ -127,7 +127,7 @@ returns g c =
     let same_worker = ap (λ (x : HeldWorker _ _ _). x.worker) c.in_ok-letters_for.ensures.sent in
     let same_config = ap (λ (x : HeldWorker _ _ _). x.config) c.in_ok-letters_for.ensures.sent in
     let goes = send-done H held c.self.invariant.own_workers c.args.w c.args.v k c.letters_for.new.self box c.letters_for.new.mail.items at here same_worker same_config
-        (λ part s. subst (λ (b : List (Mail _)). (may_send (simulation_of H k.config) k.worker c.args.v part ≡ true) × StandsFor H c.letters_for.new.self (part_after_send (simulation_of H k.config) c.args.v part)
-            × (c.letters_for.new.mail.items ≡ b ++ mail_of_send (simulation_of H k.config) c.args.v part)) c.behind-self.view_is (c.in_ok-letters_for.ensures.done H part s)) in
+    (λ part s. subst (λ (b : List (Mail _)). (may_send (simulation_of H k.config) k.worker c.args.v part ≡ true) × StandsFor H c.letters_for.new.self (part_after_send (simulation_of H k.config) c.args.v part)
+    × (c.letters_for.new.mail.items ≡ b ++ mail_of_send (simulation_of H k.config) c.args.v part)) c.behind-self.view_is (c.in_ok-letters_for.ensures.done H part s)) in
     step-done (g.M.Model.handlers) c.self.view_is c.self.invariant (lawful_of (g.M.Model.handlers m) i.config (g.met.M.Model.start_within m) (g.met.M.Model.forward_within m))
-      (inside_view m i.config (slice_set i.kernels.items c.args.w c.letters_for.new.self) (slice_set i.inboxes.items c.args.v c.letters_for.new.mail.items) i.board.board i.book.book) (Send c.args.w c.args.v) Done goes refl refl
+    (inside_view m i.config (slice_set i.kernels.items c.args.w c.letters_for.new.self) (slice_set i.inboxes.items c.args.v c.letters_for.new.mail.items) i.board.board i.book.book) (Send c.args.w c.args.v) Done goes refl refl
