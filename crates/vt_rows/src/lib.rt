@@ -11,4 +11,3 @@ mod sequential;
 #[cfg(test)]
 mod streams;
 #[cfg(test)]
-mod workers;
