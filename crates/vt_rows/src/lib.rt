@@ -10,4 +10,3 @@ mod pieces;
 mod sequential;
 #[cfg(test)]
 mod streams;
-#[cfg(test)]
