@@ -1,13 +1,11 @@
 -- What is known of a world whose book is closed, and of a step that it is asked then.
-use Rattle.std.proofs.Common.{◌≡◌, ℕ, sym, ◌∙◌, ap, subst, inl, inr, List, [], ◌∷◌, Some, Ok, Err, Result}
+use Rattle.std.proofs.Common.{◌≡◌, ℕ, sym, ◌∙◌, ap, subst, inl, inr, [], ◌∷◌, Some, Ok, Err, Result}
 use Rattle.std.specs.Prelude.{IsTrue}
-use Rattle.std.proofs.Math.Logic.{∥∥₁_elim}
-use Rattle.std.proofs.Props.{props}
 use Rattle.vt_key.specs.declared.fault.Fault.{Fault}
 use Rattle.vt_key.specs.declared.fault.Fault.TheVariants.{Closed}
 use Rattle.vt_model.specs.Handler.{Handlers}
 use Rattle.vt_model.specs.Histories.{IsLawful}
-use Rattle.vt_model.specs.Simulation.{Simulation, simulation_of}
+use Rattle.vt_model.specs.Simulation.{simulation_of}
 use Rattle.vt_steps.specs.declared.step.Step.{Step}
 use Rattle.vt_steps.specs.declared.step.Reply.{Reply}
 use Rattle.vt_steps.specs.World.{World, Book, book_floor}
@@ -18,7 +16,7 @@ use Rattle.vt_steps.specs.StandsFor.{GoesOn}
 use Rattle.vt_steps.proofs.ReachedBooks.{closed-stays, closed-whole}
 use Rattle.vt_steps.proofs.Refusals.{refusals as refusal-laws}
 use Rattle.vt_world.specs.Held.{HeldWorld, world_memory, StandsForWorld, IsReached}
-use Rattle.vt_world.specs.Calls.{IsStepRefusal, LeavesClosedBook, floor_held}
+use Rattle.vt_world.specs.Calls.{IsStepRefusal, floor_held}
 
 module _ {M S P K : Type 0} (handlers : Handlers S P K) (held : HeldWorld M S P K) (shut : IsTrue held.book.is_closed) where
   -- each world that it stands for is closed

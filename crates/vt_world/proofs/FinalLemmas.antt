@@ -1,5 +1,5 @@
 -- The state of each process once the book is closed: where the whole sequential run leaves it.
-use Rattle.std.proofs.Common.{◌≡◌, ℕ, suc, ◌+◌, ◌*◌, ◌/◌, ◌%◌, ◌<◌, Bool, nat_eq, true, List, map, refl, sym, ◌∙◌, ap, subst, arith, Option, Some, None, slice_get, if◌then◌else◌}
+use Rattle.std.proofs.Common.{◌≡◌, ℕ, suc, ◌+◌, ◌*◌, ◌/◌, ◌%◌, ◌<◌, Bool, nat_eq, List, map, refl, sym, ◌∙◌, ap, subst, arith, Option, Some, None, slice_get, if◌then◌else◌}
 use Rattle.std.specs.Prelude.{IsTrue}
 use Rattle.std.specs.Option.{option_map}
 use Rattle.std.proofs.lemmas.Bool.{eq-eqb}
@@ -10,7 +10,7 @@ use Rattle.vt_model.specs.declared.settings.Config.{Config}
 use Rattle.vt_model.specs.Handler.{Handlers}
 use Rattle.vt_model.specs.Histories.{IsLawful}
 use Rattle.vt_model.specs.Simulation.{Simulation, simulation_of, after}
-use Rattle.vt_model.specs.Sequential.{events_before, events_of, whole_run, seq_events}
+use Rattle.vt_model.specs.Sequential.{events_of, whole_run, seq_events}
 use Rattle.vt_model.proofs.EndLemmas.{whole_is_history}
 use Rattle.vt_model.proofs.RunLemmas.{known_sent}
 use Rattle.vt_steps.specs.Next.{reached}

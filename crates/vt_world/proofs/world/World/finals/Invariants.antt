@@ -1,4 +1,4 @@
-use Rattle.std.proofs.Common.{◌≡◌, ℕ, map}
+use Rattle.std.proofs.Common.{◌≡◌, map}
 use Rattle.vt_model.specs.Simulation.{simulation_of, after}
 use Rattle.vt_model.specs.Sequential.{events_of, whole_run, numbers_below}
 use Rattle.vt_world.proofs.world.World.finals.Given as goal

@@ -1,4 +1,4 @@
-use Rattle.std.proofs.Common.{rules, ◌≡◌, ℕ, ◌∙◌, [], ap, refl, sym, slice_index_or, arith}
+use Rattle.std.proofs.Common.{◌∙◌, ap, refl, sym, slice_index_or, arith}
 use Rattle.std.proofs.lemmas.List.{take_more}
 use Rattle.vt_steps.specs.declared.step.Step.TheVariants.{Execute}
 use Rattle.std.proofs.Math.Nat.{le_refl}

@@ -1,4 +1,4 @@
-use Rattle.std.proofs.Common.{◌≡◌, ℕ, ◌≤◌, take}
+use Rattle.std.proofs.Common.{◌≡◌, ◌≤◌, take}
 use Rattle.std.specs.Prelude.{IsTrue}
 use Rattle.vt_key.specs.Times.{TimeAtMost}
 use Rattle.vt_model.specs.Simulation.{simulation_of}
