@@ -10,3 +10,4 @@ pub mod ReportLemmas
 pub mod LocalLemmas
 pub mod CommitLemmas
 pub mod RunLemmas
+pub mod MakingLemmas

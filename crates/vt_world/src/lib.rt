@@ -6,6 +6,7 @@ mod committing;
 mod cutting;
 mod inbox;
 mod local;
+mod making;
 mod sending;
 mod step;
 mod world;
