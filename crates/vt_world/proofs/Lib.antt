@@ -11,3 +11,4 @@ pub mod LocalLemmas
 pub mod CommitLemmas
 pub mod RunLemmas
 pub mod MakingLemmas
+pub mod LeastLemmas

@@ -7,6 +7,7 @@ mod cutting;
 mod inbox;
 mod local;
 mod making;
+mod reading;
 mod sending;
 mod step;
 mod world;
