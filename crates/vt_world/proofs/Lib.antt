@@ -3,6 +3,8 @@ pub mod CellSteps
 pub mod WorldSteps
 pub mod CommitRows
 pub mod ReachedLemmas
+pub mod ClosedLemmas
+pub mod FinalLemmas
 pub mod StepLemmas
 pub mod Places
 pub mod Refusals

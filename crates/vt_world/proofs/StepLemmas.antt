@@ -27,6 +27,7 @@ use Rattle.vt_book.specs.Books.{RunBook, refusal_where, refusal_of_close}
 use Rattle.vt_world.specs.Held.{HeldWorld, world_memory, StandsForWorld, AreWorkers, AreInboxes, IsWorldInside, IsReached}
 use Rattle.vt_world.specs.Calls.{IsStepRefusal, IsStepOf, floor_held}
 use Rattle.vt_world.proofs.ReachedLemmas.{inside_view}
+use Rattle.vt_world.proofs.ClosedLemmas.{done-closed, refused-closed, book-stays}
 use Rattle.vt_world.proofs.WorldSteps.{close-done, close-refused, close-closed}
 
 -- neither the announced time nor the book's floor falls by a step
@@ -54,14 +55,27 @@ module _ {M S P K : Type 0} (meaning : M → Handlers S P K) {held seen : HeldWo
   step-done inside lawful new step reply goes same_model same_config =
       let up = ∥∥₁_elim inside.is_reached (Prim.hlevel props) (rises (meaning held.model) held new step (Ok reply) lawful same_config goes) in
       subst (λ (v : HeldWorld M S P K). IsStepOf (meaning v.model) step v new (Ok reply)) seen_is
-      (record { done = goes; refused = λ world h. tt; unchanged = tt; same_model = same_model; same_config = same_config; announced = up.0; floor = up.1 })
+      (record {
+        done = goes;
+        refused = λ world h. tt;
+        unchanged = tt;
+        same_model = same_model;
+        same_config = same_config;
+        announced = up.0;
+        floor = up.1;
+        closed = λ shut. record {
+          refused = λ on_book. ∥∥₁_elim inside.is_reached (Prim.hlevel props) (done-closed (meaning held.model) held shut step reply new goes on_book);
+          stays = ∥∥₁_elim inside.is_reached (Prim.hlevel props) (book-stays (meaning held.model) held shut step reply new goes);
+        };
+      })
 
   -- a step is refused, and why
-  pub step-refused : (new : HeldWorld M S P K) (step : Step) (fault : Fault) (result : Result Reply Fault) → IsErrAnd result (λ e. e ≡ fault) → new ≡ held
+  pub step-refused : {board_end book_end : Time} → IsWorldInside (meaning held.model) held board_end book_end
+      → (new : HeldWorld M S P K) (step : Step) (fault : Fault) (result : Result Reply Fault) → IsErrAnd result (λ e. e ≡ fault) → new ≡ held
       → ((world : World P) → StandsForWorld (meaning held.model) held world → IsStepRefusal (simulation_of (meaning held.model) held.config) step world fault)
       → IsStepOf (meaning seen.model) step seen new result
-  step-refused new step fault (Ok reply) is same why = absurd is
-  step-refused new step fault (Err e) is same why =
+  step-refused inside new step fault (Ok reply) is same why = absurd is
+  step-refused inside new step fault (Err e) is same why =
       subst (λ (v : HeldWorld M S P K). IsStepOf (meaning v.model) step v new (Err e)) seen_is
       (record {
         done = tt;
@@ -71,13 +85,18 @@ module _ {M S P K : Type 0} (meaning : M → Handlers S P K) {held seen : HeldWo
         same_config = ap (λ (v : HeldWorld M S P K). v.config) same;
         announced = subst (λ (v : HeldWorld M S P K). TimeAtMost held.board.announced v.board.announced) (sym same) (le_refl _);
         floor = subst (λ (v : HeldWorld M S P K). TimeAtMost (floor_held held) (floor_held v)) (sym same) (le_refl _);
+        closed = λ shut. record {
+          refused = λ on_book. ap Err is ∙ ∥∥₁_elim inside.is_reached (Prim.hlevel props) (refused-closed (meaning held.model) held shut step fault why on_book);
+          stays = ap (λ (v : HeldWorld M S P K). v.book) same;
+        };
       })
 
   -- a step is refused as the definitions refuse it
-  pub step-unlawful : (new : HeldWorld M S P K) (step : Step) (fault : Fault) (result : Result Reply Fault) → IsErrAnd result (λ e. e ≡ fault) → new ≡ held
+  pub step-unlawful : {board_end book_end : Time} → IsWorldInside (meaning held.model) held board_end book_end
+      → (new : HeldWorld M S P K) (step : Step) (fault : Fault) (result : Result Reply Fault) → IsErrAnd result (λ e. e ≡ fault) → new ≡ held
       → GoesOn (simulation_of (meaning held.model) held.config) step (Err fault) (world_memory (meaning held.model) held) (world_memory (meaning held.model) held)
       → IsStepOf (meaning seen.model) step seen new result
-  step-unlawful new step fault result is same goes = step-refused new step fault result is same (λ world h. inl (goes world h).0)
+  step-unlawful inside new step fault result is same goes = step-refused inside new step fault result is same (λ world h. inl (goes world h).0)
 
 -- ---- what a world keeps to, after a step
 

@@ -1,5 +1,5 @@
 -- What the calls of a world answer, by the steps of the definitions.
-use Rattle.std.specs.Prelude.{◌≡◌, ℕ, ◌+◌, ◌<◌, ◌≤◌, ◌⊎◌, ◌/◌, ◌%◌, List, [], ◌∷◌, ◌++◌, map, Option, Some, None, Result, Ok, Err, slice_get, IfOk, IfErr}
+use Rattle.std.specs.Prelude.{◌≡◌, ℕ, ◌+◌, ◌<◌, ◌≤◌, ◌⊎◌, ◌/◌, ◌%◌, IsTrue, List, [], ◌∷◌, ◌++◌, map, Option, Some, None, Result, Ok, Err, slice_get, IfOk, IfErr}
 use Rattle.std.specs.List.{flat_map}
 use Rattle.vt_key.specs.Times.{Time, TimeAtMost}
 use Rattle.vt_key.specs.declared.limits.TheConstants.{MAX_COUNT}
@@ -14,6 +14,7 @@ use Rattle.vt_steps.specs.declared.step.Reply.{Reply}
 use Rattle.vt_steps.specs.Letters.{count_of, least_time}
 use Rattle.vt_steps.specs.World.{LogicalProcess, Part, World, book_floor}
 use Rattle.vt_steps.specs.Next.{next}
+use Rattle.vt_steps.specs.Cells.{cell_of, book_cell}
 use Rattle.vt_steps.specs.StandsFor.{GoesOn}
 use Rattle.vt_lp.specs.Guards.{number_of}
 use Rattle.vt_kernel.specs.Guards.{held_letters}
@@ -64,9 +65,14 @@ module _ {M S P K : Type 0} where
   abbrev pub floor_held : HeldWorld M S P K → Time
   floor_held held = book_floor held.config.end held.book
 
+-- a closed book and a step: a commit or a close is refused as closed, and whatever the step is, the book stays as it is
+pub record LeavesClosedBook {M S P K : Type 0} (step : Step) (old new : HeldWorld M S P K) (result : Result Reply Fault) : Type 0 where
+  pub refused : cell_of step ≡ Some book_cell → result ≡ Err Closed
+  pub stays : new.book ≡ old.book
+
 -- what a call that does a step of a world answers and leaves: where it is done, it was lawful and answered so, and the world
--- goes on by it; where it is refused, it says why, and all is as it was. The model and the config stay, and neither the
--- announced time nor the book's floor falls
+-- goes on by it; where it is refused, it says why, and all is as it was. The model and the config stay, neither the announced
+-- time nor the book's floor falls, and a closed book stays closed
 pub record IsStepOf {M S P K : Type 0} (handlers : Handlers S P K) (step : Step) (old new : HeldWorld M S P K) (result : Result Reply Fault) : Type 0 where
   pub done : IfOk result (λ reply. GoesOn (simulation_of handlers old.config) step (Ok reply) (world_memory handlers old) (world_memory handlers new))
   pub refused : (world : World P) → StandsForWorld handlers old world → IfErr result (λ fault. IsStepRefusal (simulation_of handlers old.config) step world fault)
@@ -75,6 +81,7 @@ pub record IsStepOf {M S P K : Type 0} (handlers : Handlers S P K) (step : Step)
   pub same_config : new.config ≡ old.config
   pub announced : TimeAtMost old.board.announced new.board.announced
   pub floor : TimeAtMost (floor_held old) (floor_held new)
+  pub closed : IsTrue old.book.is_closed → LeavesClosedBook step old new result
 
 -- how many of these answers are refusals
 abbrev pub refusals : List (Result Reply Fault) → ℕ

@@ -4,6 +4,7 @@
 
 mod committing;
 mod cutting;
+mod finals;
 mod inbox;
 mod local;
 mod making;

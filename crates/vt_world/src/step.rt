@@ -1,9 +1,10 @@
 //! The eleven steps of a world, and lists of them.
 
-ghost use Rattle.std.specs.Prelude.{◌≡◌, ◌⊎◌, take, slice_get, IfOk, IfErr, MatchOption};
+ghost use Rattle.std.specs.Prelude.{◌≡◌, ◌⊎◌, IsTrue, Some, Err, take, slice_get, IfOk, IfErr, MatchOption};
 ghost use Rattle.vt_key.specs.Times.{TimeAtMost};
 ghost use Rattle.vt_key.specs.declared.fault.Fault.TheVariants.{NotLawful, Closed};
 ghost use Rattle.vt_model.specs.Simulation.{simulation_of};
+ghost use Rattle.vt_steps.specs.Cells.{cell_of, book_cell};
 ghost use Rattle.vt_steps.specs.Next.{answers};
 ghost use Rattle.vt_steps.specs.StandsFor.{RunsTo};
 ghost use Rattle.vt_world.specs.Held.{world_memory, StandsForWorld};
@@ -25,7 +26,8 @@ pub struct Stop {
 }
 
 impl<'m, M: EventModel> World<'m, M> {
-    /// Does one step, and tells what it is answered.
+    /// Does one step, and tells what it is answered. Once the book is closed it stays as it is: each commit and each close is
+    /// refused as [`Fault::Closed`].
     ///
     /// [`Fault::NotLawful`]: the step isn't lawful in this world. [`Fault::Closed`]: it is a commit or a close, and the book is
     /// closed. [`Fault::Exhausted`]: it is lawful, and a counter would pass 2^63. [`Fault::Memory`]: neither, and memory was
@@ -34,6 +36,8 @@ impl<'m, M: EventModel> World<'m, M> {
         ensures step { IsStepOf (M.handlers self.old.model) step.now self.old self.new result }
         ensures announced { TimeAtMost self.old.board.announced self.new.board.announced }
         ensures floor { TimeAtMost (floor_held self.old) (floor_held self.new) }
+        ensures closed { IsTrue self.old.book.is_closed → cell_of step.now ≡ Some book_cell → result ≡ Err Closed }
+        ensures stays { IsTrue self.old.book.is_closed → self.new.book ≡ self.old.book }
     {
         match *step {
             Step::Execute(lp) => self.execute(alloc, lp),
@@ -51,7 +55,7 @@ impl<'m, M: EventModel> World<'m, M> {
     }
 
     /// Does steps one after the other. A step that isn't lawful, or that the closed book refuses, changes nothing, and the
-    /// next one follows; the answer is how many were refused so.
+    /// next one follows; the answer is how many were refused so. Once the book is closed it stays as it is.
     ///
     /// [`Stop`]: a lawful step couldn't be done, since memory was refused or a counter would pass 2^63. The world is then that
     /// after the steps before it.
@@ -63,6 +67,7 @@ impl<'m, M: EventModel> World<'m, M> {
         ensures same { (self.new.model ≡ self.old.model) × (self.new.config ≡ self.old.config) }
         ensures announced { TimeAtMost self.old.board.announced self.new.board.announced }
         ensures floor { TimeAtMost (floor_held self.old) (floor_held self.new) }
+        ensures stays { IsTrue self.old.book.is_closed → self.new.book ≡ self.old.book }
     {
         let mut refused = 0;
         for at in 0..steps.len() {
@@ -82,6 +87,7 @@ impl<'m, M: EventModel> World<'m, M> {
         ensures same { (self.new.model ≡ self.old.model) × (self.new.config ≡ self.old.config) }
         ensures announced { TimeAtMost self.old.board.announced self.new.board.announced }
         ensures floor { TimeAtMost (floor_held self.old) (floor_held self.new) }
+        ensures stays { IsTrue self.old.book.is_closed → self.new.book ≡ self.old.book }
     {
         match self.step(alloc, step) {
             Ok(_) => Ok(0),

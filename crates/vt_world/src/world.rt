@@ -1,6 +1,6 @@
 //! The world.
 
-ghost use Rattle.std.specs.Prelude.{◌≡◌, IfOk, IfErr};
+ghost use Rattle.std.specs.Prelude.{◌≡◌, IsTrue, IfOk, IfErr};
 ghost use Rattle.vt_key.specs.Times.{TimeAtMost};
 ghost use Rattle.vt_key.specs.declared.fault.Fault.TheVariants.{Memory};
 ghost use Rattle.vt_model.specs.Simulation.{simulation_of};
@@ -64,19 +64,23 @@ impl<'m, M: EventModel> World<'m, M> {
         self.board.announced()
     }
 
-    /// The floor of the book, in ticks: what is committed before it is shown. It is at most the announced time.
+    /// The floor of the book, in ticks: what is committed before it is shown. It is at most the announced time. Once the book
+    /// is closed it is the end of the run.
     pub fn floor(&self) -> Time
         ensures value { result ≡ floor_held self.now }
         ensures announced { TimeAtMost result self.now.board.announced }
+        ensures closed { IsTrue self.now.book.is_closed → result ≡ self.now.config.end }
     {
         self.book.floor()
     }
 
-    /// The records of the book: exactly the sequential run's records below the floor, in that run's order, each once.
+    /// The records of the book: exactly the sequential run's records below the floor, in that run's order, each once. Once
+    /// the book is closed these are the records of the whole run.
     ///
     /// [`Fault::Memory`]: memory was refused.
     pub fn records(&self, alloc: Global) -> Result<Vec<Record>, Fault>
         ensures records { IfOk result (λ v. v.items ≡ seq_records (simulation_of (M.handlers self.now.model) self.now.config) (floor_held self.now)) }
+        ensures closed { IsTrue self.now.book.is_closed → IfOk result (λ v. v.items ≡ seq_records (simulation_of (M.handlers self.now.model) self.now.config) self.now.config.end) }
         ensures refused { IfErr result (λ fault. fault ≡ Memory) }
     {
         self.book.records(alloc)

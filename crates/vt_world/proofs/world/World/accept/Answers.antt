@@ -44,7 +44,7 @@ returns-in_err-accept g c =
     let at : slice_get i.kernels.items w ≡ Some k = slice_get_read i.kernels.items (length i.kernels.items) w k refl below c.index_mut.ensures.value in
     let is = who H held c.self.invariant.own_workers w k at in
     let kernels : slice_set i.kernels.items w c.accept.new.self ≡ i.kernels.items = ap (slice_set i.kernels.items w) c.in_err-accept.ensures.kept ∙ put-same i.kernels.items w k at in
-    step-refused (g.M.Model.handlers) c.self.view_is (inside_view m i.config (slice_set i.kernels.items w c.accept.new.self) i.inboxes.items i.board.board i.book.book)
+    step-refused (g.M.Model.handlers) c.self.view_is c.self.invariant (inside_view m i.config (slice_set i.kernels.items w c.accept.new.self) i.inboxes.items i.board.board i.book.book)
     (Accept c.args.w c.args.i) c.in_err-accept.field-0.0 c.from_residual.result (search rules)
     (λ j. inside_view m i.config (kernels j) i.inboxes.items i.board.board i.book.book)
     (accept-why H held c.self.invariant.own_workers c.args.w c.args.i k c.in_err-accept.field-0.0 at (λ part s. c.in_err-accept.ensures.refused H part s))
@@ -85,5 +85,5 @@ returns-then-w-self g c =
     let held = inside_view m i.config i.kernels.items i.inboxes.items i.board.board i.book.book in
     let many = c.self.invariant.all_workers in
     let past : length i.kernels.items ≤ c.args.w = omega (arith, many, c.if-w-self.true) in
-    step-unlawful (g.M.Model.handlers) c.self.view_is c.args.self.now (Accept c.args.w c.args.i) NotLawful (Err NotLawful) refl (sym c.self.view_is)
+    step-unlawful (g.M.Model.handlers) c.self.view_is c.self.invariant c.args.self.now (Accept c.args.w c.args.i) NotLawful (Err NotLawful) refl (sym c.self.view_is)
     (accept-nobody (g.M.Model.handlers m) held c.self.invariant.own_workers c.args.w c.args.i (slice_get_past i.kernels.items c.args.w past))

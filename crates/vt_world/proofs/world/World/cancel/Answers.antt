@@ -39,7 +39,7 @@ returns-in_err-cancel g c =
     let at : slice_get i.kernels.items w ≡ Some k = slice_get_read i.kernels.items (length i.kernels.items) w k refl below c.index_mut.ensures.value in
     let own : c.args.lp % i.config.workers ≡ w = sym c.owner-owner.ensures.value in
     let kernels : slice_set i.kernels.items w c.cancel.new.self ≡ i.kernels.items = ap (slice_set i.kernels.items w) c.in_err-cancel.ensures.kept.1 ∙ put-same i.kernels.items w k at in
-    step-unlawful (g.M.Model.handlers) c.self.view_is (inside_view m i.config (slice_set i.kernels.items w c.cancel.new.self) i.inboxes.items i.board.board i.book.book)
+    step-unlawful (g.M.Model.handlers) c.self.view_is c.self.invariant (inside_view m i.config (slice_set i.kernels.items w c.cancel.new.self) i.inboxes.items i.board.board i.book.book)
     (Cancel c.args.lp c.args.stamp) c.in_err-cancel.field-0.0 c.from_residual.result (search rules)
     (λ j. inside_view m i.config (kernels j) i.inboxes.items i.board.board i.book.book)
     (local-unlawful H held c.self.invariant.own_workers w k (Cancel c.args.lp c.args.stamp) c.in_err-cancel.field-0.0 at own c.in_err-cancel.ensures.kept.0

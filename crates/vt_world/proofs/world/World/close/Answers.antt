@@ -21,7 +21,7 @@ returns-in_err-close g c =
     let i = c.self.inside in
     let m = i.model.now in
     let refuses = close-refuses (g.M.Model.handlers m) m i.config i.kernels.items i.inboxes.items i.board.board i.book c.self.invariant.same_book_end c.self.invariant.own_workers c.close.new.self c.close.result tt c.in_err-close.field-0.0 _ c.in_err-close.was c.close.ensures in
-    step-unlawful (g.M.Model.handlers) c.self.view_is (inside_view m i.config i.kernels.items i.inboxes.items i.board.board c.close.new.self.book) Close c.in_err-close.field-0.0 c.from_residual.result (search rules)
+    step-unlawful (g.M.Model.handlers) c.self.view_is c.self.invariant (inside_view m i.config i.kernels.items i.inboxes.items i.board.board c.close.new.self.book) Close c.in_err-close.field-0.0 c.from_residual.result (search rules)
     (ap (λ (r : RunBook). inside_view m i.config i.kernels.items i.inboxes.items i.board.board r.book) refuses.0) refuses.1
 
 pub invariant_of-self-2 : goal.invariant_of-self-2

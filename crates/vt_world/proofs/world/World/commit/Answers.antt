@@ -28,7 +28,7 @@ returns-then-is_closed g c =
     let i = c.self.inside in
     let m = i.model.now in
     let held = inside_view m i.config i.kernels.items i.inboxes.items i.board.board i.book.book in
-    step-unlawful (g.M.Model.handlers) c.self.view_is c.args.self.now (Commit c.args.w) Closed (Err Closed) refl (sym c.self.view_is)
+    step-unlawful (g.M.Model.handlers) c.self.view_is c.self.invariant c.args.self.now (Commit c.args.w) Closed (Err Closed) refl (sym c.self.view_is)
     (commit-closed (g.M.Model.handlers m) held c.self.invariant.own_workers c.args.w (sym c.is_closed.ensures ∙ c.if-is_closed.true))
 
 pub returns-then-w-self : goal.returns-then-w-self
@@ -39,7 +39,7 @@ returns-then-w-self g c =
     let many = c.self.invariant.all_workers in
     let past : length i.kernels.items ≤ c.args.w = omega (arith, many, c.if-w-self.true) in
     let is_open : i.book.book.is_closed ≡ false = sym c.is_closed.ensures ∙ c.if-is_closed.false in
-    step-unlawful (g.M.Model.handlers) c.self.view_is c.args.self.now (Commit c.args.w) NotLawful (Err NotLawful) refl (sym c.self.view_is)
+    step-unlawful (g.M.Model.handlers) c.self.view_is c.self.invariant c.args.self.now (Commit c.args.w) NotLawful (Err NotLawful) refl (sym c.self.view_is)
     (commit-nobody (g.M.Model.handlers m) held c.self.invariant.own_workers c.args.w (slice_get_past i.kernels.items c.args.w past) is_open)
 
 pub returns-in_err-rows : goal.returns-in_err-rows
@@ -55,7 +55,7 @@ returns-in_err-rows g c =
     let at : slice_get i.kernels.items c.args.w ≡ Some k = slice_get_read i.kernels.items (length i.kernels.items) c.args.w k refl below c.index.ensures in
     let is_open : i.book.book.is_closed ≡ false = sym c.is_closed.ensures ∙ c.if-is_closed.false in
     let may : may_commit (slice_get i.book.book.floors c.args.w) k.floor ≡ true = ∥∥₁_elim c.self.invariant.is_reached (Prim.hlevel props) (commit-may H held c.self.invariant.own_workers lawful c.args.w k at) in
-    step-refused (g.M.Model.handlers) c.self.view_is c.args.self.now (Commit c.args.w) c.in_err-rows.field-0.0 c.from_residual.result (search rules) (sym c.self.view_is)
+    step-refused (g.M.Model.handlers) c.self.view_is c.self.invariant c.args.self.now (Commit c.args.w) c.in_err-rows.field-0.0 c.from_residual.result (search rules) (sym c.self.view_is)
     (commit-why H held c.self.invariant.own_workers lawful c.args.w k at c.in_err-rows.field-0.0 c.in_err-rows.ensures.refused is_open may)
 
 pub invariant_of-self : goal.invariant_of-self
@@ -88,7 +88,7 @@ returns-in_err-hand g c =
     let free : refusal_of_hand i.book c.args.w rows k.floor ≡ None =
     ∥∥₁_elim c.self.invariant.is_reached (Prim.hlevel props) (hand-unrefused H held c.self.invariant.own_workers lawful c.args.w k at i.book.end rows c.self.invariant.same_book_end is_open rows_are) in
     let taken : refusal_of_hand i.book c.args.w c.deref.result.now c.floor-floor.result ≡ None = (λ j. refusal_of_hand i.book c.args.w (c.deref.ensures.value j) (floor j)) ∙ free in
-    step-refused (g.M.Model.handlers) c.self.view_is (inside_view m i.config i.kernels.items i.inboxes.items i.board.board c.hand.new.self.book) (Commit c.args.w) c.in_err-hand.field-0.0 c.from_residual-in_err-hand.result (search rules)
+    step-refused (g.M.Model.handlers) c.self.view_is c.self.invariant (inside_view m i.config i.kernels.items i.inboxes.items i.board.board c.hand.new.self.book) (Commit c.args.w) c.in_err-hand.field-0.0 c.from_residual-in_err-hand.result (search rules)
     (ap (λ (b : RunBook). inside_view m i.config i.kernels.items i.inboxes.items i.board.board b.book) c.in_err-hand.ensures.unchanged)
     (commit-why H held c.self.invariant.own_workers lawful c.args.w k at c.in_err-hand.field-0.0 (c.in_err-hand.ensures.taken taken) is_open may)
 

@@ -24,7 +24,7 @@ returns-then-w-self g c =
     let held = inside_view m i.config i.kernels.items i.inboxes.items i.board.board i.book.book in
     let many = c.self.invariant.all_workers in
     let past : length i.kernels.items ≤ c.args.w = omega (arith, many, c.if-w-self.true) in
-    step-unlawful (g.M.Model.handlers) c.self.view_is c.args.self.now (Cut c.args.w) NotLawful (Err NotLawful) refl (sym c.self.view_is)
+    step-unlawful (g.M.Model.handlers) c.self.view_is c.self.invariant c.args.self.now (Cut c.args.w) NotLawful (Err NotLawful) refl (sym c.self.view_is)
     (cut-nobody (g.M.Model.handlers m) held c.self.invariant.own_workers c.args.w (slice_get_past i.kernels.items c.args.w past))
 
 pub invariant_of-self : goal.invariant_of-self
@@ -42,7 +42,7 @@ returns-in_err-announced g c =
     let held = inside_view m i.config i.kernels.items i.inboxes.items i.board.board i.book.book in
     let many = c.self.invariant.all_workers in
     let below : c.args.w < length i.kernels.items = omega (arith, many, c.if-w-self.false) in
-    step-refused (g.M.Model.handlers) c.self.view_is (inside_view m i.config i.kernels.items i.inboxes.items c.cut.new.self.board i.book.book) (Cut c.args.w) c.in_err-announced.field-0.0 c.from_residual.result (search rules)
+    step-refused (g.M.Model.handlers) c.self.view_is c.self.invariant (inside_view m i.config i.kernels.items i.inboxes.items c.cut.new.self.board i.book.book) (Cut c.args.w) c.in_err-announced.field-0.0 c.from_residual.result (search rules)
     (ap (λ (b : BoardOfRun). inside_view m i.config i.kernels.items i.inboxes.items b.board i.book.book) c.in_err-announced.ensures.kept)
     (cut-why (g.M.Model.handlers m) held c.self.invariant.own_workers i.board.end c.args.w c.in_err-announced.field-0.0 c.self.invariant.same_board_end below c.in_err-announced.ensures.refused)
 

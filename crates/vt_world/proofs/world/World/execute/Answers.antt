@@ -50,7 +50,7 @@ returns-in_err-execute g c =
     ∥∥₁_elim c.self.invariant.is_reached (Prim.hlevel (props, Coded-set g.row.M-State.coded, Coded-set g.row.M-Payload.coded, Coded-set g.row.M-Kept.coded))
     (λ x. (let f = found H held (reached (simulation_of H i.config) x.0 x.1.0) w k c.self.invariant.own_workers x.1.1 at in c.in_err-execute.ensures.unchanged f.part f.stands)) in
     let kernels : slice_set i.kernels.items w c.execute.new.self ≡ i.kernels.items = ap (slice_set i.kernels.items w) kept ∙ put-same i.kernels.items w k at in
-    step-refused (g.M.Model.handlers) c.self.view_is (inside_view m i.config (slice_set i.kernels.items w c.execute.new.self) i.inboxes.items i.board.board i.book.book)
+    step-refused (g.M.Model.handlers) c.self.view_is c.self.invariant (inside_view m i.config (slice_set i.kernels.items w c.execute.new.self) i.inboxes.items i.board.board i.book.book)
     (Execute c.args.lp) c.in_err-execute.field-0.0 c.from_residual.result (search rules)
     (λ j. inside_view m i.config (kernels j) i.inboxes.items i.board.board i.book.book)
     (execute-why H held c.self.invariant.own_workers c.args.lp w k c.in_err-execute.field-0.0 at own (λ part s. c.in_err-execute.ensures.refused part s))

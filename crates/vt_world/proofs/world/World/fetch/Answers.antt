@@ -27,7 +27,7 @@ returns-then-w-self g c =
     let held = inside_view m i.config i.kernels.items i.inboxes.items i.board.board i.book.book in
     let many = c.self.invariant.all_workers in
     let past : length i.kernels.items ≤ c.args.w = omega (arith, many, c.if-w-self.true) in
-    step-unlawful (g.M.Model.handlers) c.self.view_is c.args.self.now (Fetch c.args.w) NotLawful (Err NotLawful) refl (sym c.self.view_is)
+    step-unlawful (g.M.Model.handlers) c.self.view_is c.self.invariant c.args.self.now (Fetch c.args.w) NotLawful (Err NotLawful) refl (sym c.self.view_is)
     (fetch-nobody (g.M.Model.handlers m) held c.self.invariant.own_workers c.args.w (slice_get_past i.kernels.items c.args.w past))
 
 pub take_in-requires-clause-own : goal.take_in-requires-clause-own
@@ -88,7 +88,7 @@ returns-in-Err g c =
     put-twice i.inboxes.items c.args.w c.replace-mail.new.dest.items c.in-Err.mail.items ∙ ap (slice_set i.inboxes.items c.args.w) (c.in-Err.ensures.kept.1 ∙ mail) ∙ put-same i.inboxes.items c.args.w box here in
     let why = subst (λ (ms : List (Mail _)). ((c.in-Err.fault ≡ NotLawful) × (is_empty k.arrived ≡ false)) ⊎ ((c.in-Err.fault ≡ Exhausted) × (is_empty k.arrived ≡ true)
     × ((MAX_COUNT < k.got.white + count_colour White ms) ⊎ (MAX_COUNT < k.got.red + count_colour Red ms)))) mail c.in-Err.ensures.refused in
-    step-refused (g.M.Model.handlers) c.self.view_is
+    step-refused (g.M.Model.handlers) c.self.view_is c.self.invariant
     (inside_view m i.config (slice_set i.kernels.items c.args.w c.take_in.new.self) (slice_set (slice_set i.inboxes.items c.args.w c.replace-mail.new.dest.items) c.args.w c.in-Err.mail.items) i.board.board i.book.book)
     (Fetch c.args.w) c.in-Err.fault (Err c.in-Err.fault) refl
     (λ j. inside_view m i.config (kernels j) (inboxes j) i.board.board i.book.book)

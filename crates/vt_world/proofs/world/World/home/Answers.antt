@@ -44,7 +44,7 @@ returns-in_err-home g c =
     let at : slice_get i.kernels.items w ≡ Some k = slice_get_read i.kernels.items (length i.kernels.items) w k refl below c.index_mut.ensures.value in
     let is = who H held c.self.invariant.own_workers w k at in
     let kernels : slice_set i.kernels.items w c.home.new.self ≡ i.kernels.items = ap (slice_set i.kernels.items w) c.in_err-home.ensures.kept.1 ∙ put-same i.kernels.items w k at in
-    step-unlawful (g.M.Model.handlers) c.self.view_is (inside_view m i.config (slice_set i.kernels.items w c.home.new.self) i.inboxes.items i.board.board i.book.book)
+    step-unlawful (g.M.Model.handlers) c.self.view_is c.self.invariant (inside_view m i.config (slice_set i.kernels.items w c.home.new.self) i.inboxes.items i.board.board i.book.book)
     (Home c.args.w) c.in_err-home.field-0.0 c.from_residual.result (search rules)
     (λ j. inside_view m i.config (kernels j) i.inboxes.items i.board.board i.book.book)
     (local-unlawful H held c.self.invariant.own_workers w k (Home c.args.w) c.in_err-home.field-0.0 at refl c.in_err-home.ensures.kept.0
@@ -86,5 +86,5 @@ returns-then-w-self g c =
     let held = inside_view m i.config i.kernels.items i.inboxes.items i.board.board i.book.book in
     let many = c.self.invariant.all_workers in
     let past : length i.kernels.items ≤ c.args.w = omega (arith, many, c.if-w-self.true) in
-    step-unlawful (g.M.Model.handlers) c.self.view_is c.args.self.now (Home c.args.w) NotLawful (Err NotLawful) refl (sym c.self.view_is)
+    step-unlawful (g.M.Model.handlers) c.self.view_is c.self.invariant c.args.self.now (Home c.args.w) NotLawful (Err NotLawful) refl (sym c.self.view_is)
     (home-nobody (g.M.Model.handlers m) held c.self.invariant.own_workers c.args.w (slice_get_past i.kernels.items c.args.w past))

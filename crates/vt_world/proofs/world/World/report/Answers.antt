@@ -28,7 +28,7 @@ returns-then-w-self g c =
     let held = inside_view m i.config i.kernels.items i.inboxes.items i.board.board i.book.book in
     let many = c.self.invariant.all_workers in
     let past : length i.kernels.items ≤ c.args.w = omega (arith, many, c.if-w-self.true) in
-    step-unlawful (g.M.Model.handlers) c.self.view_is c.args.self.now (Report c.args.w) NotLawful (Err NotLawful) refl (sym c.self.view_is)
+    step-unlawful (g.M.Model.handlers) c.self.view_is c.self.invariant c.args.self.now (Report c.args.w) NotLawful (Err NotLawful) refl (sym c.self.view_is)
     (report-nobody (g.M.Model.handlers m) held c.self.invariant.own_workers c.args.w (slice_get_past i.kernels.items c.args.w past))
 
 pub invariant_of-self : goal.invariant_of-self
@@ -57,7 +57,7 @@ returns-in_err-report g c =
     let ends : TimeAtMost least i.config.end = subst (λ f. TimeAtMost least f.end) is.1 ends_own in
     let takes : takes_report i.config.end c.args.w least i.board.board ≡ false =
     ap (λ t. takes_report t c.args.w least i.board.board) (sym c.self.invariant.same_board_end) ∙ sym c.report.ensures.lawful ∙ ap is_ok c.in_err-report.was in
-    step-unlawful (g.M.Model.handlers) c.self.view_is (inside_view m i.config i.kernels.items i.inboxes.items c.report.new.self.board i.book.book) (Report c.args.w) c.in_err-report.field-0.0 c.from_residual.result (search rules)
+    step-unlawful (g.M.Model.handlers) c.self.view_is c.self.invariant (inside_view m i.config i.kernels.items i.inboxes.items c.report.new.self.board i.book.book) (Report c.args.w) c.in_err-report.field-0.0 c.from_residual.result (search rules)
     (ap (λ (b : BoardOfRun). inside_view m i.config i.kernels.items i.inboxes.items b.board i.book.book) c.in_err-report.ensures.kept)
     (answered-fault H held (Report c.args.w) c.in_err-report.field-0.0 c.in_err-report.ensures.refused
     (report-untaken H held c.self.invariant.own_workers c.args.w k least at takes ends (λ part s. (let v = c.report_values-sent.ensures.reports H part s in v.2))))

@@ -1,4 +1,4 @@
-use Rattle.std.proofs.Common.{rules, ◌≡◌, ℕ, ◌∙◌, [], refl, sym, slice_index_or, arith}
+use Rattle.std.proofs.Common.{◌∙◌, ap, refl, sym, slice_index_or, arith}
 use Rattle.std.proofs.lemmas.List.{take_more}
 use Rattle.vt_steps.specs.declared.step.Step.TheVariants.{Execute}
 use Rattle.std.proofs.Math.Nat.{le_refl}
@@ -19,6 +19,7 @@ loop-at-init g c =
       few = le_refl _;
       announced = le_refl _;
       floor = le_refl _;
+      stays = λ shut. refl;
     }
 
 pub loop-at-preserved : goal.loop-at-preserved
@@ -40,4 +41,5 @@ loop-at-preserved g c =
       few = (let one = is.one in let few = inv.few in omega (arith, one, few));
       announced = (let a = inv.announced in let b = c.advance.ensures.announced in omega (arith, a, b));
       floor = (let a = inv.floor in let b = c.advance.ensures.floor in omega (arith, a, b));
+      stays = λ shut. c.advance.ensures.stays (ap (λ b. b.is_closed) (inv.stays shut) ∙ shut) ∙ inv.stays shut;
     }

@@ -1,4 +1,5 @@
-use Rattle.std.proofs.Common.{◌≡◌, ℕ, ◌≤◌, take}
+use Rattle.std.proofs.Common.{◌≡◌, ◌≤◌, take}
+use Rattle.std.specs.Prelude.{IsTrue}
 use Rattle.vt_key.specs.Times.{TimeAtMost}
 use Rattle.vt_model.specs.Simulation.{simulation_of}
 use Rattle.vt_steps.specs.Next.{answers}
@@ -19,4 +20,5 @@ invariant-loop-at g l = record {
   few : l.refused ≤ l.at;
   announced : TimeAtMost l.initial.self.board.announced l.self.board.announced;
   floor : TimeAtMost (floor_held l.initial.self) (floor_held l.self);
+  stays : IsTrue l.initial.self.book.is_closed → l.self.book ≡ l.initial.self.book;
 }

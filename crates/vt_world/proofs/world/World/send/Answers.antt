@@ -32,12 +32,12 @@ returns-then-w-self g c =
       | then-w-self-via-then-w-self w ↦
           let over = w.if-w-self.true in
           let past : length i.kernels.items ≤ c.args.w = omega (arith, many, over) in
-          step-unlawful (g.M.Model.handlers) c.self.view_is c.args.self.now (Send c.args.w c.args.v) NotLawful (Err NotLawful) refl (sym c.self.view_is)
+          step-unlawful (g.M.Model.handlers) c.self.view_is c.self.invariant c.args.self.now (Send c.args.w c.args.v) NotLawful (Err NotLawful) refl (sym c.self.view_is)
           (send-nobody (g.M.Model.handlers m) held c.self.invariant.own_workers c.args.w c.args.v (slice_get_past i.kernels.items c.args.w past))
       | then-w-self-via-else-w-self+then-v-self w ↦
           let over = w.if-v-self.true in
           let past : length i.inboxes.items ≤ c.args.v = omega (arith, all, over) in
-          step-unlawful (g.M.Model.handlers) c.self.view_is c.args.self.now (Send c.args.w c.args.v) NotLawful (Err NotLawful) refl (sym c.self.view_is)
+          step-unlawful (g.M.Model.handlers) c.self.view_is c.self.invariant c.args.self.now (Send c.args.w c.args.v) NotLawful (Err NotLawful) refl (sym c.self.view_is)
           (send-nowhere (g.M.Model.handlers m) held c.self.invariant.own_workers c.args.w c.args.v (slice_get_past i.inboxes.items c.args.v past))
     ]
 
@@ -76,7 +76,7 @@ returns-in_err-letters_for g c =
     let kernels : slice_set i.kernels.items c.args.w c.letters_for.new.self ≡ i.kernels.items = ap (slice_set i.kernels.items c.args.w) c.in_err-letters_for.ensures.kept.0 ∙ put-same i.kernels.items c.args.w k at in
     let inboxes : slice_set i.inboxes.items c.args.v c.letters_for.new.mail.items ≡ i.inboxes.items =
     ap (slice_set i.inboxes.items c.args.v) (c.in_err-letters_for.ensures.kept.1 ∙ c.behind-self.view_is) ∙ put-same i.inboxes.items c.args.v box here in
-    step-refused (g.M.Model.handlers) c.self.view_is
+    step-refused (g.M.Model.handlers) c.self.view_is c.self.invariant
     (inside_view m i.config (slice_set i.kernels.items c.args.w c.letters_for.new.self) (slice_set i.inboxes.items c.args.v c.letters_for.new.mail.items) i.board.board i.book.book)
     (Send c.args.w c.args.v) c.in_err-letters_for.field-0.0 c.from_residual.result (search rules)
     (λ j. inside_view m i.config (kernels j) (inboxes j) i.board.board i.book.book)

@@ -1,0 +1,82 @@
+-- The state of each process once the book is closed: where the whole sequential run leaves it.
+use Rattle.std.proofs.Common.{◌≡◌, ℕ, suc, ◌+◌, ◌*◌, ◌/◌, ◌%◌, ◌<◌, Bool, nat_eq, List, map, refl, sym, ◌∙◌, ap, subst, arith, Option, Some, None, slice_get, if◌then◌else◌}
+use Rattle.std.specs.Prelude.{IsTrue}
+use Rattle.std.specs.Option.{option_map}
+use Rattle.std.proofs.lemmas.Bool.{eq-eqb}
+use Rattle.std.proofs.Math.Nat.{div-add-mod'}
+use Rattle.vt_key.specs.Times.{TimeBefore}
+use Rattle.vt_model.specs.declared.sending.Sent.{Sent}
+use Rattle.vt_model.specs.declared.settings.Config.{Config}
+use Rattle.vt_model.specs.Handler.{Handlers}
+use Rattle.vt_model.specs.Histories.{IsLawful}
+use Rattle.vt_model.specs.Simulation.{Simulation, simulation_of, after}
+use Rattle.vt_model.specs.Sequential.{events_of, whole_run, seq_events}
+use Rattle.vt_model.proofs.EndLemmas.{whole_is_history}
+use Rattle.vt_model.proofs.RunLemmas.{known_sent}
+use Rattle.vt_steps.specs.Next.{reached}
+use Rattle.vt_steps.specs.World.{process_at}
+use Rattle.vt_steps.specs.StandsFor.{StandsForProcess}
+use Rattle.vt_steps.proofs.EventTimes.{early-events}
+use Rattle.vt_steps.proofs.Lists.{every-all}
+use Rattle.vt_steps.proofs.MemoryLemmas.{is_where}
+use Rattle.vt_lp.specs.Held.{HeldProcess, process_memory}
+use Rattle.vt_kernel.specs.Held.{HeldWorker, part_memory, process_of, IsProcessOf}
+use Rattle.vt_kernel.proofs.ProcessLemmas.{get-map_of, stands-at as process-stands-at}
+use Rattle.vt_world.specs.Held.{HeldWorld, AreWorkers, IsReached}
+use Rattle.vt_world.proofs.WorldLemmas.{stands-at, worker-at}
+use Rattle.vt_world.proofs.ClosedLemmas.{whole}
+
+-- what is some comes of something
+pub of-some : {X Y : Type 0} (f : X → Y) (o : Option X) (y : Y) → Some y ≡ option_map f o → (x : X) × (o ≡ Some x) × (y ≡ f x)
+of-some f None y h = absurd (let k : Some y ≡ None = h in cc)
+of-some f (Some x) y h = (x, refl, (let k : Some y ≡ Some (f x) = h in cc))
+
+module _ {S P : Type 0} (sim : Simulation S P) (lawful : IsLawful sim) where
+  -- each event of the whole run is before its end
+  events-end : (p : ℕ) → p < sim.lps → seq_events sim p sim.end ≡ events_of p (whole_run sim)
+  events-end p less =
+      let lists : ℕ → List (Sent P) = λ q. events_of q (whole_run sim) in
+      early-events sim.end (lists p) (every-all (λ (e : Sent P). TimeBefore e.key.time sim.end) (lists p)
+      (λ e m. (known_sent sim lawful lists e ((whole_is_history sim lawful (suc e.key.time)).sent p e less (omega arith) m)).1))
+
+module _ {S P K : Type 0} where
+  -- a worker's own process is at its place
+  at-place : (config : Config) (k : HeldWorker S P K) (p : ℕ) (q : HeldProcess S P K) → k.config ≡ config → p % config.workers ≡ k.worker → process_of k p ≡ Some q
+      → slice_get k.processes (p / config.workers) ≡ Some q
+  at-place config k p q same own at =
+      let here : (if nat_eq (p % config.workers) k.worker then slice_get k.processes (p / config.workers) else None) ≡ Some q =
+      subst (λ (c : Config). (if nat_eq (p % c.workers) k.worker then slice_get k.processes (p / c.workers) else None) ≡ Some q) same at in
+      sym (ap (λ (b : Bool). if b then slice_get k.processes (p / config.workers) else None) (eq-eqb (p % config.workers) k.worker own)) ∙ here
+
+  -- a process of the run is one of its owner's
+  pub is-own : (config : Config) (workers : List (HeldWorker S P K)) (w p : ℕ) (k : HeldWorker S P K) → AreWorkers config 0 workers → w ≡ p % config.workers → p < config.lps → slice_get workers w ≡ Some k
+      → IsProcessOf k.config k.worker p
+  is-own config workers w p k are owner less at =
+      let who = worker-at config 0 w workers k are at in
+      let plain : 0 + w ≡ w = omega arith in
+      record {
+        known = subst (λ (c : Config). p < c.lps) (sym who.1) less;
+        own = ap (λ (c : Config). p % c.workers) who.1 ∙ sym owner ∙ sym (who.0 ∙ plain);
+      }
+
+module _ {M S P K : Type 0} (handlers : Handlers S P K) (held : HeldWorld M S P K) (are : AreWorkers held.config 0 held.workers) (shut : IsTrue held.book.is_closed)
+    (lawful : IsLawful (simulation_of handlers held.config)) where
+  -- a process stands where the events of the whole run leave it
+  pub final-triple : (p : ℕ) (k : HeldWorker S P K) (q : HeldProcess S P K) → p < held.config.lps → slice_get held.workers (p % held.config.workers) ≡ Some k → process_of k p ≡ Some q
+      → (x : (serial : ℕ) × IsReached handlers serial held) → q.triple ≡ after (simulation_of handlers held.config) p (events_of p (whole_run (simulation_of handlers held.config)))
+  final-triple p k q less at found x =
+      let sim = simulation_of handlers held.config in
+      let world = reached sim x.0 x.1.0 in
+      let w = p % held.config.workers in
+      let place = p / held.config.workers in
+      let who = worker-at held.config 0 w held.workers k are at in
+      let plain : 0 + w ≡ w = omega arith in
+      let own : w ≡ k.worker = sym (who.0 ∙ plain) in
+      let part = stands-at sim 0 w (map (part_memory handlers) held.workers) world.parts (part_memory handlers k) x.1.1.parts (get-map_of (part_memory handlers) held.workers w k at) in
+      let there = at-place held.config k p q who.1 own found in
+      let process = process-stands-at sim (0 + w) 0 place (map (process_memory handlers) k.processes) part.0.processes (process_memory handlers q) part.2.processes (get-map_of (process_memory handlers) k.processes place q there) in
+      let number : process_at sim (0 + w) (0 + place) ≡ p = (let a : 0 + place ≡ place = omega arith in ap (λ n. n * held.config.workers + (0 + w)) a ∙ ap (λ n. place * held.config.workers + n) plain ∙ div-add-mod' p held.config.workers) in
+      let stands : StandsForProcess sim p (process_memory handlers q) process.0 = subst (λ n. StandsForProcess sim n (process_memory handlers q) process.0) number process.2 in
+      sym (is_where sim p (process_memory handlers q) process.0 stands)
+      ∙ (whole handlers held shut lawful x).finals p process.0 less (part.0, part.1, process.1)
+      ∙ ap (after sim p) (events-end sim lawful p less)

@@ -1,0 +1,54 @@
+//! What a world tells once its book is closed: the final values.
+
+ghost use Rattle.std.specs.Prelude.{◌≡◌, ◌<◌, IsTrue, false, Err, IfOk, IfErr};
+ghost use Rattle.vt_key.specs.declared.fault.Fault.TheVariants.{Memory, NotLawful};
+ghost use Rattle.vt_model.specs.Simulation.{simulation_of, after};
+ghost use Rattle.vt_model.specs.Sequential.{events_of, whole_run, seq_finals};
+
+use crate::world::World;
+use std::alloc::Global;
+use vt_key::Fault;
+use vt_model::Model as EventModel;
+
+impl<'m, M: EventModel> World<'m, M> {
+    /// Whether the book is closed. Then it holds the records of the whole run, and stays as it is.
+    pub fn is_closed(&self) -> bool
+        ensures { result ≡ self.now.book.is_closed }
+    {
+        self.book.is_closed()
+    }
+
+    /// The final value of each process, in rising order of processes: what the model's `finish` makes of the state in which
+    /// the whole sequential run leaves it.
+    ///
+    /// [`Fault::NotLawful`]: the book isn't closed. [`Fault::Memory`]: it is, and memory was refused.
+    pub fn finals(&self, alloc: Global) -> Result<Vec<u64>, Fault>
+        ensures values { let sim = simulation_of (M.handlers self.now.model) self.now.config in IfOk result (λ v. v.items ≡ seq_finals sim) }
+        ensures not_lawful { self.now.book.is_closed ≡ false → result ≡ Err NotLawful }
+        ensures refused { IsTrue self.now.book.is_closed → IfErr result (λ fault. fault ≡ Memory) }
+    {
+        if !self.is_closed() {
+            return Err(Fault::NotLawful);
+        }
+        let mut values = Vec::new(alloc);
+        for lp in 0..self.config.lps {
+            values
+                .push(self.final_value(lp))
+                .map_err(|_| Fault::Memory)?;
+        }
+        Ok(values)
+    }
+
+    /// The final value of process `lp`.
+    fn final_value(&self, lp: u32) -> u64
+        requires closed { IsTrue self.now.book.is_closed }
+        requires known { lp < self.now.config.lps }
+        ensures { let sim = simulation_of (M.handlers self.now.model) self.now.config in result ≡ (M.handlers self.now.model).finish lp (after sim lp (events_of lp (whole_run sim))).state }
+    {
+        let owner = self.config.owner(lp);
+        let Some(state) = self.kernels[owner as usize].state(lp) else {
+            unreachable!();
+        };
+        self.model.finish(lp, state)
+    }
+}
