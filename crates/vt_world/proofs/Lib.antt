@@ -14,3 +14,4 @@ pub mod CommitLemmas
 pub mod RunLemmas
 pub mod MakingLemmas
 pub mod LeastLemmas
+pub mod PastLemmas

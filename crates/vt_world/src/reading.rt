@@ -1,18 +1,25 @@
-//! What a world tells of what is still to be done.
+//! What a world tells of what is still to be done, and of what its processes did.
 
-ghost use Rattle.std.specs.Prelude.{◌≡◌, map, All};
+ghost use Rattle.std.specs.Prelude.{◌≡◌, ℕ, ◌<◌, ◌≤◌, ◌⊎◌, List, map, All, Some, IfOk, IfErr, OnOk};
 ghost use Rattle.std.specs.List.{flat_map};
-ghost use Rattle.vt_key.specs.Times.{TimeAtMost};
+ghost use Rattle.vt_key.specs.Times.{Time, TimeAtMost};
+ghost use Rattle.vt_key.specs.declared.fault.Fault.TheVariants.{Memory, NotLawful};
+ghost use Rattle.vt_model.specs.Simulation.{simulation_of};
+ghost use Rattle.vt_steps.specs.declared.step.Step.{Step};
 ghost use Rattle.vt_steps.specs.Letters.{least_time};
 ghost use Rattle.vt_steps.specs.World.{least};
+ghost use Rattle.vt_steps.specs.Next.{reached};
+ghost use Rattle.vt_steps.specs.Claims.{Histories};
 ghost use Rattle.vt_kernel.specs.Guards.{held_letters};
-ghost use Rattle.vt_world.specs.Held.{StandsForWorld};
+ghost use Rattle.vt_world.specs.Held.{StandsForWorld, IsReached};
 ghost use Rattle.vt_world.specs.Calls.{least_held};
+ghost use Rattle.vt_world.specs.Answers.{past_of, IsPastIn, EndsSequential};
 
 use crate::inbox::Inbox;
 use crate::world::World;
+use std::alloc::Global;
 use vt_kernel::{Kernel, least_of_mail};
-use vt_key::Time;
+use vt_key::{Event, Fault, Time};
 use vt_model::Model as EventModel;
 
 impl<'m, M: EventModel> World<'m, M> {
@@ -27,6 +34,26 @@ impl<'m, M: EventModel> World<'m, M> {
         let held = least_of_workers(&self.kernels, end);
         let travelling = least_of_inboxes(&self.inboxes, end);
         held.min(travelling)
+    }
+
+    /// The past events of process `lp`, which are executed and not committed, in the order of their execution. They are the
+    /// last ones of all that the process has executed.
+    ///
+    /// Below any time that nothing unprocessed or travelling is before, the process has executed what the sequential run
+    /// executes there, in the same order: so below [`World::least`] the past events are the last ones of the sequential run.
+    ///
+    /// [`Fault::NotLawful`]: there is no such process. [`Fault::Memory`]: there is, and memory was refused.
+    pub fn past(&self, alloc: Global, lp: u32) -> Result<Vec<Event<M::Payload>>, Fault>
+        ensures events { IfOk result (λ v. past_of self.now lp ≡ Some v.items) }
+        ensures past { (world : _) → StandsForWorld (M.handlers self.now.model) self.now world → IfOk result (λ v. IsPastIn (simulation_of (M.handlers self.now.model) self.now.config) world lp v.items) }
+        ensures histories { let sim = simulation_of (M.handlers self.now.model) self.now.config in (serial : ℕ) (steps : List Step) → StandsForWorld (M.handlers self.now.model) self.now (reached sim serial steps) → Histories sim serial (reached sim serial steps) }
+        ensures reached { ∥ ((serial : ℕ) × IsReached (M.handlers self.now.model) serial self.now) ∥₁ }
+        ensures sequential { (t : Time) → TimeAtMost t (least_held self.now) → IfOk result (λ v. EndsSequential (simulation_of (M.handlers self.now.model) self.now.config) lp t v.items) }
+        ensures known { OnOk result (lp < self.now.config.lps) }
+        ensures refused { IfErr result (λ fault. ((fault ≡ NotLawful) × (self.now.config.lps ≤ lp)) ⊎ ((fault ≡ Memory) × (lp < self.now.config.lps))) }
+    {
+        let owner = self.config.owner(lp);
+        self.kernels[owner as usize].past_events(alloc, lp)
     }
 }
 

@@ -1,17 +1,16 @@
-use Rattle.std.proofs.Common.{◌≡◌, ◌∙◌, ◌++◌, List, map, sym, ap, subst, arith}
+use Rattle.std.proofs.Common.{◌≡◌, ◌∙◌, List, map, sym, ap, subst, arith}
 use Rattle.std.specs.List.{All, flat_map}
 use Rattle.std.proofs.Math.Logic.{∥∥₁_elim}
 use Rattle.std.proofs.Props.{props}
-use Rattle.vt_key.specs.Times.{Time, TimeAtMost, earlier}
+use Rattle.vt_key.specs.Times.{TimeAtMost, earlier}
 use Rattle.vt_key.specs.declared.letter.Mail.{Mail}
 use Rattle.vt_model.proofs.LawLemmas.{lawful_of}
 use Rattle.vt_steps.specs.Letters.{least_time}
-use Rattle.vt_steps.specs.World.{World, least}
 use Rattle.vt_kernel.specs.Guards.{held_letters}
 use Rattle.vt_kernel.specs.Held.{HeldWorker}
 use Rattle.vt_kernel.proofs.TimeLemmas.{least_time-append}
 use Rattle.vt_world.specs.Calls.{least_held}
-use Rattle.vt_world.specs.Held.{HeldWorld, StandsForWorld}
+use Rattle.vt_world.specs.Held.{HeldWorld}
 use Rattle.vt_world.proofs.LeastLemmas.{workers-end}
 use Rattle.vt_world.proofs.ReachedLemmas.{announced-least, inside_view, least-same}
 use Rattle.vt_world.proofs.world.World.least.Goals as goal
