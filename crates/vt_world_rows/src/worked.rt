@@ -68,7 +68,10 @@ const ENDING: [Step; 8] = [
     Step::Close,
 ];
 
-const OLD: Stamp = Stamp { worker: 1, serial: 1 };
+const OLD: Stamp = Stamp {
+    worker: 1,
+    serial: 1,
+};
 
 fn rank(time: u64, source: u32, number: u64, worker: u32, serial: u64) -> Rank {
     Rank {
