@@ -10,3 +10,5 @@ pub mod ReportLemmas
 pub mod LocalLemmas
 pub mod CommitLemmas
 pub mod RunLemmas
+pub mod MakingLemmas
+pub mod LeastLemmas

@@ -6,6 +6,8 @@ mod committing;
 mod cutting;
 mod inbox;
 mod local;
+mod making;
+mod reading;
 mod sending;
 mod step;
 mod world;
