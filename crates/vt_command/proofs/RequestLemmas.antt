@@ -1,5 +1,5 @@
 -- What the matches of a subcommand give.
-use Rattle.std.proofs.Common.{◌≡◌, ◌∙◌, ap, sym, subst, refl, List, Option, Some, None, option_map, inr, arith}
+use Rattle.std.proofs.Common.{◌≡◌, ◌∙◌, ap, sym, subst, refl, List, Option, Some, None, option_map, inl, inr, arith}
 use Rattle.std.specs.Prelude.{option_and_then}
 use Rattle.std.specs.Box.{box_value}
 use Rattle.clap.specs.Words.{Row, Text, found_of, first_of, first_value, rows_of, subcommand_of, subcommand_name_of, subcommand_rows, subcommand_rows_of}
@@ -10,10 +10,11 @@ use Rattle.vt_key.specs.declared.fault.Fault.{Fault}
 use Rattle.vt_key.specs.declared.fault.Fault.TheVariants.{Memory, NotLawful, Busy, Closed, Exhausted, TurnsSpent, BadOption, BadStep, Output}
 use Rattle.vt_key.specs.Faults.{fault_number, option_named}
 use Rattle.vt_command.specs.declared.choices.Options.{Options}
+use Rattle.vt_command.specs.declared.choices.ReplayOptions.{ReplayOptions}
 use Rattle.vt_command.specs.Line.{given_in, subcommand_in, twarp_app}
-use Rattle.vt_command.specs.Table.{Given, first_bad}
-use Rattle.vt_command.specs.Options.{GiveOptions}
-use Rattle.vt_command.specs.Requests.{AreOfRun, IsRefusedBy}
+use Rattle.vt_command.specs.Table.{Given, first_bad, first_bad_of_replay}
+use Rattle.vt_command.specs.Options.{GiveOptions, GiveReplayOptions}
+use Rattle.vt_command.specs.Requests.{AreOfRun, AreOfReplay, HasBadOption, IsRefusedBy}
 
 -- the name that a parse met is that of its rows
 pub name_of_rows : (m : ArgMatches) → option_map (λ s. s.0) (subcommand_rows_of m) ≡ subcommand_name_of m
@@ -36,15 +37,25 @@ named words m name walked e = ap (option_map (λ (s : Text × List Row). s.0)) (
 pub options_given : (given found : Given) (o : Options) → ((name : Text) → found name ≡ given name) → GiveOptions found o → GiveOptions given o
 options_given given found o e = subst (λ (g : Given). GiveOptions g o) (λ i name. e name i)
 
+pub replay_options_given : (given found : Given) (o : ReplayOptions) → ((name : Text) → found name ≡ given name) → GiveReplayOptions found o → GiveReplayOptions given o
+replay_options_given given found o e = subst (λ (g : Given). GiveReplayOptions g o) (λ i name. e name i)
+
 -- a fault that names the first bad option refuses the words
+refused_by_name : (words : List Text) (fault : Fault) (bad : Option Text) → ((name : Text) → bad ≡ Some name → HasBadOption words name) → fault_number fault ≡ 7 → option_named fault ≡ bad → IsRefusedBy words fault
+refused_by_name words Memory bad is n f = tt
+refused_by_name words NotLawful bad is n f = absurd (omega arith)
+refused_by_name words Busy bad is n f = absurd (omega arith)
+refused_by_name words Closed bad is n f = absurd (omega arith)
+refused_by_name words Exhausted bad is n f = absurd (omega arith)
+refused_by_name words TurnsSpent bad is n f = absurd (omega arith)
+refused_by_name words (BadOption name) bad is n f = inr (is name.now (sym f))
+refused_by_name words (BadStep line) bad is n f = absurd (omega arith)
+refused_by_name words Output bad is n f = absurd (omega arith)
+
 pub refused : (words : List Text) (found : Given) (fault : Fault) → AreOfRun words → ((name : Text) → found name ≡ given_in words name) → fault_number fault ≡ 7 → option_named fault ≡ first_bad found → IsRefusedBy words fault
-refused words found Memory run e n f = tt
-refused words found NotLawful run e n f = absurd (omega arith)
-refused words found Busy run e n f = absurd (omega arith)
-refused words found Closed run e n f = absurd (omega arith)
-refused words found Exhausted run e n f = absurd (omega arith)
-refused words found TurnsSpent run e n f = absurd (omega arith)
-refused words found (BadOption name) run e n f =
-    inr (record { run = run; bad = sym (f ∙ ap first_bad (λ i name. e name i)) })
-refused words found (BadStep line) run e n f = absurd (omega arith)
-refused words found Output run e n f = absurd (omega arith)
+refused words found fault run e n f =
+    refused_by_name words fault (first_bad found) (λ name b. inl (record { run = run; bad = ap first_bad (λ i name. sym (e name) i) ∙ b })) n f
+
+pub replay_refused : (words : List Text) (found : Given) (fault : Fault) → AreOfReplay words → ((name : Text) → found name ≡ given_in words name) → fault_number fault ≡ 7 → option_named fault ≡ first_bad_of_replay found → IsRefusedBy words fault
+replay_refused words found fault replay e n f =
+    refused_by_name words fault (first_bad_of_replay found) (λ name b. inr (record { replay = replay; bad = ap first_bad_of_replay (λ i name. sym (e name) i) ∙ b })) n f

@@ -5,6 +5,7 @@ use Rattle.vt_models.specs.declared.hop.Hop.{Hop}
 use Rattle.vt_models.specs.declared.phold.Phold.{Phold}
 use Rattle.vt_models.specs.declared.stations.Stations.{Stations}
 use Rattle.vt_command.specs.declared.choices.Options.{Options}
+use Rattle.vt_command.specs.declared.choices.ReplayOptions.{ReplayOptions}
 use Rattle.vt_command.specs.declared.choices.ModelName.TheVariants as name
 use Rattle.vt_command.specs.declared.choices.Synch.TheVariants as synch
 
@@ -71,4 +72,15 @@ default_options = record {
   phold = default_phold;
   stations = default_stations;
   turns = 10000000;
+}
+
+-- the same of a replay, with serials from 0
+abbrev pub default_replay_options : ReplayOptions
+default_replay_options = record {
+  model = name.Hop;
+  config = default_config;
+  hop = default_hop;
+  phold = default_phold;
+  stations = default_stations;
+  serial = 0;
 }

@@ -19,9 +19,21 @@ run_options =
     ∷ codes "jobs" ∷ codes "service" ∷ codes "travel"
     ∷ codes "turns" ∷ []
 
--- the program's command line, as its parser reads it: one subcommand, `run`
+-- the options of `replay`, in the order in which they are tested
+abbrev pub replay_options : List Text
+replay_options =
+    codes "model" ∷ codes "workers" ∷ codes "lps" ∷ codes "end" ∷ codes "seed"
+    ∷ codes "hops" ∷ codes "stride" ∷ codes "delay"
+    ∷ codes "population" ∷ codes "remote" ∷ codes "lookahead" ∷ codes "span"
+    ∷ codes "jobs" ∷ codes "service" ∷ codes "travel"
+    ∷ codes "serial" ∷ []
+
+-- the program's command line, as its parser reads it: two subcommands, `run` and `replay`
 abbrev pub twarp_app : App
-twarp_app = with_subcommand (new_app (codes "twarp")) (with_options (new_app (codes "run")) run_options).top
+twarp_app =
+    with_subcommand
+    (with_subcommand (new_app (codes "twarp")) (with_options (new_app (codes "run")) run_options).top)
+    (with_options (new_app (codes "replay")) replay_options).top
 
 -- the subcommand that the words name
 abbrev pub subcommand_in : List Text → Option Text
@@ -31,6 +43,7 @@ subcommand_in words = option_map (λ s. s.0) (subcommand_of twarp_app words)
 abbrev pub given_in : List Text → Text → Option Text
 given_in words name = option_and_then (λ s. first_of name s.1) (subcommand_of twarp_app words)
 
--- a line that gives each option a text behind `=`
-abbrev pub line_with : (Text → Text) → List Text
-line_with text_of = codes "twarp" ∷ codes "run" ∷ map (λ name. codes "--" ++ (name ++ (codes "=" ++ text_of name))) run_options
+-- a line of a subcommand that gives each of its options a text behind `=`
+abbrev pub line_with : Text → List Text → (Text → Text) → List Text
+line_with subcommand options text_of =
+    codes "twarp" ∷ subcommand ∷ map (λ name. codes "--" ++ (name ++ (codes "=" ++ text_of name))) options

@@ -5,8 +5,9 @@ use Rattle.vt_models.specs.declared.hop.Hop.{Hop}
 use Rattle.vt_models.specs.declared.phold.Phold.{Phold}
 use Rattle.vt_models.specs.declared.stations.Stations.{Stations}
 use Rattle.vt_command.specs.declared.choices.Options.{Options}
+use Rattle.vt_command.specs.declared.choices.ReplayOptions.{ReplayOptions}
 use Rattle.vt_command.specs.Table
-use Rattle.vt_command.specs.Table.{Given, value_in, model_in, synch_in, first_bad}
+use Rattle.vt_command.specs.Table.{Given, value_in, model_in, synch_in, first_bad, first_bad_of_replay}
 
 -- the numbers of a run
 pub record GiveConfig (given : Given) (c : Config) : Type 0 where
@@ -44,3 +45,13 @@ pub record GiveOptions (given : Given) (o : Options) : Type 0 where
   pub stations : GiveStations given o.stations
   pub turns : value_in given Table.turns ≡ Some o.turns
   pub all_good : first_bad given ≡ None
+
+-- the options of a replay
+pub record GiveReplayOptions (given : Given) (o : ReplayOptions) : Type 0 where
+  pub model : model_in (given (codes "model")) ≡ Some o.model
+  pub config : GiveConfig given o.config
+  pub hop : GiveHop given o.hop
+  pub phold : GivePhold given o.phold
+  pub stations : GiveStations given o.stations
+  pub serial : value_in given Table.serial ≡ Some o.serial
+  pub all_good : first_bad_of_replay given ≡ None

@@ -1,7 +1,7 @@
 -- The table of options: what each may be, what it is where it isn't given, and which one is refused first.
 use Rattle.std.specs.Prelude.{ℕ, ◌==◌, ◌-◌, ◌^◌, List, [], ◌∷◌, Option, Some, None, if◌then◌else◌, codes, option_and_then}
 use Rattle.std.specs.Str.{bytes_eq}
-use Rattle.vt_key.specs.declared.limits.TheConstants.{MAX_WORKERS, MAX_PROCESSES, MAX_END}
+use Rattle.vt_key.specs.declared.limits.TheConstants.{MAX_WORKERS, MAX_PROCESSES, MAX_END, MAX_COUNT}
 use Rattle.vt_model.specs.Settings.{is_between}
 use Rattle.vt_models.specs.declared.hop.TheConstants.{MAX_HOPS, MAX_STRIDE, MAX_DELAY}
 use Rattle.vt_models.specs.declared.phold.TheConstants.{MAX_POPULATION, MAX_REMOTE, MAX_LOOKAHEAD, MAX_SPAN}
@@ -73,6 +73,9 @@ travel = option (codes "travel") 1 MAX_TRAVEL 1
 abbrev pub turns : NumberOption
 turns = option (codes "turns") 1 MAX_TURNS 10000000
 
+abbrev pub serial : NumberOption
+serial = option (codes "serial") 0 MAX_COUNT 0
+
 -- a number, where it is in the range
 abbrev pub if_between : ℕ → ℕ → ℕ → Option ℕ
 if_between least most n = if is_between least most n then Some n else None
@@ -141,7 +144,7 @@ phold_table = population ∷ remote ∷ lookahead ∷ span ∷ []
 abbrev pub stations_table : List NumberOption
 stations_table = jobs ∷ service ∷ travel ∷ []
 
--- the first option that has no value, in the order in which they are tested: it is the one that is named
+-- the first option of `run` that has no value, in the order in which they are tested: it is the one that is named
 abbrev pub first_bad : Given → Option (List ℕ)
 first_bad given = first_name (
     bad (codes "model") (model_in (given (codes "model")))
@@ -151,3 +154,13 @@ first_bad given = first_name (
     ∷ first_bad_of given phold_table
     ∷ first_bad_of given stations_table
     ∷ bad_number given turns ∷ [])
+
+-- the first option of `replay` that has no value
+abbrev pub first_bad_of_replay : Given → Option (List ℕ)
+first_bad_of_replay given = first_name (
+    bad (codes "model") (model_in (given (codes "model")))
+    ∷ first_bad_of given config_table
+    ∷ first_bad_of given hop_table
+    ∷ first_bad_of given phold_table
+    ∷ first_bad_of given stations_table
+    ∷ bad_number given serial ∷ [])

@@ -6,9 +6,9 @@ ghost use Rattle.vt_command.specs.Line.{twarp_app};
 ghost use Rattle.vt_command.specs.Requests.{IsRefusedBy};
 ghost use Rattle.vt_command.specs.Asked.{IsAsked};
 
-use crate::Options;
 use crate::line::matches_in;
-use crate::reading::read_options;
+use crate::reading::{read_options, read_replay_options};
+use crate::{Options, ReplayOptions};
 use clap::error::ErrorKind;
 use clap::{ArgMatches, Error};
 use std::alloc::Global;
@@ -20,6 +20,8 @@ use vt_key::Fault;
 pub enum Request {
     /// A run with these options.
     Run(Options),
+    /// A replay with these options.
+    Replay(ReplayOptions),
     /// Help: this text.
     Help(String),
 }
@@ -32,11 +34,15 @@ fn request_of(matches: &ArgMatches) -> Result<Request, Fault>
     let Some((name, inner)) = matches.subcommand() else {
         return Err(Fault::BadOption("command-line"));
     };
-    if name != "run" {
-        return Err(Fault::BadOption("command-line"));
+    if name == "run" {
+        let options = read_options(inner)?;
+        Ok(Request::Run(options))
+    } else if name == "replay" {
+        let options = read_replay_options(inner)?;
+        Ok(Request::Replay(options))
+    } else {
+        Err(Fault::BadOption("command-line"))
     }
-    let options = read_options(inner)?;
-    Ok(Request::Run(options))
 }
 
 /// What a refused command line asks for, which may be help.

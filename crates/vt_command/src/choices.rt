@@ -39,3 +39,20 @@ pub struct Options {
     /// How many turns each worker may take, from 1 to 2^63. A sequential run has none.
     pub turns: u64,
 }
+
+/// The options of a replay, each in its range, whether the replay uses it or not.
+#[derive(Debug, Clone, Copy, PartialEq, Eq)]
+pub struct ReplayOptions {
+    /// Whose events the steps execute.
+    pub model: ModelName,
+    /// The numbers of processes and workers, the end of virtual time, and the seed.
+    pub config: Config,
+    /// The hop model, made of its options.
+    pub hop: Hop,
+    /// PHOLD, made of its options.
+    pub phold: Phold,
+    /// The network of stations, made of its options.
+    pub stations: Stations,
+    /// The serial of the first event that each worker makes, up to 2^63.
+    pub serial: u64,
+}

@@ -2,20 +2,23 @@
 
 ghost use Rattle.std.specs.Prelude.{◌≡◌, [], ◌∷◌, ◌++◌, Some, None, codes, map};
 ghost use Rattle.clap.specs.Words.{Text};
-ghost use Rattle.vt_command.specs.Line.{given_in, run_options, line_with};
+ghost use Rattle.vt_command.specs.Line.{given_in, run_options, replay_options, line_with};
 ghost use Rattle.vt_command.specs.Table.{first_bad};
-ghost use Rattle.vt_command.specs.Requests.{AreOfRun, AskHelp, AskRun, HasBadOption, HasNoMeaning};
-ghost use Rattle.vt_command.specs.Defaults.{default_options};
+ghost use Rattle.vt_command.specs.Requests.{AreOfRun, AreOfReplay, AskHelp, AskRun, AskReplay, HasBadOption, HasNoMeaning};
+ghost use Rattle.vt_command.specs.Defaults.{default_options, default_replay_options};
 
-/// A line without options is a run with the defaults.
+/// A line without options is a run or a replay with the defaults.
 pub fn defaults_are_read()
-    ensures { AskRun (codes "twarp" ∷ codes "run" ∷ []) default_options }
+    ensures run { AskRun (codes "twarp" ∷ codes "run" ∷ []) default_options }
+    ensures replay { AskReplay (codes "twarp" ∷ codes "replay" ∷ []) default_replay_options }
 {}
 
-/// A line that gives each option a text, whatever it is, behind `=` is of a run, and gives each option its text.
+/// A line that gives each option a text, whatever it is, behind `=` is of its subcommand, and gives each option its text.
 pub fn texts_are_given()
-    ensures run { (text_of : Text → Text) → AreOfRun (line_with text_of) }
-    ensures given { (text_of : Text → Text) → map (given_in (line_with text_of)) run_options ≡ map (λ name. Some (text_of name)) run_options }
+    ensures run { (text_of : Text → Text) → AreOfRun (line_with (codes "run") run_options text_of) }
+    ensures given { (text_of : Text → Text) → map (given_in (line_with (codes "run") run_options text_of)) run_options ≡ map (λ name. Some (text_of name)) run_options }
+    ensures replay { (text_of : Text → Text) → AreOfReplay (line_with (codes "replay") replay_options text_of) }
+    ensures given_to_replay { (text_of : Text → Text) → map (given_in (line_with (codes "replay") replay_options text_of)) replay_options ≡ map (λ name. Some (text_of name)) replay_options }
 {}
 
 /// An option's text may be a word of its own too, and an option that isn't given has none.
@@ -26,10 +29,11 @@ pub fn values_are_read()
     ensures one { (text : Text) → given_in (codes "twarp" ∷ codes "run" ∷ (codes "--seed=" ++ text) ∷ []) (codes "seed") ≡ Some text }
 {}
 
-/// `--help`, `-h` and `help` ask for help, of the program or of `run`.
+/// `--help`, `-h` and `help` ask for help, of the program or of a subcommand.
 pub fn help_is_asked_for()
     ensures of_the_program { AskHelp (codes "twarp" ∷ codes "--help" ∷ []) }
     ensures of_run { AskHelp (codes "twarp" ∷ codes "run" ∷ codes "--help" ∷ []) }
+    ensures of_replay { AskHelp (codes "twarp" ∷ codes "replay" ∷ codes "--help" ∷ []) }
     ensures short { AskHelp (codes "twarp" ∷ codes "run" ∷ codes "-h" ∷ []) }
     ensures by_word { AskHelp (codes "twarp" ∷ codes "help" ∷ codes "run" ∷ []) }
 {}
@@ -37,10 +41,12 @@ pub fn help_is_asked_for()
 /// A line without a subcommand, with another word, or with an option that isn't there or is given twice, has no meaning.
 pub fn other_lines_have_no_meaning()
     ensures nothing { HasNoMeaning (codes "twarp" ∷ []) }
-    ensures replay { HasNoMeaning (codes "twarp" ∷ codes "replay" ∷ []) }
+    ensures other { HasNoMeaning (codes "twarp" ∷ codes "walk" ∷ []) }
     ensures unknown { HasNoMeaning (codes "twarp" ∷ codes "run" ∷ codes "--speed" ∷ codes "3" ∷ []) }
     ensures twice { HasNoMeaning (codes "twarp" ∷ codes "run" ∷ codes "--lps" ∷ codes "3" ∷ codes "--lps" ∷ codes "3" ∷ []) }
     ensures no_value { HasNoMeaning (codes "twarp" ∷ codes "run" ∷ codes "--lps" ∷ []) }
+    ensures of_replay_alone { HasNoMeaning (codes "twarp" ∷ codes "run" ∷ codes "--serial" ∷ codes "1" ∷ []) }
+    ensures of_run_alone { HasNoMeaning (codes "twarp" ∷ codes "replay" ∷ codes "--synch" ∷ codes "1" ∷ []) }
 {}
 
 /// The first bad option is that of the table and not that of the line.
@@ -48,5 +54,7 @@ pub fn first_bad_is_of_the_table()
     ensures lps { HasBadOption (codes "twarp" ∷ codes "run" ∷ codes "--end" ∷ codes "0" ∷ codes "--lps" ∷ codes "65537" ∷ []) (codes "lps") }
     ensures synch { HasBadOption (codes "twarp" ∷ codes "run" ∷ codes "--workers" ∷ codes "0" ∷ codes "--synch" ∷ codes "3" ∷ []) (codes "synch") }
     ensures model { HasBadOption (codes "twarp" ∷ codes "run" ∷ codes "--synch" ∷ codes "3" ∷ codes "--model" ∷ codes "token" ∷ []) (codes "model") }
+    ensures serial { HasBadOption (codes "twarp" ∷ codes "replay" ∷ codes "--serial" ∷ codes "9223372036854775809" ∷ []) (codes "serial") }
+    ensures last { HasBadOption (codes "twarp" ∷ codes "replay" ∷ codes "--serial" ∷ codes "x" ∷ codes "--travel" ∷ codes "0" ∷ []) (codes "travel") }
     ensures unused { HasBadOption (codes "twarp" ∷ codes "run" ∷ codes "--travel" ∷ codes "0" ∷ []) (codes "travel") }
 {}

@@ -10,9 +10,10 @@ pub mod laws;
 mod limits;
 mod line;
 mod reading;
+mod texts;
 
 pub use asking::{Request, read_request};
-pub use choices::{ModelName, Options, Synch};
+pub use choices::{ModelName, Options, ReplayOptions, Synch};
 pub use limits::MAX_TURNS;
 
 #[cfg(test)]

@@ -5,143 +5,58 @@ ghost use Rattle.clap.specs.Words.{app_of, new_app, rule_of, subcommand_of, subc
 ghost use Rattle.clap.specs.declared.builder.command.Command.TheViews.{out-Command};
 ghost use Rattle.vt_command.specs.Line.{option_rule, with_options, twarp_app};
 
+use crate::texts::{
+    DELAY, END, HOPS, JOBS, LOOKAHEAD, LPS, MODEL, OptionText, POPULATION, REMOTE, REPLAY_WORKERS,
+    SEED, SERIAL, SERVICE, SPAN, STRIDE, SYNCH, TRAVEL, TURNS, WORKERS,
+};
 use clap::{Arg, ArgMatches, Command, Error};
 use std::alloc::{AllocError, Global};
 use std::convert::AsStr;
 
-const GENERAL: &str = "Options of every run";
-
-const HOP: &str = "Options of the model hop, tokens that are passed round the processes";
-
-const PHOLD: &str = "Options of the model phold, the benchmark of parallel simulators";
-
-const STATIONS: &str =
-    "Options of the model stations, a closed network of queues with one server each";
-
-/// An option as help shows it.
-struct OptionText {
-    name: &'static str,
-    value: &'static str,
-    heading: &'static str,
-    help: &'static str,
-}
-
 /// The options of `run`, in the order in which they are tested.
 static RUN_OPTIONS: [OptionText; 17] = [
-    OptionText {
-        name: "model",
-        value: "NAME",
-        heading: GENERAL,
-        help: "Model to simulate: hop, phold or stations [default: hop]",
-    },
-    OptionText {
-        name: "synch",
-        value: "N",
-        heading: GENERAL,
-        help: "1: one thread that always executes the earliest event. 3, Time Warp in threads, is not there yet [default: 1]",
-    },
-    OptionText {
-        name: "workers",
-        value: "N",
-        heading: GENERAL,
-        help: "Worker threads, 1 to 64; only tested with --synch 1 [default: 1]",
-    },
-    OptionText {
-        name: "lps",
-        value: "N",
-        heading: GENERAL,
-        help: "Logical processes, which send events to each other, 1 to 65536 [default: 2]",
-    },
-    OptionText {
-        name: "end",
-        value: "N",
-        heading: GENERAL,
-        help: "End of virtual time in ticks, 1 to 4611686018427387904: only events before it happen [default: 10]",
-    },
-    OptionText {
-        name: "seed",
-        value: "N",
-        heading: GENERAL,
-        help: "Seed of all random draws, 0 to 18446744073709551615 [default: 0]",
-    },
-    OptionText {
-        name: "hops",
-        value: "N",
-        heading: HOP,
-        help: "How many times a token is passed on, 0 to 1000000 [default: 2]",
-    },
-    OptionText {
-        name: "stride",
-        value: "N",
-        heading: HOP,
-        help: "How many processes further each hop leads, 0 to 65535 [default: 1]",
-    },
-    OptionText {
-        name: "delay",
-        value: "N",
-        heading: HOP,
-        help: "Ticks that a hop takes, 1 to 1000000 [default: 2]",
-    },
-    OptionText {
-        name: "population",
-        value: "N",
-        heading: PHOLD,
-        help: "Events that each process starts with, 0 to 8 [default: 1]",
-    },
-    OptionText {
-        name: "remote",
-        value: "N",
-        heading: PHOLD,
-        help: "Chance in percent that an event goes to a process drawn at random, 0 to 100 [default: 0]",
-    },
-    OptionText {
-        name: "lookahead",
-        value: "N",
-        heading: PHOLD,
-        help: "Least ticks from an event to the next, 1 to 1000000 [default: 1]",
-    },
-    OptionText {
-        name: "span",
-        value: "N",
-        heading: PHOLD,
-        help: "The ticks drawn on top of the lookahead are below this, 1 to 1000000 [default: 1]",
-    },
-    OptionText {
-        name: "jobs",
-        value: "N",
-        heading: STATIONS,
-        help: "Jobs that each station has at the start, 0 to 1000 [default: 1]",
-    },
-    OptionText {
-        name: "service",
-        value: "N",
-        heading: STATIONS,
-        help: "Longest service of a job in ticks, drawn from 1 up to this, 1 to 1000000 [default: 1]",
-    },
-    OptionText {
-        name: "travel",
-        value: "N",
-        heading: STATIONS,
-        help: "Ticks of a job's way to the next station, 1 to 1000000 [default: 1]",
-    },
-    OptionText {
-        name: "turns",
-        value: "N",
-        heading: GENERAL,
-        help: "Turns of a worker before the run is given up, 1 to 9223372036854775808; only tested with --synch 1 [default: 10000000]",
-    },
+    MODEL, SYNCH, WORKERS, LPS, END, SEED, HOPS, STRIDE, DELAY, POPULATION, REMOTE, LOOKAHEAD,
+    SPAN, JOBS, SERVICE, TRAVEL, TURNS,
 ];
 
-/// The same in short.
-const RUN_OPTIONS_IN_SHORT: &str = "\
-Options of run, with their ranges and defaults (twarp run --help says what they are):
-  every run  --model hop|phold|stations [hop]  --synch 1 [1]  --workers 1..64 [1]
-             --lps 1..65536 [2]  --end 1..4611686018427387904 [10]
-             --seed 0..18446744073709551615 [0]  --turns 1..9223372036854775808 [10000000]
-  hop        --hops 0..1000000 [2]  --stride 0..65535 [1]  --delay 1..1000000 [2]
-  phold      --population 0..8 [1]  --remote 0..100 [0]  --lookahead 1..1000000 [1]
-             --span 1..1000000 [1]
-  stations   --jobs 0..1000 [1]  --service 1..1000000 [1]  --travel 1..1000000 [1]";
+/// The options of `replay`, in the order in which they are tested.
+static REPLAY_OPTIONS: [OptionText; 16] = [
+    MODEL,
+    REPLAY_WORKERS,
+    LPS,
+    END,
+    SEED,
+    HOPS,
+    STRIDE,
+    DELAY,
+    POPULATION,
+    REMOTE,
+    LOOKAHEAD,
+    SPAN,
+    JOBS,
+    SERVICE,
+    TRAVEL,
+    SERIAL,
+];
+
+/// The options in short.
+const OPTIONS_IN_SHORT: &str = "\
+Options, with their ranges and defaults (twarp run --help and twarp replay --help say what they are):
+  every model  --model hop|phold|stations [hop]  --workers 1..64 [1]  --lps 1..65536 [2]
+               --end 1..4611686018427387904 [10]  --seed 0..18446744073709551615 [0]
+  hop          --hops 0..1000000 [2]  --stride 0..65535 [1]  --delay 1..1000000 [2]
+  phold        --population 0..8 [1]  --remote 0..100 [0]  --lookahead 1..1000000 [1]
+               --span 1..1000000 [1]
+  stations     --jobs 0..1000 [1]  --service 1..1000000 [1]  --travel 1..1000000 [1]
+  run alone    --synch 1 [1]  --turns 1..9223372036854775808 [10000000]
+  replay alone --serial 0..9223372036854775808 [0]";
+
+const RUN_ABOUT: &str =
+    "Simulates a model, and prints its records, a line for each: TIME PROCESS KIND VALUE";
+
+const REPLAY_ABOUT: &str =
+    "Reads the steps of a Time Warp run from standard input, a line for each, \
+    and prints what each is answered, and what the run shows after the last";
 
 /// An option with a value.
 fn option<'a>(alloc: Global, text: &OptionText) -> Arg<'a>
@@ -178,13 +93,13 @@ fn command_of<'a>(
 pub(crate) fn twarp_command<'a>(alloc: Global) -> Result<Command<'a>, AllocError>
     ensures { IfOk result (λ c. app_of c ≡ twarp_app) }
 {
-    let about =
-        "Simulates a model, and prints its records, a line for each: TIME PROCESS KIND VALUE";
-    let run = command_of(alloc, "run", about, &RUN_OPTIONS)?;
+    let run = command_of(alloc, "run", RUN_ABOUT, &RUN_OPTIONS)?;
+    let replay = command_of(alloc, "replay", REPLAY_ABOUT, &REPLAY_OPTIONS)?;
     let twarp = Command::new(alloc, "twarp")
         .about("Simulates processes that send each other events in virtual time")
-        .after_help(RUN_OPTIONS_IN_SHORT);
-    Ok(twarp.subcommand(run)?)
+        .after_help(OPTIONS_IN_SHORT)
+        .subcommand(run)?;
+    Ok(twarp.subcommand(replay)?)
 }
 
 /// What the command line makes of the words, of which the first is the program's name.

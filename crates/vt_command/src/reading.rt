@@ -1,15 +1,15 @@
-//! The options of a run, read from the matches of its command line.
+//! The options of a run or of a replay, read from the matches of its command line.
 
 ghost use Rattle.std.specs.Prelude.{◌≡◌, ◌≤◌, ◌<◌, ◌^◌, ℕ, List, Some, None, IfOk, IfErr, codes, true};
 ghost use Rattle.clap.specs.Words.{first_value, found_of};
 ghost use Rattle.vt_key.specs.Faults.{fault_number, option_named};
 ghost use Rattle.vt_model.specs.Settings.{is_between};
-ghost use Rattle.vt_command.specs.Table.{number_in, model_in, synch_in, bad, bad_number, first_bad_of, first_bad, config_table, hop_table, phold_table, stations_table};
-ghost use Rattle.vt_command.specs.Options.{GiveConfig, GiveHop, GivePhold, GiveStations, GiveOptions};
+ghost use Rattle.vt_command.specs.Table.{number_in, model_in, synch_in, bad, bad_number, first_bad_of, first_bad, first_bad_of_replay, config_table, hop_table, phold_table, stations_table};
+ghost use Rattle.vt_command.specs.Options.{GiveConfig, GiveHop, GivePhold, GiveStations, GiveOptions, GiveReplayOptions};
 
-use crate::{MAX_TURNS, ModelName, Options, Synch};
+use crate::{MAX_TURNS, ModelName, Options, ReplayOptions, Synch};
 use clap::ArgMatches;
-use vt_key::{Fault, MAX_END, MAX_PROCESSES, MAX_WORKERS};
+use vt_key::{Fault, MAX_COUNT, MAX_END, MAX_PROCESSES, MAX_WORKERS};
 use vt_model::Config;
 use vt_models::{
     Hop, MAX_DELAY, MAX_HOPS, MAX_JOBS, MAX_LOOKAHEAD, MAX_POPULATION, MAX_REMOTE, MAX_SERVICE,
@@ -166,5 +166,30 @@ pub(crate) fn read_options(matches: &ArgMatches) -> Result<Options, Fault>
         phold,
         stations,
         turns,
+    })
+}
+
+/// The options of a replay, each in its range, or the default where it isn't given.
+///
+/// [`Fault::BadOption`] names the first in the order of the table that is no number in its range, or no model that is
+/// there; options of other models than the one that is replayed are tested too.
+pub(crate) fn read_replay_options(matches: &ArgMatches) -> Result<ReplayOptions, Fault>
+    ensures ok { IfOk result (λ o. GiveReplayOptions (first_value (found_of matches.now)) o) }
+    ensures err { IfErr result (λ fault. fault_number fault ≡ 7) }
+    ensures bad { IfErr result (λ fault. option_named fault ≡ first_bad_of_replay (first_value (found_of matches.now))) }
+{
+    let model = model_option(matches)?;
+    let config = config_options(matches)?;
+    let hop = hop_options(matches)?;
+    let phold = phold_options(matches)?;
+    let stations = stations_options(matches)?;
+    let serial = number_option(matches, "serial", 0, MAX_COUNT, 0)?;
+    Ok(ReplayOptions {
+        model,
+        config,
+        hop,
+        phold,
+        stations,
+        serial,
     })
 }

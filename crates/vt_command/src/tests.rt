@@ -1,11 +1,13 @@
-use crate::{ModelName, Options, Request, Synch, read_request};
+use crate::{ModelName, Options, ReplayOptions, Request, Synch, read_request};
 use std::alloc::{AllocError, Global};
+use std::process::Abort;
 use std::test::Fail;
 use vt_key::Fault;
 use vt_model::Config;
 use vt_models::{Hop, Phold, Stations};
 
 /// An option with the ends of its range, a text beyond each end, and its default.
+#[derive(Clone, Copy)]
 struct Range {
     name: &'static str,
     ends: [&'static str; 2],
@@ -13,7 +15,7 @@ struct Range {
     default: &'static str,
 }
 
-/// The options that are numbers, in the order in which they are tested.
+/// The options of `run` that are numbers, in the order in which they are tested.
 static RANGES: [Range; 15] = [
     Range {
         name: "workers",
@@ -107,21 +109,50 @@ static RANGES: [Range; 15] = [
     },
 ];
 
+/// The last option of `replay`, which has the others of `run` but `synch` and `turns`.
+const SERIAL: Range = Range {
+    name: "serial",
+    ends: ["0", "9223372036854775808"],
+    beyond: ["-0", "9223372036854775809"],
+    default: "0",
+};
+
+/// The options of `replay` that are numbers, in the order in which they are tested.
+fn replay_ranges(alloc: Global) -> Result<Vec<Range>, AllocError> {
+    let mut ranges = Vec::new(alloc);
+    ranges.extend_from_slice(&RANGES[..14])?;
+    ranges.push(SERIAL)?;
+    Ok(ranges)
+}
+
 /// The option with this text behind `=`.
 fn option_word(alloc: Global, name: &str, text: &str) -> Result<String, AllocError> {
     format!(in alloc; "--{name}={text}")
 }
 
-/// The fault of `twarp run` with one option.
-fn fault_of(alloc: Global, name: &str, text: &str) -> Result<Option<Fault>, AllocError> {
+/// The fault of a subcommand with one option.
+fn fault_of(
+    alloc: Global,
+    subcommand: &str,
+    name: &str,
+    text: &str,
+) -> Result<Option<Fault>, AllocError> {
     let word = option_word(alloc, name, text)?;
-    Ok(read_request(alloc, &["twarp", "run", word.as_str()]).err())
+    Ok(read_request(alloc, &["twarp", subcommand, word.as_str()]).err())
 }
 
 /// The options of a line, where it is one of a run.
 fn options_of(alloc: Global, words: &[&str]) -> Option<Options> {
     match read_request(alloc, words) {
         Ok(Request::Run(options)) => Some(options),
+        _ => None,
+    }
+}
+
+/// The options of a line, where it is one of a replay.
+fn replay_options_of(alloc: Global, words: &[&str]) -> Option<ReplayOptions> {
+    match read_request(alloc, words) {
+        Ok(Request::Replay(options)) => Some(options),
         _ => None,
     }
 }
@@ -134,69 +165,91 @@ fn help_of(alloc: Global, words: &[&str]) -> String {
     }
 }
 
-#[test]
-fn options_keep_their_ranges(rt: HostRuntime) -> Result<(), Fail> {
-    for range in &RANGES {
+/// Asserts that a subcommand takes the ends of these ranges, and refuses what is beyond them by the option's name.
+fn expect_ranges(
+    rt: &(impl Abort + AllocGlobal),
+    subcommand: &str,
+    ranges: &[Range],
+) -> Result<(), Fail> {
+    for range in ranges {
         for text in range.ends {
-            assert_eq!(rt;
-                fault_of(rt.alloc(), range.name, text)?,
-                None,
-                "{} {text}",
-                range.name
-            );
+            let fault = fault_of(rt.alloc(), subcommand, range.name, text)?;
+            assert_eq!(rt; fault, None, "{subcommand} {} {text}", range.name);
         }
         for text in range.beyond {
-            let fault = fault_of(rt.alloc(), range.name, text)?;
-            assert_eq!(rt;
-                fault,
-                Some(Fault::BadOption(range.name)),
-                "{} {text}",
-                range.name
-            );
+            let fault = fault_of(rt.alloc(), subcommand, range.name, text)?;
+            let named = Some(Fault::BadOption(range.name));
+            assert_eq!(rt; fault, named, "{subcommand} {} {text}", range.name);
         }
     }
     Ok(())
 }
 
 #[test]
+fn options_keep_their_ranges(rt: HostRuntime) -> Result<(), Fail> {
+    expect_ranges(&rt, "run", &RANGES)?;
+    let ranges = replay_ranges(rt.alloc())?;
+    expect_ranges(&rt, "replay", ranges.as_slice())
+}
+
+#[test]
 fn what_is_not_there_is_named(rt: HostRuntime) -> Result<(), Fail> {
-    for (name, text) in [
-        ("model", "Hop"),
-        ("model", "phol"),
-        ("model", "station"),
-        ("synch", "3"),
-        ("synch", "2"),
-        ("synch", "0"),
+    for (subcommand, name, text) in [
+        ("run", "model", "Hop"),
+        ("run", "model", "phol"),
+        ("replay", "model", "station"),
+        ("replay", "model", ""),
+        ("run", "synch", "3"),
+        ("run", "synch", "2"),
+        ("run", "synch", "0"),
     ] {
-        let fault = fault_of(rt.alloc(), name, text)?;
+        let fault = fault_of(rt.alloc(), subcommand, name, text)?;
         assert_eq!(rt; fault, Some(Fault::BadOption(name)), "{name} {text}");
     }
     for model in ["hop", "phold", "stations"] {
-        assert_eq!(rt; fault_of(rt.alloc(), "model", model)?, None, "{model}");
+        for subcommand in ["run", "replay"] {
+            let fault = fault_of(rt.alloc(), subcommand, "model", model)?;
+            assert_eq!(rt; fault, None, "{subcommand} {model}");
+        }
     }
-    assert_eq!(rt; fault_of(rt.alloc(), "synch", "1")?, None);
+    assert_eq!(rt; fault_of(rt.alloc(), "run", "synch", "1")?, None);
+    Ok(())
+}
+
+/// Asserts that of two neighbours in a table that are both bad the first is named, in whatever order the line has them.
+fn expect_order(
+    rt: &(impl Abort + AllocGlobal),
+    subcommand: &str,
+    first: &'static str,
+    text: &str,
+    ranges: &[Range],
+) -> Result<(), Fail> {
+    let alloc = rt.alloc();
+    let mut earlier = option_word(alloc, first, text)?;
+    let mut name = first;
+    for range in ranges {
+        let word = option_word(alloc, range.name, range.beyond[1])?;
+        let words = ["twarp", subcommand, word.as_str(), earlier.as_str()];
+        let fault = read_request(alloc, &words).err();
+        assert_eq!(rt;
+            fault,
+            Some(Fault::BadOption(name)),
+            "{subcommand} {}",
+            range.name
+        );
+        earlier = word;
+        name = range.name;
+    }
     Ok(())
 }
 
 #[test]
 fn the_first_bad_option_of_the_table_is_named(rt: HostRuntime) -> Result<(), Fail> {
-    let alloc = rt.alloc();
-    let mut later = option_word(alloc, "synch", "3")?;
-    let first = read_request(alloc, &["twarp", "run", later.as_str(), "--model=token"]);
-    assert_eq!(rt; first.err(), Some(Fault::BadOption("model")));
-    let mut name = "synch";
-    for range in &RANGES {
-        let word = option_word(alloc, range.name, range.beyond[1])?;
-        let fault = read_request(alloc, &["twarp", "run", word.as_str(), later.as_str()]).err();
-        assert_eq!(rt;
-            fault,
-            Some(Fault::BadOption(name)),
-            "before {}",
-            range.name
-        );
-        later = word;
-        name = range.name;
-    }
+    expect_order(&rt, "run", "synch", "3", &RANGES)?;
+    let ranges = replay_ranges(rt.alloc())?;
+    expect_order(&rt, "replay", "model", "token", ranges.as_slice())?;
+    let model_first = read_request(rt.alloc(), &["twarp", "run", "--synch=3", "--model=token"]);
+    assert_eq!(rt; model_first.err(), Some(Fault::BadOption("model")));
     Ok(())
 }
 
@@ -212,6 +265,18 @@ fn options_have_defaults(rt: HostRuntime) -> Result<(), Fail> {
         turns: 10_000_000,
     };
     assert_eq!(rt; options_of(rt.alloc(), &["twarp", "run"]), Some(expected));
+    let expected = ReplayOptions {
+        model: ModelName::Hop,
+        config: Config::new(2, 1, 10, 0)?,
+        hop: Hop::new(2, 1, 2)?,
+        phold: Phold::new(1, 0, 1, 1)?,
+        stations: Stations::new(1, 1, 1)?,
+        serial: 0,
+    };
+    assert_eq!(rt;
+        replay_options_of(rt.alloc(), &["twarp", "replay"]),
+        Some(expected)
+    );
     Ok(())
 }
 
@@ -260,12 +325,37 @@ fn given_options_are_taken(rt: HostRuntime) -> Result<(), Fail> {
 }
 
 #[test]
+fn given_options_of_a_replay_are_taken(rt: HostRuntime) -> Result<(), Fail> {
+    let line =
+        "twarp replay --serial=5 --travel 14 --service=15 --jobs 16 --span=17 --lookahead 18 --remote=19 \
+        --population 6 --delay=7 --stride 3 --hops=9 --seed 258 --end=64 --lps 12 --workers=4 --model phold";
+    let words: Vec<&str> = line.split_ascii_whitespace().collect(rt.alloc())?;
+    let expected = ReplayOptions {
+        model: ModelName::Phold,
+        config: Config::new(12, 4, 64, 258)?,
+        hop: Hop::new(9, 3, 7)?,
+        phold: Phold::new(6, 19, 18, 17)?,
+        stations: Stations::new(16, 15, 14)?,
+        serial: 5,
+    };
+    assert_eq!(rt;
+        replay_options_of(rt.alloc(), words.as_slice()),
+        Some(expected)
+    );
+    Ok(())
+}
+
+#[test]
 fn other_lines_are_no_command_lines(rt: HostRuntime) -> Result<(), Fail> {
     let lines = [
         "",
         "twarp",
-        "twarp replay",
-        "twarp replay --lps=0",
+        "twarp replay --synch=1",
+        "twarp replay --turns=1",
+        "twarp run --serial=1",
+        "twarp replay 3",
+        "twarp replay --serial=0 --serial=0",
+        "twarp replays",
         "twarp walk",
         "twarp --lps=3",
         "twarp run --speed=3",
@@ -283,12 +373,16 @@ fn other_lines_are_no_command_lines(rt: HostRuntime) -> Result<(), Fail> {
     Ok(())
 }
 
-#[test]
-fn help_shows_every_option(rt: HostRuntime) -> Result<(), Fail> {
+/// Asserts that these options stand in the help of a subcommand, and in that of the program in short.
+fn expect_help(
+    rt: &(impl Abort + AllocGlobal),
+    subcommand: &str,
+    ranges: &[Range],
+) -> Result<(), Fail> {
     let alloc = rt.alloc();
     let short = help_of(alloc, &["twarp", "--help"]);
-    let long = help_of(alloc, &["twarp", "run", "--help"]);
-    for range in &RANGES {
+    let long = help_of(alloc, &["twarp", subcommand, "--help"]);
+    for range in ranges {
         let [least, most] = range.ends;
         let in_short = format!(in alloc; "--{} {least}..{most} [{}]", range.name, range.default)?;
         assert!(rt; short.contains(in_short.as_str()), "{in_short}");
@@ -297,15 +391,24 @@ fn help_shows_every_option(rt: HostRuntime) -> Result<(), Fail> {
             format!(in alloc; "{least} to {most}")?,
             format!(in alloc; "[default: {}]", range.default)?,
         ] {
-            assert!(rt; long.contains(part.as_str()), "{part}");
+            assert!(rt; long.contains(part.as_str()), "{subcommand} {part}");
         }
     }
+    assert!(rt; help_of(alloc, &["twarp", "help", subcommand]).as_str() == long.as_str());
+    Ok(())
+}
+
+#[test]
+fn help_shows_every_option(rt: HostRuntime) -> Result<(), Fail> {
+    expect_help(&rt, "run", &RANGES)?;
+    let ranges = replay_ranges(rt.alloc())?;
+    expect_help(&rt, "replay", ranges.as_slice())?;
+    let short = help_of(rt.alloc(), &["twarp", "--help"]);
     for word in ["-h", "help"] {
         assert!(rt;
-            help_of(alloc, &["twarp", word]).as_str() == short.as_str(),
+            help_of(rt.alloc(), &["twarp", word]).as_str() == short.as_str(),
             "{word}"
         );
     }
-    assert!(rt; help_of(alloc, &["twarp", "help", "run"]).as_str() == long.as_str());
     Ok(())
 }

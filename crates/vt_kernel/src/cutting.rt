@@ -81,8 +81,8 @@ fn least_of_letters<P: Copy>(letters: &List<Letter<P>>, end: Time) -> Time
     least
 }
 
-/// The least time of this mail; of none it is the end of the run.
-fn least_of_mail<P: Copy>(mails: &[Mail<P>], end: Time) -> Time
+/// The least time of this mail, in ticks; of none it is the end of the run.
+pub fn least_of_mail<P: Copy>(mails: &[Mail<P>], end: Time) -> Time
     ensures { result ≡ least_time end (map (λ mail. mail.letter) mails.now) }
 {
     let mut least = end;

@@ -18,4 +18,6 @@ mod sending;
 mod settling;
 mod times;
 
+pub use cutting::least_of_mail;
 pub use kernel::Kernel;
+pub use making::starts_fit;

@@ -146,8 +146,9 @@ fn at_least_one(n: usize) -> usize
     if n == 0 { 1 } else { n }
 }
 
-/// Whether the serial stays within its limit at the starts of worker `w`. The starts are run, and nothing of them is kept.
-fn starts_fit<M: EventModel>(model: &M, config: Config, w: u32, serial: u64) -> bool
+/// Whether the serial of worker `w`, which is below `config.workers`, stays within 2^63 at its starts, where it is `serial`
+/// before them, at most 2^63. It takes no memory: the starts are run, and nothing of them is kept.
+pub fn starts_fit<M: EventModel>(model: &M, config: Config, w: u32, serial: u64) -> bool
     requires known { w < config.workers }
     requires counted { serial ≤ MAX_COUNT }
     ensures { IsTrue result ↔ (serial + length (start_sends (simulation_of (M.handlers model.now) config) w) ≤ MAX_COUNT) }

@@ -1,10 +1,13 @@
 //! What a worker tells of its processes.
 
-ghost use Rattle.std.specs.Prelude.{◌≡◌, ◌%◌, ◌^◌, length, IfSome, IfNone};
+ghost use Rattle.std.specs.Prelude.{◌≡◌, ◌⊎◌, ◌%◌, ◌^◌, length, map, Some, IfSome, IfNone, IfOk, IfErr, OnOk};
 ghost use Rattle.std.specs.Option.{option_copied, option_map};
+ghost use Rattle.vt_key.specs.declared.fault.Fault.TheVariants.{Memory, NotLawful};
 ghost use Rattle.vt_kernel.specs.Held.{process_of, IsProcessOf};
 
 use crate::kernel::Kernel;
+use std::alloc::Global;
+use vt_key::{Event, Fault};
 use vt_lp::Lp;
 use vt_model::Model as EventModel;
 
@@ -65,5 +68,19 @@ impl<M: EventModel> Kernel<M> {
         ensures unknown { IfNone result (IsProcessOf self.now.config self.now.worker p → ⊥) }
     {
         Some(self.process(p)?.waiting_len())
+    }
+
+    /// The past events of process `p`, in the order of their execution.
+    ///
+    /// [`Fault::NotLawful`]: it isn't one of this worker's. [`Fault::Memory`]: it is, and memory was refused.
+    pub fn past_events(&self, alloc: Global, p: u32) -> Result<Vec<Event<M::Payload>>, Fault>
+        ensures events { IfOk result (λ v. option_map (λ process. map (λ e. e.letter.event) process.past) (process_of self.now p) ≡ Some v.items) }
+        ensures known { OnOk result (IsProcessOf self.now.config self.now.worker p) }
+        ensures refused { IfErr result (λ fault. ((fault ≡ NotLawful) × (IsProcessOf self.now.config self.now.worker p → ⊥)) ⊎ ((fault ≡ Memory) × IsProcessOf self.now.config self.now.worker p)) }
+    {
+        let Some(process) = self.process(p) else {
+            return Err(Fault::NotLawful);
+        };
+        process.past_events(alloc)
     }
 }

@@ -1,2 +1,4 @@
 pub mod RefusalLemmas
 pub mod OutcomeLemmas
+pub mod ReplyLemmas
+pub mod ReplayLemmas

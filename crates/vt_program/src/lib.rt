@@ -5,17 +5,19 @@
 #![tactic(auto)]
 
 mod refusal;
+mod replay;
 mod simulation;
 
 ghost use Rattle.std.specs.Prelude.{◌≡◌, ◌≢◌, map, OnOk, IfErr};
 ghost use Rattle.std.specs.Io.KnownBytes.{Keeps};
 ghost use Rattle.clap.specs.Words.{Text};
 ghost use Rattle.vt_key.specs.declared.fault.Fault.{Fault};
-ghost use Rattle.vt_command.specs.Requests.{AskHelp, IsRefusedAs};
+ghost use Rattle.vt_command.specs.Requests.{AreOfReplay, AskHelp, IsRefusedAs};
 ghost use Rattle.vt_program.specs.Refusals.{TellsRefusal, status_of};
-ghost use Rattle.vt_program.specs.Outcomes.{IsDone, EndsBy};
+ghost use Rattle.vt_program.specs.Outcomes.{AskWithBadLine, IsDone, EndsBy};
 
 pub use refusal::tell_refusal;
+use replay::run_replay;
 use simulation::simulate;
 use std::alloc::Global;
 use std::convert::AsStr;
@@ -26,13 +28,20 @@ pub use vt_text::print_records;
 use vt_text::write_bytes;
 
 /// Does what the words ask for.
-fn answer<S: AsStr, O: Write>(alloc: Global, words: &[S], out: &mut O) -> Result<(), Fault>
-    ensures ok { OnOk result (IsDone (map S.text words.now) (O.contents out.old) (O.contents out.new)) }
-    ensures err { IfErr result (λ fault. EndsBy fault (map S.text words.now) (O.contents out.old) (O.contents out.new)) }
+fn answer<S: AsStr, R: Read, O: Write>(
+    alloc: Global,
+    words: &[S],
+    reader: &mut R,
+    out: &mut O,
+) -> Result<(), Fault>
+    ensures ok { OnOk result (IsDone (map S.text words.now) (R.remaining reader.old) (O.contents out.old) (O.contents out.new)) }
+    ensures err { IfErr result (λ fault. EndsBy fault (map S.text words.now) (R.remaining reader.old) (O.contents out.old) (O.contents out.new)) }
+    ensures unread { ¬ AreOfReplay (map S.text words.now) → Keeps (R.remaining reader.old) (R.remaining reader.new) }
 {
     match read_request(alloc, words)? {
         Request::Help(text) => write_bytes(out, text.as_bytes()),
         Request::Run(options) => simulate(alloc, &options, out),
+        Request::Replay(options) => run_replay(alloc, &options, reader, out),
     }
 }
 
@@ -40,32 +49,39 @@ fn answer<S: AsStr, O: Write>(alloc: Global, words: &[S], out: &mut O) -> Result
 /// program's name.
 ///
 /// Status 0: the words ask for help, and it was written to `out`; or they ask for a run, and a line for each of its records
-/// was written to `out`, and nothing else. Any other status comes with one line `twarp: refused N TEXT` on `err`, or a
-/// beginning of it where `err` fails, and depends on N alone: 2 for 7, and 1 for the others.
+/// was written to `out`; or they ask for a replay, and a line for what each step of the text that `reader` gives was answered
+/// was written to `out`, and then what the world shows; and nothing else was written. Any other status comes with one line
+/// `twarp: refused N TEXT` on `err`, or a beginning of it where `err` fails, and depends on N alone: 2 for 7, 3 for 8, and 1
+/// for the others.
 ///
-/// - 1, memory was refused, and 5, a send number would pass 2^63: nothing was written to `out`.
-/// - 7, the words are refused: nothing was written to `out`, and the line names the first bad option in the order of the
-///   table, or `command-line` where the words have no meaning.
+/// - 1, memory was refused: nothing was written to `out`, or of a replay a beginning of the output. A step of a replay that
+///   memory is refused to is answered so, and ends nothing.
+/// - 5, a send number of a run, or a serial at the starts of a replay, would pass 2^63: nothing was written to `out`.
+/// - 7, the words or the input are refused: nothing was written to `out`, and the line names the first bad option in the
+///   order of the table, `command-line` where the words have no meaning, or `input` where a read failed, an interrupted one
+///   too, or the input is longer than a step text may be.
+/// - 8, the step text has a bad line: nothing was run, nothing was written to `out`, and the line names the first bad one.
 /// - 9, `out` failed: a beginning of the text was written, and the last of it was not.
 ///
-/// The reader isn't read.
+/// The reader is read where the words ask for a replay, to its end, and else not.
 pub fn program<S: AsStr, R: Read, O: Write, E: Write>(
     alloc: Global,
     words: &[S],
-    _reader: &mut R,
+    reader: &mut R,
     out: &mut O,
     err: &mut E,
 ) -> u8
-    ensures done { result ≡ 0 → IsDone (map S.text words.now) (O.contents out.old) (O.contents out.new) }
+    ensures done { result ≡ 0 → IsDone (map S.text words.now) (R.remaining reader.old) (O.contents out.old) (O.contents out.new) }
     ensures silent { result ≡ 0 → Keeps (E.contents err.old) (E.contents err.new) }
     ensures refused { result ≢ 0 → (fault : Fault) × (result ≡ status_of fault)
-        × EndsBy fault (map S.text words.now) (O.contents out.old) (O.contents out.new)
+        × EndsBy fault (map S.text words.now) (R.remaining reader.old) (O.contents out.old) (O.contents out.new)
         × TellsRefusal fault (E.contents err.old) (E.contents err.new) }
     ensures untouched { (name : Text) → IsRefusedAs (map S.text words.now) name → ¬ AskHelp (map S.text words.now)
         → (result ≢ 0) × Keeps (O.contents out.old) (O.contents out.new) }
-    ensures unread { Keeps (R.remaining _reader.old) (R.remaining _reader.new) }
+    ensures unrun { AskWithBadLine (map S.text words.now) (R.remaining reader.old) → (result ≢ 0) × Keeps (O.contents out.old) (O.contents out.new) }
+    ensures unread { ¬ AreOfReplay (map S.text words.now) → Keeps (R.remaining reader.old) (R.remaining reader.new) }
 {
-    match answer(alloc, words, out) {
+    match answer(alloc, words, reader, out) {
         Ok(()) => 0,
         Err(fault) => tell_refusal(err, fault),
     }

@@ -269,7 +269,14 @@ fn refuses_what_is_not_there_yet(rt: HostRuntime) -> Result<(), Fail> {
     )?;
     expect(
         &rt,
-        "twarp replay",
+        "twarp replay --synch 1",
+        2,
+        "",
+        "twarp: refused 7 bad option command-line\n",
+    )?;
+    expect(
+        &rt,
+        "twarp run --serial 0",
         2,
         "",
         "twarp: refused 7 bad option command-line\n",
@@ -279,7 +286,7 @@ fn refuses_what_is_not_there_yet(rt: HostRuntime) -> Result<(), Fail> {
         "twarp replay --lps 0",
         2,
         "",
-        "twarp: refused 7 bad option command-line\n",
+        "twarp: refused 7 bad option lps\n",
     )?;
     expect(
         &rt,

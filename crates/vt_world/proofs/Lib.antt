@@ -12,3 +12,6 @@ pub mod ReportLemmas
 pub mod LocalLemmas
 pub mod CommitLemmas
 pub mod RunLemmas
+pub mod MakingLemmas
+pub mod LeastLemmas
+pub mod PastLemmas

@@ -7,6 +7,8 @@ mod cutting;
 mod finals;
 mod inbox;
 mod local;
+mod making;
+mod reading;
 mod sending;
 mod step;
 mod world;

@@ -5,15 +5,29 @@ use Rattle.vt_command.proofs.laws.defaults_are_read.Goals as goal
 pub returns : goal.returns
 unfolding clap_on_literals
 returns c = record {
-  run = record { accepted = refl; subcommand = refl };
-  options = record {
-    model = refl;
-    synch = refl;
-    config = record { workers = refl; lps = refl; end = refl; seed = refl };
-    hop = record { hops = refl; stride = refl; delay = refl };
-    phold = record { population = refl; remote = refl; lookahead = refl; span = refl };
-    stations = record { jobs = refl; service = refl; travel = refl };
-    turns = refl;
-    all_good = refl;
+  run = record {
+    run = record { accepted = refl; subcommand = refl };
+    options = record {
+      model = refl;
+      synch = refl;
+      config = record { workers = refl; lps = refl; end = refl; seed = refl };
+      hop = record { hops = refl; stride = refl; delay = refl };
+      phold = record { population = refl; remote = refl; lookahead = refl; span = refl };
+      stations = record { jobs = refl; service = refl; travel = refl };
+      turns = refl;
+      all_good = refl;
+    };
+  };
+  replay = record {
+    replay = record { accepted = refl; subcommand = refl };
+    options = record {
+      model = refl;
+      config = record { workers = refl; lps = refl; end = refl; seed = refl };
+      hop = record { hops = refl; stride = refl; delay = refl };
+      phold = record { population = refl; remote = refl; lookahead = refl; span = refl };
+      stations = record { jobs = refl; service = refl; travel = refl };
+      serial = refl;
+      all_good = refl;
+    };
   };
 }

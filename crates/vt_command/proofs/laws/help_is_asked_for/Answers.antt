@@ -4,4 +4,4 @@ use Rattle.vt_command.proofs.laws.help_is_asked_for.Goals as goal
 
 pub returns : goal.returns
 unfolding clap_on_literals
-returns c = record { of_the_program = inl refl; of_run = inl refl; short = inl refl; by_word = inl refl }
+returns c = record { of_the_program = inl refl; of_run = inl refl; of_replay = inl refl; short = inl refl; by_word = inl refl }

@@ -1,6 +1,6 @@
 use Rattle.std.proofs.Common.{◌∙◌, rules, ap₂, sym}
 use Rattle.clap.specs.Words.{new_app, with_rule}
-use Rattle.vt_command.specs.declared.line.OptionText.{OptionText}
+use Rattle.vt_command.specs.declared.texts.OptionText.{OptionText}
 use Rattle.vt_command.proofs.LineLemmas.{options_more}
 use Rattle.vt_command.proofs.line.command_of.Goals as goal
 

@@ -1,0 +1,203 @@
+//! Two workers with a process each, and the mail between them.
+
+ghost use Rattle.std.specs.Prelude.{◌≡◌};
+ghost use Rattle.vt_kernel.specs.Held.{AllOwnMail};
+
+use crate::told::{RecordTold, are_rows};
+use std::alloc::AllocGlobal;
+use std::process::Abort;
+use std::{mem, rt};
+use vt_kernel::Kernel;
+use vt_key::{Fault, Mail, Stamp};
+use vt_model::Config;
+use vt_models::{Hop, Token};
+use vt_steps::Step;
+
+/// A worker, and the mail that was sent to it and that it hasn't fetched.
+#[derive(Drop)]
+pub(crate) struct Worker {
+    pub(crate) kernel: Kernel<Hop>,
+    pub(crate) inbox: Vec<Mail<Token>>,
+    model: Hop,
+    config: Config,
+    number: u32,
+    ghost set: { kernel.config ≡ config },
+    ghost named: { kernel.worker ≡ number },
+    ghost own: { AllOwnMail config number inbox.items },
+}
+
+/// What a worker tells of one process: its state, the number of its next send, and how many messages are pending and how many
+/// anti-messages wait there.
+pub(crate) type ProcessTold = (u64, u64, usize, usize);
+
+impl Worker {
+    fn new(
+        rt: &(impl Abort + AllocGlobal),
+        model: Hop,
+        config: Config,
+        number: u32,
+    ) -> Result<Worker, Fault> {
+        assert!(rt; number < config.workers);
+        match Kernel::new(rt.alloc(), &model, config, number) {
+            Ok(kernel) => Ok(Worker {
+                kernel,
+                inbox: Vec::new(rt.alloc()),
+                model,
+                config,
+                number,
+            }),
+            Err(fault) => Err(fault),
+        }
+    }
+
+    fn execute(&mut self, rt: &impl AllocGlobal, p: u32) -> Result<(), Fault> {
+        self.kernel.execute(rt.alloc(), &self.model, p)
+    }
+
+    fn undo(&mut self, p: u32) -> Result<(), Fault> {
+        self.kernel.undo(&self.model, p)
+    }
+
+    fn cancel(&mut self, p: u32, stamp: Stamp) -> Result<(), Fault> {
+        self.kernel.cancel(p, stamp)
+    }
+
+    fn home(&mut self) -> Result<(), Fault> {
+        self.kernel.home()
+    }
+
+    fn accept(&mut self, rt: &impl AllocGlobal, i: u64) -> Result<(), Fault> {
+        self.kernel.accept(rt.alloc(), i)
+    }
+
+    // All letters for the other worker go into its inbox.
+    fn send(&mut self, rt: &impl Abort, other: &mut Worker) -> Result<(), Fault> {
+        assert!(rt; self.config == other.config);
+        self.kernel.letters_for(other.number, &mut other.inbox)
+    }
+
+    // The inbox is emptied. Mail that is handed back goes into it again.
+    fn fetch(&mut self, rt: &impl AllocGlobal) -> Result<(), Fault> {
+        let mail = mem::replace(&mut self.inbox, Vec::new(rt.alloc()));
+        match self.kernel.take_in(mail) {
+            Ok(()) => Ok(()),
+            Err((fault, mail)) => {
+                self.inbox = mail;
+                Err(fault)
+            }
+        }
+    }
+
+    /// Undoes and cancels at process `p` until neither is lawful.
+    pub(crate) fn settle(&mut self, p: u32) {
+        self.kernel.settle(&self.model, p);
+    }
+
+    /// The worker's part of a cut.
+    pub(crate) fn turn(&mut self, announced: u64) {
+        self.kernel.turn(announced);
+    }
+
+    /// The worker may commit below this time.
+    pub(crate) fn set_floor(&mut self, floor: u64) {
+        self.kernel.set_floor(floor);
+    }
+
+    /// The past events below the floor are forgotten.
+    pub(crate) fn fossil(&mut self) {
+        self.kernel.fossil();
+    }
+
+    /// What the worker tells of process `p`, if it is one of its own.
+    pub(crate) fn process(&self, p: u32) -> Option<ProcessTold> {
+        let state = *self.kernel.state(p)?;
+        let number = self.kernel.number(p)?;
+        let pending = self.kernel.pending_len(p)?;
+        let waiting = self.kernel.waiting_len(p)?;
+        Some((state, number, pending, waiting))
+    }
+
+    /// Whether the worker would commit exactly these records, in this order.
+    pub(crate) fn commits(&self, rt: &(impl Abort + AllocGlobal), wanted: &[RecordTold]) -> bool {
+        let rows = self.kernel.rows(rt.alloc()).expect(rt, "memory");
+        are_rows(&rows, wanted)
+    }
+}
+
+/// Worker 0 with process 0, and worker 1 with process 1. Each process makes a token, which hops once, to the other process,
+/// one tick after it was received. The run ends at 10.
+#[derive(Drop)]
+pub(crate) struct Pair {
+    pub(crate) first: Worker,
+    pub(crate) second: Worker,
+}
+
+impl Pair {
+    /// Both workers at the opening.
+    pub(crate) fn new(rt: &(impl Abort + AllocGlobal)) -> Result<Pair, Fault> {
+        let model = Hop::new(1, 1, 1)?;
+        let config = Config::new(2, 2, 10, 0)?;
+        let first = Worker::new(rt, model, config, 0)?;
+        let second = Worker::new(rt, model, config, 1)?;
+        Ok(Pair { first, second })
+    }
+
+    /// Both workers after these steps.
+    pub(crate) fn after(rt: &(impl Abort + AllocGlobal), steps: &[Step]) -> Pair {
+        let mut pair = Pair::new(rt).expect(rt, "memory");
+        pair.steps(rt, steps);
+        pair
+    }
+
+    fn worker(&mut self, w: u32) -> &mut Worker {
+        if w == 0 {
+            &mut self.first
+        } else {
+            &mut self.second
+        }
+    }
+
+    /// Does one step, which is none of cut, report, commit and close.
+    pub(crate) fn step(
+        &mut self,
+        rt: &(impl Abort + AllocGlobal),
+        step: Step,
+    ) -> Result<(), Fault> {
+        match step {
+            Step::Execute(p) => self.worker(p).execute(rt, p),
+            Step::Undo(p) => self.worker(p).undo(p),
+            Step::Cancel(p, stamp) => self.worker(p).cancel(p, stamp),
+            Step::Home(w) => self.worker(w).home(),
+            Step::Send(0, _) => self.first.send(rt, &mut self.second),
+            Step::Send(_, _) => self.second.send(rt, &mut self.first),
+            Step::Fetch(w) => self.worker(w).fetch(rt),
+            Step::Accept(w, i) => self.worker(w).accept(rt, i),
+            _ => Err(Fault::NotLawful),
+        }
+    }
+
+    /// Does these steps. Each must be lawful.
+    pub(crate) fn steps(&mut self, rt: &(impl Abort + AllocGlobal), steps: &[Step]) {
+        for step in steps {
+            assert_eq!(rt; self.step(rt, *step), Ok(()), "at {step:?}");
+        }
+    }
+}
+
+/// The second worker runs ahead: process 1 executes its own token, of time 2, before the token of process 0, which is at time
+/// 2 too and has the lesser key, reaches it.
+pub(crate) const STRAGGLER: [Step; 7] = [
+    Step::Home(0),
+    Step::Home(1),
+    Step::Execute(1),
+    Step::Execute(0),
+    Step::Send(0, 1),
+    Step::Fetch(1),
+    Step::Accept(1, 0),
+];
+
+/// Then process 1 is rolled back, and executes both tokens in their order.
+pub(crate) const ROLLBACK: [Step; 3] = [Step::Undo(1), Step::Execute(1), Step::Execute(1)];
+
+/// Then what it sent, took back and sent again arrives at the first worker.
+pub(crate) const DELIVERY: [Step; 2] = [Step::Send(1, 0), Step::Fetch(0)];

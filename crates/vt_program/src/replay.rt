@@ -1,0 +1,143 @@
+//! A replay: a world that is driven by the steps of a text, and what it answers.
+
+ghost use Rattle.std.specs.Prelude.{◌≡◌, ◌≤◌, ◌⊎◌, ◌++◌, OnOk, OnErr, IfOk, IfErr};
+ghost use Rattle.std.specs.Io.KnownBytes.{Appends};
+ghost use Rattle.vt_key.specs.declared.limits.TheConstants.{MAX_COUNT};
+ghost use Rattle.vt_key.specs.declared.fault.Fault.{Fault};
+ghost use Rattle.vt_model.specs.Simulation.{simulation_of};
+ghost use Rattle.vt_text.specs.Writing.{AppendsBeginning};
+ghost use Rattle.vt_world.specs.Held.{StandsForWorld};
+ghost use Rattle.vt_world.specs.Answers.{PassesAtStart};
+ghost use Rattle.vt_program.specs.Replays.{GivesSteps, RefusesInput, IsReplayOf, IsReplay, OpensTooLate, Writes, StopsReplay, Replays, EndsReplay};
+ghost use Rattle.vt_program.specs.Replying.{PutsReplies, StopsReplies, shown_of};
+
+use std::alloc::Global;
+use std::io::{Read, Write};
+use vt_command::{ModelName, ReplayOptions};
+use vt_key::Fault;
+use vt_model::{Config, Model as EventModel};
+use vt_step_text::{NumberedStep, put_reply, put_state, read_input, read_steps};
+use vt_text::TextBuffer;
+use vt_world::World;
+
+/// The steps of the text that a reader gives.
+fn read_replay<R: Read>(
+    alloc: Global,
+    reader: &mut R,
+    config: Config,
+) -> Result<Vec<NumberedStep>, Fault>
+    ensures ok { IfOk result (λ steps. GivesSteps config (R.remaining reader.old) steps.items) }
+    ensures err { IfErr result (RefusesInput config (R.remaining reader.old)) }
+{
+    let text = read_input(alloc, reader)?;
+    read_steps(alloc, text.as_slice(), config.lps, config.workers)
+}
+
+/// Does the steps one after the other, and puts the line of what each is answered. A step that is refused, for whatever
+/// reason, changes nothing, and the next one follows.
+fn put_replies<M: EventModel, O: Write>(
+    alloc: Global,
+    world: &mut World<'_, M>,
+    steps: &[NumberedStep],
+    text: &mut TextBuffer,
+    out: &mut O,
+) -> Result<(), Fault>
+    ensures ok { (from : _) → StandsForWorld (M.handlers world.old.model) world.old from
+        → OnOk result (PutsReplies (M.handlers world.old.model) world.old.config from steps.now world.new (O.contents out.old) (O.contents out.new) text.old text.new) }
+    ensures err { (from : _) → StandsForWorld (M.handlers world.old.model) world.old from
+        → OnErr result (StopsReplies (simulation_of (M.handlers world.old.model) world.old.config) from steps.now (O.contents out.old) (O.contents out.new) text.old) }
+    ensures same { (world.new.model ≡ world.old.model) × (world.new.config ≡ world.old.config) }
+    ensures fault { IfErr result (λ fault. fault ≡ Fault.Output) }
+{
+    for numbered in steps {
+        let answer = world.step(alloc, &numbered.step);
+        put_reply(text, out, numbered.line, &answer)?;
+    }
+    Ok(())
+}
+
+/// Writes what is gathered, and then what the world shows.
+///
+/// [`Fault::Memory`]: the records couldn't be copied; what was gathered was written. [`Fault::Output`]: the writer failed.
+fn show<M: EventModel, O: Write>(
+    alloc: Global,
+    world: &World<'_, M>,
+    text: &mut TextBuffer,
+    out: &mut O,
+) -> Result<(), Fault>
+    ensures ok { OnOk result (Appends (O.contents out.old) (O.contents out.new) (text.old ++ shown_of (M.handlers world.now.model) world.now)) }
+    ensures err { OnErr result (AppendsBeginning (O.contents out.old) (O.contents out.new) (text.old ++ shown_of (M.handlers world.now.model) world.now)) }
+    ensures fault { IfErr result (λ fault. (fault ≡ Fault.Memory) ⊎ (fault ≡ Fault.Output)) }
+{
+    text.flush(out)?;
+    let records = world.records(alloc)?;
+    put_state(
+        text,
+        out,
+        world.announced(),
+        world.floor(),
+        world.least(),
+        records.as_slice(),
+    )?;
+    text.flush(out)
+}
+
+/// Replays steps of a model, and writes the output.
+fn print_replay<M: EventModel, O: Write>(
+    alloc: Global,
+    model: &M,
+    config: Config,
+    serial: u64,
+    steps: &[NumberedStep],
+    out: &mut O,
+) -> Result<(), Fault>
+    requires counted { serial ≤ MAX_COUNT }
+    ensures ok { OnOk result (Writes (IsReplayOf (M.handlers model.now) config serial steps.now) (O.contents out.old) (O.contents out.new)) }
+    ensures err { IfErr result (StopsReplay (IsReplayOf (M.handlers model.now) config serial steps.now) (PassesAtStart (simulation_of (M.handlers model.now) config) serial) (O.contents out.old) (O.contents out.new)) }
+{
+    let mut world = World::with_serial(alloc, model, config, serial)?;
+    let mut text = TextBuffer::new();
+    put_replies(alloc, &mut world, steps, &mut text, out)?;
+    show(alloc, &world, &mut text, out)
+}
+
+/// Replays steps of the model that the options name.
+fn print_steps<O: Write>(
+    alloc: Global,
+    options: &ReplayOptions,
+    steps: &[NumberedStep],
+    out: &mut O,
+) -> Result<(), Fault>
+    requires counted { options.now.serial ≤ MAX_COUNT }
+    ensures ok { OnOk result (Writes (IsReplay options.now steps.now) (O.contents out.old) (O.contents out.new)) }
+    ensures err { IfErr result (StopsReplay (IsReplay options.now steps.now) (OpensTooLate options.now) (O.contents out.old) (O.contents out.new)) }
+{
+    let config = options.config;
+    let serial = options.serial;
+    match options.model {
+        ModelName::Hop => print_replay(alloc, &options.hop, config, serial, steps, out),
+        ModelName::Phold => print_replay(alloc, &options.phold, config, serial, steps, out),
+        ModelName::Stations => print_replay(alloc, &options.stations, config, serial, steps, out),
+    }
+}
+
+/// Reads a step text, replays its steps on the model that the options name, and writes what each is answered and what the
+/// world shows at the end. The whole text is read before anything is run.
+///
+/// [`Fault::BadOption`] with `input`: a read failed, or the text is too long. [`Fault::BadStep`]: the first bad line of the
+/// text. [`Fault::Exhausted`]: the starts would make more events than serials are left. After these three nothing was
+/// written. [`Fault::Memory`]: memory was refused to something else than a step, and [`Fault::Output`]: the writer failed; a
+/// beginning of the output was written.
+pub(crate) fn run_replay<R: Read, O: Write>(
+    alloc: Global,
+    options: &ReplayOptions,
+    reader: &mut R,
+    out: &mut O,
+) -> Result<(), Fault>
+    requires counted { options.now.serial ≤ MAX_COUNT }
+    ensures ok { OnOk result (Replays options.now (R.remaining reader.old) (O.contents out.old) (O.contents out.new)) }
+    ensures err { IfErr result (EndsReplay options.now (R.remaining reader.old) (O.contents out.old) (O.contents out.new)) }
+{
+    let steps = read_replay(alloc, reader, options.config)?;
+    print_steps(alloc, options, steps.as_slice(), out)
+}

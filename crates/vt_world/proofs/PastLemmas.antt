@@ -1,0 +1,111 @@
+-- The past events of a process, in memory and in the worlds that memory stands for.
+use Rattle.std.proofs.Common.{◌≡◌, ℕ, ◌+◌, ◌/◌, ◌%◌, ◌<◌, ◌≤◌, Bool, true, false, nat_eq, List, [], ◌∷◌, ◌++◌, map, refl, sym, ◌∙◌, ap, subst, arith, Option, Some, None, Result, Ok, Err, IfOk, IfErr, OnOk, slice_get, if◌then◌else◌}
+use Rattle.std.specs.Option.{option_map}
+use Rattle.std.proofs.Math.Logic.{∥∥₁_map}
+use Rattle.std.proofs.lemmas.List.{map-append}
+use Rattle.std.proofs.lemmas.List.Elements.{filter-append}
+use Rattle.vt_key.specs.Times.{Time, TimeAtMost, time_before}
+use Rattle.vt_key.specs.declared.letter.Event.{Event}
+use Rattle.vt_model.specs.declared.sending.Sent.{Sent}
+use Rattle.vt_model.specs.declared.settings.Config.{Config}
+use Rattle.vt_model.specs.Handler.{Handlers}
+use Rattle.vt_model.specs.Histories.{IsLawful}
+use Rattle.vt_model.specs.Sequential.{events_before}
+use Rattle.vt_model.specs.Simulation.{simulation_of}
+use Rattle.vt_steps.specs.Letters.{unstamped}
+use Rattle.vt_steps.specs.World.{Entry, World, entry_events, least}
+use Rattle.vt_steps.specs.Next.{reached}
+use Rattle.vt_steps.specs.StandsFor.{entry_of}
+use Rattle.vt_steps.proofs.HistoriesTheorem.{histories}
+use Rattle.vt_lp.specs.Held.{process_memory, remembered}
+use Rattle.vt_lp.specs.declared.entry.PastEvent.{PastEvent}
+use Rattle.vt_kernel.specs.Held.{HeldWorker, IsProcessOf, process_of}
+use Rattle.vt_kernel.proofs.ProcessLemmas.{get-map_of, stands-at}
+use Rattle.vt_world.specs.Held.{HeldWorld, StandsForWorld, IsReached, AreWorkers}
+use Rattle.vt_world.specs.Calls.{least_held}
+use Rattle.vt_world.specs.Answers.{IsPastIn, EndsSequential, past_events}
+use Rattle.vt_world.proofs.ReachedLemmas.{least-same}
+use Rattle.vt_world.proofs.WorldLemmas.{found, worker-at}
+
+-- what is made of an item that a test lets through
+passed : {X Y : Type 0} (test : Bool) (item : Option X) (make : X → Y) (y : Y) → option_map make (if test then item else None) ≡ Some y → (x : X) × (item ≡ Some x) × (make x ≡ y)
+passed true (Some x) make y h = (x, refl, (let k : Some (make x) ≡ Some y = h in cc))
+passed true None make y h = absurd (let k : None ≡ Some y = h in cc)
+passed false item make y h = absurd (let k : None ≡ Some y = h in cc)
+
+-- what an Ok gives, with what it says of the call
+pub ok-both : {A E : Type 0} {Q R : A → Type 0} {X : Type 0} (result : Result A E) → ((a : A) → Q a → X → R a) → IfOk result Q → OnOk result X → IfOk result R
+ok-both (Ok a) more h x = more a h x
+ok-both (Err e) more h x = tt
+
+pub on_ok-more : {A E : Type 0} {X Y : Type 0} (result : Result A E) → (X → Y) → OnOk result X → OnOk result Y
+on_ok-more (Ok a) more h = more h
+on_ok-more (Err e) more h = tt
+
+pub err-more : {A E : Type 0} {Q R : E → Type 0} (result : Result A E) → ((e : E) → Q e → R e) → IfErr result Q → IfErr result R
+err-more (Ok a) more h = tt
+err-more (Err e) more h = more e h
+
+module _ {S P K : Type 0} (handlers : Handlers S P K) where
+  -- the events that are remembered
+  remembered-events : (lp : ℕ) (past : List (PastEvent P K)) → map (λ (entry : Entry P). entry.event) (map entry_of (map (remembered handlers lp) past)) ≡ map (λ (e : PastEvent P K). e.letter.event) past
+  remembered-events lp [] = refl
+  remembered-events lp (e ∷ es) = ap (λ events. e.letter.event ∷ events) (remembered-events lp es)
+
+-- entries as the model knows them
+entries-known : {P : Type 0} (entries : List (Entry P)) → entry_events entries ≡ map unstamped (map (λ (entry : Entry P). entry.event) entries)
+entries-known [] = refl
+entries-known (x ∷ xs) = ap (λ es. unstamped x.event ∷ es) (entries-known xs)
+
+module _ {M S P K : Type 0} (handlers : Handlers S P K) (held : HeldWorld M S P K) (are : AreWorkers held.config 0 held.workers)
+    (p : ℕ) (k : HeldWorker S P K) (at : slice_get held.workers (p % held.config.workers) ≡ Some k) where
+  -- the worker has the process where the world does
+  pub own-process : IsProcessOf k.config k.worker p → p < held.config.lps
+  own-process is =
+      let who = worker-at held.config 0 (p % held.config.workers) held.workers k are at in
+      subst (λ (c : Config). p < c.lps) who.1 is.known
+
+  pub no-process : (IsProcessOf k.config k.worker p → ⊥) → held.config.lps ≤ p
+  no-process none =
+      let who = worker-at held.config 0 (p % held.config.workers) held.workers k are at in
+      let plain : 0 + p % held.config.workers ≡ p % held.config.workers = omega arith in
+      let never : p < held.config.lps → ⊥ = λ less. none (record {
+        known = subst (λ (c : Config). p < c.lps) (sym who.1) less;
+        own = ap (λ (c : Config). p % c.workers) who.1 ∙ sym (who.0 ∙ plain);
+      }) in
+      omega (arith, never)
+
+  -- its past events are those in each world that it stands for
+  pub past-in : (events : List (Event P)) → option_map past_events (process_of k p) ≡ Some events → (world : World P) → StandsForWorld handlers held world
+      → IsPastIn (simulation_of handlers held.config) world p events
+  past-in events is world h =
+      let event : Entry P → Event P = λ entry. entry.event in
+      let who = worker-at held.config 0 (p % held.config.workers) held.workers k are at in
+      let f = found handlers held world (p % held.config.workers) k are h at in
+      let q = passed (nat_eq (p % k.config.workers) k.worker) (slice_get k.processes (p / k.config.workers)) past_events events is in
+      let s = stands-at (simulation_of handlers k.config) k.worker 0 (p / k.config.workers) (map (process_memory handlers) k.processes) f.part.processes (process_memory handlers q.0) f.stands.processes
+      (get-map_of (process_memory handlers) k.processes (p / k.config.workers) q.0 q.1) in
+      let past : map event s.0.past ≡ events = ap (map event) s.2.past ∙ remembered-events handlers q.0.lp q.0.past ∙ q.2 in
+      record {
+        process = s.0;
+        there = (f.part, f.there, subst (λ (c : Config). slice_get f.part.processes (p / c.workers) ≡ Some s.0) who.1 s.1);
+        past = past;
+        last = map-append event s.0.done s.0.past ∙ ap (λ es. map event s.0.done ++ es) past;
+      }
+
+  -- and the last ones of the sequential run's, wherever nothing is before a time
+  pub past-sequential : IsLawful (simulation_of handlers held.config) → ∥ ((serial : ℕ) × IsReached handlers serial held) ∥₁ → (events : List (Event P)) → option_map past_events (process_of k p) ≡ Some events
+      → p < held.config.lps → (t : Time) → TimeAtMost t (least_held held) → EndsSequential (simulation_of handlers held.config) p t events
+  past-sequential lawful was events is known t quiet = ∥∥₁_map was (λ (x : (serial : ℕ) × IsReached handlers serial held).
+      let sim = simulation_of handlers held.config in
+      let world = reached sim x.0 x.1.0 in
+      let here = past-in events is world x.1.1 in
+      let first : List (Sent P) = entry_events here.process.done in
+      let low : TimeAtMost t (least held.config.end world) = subst (TimeAtMost t) (sym (least-same handlers held world x.1.1)) quiet in
+      let right = (histories sim lawful x.0 x.1.0).histories t p here.process known low here.there in (
+        events_before t first,
+        sym right
+            ∙ ap (events_before t) (map-append (λ (entry : Entry P). unstamped entry.event) here.process.done here.process.past)
+            ∙ filter-append (λ (e : Sent P). time_before e.key.time t) first (entry_events here.process.past)
+            ∙ ap (λ es. events_before t first ++ events_before t es) (entries-known here.process.past ∙ ap (map unstamped) here.past),
+      ))

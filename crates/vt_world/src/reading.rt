@@ -1,0 +1,81 @@
+//! What a world tells of what is still to be done, and of what its processes did.
+
+ghost use Rattle.std.specs.Prelude.{◌≡◌, ℕ, ◌<◌, ◌≤◌, ◌⊎◌, List, map, All, Some, IfOk, IfErr, OnOk};
+ghost use Rattle.std.specs.List.{flat_map};
+ghost use Rattle.vt_key.specs.Times.{Time, TimeAtMost};
+ghost use Rattle.vt_key.specs.declared.fault.Fault.TheVariants.{Memory, NotLawful};
+ghost use Rattle.vt_model.specs.Simulation.{simulation_of};
+ghost use Rattle.vt_steps.specs.declared.step.Step.{Step};
+ghost use Rattle.vt_steps.specs.Letters.{least_time};
+ghost use Rattle.vt_steps.specs.World.{least};
+ghost use Rattle.vt_steps.specs.Next.{reached};
+ghost use Rattle.vt_steps.specs.Claims.{Histories};
+ghost use Rattle.vt_kernel.specs.Guards.{held_letters};
+ghost use Rattle.vt_world.specs.Held.{StandsForWorld, IsReached};
+ghost use Rattle.vt_world.specs.Calls.{least_held};
+ghost use Rattle.vt_world.specs.Answers.{past_of, IsPastIn, EndsSequential};
+
+use crate::inbox::Inbox;
+use crate::world::World;
+use std::alloc::Global;
+use vt_kernel::{Kernel, least_of_mail};
+use vt_key::{Event, Fault, Time};
+use vt_model::Model as EventModel;
+
+impl<'m, M: EventModel> World<'m, M> {
+    /// The least time, in ticks, of all events and anti-messages that are unprocessed or travelling: in outboxes and inboxes,
+    /// fetched, pending and waiting. Where there are none, the end of the run. It takes no memory.
+    pub fn least(&self) -> Time
+        ensures value { result ≡ least_held self.now }
+        ensures least { (world : _) → StandsForWorld (M.handlers self.now.model) self.now world → result ≡ least self.now.config.end world }
+        ensures announced { TimeAtMost self.now.board.announced result }
+    {
+        let end = self.config.end;
+        let held = least_of_workers(&self.kernels, end);
+        let travelling = least_of_inboxes(&self.inboxes, end);
+        held.min(travelling)
+    }
+
+    /// The past events of process `lp`, which are executed and not committed, in the order of their execution. They are the
+    /// last ones of all that the process has executed.
+    ///
+    /// Below any time that nothing unprocessed or travelling is before, the process has executed what the sequential run
+    /// executes there, in the same order: so below [`World::least`] the past events are the last ones of the sequential run.
+    ///
+    /// [`Fault::NotLawful`]: there is no such process. [`Fault::Memory`]: there is, and memory was refused.
+    pub fn past(&self, alloc: Global, lp: u32) -> Result<Vec<Event<M::Payload>>, Fault>
+        ensures events { IfOk result (λ v. past_of self.now lp ≡ Some v.items) }
+        ensures past { (world : _) → StandsForWorld (M.handlers self.now.model) self.now world → IfOk result (λ v. IsPastIn (simulation_of (M.handlers self.now.model) self.now.config) world lp v.items) }
+        ensures histories { let sim = simulation_of (M.handlers self.now.model) self.now.config in (serial : ℕ) (steps : List Step) → StandsForWorld (M.handlers self.now.model) self.now (reached sim serial steps) → Histories sim serial (reached sim serial steps) }
+        ensures reached { ∥ ((serial : ℕ) × IsReached (M.handlers self.now.model) serial self.now) ∥₁ }
+        ensures sequential { (t : Time) → TimeAtMost t (least_held self.now) → IfOk result (λ v. EndsSequential (simulation_of (M.handlers self.now.model) self.now.config) lp t v.items) }
+        ensures known { OnOk result (lp < self.now.config.lps) }
+        ensures refused { IfErr result (λ fault. ((fault ≡ NotLawful) × (self.now.config.lps ≤ lp)) ⊎ ((fault ≡ Memory) × (lp < self.now.config.lps))) }
+    {
+        let owner = self.config.owner(lp);
+        self.kernels[owner as usize].past_events(alloc, lp)
+    }
+}
+
+/// The least time of all letters that these workers have; where they have none, the end of the run.
+fn least_of_workers<M: EventModel>(kernels: &[Kernel<M>], end: Time) -> Time
+    requires same_end { All (λ k. k.config.end ≡ end) kernels.now }
+    ensures { result ≡ least_time end (flat_map held_letters kernels.now) }
+{
+    let mut least = end;
+    for kernel in kernels {
+        least = least.min(kernel.least());
+    }
+    least
+}
+
+/// The least time of the mail in these inboxes; where there is none, the end of the run.
+fn least_of_inboxes<P: Copy>(inboxes: &[Inbox<P>], end: Time) -> Time
+    ensures { result ≡ least_time end (map (λ mail. mail.letter) (flat_map (λ inbox. inbox) inboxes.now)) }
+{
+    let mut least = end;
+    for inbox in inboxes {
+        least = least.min(least_of_mail(&inbox.mail, end));
+    }
+    least
+}
