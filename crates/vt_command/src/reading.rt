@@ -178,18 +178,12 @@ pub(crate) fn read_replay_options(matches: &ArgMatches) -> Result<ReplayOptions,
     ensures err { IfErr result (λ fault. fault_number fault ≡ 7) }
     ensures bad { IfErr result (λ fault. option_named fault ≡ first_bad_of_replay (first_value (found_of matches.now))) }
 {
-    let model = model_option(matches)?;
-    let config = config_options(matches)?;
-    let hop = hop_options(matches)?;
-    let phold = phold_options(matches)?;
-    let stations = stations_options(matches)?;
-    let serial = number_option(matches, "serial", 0, MAX_COUNT, 0)?;
     Ok(ReplayOptions {
-        model,
-        config,
-        hop,
-        phold,
-        stations,
-        serial,
+        model: model_option(matches)?,
+        config: config_options(matches)?,
+        hop: hop_options(matches)?,
+        phold: phold_options(matches)?,
+        stations: stations_options(matches)?,
+        serial: number_option(matches, "serial", 0, MAX_COUNT, 0)?,
     })
 }

@@ -1,0 +1,653 @@
+//! Worked replays: the options, the steps, what each is answered, and what the world shows after the last.
+
+/// A straggler at equal time. Two processes, each on a worker of its own, pass tokens on: process 1 executes its event at 2, and
+/// then a message for the same time comes that goes before it, so it rolls back.
+const STRAGGLER: &str = "\
+home 0
+home 1
+execute 1
+execute 0
+send 0 1
+fetch 1
+accept 1 0
+undo 1
+execute 1
+execute 1
+send 1 0
+fetch 0
+accept 0 0
+accept 0 0
+accept 0 0
+cancel 0 1 1
+execute 0
+cut 0
+cut 1
+report 0
+report 1
+cut 0
+commit 0
+commit 1
+close
+";
+
+/// What its steps are answered.
+const STRAGGLER_REPLIES: &str = "\
+1 ok
+2 ok
+3 ok
+4 ok
+5 ok
+6 ok
+7 ok
+8 ok
+9 ok
+10 ok
+11 ok
+12 ok
+13 ok
+14 ok
+15 ok
+16 ok
+17 ok
+18 ok
+19 ok
+20 waiting
+21 announced 10
+22 ok
+23 ok
+24 ok
+25 ok
+";
+
+/// A replay that begins with some steps of the straggler's.
+pub(crate) struct Case {
+    /// What it shows.
+    pub(crate) name: &'static str,
+    pub(crate) options: &'static str,
+    /// How many steps of the straggler's it begins with.
+    pub(crate) begins: usize,
+    /// The steps after them, a line for each.
+    pub(crate) steps: &'static str,
+    /// What those are answered, a line for each.
+    pub(crate) replies: &'static str,
+    /// What the world shows at the end.
+    pub(crate) shown: &'static str,
+}
+
+/// The steps that replays begin with, and what they are answered.
+pub(crate) fn straggler() -> (&'static str, &'static str) {
+    (STRAGGLER, STRAGGLER_REPLIES)
+}
+
+pub(crate) static CASES: [Case; 21] = [
+    Case {
+        name: "a straggler at equal time",
+        options: "--hops 1 --delay 1 --workers 2",
+        begins: 25,
+        steps: "",
+        replies: "",
+        shown: "\
+announced 10
+floor 10
+least 10
+records 4
+1 0 1 1
+2 1 1 1
+2 1 1 258
+3 0 1 258
+",
+    },
+    Case {
+        name: "the anti-message comes before its message",
+        options: "--hops 1 --delay 1 --workers 2",
+        begins: 12,
+        steps: "\
+accept 0 1
+cancel 0 1 1
+accept 0 0
+cancel 0 1 1
+accept 0 0
+execute 0
+cut 0
+cut 1
+report 0
+report 1
+cut 0
+commit 0
+commit 1
+close
+",
+        replies: "\
+13 ok
+14 refused 2
+15 ok
+16 ok
+17 ok
+18 ok
+19 ok
+20 ok
+21 waiting
+22 announced 10
+23 ok
+24 ok
+25 ok
+26 ok
+",
+        shown: "\
+announced 10
+floor 10
+least 10
+records 4
+1 0 1 1
+2 1 1 1
+2 1 1 258
+3 0 1 258
+",
+    },
+    Case {
+        name: "a new event with the cancelled one's key comes first",
+        options: "--hops 1 --delay 1 --workers 2",
+        begins: 12,
+        steps: "\
+accept 0 2
+accept 0 1
+cancel 0 1 1
+accept 0 0
+cancel 0 1 1
+execute 0
+cut 0
+cut 1
+report 0
+report 1
+cut 0
+commit 0
+commit 1
+close
+",
+        replies: "\
+13 ok
+14 ok
+15 refused 2
+16 ok
+17 ok
+18 ok
+19 ok
+20 ok
+21 waiting
+22 announced 10
+23 ok
+24 ok
+25 ok
+26 ok
+",
+        shown: "\
+announced 10
+floor 10
+least 10
+records 4
+1 0 1 1
+2 1 1 1
+2 1 1 258
+3 0 1 258
+",
+    },
+    Case {
+        name: "unequal counts",
+        options: "--hops 1 --delay 1 --workers 2",
+        begins: 0,
+        steps: "\
+home 0
+home 1
+execute 0
+send 0 1
+cut 0
+cut 1
+report 0
+report 1
+fetch 1
+report 0
+report 1
+",
+        replies: "\
+1 ok
+2 ok
+3 ok
+4 ok
+5 ok
+6 ok
+7 waiting
+8 again
+9 ok
+10 waiting
+11 announced 2
+",
+        shown: "\
+announced 2
+floor 0
+least 2
+records 0
+",
+    },
+    Case {
+        name: "a letter sent after the cut",
+        options: "--hops 1 --delay 1 --workers 2",
+        begins: 10,
+        steps: "\
+cut 0
+cut 1
+send 1 0
+report 0
+report 1
+cut 0
+commit 0
+commit 1
+close
+",
+        replies: "\
+11 ok
+12 ok
+13 ok
+14 waiting
+15 announced 3
+16 ok
+17 ok
+18 ok
+19 refused 2
+",
+        shown: "\
+announced 3
+floor 3
+least 3
+records 3
+1 0 1 1
+2 1 1 1
+2 1 1 258
+",
+    },
+    Case {
+        name: "a straggler, before anything is sent back",
+        options: "--hops 1 --delay 1 --workers 2",
+        begins: 10,
+        steps: "",
+        replies: "",
+        shown: "\
+announced 0
+floor 0
+least 3
+records 0
+",
+    },
+    Case {
+        name: "a straggler, all delivered",
+        options: "--hops 1 --delay 1 --workers 2",
+        begins: 17,
+        steps: "",
+        replies: "",
+        shown: "\
+announced 0
+floor 0
+least 10
+records 0
+",
+    },
+    Case {
+        name: "an anti-message first, all delivered",
+        options: "--hops 1 --delay 1 --workers 2",
+        begins: 12,
+        steps: "\
+accept 0 1
+cancel 0 1 1
+accept 0 0
+cancel 0 1 1
+accept 0 0
+execute 0
+",
+        replies: "\
+13 ok
+14 refused 2
+15 ok
+16 ok
+17 ok
+18 ok
+",
+        shown: "\
+announced 0
+floor 0
+least 10
+records 0
+",
+    },
+    Case {
+        name: "a new event first, all delivered",
+        options: "--hops 1 --delay 1 --workers 2",
+        begins: 12,
+        steps: "\
+accept 0 2
+accept 0 1
+cancel 0 1 1
+accept 0 0
+cancel 0 1 1
+execute 0
+",
+        replies: "\
+13 ok
+14 ok
+15 refused 2
+16 ok
+17 ok
+18 ok
+",
+        shown: "\
+announced 0
+floor 0
+least 10
+records 0
+",
+    },
+    Case {
+        name: "a straggler, announced",
+        options: "--hops 1 --delay 1 --workers 2",
+        begins: 22,
+        steps: "",
+        replies: "",
+        shown: "\
+announced 10
+floor 0
+least 10
+records 0
+",
+    },
+    Case {
+        name: "a letter after the cut, announced",
+        options: "--hops 1 --delay 1 --workers 2",
+        begins: 10,
+        steps: "\
+cut 0
+cut 1
+send 1 0
+report 0
+report 1
+cut 0
+",
+        replies: "\
+11 ok
+12 ok
+13 ok
+14 waiting
+15 announced 3
+16 ok
+",
+        shown: "\
+announced 3
+floor 0
+least 3
+records 0
+",
+    },
+    Case {
+        name: "the floor is the least hand-in",
+        options: "--hops 1 --delay 1 --workers 2",
+        begins: 21,
+        steps: "\
+commit 1
+",
+        replies: "\
+22 ok
+",
+        shown: "\
+announced 10
+floor 0
+least 10
+records 0
+",
+    },
+    Case {
+        name: "after the close",
+        options: "--hops 1 --delay 1 --workers 2",
+        begins: 25,
+        steps: "\
+commit 0
+close
+",
+        replies: "\
+26 refused 4
+27 refused 4
+",
+        shown: "\
+announced 10
+floor 10
+least 10
+records 4
+1 0 1 1
+2 1 1 1
+2 1 1 258
+3 0 1 258
+",
+    },
+    Case {
+        name: "no step",
+        options: "",
+        begins: 0,
+        steps: "",
+        replies: "",
+        shown: "\
+announced 0
+floor 0
+least 1
+records 0
+",
+    },
+    Case {
+        name: "no event is undone without cause",
+        options: "",
+        begins: 0,
+        steps: "\
+home 0
+execute 0
+undo 0
+",
+        replies: "\
+1 ok
+2 ok
+3 refused 2
+",
+        shown: "\
+announced 0
+floor 0
+least 2
+records 0
+",
+    },
+    Case {
+        name: "a run without events",
+        options: "--end 1",
+        begins: 0,
+        steps: "\
+cut 0
+report 0
+commit 0
+close
+",
+        replies: "\
+1 ok
+2 announced 1
+3 ok
+4 ok
+",
+        shown: "\
+announced 1
+floor 1
+least 1
+records 0
+",
+    },
+    Case {
+        name: "steps without cause",
+        options: "",
+        begins: 0,
+        steps: "\
+fetch 0
+accept 0 0
+send 0 0
+report 0
+commit 0
+close
+cut 0
+cut 0
+report 0
+report 0
+",
+        replies: "\
+1 ok
+2 refused 2
+3 refused 2
+4 refused 2
+5 ok
+6 refused 2
+7 ok
+8 refused 2
+9 announced 1
+10 refused 2
+",
+        shown: "\
+announced 1
+floor 0
+least 1
+records 0
+",
+    },
+    Case {
+        name: "the largest place",
+        options: "",
+        begins: 0,
+        steps: "\
+accept 0 18446744073709551615
+",
+        replies: "\
+1 refused 2
+",
+        shown: "\
+announced 0
+floor 0
+least 1
+records 0
+",
+    },
+    Case {
+        name: "the last serial",
+        options: "--lps 1 --hops 1 --stride 0 --delay 1 --serial 9223372036854775807",
+        begins: 0,
+        steps: "\
+home 0
+execute 0
+",
+        replies: "\
+1 ok
+2 refused 5
+",
+        shown: "\
+announced 0
+floor 0
+least 1
+records 0
+",
+    },
+    Case {
+        name: "a run of phold",
+        options: "--model phold --lookahead 3",
+        begins: 0,
+        steps: "\
+home 0
+home 0
+execute 0
+execute 1
+home 0
+home 0
+execute 1
+execute 0
+home 0
+home 0
+execute 0
+execute 1
+cut 0
+report 0
+commit 0
+close
+",
+        replies: "\
+1 ok
+2 ok
+3 ok
+4 ok
+5 ok
+6 ok
+7 ok
+8 ok
+9 ok
+10 ok
+11 ok
+12 ok
+13 ok
+14 announced 10
+15 ok
+16 ok
+",
+        shown: "\
+announced 10
+floor 10
+least 10
+records 6
+3 0 2 1
+3 1 2 1
+6 0 2 2
+6 1 2 2
+9 0 2 3
+9 1 2 3
+",
+    },
+    Case {
+        name: "a run of stations",
+        options: "--model stations --lps 1 --jobs 1 --end 5",
+        begins: 0,
+        steps: "\
+home 0
+execute 0
+home 0
+execute 0
+home 0
+execute 0
+home 0
+execute 0
+home 0
+cut 0
+report 0
+commit 0
+close
+",
+        replies: "\
+1 ok
+2 ok
+3 ok
+4 ok
+5 ok
+6 ok
+7 ok
+8 ok
+9 refused 2
+10 ok
+11 announced 5
+12 ok
+13 ok
+",
+        shown: "\
+announced 5
+floor 5
+least 5
+records 4
+1 0 4 1
+2 0 3 1
+3 0 4 2
+4 0 3 1
+",
+    },
+];

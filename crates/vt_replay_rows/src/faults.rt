@@ -1,0 +1,148 @@
+//! Replays that are refused.
+
+use crate::cases::straggler;
+use crate::running::{Failing, expect, run_within};
+use std::io::Read;
+use std::test::Fail;
+
+const TWO_WORKERS: &str = "twarp replay --hops 1 --delay 1 --workers 2";
+
+/// Texts with a bad line, of two processes on one worker, and the first bad line of each.
+static BAD_TEXTS: [(&str, &str); 20] = [
+    ("home 0\nexecute 9", "2"),
+    ("execute 99\n", "1"),
+    ("home  0\n", "1"),
+    (" home 0\n", "1"),
+    ("home 0 \n", "1"),
+    (" \n", "1"),
+    ("\t\n", "1"),
+    ("home 0\r\n", "1"),
+    ("Home 0\n", "1"),
+    ("close 1\n", "1"),
+    ("accept 0\n", "1"),
+    ("accept 0 18446744073709551616\n", "1"),
+    ("accept 0 000000000000000000001\n", "1"),
+    ("#", "1"),
+    ("execute 2\n", "1"),
+    ("home 1\n", "1"),
+    ("send 0 1\n", "1"),
+    ("cancel 0 1 0\n", "1"),
+    ("home 0\n#\n\ncut 1\nhome 1\n", "4"),
+    ("home 0\nexecute 0\nundo 0\nclosed\n", "4"),
+];
+
+#[test]
+fn the_first_bad_line_is_named_and_nothing_is_run(rt: HostRuntime) -> Result<(), Fail> {
+    for (text, line) in &BAD_TEXTS {
+        let refusal = format!(in rt.alloc(); "twarp: refused 8 bad step at line {line}\n")?;
+        let mut reader = text.as_bytes();
+        expect(&rt, "twarp replay", &mut reader, 3, b"", refusal.as_bytes())?;
+    }
+    Ok(())
+}
+
+#[test]
+fn faults_come_in_their_order(rt: HostRuntime) -> Result<(), Fail> {
+    let late = "twarp replay --serial 9223372036854775808";
+    for (line, text, status, refusal) in [
+        (
+            "twarp replay --lps 0 --synch 1",
+            "home",
+            2,
+            "7 bad option command-line",
+        ),
+        (
+            "twarp replay --serial x --lps 0",
+            "home",
+            2,
+            "7 bad option lps",
+        ),
+        (
+            "twarp replay --serial 9223372036854775809",
+            "home",
+            2,
+            "7 bad option serial",
+        ),
+        (late, "home 0\nhome", 3, "8 bad step at line 2"),
+        (late, "home 0\n", 1, "5 exhausted"),
+        (late, "", 1, "5 exhausted"),
+    ] {
+        let refusal = format!(in rt.alloc(); "twarp: refused {refusal}\n")?;
+        expect(
+            &rt,
+            line,
+            &mut text.as_bytes(),
+            status,
+            b"",
+            refusal.as_bytes(),
+        )?;
+    }
+    let mut longer = std::io::repeat(b' ').take(16_777_217);
+    expect(
+        &rt,
+        late,
+        &mut longer,
+        2,
+        b"",
+        b"twarp: refused 7 bad option input\n",
+    )?;
+    let no_letter = "twarp replay --model phold --population 0 --serial 9223372036854775808";
+    let output = b"announced 0\nfloor 0\nleast 10\nrecords 0\n";
+    expect(&rt, no_letter, &mut b"".as_slice(), 0, output, b"")
+}
+
+#[test]
+fn a_failed_read_is_refused_before_anything_is_run(rt: HostRuntime) -> Result<(), Fail> {
+    let rest = straggler().0.as_bytes();
+    let pieces = rest.len().div_ceil(10);
+    let refusal = b"twarp: refused 7 bad option input\n";
+    for reads in 0..=pieces {
+        expect(
+            &rt,
+            TWO_WORKERS,
+            &mut Failing { rest, reads },
+            2,
+            b"",
+            refusal,
+        )?;
+    }
+    let reads = pieces.saturating_add(1);
+    let outcome = run_within(&rt, TWO_WORKERS, &mut Failing { rest, reads }, 1_000)?;
+    assert_eq!(rt; outcome.status, 0);
+    assert!(rt; outcome.out.starts_with(straggler().1.as_bytes()));
+    Ok(())
+}
+
+#[test]
+fn a_failed_write_leaves_a_beginning(rt: HostRuntime) -> Result<(), Fail> {
+    let text = straggler().0.as_bytes();
+    let mut expected = Vec::new(rt.alloc());
+    expected.extend_from_slice(straggler().1.as_bytes())?;
+    expected.extend_from_slice(
+        b"announced 10\nfloor 10\nleast 10\nrecords 4\n1 0 1 1\n2 1 1 1\n2 1 1 258\n3 0 1 258\n",
+    )?;
+    for room in 0..expected.len() {
+        let outcome = run_within(&rt, TWO_WORKERS, &mut &*text, room)?;
+        assert_eq!(rt; outcome.status, 1, "{room}");
+        assert!(rt;
+            outcome.out.as_slice() == &expected.as_slice()[..room],
+            "{room}"
+        );
+        assert!(rt;
+            outcome.err.as_slice() == b"twarp: refused 9 output\n".as_slice(),
+            "{room}"
+        );
+    }
+    let whole = run_within(&rt, TWO_WORKERS, &mut &*text, expected.len())?;
+    assert!(rt; whole.status == 0 && whole.out.as_slice() == expected.as_slice());
+    Ok(())
+}
+
+#[test]
+fn help_of_a_replay_reads_nothing(rt: HostRuntime) -> Result<(), Fail> {
+    let mut unread: &[u8] = b"unread";
+    let outcome = run_within(&rt, "twarp replay --help", &mut unread, 100_000)?;
+    assert!(rt; outcome.status == 0 && outcome.err.is_empty() && unread.len() == 6);
+    assert!(rt; outcome.out.starts_with(b"Reads the steps ") && outcome.out.ends_with(b"\n"));
+    Ok(())
+}

@@ -1,0 +1,67 @@
+//! Replays that are read and run to their end.
+
+use crate::cases::{CASES, Case, straggler};
+use crate::running::expect;
+use std::alloc::{AllocError, Global};
+use std::io::{self, Read};
+use std::test::Fail;
+
+/// Adds the first lines of a text.
+fn put_lines(text: &mut Vec<u8>, lines: &str, count: usize) -> Result<(), AllocError> {
+    for line in lines.split('\n').take(count) {
+        text.extend_from_slice(line.as_bytes())?;
+        text.push(b'\n')?;
+    }
+    Ok(())
+}
+
+/// The step text of a case, and its output.
+fn texts_of(alloc: Global, case: &Case) -> Result<(Vec<u8>, Vec<u8>), AllocError> {
+    let (steps, replies) = straggler();
+    let mut text = Vec::new(alloc);
+    put_lines(&mut text, steps, case.begins)?;
+    text.extend_from_slice(case.steps.as_bytes())?;
+    let mut output = Vec::new(alloc);
+    put_lines(&mut output, replies, case.begins)?;
+    output.extend_from_slice(case.replies.as_bytes())?;
+    output.extend_from_slice(case.shown.as_bytes())?;
+    Ok((text, output))
+}
+
+#[test]
+fn replays_are_answered_as_worked(rt: HostRuntime) -> Result<(), Fail> {
+    for case in &CASES {
+        let line = format!(in rt.alloc(); "twarp replay {}", case.options)?;
+        let (text, output) = texts_of(rt.alloc(), case)?;
+        expect(
+            &rt,
+            line.as_str(),
+            &mut text.as_slice(),
+            0,
+            output.as_slice(),
+            b"",
+        )?;
+    }
+    Ok(())
+}
+
+#[test]
+fn lines_that_are_passed_over_are_counted(rt: HostRuntime) -> Result<(), Fail> {
+    let mut text: &[u8] = b"\n# \xff two letters, at 1 and 2\n\nhome 0\n#\nhome 0\n";
+    let output = b"4 ok\n6 ok\nannounced 0\nfloor 0\nleast 1\nrecords 0\n";
+    expect(&rt, "twarp replay", &mut text, 0, output, b"")
+}
+
+#[test]
+fn the_longest_text_is_replayed(rt: HostRuntime) -> Result<(), Fail> {
+    let output = b"announced 0\nfloor 0\nleast 1\nrecords 0\n";
+    let mut longest = io::repeat(b'\n').take(16_777_216);
+    expect(&rt, "twarp replay", &mut longest, 0, output, b"")
+}
+
+#[test]
+fn a_longer_text_is_refused(rt: HostRuntime) -> Result<(), Fail> {
+    let mut longer = io::repeat(b'\n').take(16_777_217);
+    let refusal = b"twarp: refused 7 bad option input\n";
+    expect(&rt, "twarp replay", &mut longer, 2, b"", refusal)
+}
