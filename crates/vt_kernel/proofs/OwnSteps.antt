@@ -8,17 +8,18 @@ use Rattle.vt_key.specs.declared.fault.Fault.{Fault}
 use Rattle.vt_key.specs.declared.limits.TheConstants.{MAX_COUNT}
 use Rattle.vt_model.specs.declared.settings.Config.{Config}
 use Rattle.vt_model.specs.Handler.{Handlers}
-use Rattle.vt_model.specs.Simulation.{Simulation, simulation_of}
+use Rattle.vt_model.specs.Simulation.{Simulation, Triple, simulation_of}
 use Rattle.vt_steps.specs.World.{LogicalProcess, Part, process_at}
 use Rattle.vt_steps.specs.ProcessSteps.{ProcessEffect, execute_process}
 use Rattle.vt_steps.specs.PartSteps.{with_effect, at_process}
 use Rattle.vt_steps.specs.StandsFor.{StandsForProcess}
 use Rattle.vt_steps.proofs.Places.{get-put_same}
+use Rattle.vt_steps.proofs.MemoryLemmas.{is_where}
 use Rattle.vt_lp.specs.Held.{HeldProcess, process_memory, StandsFor as ProcessStandsFor}
 use Rattle.vt_lp.specs.Guards.{IsDone as ProcessIsDone, IsExecuteRefusal as ProcessIsExecuteRefusal, number_of}
 use Rattle.vt_kernel.specs.Held.{HeldWorker, StandsFor, AreProcesses}
 use Rattle.vt_kernel.specs.Local.{at_own}
-use Rattle.vt_kernel.specs.Guards.{IsDone, IsExecuteRefusal, NumberIs}
+use Rattle.vt_kernel.specs.Guards.{IsDone, AreWithinLimits, IsExecuteRefusal, NumberIs}
 use Rattle.vt_kernel.proofs.ProcessLemmas.{get-map_of, stands-at, process-at, stands-after}
 
 module _ {S P : Type 0} (sim : Simulation S P) (w : ℕ) where
@@ -71,6 +72,21 @@ module _ {S P K : Type 0} (handlers : Handlers S P K) where
         lp = lp;
         config = who.1;
       }
+
+  -- the counters of a part, by those of the worker that stands for it
+  pub within-limits : (held : HeldWorker S P K) (part : Part P) (p : ℕ) (q : HeldProcess S P K) → StandsFor handlers held part → IsFound held part p q
+      → q.triple.number ≤ MAX_COUNT → held.serial ≤ MAX_COUNT → AreWithinLimits (simulation_of handlers held.config) p part
+  within-limits held part p q h at few_sends few_made = record {
+    number = λ process there.
+        (let sim = simulation_of handlers held.config in
+        let one : Some at.process ≡ Some process = sym at.there ∙ there in
+        let same : at.process ≡ process = cc in
+        let is : number_of (simulation_of handlers q.config) q.lp at.process ≡ q.triple.number = ap (λ (t : Triple S). t.number) (is_where (simulation_of handlers q.config) q.lp (process_memory handlers q) at.process at.stands) in
+        let of : number_of (simulation_of handlers q.config) q.lp at.process ≡ number_of sim p process =
+        ap (λ (c : Config). number_of (simulation_of handlers c) q.lp at.process) at.config ∙ ap (λ k. number_of sim k at.process) at.lp ∙ ap (number_of sim p) same in
+        subst (λ n. n ≤ MAX_COUNT) (sym is ∙ of) few_sends);
+    serial = subst (λ n. n ≤ MAX_COUNT) (sym h.serial) few_made;
+  }
 
   -- the worker after a step at the process of p
   abbrev pub with_process : HeldWorker S P K → ℕ → HeldProcess S P K → List (Letter P) → ℕ → HeldWorker S P K

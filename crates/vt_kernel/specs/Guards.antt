@@ -38,6 +38,11 @@ module _ {S P : Type 0} (sim : Simulation S P) where
   NumberIs p part number =
       (process : LogicalProcess P) × (slice_get part.processes (p / sim.workers) ≡ Some process) × (number ≡ number_of sim p process)
 
+  -- in this part the send number of process p and the serial are within their limits
+  pub record AreWithinLimits (p : ℕ) (part : Part P) : Type 0 where
+    pub number : (process : LogicalProcess P) → slice_get part.processes (p / sim.workers) ≡ Some process → number_of sim p process ≤ MAX_COUNT
+    pub serial : part.serial ≤ MAX_COUNT
+
   -- why Execute of process p is refused: it is not lawful; or it is, and the send number or the serial would pass its limit;
   -- or neither would, and memory was refused
   abbrev pub IsExecuteRefusal : ℕ → Option (Part P) → Fault → Type 0

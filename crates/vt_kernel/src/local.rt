@@ -8,7 +8,7 @@ ghost use Rattle.vt_steps.specs.World.{Part};
 ghost use Rattle.vt_steps.specs.declared.step.Step.TheVariants as step;
 ghost use Rattle.vt_kernel.specs.Held.{StandsFor, ready_of, earliest_of, TellsLeast};
 ghost use Rattle.vt_kernel.specs.Local.{local_step};
-ghost use Rattle.vt_kernel.specs.Guards.{IsDone, IsExecuteRefusal};
+ghost use Rattle.vt_kernel.specs.Guards.{IsDone, AreWithinLimits, IsExecuteRefusal};
 
 use crate::kernel::Kernel;
 use std::alloc::Global;
@@ -25,6 +25,7 @@ impl<M: EventModel> Kernel<M> {
     /// memory was refused. After each all is as it was.
     pub fn execute(&mut self, alloc: Global, model: &M, lp: u32) -> Result<(), Fault>
         ensures done { (part : Part _) → StandsFor (M.handlers model.now) self.old part → IfOk result (λ done. IsDone (M.handlers model.now) self.new (local_step (simulation_of (M.handlers model.now) self.old.config) self.old.worker (step.Execute lp) part)) }
+        ensures counted { (part : Part _) → StandsFor (M.handlers model.now) self.new part → IfOk result (λ done. AreWithinLimits (simulation_of (M.handlers model.now) self.old.config) lp part) }
         ensures refused { (part : Part _) → StandsFor (M.handlers model.now) self.old part → IfErr result (λ fault. IsExecuteRefusal (simulation_of (M.handlers model.now) self.old.config) lp (local_step (simulation_of (M.handlers model.now) self.old.config) self.old.worker (step.Execute lp) part) fault) }
         ensures unchanged { (part : Part _) → StandsFor (M.handlers model.now) self.old part → IfErr result (λ fault. self.new ≡ self.old) }
         ensures same { (self.new.worker ≡ self.old.worker) × (self.new.config ≡ self.old.config) }

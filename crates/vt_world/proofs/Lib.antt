@@ -10,6 +10,7 @@ pub mod Places
 pub mod Refusals
 pub mod ReportLemmas
 pub mod LocalLemmas
+pub mod LimitLemmas
 pub mod CommitLemmas
 pub mod RunLemmas
 pub mod MakingLemmas

@@ -52,6 +52,19 @@ counted-ok (Some board) new h =
       | false ↦ λ k. absurd (let e : Err Exhausted ≡ Ok new = k in cc)
     ] h
 
+-- the rounds that the board counts are within their limit
+pub counted-few : (board : Option Board) (new : Board) → counted board ≡ Ok new → new.rounds ≤ MAX_COUNT
+counted-few None new h = absurd (let k : Err NotLawful ≡ Ok new = h in cc)
+counted-few (Some board) new h =
+    elim (nat_le board.rounds MAX_COUNT) as (λ b. nat_le board.rounds MAX_COUNT ≡ b → ((if b then Ok board else Err Exhausted) ≡ Ok new) → new.rounds ≤ MAX_COUNT) [
+      | true ↦ λ is k.
+          (let e : Ok board ≡ Ok new = k in
+          let same : board ≡ new = cc in
+          let few : board.rounds ≤ MAX_COUNT = grind (arith, nat_tests) in
+          subst (λ (b : Board). b.rounds ≤ MAX_COUNT) same few)
+      | false ↦ λ is k. absurd (let e : Err Exhausted ≡ Ok new = k in cc)
+    ] refl h
+
 pub counted-err : (board : Option Board) (fault : Fault) → counted board ≡ Err fault
     → ((board ≡ None) × (fault ≡ NotLawful)) ⊎ ((new : Board) × (board ≡ Some new) × (fault ≡ Exhausted) × (MAX_COUNT < new.rounds))
 counted-err None fault h = let k : Err NotLawful ≡ Err fault = h in let same : fault ≡ NotLawful = cc in inl (refl, same)

@@ -17,15 +17,15 @@ use Rattle.vt_steps.specs.declared.step.Step.TheVariants.{Close}
 use Rattle.vt_steps.specs.declared.step.Reply.{Reply}
 use Rattle.vt_steps.specs.declared.step.Reply.TheVariants.{Done}
 use Rattle.vt_steps.specs.World.{World, Board, Book, book_floor}
-use Rattle.vt_steps.specs.Next.{run, reached}
+use Rattle.vt_steps.specs.Next.{next, run, reached}
 use Rattle.vt_steps.proofs.Floors.{nothing-falls, reached-times}
-use Rattle.vt_steps.specs.StandsFor.{GoesOn}
+use Rattle.vt_steps.specs.StandsFor.{StandsFor, GoesOn}
 use Rattle.vt_steps.proofs.MemoryLemmas.{still_reached}
 use Rattle.vt_kernel.specs.Held.{HeldWorker, AllOwnMail}
 use Rattle.vt_steps.specs.BookSteps.{may_close, closed_book}
 use Rattle.vt_book.specs.Books.{RunBook, refusal_where, refusal_of_close}
 use Rattle.vt_world.specs.Held.{HeldWorld, world_memory, StandsForWorld, AreWorkers, AreInboxes, IsWorldInside, IsReached}
-use Rattle.vt_world.specs.Calls.{IsStepRefusal, IsStepOf, floor_held}
+use Rattle.vt_world.specs.Calls.{PassesLimit, IsStepRefusal, IsStepOf, floor_held}
 use Rattle.vt_world.proofs.ReachedLemmas.{inside_view}
 use Rattle.vt_world.proofs.ClosedLemmas.{done-closed, refused-closed, book-stays}
 use Rattle.vt_world.proofs.WorldSteps.{close-done, close-refused, close-closed}
@@ -51,12 +51,15 @@ module _ {M S P K : Type 0} (meaning : M → Handlers S P K) {held seen : HeldWo
   pub step-done : {board_end book_end : Time} → IsWorldInside (meaning held.model) held board_end book_end → IsLawful (simulation_of (meaning held.model) held.config)
       → (new : HeldWorld M S P K) (step : Step) (reply : Reply)
       → GoesOn (simulation_of (meaning held.model) held.config) step (Ok reply) (world_memory (meaning held.model) held) (world_memory (meaning held.model) new)
-      → new.model ≡ held.model → new.config ≡ held.config → IsStepOf (meaning seen.model) step seen new (Ok reply)
-  step-done inside lawful new step reply goes same_model same_config =
+      → new.model ≡ held.model → new.config ≡ held.config
+      → ((world : World P) → StandsFor (simulation_of (meaning held.model) held.config) (world_memory (meaning held.model) new) world → PassesLimit (simulation_of (meaning held.model) held.config) step world → ⊥)
+      → IsStepOf (meaning seen.model) step seen new (Ok reply)
+  step-done inside lawful new step reply goes same_model same_config few =
       let up = ∥∥₁_elim inside.is_reached (Prim.hlevel props) (rises (meaning held.model) held new step (Ok reply) lawful same_config goes) in
       subst (λ (v : HeldWorld M S P K). IsStepOf (meaning v.model) step v new (Ok reply)) seen_is
       (record {
         done = goes;
+        within = λ world h. few (next (simulation_of (meaning held.model) held.config) world step).world (goes world h).1;
         refused = λ world h. tt;
         unchanged = tt;
         same_model = same_model;
@@ -79,6 +82,7 @@ module _ {M S P K : Type 0} (meaning : M → Handlers S P K) {held seen : HeldWo
       subst (λ (v : HeldWorld M S P K). IsStepOf (meaning v.model) step v new (Err e)) seen_is
       (record {
         done = tt;
+        within = λ world h. tt;
         refused = λ world h. subst (IsStepRefusal (simulation_of (meaning held.model) held.config) step world) (sym is) (why world h);
         unchanged = same;
         same_model = ap (λ (v : HeldWorld M S P K). v.model) same;

@@ -70,11 +70,13 @@ pub record LeavesClosedBook {M S P K : Type 0} (step : Step) (old new : HeldWorl
   pub refused : cell_of step ≡ Some book_cell → result ≡ Err Closed
   pub stays : new.book ≡ old.book
 
--- what a call that does a step of a world answers and leaves: where it is done, it was lawful and answered so, and the world
--- goes on by it; where it is refused, it says why, and all is as it was. The model and the config stay, neither the announced
--- time nor the book's floor falls, and a closed book stays closed
+-- what a call that does a step of a world answers and leaves: where it is done, it was lawful and answered so, the world goes
+-- on by it, and no counter that it raises is past its limit; where it is refused, it says why, and all is as it was. The model
+-- and the config stay, neither the announced time nor the book's floor falls, and a closed book stays closed
 pub record IsStepOf {M S P K : Type 0} (handlers : Handlers S P K) (step : Step) (old new : HeldWorld M S P K) (result : Result Reply Fault) : Type 0 where
   pub done : IfOk result (λ reply. GoesOn (simulation_of handlers old.config) step (Ok reply) (world_memory handlers old) (world_memory handlers new))
+  pub within : (world : World P) → StandsForWorld handlers old world
+      → IfOk result (λ reply. PassesLimit (simulation_of handlers old.config) step (next (simulation_of handlers old.config) world step).world → ⊥)
   pub refused : (world : World P) → StandsForWorld handlers old world → IfErr result (λ fault. IsStepRefusal (simulation_of handlers old.config) step world fault)
   pub unchanged : IfErr result (λ fault. new ≡ old)
   pub same_model : new.model ≡ old.model

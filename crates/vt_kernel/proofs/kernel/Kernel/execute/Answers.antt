@@ -7,13 +7,14 @@ use Rattle.vt_model.specs.Simulation.{simulation_of}
 use Rattle.vt_steps.specs.World.{process_at}
 use Rattle.vt_steps.specs.ProcessSteps.{execute_process, undo_process}
 use Rattle.vt_steps.specs.declared.step.Step.TheVariants as step
+use Rattle.vt_steps.proofs.Places.{get-put_same}
 use Rattle.vt_lp.specs.Held.{HeldProcess, AllWithinRun}
 use Rattle.vt_lp.specs.Guards.{IsDone as ProcessIsDone, IsExecuteRefusal as ProcessRefusal}
 use Rattle.vt_kernel.specs.Held.{HeldWorker, IsWorkerInside, StandsFor, TellsLeast, ready_of, earliest_of}
 use Rattle.vt_kernel.specs.Local.{local_step}
-use Rattle.vt_kernel.specs.Guards.{IsDone, IsExecuteRefusal}
-use Rattle.vt_kernel.proofs.ProcessLemmas.{process-at}
-use Rattle.vt_kernel.proofs.OwnSteps.{found, same-execute, refusal-at, own-step}
+use Rattle.vt_kernel.specs.Guards.{IsDone, AreWithinLimits, IsExecuteRefusal}
+use Rattle.vt_kernel.proofs.ProcessLemmas.{process-at, processes-changed}
+use Rattle.vt_kernel.proofs.OwnSteps.{found, within-limits, same-execute, refusal-at, own-step}
 use Rattle.vt_kernel.proofs.LocalLemmas.{worker_view, index-get, place-within, in-entries, inside-changed, unknown-refused, changed-done, changed-refused, plain-done, found-again, written-same, entered, if_ok-more, if_err-more, either-way, at-found-done, execute-step, both-errors}
 use Rattle.vt_kernel.proofs.kernel.Kernel.execute.Goals as goal
 
@@ -88,6 +89,25 @@ returns-clause-done g c part s =
     (if_ok-more c.execute-result.result (λ _ done. at-found-done handlers held c.self.invariant.own_processes part h c.args.lp c.in-Some.place old new c.execute-result.new.outbox c.execute-result.new.serial
     (execute-step handlers held part c.args.lp) own.0 own.1 f same.0 same.1
     (subst (λ x. ProcessIsDone handlers new x i.outbox c.execute-result.new.outbox i.serial c.execute-result.new.serial) one done)) (c.execute-result.ensures.done f.process f.stands))
+
+pub returns-clause-counted : goal.returns-clause-counted
+returns-clause-counted g c part s =
+    let i = c.self.inside in
+    let handlers = g.M.Model.handlers c.args.model.now in
+    let own = c.in-Some.ensures.own in
+    let less = place-within c.self.invariant c.args.lp c.in-Some.place i.config.some_worker own.0 own.1 own.2 in
+    let old = c.index_mut.result.now in
+    let new = c.execute-result.new.self in
+    let at = index-get i.processes.items c.in-Some.place old less (sym c.index_mut.ensures.value) in
+    let same = c.execute-result.ensures.same in
+    let who = process-at i.config i.worker 0 c.in-Some.place i.processes.items old c.self.invariant.own_processes at in
+    let processes = slice_set i.processes.items c.in-Some.place new in
+    let held = worker_view i.worker i.config processes c.execute-result.new.outbox i.arrived.items i.colour i.sent i.got i.red_minimum i.floor c.execute-result.new.serial in
+    let are = processes-changed i.config i.worker 0 c.in-Some.place i.processes.items new c.self.invariant.own_processes (same.0 ∙ who.0) (same.1 ∙ who.1) in
+    let there : slice_get processes (c.args.lp / i.config.workers) ≡ Some new = subst (λ k. slice_get processes k ≡ Some new) own.0 (get-put_same i.processes.items c.in-Some.place old new at) in
+    let f = found handlers held part c.args.lp new s are own.1 there in
+    subst (λ (v : HeldWorker _ _ _). IfOk c.execute-result.result (λ _. AreWithinLimits (simulation_of handlers v.config) c.args.lp part)) c.self.view_is
+    (if_ok-more c.execute-result.result (λ _ counted. within-limits handlers held part c.args.lp new s f counted.0 counted.1) c.execute-result.ensures.counted)
 
 pub returns-clause-refused : goal.returns-clause-refused
 returns-clause-refused g c part s =

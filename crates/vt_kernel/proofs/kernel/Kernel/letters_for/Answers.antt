@@ -64,6 +64,13 @@ returns-clause-sent g c =
       serial = k.serial;
     }) ∙ ap after c.self.view_is
 
+pub returns-clause-counted : goal.returns-clause-counted
+returns-clause-counted g c =
+    let k = c.self.inside in
+    let count = c.in_ok-count.ensures.count in
+    let few : count_of k.sent k.colour + c.in_ok-count.count ≤ MAX_COUNT = omega (arith, c.room-room.ensures, count.1) in
+    rw c.raise.ensures (counted-raised k.sent k.colour c.in_ok-count.count c.self.invariant.few_sent few)
+
 pub returns-clause-own : goal.returns-clause-own
 returns-clause-own g c =
     let k = c.self.inside in

@@ -76,7 +76,7 @@ returns g c =
     let at : slice_get i.kernels.items w ≡ Some k = slice_get_read i.kernels.items (length i.kernels.items) w k refl below c.index_mut.ensures.value in
     let is = who H held c.self.invariant.own_workers w k at in
     step-done (g.M.Model.handlers) c.self.view_is c.self.invariant (lawful_of (g.M.Model.handlers m) i.config (g.met.M.Model.start_within m) (g.met.M.Model.forward_within m)) (inside_view m i.config (slice_set i.kernels.items w c.accept.new.self) i.inboxes.items i.board.board i.book.book) (Accept c.args.w c.args.i) Done
-    (local-done H held w k c.accept.new.self (Accept c.args.w c.args.i) c.self.invariant.own_workers at c.accept.ensures.same.0 c.accept.ensures.same.1 refl (λ part s. subst (λ v. IsDone H c.accept.new.self (local_step (simulation_of H k.config) k.worker (Accept v c.args.i) part)) is.0 (c.in_ok-accept.ensures.done H part s))) refl refl
+    (local-done H held w k c.accept.new.self (Accept c.args.w c.args.i) c.self.invariant.own_workers at c.accept.ensures.same.0 c.accept.ensures.same.1 refl (λ part s. subst (λ v. IsDone H c.accept.new.self (local_step (simulation_of H k.config) k.worker (Accept v c.args.i) part)) is.0 (c.in_ok-accept.ensures.done H part s))) refl refl (λ world h past. past)
 
 pub returns-then-w-self : goal.returns-then-w-self
 returns-then-w-self g c =

@@ -72,4 +72,4 @@ returns g c =
     let at : slice_get i.kernels.items w ≡ Some k = slice_get_read i.kernels.items (length i.kernels.items) w k refl below c.index_mut.ensures.value in
     let own : c.args.lp % i.config.workers ≡ w = sym c.owner-owner.ensures.value in
     step-done (g.M.Model.handlers) c.self.view_is c.self.invariant (lawful_of (g.M.Model.handlers m) i.config (g.met.M.Model.start_within m) (g.met.M.Model.forward_within m)) (inside_view m i.config (slice_set i.kernels.items w c.cancel.new.self) i.inboxes.items i.board.board i.book.book) (Cancel c.args.lp c.args.stamp) Done
-    (local-done H held w k c.cancel.new.self (Cancel c.args.lp c.args.stamp) c.self.invariant.own_workers at c.cancel.ensures.same.0 c.cancel.ensures.same.1 own (λ part s. c.in_ok-cancel.ensures.done H part s)) refl refl
+    (local-done H held w k c.cancel.new.self (Cancel c.args.lp c.args.stamp) c.self.invariant.own_workers at c.cancel.ensures.same.0 c.cancel.ensures.same.1 own (λ part s. c.in_ok-cancel.ensures.done H part s)) refl refl (λ world h past. past)

@@ -38,4 +38,4 @@ returns g c =
     let i = c.self.inside in
     let m = i.model.now in
     let closes = close-closes (g.M.Model.handlers m) m i.config i.kernels.items i.inboxes.items i.board.board i.book c.self.invariant.same_book_end c.self.invariant.own_workers c.close.new.self c.close.result tt c.in_ok-close.field-0 c.in_ok-close.was c.close.ensures in
-    step-done (g.M.Model.handlers) c.self.view_is c.self.invariant (lawful_of (g.M.Model.handlers m) i.config (g.met.M.Model.start_within m) (g.met.M.Model.forward_within m)) (inside_view m i.config i.kernels.items i.inboxes.items i.board.board c.close.new.self.book) Close Done closes.1 refl refl
+    step-done (g.M.Model.handlers) c.self.view_is c.self.invariant (lawful_of (g.M.Model.handlers m) i.config (g.met.M.Model.start_within m) (g.met.M.Model.forward_within m)) (inside_view m i.config i.kernels.items i.inboxes.items i.board.board c.close.new.self.book) Close Done closes.1 refl refl (λ world h past. past)

@@ -152,4 +152,4 @@ returns g c =
     let plain = commit-done H held c.self.invariant.own_workers c.args.w k c.fossil.new.self rows at is_open may same_worker same_config (λ part s. (rows_are part s, c.fossil.ensures.stands H part s)) in
     let goes = subst (λ (b : RunBook). GoesOn (simulation_of H i.config) (Commit c.args.w) (Ok Done) (world_memory H held)
     (world_memory H (inside_view m i.config (slice_set i.kernels.items c.args.w c.fossil.new.self) i.inboxes.items i.board.board b.book))) (sym book) plain in
-    step-done (g.M.Model.handlers) c.self.view_is c.self.invariant lawful (inside_view m i.config (slice_set i.kernels.items c.args.w c.fossil.new.self) i.inboxes.items i.board.board c.hand.new.self.book) (Commit c.args.w) Done goes refl refl
+    step-done (g.M.Model.handlers) c.self.view_is c.self.invariant lawful (inside_view m i.config (slice_set i.kernels.items c.args.w c.fossil.new.self) i.inboxes.items i.board.board c.hand.new.self.book) (Commit c.args.w) Done goes refl refl (λ world h past. past)

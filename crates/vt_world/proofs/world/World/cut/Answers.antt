@@ -13,8 +13,9 @@ use Rattle.vt_model.proofs.LawLemmas.{lawful_of}
 use Rattle.vt_world.proofs.ReachedLemmas.{inside_view}
 use Rattle.vt_world.proofs.StepLemmas.{step-done, step-refused, step-unlawful, inside-same}
 use Rattle.vt_world.proofs.Places.{inside-worker}
-use Rattle.vt_world.proofs.Refusals.{cut-nobody, cut-why, counted-ok}
+use Rattle.vt_world.proofs.Refusals.{cut-nobody, cut-why, counted-ok, counted-few}
 use Rattle.vt_world.proofs.WorldSteps.{cut-done}
+use Rattle.vt_world.proofs.LimitLemmas.{cut-within}
 use Rattle.vt_world.proofs.world.World.cut.Goals as goal
 
 pub returns-then-w-self : goal.returns-then-w-self
@@ -81,3 +82,5 @@ returns g c =
     step-done (g.M.Model.handlers) c.self.view_is c.self.invariant (lawful_of (g.M.Model.handlers m) i.config (g.met.M.Model.start_within m) (g.met.M.Model.forward_within m)) (inside_view m i.config (slice_set i.kernels.items c.args.w c.turn.new.self) i.inboxes.items c.cut.new.self.board i.book.book) (Cut c.args.w) Done
     (cut-done H held c.self.invariant.own_workers c.args.w k c.turn.new.self c.cut.new.self.board at cuts same_worker same_config
     (λ part s. subst (λ (t : Time). StandsFor H c.turn.new.self (part_after_cut k.config.end t part)) c.in_ok-announced.ensures.announced (c.turn.ensures.stands H part s))) refl refl
+    (cut-within H (inside_view m i.config (slice_set i.kernels.items c.args.w c.turn.new.self) i.inboxes.items c.cut.new.self.board i.book.book) c.args.w
+    (counted-few (cut_board i.board.end c.args.w i.board.board) c.cut.new.self.board c.in_ok-announced.ensures.cut))

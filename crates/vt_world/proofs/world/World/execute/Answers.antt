@@ -3,17 +3,20 @@ use Rattle.std.proofs.lemmas.Option.{slice_get_read}
 use Rattle.std.proofs.Math.Logic.{∥∥₁_elim}
 use Rattle.std.proofs.Props.{props}
 use base.Stored.{Coded-set}
+use Rattle.vt_model.specs.declared.settings.Config.{Config}
 use Rattle.vt_model.specs.Simulation.{simulation_of}
 use Rattle.vt_steps.specs.Next.{reached}
 use Rattle.vt_steps.specs.declared.step.Step.TheVariants.{Execute}
 use Rattle.vt_steps.specs.declared.step.Reply.TheVariants.{Done}
 use Rattle.vt_kernel.specs.Held.{HeldWorker}
+use Rattle.vt_kernel.specs.Guards.{AreWithinLimits}
 use Rattle.vt_model.proofs.LawLemmas.{lawful_of}
 use Rattle.vt_world.proofs.ReachedLemmas.{inside_view}
 use Rattle.vt_world.proofs.StepLemmas.{step-done, step-refused, step-unlawful, inside-same}
-use Rattle.vt_world.proofs.Places.{put-same}
+use Rattle.vt_world.proofs.Places.{put-same, put-there, are-workers}
 use Rattle.vt_world.proofs.WorldLemmas.{local-done, found}
 use Rattle.vt_world.proofs.LocalLemmas.{execute-why, inside-local}
+use Rattle.vt_world.proofs.LimitLemmas.{execute-within}
 use Rattle.vt_world.proofs.world.World.execute.Goals as goal
 
 pub invariant_of-self : goal.invariant_of-self
@@ -81,5 +84,9 @@ returns g c =
     let below : w < length i.kernels.items = omega (arith, many, c.owner-owner.ensures.known) in
     let at : slice_get i.kernels.items w ≡ Some k = slice_get_read i.kernels.items (length i.kernels.items) w k refl below c.index_mut.ensures.value in
     let own : c.args.lp % i.config.workers ≡ w = sym c.owner-owner.ensures.value in
+    let new = c.execute.new.self in
+    let same = c.execute.ensures.same in
     step-done (g.M.Model.handlers) c.self.view_is c.self.invariant (lawful_of (g.M.Model.handlers m) i.config (g.met.M.Model.start_within m) (g.met.M.Model.forward_within m)) (inside_view m i.config (slice_set i.kernels.items w c.execute.new.self) i.inboxes.items i.board.board i.book.book) (Execute c.args.lp) Done
     (local-done H held w k c.execute.new.self (Execute c.args.lp) c.self.invariant.own_workers at c.execute.ensures.same.0 c.execute.ensures.same.1 own (λ part s. c.in_ok-execute.ensures.done part s)) refl refl
+    (execute-within H (inside_view m i.config (slice_set i.kernels.items w new) i.inboxes.items i.board.board i.book.book) (are-workers H held c.self.invariant w k new at same.0 same.1) w new (put-there i.kernels.items w k new at)
+    c.args.lp own (λ part s. subst (λ (f : Config). AreWithinLimits (simulation_of H f) c.args.lp part) (sym same.1) (c.in_ok-execute.ensures.counted part s)))

@@ -15,9 +15,10 @@ use Rattle.vt_world.specs.Held.{world_memory}
 use Rattle.vt_model.proofs.LawLemmas.{lawful_of}
 use Rattle.vt_world.proofs.ReachedLemmas.{inside_view}
 use Rattle.vt_world.proofs.StepLemmas.{step-done, step-refused, step-unlawful, inside-same}
-use Rattle.vt_world.proofs.Places.{inside-mail, inbox-at, put-same, put-twice}
+use Rattle.vt_world.proofs.Places.{inside-mail, inbox-at, put-same, put-twice, put-there, are-workers}
 use Rattle.vt_world.proofs.Refusals.{fetch-why}
 use Rattle.vt_world.proofs.WorldSteps.{who, fetch-done, fetch-nobody}
+use Rattle.vt_world.proofs.LimitLemmas.{fetch-within}
 use Rattle.vt_world.proofs.world.World.fetch.Goals as goal
 
 pub returns-then-w-self : goal.returns-then-w-self
@@ -139,7 +140,10 @@ returns g c =
     let same_config = ap (λ (x : HeldWorker _ _ _). x.config) c.in_default.ensures.taken in
     let goes = fetch-done H held c.self.invariant.own_workers c.args.w k c.take_in.new.self box at here same_worker same_config
     (λ part s. subst (λ (ms : List (Mail _)). (is_empty part.arrived ≡ true) × StandsFor H c.take_in.new.self (part_after_fetch ms part)) mail (c.in_default.ensures.done H part s)) in
+    let new = c.take_in.new.self in
     step-done (g.M.Model.handlers) c.self.view_is c.self.invariant (lawful_of (g.M.Model.handlers m) i.config (g.met.M.Model.start_within m) (g.met.M.Model.forward_within m))
     (inside_view m i.config (slice_set i.kernels.items c.args.w c.take_in.new.self) (slice_set i.inboxes.items c.args.w c.replace-mail.new.dest.items) i.board.board i.book.book) (Fetch c.args.w) Done
     (subst (λ (b : List (Mail _)). GoesOn (simulation_of H i.config) (Fetch c.args.w) (Ok Done) (world_memory H held)
     (world_memory H (inside_view m i.config (slice_set i.kernels.items c.args.w c.take_in.new.self) (slice_set i.inboxes.items c.args.w b) i.board.board i.book.book))) (sym none) goes) refl refl
+    (fetch-within H (inside_view m i.config (slice_set i.kernels.items c.args.w new) (slice_set i.inboxes.items c.args.w c.replace-mail.new.dest.items) i.board.board i.book.book)
+    (are-workers H held c.self.invariant c.args.w k new at same_worker same_config) c.args.w new (put-there i.kernels.items c.args.w k new at) c.in_default.ensures.lawful.1)

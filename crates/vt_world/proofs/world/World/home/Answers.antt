@@ -77,7 +77,7 @@ returns g c =
     let at : slice_get i.kernels.items w ≡ Some k = slice_get_read i.kernels.items (length i.kernels.items) w k refl below c.index_mut.ensures.value in
     let is = who H held c.self.invariant.own_workers w k at in
     step-done (g.M.Model.handlers) c.self.view_is c.self.invariant (lawful_of (g.M.Model.handlers m) i.config (g.met.M.Model.start_within m) (g.met.M.Model.forward_within m)) (inside_view m i.config (slice_set i.kernels.items w c.home.new.self) i.inboxes.items i.board.board i.book.book) (Home c.args.w) Done
-    (local-done H held w k c.home.new.self (Home c.args.w) c.self.invariant.own_workers at c.home.ensures.same.0 c.home.ensures.same.1 refl (λ part s. subst (λ v. IsDone H c.home.new.self (local_step (simulation_of H k.config) k.worker (Home v) part)) is.0 (c.in_ok-home.ensures.done H part s))) refl refl
+    (local-done H held w k c.home.new.self (Home c.args.w) c.self.invariant.own_workers at c.home.ensures.same.0 c.home.ensures.same.1 refl (λ part s. subst (λ v. IsDone H c.home.new.self (local_step (simulation_of H k.config) k.worker (Home v) part)) is.0 (c.in_ok-home.ensures.done H part s))) refl refl (λ world h past. past)
 
 pub returns-then-w-self : goal.returns-then-w-self
 returns-then-w-self g c =

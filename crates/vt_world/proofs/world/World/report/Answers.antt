@@ -117,4 +117,4 @@ returns g c =
     let goes = report-taken H held c.self.invariant.own_workers c.args.w k c.set_floor.new.self sent got least c.report.new.self.board c.reply_of.result at same_worker same_config takes board
     (c.reply_of.ensures ∙ c.in_ok-report.ensures.answer) values
     (λ part s. subst (λ (t : Time). StandsFor H c.set_floor.new.self (record part { floor = t })) c.announced.ensures.announced (c.set_floor.ensures.stands H part s)) in
-    step-done (g.M.Model.handlers) c.self.view_is c.self.invariant (lawful_of (g.M.Model.handlers m) i.config (g.met.M.Model.start_within m) (g.met.M.Model.forward_within m)) (inside_view m i.config (slice_set i.kernels.items c.args.w c.set_floor.new.self) i.inboxes.items c.report.new.self.board i.book.book) (Report c.args.w) c.reply_of.result goes refl refl
+    step-done (g.M.Model.handlers) c.self.view_is c.self.invariant (lawful_of (g.M.Model.handlers m) i.config (g.met.M.Model.start_within m) (g.met.M.Model.forward_within m)) (inside_view m i.config (slice_set i.kernels.items c.args.w c.set_floor.new.self) i.inboxes.items c.report.new.self.board i.book.book) (Report c.args.w) c.reply_of.result goes refl refl (λ world h past. past)

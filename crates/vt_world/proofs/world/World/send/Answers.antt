@@ -15,9 +15,10 @@ use Rattle.vt_kernel.specs.Guards.{is_for_worker, mailed}
 use Rattle.vt_model.proofs.LawLemmas.{lawful_of}
 use Rattle.vt_world.proofs.ReachedLemmas.{inside_view}
 use Rattle.vt_world.proofs.StepLemmas.{step-done, step-refused, step-unlawful, inside-same}
-use Rattle.vt_world.proofs.Places.{inside-mail, inbox-at, put-same}
+use Rattle.vt_world.proofs.Places.{inside-mail, inbox-at, put-same, put-there, are-workers}
 use Rattle.vt_world.proofs.Refusals.{send-why, send-nowhere}
 use Rattle.vt_world.proofs.WorldSteps.{who, send-done, send-nobody}
+use Rattle.vt_world.proofs.LimitLemmas.{send-within}
 use Rattle.vt_world.proofs.world.World.send.Goals.{then-w-self-via-then-w-self, then-w-self-via-else-w-self+then-v-self}
 use Rattle.vt_world.proofs.world.World.send.Goals as goal
 
@@ -129,5 +130,8 @@ returns g c =
     let goes = send-done H held c.self.invariant.own_workers c.args.w c.args.v k c.letters_for.new.self box c.letters_for.new.mail.items at here same_worker same_config
     (λ part s. subst (λ (b : List (Mail _)). (may_send (simulation_of H k.config) k.worker c.args.v part ≡ true) × StandsFor H c.letters_for.new.self (part_after_send (simulation_of H k.config) c.args.v part)
     × (c.letters_for.new.mail.items ≡ b ++ mail_of_send (simulation_of H k.config) c.args.v part)) c.behind-self.view_is (c.in_ok-letters_for.ensures.done H part s)) in
+    let new = c.letters_for.new.self in
     step-done (g.M.Model.handlers) c.self.view_is c.self.invariant (lawful_of (g.M.Model.handlers m) i.config (g.met.M.Model.start_within m) (g.met.M.Model.forward_within m))
     (inside_view m i.config (slice_set i.kernels.items c.args.w c.letters_for.new.self) (slice_set i.inboxes.items c.args.v c.letters_for.new.mail.items) i.board.board i.book.book) (Send c.args.w c.args.v) Done goes refl refl
+    (send-within H (inside_view m i.config (slice_set i.kernels.items c.args.w new) (slice_set i.inboxes.items c.args.v c.letters_for.new.mail.items) i.board.board i.book.book)
+    (are-workers H held c.self.invariant c.args.w k new at same_worker same_config) c.args.w new (put-there i.kernels.items c.args.w k new at) c.args.v c.in_ok-letters_for.ensures.counted)
