@@ -1,11 +1,13 @@
 //! A worker with several processes, and with several other workers.
 
-use crate::told::is_mail;
+use crate::told::{LetterTold, is_mail};
+use std::alloc::AllocGlobal;
+use std::process::Abort;
 use std::rt::{self, HostRuntime};
 use vt_kernel::Kernel;
-use vt_key::{Colour, Fault, Sign, Stamp};
+use vt_key::{Colour, Fault, Mail, Sign, Stamp, Time};
 use vt_model::Config;
-use vt_models::Hop;
+use vt_models::{Hop, Token};
 
 #[test]
 fn the_least_event_is_next(rt: HostRuntime) {
@@ -30,29 +32,50 @@ fn the_least_event_is_next(rt: HostRuntime) {
     assert_eq!(rt; (worker.outbox_len(), worker.serial()), (3, 6));
 }
 
+// The worker must neither know process `p` nor do anything at it.
+fn ignores(rt: &(impl Abort + AllocGlobal), worker: &mut Kernel<Hop>, model: &Hop, p: u32) {
+    let stamp = Stamp {
+        worker: 0,
+        serial: 0,
+    };
+    assert_eq!(rt; worker.execute(rt.alloc(), model, p), Err(Fault::NotLawful));
+    assert_eq!(rt; worker.undo(model, p), Err(Fault::NotLawful));
+    assert_eq!(rt; worker.cancel(p, stamp), Err(Fault::NotLawful));
+    worker.settle(model, p);
+}
+
+fn does_not_know(rt: &impl Abort, worker: &Kernel<Hop>, p: u32) {
+    assert!(rt;
+        worker.state(p).is_none() && worker.number(p).is_none() && worker.place(p).is_none()
+    );
+    assert!(rt; worker.pending_len(p).is_none() && worker.waiting_len(p).is_none());
+}
+
 #[test]
 fn a_process_of_another_worker_is_not_touched(rt: HostRuntime) {
     let model = Hop::new(1, 1, 1).expect(&rt, "options");
     let config = Config::new(2, 2, 10, 0).expect(&rt, "config");
     let mut worker = Kernel::new(rt.alloc(), &model, config, 1).expect(&rt, "memory");
-    let stamp = Stamp {
-        worker: 0,
-        serial: 0,
-    };
     for p in [0, 2, 3] {
-        assert!(rt; worker.state(p).is_none() && worker.number(p).is_none());
-        assert!(rt; worker.place(p).is_none());
-        assert!(rt; worker.pending_len(p).is_none() && worker.waiting_len(p).is_none());
-        assert_eq!(rt;
-            worker.execute(rt.alloc(), &model, p),
-            Err(Fault::NotLawful)
-        );
-        assert_eq!(rt; worker.undo(&model, p), Err(Fault::NotLawful));
-        assert_eq!(rt; worker.cancel(p, stamp), Err(Fault::NotLawful));
-        worker.settle(&model, p);
+        does_not_know(&rt, &worker, p);
+        ignores(&rt, &mut worker, &model, p);
     }
     assert_eq!(rt; (worker.number(1), worker.place(1)), (Some(1), Some(0)));
     assert_eq!(rt; (worker.outbox_len(), worker.serial()), (1, 1));
+}
+
+// The letters for worker `v` must leave, as White mail behind what `mail` has; then `mail` must be this, and the red minimum.
+fn sends(
+    rt: &impl Abort,
+    worker: &mut Kernel<Hop>,
+    v: u32,
+    mail: &mut Vec<Mail<Token>>,
+    want: &[LetterTold],
+    red_minimum: Time,
+) {
+    assert_eq!(rt; worker.letters_for(v, mail), Ok(()));
+    assert!(rt; is_mail(mail, Colour::White, want));
+    assert_eq!(rt; worker.red_minimum(), red_minimum);
 }
 
 #[test]
@@ -67,15 +90,10 @@ fn only_letters_for_that_worker_leave(rt: HostRuntime) {
     }
     let mut mail = Vec::new(rt.alloc());
     assert_eq!(rt; worker.letters_for(0, &mut mail), Err(Fault::NotLawful));
-    assert_eq!(rt; worker.letters_for(1, &mut mail), Ok(()));
-    assert!(rt; is_mail(&mail, Colour::White, &[(Sign::Plus, (5, 3, 1), (0, 3))]));
-    assert_eq!(rt; (worker.outbox_len(), worker.red_minimum()), (1, 5));
-    assert_eq!(rt; worker.letters_for(2, &mut mail), Ok(()));
-    let both = [
-        (Sign::Plus, (5, 3, 1), (0, 3)),
-        (Sign::Plus, (2, 0, 1), (0, 2)),
-    ];
-    assert!(rt; is_mail(&mail, Colour::White, &both));
-    assert_eq!(rt; (worker.outbox_len(), worker.red_minimum()), (0, 2));
-    assert_eq!(rt; worker.sent(Colour::White), 2);
+    let from_3 = (Sign::Plus, (5, 3, 1), (0, 3));
+    let from_0 = (Sign::Plus, (2, 0, 1), (0, 2));
+    sends(&rt, &mut worker, 1, &mut mail, &[from_3], 5);
+    assert_eq!(rt; worker.outbox_len(), 1);
+    sends(&rt, &mut worker, 2, &mut mail, &[from_3, from_0], 2);
+    assert_eq!(rt; (worker.outbox_len(), worker.sent(Colour::White)), (0, 2));
 }

@@ -3,12 +3,12 @@
 ghost use Rattle.std.specs.Prelude.{◌≡◌};
 ghost use Rattle.vt_kernel.specs.Held.{AllOwnMail};
 
-use crate::told::{RecordTold, are_rows};
+use crate::told::{LetterTold, RecordTold, are_rows, is_mail};
 use std::alloc::AllocGlobal;
 use std::process::Abort;
 use std::{mem, rt};
 use vt_kernel::Kernel;
-use vt_key::{Fault, Mail, Stamp};
+use vt_key::{Colour, Fault, Mail, Sign, Stamp, Time};
 use vt_model::Config;
 use vt_models::{Hop, Token};
 use vt_steps::Step;
@@ -94,12 +94,12 @@ impl Worker {
     }
 
     /// The worker's part of a cut.
-    pub(crate) fn turn(&mut self, announced: u64) {
+    pub(crate) fn turn(&mut self, announced: Time) {
         self.kernel.turn(announced);
     }
 
     /// The worker may commit below this time.
-    pub(crate) fn set_floor(&mut self, floor: u64) {
+    pub(crate) fn set_floor(&mut self, floor: Time) {
         self.kernel.set_floor(floor);
     }
 
@@ -117,10 +117,60 @@ impl Worker {
         Some((state, number, pending, waiting))
     }
 
-    /// Whether the worker would commit exactly these records, in this order.
-    pub(crate) fn commits(&self, rt: &(impl Abort + AllocGlobal), wanted: &[RecordTold]) -> bool {
+    /// Its own process must be so.
+    pub(crate) fn shows(&self, rt: &impl Abort, want: ProcessTold) {
+        assert_eq!(rt; self.process(self.number), Some(want));
+    }
+
+    /// This process must be the next to execute.
+    pub(crate) fn chooses(&self, rt: &impl Abort, want: Option<u32>) {
+        assert_eq!(rt; self.kernel.next(), want);
+    }
+
+    /// So many letters must be in the outbox, and so many have arrived.
+    pub(crate) fn holds(&self, rt: &impl Abort, outbox: usize, arrived: usize) {
+        assert_eq!(rt;
+            (self.kernel.outbox_len(), self.kernel.arrived_len()),
+            (outbox, arrived)
+        );
+    }
+
+    /// It must have sent and got so much mail of this colour.
+    pub(crate) fn counts(&self, rt: &impl Abort, colour: Colour, sent: u64, got: u64) {
+        assert_eq!(rt;
+            (self.kernel.sent(colour), self.kernel.got(colour)),
+            (sent, got)
+        );
+    }
+
+    /// It must have this colour, red minimum and floor.
+    pub(crate) fn has_cut(&self, rt: &impl Abort, colour: Colour, red_minimum: Time, floor: Time) {
+        let kernel = &self.kernel;
+        assert_eq!(rt;
+            (kernel.colour(), kernel.red_minimum(), kernel.floor()),
+            (colour, red_minimum, floor)
+        );
+    }
+
+    /// It must report so.
+    pub(crate) fn reports(&self, rt: &impl Abort, sent: u64, got: u64, least: Time) {
+        assert_eq!(rt; self.kernel.report_values(), (sent, got, least));
+    }
+
+    /// The least time of its letters must be this.
+    pub(crate) fn tells_least(&self, rt: &impl Abort, want: Time) {
+        assert_eq!(rt; self.kernel.least(), want);
+    }
+
+    /// The mail on its way to it must be exactly these letters, all in this colour.
+    pub(crate) fn awaits(&self, rt: &impl Abort, colour: Colour, wanted: &[LetterTold]) {
+        assert!(rt; is_mail(&self.inbox, colour, wanted));
+    }
+
+    /// It must commit exactly these records, in this order.
+    pub(crate) fn commits(&self, rt: &(impl Abort + AllocGlobal), wanted: &[RecordTold]) {
         let rows = self.kernel.rows(rt.alloc()).expect(rt, "memory");
-        are_rows(&rows, wanted)
+        assert!(rt; are_rows(&rows, wanted));
     }
 }
 
@@ -146,6 +196,20 @@ impl Pair {
     pub(crate) fn after(rt: &(impl Abort + AllocGlobal), steps: &[Step]) -> Pair {
         let mut pair = Pair::new(rt).expect(rt, "memory");
         pair.steps(rt, steps);
+        pair
+    }
+
+    /// Both workers when process 1 was rolled back and executed both tokens in their order.
+    pub(crate) fn rolled_back(rt: &(impl Abort + AllocGlobal)) -> Pair {
+        let mut pair = Pair::after(rt, &STRAGGLER);
+        pair.steps(rt, &ROLLBACK);
+        pair
+    }
+
+    /// Both workers when what process 1 sent, took back and sent again has arrived at the first one.
+    pub(crate) fn delivered(rt: &(impl Abort + AllocGlobal)) -> Pair {
+        let mut pair = Pair::rolled_back(rt);
+        pair.steps(rt, &DELIVERY);
         pair
     }
 
@@ -182,6 +246,11 @@ impl Pair {
             assert_eq!(rt; self.step(rt, *step), Ok(()), "at {step:?}");
         }
     }
+
+    /// This step must be refused as not lawful.
+    pub(crate) fn refuses(&mut self, rt: &(impl Abort + AllocGlobal), step: Step) {
+        assert_eq!(rt; self.step(rt, step), Err(Fault::NotLawful), "at {step:?}");
+    }
 }
 
 /// The second worker runs ahead: process 1 executes its own token, of time 2, before the token of process 0, which is at time
@@ -199,5 +268,27 @@ pub(crate) const STRAGGLER: [Step; 7] = [
 /// Then process 1 is rolled back, and executes both tokens in their order.
 pub(crate) const ROLLBACK: [Step; 3] = [Step::Undo(1), Step::Execute(1), Step::Execute(1)];
 
-/// Then what it sent, took back and sent again arrives at the first worker.
+/// Then what it sent, took back and sent again arrives at the first worker: a message, its anti-message and the message anew.
 pub(crate) const DELIVERY: [Step; 2] = [Step::Send(1, 0), Step::Fetch(0)];
+
+/// What process 1 sent and took back.
+pub(crate) const TAKEN_BACK: [LetterTold; 2] = [
+    (Sign::Plus, (3, 1, 1), (1, 1)),
+    (Sign::Minus, (3, 1, 1), (1, 1)),
+];
+
+/// What it sent, took back and sent again.
+pub(crate) const SENT_AGAIN: [LetterTold; 3] = [
+    (Sign::Plus, (3, 1, 1), (1, 1)),
+    (Sign::Minus, (3, 1, 1), (1, 1)),
+    (Sign::Plus, (3, 1, 1), (1, 2)),
+];
+
+/// At process 0, the message that was taken back and its anti-message annihilate each other.
+pub(crate) const ANNIHILATE: Step = Step::Cancel(
+    0,
+    Stamp {
+        worker: 1,
+        serial: 1,
+    },
+);

@@ -1,6 +1,8 @@
 //! What is refused for want of memory or of serials, and what is left then.
 
 use crate::pair::{DELIVERY, Pair, ProcessTold, ROLLBACK, STRAGGLER, Worker};
+use std::alloc::AllocGlobal;
+use std::process::Abort;
 use std::rt::{self, HostRuntime};
 use vt_kernel::Kernel;
 use vt_key::{Colour, Fault};
@@ -90,23 +92,32 @@ fn a_refused_step_leaves_all_as_it_was(rt: HostRuntime) {
     let Ok(mut pair) = Pair::new(&rt) else {
         return;
     };
-    for steps in [
-        &STRAGGLER[..],
-        &ROLLBACK[..],
-        &DELIVERY[..],
-        &[Step::Accept(0, 0); 3][..],
-    ] {
-        for step in steps {
-            let before = (shown(&pair.first, 0), shown(&pair.second, 1));
-            let mut answer = pair.step(&rt, *step);
-            if answer == Err(Fault::Memory) {
-                let after = (shown(&pair.first, 0), shown(&pair.second, 1));
-                assert!(rt; after == before, "at {step:?}");
-                answer = pair.step(&rt, *step);
-            }
-            assert_eq!(rt; answer, Ok(()), "at {step:?}");
-        }
+    for step in &STRAGGLER {
+        step_or_again(&rt, &mut pair, *step);
     }
-    assert_eq!(rt; pair.first.process(0), Some((1, 2, 2, 1)));
-    assert_eq!(rt; pair.second.process(1), Some((258, 2, 0, 0)));
+    for step in &ROLLBACK {
+        step_or_again(&rt, &mut pair, *step);
+    }
+    for step in &DELIVERY {
+        step_or_again(&rt, &mut pair, *step);
+    }
+    for _ in 0..3 {
+        step_or_again(&rt, &mut pair, Step::Accept(0, 0));
+    }
+    pair.first.shows(&rt, (1, 2, 2, 1));
+    pair.second.shows(&rt, (258, 2, 0, 0));
+}
+
+// Does a step, and does it again where memory was refused.
+fn step_or_again(rt: &(impl Abort + AllocGlobal), pair: &mut Pair, step: Step) {
+    let before = (shown(&pair.first, 0), shown(&pair.second, 1));
+    let mut answer = pair.step(rt, step);
+    if answer == Err(Fault::Memory) {
+        assert!(rt;
+            (shown(&pair.first, 0), shown(&pair.second, 1)) == before,
+            "at {step:?}"
+        );
+        answer = pair.step(rt, step);
+    }
+    assert_eq!(rt; answer, Ok(()), "at {step:?}");
 }
