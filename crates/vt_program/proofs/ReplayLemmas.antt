@@ -1,11 +1,11 @@
 -- The output of a replay, from what its parts did.
-use Rattle.std.proofs.Common.{◌≡◌, ℕ, ◌+◌, ◌<◌, List, [], ◌∷◌, ◌++◌, length, Option, Result, Ok, Err, IfErr, ap, sym, subst, ◌∙◌, refl, inl, inr, arith, append_assoc, length-append}
+use Rattle.std.proofs.Common.{◌≡◌, ℕ, ◌<◌, List, [], ◌++◌, length, Option, Result, Ok, Err, IfErr, ap, sym, subst, ◌∙◌, refl, inl, inr, arith, append_assoc, length-append}
 use Rattle.std.specs.Prelude.{◌⊎◌}
-use Rattle.std.specs.Io.KnownBytes.{Appends, Keeps}
+use Rattle.std.specs.Io.KnownBytes.{Appends}
 use Rattle.std.proofs.KnownBytes.{Keeps-refl, Appends-trans}
 use Rattle.vt_key.specs.Times.{Time}
 use Rattle.vt_key.specs.declared.fault.Fault.{Fault}
-use Rattle.vt_key.specs.declared.fault.Fault.TheVariants.{Memory, Exhausted, Output}
+use Rattle.vt_key.specs.declared.fault.Fault.TheVariants.{Memory, Output}
 use Rattle.vt_model.specs.declared.settings.Config.{Config}
 use Rattle.vt_model.specs.declared.rows.Record.{Record}
 use Rattle.vt_model.specs.Handler.{Handlers}
@@ -28,7 +28,7 @@ use Rattle.vt_step_text.specs.declared.reading.NumberedStep.{NumberedStep}
 use Rattle.vt_step_text.specs.Replies.{Answered, replies_text, shown_text, state_text}
 use Rattle.vt_step_text.specs.Replays.{steps_taken}
 use Rattle.vt_step_text.proofs.ReplayLemmas.{rightly_answered}
-use Rattle.vt_program.specs.Replays.{AreReplies, IsReplayText, IsReplayOf, Writes, Begins, StopsReplay}
+use Rattle.vt_program.specs.Replays.{AreReplies, IsReplayText, Writes, Begins, StopsReplay}
 use Rattle.vt_program.specs.Replying.{PutsReplies, StopsReplies, shown_of}
 
 -- ---- what the world shows

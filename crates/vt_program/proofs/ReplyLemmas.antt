@@ -4,7 +4,6 @@ use Rattle.std.specs.Prelude.{IsTrue, if◌then◌else◌}
 use Rattle.std.proofs.lemmas.List.{take_more}
 use Rattle.std.proofs.lemmas.Grind.{flat_map-append}
 use Rattle.vt_key.specs.declared.fault.Fault.{Fault}
-use Rattle.vt_key.specs.declared.fault.Fault.TheVariants.{NotLawful, Closed, Memory, Exhausted}
 use Rattle.vt_model.specs.declared.settings.Config.{Config}
 use Rattle.vt_model.specs.Handler.{Handlers}
 use Rattle.vt_model.specs.Simulation.{Simulation, simulation_of}
@@ -18,7 +17,7 @@ use Rattle.vt_world.specs.Held.{HeldWorld, world_memory, StandsForWorld}
 use Rattle.vt_world.specs.Calls.{IsStepOf, IsSpent}
 use Rattle.vt_step_text.specs.declared.reading.NumberedStep.{NumberedStep}
 use Rattle.vt_step_text.specs.Replies.{Answered, reply_text, replies_text}
-use Rattle.vt_step_text.specs.Replays.{is_no_step, world_after, IsAnswered, AreAnswered}
+use Rattle.vt_step_text.specs.Replays.{is_no_step, world_after, AreAnswered}
 use Rattle.vt_program.specs.Replays.{AreSpent, AreReplies}
 use Rattle.vt_program.specs.Replying.{PutsReplies, StopsReplies}
 use Rattle.vt_text.specs.Writing.{AppendsAllButHeld, AppendsBeginning}

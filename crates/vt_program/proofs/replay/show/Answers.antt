@@ -1,6 +1,5 @@
 use Rattle.std.proofs.Common.{◌≡◌, ◌∙◌, ap}
 use Rattle.std.proofs.lemmas.Result.{on_err_weaker}
-use Rattle.vt_model.specs.declared.rows.Record.{Record}
 use Rattle.vt_key.specs.Times.{Time}
 use Rattle.vt_world.specs.Calls.{floor_held, least_held}
 use Rattle.vt_step_text.specs.Replies.{state_text}
