@@ -1,0 +1,126 @@
+-- What the calls of a station answer and leave.
+use Rattle.std.specs.Prelude.{◌≡◌, ◌≢◌, ℕ, ◌+◌, ◌<◌, ◌≤◌, ◌⊎◌, Bool, true, List, [], ◌∷◌, ◌++◌, map, Option, Some, None, Result, Ok, Err, slice_get, IfSome}
+use Rattle.atomic_table.specs.Table.{rest}
+use Rattle.vt_key.specs.Times.{Time, TimeAtMost}
+use Rattle.vt_key.specs.declared.fault.Fault.{Fault}
+use Rattle.vt_model.specs.declared.rows.Record.{Record}
+use Rattle.vt_model.specs.declared.settings.Config.{Config}
+use Rattle.vt_model.specs.Handler.{Handlers}
+use Rattle.vt_model.specs.Simulation.{Simulation, simulation_of}
+use Rattle.vt_steps.specs.declared.step.Step.{Step}
+use Rattle.vt_steps.specs.declared.step.Reply.{Reply}
+use Rattle.vt_steps.specs.World.{Part, Book, World, book_floor}
+use Rattle.vt_steps.specs.Next.{next, run}
+use Rattle.vt_steps.specs.Cells.{Cell, in_book, content, worker_of, cell_of, act}
+use Rattle.vt_steps.specs.Laws.{IsAny}
+use Rattle.vt_steps.specs.Marked.{Marked, Made, answered, made_done, Each, IsMarkedRight, own_steps_of, shown}
+use Rattle.vt_kernel.specs.Held.{HeldWorker, StandsFor}
+use Rattle.vt_kernel.specs.Local.{local_steps}
+use Rattle.vt_station.specs.declared.slot.Slot.{Slot}
+use Rattle.vt_station.specs.declared.view.View.{View}
+use Rattle.vt_station.specs.Hands.{empty_hand, holding}
+use Rattle.vt_station.specs.Slots.{cell_at, held_in, IsSlotOf}
+use Rattle.vt_station.specs.Kept.{Sat}
+
+-- the floor that a place was shown: this one, if one was shown to it now
+abbrev pub seen_or : Time → Option Time → Time
+seen_or before None = before
+seen_or before (Some now) = now
+
+-- ---- what changes of a view
+
+module _ {P : Type 0} where
+  -- it is the place of the same worker
+  pub record IsSamePlace (v w : View P) : Type 0 where
+    pub worker : w.worker ≡ v.worker
+    pub made : w.made ≡ v.made
+    pub waiting : w.waiting ≡ v.waiting
+
+  -- its part and its own steps are as they were
+  pub record HasSameSteps (v w : View P) : Type 0 where
+    pub same : IsSamePlace v w
+    pub part : w.part ≡ v.part
+    pub mine : w.mine ≡ v.mine
+
+  -- nothing but what it was shown is another, and it holds no cell
+  pub record Unvisited (v : View P) (seen : Time) (w : View P) : Type 0 where
+    pub steps : HasSameSteps v w
+    pub floor : w.seen ≡ seen
+    pub rests : w.hand ≡ empty_hand
+
+-- ---- kernels
+
+module _ {S P K : Type 0} (handlers : Handlers S P K) (config : Config) where
+  -- a kernel of the place's worker: local steps lead from the part of the place to one that it stands for
+  pub record Reaches (v : View P) (k : HeldWorker S P K) : Type 0 where
+    pub worker : k.worker ≡ v.worker
+    pub config_is : k.config ≡ config
+    pub steps : List Step
+    pub part : Part P
+    pub led : local_steps (simulation_of handlers config) v.worker steps v.part ≡ Some part
+    pub stands : StandsFor handlers k part
+
+  -- local steps that lead to the kernel as it was lent, and then one step with its reply, after which the kernel is as it was
+  -- left: they are the place's own steps from now on, and it has the part after them
+  pub record Visits (v : View P) (before : HeldWorker S P K) (step : Step) (reply : Reply) (left : HeldWorker S P K) (w : View P) : Type 0 where
+    pub steps : List Step
+    pub part : Part P
+    pub led : local_steps (simulation_of handlers config) v.worker steps v.part ≡ Some part
+    pub stood : StandsFor handlers before part
+    pub mine : w.mine ≡ v.mine ++ (made_done steps ++ record { step = step; reply = reply } ∷ [])
+    pub stands : StandsFor handlers left w.part
+    pub worker : left.worker ≡ before.worker
+    pub config_is : left.config ≡ before.config
+
+  -- the same, and the place holds nothing and was shown this floor
+  pub record Visited (v : View P) (before : HeldWorker S P K) (step : Step) (reply : Reply) (left : HeldWorker S P K) (seen : Time) (w : View P) : Type 0 where
+    pub visits : Visits v before step reply left w
+    pub same : IsSamePlace v w
+    pub floor : w.seen ≡ seen
+    pub rests : w.hand ≡ empty_hand
+
+  -- a step does this to the kernel's part, whatever part it stands for, and to a cell
+  pub record Acts (step : Step) (reply : Reply) (before : HeldWorker S P K) (cell : Cell P) (left : HeldWorker S P K) (after : Cell P) : Type 0 where
+    pub acts : (part : Part P) → StandsFor handlers before part →
+        (new : Part P) × (act (simulation_of handlers config) step part cell ≡ record { part = new; cell = after; answer = Ok reply }) × StandsFor handlers left new
+    pub worker : left.worker ≡ before.worker
+    pub config_is : left.config ≡ before.config
+
+-- ---- cells
+
+module _ {S P : Type 0} (sim : Simulation S P) where
+  -- a list of steps in which the place's are its own, and that shows its part and this in cell k: what a claim tells
+  pub record Known (v : View P) (k : ℕ) (cell : Cell P) : Type 0 where
+    pub log : List Marked
+    pub right : Each (IsMarkedRight sim) log
+    pub within : v.worker < sim.workers
+    pub part : slice_get (shown sim log).parts v.worker ≡ Some v.part
+    pub mine : own_steps_of sim v.worker log ≡ map answered v.mine
+    pub seen : TimeAtMost v.seen (book_floor sim.end (shown sim log).book)
+    pub shows : content (shown sim log) (cell_at sim.workers k) ≡ Some cell
+    -- where there is one worker all steps are its own
+    pub own : sim.workers ≡ 1 → Each (λ m. m.worker ≡ v.worker) log
+
+  module _ (config : Config) where
+    -- the seat has claimed cell k
+    pub record Took (m : Sat P) (k : ℕ) (after : Sat P) : Type 0 where
+      pub slot : Slot P
+      pub after_is : after ≡ (record m.0 { hand = holding k (held_in slot) }, (k, slot) ∷ m.1)
+      pub right : IsSlotOf config k slot
+      pub known : Known m.0 k (held_in slot)
+
+-- the seat holds cell k alone, which held one thing when it was claimed, and holds another now
+pub record Holding {P : Type 0} (config : Config) (m : Sat P) (k : ℕ) (found now : Cell P) : Type 0 where
+  pub slot : Slot P
+  pub hand : m.0.hand ≡ holding k found
+  pub carried : m.1 ≡ (k, slot) ∷ []
+  pub now_is : held_in slot ≡ now
+  pub right : IsSlotOf config k slot
+
+-- a floor that a place may be said to be shown by this cell: it is the book, and its floor is not below
+abbrev pub ShowsFloor : {P : Type 0} → Time → Time → Cell P → Type 0
+ShowsFloor end t (in_book book) = TimeAtMost t (book_floor end book)
+ShowsFloor end t _ = ⊥
+
+abbrev pub MaySee : {P : Type 0} → Time → Option Time → Cell P → Type 0
+MaySee end seen cell = IfSome seen (λ t. ShowsFloor end t cell)

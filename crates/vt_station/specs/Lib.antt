@@ -1,0 +1,4 @@
+pub mod Hands
+pub mod Slots
+pub mod Kept
+pub mod Calls

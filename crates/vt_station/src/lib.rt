@@ -1,0 +1,9 @@
+//! A Time Warp world that threads may share: inboxes, board and book in the cells of one table, and a place for each worker.
+#![tactic(auto)]
+
+mod rule;
+mod slot;
+mod station;
+mod view;
+
+pub use station::Station;
