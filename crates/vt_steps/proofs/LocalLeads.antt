@@ -1,6 +1,6 @@
 -- What the steps of one worker do to its part and to one cell they do in every world that has these two: local steps, and then
 -- one step at the cell. So they may stand last, whatever the other workers did since the first of them.
-use Rattle.std.proofs.Common.{◌≡◌, ℕ, Bool, true, false, cond, List, [], ◌∷◌, ◌++◌, map, refl, sym, ◌∙◌, ap, subst, Option, Some, None, Ok, slice_get, slice_set}
+use Rattle.std.proofs.Common.{◌≡◌, ℕ, ◌%◌, Bool, true, false, cond, List, [], ◌∷◌, ◌++◌, map, refl, sym, ◌∙◌, ap, subst, Option, Some, None, Ok, slice_get, slice_set}
 use Rattle.std.specs.Option.{option_map, is_none}
 use Rattle.std.proofs.lemmas.List.{append-nil}
 use Rattle.vt_key.specs.declared.letter.Mail.{Mail}
@@ -12,10 +12,10 @@ use Rattle.vt_steps.specs.declared.step.Reply.TheVariants.{Done}
 use Rattle.vt_steps.specs.BoardSteps.{cut_board, may_report, with_report}
 use Rattle.vt_steps.specs.BookSteps.{may_commit, with_rows, may_close, closed_book}
 use Rattle.vt_steps.specs.Cells.{CellName, inbox_of, board_cell, book_cell, Cell, in_inbox, on_board, in_book, content, with_content, worker_of, cell_of, is_local, Acted, left_alone, acted_locally, act_cut, act_report, on_open_book, act, put_back}
-use Rattle.vt_steps.specs.Laws.{IsAny}
+use Rattle.vt_steps.specs.Laws.{IsAny, IsRefused, ActsOnOneCell}
 use Rattle.vt_steps.specs.Letters.{is_empty}
 use Rattle.vt_steps.specs.Marked.{Marked, Made, Answered, answered, unmarked, marked, made_done, Each, IsMarkedRight, own_steps, LeadsLocally, LeadLocally, DoesSo, Leads}
-use Rattle.vt_steps.specs.Next.{Outcome, next, run, replied, with_part, may_send}
+use Rattle.vt_steps.specs.Next.{Outcome, next, run, close, may_send}
 use Rattle.vt_steps.specs.PartSteps.{execute, undo, cancel, home, accept, part_after_send, mail_of_send, part_after_fetch, part_after_commit, report_sent, report_got, report_least, rows_of_commit}
 use Rattle.vt_steps.specs.World.{Part, Board, Book, World}
 use Rattle.vt_steps.proofs.CellLemmas.{next-acts_on_one_cell}
@@ -226,3 +226,67 @@ module _ {S P : Type 0} (sim : Simulation S P) (w : ℕ) where
         does-append world name steps (step ∷ []) before new cell left (made_done steps) (record { step = step; reply = reply } ∷ []) first
         (step-does (run sim world steps) name step before new cell left reply whose at does first.part first.cell));
   }
+
+-- ---- the parts of the others
+
+module _ {S P : Type 0} (sim : Simulation S P) where
+  no-worker_close : (step : Step) → worker_of sim step ≡ None → step ≡ Close
+  no-worker_close Close none = refl
+  no-worker_close (Execute p) none = absurd (let h : Some (p % sim.workers) ≡ None = none in cc)
+  no-worker_close (Undo p) none = absurd (let h : Some (p % sim.workers) ≡ None = none in cc)
+  no-worker_close (Cancel p stamp) none = absurd (let h : Some (p % sim.workers) ≡ None = none in cc)
+  no-worker_close (Home w) none = absurd (let h : Some w ≡ None = none in cc)
+  no-worker_close (Accept w i) none = absurd (let h : Some w ≡ None = none in cc)
+  no-worker_close (Send w v) none = absurd (let h : Some w ≡ None = none in cc)
+  no-worker_close (Fetch w) none = absurd (let h : Some w ≡ None = none in cc)
+  no-worker_close (Cut w) none = absurd (let h : Some w ≡ None = none in cc)
+  no-worker_close (Report w) none = absurd (let h : Some w ≡ None = none in cc)
+  no-worker_close (Commit w) none = absurd (let h : Some w ≡ None = none in cc)
+
+  either-parts : (b : Bool) (world : World P) (x y : Outcome P) → x.world.parts ≡ world.parts → y.world.parts ≡ world.parts → (let z : Outcome P = cond b x y in z.world.parts) ≡ world.parts
+  either-parts true world x y h k = h
+  either-parts false world x y h k = k
+
+  close-parts : (world : World P) → (next sim world Close).world.parts ≡ world.parts
+  unfolding next close
+  close-parts world = either-parts world.book.is_closed world _ _ refl (either-parts (may_close sim.end world.book) world _ _ refl refl)
+
+  -- a step changes no part but that of the worker that makes it
+  pub others-part : (world : World P) (step : Step) (w q : ℕ) → IsAny (worker_of sim step) w → ¬ (q ≡ w) → slice_get (next sim world step).world.parts q ≡ slice_get world.parts q
+  others-part world step w q whose apart = by_worker (worker_of sim step) refl whose
+    where
+      laws : ActsOnOneCell sim world step
+      laws = next-acts_on_one_cell sim world step
+
+      refused-same : IsRefused sim world step → slice_get (next sim world step).world.parts q ≡ slice_get world.parts q
+      refused-same is = ap (λ o. slice_get o.world.parts q) is.1
+
+      acted-same : (name : CellName) (acted : Acted P) → next sim world step ≡ put_back world w name acted → slice_get (next sim world step).world.parts q ≡ slice_get world.parts q
+      acted-same name acted is =
+          ap (λ o. slice_get o.world.parts q) is
+          ∙ ap (λ (ps : List (Part P)). slice_get ps q) (parts-put (record world { parts = slice_set world.parts w acted.part }) name acted.cell)
+          ∙ get-put_other world.parts w q acted.part apart
+
+      by_content : (name : CellName) (part : Part P) (o : Option (Cell P)) → cell_of step ≡ Some name → slice_get world.parts w ≡ Some part → content world name ≡ o → slice_get (next sim world step).world.parts q ≡ slice_get world.parts q
+      by_content name part None at is holds = refused-same (laws.no_cell name at holds)
+      by_content name part (Some cell) at is holds = acted-same name (act sim step part cell) (laws.acts w name part cell whose (some-any sim w (cell_of step) name at) is holds)
+
+      by_cell : (part : Part P) (o : Option CellName) → cell_of step ≡ o → slice_get world.parts w ≡ Some part → slice_get (next sim world step).world.parts q ≡ slice_get world.parts q
+      by_cell part None at is = acted-same board_cell (act sim step part (on_board world.board)) (laws.acts w board_cell part (on_board world.board) whose (subst (λ o. IsAny o board_cell) (sym at) tt) is refl)
+      by_cell part (Some name) at is = by_content name part (content world name) at is refl
+
+      by_part : (o : Option (Part P)) → worker_of sim step ≡ Some w → slice_get world.parts w ≡ o → slice_get (next sim world step).world.parts q ≡ slice_get world.parts q
+      by_part None mine is = refused-same (laws.no_worker w mine is)
+      by_part (Some part) mine is = by_cell part (cell_of step) refl is
+
+      by_worker : (o : Option ℕ) → worker_of sim step ≡ o → IsAny o w → slice_get (next sim world step).world.parts q ≡ slice_get world.parts q
+      by_worker None mine any =
+          subst (λ s. slice_get (next sim world s).world.parts q ≡ slice_get world.parts q) (sym (no-worker_close step mine)) (ap (λ (ps : List (Part P)). slice_get ps q) (close-parts world))
+      by_worker (Some u) mine any = by_part (slice_get world.parts w) (mine ∙ ap (λ n. Some n) any) refl
+
+  -- nor do steps of other workers
+  pub run-others_part : (world : World P) (q : ℕ) (marks : List Marked) → Each (IsMarkedRight sim) marks → Each (λ m. ¬ (m.worker ≡ q)) marks → slice_get (run sim world (unmarked marks)).parts q ≡ slice_get world.parts q
+  unfolding run
+  run-others_part world q [] right others = refl
+  run-others_part world q (m ∷ marks) right others =
+      run-others_part (next sim world m.step).world q marks right.1 others.1 ∙ others-part world m.step m.worker q right.0 (λ e. others.0 (sym e))
