@@ -152,7 +152,7 @@ module _ {S P : Type 0} (sim : Simulation S P) (config : Config) where
   Steps s id k m then x = (w : View P) × (a : Act (Slot P)) × Valid s.homes m.1 a × Kept sim config (stepped s k x id m.1 w a) × then (get_or s.words k 0) (w, carried_after m.1 a)
 
   -- a compare-exchange of 0 for 1 claims the cell, or finds it claimed by another seat and changes nothing
-  pub claims : (slots id k : ℕ) (m : Sat P) → k < cell_count sim.workers → Rests sim m
+  pub claims : (slots id k : ℕ) (m : Sat P) → k < cell_count sim.workers → Rests m
       → Allows (Kept sim config) slots id m k (λ x. either (eqb x 0) 1 x) (Claimed m k)
   claims slots id k m near rests s r deep at small = exchanged (get_or s.words k 0) 0 1 (Steps s id k m (Claimed m k)) hit miss
     where

@@ -1,3 +1,4 @@
 pub mod Cells
 pub mod Keeps
 pub mod Seating
+pub mod Releases

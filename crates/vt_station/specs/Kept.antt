@@ -87,19 +87,19 @@ module _ {S P : Type 0} (sim : Simulation S P) where
       pub apart : (i j : ℕ) (v w : View P) → get_elem? s.views i ≡ some v → get_elem? s.views j ≡ some w → v.worker ≡ w.worker → i ≡ j
       pub alone : (i j : ℕ) (v w : View P) (k : ℕ) (c d : Cell P) → get_elem? s.views i ≡ some v → get_elem? s.views j ≡ some w → v.hand ≡ holding k c → w.hand ≡ holding k d → i ≡ j
 
-  -- ---- the views that are made
+-- ---- the views that are made
 
-  -- the view of a place that is made: it has its part, and has made no step
-  abbrev pub blank : ℕ → Part P → View P
-  blank worker part = record { marker = record {}; worker = worker; part = part; mine = []; seen = opening_time; hand = empty_hand; made = 0; waiting = [] }
+-- the view of a place that is made: it has its part, and has made no step
+abbrev pub blank : {P : Type 0} → ℕ → Part P → View P
+blank worker part = record { marker = record {}; worker = worker; part = part; mine = []; seen = opening_time; hand = empty_hand; made = 0; waiting = [] }
 
-  -- that of the first place, which makes the others
-  abbrev pub first_view : View P
-  first_view = record (blank 0 (opening_part sim 0 0)) { made = 1; waiting = map (opening_part sim 0) (range_with_len 1 (sim.workers - 1)) }
+-- that of the first place, which makes the others
+abbrev pub first_view : {S P : Type 0} → Simulation S P → View P
+first_view sim = record (blank 0 (opening_part sim 0 0)) { made = 1; waiting = map (opening_part sim 0) (range_with_len 1 (sim.workers - 1)) }
 
-  -- it rests: it holds no cell
-  abbrev pub Rests : Sat P → Type 0
-  Rests m = (m.0.hand ≡ empty_hand) × (m.1 ≡ [])
+-- a seat rests: it holds no cell
+abbrev pub Rests : {P : Type 0} → Sat P → Type 0
+Rests m = (m.0.hand ≡ empty_hand) × (m.1 ≡ [])
 
 -- ---- the making of a place
 
@@ -114,4 +114,4 @@ first_or x (y ∷ ys) = y
 
 -- the view of the place that is made
 abbrev pub next_view : {P : Type 0} → View P → View P
-next_view v = record { marker = v.marker; worker = v.made; part = first_or v.part v.waiting; mine = []; seen = opening_time; hand = empty_hand; made = 0; waiting = [] }
+next_view v = blank v.made (first_or v.part v.waiting)
