@@ -15,7 +15,7 @@ use Rattle.vt_steps.specs.declared.step.Reply.{Reply}
 use Rattle.vt_steps.specs.declared.step.Reply.TheVariants.{Done}
 use Rattle.vt_steps.specs.World.{Part, World}
 use Rattle.vt_steps.specs.PartSteps.{execute, undo, cancel, home, accept}
-use Rattle.vt_steps.specs.Cells.{CellName, Cell, content, worker_of, cell_of, acted_locally, act}
+use Rattle.vt_steps.specs.Cells.{book_cell, Cell, worker_of, cell_of, acted_locally, act}
 use Rattle.vt_steps.specs.Laws.{IsAny}
 use Rattle.vt_steps.specs.Marked.{Made, made_done, LeadsLocally, LeadLocally, Leads}
 use Rattle.vt_steps.proofs.Changes.{chain_has}
@@ -27,7 +27,7 @@ use Rattle.vt_station.specs.declared.view.View.{View}
 use Rattle.vt_station.specs.Hands.{empty_hand, holding}
 use Rattle.vt_station.specs.Slots.{cell_count, cell_at, held_in, IsSlotOf}
 use Rattle.vt_station.specs.Kept.{Sat, Kept, Rests}
-use Rattle.vt_station.specs.Calls.{IsSamePlace, HasSameSteps, seen_or, Unvisited, Reaches, Visits, Visited, Acts, Known, Took, Holding, ShowsFloor, MaySee}
+use Rattle.vt_station.specs.Calls.{IsSamePlace, HasSameSteps, seen_or, Unvisited, Closes, Reaches, Visits, Visited, Acts, Known, Took, Holding, ShowsFloor, MaySee}
 use Rattle.vt_station.proofs.Keeps.{releases}
 
 -- ---- local steps of a kernel as local steps of a worker
@@ -112,3 +112,17 @@ module _ {S P K : Type 0} (handlers : Handlers S P K) (config : Config) (lawful 
         floor = refl;
         rests = refl;
       }))
+
+  -- after a close
+  pub leaves-closed : (slots id k : ℕ) (m : Sat P) (seen : Time) (found now : Cell P) → k < cell_count config.workers → cell_at config.workers k ≡ book_cell → Holding config m k found now
+      → ((part : Part P) → act (simulation_of handlers config) Close part found ≡ record { part = part; cell = now; answer = Ok Done }) → ShowsFloor config.end seen now
+      → Allows (Kept (simulation_of handlers config) config) slots id m k (λ _. 0) (λ _. (λ (n : ℕ) (after : Sat P). (after.1 ≡ []) × Closes m.0 seen after.0) 0)
+  leaves-closed slots id k m seen found now near at h does sees =
+      let sim = simulation_of handlers config in
+      let own : List Made = record { step = Close; reply = Done } ∷ [] in
+      let goes : Leads sim m.0.worker (cell_at sim.workers k) m.0.part found (Close ∷ []) m.0.part now own =
+      leads sim m.0.worker (cell_at sim.workers k) [] Close m.0.part m.0.part m.0.part found now Done refl tt (sym at) (does m.0.part) in
+      releases sim config lawful slots id k m found h.slot (Close ∷ []) m.0.part own seen (λ (n : ℕ) (after : Sat P). (after.1 ≡ []) × Closes m.0 seen after.0) near h.carried h.hand h.right
+      (subst (λ (c : Cell P). Leads sim m.0.worker (cell_at sim.workers k) m.0.part found (Close ∷ []) m.0.part c own) (sym h.now_is) goes)
+      (inr (subst (λ (c : Cell P). ShowsFloor sim.end seen c) (sym h.now_is) sees))
+      (λ n. (refl, record { same = record { worker = refl; made = refl; waiting = refl }; part = refl; mine = refl; floor = refl; rests = refl }))

@@ -8,7 +8,9 @@ use Rattle.vt_model.specs.declared.settings.Config.{Config}
 use Rattle.vt_model.specs.Handler.{Handlers}
 use Rattle.vt_model.specs.Simulation.{Simulation, simulation_of}
 use Rattle.vt_steps.specs.declared.step.Step.{Step}
+use Rattle.vt_steps.specs.declared.step.Step.TheVariants.{Close}
 use Rattle.vt_steps.specs.declared.step.Reply.{Reply}
+use Rattle.vt_steps.specs.declared.step.Reply.TheVariants.{Done}
 use Rattle.vt_steps.specs.World.{Part, Book, World, book_floor}
 use Rattle.vt_steps.specs.Next.{next, run}
 use Rattle.vt_steps.specs.Cells.{Cell, in_book, content, worker_of, cell_of, act}
@@ -47,6 +49,14 @@ module _ {P : Type 0} where
     pub steps : HasSameSteps v w
     pub floor : w.seen ≡ seen
     pub rests : w.hand ≡ empty_hand
+
+-- a close is one more of the place's own steps, and its part stays
+pub record Closes {P : Type 0} (v : View P) (seen : Time) (w : View P) : Type 0 where
+  pub same : IsSamePlace v w
+  pub part : w.part ≡ v.part
+  pub mine : w.mine ≡ v.mine ++ record { step = Close; reply = Done } ∷ []
+  pub floor : w.seen ≡ seen
+  pub rests : w.hand ≡ empty_hand
 
 -- ---- kernels
 
