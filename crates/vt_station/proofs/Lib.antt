@@ -2,3 +2,6 @@ pub mod Cells
 pub mod Keeps
 pub mod Seating
 pub mod Releases
+pub mod HeldLemmas
+pub mod ActLemmas
+pub mod CallLemmas

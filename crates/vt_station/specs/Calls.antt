@@ -1,8 +1,12 @@
 -- What the calls of a station answer and leave.
-use Rattle.std.specs.Prelude.{◌≡◌, ◌≢◌, ℕ, ◌+◌, ◌<◌, ◌≤◌, ◌⊎◌, Bool, true, List, [], ◌∷◌, ◌++◌, map, Option, Some, None, Result, Ok, Err, slice_get, IfSome}
+use Rattle.std.specs.Prelude.{◌≡◌, ◌≢◌, ℕ, ◌+◌, ◌<◌, ◌≤◌, ◌⊎◌, Bool, true, false, List, [], ◌∷◌, ◌++◌, map, length, Option, Some, None, Result, Ok, Err, slice_get, IfSome}
 use Rattle.atomic_table.specs.Table.{rest}
 use Rattle.vt_key.specs.Times.{Time, TimeAtMost}
 use Rattle.vt_key.specs.declared.fault.Fault.{Fault}
+use Rattle.vt_key.specs.declared.fault.Fault.TheVariants.{NotLawful, Busy, Exhausted}
+use Rattle.vt_key.specs.declared.letter.Mail.{Mail}
+use Rattle.vt_key.specs.declared.letter.Colour.TheVariants.{White, Red}
+use Rattle.vt_key.specs.declared.limits.TheConstants.{MAX_COUNT}
 use Rattle.vt_model.specs.declared.rows.Record.{Record}
 use Rattle.vt_model.specs.declared.settings.Config.{Config}
 use Rattle.vt_model.specs.Handler.{Handlers}
@@ -12,12 +16,15 @@ use Rattle.vt_steps.specs.declared.step.Step.TheVariants.{Close}
 use Rattle.vt_steps.specs.declared.step.Reply.{Reply}
 use Rattle.vt_steps.specs.declared.step.Reply.TheVariants.{Done}
 use Rattle.vt_steps.specs.World.{Part, Book, World, book_floor}
-use Rattle.vt_steps.specs.Next.{next, run}
+use Rattle.vt_steps.specs.Letters.{is_empty, count_of, count_colour}
+use Rattle.vt_steps.specs.PartSteps.{letters_for}
+use Rattle.vt_steps.specs.Next.{next, run, may_send}
 use Rattle.vt_steps.specs.Cells.{Cell, in_book, content, worker_of, cell_of, act}
 use Rattle.vt_steps.specs.Laws.{IsAny}
 use Rattle.vt_steps.specs.Marked.{Marked, Made, answered, made_done, Each, IsMarkedRight, own_steps_of, shown}
 use Rattle.vt_kernel.specs.Held.{HeldWorker, StandsFor}
 use Rattle.vt_kernel.specs.Local.{local_steps}
+use Rattle.vt_kernel.specs.Guards.{IsSendRefusal}
 use Rattle.vt_station.specs.declared.slot.Slot.{Slot}
 use Rattle.vt_station.specs.declared.view.View.{View}
 use Rattle.vt_station.specs.Hands.{empty_hand, holding}
@@ -134,3 +141,26 @@ ShowsFloor end t _ = ⊥
 
 abbrev pub MaySee : {P : Type 0} → Time → Option Time → Cell P → Type 0
 MaySee end seen cell = IfSome seen (λ t. ShowsFloor end t cell)
+
+-- ---- refusals of calls
+
+-- a seat after a call that was refused: part, own steps and what was shown are as they were
+abbrev pub Stays : {P : Type 0} → View P → View P → Type 0
+Stays v w = HasSameSteps v w × (w.seen ≡ v.seen)
+
+module _ {S P : Type 0} (sim : Simulation S P) where
+  -- why a post from worker w to v is refused: the send is not lawful, or its count would pass the limit; or neither, and the
+  -- cell was claimed by another place, of which there is one; or none of these, and memory was refused
+  abbrev pub IsPostRefusal : ℕ → ℕ → Part P → Fault → Type 0
+  IsPostRefusal w v part fault =
+      IsSendRefusal sim w v part fault
+      ⊎ ((fault ≡ Busy) × (1 < sim.workers) × (may_send sim w v part ≡ true) × (count_of part.sent part.colour + length (letters_for sim v part) ≤ MAX_COUNT))
+
+  -- why a fetch is refused: what arrived before is not accepted yet; or it is, and the cell was claimed by another place; or
+  -- the mail that is there would make a count pass its limit
+  abbrev pub IsFetchRefusal : Part P → Fault → Type 0
+  IsFetchRefusal part fault =
+      ((fault ≡ NotLawful) × (is_empty part.arrived ≡ false))
+      ⊎ ((is_empty part.arrived ≡ true)
+      × (((fault ≡ Busy) × (1 < sim.workers))
+      ⊎ ((fault ≡ Exhausted) × ((mails : List (Mail P)) × ((MAX_COUNT < part.got.white + count_colour White mails) ⊎ (MAX_COUNT < part.got.red + count_colour Red mails))))))
