@@ -27,6 +27,12 @@ ok-has r F x is h = subst (λ s. IfOk s F) is h
 pub err-has : {T E : Type 0} (r : Result T E) (F : E → Type 0) (e : E) → r ≡ Err e → IfErr r F → F e
 err-has r F e is h = subst (λ s. IfErr s F) is h
 
+-- ---- lists
+
+-- it holds of each of none
+pub all-none : {X : Type 0} (Q : X → Type 0) (l : List X) → l ≡ [] → All Q l
+all-none Q l e = subst (All Q) (sym e) (λ k d inside. absurd (omega arith))
+
 -- ---- cells of one kind are equal where what is in them is
 
 module _ {P : Type 0} where
