@@ -5,3 +5,4 @@ pub mod Releases
 pub mod HeldLemmas
 pub mod ActLemmas
 pub mod CallLemmas
+pub mod Opening

@@ -2,3 +2,4 @@ pub mod Hands
 pub mod Slots
 pub mod Kept
 pub mod Calls
+pub mod Making
