@@ -1,5 +1,6 @@
 -- What a seat holds before and after a write, what a claimed cell is, and cases on results.
 use Rattle.std.proofs.Common.{◌≡◌, ℕ, ◌+◌, ◌<◌, ◌≤◌, Bool, true, false, cond, List, [], ◌∷◌, ◌++◌, map, refl, sym, ◌∙◌, ap, subst, arith, get_or, Option, Some, None, Result, Ok, Err, MatchResult, IfOk, IfErr}
+use Rattle.std.specs.Prelude.{OnOk, OnErr}
 use Rattle.std.specs.List.{All, list_any}
 use Rattle.atomic_table.specs.Table.{rest}
 use Rattle.vt_key.specs.declared.letter.Letter.{Letter}
@@ -26,6 +27,12 @@ ok-has r F x is h = subst (λ s. IfOk s F) is h
 
 pub err-has : {T E : Type 0} (r : Result T E) (F : E → Type 0) (e : E) → r ≡ Err e → IfErr r F → F e
 err-has r F e is h = subst (λ s. IfErr s F) is h
+
+pub ok-is : {T E : Type 0} (r : Result T E) (F : Type 0) (x : T) → r ≡ Ok x → OnOk r F → F
+ok-is r F x is h = subst (λ s. OnOk s F) is h
+
+pub err-is : {T E : Type 0} (r : Result T E) (F : Type 0) (e : E) → r ≡ Err e → OnErr r F → F
+err-is r F e is h = subst (λ s. OnErr s F) is h
 
 -- ---- lists
 

@@ -6,3 +6,5 @@ pub mod HeldLemmas
 pub mod ActLemmas
 pub mod CallLemmas
 pub mod Opening
+pub mod BoardLemmas
+pub mod RefusalLemmas

@@ -1,9 +1,9 @@
 -- What the calls of a station answer and leave.
 use Rattle.std.specs.Prelude.{◌≡◌, ◌≢◌, ℕ, ◌+◌, ◌<◌, ◌≤◌, ◌⊎◌, Bool, true, false, List, [], ◌∷◌, ◌++◌, map, length, Option, Some, None, Result, Ok, Err, slice_get, IfSome}
 use Rattle.atomic_table.specs.Table.{rest}
-use Rattle.vt_key.specs.Times.{Time, TimeAtMost}
+use Rattle.vt_key.specs.Times.{Time, TimeAtMost, TimeBefore}
 use Rattle.vt_key.specs.declared.fault.Fault.{Fault}
-use Rattle.vt_key.specs.declared.fault.Fault.TheVariants.{NotLawful, Busy, Exhausted}
+use Rattle.vt_key.specs.declared.fault.Fault.TheVariants.{Memory, NotLawful, Busy, Closed, Exhausted}
 use Rattle.vt_key.specs.declared.letter.Mail.{Mail}
 use Rattle.vt_key.specs.declared.letter.Colour.TheVariants.{White, Red}
 use Rattle.vt_key.specs.declared.limits.TheConstants.{MAX_COUNT}
@@ -12,7 +12,7 @@ use Rattle.vt_model.specs.declared.settings.Config.{Config}
 use Rattle.vt_model.specs.Handler.{Handlers}
 use Rattle.vt_model.specs.Simulation.{Simulation, simulation_of}
 use Rattle.vt_steps.specs.declared.step.Step.{Step}
-use Rattle.vt_steps.specs.declared.step.Step.TheVariants.{Close}
+use Rattle.vt_steps.specs.declared.step.Step.TheVariants.{Cut, Report, Commit, Close}
 use Rattle.vt_steps.specs.declared.step.Reply.{Reply}
 use Rattle.vt_steps.specs.declared.step.Reply.TheVariants.{Done}
 use Rattle.vt_steps.specs.World.{Part, Book, World, book_floor}
@@ -21,10 +21,11 @@ use Rattle.vt_steps.specs.PartSteps.{letters_for}
 use Rattle.vt_steps.specs.Next.{next, run, may_send}
 use Rattle.vt_steps.specs.Cells.{Cell, in_book, content, worker_of, cell_of, act}
 use Rattle.vt_steps.specs.Laws.{IsAny}
-use Rattle.vt_steps.specs.Marked.{Marked, Made, answered, made_done, Each, IsMarkedRight, own_steps_of, shown}
+use Rattle.vt_steps.specs.Marked.{Marked, Made, answered, made_done, Each, IsMarkedRight, own_steps_of, shown, has_cut_since}
 use Rattle.vt_kernel.specs.Held.{HeldWorker, StandsFor}
 use Rattle.vt_kernel.specs.Local.{local_steps}
 use Rattle.vt_kernel.specs.Guards.{IsSendRefusal}
+use Rattle.vt_world.specs.Calls.{IsStepRefusal}
 use Rattle.vt_station.specs.declared.slot.Slot.{Slot}
 use Rattle.vt_station.specs.declared.view.View.{View}
 use Rattle.vt_station.specs.Hands.{empty_hand, holding}
@@ -164,3 +165,44 @@ module _ {S P : Type 0} (sim : Simulation S P) where
       ⊎ ((is_empty part.arrived ≡ true)
       × (((fault ≡ Busy) × (1 < sim.workers))
       ⊎ ((fault ≡ Exhausted) × ((mails : List (Mail P)) × ((MAX_COUNT < part.got.white + count_colour White mails) ⊎ (MAX_COUNT < part.got.red + count_colour Red mails))))))
+
+-- ---- refusals that are found in a claimed cell
+
+module _ {S P : Type 0} (sim : Simulation S P) where
+  -- a step is refused by a world that cells and places showed: there is a list of steps in which the place's are its own, and
+  -- after it and local steps of the place the step is refused so. Where there is one worker that list is the place's own steps
+  pub record IsRefusedBy (v : View P) (step : Step) (fault : Fault) : Type 0 where
+    pub log : List Marked
+    pub right : Each (IsMarkedRight sim) log
+    pub part : slice_get (shown sim log).parts v.worker ≡ Some v.part
+    pub mine : own_steps_of sim v.worker log ≡ map answered v.mine
+    pub own : sim.workers ≡ 1 → Each (λ m. m.worker ≡ v.worker) log
+    pub steps : List Step
+    pub before : Part P
+    pub led : local_steps sim v.worker steps v.part ≡ Some before
+    pub refused : IsStepRefusal sim step (run sim (shown sim log) steps) fault
+
+  -- why a cut is refused: the board was claimed by another place; or the worker has cut since it was last told of an
+  -- announcement; or one more round would be too many
+  abbrev pub IsCutRefusal : View P → Fault → Type 0
+  IsCutRefusal v fault =
+      ((fault ≡ Busy) × (1 < sim.workers))
+      ⊎ (IsRefusedBy v (Cut v.worker) fault × (((fault ≡ NotLawful) × (has_cut_since false (map answered v.mine) ≡ true)) ⊎ (fault ≡ Exhausted)))
+
+  -- why a report is refused: the board was claimed by another place; or the report is not lawful
+  abbrev pub IsReportRefusal : View P → Fault → Type 0
+  IsReportRefusal v fault = ((fault ≡ Busy) × (1 < sim.workers)) ⊎ (IsRefusedBy v (Report v.worker) fault × (fault ≡ NotLawful))
+
+  -- why a commit is refused: the book was claimed by another place; or it is closed, and then the worker's floor is the end of
+  -- the run; or memory was refused
+  abbrev pub IsCommitRefusal : View P → Fault → Type 0
+  IsCommitRefusal v fault =
+      ((fault ≡ Busy) × (1 < sim.workers))
+      ⊎ (IsRefusedBy v (Commit v.worker) fault × (((fault ≡ Closed) × (v.part.floor ≡ sim.end)) ⊎ (fault ≡ Memory)))
+
+  -- why a close is refused: the book was claimed by another place; or it is closed, and then the worker's floor is the end of
+  -- the run; or its floor is not the end, and then the place was not shown the end
+  abbrev pub IsCloseRefusal : View P → Fault → Type 0
+  IsCloseRefusal v fault =
+      ((fault ≡ Busy) × (1 < sim.workers))
+      ⊎ (IsRefusedBy v Close fault × (((fault ≡ Closed) × (v.part.floor ≡ sim.end)) ⊎ ((fault ≡ NotLawful) × TimeBefore v.seen sim.end)))

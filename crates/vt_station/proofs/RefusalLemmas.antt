@@ -1,0 +1,83 @@
+-- Refusals that are found in a claimed cell, as refusals of a world that cells and places showed.
+use Rattle.std.proofs.Common.{◌≡◌, ◌⊎◌, inl, inr, ℕ, ◌+◌, ◌<◌, ◌≤◌, Bool, true, false, cond, List, [], ◌∷◌, map, refl, sym, ◌∙◌, ap, subst, arith, nat_le, Option, Some, None, Result, Ok, Err, slice_get}
+use Rattle.std.proofs.lemmas.Bool.Decides.{nat_tests}
+use Rattle.vt_key.specs.Times.{Time, TimeAtMost, TimeBefore}
+use Rattle.vt_key.specs.declared.fault.Fault.{Fault}
+use Rattle.vt_key.specs.declared.fault.Fault.TheVariants.{Memory, NotLawful, Busy, Closed, Exhausted}
+use Rattle.vt_key.specs.declared.limits.TheConstants.{MAX_COUNT}
+use Rattle.vt_model.specs.Histories.{IsLawful}
+use Rattle.vt_model.specs.Simulation.{Simulation}
+use Rattle.vt_steps.specs.declared.step.Step.{Step}
+use Rattle.vt_steps.specs.declared.step.Step.TheVariants.{Cut, Report, Commit, Close}
+use Rattle.vt_steps.specs.declared.step.Reply.TheVariants.{Done}
+use Rattle.vt_steps.specs.World.{Part, Board, Book, World, book_floor}
+use Rattle.vt_steps.specs.PartSteps.{report_sent, report_got, report_least}
+use Rattle.vt_steps.specs.BoardSteps.{cut_board, may_report}
+use Rattle.vt_steps.specs.BookSteps.{may_close}
+use Rattle.vt_steps.specs.Next.{Outcome, next, run, refused, replied}
+use Rattle.vt_steps.specs.Cells.{board_cell, book_cell, Cell, on_board, in_book, content}
+use Rattle.vt_steps.specs.Marked.{Marked, Made, Answered, answered, Each, IsMarkedRight, own_steps_of, shown, LeadLocally, DoesSo, made_done, has_cut_since}
+use Rattle.vt_steps.proofs.LocalLeads.{local-does}
+use Rattle.vt_steps.proofs.OwnCuts.{refused-cut-known}
+use Rattle.vt_board.specs.Calls.{counted, cut_outcome}
+use Rattle.vt_kernel.specs.Local.{local_steps}
+use Rattle.vt_world.specs.Calls.{IsStepRefusal, IsSpent}
+use Rattle.vt_world.proofs.CellSteps.{next-cut, next-not_cut}
+use Rattle.vt_station.specs.declared.view.View.{View}
+use Rattle.vt_station.specs.Calls.{Known, IsRefusedBy, IsCutRefusal}
+use Rattle.vt_station.proofs.Releases.{steps-lead}
+
+module _ {S P : Type 0} (sim : Simulation S P) (v : View P) (k : ℕ) (cell : Cell P) (known : Known sim v k cell) (steps : List Step) (before : Part P) (led : local_steps sim v.worker steps v.part ≡ Some before) where
+  -- the world that was shown, and the same after the place's local steps
+  abbrev there : World P
+  there = shown sim known.log
+
+  abbrev then_there : World P
+  then_there = run sim (shown sim known.log) steps
+
+  board-does : DoesSo sim v.worker board_cell steps there before (on_board there.board) (made_done steps)
+  board-does = local-does sim v.worker there board_cell steps v.part before (on_board there.board) (steps-lead sim v.worker steps v.part before led) known.part refl
+
+  book-does : DoesSo sim v.worker book_cell steps there before (in_book there.book) (made_done steps)
+  book-does = local-does sim v.worker there book_cell steps v.part before (in_book there.book) (steps-lead sim v.worker steps v.part before led) known.part refl
+
+  -- they change neither the board nor the book, and lead to the part before the step
+  pub then-part : slice_get then_there.parts v.worker ≡ Some before
+  then-part = board-does.part
+
+  pub then-board : then_there.board ≡ there.board
+  then-board = let h : ◌≡◌ {A = Option (Cell P)} (Some (on_board then_there.board)) (Some (on_board there.board)) = board-does.cell in let e : then_there.board ≡ there.board = cc in e
+
+  pub then-book : then_there.book ≡ there.book
+  then-book = let h : ◌≡◌ {A = Option (Cell P)} (Some (in_book then_there.book)) (Some (in_book there.book)) = book-does.cell in let e : then_there.book ≡ there.book = cc in e
+
+  pub refused-by : (step : Step) (fault : Fault) → IsStepRefusal sim step then_there fault → IsRefusedBy sim v step fault
+  refused-by step fault is = record { log = known.log; right = known.right; part = known.part; mine = known.mine; own = known.own; steps = steps; before = before; led = led; refused = is }
+
+  -- ---- cut
+
+  by_count : (new : Board) (fault : Fault) → cond (nat_le new.rounds MAX_COUNT) (Ok new) (Err Exhausted) ≡ Err fault → (fault ≡ Exhausted) × (MAX_COUNT < new.rounds)
+  by_count new fault e =
+      elim (nat_le new.rounds MAX_COUNT) as (λ b. nat_le new.rounds MAX_COUNT ≡ b → cond b (Ok new) (Err Exhausted) ≡ Err fault → (fault ≡ Exhausted) × (MAX_COUNT < new.rounds)) [
+        | true ↦ λ is h. absurd (let k : Ok new ≡ Err fault = h in cc)
+        | false ↦ λ is h. ((let k : Err Exhausted ≡ Err fault = h in let s : fault ≡ Exhausted = cc in s), grind (arith, nat_tests))
+      ] refl e
+
+  pub cut-refused : IsLawful sim → (fault : Fault) → cut_outcome sim.end v.worker there.board ≡ Err fault → IsCutRefusal sim v fault
+  cut-refused lawful fault e = by_cut (cut_board sim.end v.worker there.board) refl e
+    where
+      by_cut : (o : Option Board) → cut_board sim.end v.worker there.board ≡ o → counted o ≡ Err fault → IsCutRefusal sim v fault
+      by_cut None is h =
+          let why : fault ≡ NotLawful = (let k : Err NotLawful ≡ Err fault = h in let s : fault ≡ NotLawful = cc in s) in
+          let out = next-not_cut sim then_there v.worker (ap (cut_board sim.end v.worker) then-board ∙ is) in
+          inr (
+            refused-by (Cut v.worker) fault (inl (ap (λ (o : Outcome P). o.answer) out ∙ ap (λ f. Err f) (sym why))),
+            inl (why, ap (has_cut_since false) (sym known.mine) ∙ refused-cut-known sim v.worker lawful known.log known.right known.within is),
+          )
+      by_cut (Some new) is h =
+          let c = by_count new fault h in
+          let out = next-cut sim then_there v.worker before new then-part (ap (cut_board sim.end v.worker) then-board ∙ is) in
+          inr (
+            refused-by (Cut v.worker) fault (inr (Done, ap (λ (o : Outcome P). o.answer) out, inl (c.0, subst (λ (o : Outcome P). MAX_COUNT < o.world.board.rounds) (sym out) c.1))),
+            inr c.0,
+          )
