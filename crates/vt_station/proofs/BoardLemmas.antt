@@ -19,3 +19,8 @@ counted-ok (Some x) new e = ap (λ b. Some b) (if-ok (nat_le x.rounds MAX_COUNT)
 -- a cut that comes to a board is that of the steps
 pub cut-done : (end : Time) (w : ℕ) (board new : Board) → cut_outcome end w board ≡ Ok new → cut_board end w board ≡ Some new
 cut-done end w board new e = counted-ok (cut_board end w board) new e
+
+-- two tests don't both pass, and the second does
+pub fails-first : (a b : Bool) → (a && b) ≡ false → b ≡ true → a ≡ false
+fails-first true b h k = absurd (let e : true ≡ false = sym k ∙ h in cc)
+fails-first false b h k = refl

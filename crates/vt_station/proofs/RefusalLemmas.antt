@@ -1,7 +1,7 @@
 -- Refusals that are found in a claimed cell, as refusals of a world that cells and places showed.
 use Rattle.std.proofs.Common.{◌≡◌, ◌⊎◌, inl, inr, ℕ, ◌+◌, ◌<◌, ◌≤◌, Bool, true, false, cond, List, [], ◌∷◌, map, refl, sym, ◌∙◌, ap, subst, arith, nat_le, Option, Some, None, Result, Ok, Err, slice_get}
 use Rattle.std.proofs.lemmas.Bool.Decides.{nat_tests}
-use Rattle.vt_key.specs.Times.{Time, TimeAtMost, TimeBefore}
+use Rattle.vt_key.specs.Times.{Time, TimeAtMost, TimeBefore, time_at_most}
 use Rattle.vt_key.specs.declared.fault.Fault.{Fault}
 use Rattle.vt_key.specs.declared.fault.Fault.TheVariants.{Memory, NotLawful, Busy, Closed, Exhausted}
 use Rattle.vt_key.specs.declared.limits.TheConstants.{MAX_COUNT}
@@ -19,12 +19,13 @@ use Rattle.vt_steps.specs.Cells.{board_cell, book_cell, Cell, on_board, in_book,
 use Rattle.vt_steps.specs.Marked.{Marked, Made, Answered, answered, Each, IsMarkedRight, own_steps_of, shown, LeadLocally, DoesSo, made_done, has_cut_since}
 use Rattle.vt_steps.proofs.LocalLeads.{local-does}
 use Rattle.vt_steps.proofs.OwnCuts.{refused-cut-known}
-use Rattle.vt_board.specs.Calls.{counted, cut_outcome}
+use Rattle.vt_board.specs.Calls.{counted, cut_outcome, takes_report}
 use Rattle.vt_kernel.specs.Local.{local_steps}
 use Rattle.vt_world.specs.Calls.{IsStepRefusal, IsSpent}
-use Rattle.vt_world.proofs.CellSteps.{next-cut, next-not_cut}
+use Rattle.vt_world.proofs.CellSteps.{next-cut, next-not_cut, next-not_report}
 use Rattle.vt_station.specs.declared.view.View.{View}
-use Rattle.vt_station.specs.Calls.{Known, IsRefusedBy, IsCutRefusal}
+use Rattle.vt_station.specs.Calls.{Known, IsRefusedBy, IsCutRefusal, IsReportRefusal}
+use Rattle.vt_station.proofs.BoardLemmas.{fails-first}
 use Rattle.vt_station.proofs.Releases.{steps-lead}
 
 module _ {S P : Type 0} (sim : Simulation S P) (v : View P) (k : ℕ) (cell : Cell P) (known : Known sim v k cell) (steps : List Step) (before : Part P) (led : local_steps sim v.worker steps v.part ≡ Some before) where
@@ -81,3 +82,14 @@ module _ {S P : Type 0} (sim : Simulation S P) (v : View P) (k : ℕ) (cell : Ce
             refused-by (Cut v.worker) fault (inr (Done, ap (λ (o : Outcome P). o.answer) out, inl (c.0, subst (λ (o : Outcome P). MAX_COUNT < o.world.board.rounds) (sym out) c.1))),
             inr c.0,
           )
+
+  -- ---- report
+
+  pub report-refused : (least : Time) → least ≡ report_least sim.end before → takes_report sim.end v.worker least there.board ≡ false → TimeAtMost least sim.end → IsReportRefusal sim v NotLawful
+  report-refused least value takes ends =
+      let test : time_at_most least sim.end ≡ true = grind (arith, nat_tests) in
+      let not_may : may_report v.worker least there.board ≡ false = fails-first (may_report v.worker least there.board) (time_at_most least sim.end) takes test in
+      let not_there : may_report v.worker (report_least sim.end before) then_there.board ≡ false =
+      ap (may_report v.worker (report_least sim.end before)) then-board ∙ ap (λ t. may_report v.worker t there.board) (sym value) ∙ not_may in
+      let out = next-not_report sim then_there v.worker before then-part not_there in
+      inr (refused-by (Report v.worker) NotLawful (inl (ap (λ (o : Outcome P). o.answer) out)), refl)
