@@ -1,5 +1,6 @@
 -- What the calls of a station answer and leave.
 use Rattle.std.specs.Prelude.{◌≡◌, ◌≢◌, ℕ, ◌+◌, ◌<◌, ◌≤◌, ◌⊎◌, Bool, true, false, List, [], ◌∷◌, ◌++◌, map, length, Option, Some, None, Result, Ok, Err, slice_get, IfSome}
+use Rattle.std.specs.Result.{IsErrAnd}
 use Rattle.atomic_table.specs.Table.{rest}
 use Rattle.vt_key.specs.Times.{Time, TimeAtMost, TimeBefore}
 use Rattle.vt_key.specs.declared.fault.Fault.{Fault}
@@ -11,6 +12,7 @@ use Rattle.vt_model.specs.declared.rows.Record.{Record}
 use Rattle.vt_model.specs.declared.settings.Config.{Config}
 use Rattle.vt_model.specs.Handler.{Handlers}
 use Rattle.vt_model.specs.Simulation.{Simulation, simulation_of}
+use Rattle.vt_model.specs.Sequential.{seq_records}
 use Rattle.vt_steps.specs.declared.step.Step.{Step}
 use Rattle.vt_steps.specs.declared.step.Step.TheVariants.{Cut, Report, Commit, Close}
 use Rattle.vt_steps.specs.declared.step.Reply.{Reply}
@@ -21,7 +23,7 @@ use Rattle.vt_steps.specs.PartSteps.{letters_for}
 use Rattle.vt_steps.specs.Next.{next, run, may_send}
 use Rattle.vt_steps.specs.Cells.{Cell, in_book, content, worker_of, cell_of, act}
 use Rattle.vt_steps.specs.Laws.{IsAny}
-use Rattle.vt_steps.specs.Marked.{Marked, Made, answered, made_done, Each, IsMarkedRight, own_steps_of, shown, has_cut_since}
+use Rattle.vt_steps.specs.Marked.{Marked, Made, answered, made_done, Each, IsMarkedRight, own_steps_of, shown, has_cut_since, has_closed}
 use Rattle.vt_kernel.specs.Held.{HeldWorker, StandsFor}
 use Rattle.vt_kernel.specs.Local.{local_steps}
 use Rattle.vt_kernel.specs.Guards.{IsSendRefusal}
@@ -206,3 +208,39 @@ module _ {S P : Type 0} (sim : Simulation S P) where
   IsCloseRefusal v fault =
       ((fault ≡ Busy) × (1 < sim.workers))
       ⊎ (IsRefusedBy v Close fault × (((fault ≡ Closed) × (v.part.floor ≡ sim.end)) ⊎ ((fault ≡ NotLawful) × TimeBefore v.seen sim.end)))
+
+-- ---- what the book shows
+
+module _ {S P : Type 0} (sim : Simulation S P) where
+  -- a floor that the book had after a step of the place: there is a list of steps in which the place's are its own, local steps of
+  -- the place, and then that step, which left this floor. The place was shown none above it
+  pub record IsFloorLeft (v : View P) (step : Step) (floor : Time) : Type 0 where
+    pub log : List Marked
+    pub right : Each (IsMarkedRight sim) log
+    pub mine : own_steps_of sim v.worker log ≡ map answered v.mine
+    pub own : sim.workers ≡ 1 → Each (λ m. m.worker ≡ v.worker) log
+    pub steps : List Step
+    pub before : Part P
+    pub led : local_steps sim v.worker steps v.part ≡ Some before
+    pub floor_is : floor ≡ book_floor sim.end (next sim (run sim (shown sim log) steps) step).world.book
+    pub rises : TimeAtMost v.seen floor
+
+  -- records that a place is shown: the sequential run's before a floor of the book after some list of steps in which the place's
+  -- are its own. The place was shown none above it, and where it has closed the book it is the end of the run
+  pub record AreRecordsShown (v : View P) (floor : Time) (records : List Record) : Type 0 where
+    pub log : List Marked
+    pub right : Each (IsMarkedRight sim) log
+    pub mine : own_steps_of sim v.worker log ≡ map answered v.mine
+    pub own : sim.workers ≡ 1 → Each (λ m. m.worker ≡ v.worker) log
+    pub floor_is : floor ≡ book_floor sim.end (shown sim log).book
+    pub records_are : records ≡ seq_records sim floor
+    pub rises : TimeAtMost v.seen floor
+    pub closed : has_closed (map answered v.mine) ≡ true → floor ≡ sim.end
+
+  -- why a call that shows records is refused: the book was claimed by another place, or memory was refused
+  abbrev pub IsRecordsRefusal : Fault → Type 0
+  IsRecordsRefusal fault = ((fault ≡ Busy) × (1 < sim.workers)) ⊎ (fault ≡ Memory)
+
+-- a place that has closed the book is refused, as busy or as closed
+abbrev pub IsRefusedOnceClosed : {X P : Type 0} → View P → Result X Fault → Type 0
+IsRefusedOnceClosed v result = has_closed (map answered v.mine) ≡ true → IsErrAnd result (λ fault. (fault ≡ Busy) ⊎ (fault ≡ Closed))
