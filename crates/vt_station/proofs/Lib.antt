@@ -7,4 +7,5 @@ pub mod ActLemmas
 pub mod CallLemmas
 pub mod Opening
 pub mod BoardLemmas
+pub mod BookLemmas
 pub mod RefusalLemmas

@@ -1,31 +1,43 @@
 -- Refusals that are found in a claimed cell, as refusals of a world that cells and places showed.
-use Rattle.std.proofs.Common.{◌≡◌, ◌⊎◌, inl, inr, ℕ, ◌+◌, ◌<◌, ◌≤◌, Bool, true, false, cond, List, [], ◌∷◌, map, refl, sym, ◌∙◌, ap, subst, arith, nat_le, Option, Some, None, Result, Ok, Err, slice_get}
+use Rattle.std.proofs.Common.{◌≡◌, ◌⊎◌, inl, inr, ℕ, ◌+◌, ◌<◌, ◌≤◌, Bool, true, false, cond, ◌&&◌, List, [], ◌∷◌, ◌++◌, map, refl, sym, ◌∙◌, ap, subst, arith, nat_le, Option, Some, None, Result, Ok, Err, slice_get}
 use Rattle.std.proofs.lemmas.Bool.Decides.{nat_tests}
 use Rattle.vt_key.specs.Times.{Time, TimeAtMost, TimeBefore, time_at_most}
 use Rattle.vt_key.specs.declared.fault.Fault.{Fault}
 use Rattle.vt_key.specs.declared.fault.Fault.TheVariants.{Memory, NotLawful, Busy, Closed, Exhausted}
 use Rattle.vt_key.specs.declared.limits.TheConstants.{MAX_COUNT}
+use Rattle.vt_model.specs.declared.rows.Row.{Row}
 use Rattle.vt_model.specs.Histories.{IsLawful}
 use Rattle.vt_model.specs.Simulation.{Simulation}
 use Rattle.vt_steps.specs.declared.step.Step.{Step}
 use Rattle.vt_steps.specs.declared.step.Step.TheVariants.{Cut, Report, Commit, Close}
 use Rattle.vt_steps.specs.declared.step.Reply.TheVariants.{Done}
 use Rattle.vt_steps.specs.World.{Part, Board, Book, World, book_floor}
-use Rattle.vt_steps.specs.PartSteps.{report_sent, report_got, report_least}
+use Rattle.vt_steps.specs.PartSteps.{report_sent, report_got, report_least, rows_of_commit}
 use Rattle.vt_steps.specs.BoardSteps.{cut_board, may_report}
-use Rattle.vt_steps.specs.BookSteps.{may_close}
+use Rattle.vt_steps.specs.BookSteps.{may_commit, may_close, with_rows}
 use Rattle.vt_steps.specs.Next.{Outcome, next, run, refused, replied}
 use Rattle.vt_steps.specs.Cells.{board_cell, book_cell, Cell, on_board, in_book, content}
-use Rattle.vt_steps.specs.Marked.{Marked, Made, Answered, answered, Each, IsMarkedRight, own_steps_of, shown, LeadLocally, DoesSo, made_done, has_cut_since}
+use Rattle.vt_steps.specs.Marked.{Marked, Made, Answered, answered, unmarked, marked, LeadsLocally, Each, IsMarkedRight, own_steps_of, shown, LeadLocally, DoesSo, made_done, has_cut_since}
+use Rattle.vt_steps.proofs.Floors.{AreTimesSound, reached-times}
+use Rattle.vt_steps.proofs.Lists.{Every}
 use Rattle.vt_steps.proofs.LocalLeads.{local-does}
+use Rattle.vt_steps.proofs.MarkedRuns.{steps-append, shown-marked}
+use Rattle.vt_steps.proofs.OwnCloses.{closed-floors, floor-ends, unclosable-floor, closed-known}
+use Rattle.vt_steps.proofs.Places.{get-within}
+use Rattle.vt_steps.proofs.ReachedBooks.{reached-falls}
+use Rattle.vt_steps.proofs.Tests.{passes_both, both_pass}
+use Rattle.std.proofs.lemmas.Option.{slice_get_within}
+use Rattle.vt_book.specs.Books.{may_hand, are_within}
 use Rattle.vt_steps.proofs.OwnCuts.{refused-cut-known}
 use Rattle.vt_board.specs.Calls.{counted, cut_outcome, takes_report}
 use Rattle.vt_kernel.specs.Local.{local_steps}
 use Rattle.vt_world.specs.Calls.{IsStepRefusal, IsSpent}
-use Rattle.vt_world.proofs.CellSteps.{next-cut, next-not_cut, next-not_report}
+use Rattle.vt_world.proofs.CellSteps.{next-cut, next-not_cut, next-not_report, next-commit, next-commit_closed, next-not_close, next-close_closed}
+use Rattle.vt_world.proofs.CommitRows.{IsBetween, commit-between}
 use Rattle.vt_station.specs.declared.view.View.{View}
-use Rattle.vt_station.specs.Calls.{Known, IsRefusedBy, IsCutRefusal, IsReportRefusal}
+use Rattle.vt_station.specs.Calls.{Known, IsRefusedBy, IsCutRefusal, IsReportRefusal, IsCommitRefusal, IsCloseRefusal, IsFloorLeft, AreRecordsShown}
 use Rattle.vt_station.proofs.BoardLemmas.{fails-first}
+use Rattle.vt_station.proofs.BookLemmas.{all-within, locals-floor, run-one}
 use Rattle.vt_station.proofs.Releases.{steps-lead}
 
 module _ {S P : Type 0} (sim : Simulation S P) (v : View P) (k : ℕ) (cell : Cell P) (known : Known sim v k cell) (steps : List Step) (before : Part P) (led : local_steps sim v.worker steps v.part ≡ Some before) where
@@ -93,3 +105,87 @@ module _ {S P : Type 0} (sim : Simulation S P) (v : View P) (k : ℕ) (cell : Ce
       ap (may_report v.worker (report_least sim.end before)) then-board ∙ ap (λ t. may_report v.worker t there.board) (sym value) ∙ not_may in
       let out = next-not_report sim then_there v.worker before then-part not_there in
       inr (refused-by (Report v.worker) NotLawful (inl (ap (λ (o : Outcome P). o.answer) out)), refl)
+
+  -- ---- commit
+
+  module _ (lawful : IsLawful sim) where
+    -- the world after the place's local steps, as one that marked steps lead to
+    abbrev marks : List Marked
+    marks = known.log ++ marked v.worker steps
+
+    whole : shown sim marks ≡ then_there
+    whole = shown-marked sim known.log v.worker steps
+
+    sound : AreTimesSound sim (shown sim marks)
+    sound = reached-times sim lawful 0 (unmarked marks)
+
+    part-there : slice_get (shown sim marks).parts v.worker ≡ Some before
+    part-there = ap (λ (n : World P). slice_get n.parts v.worker) whole ∙ then-part
+
+    book-there : (shown sim marks).book ≡ there.book
+    book-there = ap (λ (n : World P). n.book) whole ∙ then-book
+
+    -- what the worker hands in up to its floor is lawful
+    pub commit-may : (rows : List Row) (floor : Time) → rows ≡ rows_of_commit sim v.worker before → before.floor ≡ floor → may_hand (record { end = sim.end; book = there.book }) v.worker rows floor ≡ true
+    commit-may rows floor rows_are own =
+        let world = shown sim marks in
+        let s = sound in
+        let size = s.floors.size in
+        let handed_in = get-within world.book.floors v.worker (let a = slice_get_within world.parts v.worker before part-there in omega (arith, a, size)) in
+        let low = s.floors.handed_in v.worker before handed_in.0 part-there handed_in.1 in
+        let announced = s.floors.announced v.worker before part-there in
+        let bounded : TimeAtMost world.board.announced sim.end = s.floors.bounded in
+        let above : time_at_most handed_in.0 floor ≡ true = grind (arith, nat_tests) in
+        let ends : time_at_most floor sim.end ≡ true = grind (arith, nat_tests) in
+        let here : slice_get there.book.floors v.worker ≡ Some handed_in.0 = ap (λ (b : Book). slice_get b.floors v.worker) (sym book-there) ∙ handed_in.1 in
+        let between : Every (IsBetween handed_in.0 floor) rows =
+        subst (λ t. Every (IsBetween handed_in.0 t) rows) own
+        (subst (Every (IsBetween handed_in.0 before.floor)) (sym rows_are) (commit-between sim lawful 0 (unmarked marks) v.worker before handed_in.0 part-there handed_in.1)) in
+        passes_both (may_commit (slice_get there.book.floors v.worker) floor) (time_at_most floor sim.end && are_within (slice_get there.book.floors v.worker) floor rows)
+        (ap (λ o. may_commit o floor) here ∙ above)
+        (passes_both (time_at_most floor sim.end) (are_within (slice_get there.book.floors v.worker) floor rows) ends
+        (ap (λ o. are_within o floor rows) here ∙ all-within handed_in.0 floor rows between))
+
+    -- the floor of the part in the view is that of the part before the step
+    pub own-floor : before.floor ≡ v.part.floor
+    own-floor = locals-floor sim v.worker steps v.part before led
+
+    -- a commit that the book refuses as closed
+    pub commit-closed : there.book.is_closed ≡ true → IsCommitRefusal sim v Closed
+    commit-closed closed =
+        let out = next-commit_closed sim then_there v.worker (ap (λ (b : Book). b.is_closed) then-book ∙ closed) in
+        inr (
+          refused-by (Commit v.worker) Closed (inl (ap (λ (o : Outcome P). o.answer) out)),
+          inl (refl, closed-floors sim lawful known.log v.worker v.part closed known.part),
+        )
+
+    -- one for which memory was refused
+    pub commit-memory : there.book.is_closed ≡ false → may_commit (slice_get there.book.floors v.worker) before.floor ≡ true → IsCommitRefusal sim v Memory
+    commit-memory open_is may =
+        let out = next-commit sim then_there v.worker before then-part (ap (λ (b : Book). b.is_closed) then-book ∙ open_is) (ap (λ (b : Book). may_commit (slice_get b.floors v.worker) before.floor) then-book ∙ may) in
+        inr (refused-by (Commit v.worker) Memory (inr (Done, ap (λ (o : Outcome P). o.answer) out, inr (refl, tt, λ past. past))), inr refl)
+
+    -- the floor that a commit leaves
+    pub commit-floor : (rows : List Row) (floor : Time) (left : Time) → rows ≡ rows_of_commit sim v.worker before → before.floor ≡ floor → there.book.is_closed ≡ false →
+        may_commit (slice_get there.book.floors v.worker) before.floor ≡ true → left ≡ book_floor sim.end (with_rows v.worker rows floor there.book) → IsFloorLeft sim v (Commit v.worker) left
+    commit-floor rows floor left rows_are own open_is may is =
+        let out = next-commit sim then_there v.worker before then-part (ap (λ (b : Book). b.is_closed) then-book ∙ open_is) (ap (λ (b : Book). may_commit (slice_get b.floors v.worker) before.floor) then-book ∙ may) in
+        let after : (next sim then_there (Commit v.worker)).world.book ≡ with_rows v.worker rows floor there.book =
+        ap (λ (o : Outcome P). o.world.book) out ∙ (λ i. with_rows v.worker (sym rows_are i) (own i) (then-book i)) in
+        let falls = reached-falls sim lawful 0 (unmarked known.log) (steps ++ Commit v.worker ∷ []) in
+        let same : run sim there (steps ++ Commit v.worker ∷ []) ≡ (next sim then_there (Commit v.worker)).world = steps-append sim there steps (Commit v.worker ∷ []) ∙ run-one sim then_there (Commit v.worker) in
+        let up : TimeAtMost (book_floor sim.end there.book) (book_floor sim.end (next sim then_there (Commit v.worker)).world.book) =
+        subst (λ (n : World P). TimeAtMost (book_floor sim.end there.book) (book_floor sim.end n.book)) same falls.floor in
+        let floor_is : left ≡ book_floor sim.end (next sim then_there (Commit v.worker)).world.book = is ∙ ap (book_floor sim.end) (sym after) in
+        let low = known.seen in
+        record {
+          log = known.log;
+          right = known.right;
+          mine = known.mine;
+          own = known.own;
+          steps = steps;
+          before = before;
+          led = led;
+          floor_is = floor_is;
+          rises = omega (arith, up, floor_is, low);
+        }

@@ -33,7 +33,7 @@ use Rattle.vt_station.proofs.Keeps.{releases}
 -- ---- local steps of a kernel as local steps of a worker
 
 module _ {S P : Type 0} (sim : Simulation S P) (w : ℕ) where
-  if-own : {X : Type 0} (v : ℕ) (o : Option X) (x : X) → cond (nat_eq v w) o None ≡ Some x → (v ≡ w) × (o ≡ Some x)
+  pub if-own : {X : Type 0} (v : ℕ) (o : Option X) (x : X) → cond (nat_eq v w) o None ≡ Some x → (v ≡ w) × (o ≡ Some x)
   if-own v o x e =
       elim (eqb_tells v w) [
         | inl t ↦ (t.1, sym (ap (λ b. cond b o None) t.0) ∙ e)

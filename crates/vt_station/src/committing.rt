@@ -58,3 +58,89 @@ impl<M: EventModel> Station<M> {
         }
     }
 }
+
+impl<M: EventModel> Station<M> {
+    /// Closes the claimed book.
+    fn close_book(&self, seat: &mut Seat<M>) -> Result<(), Fault>
+        requires table { seat.old.table_id ≡ self.now.table.shared.table_id }
+        requires held { let config = self.now.table.shared.key.config in (book : BookValue) × Holding config seat.old.me (self.now.workers + 1) (in_book book) (in_book book) }
+        ensures same { (seat.new.table_id ≡ seat.old.table_id) × (seat.new.id ≡ seat.old.id) × (seat.new.me.0 ≡ seat.old.me.0) }
+        ensures done { let config = self.now.table.shared.key.config in (book : BookValue) × Holding config seat.old.me (self.now.workers + 1) (in_book book) (in_book book) × MatchResult result
+            (λ _. (book.is_closed ≡ false) × (may_close config.end book ≡ true) × Holding config seat.new.me (self.now.workers + 1) (in_book book) (in_book (closed_book book)))
+            (λ fault. Holding config seat.new.me (self.now.workers + 1) (in_book book) (in_book book)
+                × (((fault ≡ Closed) × (book.is_closed ≡ true)) ⊎ ((fault ≡ NotLawful) × (book.is_closed ≡ false) × (may_close config.end book ≡ false)))) }
+    {
+        let held = seat.slot_mut(&self.table.shared, self.workers + 1);
+        let Slot::Book(book) = held else {
+            unreachable!()
+        };
+        book.close()
+    }
+
+    /// Copies the records that the claimed book shows, and tells its floor.
+    fn copy_records(&self, alloc: Global, seat: &mut Seat<M>) -> Result<(Vec<Record>, Time), Fault>
+        requires table { seat.old.table_id ≡ self.now.table.shared.table_id }
+        requires held { let config = self.now.table.shared.key.config in (book : BookValue) × Holding config seat.old.me (self.now.workers + 1) (in_book book) (in_book book) }
+        ensures same { (seat.new.table_id ≡ seat.old.table_id) × (seat.new.id ≡ seat.old.id) × (seat.new.me.0 ≡ seat.old.me.0) }
+        ensures done { let config = self.now.table.shared.key.config in (book : BookValue) × Holding config seat.old.me (self.now.workers + 1) (in_book book) (in_book book)
+            × Holding config seat.new.me (self.now.workers + 1) (in_book book) (in_book book) × IfOk result (λ r. (r.0.items ≡ book_records config.end book) × (r.1 ≡ book_floor config.end book)) }
+        ensures refused { IfErr result (λ fault. fault ≡ Memory) }
+    {
+        let held = seat.slot_mut(&self.table.shared, self.workers + 1);
+        let Slot::Book(book) = held else {
+            unreachable!()
+        };
+        match book.records(alloc) {
+            Ok(records) => Ok((records, book.floor())),
+            Err(fault) => Err(fault),
+        }
+    }
+}
+
+impl<M: EventModel> Station<M> {
+    /// The commit of a worker. Its rows are made before the book is claimed.
+    pub(crate) fn commit_at(
+        &self,
+        alloc: Global,
+        seat: &mut Seat<M>,
+        kernel: &mut Kernel<M>,
+        worker: u32,
+    ) -> Result<(), Fault>
+        requires table { seat.old.table_id ≡ self.now.table.shared.table_id }
+        requires rests { Rests seat.old.me }
+        requires worker { seat.old.me.0.worker ≡ worker }
+        requires kernel { let key = self.now.table.shared.key in Reaches (M.handlers key.model.value) key.config seat.old.me.0 kernel.old }
+        ensures same { (seat.new.table_id ≡ seat.old.table_id) × (seat.new.id ≡ seat.old.id) × Rests seat.new.me }
+        ensures done { let key = self.now.table.shared.key in MatchResult result
+            (λ _. (shown : TimeValue) × Visited (M.handlers key.model.value) key.config seat.old.me.0 kernel.old (step.Commit worker) reply.Done kernel.new shown seat.new.me.0
+                × IsFloorLeft (simulation_of (M.handlers key.model.value) key.config) seat.old.me.0 (step.Commit worker) shown)
+            (λ _. Stays seat.old.me.0 seat.new.me.0 × (kernel.new ≡ kernel.old)) }
+        ensures refused { let key = self.now.table.shared.key in IfErr result (λ fault. IsCommitRefusal (simulation_of (M.handlers key.model.value) key.config) seat.old.me.0 fault) }
+        ensures closed { IsRefusedOnceClosed seat.old.me.0 result }
+    {
+        let rows = kernel.rows(alloc);
+        let floor = kernel.floor();
+        if !self.claim(seat, self.workers + 1) {
+            return Err(Fault::Busy);
+        }
+        let before = Snapshot::of(kernel);
+        match self.hand_in(seat, worker, &rows, floor) {
+            Ok(shown) => {
+                kernel.fossil();
+                let visit = Visit {
+                    step: Step::Commit(worker),
+                    reply: Reply::Done,
+                    before,
+                    left: Snapshot::of(kernel),
+                    seen: Some(shown),
+                };
+                self.release_visit(seat, self.workers + 1, &visit);
+                Ok(())
+            }
+            Err(fault) => {
+                self.release_unchanged(seat, self.workers + 1, None);
+                Err(fault)
+            }
+        }
+    }
+}
