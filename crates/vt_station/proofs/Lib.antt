@@ -9,3 +9,4 @@ pub mod Opening
 pub mod BoardLemmas
 pub mod BookLemmas
 pub mod RefusalLemmas
+pub mod CommitAt
