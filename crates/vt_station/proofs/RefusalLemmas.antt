@@ -6,25 +6,28 @@ use Rattle.vt_key.specs.declared.fault.Fault.{Fault}
 use Rattle.vt_key.specs.declared.fault.Fault.TheVariants.{Memory, NotLawful, Busy, Closed, Exhausted}
 use Rattle.vt_key.specs.declared.limits.TheConstants.{MAX_COUNT}
 use Rattle.vt_model.specs.declared.rows.Row.{Row}
+use Rattle.vt_model.specs.declared.rows.Record.{Record}
+use Rattle.vt_model.specs.Sequential.{seq_records}
 use Rattle.vt_model.specs.Histories.{IsLawful}
 use Rattle.vt_model.specs.Simulation.{Simulation}
 use Rattle.vt_steps.specs.declared.step.Step.{Step}
 use Rattle.vt_steps.specs.declared.step.Step.TheVariants.{Cut, Report, Commit, Close}
 use Rattle.vt_steps.specs.declared.step.Reply.TheVariants.{Done}
-use Rattle.vt_steps.specs.World.{Part, Board, Book, World, book_floor}
+use Rattle.vt_steps.specs.World.{Part, Board, Book, World, book_floor, book_records}
 use Rattle.vt_steps.specs.PartSteps.{report_sent, report_got, report_least, rows_of_commit}
 use Rattle.vt_steps.specs.BoardSteps.{cut_board, may_report}
 use Rattle.vt_steps.specs.BookSteps.{may_commit, may_close, with_rows}
 use Rattle.vt_steps.specs.Next.{Outcome, next, run, refused, replied}
 use Rattle.vt_steps.specs.Cells.{board_cell, book_cell, Cell, on_board, in_book, content}
-use Rattle.vt_steps.specs.Marked.{Marked, Made, Answered, answered, unmarked, marked, LeadsLocally, Each, IsMarkedRight, own_steps_of, shown, LeadLocally, DoesSo, made_done, has_cut_since}
+use Rattle.vt_steps.specs.Marked.{Marked, Made, Answered, answered, unmarked, marked, LeadsLocally, Each, IsMarkedRight, own_steps_of, shown, LeadLocally, DoesSo, made_done, has_cut_since, has_closed}
 use Rattle.vt_steps.proofs.Floors.{AreTimesSound, reached-times}
 use Rattle.vt_steps.proofs.Lists.{Every}
 use Rattle.vt_steps.proofs.LocalLeads.{local-does}
 use Rattle.vt_steps.proofs.MarkedRuns.{steps-append, shown-marked}
 use Rattle.vt_steps.proofs.OwnCloses.{closed-floors, floor-ends, unclosable-floor, closed-known}
 use Rattle.vt_steps.proofs.Places.{get-within}
-use Rattle.vt_steps.proofs.ReachedBooks.{reached-falls}
+use Rattle.vt_steps.proofs.ReachedBooks.{reached-falls, reached-accounted}
+use Rattle.vt_steps.proofs.Records.{records-right}
 use Rattle.vt_steps.proofs.Tests.{passes_both, both_pass}
 use Rattle.std.proofs.lemmas.Option.{slice_get_within}
 use Rattle.vt_book.specs.Books.{may_hand, are_within}
@@ -188,4 +191,38 @@ module _ {S P : Type 0} (sim : Simulation S P) (v : View P) (k : ℕ) (cell : Ce
           led = led;
           floor_is = floor_is;
           rises = omega (arith, up, floor_is, low);
+        }
+
+    -- ---- close
+
+    pub close-closed : there.book.is_closed ≡ true → IsCloseRefusal sim v Closed
+    close-closed closed =
+        let out = next-close_closed sim then_there (ap (λ (b : Book). b.is_closed) then-book ∙ closed) in
+        inr (
+          refused-by Close Closed (inl (ap (λ (o : Outcome P). o.answer) out)),
+          inl (refl, closed-floors sim lawful known.log v.worker v.part closed known.part),
+        )
+
+    pub close-unlawful : there.book.is_closed ≡ false → may_close sim.end there.book ≡ false → IsCloseRefusal sim v NotLawful
+    close-unlawful open_is not_yet =
+        let out = next-not_close sim then_there (ap (λ (b : Book). b.is_closed) then-book ∙ open_is) (ap (may_close sim.end) then-book ∙ not_yet) in
+        let before_end = unclosable-floor sim lawful known.log not_yet in
+        let low = known.seen in
+        inr (refused-by Close NotLawful (inl (ap (λ (o : Outcome P). o.answer) out)), inr (refl, omega arith))
+
+    -- ---- records
+
+    pub records-shown : (floor : Time) (records : List Record) → floor ≡ book_floor sim.end there.book → records ≡ book_records sim.end there.book → AreRecordsShown sim v floor records
+    records-shown floor records floor_is records_are =
+        let right = records-right sim lawful there (reached-accounted sim lawful 0 (unmarked known.log)) in
+        let low = known.seen in
+        record {
+          log = known.log;
+          right = known.right;
+          mine = known.mine;
+          own = known.own;
+          floor_is = floor_is;
+          records_are = records_are ∙ right.records ∙ ap (seq_records sim) (sym floor_is);
+          rises = omega (arith, low, floor_is);
+          closed = λ h. floor_is ∙ (reached-times sim lawful 0 (unmarked known.log)).floors.closed (closed-known sim v.worker known.log known.right (ap has_closed known.mine ∙ h));
         }

@@ -60,13 +60,13 @@ impl<M: EventModel> Station<M> {
 }
 
 impl<M: EventModel> Station<M> {
-    /// Closes the claimed book.
-    fn close_book(&self, seat: &mut Seat<M>) -> Result<(), Fault>
+    /// Closes the claimed book, and tells its floor, which is the end of the run.
+    fn close_book(&self, seat: &mut Seat<M>) -> Result<Time, Fault>
         requires table { seat.old.table_id ≡ self.now.table.shared.table_id }
         requires held { let config = self.now.table.shared.key.config in (book : BookValue) × Holding config seat.old.me (self.now.workers + 1) (in_book book) (in_book book) }
         ensures same { (seat.new.table_id ≡ seat.old.table_id) × (seat.new.id ≡ seat.old.id) × (seat.new.me.0 ≡ seat.old.me.0) }
         ensures done { let config = self.now.table.shared.key.config in (book : BookValue) × Holding config seat.old.me (self.now.workers + 1) (in_book book) (in_book book) × MatchResult result
-            (λ _. (book.is_closed ≡ false) × (may_close config.end book ≡ true) × Holding config seat.new.me (self.now.workers + 1) (in_book book) (in_book (closed_book book)))
+            (λ floor. (book.is_closed ≡ false) × (may_close config.end book ≡ true) × Holding config seat.new.me (self.now.workers + 1) (in_book book) (in_book (closed_book book)) × (floor ≡ book_floor config.end book))
             (λ fault. Holding config seat.new.me (self.now.workers + 1) (in_book book) (in_book book)
                 × (((fault ≡ Closed) × (book.is_closed ≡ true)) ⊎ ((fault ≡ NotLawful) × (book.is_closed ≡ false) × (may_close config.end book ≡ false)))) }
     {
@@ -74,7 +74,10 @@ impl<M: EventModel> Station<M> {
         let Slot::Book(book) = held else {
             unreachable!()
         };
-        book.close()
+        match book.close() {
+            Ok(()) => Ok(book.floor()),
+            Err(fault) => Err(fault),
+        }
     }
 
     /// Copies the records that the claimed book shows, and tells its floor.
@@ -136,6 +139,57 @@ impl<M: EventModel> Station<M> {
                 };
                 self.release_visit(seat, self.workers + 1, &visit);
                 Ok(())
+            }
+            Err(fault) => {
+                self.release_unchanged(seat, self.workers + 1, None);
+                Err(fault)
+            }
+        }
+    }
+}
+
+impl<M: EventModel> Station<M> {
+    /// The close.
+    pub(crate) fn close_at(&self, seat: &mut Seat<M>) -> Result<(), Fault>
+        requires table { seat.old.table_id ≡ self.now.table.shared.table_id }
+        requires rests { Rests seat.old.me }
+        ensures same { (seat.new.table_id ≡ seat.old.table_id) × (seat.new.id ≡ seat.old.id) × Rests seat.new.me }
+        ensures done { MatchResult result (λ _. Closes seat.old.me.0 self.now.table.shared.key.config.end seat.new.me.0) (λ _. Stays seat.old.me.0 seat.new.me.0) }
+        ensures refused { let key = self.now.table.shared.key in IfErr result (λ fault. IsCloseRefusal (simulation_of (M.handlers key.model.value) key.config) seat.old.me.0 fault) }
+        ensures closed { IsRefusedOnceClosed seat.old.me.0 result }
+    {
+        if !self.claim(seat, self.workers + 1) {
+            return Err(Fault::Busy);
+        }
+        match self.close_book(seat) {
+            Ok(floor) => {
+                self.release_close(seat, self.workers + 1, floor);
+                Ok(())
+            }
+            Err(fault) => {
+                self.release_unchanged(seat, self.workers + 1, None);
+                Err(fault)
+            }
+        }
+    }
+
+    /// The records that the book shows.
+    pub(crate) fn records_at(&self, alloc: Global, seat: &mut Seat<M>) -> Result<Vec<Record>, Fault>
+        requires table { seat.old.table_id ≡ self.now.table.shared.table_id }
+        requires rests { Rests seat.old.me }
+        ensures same { (seat.new.table_id ≡ seat.old.table_id) × (seat.new.id ≡ seat.old.id) × Rests seat.new.me }
+        ensures done { let key = self.now.table.shared.key in MatchResult result
+            (λ v. (floor : TimeValue) × AreRecordsShown (simulation_of (M.handlers key.model.value) key.config) seat.old.me.0 floor v.items × Unvisited seat.old.me.0 floor seat.new.me.0)
+            (λ _. Stays seat.old.me.0 seat.new.me.0) }
+        ensures refused { let key = self.now.table.shared.key in IfErr result (λ fault. IsRecordsRefusal (simulation_of (M.handlers key.model.value) key.config) fault) }
+    {
+        if !self.claim(seat, self.workers + 1) {
+            return Err(Fault::Busy);
+        }
+        match self.copy_records(alloc, seat) {
+            Ok((records, floor)) => {
+                self.release_unchanged(seat, self.workers + 1, Some(floor));
+                Ok(records)
             }
             Err(fault) => {
                 self.release_unchanged(seat, self.workers + 1, None);

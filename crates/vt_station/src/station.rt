@@ -1,14 +1,17 @@
 //! The station and its places.
 
-ghost use Rattle.std.specs.Prelude.{◌≡◌, ◌<◌, ◌==◌, true, false};
+ghost use Rattle.std.specs.Prelude.{◌≡◌, ◌<◌, ◌==◌, true, false, Ok};
 ghost use prog.Atomic.{either};
 ghost use Rattle.atomic_table.specs.Table.{Allows};
 ghost use Rattle.vt_model.specs.Simulation.{simulation_of};
-ghost use Rattle.vt_steps.specs.Cells.{Cell, worker_of, cell_of};
+ghost use Rattle.vt_steps.specs.declared.step.Step.TheVariants.{Close};
+ghost use Rattle.vt_steps.specs.declared.step.Reply.TheVariants.{Done};
+ghost use Rattle.vt_steps.specs.World.{Part};
+ghost use Rattle.vt_steps.specs.Cells.{Cell, worker_of, cell_of, book_cell, act};
 ghost use Rattle.vt_steps.specs.Laws.{IsAny};
 ghost use Rattle.vt_station.specs.Slots.{cell_count, cell_at};
 ghost use Rattle.vt_station.specs.Kept.{Kept, Rests};
-ghost use Rattle.vt_station.specs.Calls.{Took, Holding, Acts, MaySee, Reaches, Visited, Unvisited, seen_or};
+ghost use Rattle.vt_station.specs.Calls.{Took, Holding, Acts, MaySee, Reaches, Visited, Unvisited, Closes, ShowsFloor, seen_or};
 
 use crate::rule::{About, Aim, Law, Tell};
 use crate::slot::Slot;
@@ -121,5 +124,18 @@ impl<M: EventModel> Station<M> {
         ensures stays { Unvisited seat.old.me.0 (seen_or seat.old.me.0.seen seen) seat.new.me.0 }
     {
         store::<M, Brand, Option<Time>>(&self.table.shared, seat, cell, &seen);
+    }
+
+    /// Gives the cell of the book back closed.
+    pub(crate) fn release_close(&self, seat: &mut Seat<M>, cell: usize, seen: Time)
+        requires table { seat.old.table_id ≡ self.now.table.shared.table_id }
+        requires near { cell < cell_count self.now.workers }
+        requires book { cell_at self.now.table.shared.key.config.workers cell ≡ book_cell }
+        requires held { let key = self.now.table.shared.key in (found : Cell _) × (now : Cell _) × Holding key.config seat.old.me cell found now
+            × ((part : Part _) → act (simulation_of (M.handlers key.model.value) key.config) Close part found ≡ record { part = part; cell = now; answer = Ok Done }) × ShowsFloor key.config.end seen now }
+        ensures same { (seat.new.table_id ≡ seat.old.table_id) × (seat.new.id ≡ seat.old.id) × Rests seat.new.me }
+        ensures done { Closes seat.old.me.0 seen seat.new.me.0 }
+    {
+        store::<M, Brand, Time>(&self.table.shared, seat, cell, &seen);
     }
 }
