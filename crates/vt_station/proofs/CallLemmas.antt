@@ -1,5 +1,5 @@
 -- From a claim to a release: what a seat holds in between, and that its place is the same.
-use Rattle.std.proofs.Common.{◌≡◌, ℕ, ◌+◌, ◌<◌, ◌≤◌, List, [], ◌∷◌, refl, sym, ◌∙◌, ap, subst, arith, Option, Some, None}
+use Rattle.std.proofs.Common.{◌≡◌, ℕ, ◌+◌, ◌<◌, ◌≤◌, List, [], ◌∷◌, refl, sym, ◌∙◌, ap, subst, arith, Option, Some, None, Result, Ok, Err, MatchResult}
 use Rattle.vt_key.specs.Times.{Time}
 use Rattle.vt_key.specs.declared.letter.Mail.{Mail}
 use Rattle.vt_model.specs.Handler.{Handlers}
@@ -11,6 +11,7 @@ use Rattle.vt_steps.specs.World.{Board, Book}
 use Rattle.vt_steps.specs.Cells.{CellName, inbox_of, board_cell, book_cell, Cell, in_inbox, on_board, in_book, content}
 use Rattle.vt_steps.specs.Marked.{shown}
 use Rattle.vt_kernel.specs.Held.{HeldWorker}
+use Rattle.vt_kernel.specs.Local.{local_steps}
 use Rattle.vt_station.specs.declared.slot.Slot.{Slot}
 use Rattle.vt_station.specs.declared.view.View.{View}
 use Rattle.vt_station.specs.Hands.{Hand, empty_hand, holding}
@@ -94,3 +95,34 @@ module _ {S P : Type 0} (sim : Simulation S P) (config : Config) (m after : Sat 
       let world = shown sim t.known.log in
       let at : content world book_cell ≡ Some (held_in t.slot) = ap (content world) (sym (book-name sim.workers k more)) ∙ t.known.shows in
       took-held (in_book world.book) (book-holds world (held_in t.slot) at)
+
+-- what holds in either case
+pub either-case : {T E : Type 0} (r : Result T E) (A : T → Type 0) (B : E → Type 0) (Q : Type 0) → ((x : T) → A x → Q) → ((e : E) → B e → Q) → MatchResult r A B → Q
+either-case (Ok x) A B Q f g h = f x h
+either-case (Err e) A B Q f g h = g e h
+
+module _ {S P K : Type 0} (handlers : Handlers S P K) (config : Config) where
+  -- after a visit the kernel is that of the place, without a further step
+  pub ready-visited : (v : View P) (before left : HeldWorker S P K) (step : Step) (reply : Reply) (seen : Time) (after : View P) → Reaches handlers config v before → Visited handlers config v before step reply left seen after → Reaches handlers config after left
+  ready-visited v before left step reply seen after r x = record {
+    worker = x.visits.worker ∙ r.worker ∙ sym x.same.worker;
+    config_is = x.visits.config_is ∙ r.config_is;
+    steps = [];
+    part = after.part;
+    led = refl;
+    stands = x.visits.stands;
+  }
+
+  -- and where nothing was done it still is
+  pub ready-stays : (v : View P) (before left : HeldWorker S P K) (after : View P) → Reaches handlers config v before → Stays v after × (left ≡ before) → Reaches handlers config after left
+  ready-stays v before left after r x =
+      let sim = simulation_of handlers config in
+      subst (Reaches handlers config after) (sym x.1)
+      (record {
+        worker = r.worker ∙ sym x.0.0.same.worker;
+        config_is = r.config_is;
+        steps = r.steps;
+        part = r.part;
+        led = (λ i. local_steps sim (x.0.0.same.worker i) r.steps (x.0.0.part i)) ∙ r.led;
+        stands = r.stands;
+      })

@@ -1,6 +1,7 @@
 //! A Time Warp world that threads may share: inboxes, board and book in the cells of one table, and a place for each worker.
 #![tactic(auto)]
 
+mod calls;
 mod committing;
 mod cutting;
 mod making;
