@@ -86,11 +86,14 @@ module _ {S P K : Type 0} (handlers : Handlers S P K) (config : Config) (lawful 
       subst (λ (c : Cell P). Leads sim m.0.worker (cell_at sim.workers k) m.0.part found [] m.0.part c []) (sym h.now_is) (leads-nowhere sim m.0.worker (cell_at sim.workers k) m.0.part found) in
       releases sim config lawful slots id k m found h.slot [] m.0.part [] (seen_or m.0.seen seen) (λ (n : ℕ) (after : Sat P). (after.1 ≡ []) × Unvisited m.0 (seen_or m.0.seen seen) after.0) near h.carried h.hand h.right same
       (subst (λ (c : Cell P). TimeAtMost (seen_or m.0.seen seen) m.0.seen ⊎ ShowsFloor sim.end (seen_or m.0.seen seen) c) (sym h.now_is) (may-see config.end m.0.seen seen found sees))
-      (λ n. (refl, record {
-        steps = record { same = record { worker = refl; made = refl; waiting = refl }; part = refl; mine = append-nil m.0.mine };
-        floor = refl;
-        rests = refl;
-      }))
+      (λ n. (
+        refl,
+        record {
+          steps = record { same = record { worker = refl; made = refl; waiting = refl }; part = refl; mine = append-nil m.0.mine };
+          floor = refl;
+          rests = refl;
+        },
+      ))
 
   -- after local steps and one step at the cell
   pub leaves-visited : (slots id k : ℕ) (m : Sat P) (seen : Option Time) (found now : Cell P) (before left : HeldWorker S P K) (step : Step) (reply : Reply) → k < cell_count config.workers
@@ -106,12 +109,15 @@ module _ {S P K : Type 0} (handlers : Handlers S P K) (config : Config) (lawful 
       (λ (n : ℕ) (after : Sat P). (after.1 ≡ []) × Visited handlers config m.0 before step reply left (seen_or m.0.seen seen) after.0) near h.carried h.hand h.right
       (subst (λ (c : Cell P). Leads sim m.0.worker (cell_at sim.workers k) m.0.part found (way.steps ++ step ∷ []) a.0 c (made_done way.steps ++ record { step = step; reply = reply } ∷ [])) (sym h.now_is) goes)
       (subst (λ (c : Cell P). TimeAtMost (seen_or m.0.seen seen) m.0.seen ⊎ ShowsFloor sim.end (seen_or m.0.seen seen) c) (sym h.now_is) (may-see config.end m.0.seen seen now sees))
-      (λ n. (refl, record {
-        visits = record { steps = way.steps; part = way.part; led = way.led; stood = way.stands; mine = refl; stands = a.2; worker = does.worker; config_is = does.config_is };
-        same = record { worker = refl; made = refl; waiting = refl };
-        floor = refl;
-        rests = refl;
-      }))
+      (λ n. (
+        refl,
+        record {
+          visits = record { steps = way.steps; part = way.part; led = way.led; stood = way.stands; mine = refl; stands = a.2; worker = does.worker; config_is = does.config_is };
+          same = record { worker = refl; made = refl; waiting = refl };
+          floor = refl;
+          rests = refl;
+        },
+      ))
 
   -- after a close
   pub leaves-closed : (slots id k : ℕ) (m : Sat P) (seen : Time) (found now : Cell P) → k < cell_count config.workers → cell_at config.workers k ≡ book_cell → Holding config m k found now

@@ -26,7 +26,12 @@ impl<M: EventModel> Station<M> {
     /// [`Fault::NotLawful`]: `v` is this worker, or the kernel has no letter for a process of `v`. [`Fault::Exhausted`]: the count of
     /// mail sent would pass 2^63. [`Fault::Busy`]: another place had claimed the inbox. [`Fault::Memory`]: memory was refused.
     /// They are found in this order, and after each of them the place and the kernel are as they were.
-    pub fn post(&self, place: &mut Place<M::Payload>, kernel: &mut Kernel<M>, v: u32) -> Result<(), Fault>
+    pub fn post(
+        &self,
+        place: &mut Place<M::Payload>,
+        kernel: &mut Kernel<M>,
+        v: u32,
+    ) -> Result<(), Fault>
         requires own { place.old.seat.table_id ≡ self.now.table.shared.table_id }
         requires kernel { let key = self.now.table.shared.key in Reaches (M.handlers key.model.value) key.config place.old.seat.me.0 kernel.old }
         ensures same { (place.new.seat.table_id ≡ place.old.seat.table_id) × (place.new.worker ≡ place.old.worker) }
@@ -77,7 +82,11 @@ impl<M: EventModel> Station<M> {
     ///
     /// [`Fault::Busy`]: another place had claimed the board. [`Fault::NotLawful`]: no round is open, somebody hasn't cut in it, or the
     /// worker has reported in this pass. After either the place and the kernel are as they were.
-    pub fn report(&self, place: &mut Place<M::Payload>, kernel: &mut Kernel<M>) -> Result<Report, Fault>
+    pub fn report(
+        &self,
+        place: &mut Place<M::Payload>,
+        kernel: &mut Kernel<M>,
+    ) -> Result<Report, Fault>
         requires own { place.old.seat.table_id ≡ self.now.table.shared.table_id }
         requires kernel { let key = self.now.table.shared.key in Reaches (M.handlers key.model.value) key.config place.old.seat.me.0 kernel.old }
         ensures same { (place.new.seat.table_id ≡ place.old.seat.table_id) × (place.new.worker ≡ place.old.worker) }
@@ -94,13 +103,18 @@ impl<M: EventModel> Station<M> {
     ///
     /// [`Fault::Busy`]: another place had claimed the book. [`Fault::Closed`]: the book is closed. [`Fault::Memory`]: memory was
     /// refused. After each of them the place and the kernel are as they were.
-    pub fn commit(&self, alloc: Global, place: &mut Place<M::Payload>, kernel: &mut Kernel<M>) -> Result<(), Fault>
+    pub fn commit(
+        &self,
+        alloc: Global,
+        place: &mut Place<M::Payload>,
+        kernel: &mut Kernel<M>,
+    ) -> Result<(), Fault>
         requires own { place.old.seat.table_id ≡ self.now.table.shared.table_id }
         requires kernel { let key = self.now.table.shared.key in Reaches (M.handlers key.model.value) key.config place.old.seat.me.0 kernel.old }
         ensures same { (place.new.seat.table_id ≡ place.old.seat.table_id) × (place.new.worker ≡ place.old.worker) }
         ensures done { let key = self.now.table.shared.key in MatchResult result
             (λ _. (shown : TimeValue) × Visited (M.handlers key.model.value) key.config place.old.seat.me.0 kernel.old (step.Commit place.old.worker) reply.Done kernel.new shown place.new.seat.me.0
-                × IsFloorLeft (simulation_of (M.handlers key.model.value) key.config) place.old.seat.me.0 (step.Commit place.old.worker) shown)
+            × IsFloorLeft (simulation_of (M.handlers key.model.value) key.config) place.old.seat.me.0 (step.Commit place.old.worker) shown)
             (λ _. Stays place.old.seat.me.0 place.new.seat.me.0 × (kernel.new ≡ kernel.old)) }
         ensures refused { let key = self.now.table.shared.key in IfErr result (λ fault. IsCommitRefusal (simulation_of (M.handlers key.model.value) key.config) place.old.seat.me.0 fault) }
         ensures closed { IsRefusedOnceClosed place.old.seat.me.0 result }
@@ -127,7 +141,11 @@ impl<M: EventModel> Station<M> {
     ///
     /// [`Fault::Busy`]: another place had claimed the book. [`Fault::Memory`]: memory was refused. After either the place is as it
     /// was.
-    pub fn records(&self, alloc: Global, place: &mut Place<M::Payload>) -> Result<Vec<Record>, Fault>
+    pub fn records(
+        &self,
+        alloc: Global,
+        place: &mut Place<M::Payload>,
+    ) -> Result<Vec<Record>, Fault>
         requires own { place.old.seat.table_id ≡ self.now.table.shared.table_id }
         ensures same { (place.new.seat.table_id ≡ place.old.seat.table_id) × (place.new.worker ≡ place.old.worker) }
         ensures done { let key = self.now.table.shared.key in MatchResult result

@@ -38,9 +38,9 @@ impl<M: EventModel> Station<M> {
         ensures same { (seat.new.table_id ≡ seat.old.table_id) × (seat.new.id ≡ seat.old.id) × (seat.new.me.0 ≡ seat.old.me.0) }
         ensures done { let config = self.now.table.shared.key.config in (book : BookValue) × Holding config seat.old.me (self.now.workers + 1) (in_book book) (in_book book) × MatchResult result
             (λ shown. (handed : List RowValue) × MatchResult rows.now (λ v. v.items ≡ handed) (λ _. ⊥) × (book.is_closed ≡ false)
-                × Holding config seat.new.me (self.now.workers + 1) (in_book book) (in_book (with_rows worker handed floor book)) × (shown ≡ book_floor config.end (with_rows worker handed floor book)))
+            × Holding config seat.new.me (self.now.workers + 1) (in_book book) (in_book (with_rows worker handed floor book)) × (shown ≡ book_floor config.end (with_rows worker handed floor book)))
             (λ fault. Holding config seat.new.me (self.now.workers + 1) (in_book book) (in_book book)
-                × (((fault ≡ Closed) × (book.is_closed ≡ true)) ⊎ ((fault ≡ Memory) × (book.is_closed ≡ false)))) }
+            × (((fault ≡ Closed) × (book.is_closed ≡ true)) ⊎ ((fault ≡ Memory) × (book.is_closed ≡ false)))) }
     {
         let held = seat.slot_mut(&self.table.shared, self.workers + 1);
         let Slot::Book(book) = held else {
@@ -68,7 +68,7 @@ impl<M: EventModel> Station<M> {
         ensures done { let config = self.now.table.shared.key.config in (book : BookValue) × Holding config seat.old.me (self.now.workers + 1) (in_book book) (in_book book) × MatchResult result
             (λ floor. (book.is_closed ≡ false) × (may_close config.end book ≡ true) × Holding config seat.new.me (self.now.workers + 1) (in_book book) (in_book (closed_book book)) × (floor ≡ book_floor config.end book))
             (λ fault. Holding config seat.new.me (self.now.workers + 1) (in_book book) (in_book book)
-                × (((fault ≡ Closed) × (book.is_closed ≡ true)) ⊎ ((fault ≡ NotLawful) × (book.is_closed ≡ false) × (may_close config.end book ≡ false)))) }
+            × (((fault ≡ Closed) × (book.is_closed ≡ true)) ⊎ ((fault ≡ NotLawful) × (book.is_closed ≡ false) × (may_close config.end book ≡ false)))) }
     {
         let held = seat.slot_mut(&self.table.shared, self.workers + 1);
         let Slot::Book(book) = held else {
@@ -116,7 +116,7 @@ impl<M: EventModel> Station<M> {
         ensures same { (seat.new.table_id ≡ seat.old.table_id) × (seat.new.id ≡ seat.old.id) × Rests seat.new.me }
         ensures done { let key = self.now.table.shared.key in MatchResult result
             (λ _. (shown : TimeValue) × Visited (M.handlers key.model.value) key.config seat.old.me.0 kernel.old (step.Commit worker) reply.Done kernel.new shown seat.new.me.0
-                × IsFloorLeft (simulation_of (M.handlers key.model.value) key.config) seat.old.me.0 (step.Commit worker) shown)
+            × IsFloorLeft (simulation_of (M.handlers key.model.value) key.config) seat.old.me.0 (step.Commit worker) shown)
             (λ _. Stays seat.old.me.0 seat.new.me.0 × (kernel.new ≡ kernel.old)) }
         ensures refused { let key = self.now.table.shared.key in IfErr result (λ fault. IsCommitRefusal (simulation_of (M.handlers key.model.value) key.config) seat.old.me.0 fault) }
         ensures closed { IsRefusedOnceClosed seat.old.me.0 result }

@@ -39,7 +39,12 @@ impl<M: EventModel> Station<M> {
     }
 
     /// The cut of a worker.
-    pub(crate) fn cut_at(&self, seat: &mut Seat<M>, kernel: &mut Kernel<M>, worker: u32) -> Result<(), Fault>
+    pub(crate) fn cut_at(
+        &self,
+        seat: &mut Seat<M>,
+        kernel: &mut Kernel<M>,
+        worker: u32,
+    ) -> Result<(), Fault>
         requires table { seat.old.table_id ≡ self.now.table.shared.table_id }
         requires rests { Rests seat.old.me }
         requires worker { seat.old.me.0.worker ≡ worker }
@@ -90,8 +95,8 @@ impl<M: EventModel> Station<M> {
         ensures same { (seat.new.table_id ≡ seat.old.table_id) × (seat.new.id ≡ seat.old.id) × (seat.new.me.0 ≡ seat.old.me.0) }
         ensures done { let config = self.now.table.shared.key.config in (board : BoardValue) → Holding config seat.old.me self.now.workers (on_board board) (on_board board) → MatchResult result
             (λ r. Holding config seat.new.me self.now.workers (on_board board) (on_board (board_after_report config.end (with_report worker sent got least board)))
-                × (takes_report config.end worker least board ≡ true) × (reply_of r.0 ≡ report_reply (with_report worker sent got least board))
-                × (r.1 ≡ (board_after_report config.end (with_report worker sent got least board)).announced))
+            × (takes_report config.end worker least board ≡ true) × (reply_of r.0 ≡ report_reply (with_report worker sent got least board))
+            × (r.1 ≡ (board_after_report config.end (with_report worker sent got least board)).announced))
             (λ fault. Holding config seat.new.me self.now.workers (on_board board) (on_board board) × (takes_report config.end worker least board ≡ false) × (fault ≡ NotLawful)) }
     {
         let held = seat.slot_mut(&self.table.shared, self.workers);
@@ -105,7 +110,12 @@ impl<M: EventModel> Station<M> {
     }
 
     /// The report of a worker.
-    pub(crate) fn report_at(&self, seat: &mut Seat<M>, kernel: &mut Kernel<M>, worker: u32) -> Result<Report, Fault>
+    pub(crate) fn report_at(
+        &self,
+        seat: &mut Seat<M>,
+        kernel: &mut Kernel<M>,
+        worker: u32,
+    ) -> Result<Report, Fault>
         requires table { seat.old.table_id ≡ self.now.table.shared.table_id }
         requires rests { Rests seat.old.me }
         requires worker { seat.old.me.0.worker ≡ worker }

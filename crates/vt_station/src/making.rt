@@ -31,7 +31,10 @@ impl<P> Split<View<P>> for Next {
 }
 
 /// The cells at the opening.
-fn slots_for<M: EventModel>(alloc: Global, config: Config) -> Result<Vec<Slot<M::Payload>>, AllocError>
+fn slots_for<M: EventModel>(
+    alloc: Global,
+    config: Config,
+) -> Result<Vec<Slot<M::Payload>>, AllocError>
     ensures { IfOk result (λ v. AreSlots config v.items) }
 {
     let mut slots = Vec::new(alloc);
@@ -44,7 +47,11 @@ fn slots_for<M: EventModel>(alloc: Global, config: Config) -> Result<Vec<Slot<M:
 }
 
 /// The table with its first seat.
-fn lay<M: EventModel>(alloc: Global, model: &M, config: Config) -> Result<(Station<M>, Seat<M>), AllocError>
+fn lay<M: EventModel>(
+    alloc: Global,
+    model: &M,
+    config: Config,
+) -> Result<(Station<M>, Seat<M>), AllocError>
     ensures { IfOk result (λ r. (r.0.workers ≡ config.workers) × (r.0.table.shared.key.model.value ≡ model.now) × (r.0.table.shared.key.config ≡ config) × (r.1.table_id ≡ r.0.table.shared.table_id) × (r.1.me ≡ (first_view (simulation_of (M.handlers model.now) config), []))) }
 {
     let workers = config.workers as usize;

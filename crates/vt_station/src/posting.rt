@@ -47,7 +47,12 @@ impl<M: EventModel> Station<M> {
 
 impl<M: EventModel> Station<M> {
     /// Moves what is in the claimed inbox of a worker to its kernel.
-    fn take_letters(&self, seat: &mut Seat<M>, kernel: &mut Kernel<M>, worker: u32) -> Result<(), Fault>
+    fn take_letters(
+        &self,
+        seat: &mut Seat<M>,
+        kernel: &mut Kernel<M>,
+        worker: u32,
+    ) -> Result<(), Fault>
         requires table { seat.old.table_id ≡ self.now.table.shared.table_id }
         requires held { (mails : List (Mail _)) × Holding self.now.table.shared.key.config seat.old.me worker (in_inbox mails) (in_inbox mails) }
         requires config { kernel.old.config ≡ self.now.table.shared.key.config }
@@ -76,7 +81,13 @@ impl<M: EventModel> Station<M> {
 
 impl<M: EventModel> Station<M> {
     /// The send of a worker's letters for worker `v`, at the inbox of `v`.
-    pub(crate) fn post_at(&self, seat: &mut Seat<M>, kernel: &mut Kernel<M>, worker: u32, v: u32) -> Result<(), Fault>
+    pub(crate) fn post_at(
+        &self,
+        seat: &mut Seat<M>,
+        kernel: &mut Kernel<M>,
+        worker: u32,
+        v: u32,
+    ) -> Result<(), Fault>
         requires table { seat.old.table_id ≡ self.now.table.shared.table_id }
         requires rests { Rests seat.old.me }
         requires worker { seat.old.me.0.worker ≡ worker }
@@ -112,7 +123,12 @@ impl<M: EventModel> Station<M> {
     }
 
     /// The fetch of a worker, at its inbox.
-    pub(crate) fn fetch_at(&self, seat: &mut Seat<M>, kernel: &mut Kernel<M>, worker: u32) -> Result<(), Fault>
+    pub(crate) fn fetch_at(
+        &self,
+        seat: &mut Seat<M>,
+        kernel: &mut Kernel<M>,
+        worker: u32,
+    ) -> Result<(), Fault>
         requires table { seat.old.table_id ≡ self.now.table.shared.table_id }
         requires rests { Rests seat.old.me }
         requires worker { seat.old.me.0.worker ≡ worker }

@@ -34,7 +34,10 @@ pub(crate) type Shelf<M> = Shared<
 >;
 
 /// The seat of a place.
-pub(crate) type Seat<M> = atomic_table::Seat<Slot<<M as EventModel>::Payload>, View<<M as EventModel>::Payload>>;
+pub(crate) type Seat<M> = atomic_table::Seat<
+    Slot<<M as EventModel>::Payload>,
+    View<<M as EventModel>::Payload>,
+>;
 
 /// A Time Warp world that threads share: an inbox for each worker, the board and the book, each in a cell of one table.
 #[derive(Drop)]

@@ -38,7 +38,7 @@ hand_in-requires-clause-held g c κs within =
       took-book sim key.config c.args.seat.now.me c.claim.new.seat.me (c.args.self.now.workers + 1) c.requires.rests t (omega arith),
       λ open_is. ok-more c.rows-rows.result (λ x. x.items ≡ rows_of_commit (simulation_of H k.config) k.worker r.part) (λ x. may_hand (record { end = key.config.end; book = book }) c.args.worker x.items c.floor-floor.result ≡ true)
           (λ x is. ap (λ w. may_hand (record { end = key.config.end; book = book }) w x.items c.floor-floor.result) (sym c.requires.worker)
-              ∙ hand-lawful H key.config lawful v (c.args.self.now.workers + 1) _ t.known k r x.items c.floor-floor.result c.floor-floor.ensures is)
+          ∙ hand-lawful H key.config lawful v (c.args.self.now.workers + 1) _ t.known k r x.items c.floor-floor.result c.floor-floor.ensures is)
           (c.rows-rows.ensures.rows H r.part r.stands),
     )
 

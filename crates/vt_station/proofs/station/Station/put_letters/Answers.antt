@@ -44,8 +44,7 @@ returns-clause-done g c =
             record {
               acts = λ part s.
                   (let d = ok-has c.letters_for.result _ x ok (c.letters_for.ensures.done H part s) in
-                  subst (λ (f : Config). (after : Part _) × (act (simulation_of H f) (Send k.worker c.args.v) part (in_inbox mails) ≡ record { part = after; cell = in_inbox left.items; answer = Ok Done }) × StandsFor H new after) c.requires.config
-                  (
+                  subst (λ (f : Config). (after : Part _) × (act (simulation_of H f) (Send k.worker c.args.v) part (in_inbox mails) ≡ record { part = after; cell = in_inbox left.items; answer = Ok Done }) × StandsFor H new after) c.requires.config (
                     part_after_send (simulation_of H k.config) c.args.v part,
                     act-send (simulation_of H k.config) k.worker c.args.v part mails d.0
                         ∙ ap (λ (l : List (Mail _)). record { part = part_after_send (simulation_of H k.config) c.args.v part; cell = in_inbox l; answer = Ok Done })

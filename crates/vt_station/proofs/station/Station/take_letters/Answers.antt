@@ -27,17 +27,19 @@ returns-in-Ok-clause-done g c =
     let taken : c.replace-mail.result.items ≡ mails = ap (λ v. v.items) c.replace-mail.ensures.value ∙ is in
     let empty : c.replace-mail.new.dest.items ≡ [] = ap (λ v. v.items) c.replace-mail.ensures.after ∙ c.new-empty.ensures.items in (
       mails,
-      (holds-after key.config m w (in_inbox mails) (in_inbox mails) held (Inbox c.replace-mail.new.dest) (in_inbox []) (ap in_inbox empty) (all-none (IsOwnMail key.config w) c.replace-mail.new.dest.items empty),
-      record {
-        acts = λ part s.
-            (let d = c.in-Ok.ensures.done H part s in (
-              part_after_fetch mails part,
-              act-fetch sim w part mails d.0,
-              subst (λ (l : List (Mail _)). StandsFor H new (part_after_fetch l part)) taken d.1,
-            ));
-        worker = ap (λ (h : HeldWorker _ _ _). h.worker) c.in-Ok.ensures.taken;
-        config_is = ap (λ (h : HeldWorker _ _ _). h.config) c.in-Ok.ensures.taken;
-      }),
+      (
+        holds-after key.config m w (in_inbox mails) (in_inbox mails) held (Inbox c.replace-mail.new.dest) (in_inbox []) (ap in_inbox empty) (all-none (IsOwnMail key.config w) c.replace-mail.new.dest.items empty),
+        record {
+          acts = λ part s.
+              (let d = c.in-Ok.ensures.done H part s in (
+                part_after_fetch mails part,
+                act-fetch sim w part mails d.0,
+                subst (λ (l : List (Mail _)). StandsFor H new (part_after_fetch l part)) taken d.1,
+              ));
+          worker = ap (λ (h : HeldWorker _ _ _). h.worker) c.in-Ok.ensures.taken;
+          config_is = ap (λ (h : HeldWorker _ _ _). h.config) c.in-Ok.ensures.taken;
+        },
+      ),
     )
 
 pub returns-in-Err-clause-done : goal.returns-in-Err-clause-done
@@ -52,6 +54,8 @@ returns-in-Err-clause-done g c =
     let own : AllOwnMail key.config w c.in-Inbox.mails.items = slot-right key.config m w (in_inbox mails) (in_inbox mails) held (Inbox c.in-Inbox.mails) (value ∙ ap (λ s. (w, s) ∷ rest m.1) c.in-Inbox.is) in
     let back : c.in-Err.mail.items ≡ c.in-Inbox.mails.items = c.in-Err.ensures.kept.1 ∙ ap (λ v. v.items) c.replace-mail.ensures.value in (
       mails,
-      (holds-after key.config m w (in_inbox mails) (in_inbox mails) held (Inbox c.in-Err.mail) (in_inbox mails) (ap in_inbox (back ∙ is)) (subst (AllOwnMail key.config w) (sym back) own),
-      c.in-Err.ensures.kept.0),
+      (
+        holds-after key.config m w (in_inbox mails) (in_inbox mails) held (Inbox c.in-Err.mail) (in_inbox mails) (ap in_inbox (back ∙ is)) (subst (AllOwnMail key.config w) (sym back) own),
+        c.in-Err.ensures.kept.0,
+      ),
     )
