@@ -4,6 +4,7 @@
 //! thread) rests on the same contracts.
 #![tactic(auto)]
 
+mod asking;
 mod choosing;
 mod committing;
 mod counts;

@@ -76,7 +76,12 @@ fn make_room<P: Copy>(
 }
 
 /// How many letters of an outbox are for processes of worker `v`; None where they are more than `most`.
-fn count_for<P: Copy>(outbox: &List<Letter<P>>, config: Config, v: u32, most: u64) -> Option<u64>
+pub(crate) fn count_for<P: Copy>(
+    outbox: &List<Letter<P>>,
+    config: Config,
+    v: u32,
+    most: u64,
+) -> Option<u64>
     ensures count { IfSome result (λ n. (n ≡ length (filter (is_for_worker config v) outbox.now)) × (n ≤ most)) }
     ensures more { IfNone result (most < length (filter (is_for_worker config v) outbox.now)) }
 {

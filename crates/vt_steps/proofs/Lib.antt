@@ -44,3 +44,7 @@ pub mod Records
 pub mod ReachedBooks
 pub mod EachOnce
 pub mod HeadlineTheorem
+pub mod MarkedRuns
+pub mod LocalLeads
+pub mod OwnCuts
+pub mod OwnCloses

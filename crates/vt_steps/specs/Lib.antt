@@ -11,3 +11,4 @@ pub mod Cells
 pub mod StandsFor
 pub mod Claims
 pub mod Laws
+pub mod Marked

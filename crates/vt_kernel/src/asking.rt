@@ -1,0 +1,42 @@
+//! Whether mail may leave for another worker.
+
+ghost use Rattle.std.specs.Prelude.{◌≡◌, ◌+◌, ◌≤◌, ◌⊎◌, true, length, IfOk, IfErr};
+ghost use Rattle.vt_key.specs.declared.fault.Fault.TheVariants.{NotLawful, Exhausted};
+ghost use Rattle.vt_key.specs.declared.limits.TheConstants.{MAX_COUNT};
+ghost use Rattle.vt_model.specs.Handler.{Handlers};
+ghost use Rattle.vt_model.specs.Simulation.{simulation_of};
+ghost use Rattle.vt_steps.specs.Letters.{count_of};
+ghost use Rattle.vt_steps.specs.World.{Part};
+ghost use Rattle.vt_steps.specs.PartSteps.{letters_for};
+ghost use Rattle.vt_steps.specs.Next.{may_send};
+ghost use Rattle.vt_kernel.specs.Held.{StandsFor};
+ghost use Rattle.vt_kernel.specs.Guards.{IsSendRefusal};
+
+use crate::kernel::Kernel;
+use crate::sending::count_for;
+use vt_key::Fault;
+use vt_model::Model as EventModel;
+
+impl<M: EventModel> Kernel<M> {
+    /// Whether [`Kernel::letters_for`] worker `v` would be done, memory aside. It takes no memory and changes nothing.
+    ///
+    /// [`Fault::NotLawful`]: `v` is this worker, or the outbox holds no letter for a process of `v`. [`Fault::Exhausted`]: the
+    /// count of mail sent would pass 2^63.
+    pub fn may_send(&self, v: u32) -> Result<(), Fault>
+        ensures lawful { (handlers : Handlers _ _ _) (part : Part _) → StandsFor handlers self.now part → IfOk result (λ _. (may_send (simulation_of handlers self.now.config) self.now.worker v part ≡ true) × (count_of part.sent part.colour + length (letters_for (simulation_of handlers self.now.config) v part) ≤ MAX_COUNT)) }
+        ensures refused { (handlers : Handlers _ _ _) (part : Part _) → StandsFor handlers self.now part → IfErr result (λ fault. IsSendRefusal (simulation_of handlers self.now.config) self.now.worker v part fault) }
+        ensures faults { IfErr result (λ fault. (fault ≡ NotLawful) ⊎ (fault ≡ Exhausted)) }
+    {
+        if v == self.worker {
+            return Err(Fault::NotLawful);
+        }
+        let room = self.sent.room(self.colour);
+        let Some(count) = count_for(&self.outbox, self.config, v, room) else {
+            return Err(Fault::Exhausted);
+        };
+        if count == 0 {
+            return Err(Fault::NotLawful);
+        }
+        Ok(())
+    }
+}

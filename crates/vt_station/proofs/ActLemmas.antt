@@ -1,0 +1,70 @@
+-- The steps at a cell, by what they do to a part and to it.
+use Rattle.std.proofs.Common.{◌≡◌, ℕ, ◌%◌, ◌<◌, ◌≤◌, ◌⊎◌, inl, inr, Bool, true, false, cond, not, ◌&&◌, ◌||◌, List, [], ◌∷◌, ◌++◌, refl, sym, ◌∙◌, ap, subst, arith, nat_eq, Option, Some, None, Ok, Err, slice_get}
+use Rattle.std.specs.List.{list_any}
+use Rattle.std.proofs.Math.Nat.{mod-lt}
+use Rattle.std.proofs.lemmas.Bool.Decides.{nat_tests, eqb_tells}
+use Rattle.vt_key.specs.declared.letter.Letter.{Letter}
+use Rattle.vt_key.specs.declared.letter.Mail.{Mail}
+use Rattle.vt_key.specs.declared.fault.Fault.TheVariants.{NotLawful, Closed}
+use Rattle.vt_model.specs.Simulation.{Simulation}
+use Rattle.vt_steps.specs.declared.step.Step.TheVariants.{Send, Fetch, Cut, Report, Commit, Close}
+use Rattle.vt_steps.specs.declared.step.Reply.TheVariants.{Done}
+use Rattle.vt_steps.specs.Letters.{is_empty}
+use Rattle.vt_steps.specs.World.{Part, Board, Book}
+use Rattle.vt_steps.specs.PartSteps.{is_for, part_after_send, mail_of_send, part_after_fetch, part_after_cut, report_sent, report_got, report_least, part_after_commit, rows_of_commit}
+use Rattle.vt_steps.specs.BoardSteps.{cut_board, may_report, with_report, board_after_report, report_reply}
+use Rattle.vt_steps.specs.BookSteps.{may_commit, with_rows, may_close, closed_book}
+use Rattle.vt_steps.specs.Next.{may_send}
+use Rattle.vt_steps.specs.Cells.{Cell, in_inbox, on_board, in_book, Acted, left_alone, act_cut, act_report, on_open_book, act}
+use Rattle.vt_steps.proofs.Tests.{both_pass}
+
+module _ {S P : Type 0} (sim : Simulation S P) where
+  pub act-send : (w v : ℕ) (part : Part P) (mails : List (Mail P)) → may_send sim w v part ≡ true →
+      act sim (Send w v) part (in_inbox mails) ≡ record { part = part_after_send sim v part; cell = in_inbox (mails ++ mail_of_send sim v part); answer = Ok Done }
+  unfolding act
+  act-send w v part mails may =
+      ap (λ b. (let a : Acted P = cond b (record { part = part_after_send sim v part; cell = in_inbox (mails ++ mail_of_send sim v part); answer = Ok Done }) (left_alone part (in_inbox mails) NotLawful) in a)) may
+
+  pub act-fetch : (w : ℕ) (part : Part P) (mails : List (Mail P)) → is_empty part.arrived ≡ true →
+      act sim (Fetch w) part (in_inbox mails) ≡ record { part = part_after_fetch mails part; cell = in_inbox []; answer = Ok Done }
+  unfolding act
+  act-fetch w part mails may =
+      ap (λ b. (let a : Acted P = cond b (record { part = part_after_fetch mails part; cell = in_inbox []; answer = Ok Done }) (left_alone part (in_inbox mails) NotLawful) in a)) may
+
+  pub act-cut : (w : ℕ) (part : Part P) (board new : Board) → cut_board sim.end w board ≡ Some new →
+      act sim (Cut w) part (on_board board) ≡ record { part = part_after_cut sim.end board.announced part; cell = on_board new; answer = Ok Done }
+  unfolding act
+  act-cut w part board new is = ap (λ o. act_cut sim part board o) is
+
+  pub act-report : (w : ℕ) (part : Part P) (board : Board) → may_report w (report_least sim.end part) board ≡ true →
+      act sim (Report w) part (on_board board) ≡ act_report sim part (with_report w (report_sent part) (report_got part) (report_least sim.end part) board)
+  unfolding act
+  act-report w part board may =
+      ap (λ b. (let a : Acted P = cond b (act_report sim part (with_report w (report_sent part) (report_got part) (report_least sim.end part) board)) (left_alone part (on_board board) NotLawful) in a)) may
+
+  pub act-commit : (w : ℕ) (part : Part P) (book : Book) → book.is_closed ≡ false → may_commit (slice_get book.floors w) part.floor ≡ true →
+      act sim (Commit w) part (in_book book) ≡ record { part = part_after_commit part; cell = in_book (with_rows w (rows_of_commit sim w part) part.floor book); answer = Ok Done }
+  unfolding act
+  act-commit w part book open_is may =
+      ap (λ b. (let a : Acted P = cond b (left_alone part (in_book book) Closed) (cond (may_commit (slice_get book.floors w) part.floor) (record { part = part_after_commit part; cell = in_book (with_rows w (rows_of_commit sim w part) part.floor book); answer = Ok Done }) (left_alone part (in_book book) NotLawful)) in a)) open_is
+      ∙ ap (λ b. (let a : Acted P = cond b (record { part = part_after_commit part; cell = in_book (with_rows w (rows_of_commit sim w part) part.floor book); answer = Ok Done }) (left_alone part (in_book book) NotLawful) in a)) may
+
+  pub act-close : (part : Part P) (book : Book) → book.is_closed ≡ false → may_close sim.end book ≡ true →
+      act sim Close part (in_book book) ≡ record { part = part; cell = in_book (closed_book book); answer = Ok Done }
+  unfolding act
+  act-close part book open_is may =
+      ap (λ b. (let a : Acted P = cond b (left_alone part (in_book book) Closed) (cond (may_close sim.end book) (record { part = part; cell = in_book (closed_book book); answer = Ok Done }) (left_alone part (in_book book) NotLawful)) in a)) open_is
+      ∙ ap (λ b. (let a : Acted P = cond b (record { part = part; cell = in_book (closed_book book); answer = Ok Done }) (left_alone part (in_book book) NotLawful) in a)) may
+
+  -- ---- a send goes to a worker
+
+  any-for : (v : ℕ) (letters : List (Letter P)) → 1 ≤ sim.workers → list_any (is_for sim v) letters ≡ true → v < sim.workers
+  any-for v [] some e = absurd (let h : false ≡ true = e in cc)
+  any-for v (letter ∷ letters) some e =
+      elim (eqb_tells (letter.event.dest % sim.workers) v) [
+        | inl t ↦ subst (λ n. n < sim.workers) t.1 (mod-lt letter.event.dest some)
+        | inr t ↦ any-for v letters some (sym (ap (λ b. b || list_any (is_for sim v) letters) t.0) ∙ e)
+      ]
+
+  pub sent-known : (w v : ℕ) (part : Part P) → 1 ≤ sim.workers → may_send sim w v part ≡ true → v < sim.workers
+  sent-known w v part some may = any-for v part.outbox some (both_pass (not (nat_eq w v)) (list_any (is_for sim v) part.outbox) may).1

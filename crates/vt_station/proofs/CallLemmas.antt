@@ -1,0 +1,128 @@
+-- From a claim to a release: what a seat holds in between, and that its place is the same.
+use Rattle.std.proofs.Common.{◌≡◌, ℕ, ◌+◌, ◌<◌, ◌≤◌, List, [], ◌∷◌, refl, sym, ◌∙◌, ap, subst, arith, Option, Some, None, Result, Ok, Err, MatchResult}
+use Rattle.vt_key.specs.Times.{Time}
+use Rattle.vt_key.specs.declared.letter.Mail.{Mail}
+use Rattle.vt_model.specs.Handler.{Handlers}
+use Rattle.vt_model.specs.declared.settings.Config.{Config}
+use Rattle.vt_model.specs.Simulation.{Simulation, simulation_of}
+use Rattle.vt_steps.specs.declared.step.Step.{Step}
+use Rattle.vt_steps.specs.declared.step.Reply.{Reply}
+use Rattle.vt_steps.specs.World.{Board, Book}
+use Rattle.vt_steps.specs.Cells.{CellName, inbox_of, board_cell, book_cell, Cell, in_inbox, on_board, in_book, content}
+use Rattle.vt_steps.specs.Marked.{shown}
+use Rattle.vt_kernel.specs.Held.{HeldWorker}
+use Rattle.vt_kernel.specs.Local.{local_steps}
+use Rattle.vt_station.specs.declared.slot.Slot.{Slot}
+use Rattle.vt_station.specs.declared.view.View.{View}
+use Rattle.vt_station.specs.Hands.{Hand, empty_hand, holding}
+use Rattle.vt_station.specs.Slots.{cell_count, cell_at, held_in, IsSlotOf}
+use Rattle.vt_station.specs.Kept.{Sat, Rests}
+use Rattle.vt_station.specs.Calls.{IsSamePlace, HasSameSteps, Unvisited, Stays, Reaches, Visits, Visited, Acts, Known, Took, Holding}
+use Rattle.vt_station.proofs.Cells.{inbox-name, board-name, book-name, inbox-holds, board-holds, book-holds}
+
+-- a view that differs in its hand alone
+abbrev pub WithHand : {P : Type 0} → View P → View P → Type 0
+WithHand {P} v w = (hand : Hand P) × (w ≡ record v { hand = hand })
+
+module _ {S P K : Type 0} (handlers : Handlers S P K) (config : Config) where
+  -- the kernel is the place's, whatever the place holds
+  pub reaches-held : (v w : View P) (k : HeldWorker S P K) → WithHand v w → Reaches handlers config v k → Reaches handlers config w k
+  reaches-held v w k h r =
+      subst (λ (x : View P). Reaches handlers config x k) (sym h.1)
+      (record { worker = r.worker; config_is = r.config_is; steps = r.steps; part = r.part; led = r.led; stands = r.stands })
+
+  pub visited-held : (v w : View P) (before left : HeldWorker S P K) (step : Step) (reply : Reply) (seen : Time) (after : View P) → WithHand v w → Visited handlers config w before step reply left seen after →
+      Visited handlers config v before step reply left seen after
+  visited-held v w before left step reply seen after h r =
+      let x : Visited handlers config (record v { hand = h.0 }) before step reply left seen after = subst (λ (y : View P). Visited handlers config y before step reply left seen after) h.1 r in
+      let n = x.visits in
+      record {
+        visits = record { steps = n.steps; part = n.part; led = n.led; stood = n.stood; mine = n.mine; stands = n.stands; worker = n.worker; config_is = n.config_is };
+        same = record { worker = x.same.worker; made = x.same.made; waiting = x.same.waiting };
+        floor = x.floor;
+        rests = x.rests;
+      }
+
+module _ {P : Type 0} where
+  pub unvisited-held : (v w : View P) (seen : Time) (after : View P) → WithHand v w → Unvisited w seen after → Unvisited v seen after
+  unvisited-held v w seen after h r =
+      let x : Unvisited (record v { hand = h.0 }) seen after = subst (λ (y : View P). Unvisited y seen after) h.1 r in
+      record {
+        steps = record { same = record { worker = x.steps.same.worker; made = x.steps.same.made; waiting = x.steps.same.waiting }; part = x.steps.part; mine = x.steps.mine };
+        floor = x.floor;
+        rests = x.rests;
+      }
+
+  pub unvisited-stays : (v w : View P) (after : View P) → WithHand v w → Unvisited w w.seen after → Stays v after
+  unvisited-stays v w after h r = let u = unvisited-held v w w.seen after h r in (u.steps, u.floor ∙ ap (λ (x : View P). x.seen) h.1)
+
+  -- nothing was done
+  pub stays-same : (v : View P) → Stays v v
+  stays-same v = (record { same = record { worker = refl; made = refl; waiting = refl }; part = refl; mine = refl }, refl)
+
+module _ {S P : Type 0} (sim : Simulation S P) (config : Config) (m after : Sat P) (k : ℕ) (rests : Rests m) (t : Took sim config m k after) where
+  -- a claim leaves the place as it was
+  pub took-place : WithHand m.0 after.0
+  took-place = (holding k (held_in t.slot), ap (λ (x : Sat P). x.0) t.after_is)
+
+  took-held : (cell : Cell P) → held_in t.slot ≡ cell → Holding config after k cell cell
+  took-held cell is = record {
+    slot = t.slot;
+    hand = ap (λ (x : Sat P). x.0.hand) t.after_is ∙ ap (holding k) is;
+    carried = ap (λ (x : Sat P). x.1) t.after_is ∙ ap (λ (l : List (ℕ × Slot P)). (k, t.slot) ∷ l) rests.1;
+    now_is = is;
+    right = t.right;
+  }
+
+  -- an inbox holds mail
+  pub took-inbox : k < sim.workers → (mails : List (Mail P)) × Holding config after k (in_inbox mails) (in_inbox mails) × (held_in t.slot ≡ in_inbox mails)
+  took-inbox near =
+      let world = shown sim t.known.log in
+      let at : content world (inbox_of k) ≡ Some (held_in t.slot) = ap (content world) (sym (inbox-name sim.workers k near)) ∙ t.known.shows in
+      let mails = inbox-holds world k (held_in t.slot) at in
+      (mails.0, took-held (in_inbox mails.0) mails.1, mails.1)
+
+  -- the board's cell holds the board of the shown world
+  pub took-board : k ≡ sim.workers → Holding config after k (on_board (shown sim t.known.log).board) (on_board (shown sim t.known.log).board)
+  took-board is =
+      let world = shown sim t.known.log in
+      let at : content world board_cell ≡ Some (held_in t.slot) = ap (content world) (sym (board-name sim.workers k is)) ∙ t.known.shows in
+      took-held (on_board world.board) (board-holds world (held_in t.slot) at)
+
+  -- and the book's cell its book
+  pub took-book : sim.workers < k → Holding config after k (in_book (shown sim t.known.log).book) (in_book (shown sim t.known.log).book)
+  took-book more =
+      let world = shown sim t.known.log in
+      let at : content world book_cell ≡ Some (held_in t.slot) = ap (content world) (sym (book-name sim.workers k more)) ∙ t.known.shows in
+      took-held (in_book world.book) (book-holds world (held_in t.slot) at)
+
+-- what holds in either case
+pub either-case : {T E : Type 0} (r : Result T E) (A : T → Type 0) (B : E → Type 0) (Q : Type 0) → ((x : T) → A x → Q) → ((e : E) → B e → Q) → MatchResult r A B → Q
+either-case (Ok x) A B Q f g h = f x h
+either-case (Err e) A B Q f g h = g e h
+
+module _ {S P K : Type 0} (handlers : Handlers S P K) (config : Config) where
+  -- after a visit the kernel is that of the place, without a further step
+  pub ready-visited : (v : View P) (before left : HeldWorker S P K) (step : Step) (reply : Reply) (seen : Time) (after : View P) → Reaches handlers config v before → Visited handlers config v before step reply left seen after → Reaches handlers config after left
+  ready-visited v before left step reply seen after r x = record {
+    worker = x.visits.worker ∙ r.worker ∙ sym x.same.worker;
+    config_is = x.visits.config_is ∙ r.config_is;
+    steps = [];
+    part = after.part;
+    led = refl;
+    stands = x.visits.stands;
+  }
+
+  -- and where nothing was done it still is
+  pub ready-stays : (v : View P) (before left : HeldWorker S P K) (after : View P) → Reaches handlers config v before → Stays v after × (left ≡ before) → Reaches handlers config after left
+  ready-stays v before left after r x =
+      let sim = simulation_of handlers config in
+      subst (Reaches handlers config after) (sym x.1)
+      (record {
+        worker = r.worker ∙ sym x.0.0.same.worker;
+        config_is = r.config_is;
+        steps = r.steps;
+        part = r.part;
+        led = (λ i. local_steps sim (x.0.0.same.worker i) r.steps (x.0.0.part i)) ∙ r.led;
+        stands = r.stands;
+      })

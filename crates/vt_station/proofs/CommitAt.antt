@@ -1,0 +1,97 @@
+-- A commit at the claimed book.
+use Rattle.std.proofs.Common.{◌≡◌, ℕ, ◌<◌, ◌≤◌, Bool, true, false, ◌&&◌, List, [], map, refl, sym, ◌∙◌, ap, subst, Option, Some, None, Result, Ok, Err, MatchResult, IfOk, slice_get}
+use Rattle.vt_key.specs.Times.{Time, time_at_most}
+use Rattle.vt_key.specs.declared.fault.Fault.TheVariants.{Memory, Closed}
+use Rattle.vt_model.specs.declared.rows.Row.{Row}
+use Rattle.vt_model.specs.declared.settings.Config.{Config}
+use Rattle.vt_model.specs.Handler.{Handlers}
+use Rattle.vt_model.specs.Histories.{IsLawful}
+use Rattle.vt_model.specs.Simulation.{Simulation, simulation_of}
+use Rattle.vt_steps.specs.declared.step.Step.TheVariants.{Commit}
+use Rattle.vt_steps.specs.declared.step.Reply.TheVariants.{Done}
+use Rattle.vt_steps.specs.World.{Part, Book, book_floor}
+use Rattle.vt_steps.specs.PartSteps.{part_after_commit, rows_of_commit}
+use Rattle.vt_steps.specs.BookSteps.{may_commit, with_rows}
+use Rattle.vt_steps.specs.Cells.{Cell, Acted, in_book}
+use Rattle.vt_steps.specs.Marked.{answered, has_closed, shown}
+use Rattle.vt_steps.proofs.OwnCloses.{closed-known}
+use Rattle.vt_steps.proofs.Tests.{both_pass}
+use Rattle.vt_kernel.specs.Held.{HeldWorker, StandsFor}
+use Rattle.vt_book.specs.Books.{may_hand, are_within}
+use Rattle.vt_station.specs.declared.view.View.{View}
+use Rattle.vt_station.specs.Calls.{Known, Reaches, Acts, IsCommitRefusal, IsFloorLeft}
+use Rattle.vt_station.proofs.ActLemmas.{act-commit}
+use Rattle.vt_station.proofs.RefusalLemmas as refusal
+
+-- what was handed in, where memory was there for it
+pub handed-is : {V E X : Type 0} (r : Result V E) (items : V → List X) (handed rows : List X) → MatchResult r (λ v. items v ≡ handed) (λ _. ⊥) → IfOk r (λ v. items v ≡ rows) → handed ≡ rows
+handed-is (Ok v) items handed rows h k = sym h ∙ k
+handed-is (Err e) items handed rows h k = absurd h
+
+pub ok-more : {V E : Type 0} (r : Result V E) (Q R : V → Type 0) → ((v : V) → Q v → R v) → IfOk r Q → IfOk r R
+ok-more (Ok v) Q R f h = f v h
+ok-more (Err e) Q R f h = h
+
+module _ {S P K : Type 0} (handlers : Handlers S P K) (config : Config) (lawful : IsLawful (simulation_of handlers config)) (v : View P) (cell : ℕ) (found : Cell P)
+    (known : Known (simulation_of handlers config) v cell found) (k : HeldWorker S P K) (r : Reaches handlers config v k) where
+  abbrev sim : Simulation S P
+  sim = simulation_of handlers config
+
+  abbrev book : Book
+  book = (shown sim known.log).book
+
+  -- the rows of the kernel's part are those of the worker's
+  rows-own : (part : Part P) → rows_of_commit (simulation_of handlers k.config) k.worker part ≡ rows_of_commit sim v.worker part
+  rows-own part = ap (λ (f : Config). rows_of_commit (simulation_of handlers f) k.worker part) r.config_is ∙ ap (λ w. rows_of_commit sim w part) r.worker
+
+  pub hand-lawful : (rows : List Row) (floor : Time) → floor ≡ k.floor → rows ≡ rows_of_commit (simulation_of handlers k.config) k.worker r.part → may_hand (record { end = config.end; book = book }) v.worker rows floor ≡ true
+  hand-lawful rows floor is rows_are =
+      refusal.commit-may sim v cell found known r.steps r.part r.led lawful rows floor (rows_are ∙ rows-own r.part) (r.stands.floor ∙ sym is)
+
+  pub may-there : (rows : List Row) (floor : Time) → floor ≡ k.floor → rows ≡ rows_of_commit (simulation_of handlers k.config) k.worker r.part → may_commit (slice_get book.floors v.worker) k.floor ≡ true
+  may-there rows floor is rows_are =
+      ap (may_commit (slice_get book.floors v.worker)) (sym is)
+      ∙ (both_pass (may_commit (slice_get book.floors v.worker) floor) (time_at_most floor config.end && are_within (slice_get book.floors v.worker) floor rows) (hand-lawful rows floor is rows_are)).0
+
+  pub commit-acts : (rows : List Row) (floor : Time) (left : HeldWorker S P K) → book.is_closed ≡ false → floor ≡ k.floor →
+      ((part : Part P) → StandsFor handlers k part → rows ≡ rows_of_commit (simulation_of handlers k.config) k.worker part) →
+      ((part : Part P) → StandsFor handlers k part → StandsFor handlers left (part_after_commit part)) → left.worker ≡ k.worker → left.config ≡ k.config →
+      Acts handlers config (Commit v.worker) Done k (in_book book) left (in_book (with_rows v.worker rows floor book))
+  commit-acts rows floor left open_is is rows_are stands same_worker same_config =
+      let may = may-there rows floor is (rows_are r.part r.stands) in
+      record {
+        acts = λ part s. (
+          part_after_commit part,
+          act-commit sim v.worker part book open_is (ap (may_commit (slice_get book.floors v.worker)) s.floor ∙ may)
+              ∙ (λ i. (let a : Acted P = record {
+                part = part_after_commit part;
+                cell = in_book (with_rows v.worker (sym (rows_are part s ∙ rows-own part) i) ((s.floor ∙ sym is) i) book);
+                answer = Ok Done;
+              } in a)),
+          stands part s,
+        );
+        worker = same_worker;
+        config_is = same_config;
+      }
+
+  pub commit-left : (rows : List Row) (floor left : Time) → book.is_closed ≡ false → floor ≡ k.floor → rows ≡ rows_of_commit (simulation_of handlers k.config) k.worker r.part →
+      left ≡ book_floor config.end (with_rows v.worker rows floor book) → IsFloorLeft sim v (Commit v.worker) left
+  commit-left rows floor left open_is is rows_are left_is =
+      refusal.commit-floor sim v cell found known r.steps r.part r.led lawful rows floor left (rows_are ∙ rows-own r.part) (r.stands.floor ∙ sym is) open_is
+      (ap (may_commit (slice_get book.floors v.worker)) r.stands.floor ∙ may-there rows floor is rows_are) left_is
+
+  may-own : may_commit (slice_get book.floors v.worker) r.part.floor ≡ true
+  may-own =
+      let rows = rows_of_commit sim v.worker r.part in
+      (both_pass (may_commit (slice_get book.floors v.worker) r.part.floor) (time_at_most r.part.floor config.end && are_within (slice_get book.floors v.worker) r.part.floor rows)
+      (refusal.commit-may sim v cell found known r.steps r.part r.led lawful rows r.part.floor refl refl)).0
+
+  pub refused-closed : book.is_closed ≡ true → IsCommitRefusal sim v Closed
+  refused-closed closed = refusal.commit-closed sim v cell found known r.steps r.part r.led lawful closed
+
+  pub refused-memory : book.is_closed ≡ false → IsCommitRefusal sim v Memory
+  refused-memory open_is = refusal.commit-memory sim v cell found known r.steps r.part r.led lawful open_is may-own
+
+-- where a place has closed the book, it finds it closed
+pub once-closed : {S P : Type 0} (sim : Simulation S P) (v : View P) (cell : ℕ) (found : Cell P) (known : Known sim v cell found) → has_closed (map answered v.mine) ≡ true → (shown sim known.log).book.is_closed ≡ true
+once-closed sim v cell found known h = closed-known sim v.worker known.log known.right (ap has_closed known.mine ∙ h)

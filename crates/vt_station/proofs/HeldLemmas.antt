@@ -1,0 +1,84 @@
+-- What a seat holds before and after a write, what a claimed cell is, and cases on results.
+use Rattle.std.proofs.Common.{◌≡◌, ℕ, ◌+◌, ◌<◌, ◌≤◌, Bool, true, false, cond, List, [], ◌∷◌, ◌++◌, map, refl, sym, ◌∙◌, ap, subst, arith, get_or, Option, Some, None, Result, Ok, Err, MatchResult, IfOk, IfErr}
+use Rattle.std.specs.Prelude.{OnOk, OnErr}
+use Rattle.std.specs.List.{All, list_any}
+use Rattle.atomic_table.specs.Table.{rest}
+use Rattle.vt_key.specs.declared.letter.Letter.{Letter}
+use Rattle.vt_key.specs.declared.letter.Mail.{Mail}
+use Rattle.vt_model.specs.declared.settings.Config.{Config}
+use Rattle.vt_steps.specs.World.{Board, Book}
+use Rattle.vt_steps.specs.Cells.{Cell, in_inbox, on_board, in_book}
+use Rattle.vt_station.specs.declared.slot.Slot.{Slot}
+use Rattle.vt_station.specs.declared.slot.Slot.TheVariants as slot
+use Rattle.vt_station.specs.declared.view.View.{View}
+use Rattle.vt_station.specs.Hands.{empty_hand, holding}
+use Rattle.vt_station.specs.Slots.{held_in, IsSlotOf}
+use Rattle.vt_station.specs.Kept.{Sat, Rests}
+use Rattle.vt_station.specs.Calls.{Holding}
+use Rattle.vt_station.proofs.Cells.{same-found}
+
+-- ---- results
+
+pub by-result : {T E : Type 0} (r : Result T E) (P : T → Type 0) (Q : E → Type 0) → ((x : T) → r ≡ Ok x → P x) → ((e : E) → r ≡ Err e → Q e) → MatchResult r P Q
+by-result (Ok x) P Q f g = f x refl
+by-result (Err e) P Q f g = g e refl
+
+pub ok-has : {T E : Type 0} (r : Result T E) (F : T → Type 0) (x : T) → r ≡ Ok x → IfOk r F → F x
+ok-has r F x is h = subst (λ s. IfOk s F) is h
+
+pub err-has : {T E : Type 0} (r : Result T E) (F : E → Type 0) (e : E) → r ≡ Err e → IfErr r F → F e
+err-has r F e is h = subst (λ s. IfErr s F) is h
+
+pub ok-is : {T E : Type 0} (r : Result T E) (F : Type 0) (x : T) → r ≡ Ok x → OnOk r F → F
+ok-is r F x is h = subst (λ s. OnOk s F) is h
+
+pub err-is : {T E : Type 0} (r : Result T E) (F : Type 0) (e : E) → r ≡ Err e → OnErr r F → F
+err-is r F e is h = subst (λ s. OnErr s F) is h
+
+-- ---- lists
+
+-- it holds of each of none
+pub all-none : {X : Type 0} (Q : X → Type 0) (l : List X) → l ≡ [] → All Q l
+all-none Q l e = subst (All Q) (sym e) (λ k d inside. absurd (omega arith))
+
+-- ---- cells of one kind are equal where what is in them is
+
+module _ {P : Type 0} where
+  pub same-mail : (a b : List (Mail P)) → in_inbox a ≡ in_inbox b → a ≡ b
+  same-mail a b e = cc
+
+  pub same-board : (a b : Board) → ◌≡◌ {A = Cell P} (on_board a) (on_board b) → a ≡ b
+  same-board a b e = cc
+
+  pub same-book : (a b : Book) → ◌≡◌ {A = Cell P} (in_book a) (in_book b) → a ≡ b
+  same-book a b e = cc
+
+-- ---- a slot that a seat holds
+
+module _ {P : Type 0} (config : Config) (m : Sat P) (k : ℕ) (found now : Cell P) (h : Holding config m k found now) where
+  pub has-slot : (old : Slot P) × (m.1 ≡ (k, old) ∷ rest m.1)
+  has-slot = (h.slot, h.carried ∙ ap (λ (l : List (ℕ × Slot P)). (k, h.slot) ∷ rest l) (sym h.carried))
+
+  same-slot : (s : Slot P) → m.1 ≡ (k, s) ∷ rest m.1 → h.slot ≡ s
+  same-slot s e = ap (λ (l : List (ℕ × Slot P)). (get_or l 0 (0, s)).1) (sym h.carried ∙ e)
+
+  -- what is lent is what the seat holds
+  pub slot-is : (s : Slot P) → m.1 ≡ (k, s) ∷ rest m.1 → held_in s ≡ now
+  slot-is s e = ap held_in (sym (same-slot s e)) ∙ h.now_is
+
+  pub slot-right : (s : Slot P) → m.1 ≡ (k, s) ∷ rest m.1 → IsSlotOf config k s
+  slot-right s e = subst (IsSlotOf config k) (same-slot s e) h.right
+
+  -- and after a write it holds what was written
+  pub holds-after : (new : Slot P) (left : Cell P) → held_in new ≡ left → IsSlotOf config k new → Holding config (m.0, (k, new) ∷ rest m.1) k found left
+  holds-after new left is right = record {
+    slot = new;
+    hand = h.hand;
+    carried = ap (λ (l : List (ℕ × Slot P)). (k, new) ∷ rest l) h.carried;
+    now_is = is;
+    right = right;
+  }
+
+-- what a seat found in a cell is one thing
+pub held-book : {P : Type 0} (config : Config) (m : Sat P) (k : ℕ) (a b : Book) (x y : Cell P) → Holding config m k (in_book a) x → Holding config m k (in_book b) y → a ≡ b
+held-book config m k a b x y h i = same-book a b (same-found k k (in_book a) (in_book b) (sym h.hand ∙ i.hand))

@@ -1,0 +1,319 @@
+-- Each step on a station's table keeps the rule.
+use Rattle.std.proofs.Common.{◌≡◌, ◌≢◌, ◌⊎◌, ℕ, zero, suc, ◌+◌, ◌-◌, ◌<◌, ◌≤◌, eqb, List, [], ◌∷◌, ◌++◌, map, length, get_or, set, sym, refl, ap, ◌∙◌, subst, inl, inr, ⊎_elim, arith, le_refl, le_trans, length-set, get_or-set_other, get_or-set_same, length-append, Option, Some, slice_get, drop}
+use Rattle.std.specs.List.{range_with_len}
+use mathlib.Core.Logic.{dite}
+use mathlib.Core.Option.{Option as Maybe, none, some, some-injective, some-ne-none}
+use native.Mathlib.Decide.{ℕ_discrete}
+use lib.ListN.{get_elem?, length-map}
+use lib.Seq.{set-get_or}
+use prog.Atomic.{either}
+use Rattle.atomic_table.specs.Table.{State, Me, Act, keeps, takes, gives, Valid, carried_after, stepped, Allows, Splits, rest, put_back}
+use Rattle.atomic_table.specs.Table.{opening as tabled}
+use Rattle.atomic_table.proofs.Lists.{at_set, set_here, set_else, set_again, at_snoc, at_longer, exchanged}
+use Rattle.std.proofs.lemmas.List.{append-nil}
+use Rattle.vt_key.specs.Times.{Time, TimeAtMost}
+use Rattle.vt_model.specs.Histories.{IsLawful}
+use Rattle.vt_model.specs.declared.settings.Config.{Config}
+use Rattle.vt_model.specs.Simulation.{Simulation}
+use Rattle.vt_steps.specs.declared.step.Step.{Step}
+use Rattle.vt_steps.specs.World.{Part, World, book_floor, opening_part, opening_world}
+use Rattle.vt_steps.specs.Cells.{CellName, Cell, content}
+use Rattle.vt_steps.specs.Marked.{Marked, Made, Answered, answered, unmarked, marked, Each, IsMarkedRight, own_steps, own_steps_of, shown, DoesSo, Leads}
+use Rattle.vt_steps.specs.Next.{run}
+use Rattle.vt_steps.proofs.ReachedBooks.{reached-falls}
+use Rattle.vt_steps.proofs.MarkedRuns.{each-append, each-weaker, each-marked, own-append, own-others, shown-append, shown-marked, unmarked-append, unmarked-marked}
+use Rattle.vt_station.specs.declared.slot.Slot.{Slot}
+use Rattle.vt_station.specs.declared.view.View.{View}
+use Rattle.vt_station.specs.Hands.{Hand, empty_hand, holding}
+use Rattle.vt_station.specs.Slots.{cell_count, cell_at, held_in, IsSlotOf}
+use Rattle.vt_station.specs.Kept.{Standing, Sat, IsClaimed, Makes, Sits, IsAtHome, IsHeld, Kept, blank, first_view, Rests, left_view, next_view}
+use Rattle.vt_station.specs.Calls.{Known, Took, ShowsFloor}
+use Rattle.vt_station.proofs.Cells.{not-empty, same-cell_held, same-found, names-apart, holds-book}
+
+module _ {S P : Type 0} (sim : Simulation S P) (config : Config) where
+  -- one word, one slot and one view are changed
+  abbrev changed : Standing P → ℕ → ℕ → ℕ → Maybe (Slot P) → View P → Standing P
+  changed s id k x h w = record { words = set s.words k x; homes = set s.homes k h; views = set s.views id w }
+
+  -- the rule after it, with another list of steps
+  rebuilt : (s : Standing P) (r : Kept sim config s) (id k x : ℕ) (h : Maybe (Slot P)) (v w : View P) (log : List Marked)
+      → get_elem? s.views id ≡ some v → k < cell_count sim.workers → w.worker ≡ v.worker → Each (λ m. m.worker < r.made) log → Each (IsMarkedRight sim) log
+      → ((q : ℕ) → q ≢ v.worker → (slice_get (shown sim log).parts q ≡ slice_get (shown sim r.log).parts q) × (own_steps_of sim q log ≡ own_steps_of sim q r.log))
+      → ((j : ℕ) → j < cell_count sim.workers → j ≢ k → content (shown sim log) (cell_at sim.workers j) ≡ content (shown sim r.log) (cell_at sim.workers j))
+      → TimeAtMost (book_floor sim.end (shown sim r.log).book) (book_floor sim.end (shown sim log).book)
+      → Sits sim (changed s id k x h w) log r.made r.maker id w
+      → (x ≡ 0 → (slot : Slot P) × (h ≡ some slot) × (content (shown sim log) (cell_at sim.workers k) ≡ Some (held_in slot)) × IsSlotOf config k slot)
+      → (x ≢ 0 → (c : Cell P) × (w.hand ≡ holding k c))
+      → ((j : ℕ) (c : Cell P) → w.hand ≡ holding j c → j ≡ k)
+      → ((j : ℕ) (c : Cell P) → v.hand ≡ holding j c → j ≡ k)
+      → ((j : ℕ) (u : View P) (c : Cell P) → j ≢ id → get_elem? s.views j ≡ some u → u.hand ≡ holding k c → ⊥)
+      → Kept sim config (changed s id k x h w)
+  rebuilt s r id k x h v w log at near same_worker marks right others cells more sits at_home held mine_w mine_v alone =
+      let wide = r.wide in
+      let deep = r.deep in
+      let near_word : k < length s.words = omega arith in
+      let near_home : k < length s.homes = omega arith in
+      let s' : Standing P = changed s id k x h w in
+      record {
+        log = log;
+        made = r.made;
+        maker = r.maker;
+        wide = length-set s.words k x ∙ r.wide;
+        deep = length-set s.homes k h ∙ r.deep;
+        most = r.most;
+        marks = marks;
+        right = right;
+        count = length-set s.views id w ∙ r.count;
+        maker_there = r.maker_there;
+        free = λ j l z. dite (ℕ_discrete j k)
+            (λ e.
+            (let here : x ≡ 0 = sym (get_or-set_same s.words k x 0 near_word) ∙ (ap (λ (i : ℕ). get_or (set s.words k x) i 0) (sym e) ∙ z) in
+            let t = at_home here in
+            subst (λ i. IsAtHome sim config s' log i) (sym e)
+            (record {
+              slot = t.0;
+              home = set_here s.homes k h near_home ∙ ap (λ (o : Maybe (Slot P)). some o) t.1;
+              cell = t.2;
+              right = t.3;
+            })))
+            (λ ne.
+            (let t = r.free j l (sym (get_or-set_other s.words k j x 0 ne) ∙ z) in
+            record { slot = t.slot; home = set_else s.homes k j h ne ∙ t.home; cell = cells j l ne ∙ t.cell; right = t.right }));
+        taken = λ j l nz. dite (ℕ_discrete j k)
+            (λ e.
+            (let here : x ≢ 0 = λ z. nz (ap (λ (i : ℕ). get_or (set s.words k x) i 0) e ∙ (get_or-set_same s.words k x 0 near_word ∙ z)) in
+            let t = held here in
+            subst (λ i. IsHeld s' i) (sym e) (record { seat = id; view = w; cell = t.0; there = set_at s.views id v w at; hand = t.1 })))
+            (λ ne.
+            (let t = r.taken j l (λ z. nz (get_or-set_other s.words k j x 0 ne ∙ z)) in
+            dite (ℕ_discrete t.seat id)
+            (λ e. absurd (ne (mine_v j t.cell (ap (λ (u : View P). u.hand) (some-injective v t.view (sym at ∙ (ap (get_elem? s.views) (sym e) ∙ t.there))) ∙ t.hand))))
+            (λ other. record { seat = t.seat; view = t.view; cell = t.cell; there = set_else s.views id t.seat w other ∙ t.there; hand = t.hand })));
+        each = λ j u e. ⊎_elim
+            (λ (t : (j ≡ id) × (w ≡ u)). subst (λ (z : ℕ × View P). Sits sim s' log r.made r.maker z.0 z.1) (λ i. (sym t.0 i, t.1 i)) sits)
+            (λ (t : (j ≢ id) × (get_elem? s.views j ≡ some u)). other_sits j u t.0 t.1)
+            (at_set s.views id j w u e);
+        apart = λ i j a b e f same. (let p = was i a e in let q = was j b f in r.apart i j p.0 q.0 p.1 q.1 (p.2 ∙ (same ∙ sym q.2)));
+        alone = λ i j a b kk c d e f ha hb. ⊎_elim
+            (λ (t : (i ≡ id) × (w ≡ a)). ⊎_elim
+            (λ (o : (j ≡ id) × (w ≡ b)). t.0 ∙ sym o.0)
+            (λ (o : (j ≢ id) × (get_elem? s.views j ≡ some b)). absurd (alone j b d o.0 o.1 (hb ∙ ap (λ (y : ℕ). holding y d) (mine_w kk c (ap (λ (u : View P). u.hand) t.1 ∙ ha)))))
+            (at_set s.views id j w b f))
+            (λ (t : (i ≢ id) × (get_elem? s.views i ≡ some a)). ⊎_elim
+            (λ (o : (j ≡ id) × (w ≡ b)). absurd (alone i a c t.0 t.1 (ha ∙ ap (λ (y : ℕ). holding y c) (mine_w kk d (ap (λ (u : View P). u.hand) o.1 ∙ hb)))))
+            (λ (o : (j ≢ id) × (get_elem? s.views j ≡ some b)). r.alone i j a b kk c d t.1 o.1 ha hb)
+            (at_set s.views id j w b f))
+            (at_set s.views id i w a e);
+      }
+    where
+      set_at : (vs : List (View P)) (i : ℕ) (a b : View P) → get_elem? vs i ≡ some a → get_elem? (set vs i b) i ≡ some b
+      set_at [] i a b e = absurd (some-ne-none a (sym e))
+      set_at (y ∷ ys) zero a b e = refl
+      set_at (y ∷ ys) (suc i) a b e = set_at ys i a b e
+
+      was : (i : ℕ) (a : View P) → get_elem? (set s.views id w) i ≡ some a → (u : View P) × (get_elem? s.views i ≡ some u) × (u.worker ≡ a.worker)
+      was i a e = ⊎_elim
+          (λ (t : (i ≡ id) × (w ≡ a)). (v, ap (get_elem? s.views) t.0 ∙ at, sym same_worker ∙ ap (λ (u : View P). u.worker) t.1))
+          (λ (t : (i ≢ id) × (get_elem? s.views i ≡ some a)). (a, t.1, refl))
+          (at_set s.views id i w a e)
+
+      other_sits : (j : ℕ) (u : View P) → j ≢ id → get_elem? s.views j ≡ some u → Sits sim (changed s id k x h w) log r.made r.maker j u
+      other_sits j u ne there =
+          let t = r.each j u there in
+          let far : u.worker ≢ v.worker = λ e. ne (r.apart j id u v there at e) in
+          let o = others u.worker far in
+          record {
+            inside = t.inside;
+            part = o.0 ∙ t.part;
+            mine = o.1 ∙ t.mine;
+            seen = le_trans t.seen more;
+            holds = λ i c hd.
+                (let g = t.holds i c hd in
+                let other : i ≢ k = λ e. alone j u c ne there (hd ∙ ap (λ (y : ℕ). holding y c) e) in
+                record {
+                  near = g.near;
+                  word = λ z. g.word (sym (get_or-set_other s.words k i x 0 other) ∙ z);
+                  away = set_else s.homes k i h other ∙ g.away;
+                  shows = cells i g.near other ∙ g.shows;
+                });
+            makes = t.makes;
+            waits = t.waits;
+          }
+
+  all_own : (made p : ℕ) (ms : List Marked) → made ≤ 1 → p < made → Each (λ m. m.worker < made) ms → Each (λ m. m.worker ≡ p) ms
+  all_own made p [] one l a = tt
+  all_own made p (m ∷ ms) one l a = let z = a.0 in (omega arith, all_own made p ms one l a.1)
+
+  -- what a claim tells of the number that it found and the seat after it
+  abbrev pub Claimed : Sat P → ℕ → ℕ → Sat P → Type 0
+  Claimed m k n after = (n ≡ 0 → Took sim config m k after) × (n ≢ 0 → (after ≡ m) × (1 < sim.workers))
+
+  abbrev Steps : Standing P → ℕ → ℕ → Sat P → (ℕ → Sat P → Type 0) → ℕ → Type 0
+  Steps s id k m then x = (w : View P) × (a : Act (Slot P)) × Valid s.homes m.1 a × Kept sim config (stepped s k x id m.1 w a) × then (get_or s.words k 0) (w, carried_after m.1 a)
+
+  -- a compare-exchange of 0 for 1 claims the cell, or finds it claimed by another seat and changes nothing
+  pub claims : (slots id k : ℕ) (m : Sat P) → k < cell_count sim.workers → Rests m
+      → Allows (Kept sim config) slots id m k (λ x. either (eqb x 0) 1 x) (Claimed m k)
+  claims slots id k m near rests s r deep at small = exchanged (get_or s.words k 0) 0 1 (Steps s id k m (Claimed m k)) hit miss
+    where
+      hit : get_or s.words k 0 ≡ 0 → Steps s id k m (Claimed m k) 1
+      hit z =
+          let f = r.free k near z in
+          let c = f.slot in
+          let t = r.each id m.0 at in
+          let w : View P = record m.0 { hand = holding k (held_in c) } in (
+            w,
+            takes k c,
+            f.home,
+            rebuilt s r id k 1 none m.0 w r.log at near refl r.marks r.right (λ q _. (refl, refl)) (λ j _ _. refl) (le_refl _)
+                (record {
+                  inside = t.inside;
+                  part = t.part;
+                  mine = t.mine;
+                  seen = t.seen;
+                  holds = λ j d e.
+                      (let is = same-cell_held k j (held_in c) d e in
+                      let same = same-found k j (held_in c) d e in
+                      let deep_is = r.deep in
+                      let wide_is = r.wide in
+                      subst (λ i. IsClaimed sim (changed s id k 1 none w) r.log i d) (sym is)
+                      (record {
+                        near = near;
+                        word = λ bad. (let one = get_or-set_same s.words k 1 0 (omega arith) in omega arith);
+                        away = set_here s.homes k none (omega arith);
+                        shows = f.cell ∙ ap (λ x. Some x) same;
+                      }));
+                  makes = λ e. (let g = t.makes e in record { next = g.next; all = g.all; parts = g.parts });
+                  waits = t.waits;
+                })
+                (λ bad. absurd (omega arith)) (λ _. (held_in c, refl)) (λ j d e. same-cell_held k j (held_in c) d e) (λ j d e. absurd (not-empty m.0.hand j d rests.0 e))
+                (λ j u d ne there hd. ((r.each j u there).holds k d hd).word z),
+            (
+              (λ _. record {
+                slot = c;
+                after_is = refl;
+                right = f.right;
+                known = record {
+                  log = r.log;
+                  right = r.right;
+                  within = (let a = t.inside in let b = r.most in omega arith);
+                  part = t.part;
+                  mine = t.mine;
+                  seen = t.seen;
+                  shows = f.cell;
+                  own = λ one. (let a = t.inside in let b = r.most in all_own r.made m.0.worker r.log (omega arith) t.inside r.marks);
+                };
+              }),
+              λ ne. absurd (ne z),
+            ),
+          )
+
+      -- where there is one worker there is no other seat
+      others : get_or s.words k 0 ≢ 0 → 1 < sim.workers
+      others ne =
+          let t = r.taken k near ne in
+          let mine = r.each id m.0 at in
+          let a = mine.inside in
+          let b = r.most in
+          dite (ℕ_discrete sim.workers 1)
+          (λ one.
+          (let theirs = r.each t.seat t.view t.there in
+          let c = theirs.inside in
+          let same : t.view.worker ≡ m.0.worker = omega arith in
+          let is : t.seat ≡ id = r.apart t.seat id t.view m.0 t.there at same in
+          absurd (not-empty m.0.hand k t.cell rests.0 (ap (λ (u : View P). u.hand) (some-injective m.0 t.view (sym at ∙ (ap (get_elem? s.views) (sym is) ∙ t.there))) ∙ t.hand))))
+          (λ more. omega arith)
+
+      miss : get_or s.words k 0 ≢ 0 → Steps s id k m (Claimed m k) (get_or s.words k 0)
+      miss ne = (
+        m.0,
+        keeps,
+        tt,
+        subst (λ (y : List ℕ × List (View P)). Kept sim config record { words = y.0; homes = s.homes; views = y.1 }) (λ i. (sym (set-get_or s.words k 0) i, sym (set_again s.views id m.0 at) i)) r,
+        ((λ z. absurd (ne z)), λ _. (refl, others ne)),
+      )
+
+  -- ---- a release
+
+  -- the list with one worker's steps behind it
+  pub longer-others : (w q : ℕ) (log : List Marked) (steps : List Step) (name : CellName) (part new : Part P) (cell left : Cell P) (made : List Made) →
+      q ≢ w → DoesSo sim w name steps (shown sim log) new left made →
+      (slice_get (shown sim (log ++ marked w steps)).parts q ≡ slice_get (shown sim log).parts q) × (own_steps_of sim q (log ++ marked w steps) ≡ own_steps_of sim q log)
+  longer-others w q log steps name part new cell left made ne does = (
+    ap (λ (n : World P). slice_get n.parts q) (shown-marked sim log w steps) ∙ does.other_parts q ne,
+    own-append sim q (opening_world sim 0) log (marked w steps)
+        ∙ (ap (λ (l : List Answered). own_steps_of sim q log ++ l) (own-others sim q (shown sim log) (marked w steps) (each-weaker (λ m. m.worker ≡ w) (λ m. m.worker ≡ q → ⊥) (marked w steps) (λ m is e. ne (sym e ∙ is)) (each-marked w steps)))
+        ∙ append-nil (own_steps_of sim q log)),
+  )
+
+  pub longer-floor : IsLawful sim → (log more : List Marked) → TimeAtMost (book_floor sim.end (shown sim log).book) (book_floor sim.end (shown sim (log ++ more)).book)
+  longer-floor lawful log more =
+      subst (λ (n : World P). TimeAtMost (book_floor sim.end (shown sim log).book) (book_floor sim.end n.book)) (sym (shown-append sim log more))
+      (reached-falls sim lawful 0 (unmarked log) (unmarked more)).floor
+
+  -- a floor that a cell shows is not above the floor of a world with that cell
+  shown-floor : (world : World P) (name : CellName) (cell : Cell P) (t : Time) → content world name ≡ Some cell → ShowsFloor sim.end t cell → TimeAtMost t (book_floor sim.end world.book)
+  shown-floor world name (Rattle.vt_steps.specs.Cells.in_inbox mails) t holds shows = absurd shows
+  shown-floor world name (Rattle.vt_steps.specs.Cells.on_board board) t holds shows = absurd shows
+  shown-floor world name (Rattle.vt_steps.specs.Cells.in_book book) t holds shows = subst (λ b. TimeAtMost t (book_floor sim.end b)) (sym (holds-book world name book holds)) shows
+
+  -- a store of 0 gives the cell back with what the worker's steps leave in it; they stand behind all others
+  pub releases : IsLawful sim → (slots id k : ℕ) (m : Sat P) (found : Cell P) (slot : Slot P) (steps : List Step) (new : Part P) (made : List Made) (seen : Time) (aim : ℕ → Sat P → Type 0) → k < cell_count sim.workers
+      → m.1 ≡ (k, slot) ∷ [] → m.0.hand ≡ holding k found → IsSlotOf config k slot
+      → Leads sim m.0.worker (cell_at sim.workers k) m.0.part found steps new (held_in slot) made
+      → TimeAtMost seen m.0.seen ⊎ ShowsFloor sim.end seen (held_in slot)
+      → ((n : ℕ) → aim n (record m.0 { part = new; mine = m.0.mine ++ made; seen = seen; hand = empty_hand }, []))
+      → Allows (Kept sim config) slots id m k (λ _. 0) (λ _. aim 0)
+  releases lawful slots id k m found slot steps new made seen aim near carried held right goes low want s r deep at small =
+      let w : View P = record m.0 { part = new; mine = m.0.mine ++ made; seen = seen; hand = empty_hand } in (
+        w,
+        gives,
+        tt,
+        subst (λ (hs : List (Maybe (Slot P))). Kept sim config record { words = set s.words k 0; homes = hs; views = set s.views id w }) (sym back)
+            (rebuilt s r id k 0 (some slot) m.0 w log at near refl marks rights
+            (λ q ne. longer-others m.0.worker q r.log steps (cell_at sim.workers k) m.0.part new found (held_in slot) made ne did)
+            (λ j l ne. ap (λ (n : World P). content n (cell_at sim.workers j)) whole ∙ did.other_cells (cell_at sim.workers j) (names-apart sim.workers k j near l ne))
+            (longer-floor lawful r.log (marked m.0.worker steps))
+            (record {
+              inside = t.inside;
+              part = ap (λ (n : World P). slice_get n.parts m.0.worker) whole ∙ did.part;
+              mine = own-append sim m.0.worker (opening_world sim 0) r.log (marked m.0.worker steps)
+                  ∙ ((λ i. t.mine i ++ did.answers i) ∙ sym (map-append answered m.0.mine made));
+              seen = ⊎_elim (λ l. le_trans l (le_trans t.seen (longer-floor lawful r.log (marked m.0.worker steps)))) (λ l. shown-floor (shown sim log) (cell_at sim.workers k) (held_in slot) seen now l) low;
+              holds = λ j d e. absurd (not-empty empty_hand j d refl e);
+              makes = λ e. (let g = t.makes e in record { next = g.next; all = g.all; parts = g.parts });
+              waits = t.waits;
+            })
+            (λ _. (slot, refl, now, right)) (λ bad. absurd (bad refl)) (λ j d e. absurd (not-empty empty_hand j d refl e)) (λ j d e. same-cell_held k j found d (sym held ∙ e))
+            (λ j u d ne there hd. ne (r.alone j id u m.0 k d found there at hd held))),
+        subst (λ (l : List (ℕ × Slot P)). aim 0 (w, l)) (sym (ap rest carried)) (want 0),
+      )
+    where
+      log : List Marked
+      log = r.log ++ marked m.0.worker steps
+
+      t : Sits sim s r.log r.made r.maker id m.0
+      t = r.each id m.0 at
+
+      whole : shown sim (r.log ++ marked m.0.worker steps) ≡ run sim (shown sim r.log) steps
+      whole = shown-marked sim r.log m.0.worker steps
+
+      did : DoesSo sim m.0.worker (cell_at sim.workers k) steps (shown sim r.log) new (held_in slot) made
+      did = goes.does (shown sim r.log) (r.each id m.0 at).part ((r.each id m.0 at).holds k found held).shows
+
+      now : content (shown sim (r.log ++ marked m.0.worker steps)) (cell_at sim.workers k) ≡ Some (held_in slot)
+      now = ap (λ (n : World P). content n (cell_at sim.workers k)) whole ∙ did.cell
+
+      marks : Each (λ x. x.worker < r.made) (r.log ++ marked m.0.worker steps)
+      marks = each-append (λ x. x.worker < r.made) r.log (marked m.0.worker steps) r.marks
+          (each-weaker (λ x. x.worker ≡ m.0.worker) (λ x. x.worker < r.made) (marked m.0.worker steps) (λ x is. subst (λ (n : ℕ). n < r.made) (sym is) t.inside) (each-marked m.0.worker steps))
+
+      rights : Each (IsMarkedRight sim) (r.log ++ marked m.0.worker steps)
+      rights = each-append (IsMarkedRight sim) r.log (marked m.0.worker steps) r.right goes.own
+
+      back : put_back s.homes m.1 ≡ set s.homes k (some slot)
+      back = ap (put_back s.homes) carried
+
+      map-append : (f : Made → Answered) (xs ys : List Made) → map f (xs ++ ys) ≡ map f xs ++ map f ys
+      map-append f [] ys = refl
+      map-append f (x ∷ xs) ys = ap (λ l. f x ∷ l) (map-append f xs ys)

@@ -1,0 +1,12 @@
+pub mod Cells
+pub mod Keeps
+pub mod Seating
+pub mod Releases
+pub mod HeldLemmas
+pub mod ActLemmas
+pub mod CallLemmas
+pub mod Opening
+pub mod BoardLemmas
+pub mod BookLemmas
+pub mod RefusalLemmas
+pub mod CommitAt

@@ -1,0 +1,71 @@
+use Rattle.std.proofs.Common.{◌≡◌, ◌<◌, ℕ, refl, sym, ap, subst, ◌∙◌, arith, Ok, Err}
+use Rattle.vt_key.specs.Times.{Time}
+use Rattle.vt_model.specs.declared.settings.Config.{Config}
+use Rattle.vt_model.specs.Simulation.{simulation_of}
+use Rattle.vt_model.proofs.LawLemmas.{lawful_of}
+use Rattle.vt_steps.specs.declared.step.Step.TheVariants.{Cut}
+use Rattle.vt_steps.specs.declared.step.Reply.TheVariants.{Done}
+use Rattle.vt_steps.specs.Cells.{on_board}
+use Rattle.vt_steps.specs.PartSteps.{part_after_cut}
+use Rattle.vt_steps.specs.Marked.{shown}
+use Rattle.vt_kernel.specs.Held.{HeldWorker, StandsFor}
+use Rattle.vt_board.specs.Calls.{cut_outcome}
+use Rattle.vt_station.specs.Calls.{Acts, Holding, IsCutRefusal}
+use Rattle.vt_station.proofs.ActLemmas.{act-cut}
+use Rattle.vt_station.proofs.CallLemmas.{took-board, took-place}
+use Rattle.vt_station.proofs.RefusalLemmas.{cut-refused}
+use Rattle.vt_station.proofs.station.Station.cut_at.Goals as goal
+
+pub cut_board-requires-clause-held : goal.cut_board-requires-clause-held
+cut_board-requires-clause-held g c κs within =
+    let key = c.args.self.now.table.shared.key in
+    let sim = simulation_of (g.M.Model.handlers key.model.value) key.config in
+    let counted = c.args.self.now.counted in
+    let t = c.if-not-claim.ensures.claimed refl in
+    ((shown sim t.known.log).board, took-board sim key.config c.args.seat.now.me c.claim.new.seat.me c.args.self.now.workers c.requires.rests t (sym counted))
+
+pub release_visit-requires-clause-held : goal.release_visit-requires-clause-held
+release_visit-requires-clause-held g c κs within =
+    let key = c.args.self.now.table.shared.key in
+    let H = g.M.Model.handlers key.model.value in
+    let sim = simulation_of H key.config in
+    let counted = c.args.self.now.counted in
+    let k = c.args.kernel.now in
+    let t = c.if-not-claim.ensures.claimed refl in
+    let board = (shown sim t.known.log).board in
+    let took = took-board sim key.config c.args.seat.now.me c.claim.new.seat.me c.args.self.now.workers c.requires.rests t (sym counted) in
+    let d = c.in-Ok.ensures.done board took in
+    let same : k.config ≡ key.config = c.requires.kernel.config_is in
+    let end : k.config.end ≡ key.config.end = ap (λ (f : Config). f.end) same in
+    let acts : Acts H key.config (Cut c.args.worker) Done k (on_board board) c.turn.new.self (on_board d.0) = record {
+      acts = λ part s. (
+        part_after_cut key.config.end board.announced part,
+        act-cut sim c.args.worker part board d.0 d.2,
+        subst (λ t. StandsFor H c.turn.new.self (part_after_cut t board.announced part)) end
+            (subst (λ t. StandsFor H c.turn.new.self (part_after_cut k.config.end t part)) d.3 (c.turn.ensures.stands H part s)),
+      );
+      worker = ap (λ (h : HeldWorker _ _ _). h.worker) c.turn.ensures.turned;
+      config_is = ap (λ (h : HeldWorker _ _ _). h.config) c.turn.ensures.turned;
+    } in (
+      on_board board,
+      on_board d.0,
+      d.1,
+      subst (λ (h : HeldWorker _ _ _). Acts H key.config (Cut c.args.worker) Done h (on_board board) c.of.result.value (on_board d.0)) (sym c.of-before.ensures)
+          (subst (λ (h : HeldWorker _ _ _). Acts H key.config (Cut c.args.worker) Done k (on_board board) h (on_board d.0)) (sym c.of.ensures) acts),
+      tt,
+    )
+
+pub returns-in-Err-clause-refused : goal.returns-in-Err-clause-refused
+returns-in-Err-clause-refused g c =
+    let key = c.args.self.now.table.shared.key in
+    let m = key.model.value in
+    let H = g.M.Model.handlers m in
+    let sim = simulation_of H key.config in
+    let counted = c.args.self.now.counted in
+    let t = c.if-not-claim.ensures.claimed refl in
+    let board = (shown sim t.known.log).board in
+    let took = took-board sim key.config c.args.seat.now.me c.claim.new.seat.me c.args.self.now.workers c.requires.rests t (sym counted) in
+    let d = c.in-Err.ensures.done board took in
+    let r = c.requires.kernel in
+    cut-refused sim c.args.seat.now.me.0 c.args.self.now.workers _ t.known r.steps r.part r.led (lawful_of H key.config (g.met.M.Model.start_within m) (g.met.M.Model.forward_within m)) c.in-Err.fault
+    (ap (λ w. cut_outcome key.config.end w board) c.requires.worker ∙ d.1)

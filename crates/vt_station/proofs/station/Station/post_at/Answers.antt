@@ -1,0 +1,35 @@
+use Rattle.std.proofs.Common.{◌≡◌, ◌<◌, ◌+◌, ℕ, true, refl, sym, ap, subst, ◌∙◌, arith}
+use Rattle.vt_model.specs.declared.settings.Config.{Config}
+use Rattle.vt_model.specs.Simulation.{simulation_of}
+use Rattle.vt_model.proofs.LawLemmas.{lawful_of}
+use Rattle.vt_station.specs.Slots.{cell_count}
+use Rattle.vt_station.proofs.ActLemmas.{sent-known}
+use Rattle.vt_station.proofs.CallLemmas.{took-inbox}
+use Rattle.vt_station.proofs.station.Station.post_at.Goals as goal
+
+pub claim-requires-clause-near : goal.claim-requires-clause-near
+claim-requires-clause-near g c =
+    let key = c.args.self.now.table.shared.key in
+    let H = g.M.Model.handlers key.model.value in
+    let k = c.args.kernel.now in
+    let r = c.requires.kernel in
+    let sent = c.in_ok-may_send.ensures.lawful H r.part r.stands in
+    let some = k.config.some_worker in
+    let known = sent-known (simulation_of H k.config) k.worker c.args.v r.part some sent.0 in
+    let same = ap (λ (f : Config). f.workers) r.config_is in
+    let counted = c.args.self.now.counted in
+    omega arith
+
+pub put_letters-requires-clause-held : goal.put_letters-requires-clause-held
+put_letters-requires-clause-held g c κs within =
+    let key = c.args.self.now.table.shared.key in
+    let H = g.M.Model.handlers key.model.value in
+    let k = c.args.kernel.now in
+    let r = c.requires.kernel in
+    let sent = c.in_ok-may_send.ensures.lawful H r.part r.stands in
+    let some = k.config.some_worker in
+    let known = sent-known (simulation_of H k.config) k.worker c.args.v r.part some sent.0 in
+    let same = ap (λ (f : Config). f.workers) r.config_is in
+    let near : c.args.v < key.config.workers = omega arith in
+    let t = took-inbox (simulation_of H key.config) key.config c.args.seat.now.me c.claim.new.seat.me c.args.v c.requires.rests (c.if-not-claim.ensures.claimed refl) near in
+    (t.0, t.1)

@@ -1,0 +1,6 @@
+use Rattle.std.proofs.Common.{◌≡◌, []}
+use Rattle.vt_station.specs.Calls.{Closes}
+use Rattle.vt_station.proofs.station.Station.release_close.Given as goal
+
+abbrev pub ghosts-store : goal.ghosts-store
+ghosts-store g a = record { after = λ n m. (m.1 ≡ []) × Closes a.seat.now.me.0 a._told.now m.0 }

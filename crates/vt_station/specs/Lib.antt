@@ -1,0 +1,5 @@
+pub mod Hands
+pub mod Slots
+pub mod Kept
+pub mod Calls
+pub mod Making

@@ -1,0 +1,158 @@
+//! What a place does at its station.
+
+ghost use Rattle.std.specs.Prelude.{◌≡◌, ◌<◌, true, IfOk, IfErr, MatchResult};
+ghost use Rattle.vt_key.specs.Times.{Time as TimeValue};
+ghost use Rattle.vt_model.specs.Simulation.{simulation_of};
+ghost use Rattle.vt_steps.specs.declared.step.Step.TheVariants as step;
+ghost use Rattle.vt_steps.specs.declared.step.Reply.TheVariants as reply;
+ghost use Rattle.vt_steps.specs.World.{Part};
+ghost use Rattle.vt_board.specs.Calls.{reply_of};
+ghost use Rattle.vt_kernel.specs.Held.{StandsFor};
+ghost use Rattle.vt_station.specs.Calls.{Reaches, Visited, Closes, Unvisited, Stays, IsPostRefusal, IsFetchRefusal, IsCutRefusal, IsReportRefusal, IsCommitRefusal, IsCloseRefusal, IsRecordsRefusal, IsFloorLeft, AreRecordsShown, IsRefusedOnceClosed};
+
+use crate::place::Place;
+use crate::station::Station;
+use std::alloc::Global;
+use vt_board::Report;
+use vt_kernel::Kernel;
+use vt_key::Fault;
+use vt_model::{Model as EventModel, Record};
+
+impl<M: EventModel> Station<M> {
+    /// The letters of a worker for the processes of worker `v` go into the inbox of `v`. The kernel is the place's: it was made for its
+    /// worker with the station's model and config, and since its last visit only local calls changed it. The same holds of
+    /// the kernel that every other call is lent.
+    ///
+    /// [`Fault::NotLawful`]: `v` is this worker, or the kernel has no letter for a process of `v`. [`Fault::Exhausted`]: the count of
+    /// mail sent would pass 2^63. [`Fault::Busy`]: another place had claimed the inbox. [`Fault::Memory`]: memory was refused.
+    /// They are found in this order, and after each of them the place and the kernel are as they were.
+    pub fn post(
+        &self,
+        place: &mut Place<M::Payload>,
+        kernel: &mut Kernel<M>,
+        v: u32,
+    ) -> Result<(), Fault>
+        requires own { place.old.seat.table_id ≡ self.now.table.shared.table_id }
+        requires kernel { let key = self.now.table.shared.key in Reaches (M.handlers key.model.value) key.config place.old.seat.me.0 kernel.old }
+        ensures same { (place.new.seat.table_id ≡ place.old.seat.table_id) × (place.new.worker ≡ place.old.worker) }
+        ensures done { let key = self.now.table.shared.key in MatchResult result
+            (λ _. Visited (M.handlers key.model.value) key.config place.old.seat.me.0 kernel.old (step.Send place.old.worker v) reply.Done kernel.new place.old.seat.me.0.seen place.new.seat.me.0)
+            (λ _. Stays place.old.seat.me.0 place.new.seat.me.0 × (kernel.new ≡ kernel.old)) }
+        ensures refused { let key = self.now.table.shared.key in (part : Part _) → StandsFor (M.handlers key.model.value) kernel.old part → IfErr result (λ fault. IsPostRefusal (simulation_of (M.handlers key.model.value) key.config) place.old.worker v part fault) }
+        ensures ready { let key = self.now.table.shared.key in Reaches (M.handlers key.model.value) key.config place.new.seat.me.0 kernel.new }
+    {
+        self.post_at(&mut place.seat, kernel, place.worker, v)
+    }
+
+    /// The mail in the worker's inbox has arrived at its kernel, and the inbox is empty. It takes no memory.
+    ///
+    /// [`Fault::NotLawful`]: something that arrived before is not accepted yet. [`Fault::Busy`]: another place had claimed the inbox.
+    /// [`Fault::Exhausted`]: a count of mail got would pass 2^63. After each of them the place and the kernel are as they were.
+    pub fn fetch(&self, place: &mut Place<M::Payload>, kernel: &mut Kernel<M>) -> Result<(), Fault>
+        requires own { place.old.seat.table_id ≡ self.now.table.shared.table_id }
+        requires kernel { let key = self.now.table.shared.key in Reaches (M.handlers key.model.value) key.config place.old.seat.me.0 kernel.old }
+        ensures same { (place.new.seat.table_id ≡ place.old.seat.table_id) × (place.new.worker ≡ place.old.worker) }
+        ensures done { let key = self.now.table.shared.key in MatchResult result
+            (λ _. Visited (M.handlers key.model.value) key.config place.old.seat.me.0 kernel.old (step.Fetch place.old.worker) reply.Done kernel.new place.old.seat.me.0.seen place.new.seat.me.0)
+            (λ _. Stays place.old.seat.me.0 place.new.seat.me.0 × (kernel.new ≡ kernel.old)) }
+        ensures refused { let key = self.now.table.shared.key in (part : Part _) → StandsFor (M.handlers key.model.value) kernel.old part → IfErr result (λ fault. IsFetchRefusal (simulation_of (M.handlers key.model.value) key.config) part fault) }
+        ensures ready { let key = self.now.table.shared.key in Reaches (M.handlers key.model.value) key.config place.new.seat.me.0 kernel.new }
+    {
+        self.fetch_at(&mut place.seat, kernel, place.worker)
+    }
+
+    /// The worker joins the open round, or opens one: it changes its colour and learns the announced time. It takes no memory.
+    ///
+    /// [`Fault::Busy`]: another place had claimed the board. [`Fault::NotLawful`]: the worker has cut in the open round.
+    /// [`Fault::Exhausted`]: one more round would be more than 2^63. After each of them the place and the kernel are as they were.
+    pub fn cut(&self, place: &mut Place<M::Payload>, kernel: &mut Kernel<M>) -> Result<(), Fault>
+        requires own { place.old.seat.table_id ≡ self.now.table.shared.table_id }
+        requires kernel { let key = self.now.table.shared.key in Reaches (M.handlers key.model.value) key.config place.old.seat.me.0 kernel.old }
+        ensures same { (place.new.seat.table_id ≡ place.old.seat.table_id) × (place.new.worker ≡ place.old.worker) }
+        ensures done { let key = self.now.table.shared.key in MatchResult result
+            (λ _. Visited (M.handlers key.model.value) key.config place.old.seat.me.0 kernel.old (step.Cut place.old.worker) reply.Done kernel.new place.old.seat.me.0.seen place.new.seat.me.0)
+            (λ _. Stays place.old.seat.me.0 place.new.seat.me.0 × (kernel.new ≡ kernel.old)) }
+        ensures refused { let key = self.now.table.shared.key in IfErr result (λ fault. IsCutRefusal (simulation_of (M.handlers key.model.value) key.config) place.old.seat.me.0 fault) }
+        ensures ready { let key = self.now.table.shared.key in Reaches (M.handlers key.model.value) key.config place.new.seat.me.0 kernel.new }
+    {
+        self.cut_at(&mut place.seat, kernel, place.worker)
+    }
+
+    /// The worker reports its counts and its least time to the board, and learns the announced time. It takes no memory.
+    ///
+    /// [`Fault::Busy`]: another place had claimed the board. [`Fault::NotLawful`]: no round is open, somebody hasn't cut in it, or the
+    /// worker has reported in this pass. After either the place and the kernel are as they were.
+    pub fn report(
+        &self,
+        place: &mut Place<M::Payload>,
+        kernel: &mut Kernel<M>,
+    ) -> Result<Report, Fault>
+        requires own { place.old.seat.table_id ≡ self.now.table.shared.table_id }
+        requires kernel { let key = self.now.table.shared.key in Reaches (M.handlers key.model.value) key.config place.old.seat.me.0 kernel.old }
+        ensures same { (place.new.seat.table_id ≡ place.old.seat.table_id) × (place.new.worker ≡ place.old.worker) }
+        ensures done { let key = self.now.table.shared.key in MatchResult result
+            (λ report. Visited (M.handlers key.model.value) key.config place.old.seat.me.0 kernel.old (step.Report place.old.worker) (reply_of report) kernel.new place.old.seat.me.0.seen place.new.seat.me.0)
+            (λ _. Stays place.old.seat.me.0 place.new.seat.me.0 × (kernel.new ≡ kernel.old)) }
+        ensures refused { let key = self.now.table.shared.key in IfErr result (λ fault. IsReportRefusal (simulation_of (M.handlers key.model.value) key.config) place.old.seat.me.0 fault) }
+        ensures ready { let key = self.now.table.shared.key in Reaches (M.handlers key.model.value) key.config place.new.seat.me.0 kernel.new }
+    {
+        self.report_at(&mut place.seat, kernel, place.worker)
+    }
+
+    /// The worker hands the rows of its events below its floor in to the book, and will never undo these events.
+    ///
+    /// [`Fault::Busy`]: another place had claimed the book. [`Fault::Closed`]: the book is closed. [`Fault::Memory`]: memory was
+    /// refused. After each of them the place and the kernel are as they were.
+    pub fn commit(
+        &self,
+        alloc: Global,
+        place: &mut Place<M::Payload>,
+        kernel: &mut Kernel<M>,
+    ) -> Result<(), Fault>
+        requires own { place.old.seat.table_id ≡ self.now.table.shared.table_id }
+        requires kernel { let key = self.now.table.shared.key in Reaches (M.handlers key.model.value) key.config place.old.seat.me.0 kernel.old }
+        ensures same { (place.new.seat.table_id ≡ place.old.seat.table_id) × (place.new.worker ≡ place.old.worker) }
+        ensures done { let key = self.now.table.shared.key in MatchResult result
+            (λ _. (shown : TimeValue) × Visited (M.handlers key.model.value) key.config place.old.seat.me.0 kernel.old (step.Commit place.old.worker) reply.Done kernel.new shown place.new.seat.me.0
+            × IsFloorLeft (simulation_of (M.handlers key.model.value) key.config) place.old.seat.me.0 (step.Commit place.old.worker) shown)
+            (λ _. Stays place.old.seat.me.0 place.new.seat.me.0 × (kernel.new ≡ kernel.old)) }
+        ensures refused { let key = self.now.table.shared.key in IfErr result (λ fault. IsCommitRefusal (simulation_of (M.handlers key.model.value) key.config) place.old.seat.me.0 fault) }
+        ensures closed { IsRefusedOnceClosed place.old.seat.me.0 result }
+        ensures ready { let key = self.now.table.shared.key in Reaches (M.handlers key.model.value) key.config place.new.seat.me.0 kernel.new }
+    {
+        self.commit_at(alloc, &mut place.seat, kernel, place.worker)
+    }
+
+    /// The book is closed, where its floor is the end of the run: no row will follow. It takes no memory.
+    ///
+    /// [`Fault::Busy`]: another place had claimed the book. [`Fault::Closed`]: the book is closed. [`Fault::NotLawful`]: its floor isn't
+    /// the end of the run. After each of them the place is as it was.
+    pub fn close(&self, place: &mut Place<M::Payload>) -> Result<(), Fault>
+        requires own { place.old.seat.table_id ≡ self.now.table.shared.table_id }
+        ensures same { (place.new.seat.table_id ≡ place.old.seat.table_id) × (place.new.worker ≡ place.old.worker) }
+        ensures done { MatchResult result (λ _. Closes place.old.seat.me.0 self.now.table.shared.key.config.end place.new.seat.me.0) (λ _. Stays place.old.seat.me.0 place.new.seat.me.0) }
+        ensures refused { let key = self.now.table.shared.key in IfErr result (λ fault. IsCloseRefusal (simulation_of (M.handlers key.model.value) key.config) place.old.seat.me.0 fault) }
+        ensures closed { IsRefusedOnceClosed place.old.seat.me.0 result }
+    {
+        self.close_at(&mut place.seat)
+    }
+
+    /// The records that the book shows: exactly the sequential run's before a floor that is not below any that this place was shown.
+    ///
+    /// [`Fault::Busy`]: another place had claimed the book. [`Fault::Memory`]: memory was refused. After either the place is as it
+    /// was.
+    pub fn records(
+        &self,
+        alloc: Global,
+        place: &mut Place<M::Payload>,
+    ) -> Result<Vec<Record>, Fault>
+        requires own { place.old.seat.table_id ≡ self.now.table.shared.table_id }
+        ensures same { (place.new.seat.table_id ≡ place.old.seat.table_id) × (place.new.worker ≡ place.old.worker) }
+        ensures done { let key = self.now.table.shared.key in MatchResult result
+            (λ v. (floor : TimeValue) × AreRecordsShown (simulation_of (M.handlers key.model.value) key.config) place.old.seat.me.0 floor v.items × Unvisited place.old.seat.me.0 floor place.new.seat.me.0)
+            (λ _. Stays place.old.seat.me.0 place.new.seat.me.0) }
+        ensures refused { let key = self.now.table.shared.key in IfErr result (λ fault. IsRecordsRefusal (simulation_of (M.handlers key.model.value) key.config) fault) }
+    {
+        self.records_at(alloc, &mut place.seat)
+    }
+}

@@ -1,0 +1,200 @@
+//! The book: commit, close and what it shows.
+
+ghost use Rattle.std.specs.Prelude.{◌≡◌, ◌<◌, ◌⊎◌, ◌+◌, List, true, false, IfOk, IfErr, MatchResult};
+ghost use Rattle.vt_key.specs.Times.{Time as TimeValue};
+ghost use Rattle.vt_key.specs.declared.fault.Fault.TheVariants.{Memory, Closed, NotLawful};
+ghost use Rattle.vt_model.specs.declared.rows.Row.{Row as RowValue};
+ghost use Rattle.vt_model.specs.Simulation.{simulation_of};
+ghost use Rattle.vt_steps.specs.declared.step.Step.TheVariants as step;
+ghost use Rattle.vt_steps.specs.declared.step.Reply.TheVariants as reply;
+ghost use Rattle.vt_steps.specs.World.{Book as BookValue, book_floor, book_records};
+ghost use Rattle.vt_steps.specs.BookSteps.{with_rows, may_close, closed_book};
+ghost use Rattle.vt_steps.specs.Cells.{in_book};
+ghost use Rattle.vt_book.specs.Books.{may_hand};
+ghost use Rattle.vt_station.specs.Kept.{Rests};
+ghost use Rattle.vt_station.specs.Calls.{Acts, Holding, Reaches, Visited, Closes, Unvisited, Stays, IsCommitRefusal, IsCloseRefusal, IsRecordsRefusal, IsFloorLeft, AreRecordsShown, IsRefusedOnceClosed};
+
+use crate::slot::Slot;
+use crate::station::{Seat, Station, Visit};
+use std::alloc::Global;
+use std::snapshot::Snapshot;
+use vt_kernel::Kernel;
+use vt_key::{Fault, Time};
+use vt_model::{Model as EventModel, Record, Row};
+use vt_steps::{Reply, Step};
+
+impl<M: EventModel> Station<M> {
+    /// Hands rows, for which memory may have been refused, in to the claimed book, and tells its floor as it then is.
+    fn hand_in(
+        &self,
+        seat: &mut Seat<M>,
+        worker: u32,
+        rows: &Result<Vec<Row>, Fault>,
+        floor: Time,
+    ) -> Result<Time, Fault>
+        requires table { seat.old.table_id ≡ self.now.table.shared.table_id }
+        requires held { let config = self.now.table.shared.key.config in (book : BookValue) × Holding config seat.old.me (self.now.workers + 1) (in_book book) (in_book book)
+            × (book.is_closed ≡ false → IfOk rows.now (λ v. may_hand (record { end = config.end; book = book }) worker v.items floor ≡ true)) }
+        ensures same { (seat.new.table_id ≡ seat.old.table_id) × (seat.new.id ≡ seat.old.id) × (seat.new.me.0 ≡ seat.old.me.0) }
+        ensures done { let config = self.now.table.shared.key.config in (book : BookValue) × Holding config seat.old.me (self.now.workers + 1) (in_book book) (in_book book) × MatchResult result
+            (λ shown. (handed : List RowValue) × MatchResult rows.now (λ v. v.items ≡ handed) (λ _. ⊥) × (book.is_closed ≡ false)
+            × Holding config seat.new.me (self.now.workers + 1) (in_book book) (in_book (with_rows worker handed floor book)) × (shown ≡ book_floor config.end (with_rows worker handed floor book)))
+            (λ fault. Holding config seat.new.me (self.now.workers + 1) (in_book book) (in_book book)
+            × (((fault ≡ Closed) × (book.is_closed ≡ true)) ⊎ ((fault ≡ Memory) × (book.is_closed ≡ false)))) }
+    {
+        let held = seat.slot_mut(&self.table.shared, self.workers + 1);
+        let Slot::Book(book) = held else {
+            unreachable!()
+        };
+        if book.is_closed() {
+            return Err(Fault::Closed);
+        }
+        let Ok(rows) = rows else {
+            return Err(Fault::Memory);
+        };
+        match book.hand(worker, rows, floor) {
+            Ok(()) => Ok(book.floor()),
+            Err(_) => Err(Fault::Memory),
+        }
+    }
+}
+
+impl<M: EventModel> Station<M> {
+    /// Closes the claimed book, and tells its floor, which is the end of the run.
+    fn close_book(&self, seat: &mut Seat<M>) -> Result<Time, Fault>
+        requires table { seat.old.table_id ≡ self.now.table.shared.table_id }
+        requires held { let config = self.now.table.shared.key.config in (book : BookValue) × Holding config seat.old.me (self.now.workers + 1) (in_book book) (in_book book) }
+        ensures same { (seat.new.table_id ≡ seat.old.table_id) × (seat.new.id ≡ seat.old.id) × (seat.new.me.0 ≡ seat.old.me.0) }
+        ensures done { let config = self.now.table.shared.key.config in (book : BookValue) × Holding config seat.old.me (self.now.workers + 1) (in_book book) (in_book book) × MatchResult result
+            (λ floor. (book.is_closed ≡ false) × (may_close config.end book ≡ true) × Holding config seat.new.me (self.now.workers + 1) (in_book book) (in_book (closed_book book)) × (floor ≡ book_floor config.end book))
+            (λ fault. Holding config seat.new.me (self.now.workers + 1) (in_book book) (in_book book)
+            × (((fault ≡ Closed) × (book.is_closed ≡ true)) ⊎ ((fault ≡ NotLawful) × (book.is_closed ≡ false) × (may_close config.end book ≡ false)))) }
+    {
+        let held = seat.slot_mut(&self.table.shared, self.workers + 1);
+        let Slot::Book(book) = held else {
+            unreachable!()
+        };
+        match book.close() {
+            Ok(()) => Ok(book.floor()),
+            Err(fault) => Err(fault),
+        }
+    }
+
+    /// Copies the records that the claimed book shows, and tells its floor.
+    fn copy_records(&self, alloc: Global, seat: &mut Seat<M>) -> Result<(Vec<Record>, Time), Fault>
+        requires table { seat.old.table_id ≡ self.now.table.shared.table_id }
+        requires held { let config = self.now.table.shared.key.config in (book : BookValue) × Holding config seat.old.me (self.now.workers + 1) (in_book book) (in_book book) }
+        ensures same { (seat.new.table_id ≡ seat.old.table_id) × (seat.new.id ≡ seat.old.id) × (seat.new.me.0 ≡ seat.old.me.0) }
+        ensures done { let config = self.now.table.shared.key.config in (book : BookValue) × Holding config seat.old.me (self.now.workers + 1) (in_book book) (in_book book)
+            × Holding config seat.new.me (self.now.workers + 1) (in_book book) (in_book book) × IfOk result (λ r. (r.0.items ≡ book_records config.end book) × (r.1 ≡ book_floor config.end book)) }
+        ensures refused { IfErr result (λ fault. fault ≡ Memory) }
+    {
+        let held = seat.slot_mut(&self.table.shared, self.workers + 1);
+        let Slot::Book(book) = held else {
+            unreachable!()
+        };
+        match book.records(alloc) {
+            Ok(records) => Ok((records, book.floor())),
+            Err(fault) => Err(fault),
+        }
+    }
+}
+
+impl<M: EventModel> Station<M> {
+    /// The commit of a worker. Its rows are made before the book is claimed.
+    pub(crate) fn commit_at(
+        &self,
+        alloc: Global,
+        seat: &mut Seat<M>,
+        kernel: &mut Kernel<M>,
+        worker: u32,
+    ) -> Result<(), Fault>
+        requires table { seat.old.table_id ≡ self.now.table.shared.table_id }
+        requires rests { Rests seat.old.me }
+        requires worker { seat.old.me.0.worker ≡ worker }
+        requires kernel { let key = self.now.table.shared.key in Reaches (M.handlers key.model.value) key.config seat.old.me.0 kernel.old }
+        ensures same { (seat.new.table_id ≡ seat.old.table_id) × (seat.new.id ≡ seat.old.id) × Rests seat.new.me }
+        ensures done { let key = self.now.table.shared.key in MatchResult result
+            (λ _. (shown : TimeValue) × Visited (M.handlers key.model.value) key.config seat.old.me.0 kernel.old (step.Commit worker) reply.Done kernel.new shown seat.new.me.0
+            × IsFloorLeft (simulation_of (M.handlers key.model.value) key.config) seat.old.me.0 (step.Commit worker) shown)
+            (λ _. Stays seat.old.me.0 seat.new.me.0 × (kernel.new ≡ kernel.old)) }
+        ensures refused { let key = self.now.table.shared.key in IfErr result (λ fault. IsCommitRefusal (simulation_of (M.handlers key.model.value) key.config) seat.old.me.0 fault) }
+        ensures closed { IsRefusedOnceClosed seat.old.me.0 result }
+    {
+        let rows = kernel.rows(alloc);
+        let floor = kernel.floor();
+        if !self.claim(seat, self.workers + 1) {
+            return Err(Fault::Busy);
+        }
+        let before = Snapshot::of(kernel);
+        match self.hand_in(seat, worker, &rows, floor) {
+            Ok(shown) => {
+                kernel.fossil();
+                let visit = Visit {
+                    step: Step::Commit(worker),
+                    reply: Reply::Done,
+                    before,
+                    left: Snapshot::of(kernel),
+                    seen: Some(shown),
+                };
+                self.release_visit(seat, self.workers + 1, &visit);
+                Ok(())
+            }
+            Err(fault) => {
+                self.release_unchanged(seat, self.workers + 1, None);
+                Err(fault)
+            }
+        }
+    }
+}
+
+impl<M: EventModel> Station<M> {
+    /// The close.
+    pub(crate) fn close_at(&self, seat: &mut Seat<M>) -> Result<(), Fault>
+        requires table { seat.old.table_id ≡ self.now.table.shared.table_id }
+        requires rests { Rests seat.old.me }
+        ensures same { (seat.new.table_id ≡ seat.old.table_id) × (seat.new.id ≡ seat.old.id) × Rests seat.new.me }
+        ensures done { MatchResult result (λ _. Closes seat.old.me.0 self.now.table.shared.key.config.end seat.new.me.0) (λ _. Stays seat.old.me.0 seat.new.me.0) }
+        ensures refused { let key = self.now.table.shared.key in IfErr result (λ fault. IsCloseRefusal (simulation_of (M.handlers key.model.value) key.config) seat.old.me.0 fault) }
+        ensures closed { IsRefusedOnceClosed seat.old.me.0 result }
+    {
+        if !self.claim(seat, self.workers + 1) {
+            return Err(Fault::Busy);
+        }
+        match self.close_book(seat) {
+            Ok(floor) => {
+                self.release_close(seat, self.workers + 1, floor);
+                Ok(())
+            }
+            Err(fault) => {
+                self.release_unchanged(seat, self.workers + 1, None);
+                Err(fault)
+            }
+        }
+    }
+
+    /// The records that the book shows.
+    pub(crate) fn records_at(&self, alloc: Global, seat: &mut Seat<M>) -> Result<Vec<Record>, Fault>
+        requires table { seat.old.table_id ≡ self.now.table.shared.table_id }
+        requires rests { Rests seat.old.me }
+        ensures same { (seat.new.table_id ≡ seat.old.table_id) × (seat.new.id ≡ seat.old.id) × Rests seat.new.me }
+        ensures done { let key = self.now.table.shared.key in MatchResult result
+            (λ v. (floor : TimeValue) × AreRecordsShown (simulation_of (M.handlers key.model.value) key.config) seat.old.me.0 floor v.items × Unvisited seat.old.me.0 floor seat.new.me.0)
+            (λ _. Stays seat.old.me.0 seat.new.me.0) }
+        ensures refused { let key = self.now.table.shared.key in IfErr result (λ fault. IsRecordsRefusal (simulation_of (M.handlers key.model.value) key.config) fault) }
+    {
+        if !self.claim(seat, self.workers + 1) {
+            return Err(Fault::Busy);
+        }
+        match self.copy_records(alloc, seat) {
+            Ok((records, floor)) => {
+                self.release_unchanged(seat, self.workers + 1, Some(floor));
+                Ok(records)
+            }
+            Err(fault) => {
+                self.release_unchanged(seat, self.workers + 1, None);
+                Err(fault)
+            }
+        }
+    }
+}

@@ -1,0 +1,168 @@
+//! Mail between workers: post and fetch.
+
+ghost use Rattle.std.specs.Prelude.{◌≡◌, ◌≤◌, ◌<◌, ◌+◌, List, [], true, false, length, IfErr, MatchResult};
+ghost use Rattle.vt_key.specs.declared.letter.Mail.{Mail};
+ghost use Rattle.vt_key.specs.declared.limits.TheConstants.{MAX_COUNT};
+ghost use Rattle.vt_model.specs.Handler.{Handlers};
+ghost use Rattle.vt_model.specs.Simulation.{simulation_of};
+ghost use Rattle.vt_steps.specs.declared.step.Step.TheVariants as step;
+ghost use Rattle.vt_steps.specs.declared.step.Reply.TheVariants as reply;
+ghost use Rattle.vt_steps.specs.World.{Part};
+ghost use Rattle.vt_steps.specs.Cells.{in_inbox};
+ghost use Rattle.vt_steps.specs.Letters.{is_empty};
+ghost use Rattle.vt_kernel.specs.Held.{StandsFor};
+ghost use Rattle.vt_kernel.specs.Guards.{IsSendRefusal};
+ghost use Rattle.vt_station.specs.Slots.{cell_count};
+ghost use Rattle.vt_station.specs.Kept.{Rests};
+ghost use Rattle.vt_station.specs.Calls.{Acts, Holding, Reaches, Visited, Stays, IsPostRefusal, IsFetchRefusal};
+
+use crate::slot::Slot;
+use crate::station::{Seat, Station, Visit};
+use std::mem;
+use std::snapshot::Snapshot;
+use vt_kernel::Kernel;
+use vt_key::Fault;
+use vt_model::Model as EventModel;
+use vt_steps::{Reply, Step};
+
+impl<M: EventModel> Station<M> {
+    /// Moves the letters of a kernel for worker `v` into the claimed inbox.
+    fn put_letters(&self, seat: &mut Seat<M>, kernel: &mut Kernel<M>, v: u32) -> Result<(), Fault>
+        requires table { seat.old.table_id ≡ self.now.table.shared.table_id }
+        requires held { (mails : List (Mail _)) × Holding self.now.table.shared.key.config seat.old.me v (in_inbox mails) (in_inbox mails) }
+        requires config { kernel.old.config ≡ self.now.table.shared.key.config }
+        ensures same { (seat.new.table_id ≡ seat.old.table_id) × (seat.new.id ≡ seat.old.id) × (seat.new.me.0 ≡ seat.old.me.0) }
+        ensures done { let key = self.now.table.shared.key in (mails : List (Mail _)) × MatchResult result
+            (λ _. (left : List (Mail _)) × Holding key.config seat.new.me v (in_inbox mails) (in_inbox left) × Acts (M.handlers key.model.value) key.config (step.Send kernel.old.worker v) reply.Done kernel.old (in_inbox mails) kernel.new (in_inbox left))
+            (λ _. Holding key.config seat.new.me v (in_inbox mails) (in_inbox mails) × (kernel.new ≡ kernel.old)) }
+        ensures refused { let key = self.now.table.shared.key in (part : Part _) → StandsFor (M.handlers key.model.value) kernel.old part → IfErr result (λ fault. IsSendRefusal (simulation_of (M.handlers key.model.value) kernel.old.config) kernel.old.worker v part fault) }
+    {
+        let held = seat.slot_mut(&self.table.shared, v as usize);
+        let Slot::Inbox(mails) = held else {
+            unreachable!()
+        };
+        kernel.letters_for(v, mails)
+    }
+}
+
+impl<M: EventModel> Station<M> {
+    /// Moves what is in the claimed inbox of a worker to its kernel.
+    fn take_letters(
+        &self,
+        seat: &mut Seat<M>,
+        kernel: &mut Kernel<M>,
+        worker: u32,
+    ) -> Result<(), Fault>
+        requires table { seat.old.table_id ≡ self.now.table.shared.table_id }
+        requires held { (mails : List (Mail _)) × Holding self.now.table.shared.key.config seat.old.me worker (in_inbox mails) (in_inbox mails) }
+        requires config { kernel.old.config ≡ self.now.table.shared.key.config }
+        requires worker { kernel.old.worker ≡ worker }
+        ensures same { (seat.new.table_id ≡ seat.old.table_id) × (seat.new.id ≡ seat.old.id) × (seat.new.me.0 ≡ seat.old.me.0) }
+        ensures done { let key = self.now.table.shared.key in (mails : List (Mail _)) × MatchResult result
+            (λ _. Holding key.config seat.new.me worker (in_inbox mails) (in_inbox []) × Acts (M.handlers key.model.value) key.config (step.Fetch worker) reply.Done kernel.old (in_inbox mails) kernel.new (in_inbox []))
+            (λ _. Holding key.config seat.new.me worker (in_inbox mails) (in_inbox mails) × (kernel.new ≡ kernel.old)) }
+        ensures refused { (handlers : Handlers _ _ _) (part : Part _) → StandsFor handlers kernel.old part → IfErr result (λ fault. IsFetchRefusal (simulation_of handlers kernel.old.config) part fault) }
+    {
+        let held = seat.slot_mut(&self.table.shared, worker as usize);
+        let Slot::Inbox(mails) = held else {
+            unreachable!()
+        };
+        let empty = Vec::new(*mails.allocator());
+        let mail = mem::replace(mails, empty);
+        match kernel.take_in(mail) {
+            Ok(()) => Ok(()),
+            Err((fault, mail)) => {
+                *mails = mail;
+                Err(fault)
+            }
+        }
+    }
+}
+
+impl<M: EventModel> Station<M> {
+    /// The send of a worker's letters for worker `v`, at the inbox of `v`.
+    pub(crate) fn post_at(
+        &self,
+        seat: &mut Seat<M>,
+        kernel: &mut Kernel<M>,
+        worker: u32,
+        v: u32,
+    ) -> Result<(), Fault>
+        requires table { seat.old.table_id ≡ self.now.table.shared.table_id }
+        requires rests { Rests seat.old.me }
+        requires worker { seat.old.me.0.worker ≡ worker }
+        requires kernel { let key = self.now.table.shared.key in Reaches (M.handlers key.model.value) key.config seat.old.me.0 kernel.old }
+        ensures same { (seat.new.table_id ≡ seat.old.table_id) × (seat.new.id ≡ seat.old.id) × Rests seat.new.me }
+        ensures done { let key = self.now.table.shared.key in MatchResult result
+            (λ _. Visited (M.handlers key.model.value) key.config seat.old.me.0 kernel.old (step.Send worker v) reply.Done kernel.new seat.old.me.0.seen seat.new.me.0)
+            (λ _. Stays seat.old.me.0 seat.new.me.0 × (kernel.new ≡ kernel.old)) }
+        ensures refused { let key = self.now.table.shared.key in (part : Part _) → StandsFor (M.handlers key.model.value) kernel.old part → IfErr result (λ fault. IsPostRefusal (simulation_of (M.handlers key.model.value) key.config) worker v part fault) }
+    {
+        kernel.may_send(v)?;
+        if !self.claim(seat, v as usize) {
+            return Err(Fault::Busy);
+        }
+        let before = Snapshot::of(kernel);
+        match self.put_letters(seat, kernel, v) {
+            Ok(()) => {
+                let visit = Visit {
+                    step: Step::Send(worker, v),
+                    reply: Reply::Done,
+                    before,
+                    left: Snapshot::of(kernel),
+                    seen: None,
+                };
+                self.release_visit(seat, v as usize, &visit);
+                Ok(())
+            }
+            Err(fault) => {
+                self.release_unchanged(seat, v as usize, None);
+                Err(fault)
+            }
+        }
+    }
+
+    /// The fetch of a worker, at its inbox.
+    pub(crate) fn fetch_at(
+        &self,
+        seat: &mut Seat<M>,
+        kernel: &mut Kernel<M>,
+        worker: u32,
+    ) -> Result<(), Fault>
+        requires table { seat.old.table_id ≡ self.now.table.shared.table_id }
+        requires rests { Rests seat.old.me }
+        requires worker { seat.old.me.0.worker ≡ worker }
+        requires known { worker < self.now.workers }
+        requires kernel { let key = self.now.table.shared.key in Reaches (M.handlers key.model.value) key.config seat.old.me.0 kernel.old }
+        ensures same { (seat.new.table_id ≡ seat.old.table_id) × (seat.new.id ≡ seat.old.id) × Rests seat.new.me }
+        ensures done { let key = self.now.table.shared.key in MatchResult result
+            (λ _. Visited (M.handlers key.model.value) key.config seat.old.me.0 kernel.old (step.Fetch worker) reply.Done kernel.new seat.old.me.0.seen seat.new.me.0)
+            (λ _. Stays seat.old.me.0 seat.new.me.0 × (kernel.new ≡ kernel.old)) }
+        ensures refused { let key = self.now.table.shared.key in (part : Part _) → StandsFor (M.handlers key.model.value) kernel.old part → IfErr result (λ fault. IsFetchRefusal (simulation_of (M.handlers key.model.value) key.config) part fault) }
+    {
+        if kernel.arrived_len() > 0 {
+            return Err(Fault::NotLawful);
+        }
+        if !self.claim(seat, worker as usize) {
+            return Err(Fault::Busy);
+        }
+        let before = Snapshot::of(kernel);
+        match self.take_letters(seat, kernel, worker) {
+            Ok(()) => {
+                let visit = Visit {
+                    step: Step::Fetch(worker),
+                    reply: Reply::Done,
+                    before,
+                    left: Snapshot::of(kernel),
+                    seen: None,
+                };
+                self.release_visit(seat, worker as usize, &visit);
+                Ok(())
+            }
+            Err(fault) => {
+                self.release_unchanged(seat, worker as usize, None);
+                Err(fault)
+            }
+        }
+    }
+}

@@ -1,0 +1,50 @@
+//! The rule of a station's table, and what a step on it tells.
+
+use crate::slot::Slot;
+use crate::view::View;
+use atomic_table::{Play, TableRule};
+use std::marker::{Brand, PhantomData};
+use std::snapshot::Snapshot;
+use vt_model::{Config, Model as EventModel};
+
+/// What a station is told once: the model and the config. The model is there for contracts alone.
+#[derive(Drop)]
+pub(crate) struct About<M> {
+    pub(crate) model: Snapshot<M>,
+    pub(crate) config: Config,
+}
+
+/// There is a list of marked steps that gives what the cells and the places show.
+pub(crate) struct Law<M> {
+    model: PhantomData<M>,
+}
+
+impl<M: EventModel> TableRule<Slot<M::Payload>, View<M::Payload>, About<M>> for Law<M> {
+    ghost use Rattle.vt_model.specs.Simulation.{simulation_of};
+    ghost use Rattle.vt_station.specs.Kept.{Kept, first_view};
+
+    ghost holds = { λ key. Kept (simulation_of (M.handlers key.model.value) key.config) key.config };
+
+    ghost first = { λ key. first_view (simulation_of (M.handlers key.model.value) key.config) };
+}
+
+/// What the caller of a step wants of the number that is found and of the seat after it.
+pub(crate) trait Aim<P> {
+    ghost use Rattle.std.specs.Prelude.{ℕ};
+    ghost use Rattle.vt_station.specs.Kept.{Sat};
+
+    ghost after: { ℕ → Sat P → Type 0 };
+}
+
+impl<P> Aim<P> for Brand {
+    ghost after = { λ _ _. Unit {0} };
+}
+
+/// A step tells what its caller wants of it.
+pub(crate) struct Tell<J> {
+    aim: PhantomData<J>,
+}
+
+impl<P, J: Aim<P>> Play<Slot<P>, View<P>> for Tell<J> {
+    ghost then = { λ st m r n. J.after r n };
+}

@@ -1,0 +1,31 @@
+//! What a place knows.
+
+ghost use Rattle.std.specs.Prelude.{ℕ, List, Option};
+ghost use base.Fml.{ftrue};
+ghost use Rattle.vt_key.specs.Times.{Time};
+ghost use Rattle.vt_steps.specs.World.{Part};
+ghost use Rattle.vt_steps.specs.Marked.{Made};
+ghost use Rattle.vt_station.specs.Hands.{Hand};
+
+use std::marker::{Model, PhantomData};
+
+/// What a place knows, for contracts alone: no value of it is ever made.
+pub(crate) struct View<P> {
+    marker: PhantomData<P>,
+    // Whose place it is, and the part of that worker as its last visit left it.
+    pub(crate) ghost worker: { ℕ },
+    pub(crate) ghost part: { Part P },
+    // The worker's steps, and what each was answered.
+    pub(crate) ghost mine: { List Made },
+    // A floor of the book that was shown to this place.
+    pub(crate) ghost seen: { Time },
+    // The cell that it has claimed, and what that held then.
+    pub(crate) ghost hand: { Hand P },
+    // For the place that makes the others: how many there are, and the parts of those still to be made.
+    pub(crate) ghost made: { ℕ },
+    pub(crate) ghost waiting: { List (Part P) },
+}
+
+impl<P> Model for View<P> {
+    ghost also_owns = { λ _. ftrue };
+}
