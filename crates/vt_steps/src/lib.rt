@@ -6,6 +6,7 @@
 
 mod histories;
 mod laws;
+mod marked;
 mod memory;
 mod step;
 mod theorem;
@@ -14,6 +15,10 @@ pub use histories::{copies_are_right, histories_are_right, letters_are_delivered
 pub use laws::{
     letters_annihilate, letters_are_kept, local_steps_change_one_part, mail_is_kept,
     refused_steps_change_nothing, reports_are_answered, steps_act_on_one_cell,
+};
+pub use marked::{
+    closes_are_known, cuts_are_refused_after_a_cut, others_keep_their_parts,
+    own_steps_may_come_last,
 };
 pub use memory::{
     memory_forgets_what_is_committed, memory_goes_back, memory_goes_on,

@@ -1,0 +1,48 @@
+//! What holds of runs whose steps are marked with the workers that make them: what a worker's own steps do whatever the others
+//! did before, and what it can tell from them.
+
+ghost use Rattle.std.specs.Prelude.{ℕ, ◌≡◌, ◌<◌, ◌++◌, [], ◌∷◌, List, Some, None, Ok, true, false, slice_get};
+ghost use Rattle.vt_key.specs.Times.{TimeAtMost, TimeBefore};
+ghost use Rattle.vt_model.specs.Simulation.{Simulation};
+ghost use Rattle.vt_model.specs.Histories.{IsLawful};
+ghost use Rattle.vt_steps.specs.declared.step.Step.{Step};
+ghost use Rattle.vt_steps.specs.declared.step.Reply.{Reply};
+ghost use Rattle.vt_steps.specs.World.{Part, World, book_floor};
+ghost use Rattle.vt_steps.specs.BoardSteps.{cut_board};
+ghost use Rattle.vt_steps.specs.BookSteps.{may_close};
+ghost use Rattle.vt_steps.specs.Cells.{CellName, Cell, worker_of, cell_of, act};
+ghost use Rattle.vt_steps.specs.Laws.{IsAny};
+ghost use Rattle.vt_steps.specs.Next.{next};
+ghost use Rattle.vt_steps.specs.Marked.{Marked, made_done, Each, IsMarkedRight, own_steps_of, shown, LeadLocally, Leads, has_cut_since, has_closed};
+
+/// Local steps of a worker, and one step of it at a cell, do the same to its part and to that cell in every world that has
+/// these two, and change no other part and no other cell. So they may stand last in a run, whatever other workers did since.
+pub fn own_steps_may_come_last<S, P>()
+    ghost sim: { Simulation S P }
+    ensures { (w : ℕ) (name : CellName) (steps : List Step) (step : Step) (part before new : Part P) (cell left : Cell P) (reply : Reply) → LeadLocally sim w steps part before →
+        IsAny (worker_of sim step) w → IsAny (cell_of step) name → act sim step before cell ≡ record { part = new; cell = left; answer = Ok reply } →
+        Leads sim w name part cell (steps ++ step ∷ []) new left (made_done steps ++ record { step = step; reply = reply } ∷ []) }
+{}
+
+/// A step changes no part but that of the worker that makes it.
+pub fn others_keep_their_parts<S, P>()
+    ghost sim: { Simulation S P }
+    ensures { (world : World P) (step : Step) (w v : ℕ) → IsAny (worker_of sim step) w → ¬ (v ≡ w) → slice_get (next sim world step).world.parts v ≡ slice_get world.parts v }
+{}
+
+/// The board refuses a worker's cut only where the worker has cut and was told of no announcement since.
+pub fn cuts_are_refused_after_a_cut<S, P>()
+    ghost sim: { Simulation S P }
+    requires { IsLawful sim }
+    ensures { (w : ℕ) (marks : List Marked) → Each (IsMarkedRight sim) marks → w < sim.workers → cut_board sim.end w (shown sim marks).board ≡ None → has_cut_since false (own_steps_of sim w marks) ≡ true }
+{}
+
+/// Where a worker's close was done the book is closed. Where the book is closed, each worker's floor is the end of the run; and
+/// where it may not be closed, its floor is below the end.
+pub fn closes_are_known<S, P>()
+    ghost sim: { Simulation S P }
+    requires { IsLawful sim }
+    ensures closed { (w : ℕ) (marks : List Marked) → Each (IsMarkedRight sim) marks → has_closed (own_steps_of sim w marks) ≡ true → (shown sim marks).book.is_closed ≡ true }
+    ensures floors { (marks : List Marked) (w : ℕ) (part : Part P) → (shown sim marks).book.is_closed ≡ true → slice_get (shown sim marks).parts w ≡ Some part → part.floor ≡ sim.end }
+    ensures early { (marks : List Marked) → may_close sim.end (shown sim marks).book ≡ false → TimeBefore (book_floor sim.end (shown sim marks).book) sim.end }
+{}
