@@ -4,13 +4,14 @@ ghost use Rattle.std.specs.Prelude.{◌≡◌, ◌+◌, ◌<◌, ◌≤◌, ◌�
 ghost use Rattle.std.specs.Vec.{vec_capacity};
 ghost use Rattle.vt_key.specs.Times.{earlier};
 ghost use Rattle.vt_key.specs.declared.fault.Fault.TheVariants.{Memory, NotLawful, Exhausted};
+ghost use Rattle.vt_key.specs.declared.limits.TheConstants.{MAX_COUNT};
 ghost use Rattle.vt_model.specs.Handler.{Handlers};
 ghost use Rattle.vt_model.specs.Simulation.{simulation_of};
-ghost use Rattle.vt_steps.specs.Letters.{least_time, raised};
+ghost use Rattle.vt_steps.specs.Letters.{count_of, least_time, raised};
 ghost use Rattle.vt_steps.specs.World.{Part};
 ghost use Rattle.vt_steps.specs.PartSteps.{part_after_send, mail_of_send};
 ghost use Rattle.vt_steps.specs.Next.{may_send};
-ghost use Rattle.vt_kernel.specs.Held.{StandsFor, AllOwnMail, AreCounted};
+ghost use Rattle.vt_kernel.specs.Held.{StandsFor, AllOwnMail};
 ghost use Rattle.vt_kernel.specs.Guards.{is_for_worker, mailed, IsSendRefusal};
 
 use crate::kernel::Kernel;
@@ -32,8 +33,8 @@ impl<M: EventModel> Kernel<M> {
         ensures sent { let letters = filter (is_for_worker self.old.config v) self.old.outbox in IfOk result (λ _. self.new ≡ record self.old { outbox = filter (λ letter. not (is_for_worker self.old.config v letter)) self.old.outbox; sent = raised self.old.sent self.old.colour (length letters); red_minimum = earlier self.old.red_minimum (least_time self.old.config.end letters) }) }
         ensures mail { IfOk result (λ _. mail.new.items ≡ mail.old.items ++ map (mailed self.old.colour) (filter (is_for_worker self.old.config v) self.old.outbox)) }
         ensures own { IfOk result (λ _. AllOwnMail self.old.config v (map (mailed self.old.colour) (filter (is_for_worker self.old.config v) self.old.outbox))) }
-        ensures counted { IfOk result (λ _. AreCounted self.new.sent) }
         ensures done { (handlers : Handlers _ _ _) (part : Part _) → StandsFor handlers self.old part → IfOk result (λ _. (may_send (simulation_of handlers self.old.config) self.old.worker v part ≡ true) × StandsFor handlers self.new (part_after_send (simulation_of handlers self.old.config) v part) × (mail.new.items ≡ mail.old.items ++ mail_of_send (simulation_of handlers self.old.config) v part)) }
+        ensures counted { (handlers : Handlers _ _ _) (part : Part _) → StandsFor handlers self.new part → IfOk result (λ _. count_of part.sent part.colour ≤ MAX_COUNT) }
         ensures refused { (handlers : Handlers _ _ _) (part : Part _) → StandsFor handlers self.old part → IfErr result (λ fault. IsSendRefusal (simulation_of handlers self.old.config) self.old.worker v part fault) }
         ensures faults { IfErr result (λ fault. (fault ≡ NotLawful) ⊎ ((fault ≡ Exhausted) ⊎ (fault ≡ Memory))) }
         ensures kept { IfErr result (λ fault. (self.new ≡ self.old) × (mail.new.items ≡ mail.old.items)) }

@@ -1,8 +1,6 @@
 -- A step that is done passes no counter's limit: its worker and the board are within them afterwards.
 use Rattle.std.proofs.Common.{◌≡◌, ℕ, ◌%◌, ◌≤◌, inl, inr, sym, ◌∙◌, ap, subst, arith, Some, slice_get}
 use Rattle.vt_key.specs.declared.limits.TheConstants.{MAX_COUNT}
-use Rattle.vt_key.specs.declared.letter.Colour.{Colour}
-use Rattle.vt_key.specs.declared.letter.Colour.TheVariants.{White, Red}
 use Rattle.vt_model.specs.declared.settings.Config.{Config}
 use Rattle.vt_model.specs.Handler.{Handlers}
 use Rattle.vt_model.specs.Simulation.{simulation_of}
@@ -15,11 +13,6 @@ use Rattle.vt_world.specs.Held.{HeldWorld, StandsForWorld, AreWorkers}
 use Rattle.vt_world.specs.Calls.{PassesLimit}
 use Rattle.vt_world.proofs.WorldLemmas.{worker-at, found}
 use Rattle.vt_world.proofs.Places.{same-there}
-
--- a count of either colour is
-few-of : (counts : Counts) (colour : Colour) → AreCounted counts → count_of counts colour ≤ MAX_COUNT
-few-of counts White few = few.white
-few-of counts Red few = few.red
 
 module _ {M S P K : Type 0} (handlers : Handlers S P K) (held : HeldWorld M S P K) where
   -- after a cut
@@ -36,13 +29,11 @@ module _ {M S P K : Type 0} (handlers : Handlers S P K) (held : HeldWorld M S P 
         subst (WorkerStandsFor handlers k) (same-there world.parts w f.part part f.there there) f.stands
 
     -- after a send
-    pub send-within : (v : ℕ) → AreCounted k.sent → (world : World P) → StandsForWorld handlers held world → PassesLimit (simulation_of handlers held.config) (Send w v) world → ⊥
+    pub send-within : (v : ℕ) → ((part : Part P) → WorkerStandsFor handlers k part → count_of part.sent part.colour ≤ MAX_COUNT) → (world : World P) → StandsForWorld handlers held world → PassesLimit (simulation_of handlers held.config) (Send w v) world → ⊥
     send-within v few world h past =
-        let s = stands-there world h past.0 past.1 in
-        let same : count_of past.0.sent past.0.colour ≡ count_of k.sent k.colour = (λ j. count_of (s.sent j) (s.colour j)) in
-        let most = few-of k.sent k.colour few in
+        let most = few past.0 (stands-there world h past.0 past.1) in
         let over = past.2 in
-        omega (arith, same, most, over)
+        omega (arith, most, over)
 
     -- after a fetch
     pub fetch-within : AreCounted k.got → (world : World P) → StandsForWorld handlers held world → PassesLimit (simulation_of handlers held.config) (Fetch w) world → ⊥

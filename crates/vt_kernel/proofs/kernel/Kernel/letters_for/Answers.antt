@@ -10,11 +10,11 @@ use Rattle.vt_model.specs.Simulation.{simulation_of}
 use Rattle.vt_steps.specs.Letters.{least_time, raised, count_of}
 use Rattle.vt_steps.specs.PartSteps.{letters_for}
 use Rattle.vt_lp.specs.Held.{AllWithinRun, IsWithinRun}
-use Rattle.vt_kernel.specs.Held.{HeldWorker, AllOwnMail}
+use Rattle.vt_kernel.specs.Held.{HeldWorker, AllOwnMail, AreCounted}
 use Rattle.vt_kernel.specs.Guards.{is_for_worker, mailed, IsSendRefusal}
 use Rattle.vt_kernel.proofs.InsideLemmas.{inside-outbox}
 use Rattle.vt_kernel.proofs.PartLemmas.{stands-send, mail-sent}
-use Rattle.vt_kernel.proofs.SendLemmas.{counted-raised, refused-send, own_mail-sent, count_sent, may_send-yes, if_err}
+use Rattle.vt_kernel.proofs.SendLemmas.{count_of-counted, counted-raised, refused-send, own_mail-sent, count_sent, may_send-yes, if_err}
 use Rattle.vt_kernel.proofs.kernel.Kernel.letters_for.Goals as goal
 
 pub returns-in_err-count-clause-refused : goal.returns-in_err-count-clause-refused
@@ -65,11 +65,13 @@ returns-clause-sent g c =
     }) ∙ ap after c.self.view_is
 
 pub returns-clause-counted : goal.returns-clause-counted
-returns-clause-counted g c =
+returns-clause-counted g c handlers part s =
     let k = c.self.inside in
     let count = c.in_ok-count.ensures.count in
     let few : count_of k.sent k.colour + c.in_ok-count.count ≤ MAX_COUNT = omega (arith, c.room-room.ensures, count.1) in
-    rw c.raise.ensures (counted-raised k.sent k.colour c.in_ok-count.count c.self.invariant.few_sent few)
+    let within : AreCounted c.raise.new.self = rw c.raise.ensures (counted-raised k.sent k.colour c.in_ok-count.count c.self.invariant.few_sent few) in
+    let same : count_of part.sent part.colour ≡ count_of c.raise.new.self k.colour = (λ j. count_of (s.sent j) (s.colour j)) in
+    subst (λ n. n ≤ MAX_COUNT) (sym same) (count_of-counted c.raise.new.self k.colour within)
 
 pub returns-clause-own : goal.returns-clause-own
 returns-clause-own g c =

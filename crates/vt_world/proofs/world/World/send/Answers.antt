@@ -134,4 +134,4 @@ returns g c =
     step-done (g.M.Model.handlers) c.self.view_is c.self.invariant (lawful_of (g.M.Model.handlers m) i.config (g.met.M.Model.start_within m) (g.met.M.Model.forward_within m))
     (inside_view m i.config (slice_set i.kernels.items c.args.w c.letters_for.new.self) (slice_set i.inboxes.items c.args.v c.letters_for.new.mail.items) i.board.board i.book.book) (Send c.args.w c.args.v) Done goes refl refl
     (send-within H (inside_view m i.config (slice_set i.kernels.items c.args.w new) (slice_set i.inboxes.items c.args.v c.letters_for.new.mail.items) i.board.board i.book.book)
-    (are-workers H held c.self.invariant c.args.w k new at same_worker same_config) c.args.w new (put-there i.kernels.items c.args.w k new at) c.args.v c.in_ok-letters_for.ensures.counted)
+    (are-workers H held c.self.invariant c.args.w k new at same_worker same_config) c.args.w new (put-there i.kernels.items c.args.w k new at) c.args.v (λ part s. c.in_ok-letters_for.ensures.counted H part s))
