@@ -1,4 +1,4 @@
-use Rattle.std.proofs.Common.{◌≡◌, sym, ◌∙◌}
+use Rattle.std.proofs.Common.{sym, ◌∙◌}
 use Rattle.vt_station_rows.proofs.ReachLemmas.{reaches-closed}
 use Rattle.vt_station_rows.proofs.worker.Worker.close.Goals as goal
 

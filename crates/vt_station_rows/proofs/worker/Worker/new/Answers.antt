@@ -1,4 +1,4 @@
-use Rattle.std.proofs.Common.{◌≡◌, sym, ◌∙◌, subst}
+use Rattle.std.proofs.Common.{sym, subst}
 use Rattle.vt_model.specs.declared.settings.Config.{Config}
 use Rattle.vt_station.specs.Calls.{Reaches}
 use Rattle.vt_station_rows.proofs.ReachLemmas.{reaches-opening}

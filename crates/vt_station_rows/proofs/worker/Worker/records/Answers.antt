@@ -1,4 +1,4 @@
-use Rattle.std.proofs.Common.{◌≡◌, sym, ◌∙◌}
+use Rattle.std.proofs.Common.{sym, ◌∙◌}
 use Rattle.vt_model.specs.Simulation.{simulation_of}
 use Rattle.vt_station.specs.Calls.{AreRecordsShown}
 use Rattle.vt_station_rows.proofs.ReachLemmas.{reaches-shown}

@@ -1,4 +1,3 @@
-use Rattle.std.proofs.Common.{◌≡◌}
 use Rattle.vt_station_rows.proofs.ReachLemmas.{reaches-settled}
 use Rattle.vt_station_rows.proofs.worker.Worker.settle.Goals as goal
 
