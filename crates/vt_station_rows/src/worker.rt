@@ -3,6 +3,11 @@
 ghost use Rattle.std.specs.Prelude.{◌≡◌, ◌<◌, IfOk, IfErr, length};
 ghost use Rattle.vt_key.specs.declared.fault.Fault.TheVariants.{Memory};
 ghost use Rattle.vt_model.specs.Simulation.{simulation_of};
+ghost use Rattle.vt_steps.specs.World.{Part};
+ghost use Rattle.vt_steps.specs.declared.step.Step.TheVariants as step;
+ghost use Rattle.vt_kernel.specs.Held.{StandsFor};
+ghost use Rattle.vt_kernel.specs.Local.{local_step};
+ghost use Rattle.vt_kernel.specs.Guards.{IsDone};
 ghost use Rattle.vt_station.specs.Making.{IsNew, AreNew};
 ghost use Rattle.vt_station_rows.specs.AtWork.{IsAtSamePlace, IsAtSameStation};
 
@@ -78,6 +83,7 @@ impl<'a, M: EventModel> Worker<'a, M> {
     /// Executes the least pending event of process `lp`.
     pub fn execute(&mut self, lp: u32) -> Result<(), Fault>
         ensures place { IsAtSamePlace self.old self.new }
+        ensures done { (part : Part _) → StandsFor (M.handlers self.old.model) self.old.kernel part → IfOk result (λ done. IsDone (M.handlers self.old.model) self.new.kernel (local_step (simulation_of (M.handlers self.old.model) self.old.kernel.config) self.old.kernel.worker (step.Execute lp) part)) }
     {
         self.kernel.execute(self.alloc, self.model, lp)
     }
@@ -85,6 +91,8 @@ impl<'a, M: EventModel> Worker<'a, M> {
     /// Undoes the last past event of process `lp`.
     pub fn undo(&mut self, lp: u32) -> Result<(), Fault>
         ensures place { IsAtSamePlace self.old self.new }
+        ensures done { (part : Part _) → StandsFor (M.handlers self.old.model) self.old.kernel part → IfOk result (λ done. IsDone (M.handlers self.old.model) self.new.kernel (local_step (simulation_of (M.handlers self.old.model) self.old.kernel.config) self.old.kernel.worker (step.Undo lp) part)) }
+        ensures kept { IfErr result (λ _. self.new.kernel ≡ self.old.kernel) }
     {
         self.kernel.undo(self.model, lp)
     }
@@ -92,6 +100,8 @@ impl<'a, M: EventModel> Worker<'a, M> {
     /// Annihilates a message and its anti-message at process `lp`.
     pub fn cancel(&mut self, lp: u32, stamp: Stamp) -> Result<(), Fault>
         ensures place { IsAtSamePlace self.old self.new }
+        ensures done { (part : Part _) → StandsFor (M.handlers self.old.model) self.old.kernel part → IfOk result (λ done. IsDone (M.handlers self.old.model) self.new.kernel (local_step (simulation_of (M.handlers self.old.model) self.old.kernel.config) self.old.kernel.worker (step.Cancel lp stamp) part)) }
+        ensures kept { IfErr result (λ _. self.new.kernel ≡ self.old.kernel) }
     {
         self.kernel.cancel(lp, stamp)
     }
@@ -99,6 +109,8 @@ impl<'a, M: EventModel> Worker<'a, M> {
     /// Takes the first letter of the outbox that is for a process of this worker to it.
     pub fn home(&mut self) -> Result<(), Fault>
         ensures place { IsAtSamePlace self.old self.new }
+        ensures done { (part : Part _) → StandsFor (M.handlers self.old.model) self.old.kernel part → IfOk result (λ done. IsDone (M.handlers self.old.model) self.new.kernel (local_step (simulation_of (M.handlers self.old.model) self.old.kernel.config) self.old.kernel.worker (step.Home self.old.kernel.worker) part)) }
+        ensures kept { IfErr result (λ _. self.new.kernel ≡ self.old.kernel) }
     {
         self.kernel.home()
     }
@@ -106,6 +118,8 @@ impl<'a, M: EventModel> Worker<'a, M> {
     /// Takes the letter at place `i` of the mail that has arrived to its process.
     pub fn accept(&mut self, i: u64) -> Result<(), Fault>
         ensures place { IsAtSamePlace self.old self.new }
+        ensures done { (part : Part _) → StandsFor (M.handlers self.old.model) self.old.kernel part → IfOk result (λ done. IsDone (M.handlers self.old.model) self.new.kernel (local_step (simulation_of (M.handlers self.old.model) self.old.kernel.config) self.old.kernel.worker (step.Accept self.old.kernel.worker i) part)) }
+        ensures kept { IfErr result (λ _. self.new.kernel ≡ self.old.kernel) }
     {
         self.kernel.accept(self.alloc, i)
     }
