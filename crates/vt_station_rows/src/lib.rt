@@ -1,0 +1,13 @@
+//! Worked examples of a station: its places, driven by hand from one thread. Expected answers were worked out from the rules of
+//! the steps.
+#![tactic(auto)]
+
+#[cfg(test)]
+mod driving;
+#[cfg(test)]
+mod refusals;
+#[cfg(test)]
+mod replay;
+mod worker;
+
+pub use worker::{Worker, workers_at};
