@@ -17,6 +17,7 @@ mod making;
 mod readers;
 mod sending;
 mod settling;
+mod steering;
 mod times;
 
 pub use cutting::least_of_mail;

@@ -10,3 +10,4 @@ pub mod BoardLemmas
 pub mod BookLemmas
 pub mod RefusalLemmas
 pub mod CommitAt
+pub mod ReachLemmas

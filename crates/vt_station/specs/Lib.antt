@@ -3,3 +3,5 @@ pub mod Slots
 pub mod Kept
 pub mod Calls
 pub mod Making
+pub mod AtWork
+pub mod Crew

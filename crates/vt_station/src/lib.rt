@@ -3,7 +3,10 @@
 
 mod calls;
 mod committing;
+mod crew;
 mod cutting;
+mod driver;
+mod gate;
 mod making;
 mod place;
 mod posting;
@@ -11,6 +14,10 @@ mod rule;
 mod slot;
 mod station;
 mod view;
+mod worker;
 
+pub use crew::{Stopped, run_workers};
+pub use gate::{Gate, Open};
 pub use place::Place;
 pub use station::Station;
+pub use worker::{NotMade, Worker};

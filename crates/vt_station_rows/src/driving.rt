@@ -1,11 +1,11 @@
 //! Two workers that exchange a straggler: the stretches of a run that the examples share.
 
-use crate::Worker;
 use std::process::Abort;
 use vt_board::Report;
 use vt_key::Stamp;
 use vt_model::Record;
 use vt_models::Hop;
+use vt_station::Worker;
 
 pub(crate) fn record(time: u64, lp: u32, value: u64) -> Record {
     Record {

@@ -8,6 +8,6 @@ mod driving;
 mod refusals;
 #[cfg(test)]
 mod replay;
-mod worker;
+mod workers;
 
-pub use worker::{Worker, workers_at};
+pub use workers::workers_at;

@@ -1,12 +1,12 @@
 //! Calls that are refused, and change nothing.
 
 use crate::driving::{agree, all_records, commit_all, roll_back, run_ahead};
-use crate::{Worker, workers_at};
+use crate::workers_at;
 use std::rt::{self, HostRuntime};
 use vt_key::{Colour, Fault, Time};
 use vt_model::Config;
 use vt_models::Hop;
-use vt_station::Station;
+use vt_station::{Station, Worker};
 
 /// What is told of a worker: the lengths of its outbox and of what arrived, its serial, its colour, its counts of mail, white
 /// and red, and its red minimum and floor.

@@ -1,0 +1,36 @@
+//! Where the letters are going that the worker holds itself: what a driver needs to settle the processes that it touches.
+
+ghost use Rattle.std.specs.Prelude.{◌≡◌, slice_get};
+ghost use Rattle.std.specs.Option.{option_map};
+ghost use Rattle.std.specs.List.{find};
+ghost use Rattle.vt_kernel.specs.Guards.{is_for_worker};
+
+use crate::delivering::IsFor;
+use crate::kernel::Kernel;
+use vt_model::Model as EventModel;
+
+impl<M: EventModel> Kernel<M> {
+    /// The process that the letter at place `i`, from 0, of the mail that has arrived is for; None where there is no such place.
+    pub fn arrived_for(&self, i: u64) -> Option<u32>
+        ensures { result ≡ option_map (λ mail. mail.letter.event.dest) (slice_get self.now.arrived i) }
+    {
+        let Some(mail) = self.arrived.get(i as usize) else {
+            return None;
+        };
+        Some(mail.letter.event.dest)
+    }
+
+    /// The process that [`Kernel::home`] would take a letter to; None where the outbox has no letter for a process of this worker.
+    pub fn home_for(&self) -> Option<u32>
+        ensures { result ≡ option_map (λ letter. letter.event.dest) (find (is_for_worker self.now.config self.now.worker) self.now.outbox) }
+    {
+        let own = IsFor {
+            config: self.config,
+            worker: self.worker,
+        };
+        let Some(letter) = self.outbox.find(&own) else {
+            return None;
+        };
+        Some(letter.event.dest)
+    }
+}

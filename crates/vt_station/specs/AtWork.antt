@@ -1,0 +1,35 @@
+-- A worker at its place.
+use Rattle.std.specs.Prelude.{◌≡◌}
+use Rattle.atomic_table.specs.Seated.{TableId}
+use Rattle.vt_model.specs.declared.settings.Config.{Config}
+use Rattle.vt_model.specs.Handler.{Handlers}
+use Rattle.vt_kernel.specs.Held.{HeldWorker}
+use Rattle.vt_station.specs.declared.view.View.{View}
+use Rattle.vt_station.specs.Calls.{Reaches}
+
+-- what a contract sees of a worker at its place: the station's model, config and table, what its place knows, and its kernel
+pub record AtWork (M S P K : Type 0) : Type 0 where
+  pub model : M
+  pub config : Config
+  pub table : TableId
+  pub view : View P
+  pub kernel : HeldWorker S P K
+
+-- what holds of it between calls: the place is one of this table, the station was told this model and this config, and local
+-- steps lead from what the place left to what the kernel stands for
+pub record IsAtWork {M S P K : Type 0} (handlers : M → Handlers S P K) (told : M) (config : Config) (table : TableId) (w : AtWork M S P K) : Type 0 where
+  pub config_is : config ≡ w.config
+  pub table_is : w.table ≡ table
+  pub model_is : told ≡ w.model
+  pub reaches : Reaches (handlers w.model) w.config w.view w.kernel
+
+-- it is at the same station, and was told the same model
+pub record IsAtSameStation {M S P K : Type 0} (v w : AtWork M S P K) : Type 0 where
+  pub model : w.model ≡ v.model
+  pub config : w.config ≡ v.config
+  pub table : w.table ≡ v.table
+
+-- and its place knows the same
+pub record IsAtSamePlace {M S P K : Type 0} (v w : AtWork M S P K) : Type 0 where
+  pub station : IsAtSameStation v w
+  pub view : w.view ≡ v.view

@@ -1,0 +1,241 @@
+//! The turns of a worker.
+
+ghost use Rattle.std.specs.Prelude.{◌≡◌, true, map, Some};
+ghost use Rattle.vt_steps.specs.Marked.{answered, has_closed};
+ghost use Rattle.vt_station.specs.declared.driver.Outcome.TheVariants.{Closed};
+
+use crate::gate::Gate;
+use crate::place::Place;
+use crate::worker::Worker;
+use std::alloc::Global;
+use std::thread::yield_now;
+use vt_key::{Fault, Time};
+use vt_model::Model as EventModel;
+
+/// The most events that a worker executes in one turn.
+const MOST_EXECUTIONS: u32 = 16;
+
+/// How the work of a worker ended.
+#[derive(Clone, Copy)]
+pub(crate) enum Outcome {
+    /// All its turns were made.
+    Spent,
+    /// It closed the book.
+    Closed,
+    /// It found the book closed.
+    Ended,
+    /// A call was refused with a fault that no later turn mends.
+    Refused(Fault),
+}
+
+/// A worker that makes its turns.
+#[derive(Drop)]
+pub(crate) struct Driver<'a, M: EventModel> {
+    worker: Worker<'a, M>,
+    // The processes that letters reached, and that are not settled since.
+    touched: Vec<u32>,
+    // The floor of the last hand-in that was done.
+    handed: Time,
+}
+
+impl<'a, M: EventModel> Driver<'a, M> {
+    /// A worker before its first turn.
+    pub(crate) fn new(alloc: Global, worker: Worker<'a, M>) -> Driver<'a, M>
+        ensures { result.worker ≡ worker }
+    {
+        Driver {
+            worker,
+            touched: Vec::new(alloc),
+            handed: 0,
+        }
+    }
+
+    /// The place of the worker, whose work has ended.
+    pub(crate) fn leave(self) -> Place<M::Payload>
+        ensures table { result.seat.table_id ≡ self.worker.table }
+        ensures view { result.seat.me.0 ≡ self.worker.view }
+    {
+        self.worker.leave()
+    }
+
+    /// Notes that a letter reached process `lp`.
+    fn touch(&mut self, lp: u32) -> Result<(), Fault>
+        ensures same { self.new.worker ≡ self.old.worker }
+    {
+        let Ok(()) = self.touched.push(lp) else {
+            return Err(Fault::Memory);
+        };
+        Ok(())
+    }
+
+    /// Undoes and cancels at each process that letters reached.
+    fn settle_touched(&mut self)
+        ensures same { self.new.worker.table ≡ self.old.worker.table }
+    {
+        for i in 0..self.touched.len() {
+            if let Some(lp) = self.touched.get(i) {
+                self.worker.settle(*lp);
+            }
+        }
+        self.touched.clear();
+    }
+
+    /// Takes all mail that has arrived to its processes, the last first.
+    fn accept_all(&mut self) -> Result<(), Fault>
+        ensures same { self.new.worker.table ≡ self.old.worker.table }
+    {
+        for i in (0..self.worker.kernel().arrived_len()).rev() {
+            let i = i as u64;
+            let Some(lp) = self.worker.kernel().arrived_for(i) else {
+                continue;
+            };
+            self.touch(lp)?;
+            if let Err(Fault::Memory) = self.worker.accept(i) {
+                return Err(Fault::Memory);
+            }
+        }
+        Ok(())
+    }
+
+    /// Takes all letters of the outbox that are for processes of this worker to them.
+    fn home_all(&mut self) -> Result<(), Fault>
+        ensures same { self.new.worker.table ≡ self.old.worker.table }
+    {
+        for _ in 0..self.worker.kernel().outbox_len() {
+            let Some(lp) = self.worker.kernel().home_for() else {
+                break;
+            };
+            self.touch(lp)?;
+            let Ok(()) = self.worker.home() else {
+                break;
+            };
+        }
+        Ok(())
+    }
+
+    /// Executes lawful events, the least first, and tells how many.
+    fn execute_some<G: Gate>(&mut self, gate: &G, turn: u64) -> Result<u32, Fault>
+        ensures same { self.new.worker.table ≡ self.old.worker.table }
+    {
+        for done in 0..MOST_EXECUTIONS {
+            let Some(lp) = self.worker.kernel().next() else {
+                return Ok(done);
+            };
+            gate.before_execute(self.worker.number(), turn);
+            self.worker.execute(lp)?;
+        }
+        Ok(MOST_EXECUTIONS)
+    }
+
+    /// Sends to each worker that there are letters for.
+    fn post_all(&mut self) -> Result<(), Fault>
+        ensures same { self.new.worker.table ≡ self.old.worker.table }
+    {
+        for v in 0..self.worker.config().workers {
+            if self.worker.kernel().outbox_len() == 0 {
+                break;
+            }
+            pass_over(self.worker.post(v))?;
+        }
+        Ok(())
+    }
+
+    /// Joins the round of global virtual time: one cut, or where that isn't lawful one report. It tells whether one was done.
+    fn agree(&mut self) -> Result<bool, Fault>
+        ensures same { self.new.worker.table ≡ self.old.worker.table }
+    {
+        match self.worker.cut() {
+            Err(Fault::NotLawful) => match self.worker.report() {
+                Ok(_) => Ok(true),
+                Err(fault) => pass_over(Err(fault)),
+            },
+            answer => pass_over(answer),
+        }
+    }
+
+    /// Hands in where the floor has risen since the last hand-in: else there is nothing that the book doesn't have.
+    fn commit_risen(&mut self) -> Result<(), Fault>
+        ensures same { self.new.worker.table ≡ self.old.worker.table }
+    {
+        let floor = self.worker.kernel().floor();
+        if floor == self.handed {
+            return Ok(());
+        }
+        if pass_over(self.worker.commit())? {
+            self.handed = floor;
+        }
+        Ok(())
+    }
+
+    /// Closes the book, where the worker knows that the end of the run was announced: before that it isn't lawful. It tells
+    /// whether the work has ended.
+    fn close(&mut self) -> Option<Outcome>
+        ensures same { self.new.worker.table ≡ self.old.worker.table }
+        ensures closed { result ≡ Some Closed → has_closed (map answered self.new.worker.view.mine) ≡ true }
+    {
+        if self.worker.kernel().floor() < self.worker.config().end {
+            return None;
+        }
+        match self.worker.close() {
+            Ok(()) => Some(Outcome::Closed),
+            Err(Fault::Closed) => Some(Outcome::Ended),
+            Err(_) => None,
+        }
+    }
+}
+
+/// Whether a call was done. What a later turn may mend is passed over.
+fn pass_over(answer: Result<(), Fault>) -> Result<bool, Fault> {
+    match answer {
+        Ok(()) => Ok(true),
+        Err(Fault::NotLawful | Fault::Busy | Fault::Closed) => Ok(false),
+        Err(fault) => Err(fault),
+    }
+}
+
+impl<'a, M: EventModel> Driver<'a, M> {
+    /// All of a turn but its end: mail comes in, events are executed, mail goes out. It tells whether an event was executed.
+    fn work<G: Gate>(&mut self, gate: &G, turn: u64) -> Result<bool, Fault>
+        ensures same { self.new.worker.table ≡ self.old.worker.table }
+    {
+        if self.worker.kernel().arrived_len() == 0 {
+            pass_over(self.worker.fetch())?;
+        }
+        self.accept_all()?;
+        self.settle_touched();
+        self.home_all()?;
+        self.settle_touched();
+        let executed = self.execute_some(gate, turn)?;
+        self.post_all()?;
+        Ok(executed > 0)
+    }
+
+    /// One turn. It gives the processor away where it did nothing that others don't have to help with.
+    fn turn<G: Gate>(&mut self, gate: &G, turn: u64) -> Result<(), Fault>
+        ensures same { self.new.worker.table ≡ self.old.worker.table }
+    {
+        let executed = self.work(gate, turn)?;
+        let agreed = self.agree()?;
+        self.commit_risen()?;
+        if !executed || !agreed {
+            yield_now();
+        }
+        Ok(())
+    }
+
+    /// Turn after turn, until the book is closed, a call is refused for good, or all turns are made.
+    pub(crate) fn run<G: Gate>(&mut self, gate: &G, max_turns: u64) -> Outcome
+        ensures same { self.new.worker.table ≡ self.old.worker.table }
+        ensures closed { result ≡ Closed → has_closed (map answered self.new.worker.view.mine) ≡ true }
+    {
+        for turn in 0..max_turns {
+            if let Err(fault) = self.turn(gate, turn + 1) {
+                return Outcome::Refused(fault);
+            }
+            if let Some(outcome) = self.close() {
+                return outcome;
+            }
+        }
+        Outcome::Spent
+    }
+}

@@ -1,0 +1,232 @@
+//! A worker at its place: the kernel goes by local steps from what its place knows.
+
+ghost use Rattle.std.specs.Prelude.{◌≡◌, ◌<◌, IfOk, IfErr};
+ghost use Rattle.vt_key.specs.declared.fault.Fault.TheVariants.{Memory};
+ghost use Rattle.vt_model.specs.Simulation.{simulation_of};
+ghost use Rattle.vt_steps.specs.World.{Part, opening_part};
+ghost use Rattle.vt_steps.specs.declared.step.Step.TheVariants as step;
+ghost use Rattle.vt_kernel.specs.Held.{StandsFor};
+ghost use Rattle.vt_kernel.specs.Local.{local_step};
+ghost use Rattle.vt_kernel.specs.Guards.{IsDone};
+ghost use Rattle.vt_station.specs.Making.{IsNew};
+ghost use Rattle.vt_station.specs.AtWork.{IsAtSamePlace, IsAtSameStation};
+
+use crate::place::Place;
+use crate::station::Station;
+use std::alloc::Global;
+use std::marker::Model;
+use vt_board::Report;
+use vt_kernel::Kernel;
+use vt_key::{Fault, Stamp};
+use vt_model::{Config, Model as EventModel, Record};
+
+/// A worker with its place at a station, by which it acts there.
+///
+/// What the kernel stands for is reached by local steps from what the place left at its last visit.
+#[derive(Drop)]
+pub struct Worker<'a, M: EventModel> {
+    alloc: Global,
+    station: &'a Station<M>,
+    model: &'a M,
+    config: Config,
+    place: Place<M::Payload>,
+    kernel: Kernel<M>,
+}
+
+impl<'a, M: EventModel> Model for Worker<'a, M> {
+    ghost use Rattle.vt_station.specs.AtWork.{AtWork, IsAtWork};
+
+    ghost Value = { AtWork M M.State M.Payload M.Kept };
+
+    ghost view = { λ w. record {
+      model = w.model.now;
+      config = w.station.now.table.shared.key.config;
+      table = w.station.now.table.shared.table_id;
+      view = w.place.seat.me.0;
+      kernel = w.kernel;
+    } };
+
+    ghost invariant = { λ w. IsAtWork M.handlers w.station.now.table.shared.key.model.value w.config w.place.seat.table_id (record {
+      model = w.model.now;
+      config = w.station.now.table.shared.key.config;
+      table = w.station.now.table.shared.table_id;
+      view = w.place.seat.me.0;
+      kernel = w.kernel;
+    }) };
+}
+
+/// A worker could not be made.
+#[derive(Drop)]
+pub struct NotMade<P> {
+    /// [`Fault::Memory`]: memory was refused.
+    pub fault: Fault,
+    /// The place, as it was.
+    pub place: Place<P>,
+}
+
+impl<'a, M: EventModel> Worker<'a, M> {
+    /// Worker `w` at its place, as the station made it, with its kernel at the opening.
+    ///
+    /// [`NotMade`]: memory was refused.
+    pub fn new(
+        alloc: Global,
+        station: &'a Station<M>,
+        model: &'a M,
+        config: Config,
+        w: u32,
+        place: Place<M::Payload>,
+    ) -> Result<Worker<'a, M>, NotMade<M::Payload>>
+        requires known { w < config.workers }
+        requires told { (station.now.table.shared.key.model.value ≡ model.now) × (station.now.table.shared.key.config ≡ config) }
+        requires place { IsNew (simulation_of (M.handlers model.now) config) station.now.table.shared.table_id w place }
+        ensures made { IfOk result (λ made. (made.model ≡ model.now) × (made.config ≡ config) × (made.table ≡ station.now.table.shared.table_id)
+            × (made.view ≡ place.seat.me.0) × (made.kernel.worker ≡ w) × StandsFor (M.handlers model.now) made.kernel (opening_part (simulation_of (M.handlers model.now) config) 0 w)) }
+        ensures refused { IfErr result (λ not. (not.fault ≡ Memory) × (not.place ≡ place)) }
+    {
+        match Kernel::new(alloc, model, config, w) {
+            Ok(kernel) => Ok(Worker {
+                alloc,
+                station,
+                model,
+                config,
+                place,
+                kernel,
+            }),
+            Err(fault) => Err(NotMade { fault, place }),
+        }
+    }
+
+    /// The place of the worker, whose kernel is no longer wanted.
+    pub fn leave(self) -> Place<M::Payload>
+        ensures table { result.seat.table_id ≡ self.table }
+        ensures view { result.seat.me.0 ≡ self.view }
+    {
+        self.place
+    }
+
+    /// The number of the worker.
+    pub fn number(&self) -> u32
+        ensures { result ≡ self.now.kernel.worker }
+    {
+        self.place.worker
+    }
+
+    /// The config of the run.
+    pub fn config(&self) -> Config
+        ensures { result ≡ self.now.config }
+    {
+        self.config
+    }
+}
+
+impl<'a, M: EventModel> Worker<'a, M> {
+    /// Executes the least pending event of process `lp`.
+    pub fn execute(&mut self, lp: u32) -> Result<(), Fault>
+        ensures place { IsAtSamePlace self.old self.new }
+        ensures done { (part : Part _) → StandsFor (M.handlers self.old.model) self.old.kernel part → IfOk result (λ done. IsDone (M.handlers self.old.model) self.new.kernel (local_step (simulation_of (M.handlers self.old.model) self.old.kernel.config) self.old.kernel.worker (step.Execute lp) part)) }
+    {
+        self.kernel.execute(self.alloc, self.model, lp)
+    }
+
+    /// Undoes the last past event of process `lp`.
+    pub fn undo(&mut self, lp: u32) -> Result<(), Fault>
+        ensures place { IsAtSamePlace self.old self.new }
+        ensures done { (part : Part _) → StandsFor (M.handlers self.old.model) self.old.kernel part → IfOk result (λ done. IsDone (M.handlers self.old.model) self.new.kernel (local_step (simulation_of (M.handlers self.old.model) self.old.kernel.config) self.old.kernel.worker (step.Undo lp) part)) }
+        ensures kept { IfErr result (λ _. self.new.kernel ≡ self.old.kernel) }
+    {
+        self.kernel.undo(self.model, lp)
+    }
+
+    /// Annihilates a message and its anti-message at process `lp`.
+    pub fn cancel(&mut self, lp: u32, stamp: Stamp) -> Result<(), Fault>
+        ensures place { IsAtSamePlace self.old self.new }
+        ensures done { (part : Part _) → StandsFor (M.handlers self.old.model) self.old.kernel part → IfOk result (λ done. IsDone (M.handlers self.old.model) self.new.kernel (local_step (simulation_of (M.handlers self.old.model) self.old.kernel.config) self.old.kernel.worker (step.Cancel lp stamp) part)) }
+        ensures kept { IfErr result (λ _. self.new.kernel ≡ self.old.kernel) }
+    {
+        self.kernel.cancel(lp, stamp)
+    }
+
+    /// Takes the first letter of the outbox that is for a process of this worker to it.
+    pub fn home(&mut self) -> Result<(), Fault>
+        ensures place { IsAtSamePlace self.old self.new }
+        ensures done { (part : Part _) → StandsFor (M.handlers self.old.model) self.old.kernel part → IfOk result (λ done. IsDone (M.handlers self.old.model) self.new.kernel (local_step (simulation_of (M.handlers self.old.model) self.old.kernel.config) self.old.kernel.worker (step.Home self.old.kernel.worker) part)) }
+        ensures kept { IfErr result (λ _. self.new.kernel ≡ self.old.kernel) }
+    {
+        self.kernel.home()
+    }
+
+    /// Takes the letter at place `i` of the mail that has arrived to its process.
+    pub fn accept(&mut self, i: u64) -> Result<(), Fault>
+        ensures place { IsAtSamePlace self.old self.new }
+        ensures done { (part : Part _) → StandsFor (M.handlers self.old.model) self.old.kernel part → IfOk result (λ done. IsDone (M.handlers self.old.model) self.new.kernel (local_step (simulation_of (M.handlers self.old.model) self.old.kernel.config) self.old.kernel.worker (step.Accept self.old.kernel.worker i) part)) }
+        ensures kept { IfErr result (λ _. self.new.kernel ≡ self.old.kernel) }
+    {
+        self.kernel.accept(self.alloc, i)
+    }
+
+    /// Undoes and cancels at process `lp` until neither is lawful there.
+    pub fn settle(&mut self, lp: u32)
+        ensures place { IsAtSamePlace self.old self.new }
+    {
+        self.kernel.settle(self.model, lp);
+    }
+}
+
+impl<'a, M: EventModel> Worker<'a, M> {
+    /// Sends all letters for processes of worker `v`.
+    pub fn post(&mut self, v: u32) -> Result<(), Fault>
+        ensures station { IsAtSameStation self.old self.new }
+    {
+        self.station.post(&mut self.place, &mut self.kernel, v)
+    }
+
+    /// Takes in what was sent to this worker.
+    pub fn fetch(&mut self) -> Result<(), Fault>
+        ensures station { IsAtSameStation self.old self.new }
+    {
+        self.station.fetch(&mut self.place, &mut self.kernel)
+    }
+
+    /// Joins the open round of global virtual time, or opens one.
+    pub fn cut(&mut self) -> Result<(), Fault>
+        ensures station { IsAtSameStation self.old self.new }
+    {
+        self.station.cut(&mut self.place, &mut self.kernel)
+    }
+
+    /// Reports to the board.
+    pub fn report(&mut self) -> Result<Report, Fault>
+        ensures station { IsAtSameStation self.old self.new }
+    {
+        self.station.report(&mut self.place, &mut self.kernel)
+    }
+
+    /// Hands in the rows below the worker's floor.
+    pub fn commit(&mut self) -> Result<(), Fault>
+        ensures station { IsAtSameStation self.old self.new }
+    {
+        self.station
+            .commit(self.alloc, &mut self.place, &mut self.kernel)
+    }
+
+    /// Closes the book.
+    pub fn close(&mut self) -> Result<(), Fault>
+        ensures station { IsAtSameStation self.old self.new }
+    {
+        self.station.close(&mut self.place)
+    }
+
+    /// The records that the book shows.
+    pub fn records(&mut self) -> Result<Vec<Record>, Fault>
+        ensures station { IsAtSameStation self.old self.new }
+    {
+        self.station.records(self.alloc, &mut self.place)
+    }
+
+    /// The kernel, to look at.
+    pub fn kernel(&self) -> &Kernel<M>
+        ensures { result.now ≡ self.now.kernel }
+    {
+        &self.kernel
+    }
+}
