@@ -36,10 +36,10 @@ hand_in-requires-clause-held g c κs within =
     let book = (shown sim t.known.log).book in (
       book,
       took-book sim key.config c.args.seat.now.me c.claim.new.seat.me (c.args.self.now.workers + 1) c.requires.rests t (omega arith),
-      λ open_is. ok-more c.rows-rows.result (λ x. x.items ≡ rows_of_commit (simulation_of H k.config) k.worker r.part) (λ x. may_hand (record { end = key.config.end; book = book }) c.args.worker x.items c.floor-floor.result ≡ true)
-          (λ x is. ap (λ w. may_hand (record { end = key.config.end; book = book }) w x.items c.floor-floor.result) (sym c.requires.worker)
-          ∙ hand-lawful H key.config lawful v (c.args.self.now.workers + 1) _ t.known k r x.items c.floor-floor.result c.floor-floor.ensures is)
-          (c.rows-rows.ensures.rows H r.part r.stands),
+      λ open_is. ok-more c.batch_of-batch.result (λ x. x ≡ rows_of_commit (simulation_of H k.config) k.worker r.part) (λ x. may_hand (record { end = key.config.end; book = book }) c.args.worker x c.floor-floor.result ≡ true)
+          (λ x is. ap (λ w. may_hand (record { end = key.config.end; book = book }) w x c.floor-floor.result) (sym c.requires.worker)
+          ∙ hand-lawful H key.config lawful v (c.args.self.now.workers + 1) _ t.known k r x c.floor-floor.result c.floor-floor.ensures is)
+          (c.batch_of-batch.ensures.rows H r.part r.stands),
     )
 
 pub release_visit-requires-clause-held : goal.release_visit-requires-clause-held
@@ -64,7 +64,7 @@ release_visit-requires-clause-held g c κs within =
     let same : book ≡ d.0 = held-book key.config c.claim.new.seat.me cell book d.0 _ _ took d.1 in
     let acts : Acts H key.config (Commit v.worker) Done k (in_book book) c.fossil.new.self (in_book (with_rows v.worker rows floor book)) =
     commit-acts H key.config lawful v cell _ t.known k r rows floor c.fossil.new.self (ap (λ (b : Book). b.is_closed) same ∙ d.2.2) c.floor-floor.ensures
-    (λ part s. handed-is c.rows-rows.result (λ x. x.items) rows (rows_of_commit (simulation_of H k.config) k.worker part) d.2.1 (c.rows-rows.ensures.rows H part s))
+    (λ part s. handed-is c.batch_of-batch.result (λ x. x) rows (rows_of_commit (simulation_of H k.config) k.worker part) d.2.1 (c.batch_of-batch.ensures.rows H part s))
     (λ part s. c.fossil.ensures.stands H part s) (ap (λ (h : HeldWorker _ _ _). h.worker) c.fossil.ensures.others) (ap (λ (h : HeldWorker _ _ _). h.config) c.fossil.ensures.others) in
     let moved : Acts H key.config (Commit w) Done k (in_book d.0) c.fossil.new.self (in_book (with_rows w rows floor d.0)) =
     subst (λ (b : Book). Acts H key.config (Commit w) Done k (in_book b) c.fossil.new.self (in_book (with_rows w rows floor b))) same
@@ -105,7 +105,7 @@ returns-in-Ok-clause-done g c =
           (subst (λ (h : HeldWorker _ _ _). Visited H key.config v c.of-before.result.value (Commit w) Done h c.in-Ok.shown after) c.of.ensures visited),
       subst (λ (u : ℕ). IsFloorLeft sim v (Commit u) c.in-Ok.shown) c.requires.worker
           (commit-left H key.config lawful v cell _ t.known k r rows floor c.in-Ok.shown (ap (λ (b : Book). b.is_closed) same ∙ d.2.2) c.floor-floor.ensures
-          (handed-is c.rows-rows.result (λ x. x.items) rows (rows_of_commit (simulation_of H k.config) k.worker r.part) d.2.1 (c.rows-rows.ensures.rows H r.part r.stands))
+          (handed-is c.batch_of-batch.result (λ x. x) rows (rows_of_commit (simulation_of H k.config) k.worker r.part) d.2.1 (c.batch_of-batch.ensures.rows H r.part r.stands))
           (d.2.4 ∙ (λ i. book_floor key.config.end (with_rows (sym c.requires.worker i) rows floor (sym same i))))),
     )
 
@@ -124,8 +124,8 @@ returns-in-Ok-clause-closed g c = λ h.
     let e : true ≡ false = sym closed ∙ ap (λ (b : Book). b.is_closed) same ∙ d.2.2 in
     absurd cc)
 
-pub returns-clause-refused : goal.returns-clause-refused
-returns-clause-refused g c =
+pub returns-in-Err-clause-refused : goal.returns-in-Err-clause-refused
+returns-in-Err-clause-refused g c =
     let key = c.args.self.now.table.shared.key in
     let m = key.model.value in
     let H = g.M.Model.handlers m in
@@ -147,8 +147,8 @@ returns-clause-refused g c =
       | inr x ↦ subst (IsCommitRefusal sim v) (sym x.0) (refused-memory H key.config lawful v cell _ t.known k r (closed ∙ x.1))
     ]
 
-pub returns-clause-closed : goal.returns-clause-closed
-returns-clause-closed g c = λ h.
+pub returns-in-Err-clause-closed : goal.returns-in-Err-clause-closed
+returns-in-Err-clause-closed g c = λ h.
     (let key = c.args.self.now.table.shared.key in
     let sim = simulation_of (g.M.Model.handlers key.model.value) key.config in
     let counted = c.args.self.now.counted in
