@@ -18,14 +18,13 @@ ghost use Rattle.vt_station.specs.Kept.{Rests};
 ghost use Rattle.vt_station.specs.Calls.{Acts, Holding, Reaches, Visited, Closes, Unvisited, Stays, IsCommitRefusal, IsCloseRefusal, IsRecordsRefusal, IsFloorLeft, AreRecordsShown, IsRefusedOnceClosed};
 
 use crate::slot::Slot;
-use crate::station::{Seat, Station, Visit};
+use crate::station::{Lent, Seat, Station};
 use std::alloc::Global;
 use std::snapshot::Snapshot;
 use vt_book::Batch;
 use vt_kernel::Kernel;
 use vt_key::{Fault, Time};
 use vt_model::{Model as EventModel, Record};
-use vt_steps::{Reply, Step};
 
 /// What a kernel would hand in, made ready.
 ///
@@ -115,7 +114,8 @@ impl<M: EventModel> Station<M> {
 }
 
 impl<M: EventModel> Station<M> {
-    /// The commit of a worker. Its rows are made, and put in order, before the book is claimed.
+    /// The commit of a worker. Its rows are made, and put in order, before the book is claimed, and its kernel forgets them
+    /// after the book is given back.
     pub(crate) fn commit_at(
         &self,
         alloc: Global,
@@ -140,18 +140,15 @@ impl<M: EventModel> Station<M> {
         if !self.claim(seat, self.workers + 1) {
             return Err(Fault::Busy);
         }
-        let before = Snapshot::of(kernel);
         match self.hand_in(seat, worker, batch, floor) {
             Ok(shown) => {
-                kernel.fossil();
-                let visit = Visit {
-                    step: Step::Commit(worker),
-                    reply: Reply::Done,
-                    before,
-                    left: Snapshot::of(kernel),
-                    seen: Some(shown),
+                let lent = Lent {
+                    worker,
+                    kernel: Snapshot::of(kernel),
+                    seen: shown,
                 };
-                self.release_visit(seat, self.workers + 1, &visit);
+                self.release_commit(seat, self.workers + 1, &lent);
+                kernel.fossil();
                 Ok(())
             }
             Err(fault) => {
