@@ -11,3 +11,4 @@ pub mod BookLemmas
 pub mod RefusalLemmas
 pub mod CommitAt
 pub mod ReachLemmas
+pub mod CrewLemmas

@@ -1,34 +1,63 @@
 -- The work of a crew of workers.
-use Rattle.std.specs.Prelude.{◌≡◌, ◌⊎◌, ℕ, ◌<◌, true, List, map, Option, Some, None}
+use Rattle.std.specs.Prelude.{◌≡◌, ◌⊎◌, ℕ, ◌<◌, List, length, All, Option, Some, None, slice_get}
 use Rattle.atomic_table.specs.Seated.{TableId}
 use Rattle.vt_key.specs.declared.fault.Fault.{Fault}
-use Rattle.vt_key.specs.declared.fault.Fault.TheVariants.{Memory, Busy, Exhausted, TurnsSpent}
+use Rattle.vt_key.specs.declared.fault.Fault.TheVariants.{Busy, TurnsSpent}
 use Rattle.vt_model.specs.declared.settings.Config.{Config}
 use Rattle.vt_model.specs.Handler.{Handlers}
-use Rattle.vt_model.specs.Simulation.{simulation_of}
-use Rattle.vt_steps.specs.Marked.{answered, has_closed}
+use Rattle.vt_model.specs.Simulation.{Simulation, simulation_of}
 use Rattle.vt_station.specs.declared.place.Place.{Place}
 use Rattle.vt_station.specs.declared.driver.Outcome.{Outcome}
 use Rattle.vt_station.specs.declared.driver.Outcome.TheVariants.{Closed}
 use Rattle.vt_station.specs.Making.{IsNew}
+use Rattle.vt_station.specs.Turns.{IsLasting, HasEnded}
 
--- the work of worker w with a place of this table: before it begins the place is as it was made, and where the worker closed the
--- book the place knows it
-pub record IsAtPlace {S P K : Type 0} (handlers : Handlers S P K) (config : Config) (table : TableId) (w : ℕ) (outcome : Option Outcome) (place : Place P) : Type 0 where
-  pub table_is : place.seat.table_id ≡ table
-  pub new : outcome ≡ None → IsNew (simulation_of handlers config) table w place
-  pub closed : outcome ≡ Some Closed → has_closed (map answered place.seat.me.0.mine) ≡ true
+-- the work of worker w with a place of this table: before it begins the place is as it was made, and then the place knows how
+-- the work ended
+abbrev pub IsLeft : {S P : Type 0} → Simulation S P → TableId → ℕ → Option Outcome → Place P → Type 0
+IsLeft sim table w None place = IsNew sim table w place
+IsLeft sim table w (Some outcome) place = HasEnded place.seat.me.0 outcome
 
--- the work of worker w at a station that was told this model and config
-pub record IsJob {M S P K : Type 0} (handlers : M → Handlers S P K) (model told : M) (config known : Config) (table : TableId) (w : ℕ) (place : Option (Place P)) (outcome : Option Outcome) : Type 0 where
-  pub model_is : told ≡ model
-  pub config_is : known ≡ config
-  pub within : w < config.workers
+-- what a contract sees of the work of a worker
+pub record AtJob (M P : Type 0) : Type 0 where
+  pub model : M
+  pub config : Config
+  pub table : TableId
+  pub worker : ℕ
+  pub place : Option (Place P)
+  pub outcome : Option Outcome
+
+-- what holds of it between calls: the station was told this model and this config, and there is a place
+pub record IsJob {M S P K : Type 0} (handlers : M → Handlers S P K) (told : M) (known : Config) (j : AtJob M P) : Type 0 where
+  pub model_is : told ≡ j.model
+  pub config_is : known ≡ j.config
+  pub within : j.worker < j.config.workers
   pub there : Place P
-  pub place_is : place ≡ Some there
-  pub at : IsAtPlace (handlers model) config table w outcome there
+  pub place_is : j.place ≡ Some there
+  pub table_is : there.seat.table_id ≡ j.table
+  pub left : IsLeft (simulation_of (handlers j.model) j.config) j.table j.worker j.outcome there
+
+-- the work of the same worker for the same model and config
+pub record IsSameJob {M P : Type 0} (i j : AtJob M P) : Type 0 where
+  pub model : j.model ≡ i.model
+  pub config : j.config ≡ i.config
+  pub table : j.table ≡ i.table
+  pub worker : j.worker ≡ i.worker
+
+-- the worker of job i closed the book
+abbrev pub IsClosedAt : {M P : Type 0} → List (AtJob M P) → ℕ → Type 0
+IsClosedAt {M} {P} jobs i = (job : AtJob M P) × (slice_get jobs i ≡ Some job) × (job.outcome ≡ Some Closed)
+
+-- the work of workers for this model and this config
+abbrev pub AllAt : {M P : Type 0} → M → Config → List (AtJob M P) → Type 0
+AllAt model config jobs = All (λ j. (j.model ≡ model) × (j.config ≡ config)) jobs
+
+-- it is the work of as many workers, for the same model and config
+pub record IsSameWork {M P : Type 0} (old new : List (AtJob M P)) : Type 0 where
+  pub count : length new ≡ length old
+  pub told : (model : M) (config : Config) → AllAt model config old → AllAt model config new
 
 -- why a run stops before its end: memory was refused, a count would pass its limit, or all turns were made; or the book was
 -- claimed when its records were asked for
 abbrev pub IsStop : Fault → Type 0
-IsStop fault = (fault ≡ Memory) ⊎ (fault ≡ Exhausted) ⊎ (fault ≡ TurnsSpent) ⊎ (fault ≡ Busy)
+IsStop fault = IsLasting fault ⊎ (fault ≡ TurnsSpent) ⊎ (fault ≡ Busy)

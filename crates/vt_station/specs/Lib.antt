@@ -4,4 +4,5 @@ pub mod Kept
 pub mod Calls
 pub mod Making
 pub mod AtWork
+pub mod Turns
 pub mod Crew

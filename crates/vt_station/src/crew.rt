@@ -1,12 +1,14 @@
 //! A thread for each worker, and what comes of their work.
 
-ghost use Rattle.std.specs.Prelude.{◌≡◌, ◌<◌, ◌≤◌, ◌+◌, ◌⊎◌, length, IfOk, IfErr};
+ghost use Rattle.std.specs.Prelude.{◌≡◌, ◌<◌, ◌⊎◌, [], true, length, Some, IfOk, IfErr, IfSome, MatchResult};
 ghost use Rattle.vt_key.specs.Times.{Time as TimeValue};
 ghost use Rattle.vt_model.specs.Simulation.{simulation_of};
 ghost use Rattle.vt_model.specs.Sequential.{seq_records};
-ghost use Rattle.vt_key.specs.declared.fault.Fault.TheVariants.{Memory};
+ghost use Rattle.vt_key.specs.declared.fault.Fault.TheVariants.{Memory, Busy, TurnsSpent};
+ghost use Rattle.vt_station.specs.declared.driver.Outcome.TheVariants.{Closed};
 ghost use Rattle.vt_station.specs.Making.{IsNew, AreNew};
-ghost use Rattle.vt_station.specs.Crew.{IsJob, IsStop};
+ghost use Rattle.vt_station.specs.Turns.{IsLasting};
+ghost use Rattle.vt_station.specs.Crew.{IsSameJob, IsSameWork, AllAt, IsClosedAt, IsStop};
 
 use crate::driver::{Driver, Outcome};
 use crate::gate::Gate;
@@ -14,6 +16,7 @@ use crate::place::Place;
 use crate::station::Station;
 use crate::worker::{NotMade, Worker};
 use std::alloc::Global;
+use std::marker::Model;
 use std::thread;
 use std::thread::Threads;
 use vt_key::Fault;
@@ -37,12 +40,40 @@ pub(crate) struct Job<'a, M: EventModel> {
     worker: u32,
     place: Option<Place<M::Payload>>,
     outcome: Option<Outcome>,
-    ghost fits: { IsJob M.handlers model.now station.now.table.shared.key.model.value config station.now.table.shared.key.config station.now.table.shared.table_id worker place outcome },
+}
+
+impl<'a, M: EventModel> Model for Job<'a, M> {
+    ghost use Rattle.vt_station.specs.Crew.{AtJob, IsJob};
+
+    ghost Value = { AtJob M M.Payload };
+
+    ghost view = { λ j. record {
+      model = j.model.now;
+      config = j.config;
+      table = j.station.now.table.shared.table_id;
+      worker = j.worker;
+      place = j.place;
+      outcome = j.outcome;
+    } };
+
+    ghost invariant = { λ j. IsJob M.handlers j.station.now.table.shared.key.model.value j.station.now.table.shared.key.config (record {
+      model = j.model.now;
+      config = j.config;
+      table = j.station.now.table.shared.table_id;
+      worker = j.worker;
+      place = j.place;
+      outcome = j.outcome;
+    }) };
 }
 
 impl<'a, M: EventModel> Job<'a, M> {
     /// Makes the kernel and all turns of the worker.
-    fn run<G: Gate>(&mut self, alloc: Global, gate: &G, max_turns: u64) {
+    fn run<G: Gate>(&mut self, alloc: Global, gate: &G, max_turns: u64)
+        ensures same { IsSameJob self.old self.new }
+    {
+        if self.outcome.is_some() {
+            return;
+        }
         let Some(place) = self.place.take() else {
             return;
         };
@@ -70,11 +101,15 @@ impl<'a, M: EventModel> Job<'a, M> {
 
 impl<'a, M: EventModel> Job<'a, M> {
     /// The records that the worker's place shows.
-    fn records(&mut self, alloc: Global) -> Result<Vec<Record>, Fault> {
-        let Some(place) = &mut self.place else {
+    fn into_records(self, alloc: Global) -> Result<Vec<Record>, Fault>
+        ensures shown { IfOk result (λ v. (floor : TimeValue) × (v.items ≡ seq_records (simulation_of (M.handlers self.entry.model) self.entry.config) floor) × (self.entry.outcome ≡ Some Closed → floor ≡ self.entry.config.end)) }
+        ensures refused { IfErr result (λ fault. (fault ≡ Memory) ⊎ (fault ≡ Busy)) }
+    {
+        let Job { station, place, .. } = self;
+        let Some(mut place) = place else {
             unreachable!()
         };
-        self.station.records(alloc, place)
+        station.records(alloc, &mut place)
     }
 }
 
@@ -89,7 +124,7 @@ fn job_of<'a, M: EventModel>(
     requires known { worker < config.workers }
     requires told { (station.now.table.shared.key.model.value ≡ model.now) × (station.now.table.shared.key.config ≡ config) }
     requires place { IsNew (simulation_of (M.handlers model.now) config) station.now.table.shared.table_id worker place }
-    ensures told { (result.station.now.table.shared.key.model.value ≡ model.now) × (result.station.now.table.shared.key.config ≡ config) }
+    ensures told { (result.model ≡ model.now) × (result.config ≡ config) }
 {
     Job {
         station,
@@ -112,7 +147,7 @@ fn jobs_at<'a, M: EventModel>(
     requires told { (station.now.table.shared.key.model.value ≡ model.now) × (station.now.table.shared.key.config ≡ config) }
     requires count { length places.items ≡ config.workers }
     requires places { AreNew (simulation_of (M.handlers model.now) config) station.now.table.shared.table_id 0 places.items }
-    ensures count { IfOk result (λ v. length v.items ≡ config.workers) }
+    ensures told { IfOk result (λ v. AllAt model.now config v.items × (length v.items ≡ config.workers)) }
     ensures refused { IfErr result (λ fault. fault ≡ Memory) }
 {
     let mut places = places;
@@ -126,8 +161,10 @@ fn jobs_at<'a, M: EventModel>(
     Ok(jobs)
 }
 
-/// A run that stopped with these records.
-fn stop_with(fault: Fault, records: Result<Vec<Record>, Fault>, alloc: Global) -> Stopped {
+/// A run that stopped with these records, or without any where they were refused.
+fn stop_with(alloc: Global, fault: Fault, records: Result<Vec<Record>, Fault>) -> Stopped
+    ensures { MatchResult records (λ v. (result.fault ≡ fault) × (result.records.items ≡ v.items)) (λ refused. (result.fault ≡ refused) × (result.records.items ≡ [])) }
+{
     match records {
         Ok(records) => Stopped { fault, records },
         Err(fault) => Stopped {
@@ -135,6 +172,94 @@ fn stop_with(fault: Fault, records: Result<Vec<Record>, Fault>, alloc: Global) -
             records: Vec::new(alloc),
         },
     }
+}
+
+/// Whether work ended with the closing of the book.
+fn has_closed_book(outcome: Option<Outcome>) -> bool
+    ensures { result ≡ true → outcome ≡ Some Closed }
+{
+    match outcome {
+        Some(Outcome::Closed) => true,
+        _ => false,
+    }
+}
+
+/// The first job whose worker closed the book.
+fn closer_of<M: EventModel>(jobs: &[Job<'_, M>]) -> Option<usize>
+    ensures { IfSome result (IsClosedAt jobs.now) }
+{
+    for i in 0..jobs.len() {
+        let Some(job) = jobs.get(i) else {
+            return None;
+        };
+        if has_closed_book(job.outcome) {
+            return Some(i);
+        }
+    }
+    None
+}
+
+/// Why the run stopped: the fault of the first worker that had one, else all turns were made.
+fn fault_of<M: EventModel>(jobs: &[Job<'_, M>]) -> Fault
+    ensures { IsLasting result ⊎ (result ≡ TurnsSpent) }
+{
+    for job in jobs {
+        if let Some(Outcome::Refused(fault)) = job.outcome {
+            return fault;
+        }
+    }
+    Fault::TurnsSpent
+}
+
+/// What comes of the work of all: the records of the whole run where a worker closed the book, else those that the first
+/// worker's place shows.
+fn answer_of<M: EventModel>(
+    alloc: Global,
+    model: &M,
+    config: Config,
+    jobs: Vec<Job<'_, M>>,
+) -> Result<Vec<Record>, Stopped>
+    requires told { AllAt model.now config jobs.items }
+    requires some { 0 < length jobs.items }
+    ensures whole { IfOk result (λ v. v.items ≡ seq_records (simulation_of (M.handlers model.now) config) config.end) }
+    ensures begun { IfErr result (λ stopped. (t : TimeValue) × (stopped.records.items ≡ seq_records (simulation_of (M.handlers model.now) config) t)) }
+    ensures fault { IfErr result (λ stopped. IsStop stopped.fault) }
+{
+    let mut jobs = jobs;
+    if let Some(closer) = closer_of(jobs.as_slice()) {
+        return match jobs.remove(closer).into_records(alloc) {
+            Ok(records) => Ok(records),
+            Err(fault) => Err(stop_with(alloc, fault, Err(fault))),
+        };
+    }
+    let fault = fault_of(jobs.as_slice());
+    let records = jobs.remove(0).into_records(alloc);
+    Err(stop_with(alloc, fault, records))
+}
+
+/// All work is done, each worker's in a thread of its own.
+fn work_all<R: Threads + Sync, M: EventModel + Sync, G: Gate + Sync>(
+    rt: &R,
+    alloc: Global,
+    gate: &G,
+    max_turns: u64,
+    jobs: &mut [Job<'_, M>],
+)
+where
+    M::State: Send,
+    M::Kept: Send
+    requires some { 0 < length jobs.old }
+    ensures { IsSameWork jobs.old jobs.new }
+{
+    let threads = jobs.len();
+    thread::for_each_mut(
+        rt,
+        jobs,
+        threads,
+        &|_, job: &mut Job<'_, M>|
+            ensures { IsSameJob job.entry.now job.exit.now }
+        { job.run(alloc, gate, max_turns) },
+    );
 }
 
 /// Runs a model on as many workers as the config has, each in a thread of its own, and gives the records of the whole run.
@@ -150,50 +275,19 @@ pub fn run_workers<R: Threads + Sync, M: EventModel + Sync, G: Gate + Sync>(
 ) -> Result<Vec<Record>, Stopped>
 where
     M::State: Send,
-    M::Kept: Send
+    M::Kept: Send,
     ensures whole { IfOk result (λ v. v.items ≡ seq_records (simulation_of (M.handlers model.now) config) config.end) }
     ensures begun { IfErr result (λ stopped. (t : TimeValue) × (stopped.records.items ≡ seq_records (simulation_of (M.handlers model.now) config) t)) }
     ensures fault { IfErr result (λ stopped. IsStop stopped.fault) }
 {
     let (station, places) = match Station::new(alloc, model, config) {
         Ok(made) => made,
-        Err(fault) => return Err(stop_with(fault, Err(fault), alloc)),
+        Err(fault) => return Err(stop_with(alloc, fault, Err(fault))),
     };
     let mut jobs = match jobs_at(alloc, &station, model, config, places) {
         Ok(jobs) => jobs,
-        Err(fault) => return Err(stop_with(fault, Err(fault), alloc)),
+        Err(fault) => return Err(stop_with(alloc, fault, Err(fault))),
     };
-    let threads = jobs.len();
-    thread::for_each_mut(rt, jobs.as_mut_slice(), threads, &|_, job| {
-        job.run(alloc, gate, max_turns)
-    });
-    answer_of(alloc, jobs)
-}
-
-/// What comes of the work of all: the records of the whole run where a worker closed the book, else those that the first
-/// worker's place shows.
-fn answer_of<M: EventModel>(
-    alloc: Global,
-    jobs: Vec<Job<'_, M>>,
-) -> Result<Vec<Record>, Stopped> {
-    let mut jobs = jobs;
-    let mut refused = None;
-    for i in 0..jobs.len() {
-        let Some(job) = jobs.get_mut(i) else {
-            continue;
-        };
-        match job.outcome {
-            Some(Outcome::Closed) => match job.records(alloc) {
-                Ok(records) => return Ok(records),
-                Err(fault) => return Err(stop_with(fault, Err(fault), alloc)),
-            },
-            Some(Outcome::Refused(fault)) if refused.is_none() => refused = Some(fault),
-            _ => {}
-        }
-    }
-    let fault = refused.unwrap_or(Fault::TurnsSpent);
-    match jobs.get_mut(0) {
-        Some(job) => Err(stop_with(fault, job.records(alloc), alloc)),
-        None => Err(stop_with(fault, Ok(Vec::new(alloc)), alloc)),
-    }
+    work_all(rt, alloc, gate, max_turns, jobs.as_mut_slice());
+    answer_of(alloc, model, config, jobs)
 }

@@ -1,8 +1,7 @@
 //! The turns of a worker.
 
-ghost use Rattle.std.specs.Prelude.{◌≡◌, true, map, Some};
-ghost use Rattle.vt_steps.specs.Marked.{answered, has_closed};
-ghost use Rattle.vt_station.specs.declared.driver.Outcome.TheVariants.{Closed};
+ghost use Rattle.std.specs.Prelude.{◌≡◌, IfErr, IfSome};
+ghost use Rattle.vt_station.specs.Turns.{IsLasting, HasEnded};
 
 use crate::gate::Gate;
 use crate::place::Place;
@@ -41,7 +40,7 @@ pub(crate) struct Driver<'a, M: EventModel> {
 impl<'a, M: EventModel> Driver<'a, M> {
     /// A worker before its first turn.
     pub(crate) fn new(alloc: Global, worker: Worker<'a, M>) -> Driver<'a, M>
-        ensures { result.worker ≡ worker }
+        ensures { result.worker ≡ worker.entry }
     {
         Driver {
             worker,
@@ -52,8 +51,8 @@ impl<'a, M: EventModel> Driver<'a, M> {
 
     /// The place of the worker, whose work has ended.
     pub(crate) fn leave(self) -> Place<M::Payload>
-        ensures table { result.seat.table_id ≡ self.worker.table }
-        ensures view { result.seat.me.0 ≡ self.worker.view }
+        ensures table { result.seat.table_id ≡ self.entry.worker.table }
+        ensures view { result.seat.me.0 ≡ self.entry.worker.view }
     {
         self.worker.leave()
     }
@@ -61,6 +60,7 @@ impl<'a, M: EventModel> Driver<'a, M> {
     /// Notes that a letter reached process `lp`.
     fn touch(&mut self, lp: u32) -> Result<(), Fault>
         ensures same { self.new.worker ≡ self.old.worker }
+        ensures lasting { IfErr result IsLasting }
     {
         let Ok(()) = self.touched.push(lp) else {
             return Err(Fault::Memory);
@@ -83,6 +83,7 @@ impl<'a, M: EventModel> Driver<'a, M> {
     /// Takes all mail that has arrived to its processes, the last first.
     fn accept_all(&mut self) -> Result<(), Fault>
         ensures same { self.new.worker.table ≡ self.old.worker.table }
+        ensures lasting { IfErr result IsLasting }
     {
         for i in (0..self.worker.kernel().arrived_len()).rev() {
             let i = i as u64;
@@ -90,9 +91,7 @@ impl<'a, M: EventModel> Driver<'a, M> {
                 continue;
             };
             self.touch(lp)?;
-            if let Err(Fault::Memory) = self.worker.accept(i) {
-                return Err(Fault::Memory);
-            }
+            pass_over(self.worker.accept(i))?;
         }
         Ok(())
     }
@@ -100,6 +99,7 @@ impl<'a, M: EventModel> Driver<'a, M> {
     /// Takes all letters of the outbox that are for processes of this worker to them.
     fn home_all(&mut self) -> Result<(), Fault>
         ensures same { self.new.worker.table ≡ self.old.worker.table }
+        ensures lasting { IfErr result IsLasting }
     {
         for _ in 0..self.worker.kernel().outbox_len() {
             let Some(lp) = self.worker.kernel().home_for() else {
@@ -116,13 +116,16 @@ impl<'a, M: EventModel> Driver<'a, M> {
     /// Executes lawful events, the least first, and tells how many.
     fn execute_some<G: Gate>(&mut self, gate: &G, turn: u64) -> Result<u32, Fault>
         ensures same { self.new.worker.table ≡ self.old.worker.table }
+        ensures lasting { IfErr result IsLasting }
     {
         for done in 0..MOST_EXECUTIONS {
             let Some(lp) = self.worker.kernel().next() else {
                 return Ok(done);
             };
             gate.before_execute(self.worker.number(), turn);
-            self.worker.execute(lp)?;
+            if !pass_over(self.worker.execute(lp))? {
+                return Ok(done);
+            }
         }
         Ok(MOST_EXECUTIONS)
     }
@@ -130,6 +133,7 @@ impl<'a, M: EventModel> Driver<'a, M> {
     /// Sends to each worker that there are letters for.
     fn post_all(&mut self) -> Result<(), Fault>
         ensures same { self.new.worker.table ≡ self.old.worker.table }
+        ensures lasting { IfErr result IsLasting }
     {
         for v in 0..self.worker.config().workers {
             if self.worker.kernel().outbox_len() == 0 {
@@ -143,6 +147,7 @@ impl<'a, M: EventModel> Driver<'a, M> {
     /// Joins the round of global virtual time: one cut, or where that isn't lawful one report. It tells whether one was done.
     fn agree(&mut self) -> Result<bool, Fault>
         ensures same { self.new.worker.table ≡ self.old.worker.table }
+        ensures lasting { IfErr result IsLasting }
     {
         match self.worker.cut() {
             Err(Fault::NotLawful) => match self.worker.report() {
@@ -156,6 +161,7 @@ impl<'a, M: EventModel> Driver<'a, M> {
     /// Hands in where the floor has risen since the last hand-in: else there is nothing that the book doesn't have.
     fn commit_risen(&mut self) -> Result<(), Fault>
         ensures same { self.new.worker.table ≡ self.old.worker.table }
+        ensures lasting { IfErr result IsLasting }
     {
         let floor = self.worker.kernel().floor();
         if floor == self.handed {
@@ -171,7 +177,7 @@ impl<'a, M: EventModel> Driver<'a, M> {
     /// whether the work has ended.
     fn close(&mut self) -> Option<Outcome>
         ensures same { self.new.worker.table ≡ self.old.worker.table }
-        ensures closed { result ≡ Some Closed → has_closed (map answered self.new.worker.view.mine) ≡ true }
+        ensures ended { IfSome result (HasEnded self.new.worker.view) }
     {
         if self.worker.kernel().floor() < self.worker.config().end {
             return None;
@@ -184,12 +190,15 @@ impl<'a, M: EventModel> Driver<'a, M> {
     }
 }
 
-/// Whether a call was done. What a later turn may mend is passed over.
-fn pass_over(answer: Result<(), Fault>) -> Result<bool, Fault> {
+/// Whether a call was done. Only what no later turn mends is handed on.
+fn pass_over(answer: Result<(), Fault>) -> Result<bool, Fault>
+    ensures lasting { IfErr result IsLasting }
+{
     match answer {
         Ok(()) => Ok(true),
-        Err(Fault::NotLawful | Fault::Busy | Fault::Closed) => Ok(false),
-        Err(fault) => Err(fault),
+        Err(Fault::Memory) => Err(Fault::Memory),
+        Err(Fault::Exhausted) => Err(Fault::Exhausted),
+        Err(_) => Ok(false),
     }
 }
 
@@ -197,6 +206,7 @@ impl<'a, M: EventModel> Driver<'a, M> {
     /// All of a turn but its end: mail comes in, events are executed, mail goes out. It tells whether an event was executed.
     fn work<G: Gate>(&mut self, gate: &G, turn: u64) -> Result<bool, Fault>
         ensures same { self.new.worker.table ≡ self.old.worker.table }
+        ensures lasting { IfErr result IsLasting }
     {
         if self.worker.kernel().arrived_len() == 0 {
             pass_over(self.worker.fetch())?;
@@ -213,6 +223,7 @@ impl<'a, M: EventModel> Driver<'a, M> {
     /// One turn. It gives the processor away where it did nothing that others don't have to help with.
     fn turn<G: Gate>(&mut self, gate: &G, turn: u64) -> Result<(), Fault>
         ensures same { self.new.worker.table ≡ self.old.worker.table }
+        ensures lasting { IfErr result IsLasting }
     {
         let executed = self.work(gate, turn)?;
         let agreed = self.agree()?;
@@ -226,7 +237,7 @@ impl<'a, M: EventModel> Driver<'a, M> {
     /// Turn after turn, until the book is closed, a call is refused for good, or all turns are made.
     pub(crate) fn run<G: Gate>(&mut self, gate: &G, max_turns: u64) -> Outcome
         ensures same { self.new.worker.table ≡ self.old.worker.table }
-        ensures closed { result ≡ Closed → has_closed (map answered self.new.worker.view.mine) ≡ true }
+        ensures ended { HasEnded self.new.worker.view result }
     {
         for turn in 0..max_turns {
             if let Err(fault) = self.turn(gate, turn + 1) {

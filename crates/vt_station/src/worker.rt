@@ -1,6 +1,6 @@
 //! A worker at its place: the kernel goes by local steps from what its place knows.
 
-ghost use Rattle.std.specs.Prelude.{◌≡◌, ◌<◌, IfOk, IfErr};
+ghost use Rattle.std.specs.Prelude.{◌≡◌, ◌<◌, IfOk, IfErr, MatchResult};
 ghost use Rattle.vt_key.specs.declared.fault.Fault.TheVariants.{Memory};
 ghost use Rattle.vt_model.specs.Simulation.{simulation_of};
 ghost use Rattle.vt_steps.specs.World.{Part, opening_part};
@@ -9,6 +9,7 @@ ghost use Rattle.vt_kernel.specs.Held.{StandsFor};
 ghost use Rattle.vt_kernel.specs.Local.{local_step};
 ghost use Rattle.vt_kernel.specs.Guards.{IsDone};
 ghost use Rattle.vt_station.specs.Making.{IsNew};
+ghost use Rattle.vt_station.specs.Calls.{Closes, Stays};
 ghost use Rattle.vt_station.specs.AtWork.{IsAtSamePlace, IsAtSameStation};
 
 use crate::place::Place;
@@ -98,8 +99,8 @@ impl<'a, M: EventModel> Worker<'a, M> {
 
     /// The place of the worker, whose kernel is no longer wanted.
     pub fn leave(self) -> Place<M::Payload>
-        ensures table { result.seat.table_id ≡ self.table }
-        ensures view { result.seat.me.0 ≡ self.view }
+        ensures table { result.seat.table_id ≡ self.entry.table }
+        ensures view { result.seat.me.0 ≡ self.entry.view }
     {
         self.place
     }
@@ -212,6 +213,7 @@ impl<'a, M: EventModel> Worker<'a, M> {
     /// Closes the book.
     pub fn close(&mut self) -> Result<(), Fault>
         ensures station { IsAtSameStation self.old self.new }
+        ensures done { MatchResult result (λ _. Closes self.old.view self.old.config.end self.new.view) (λ _. Stays self.old.view self.new.view) }
     {
         self.station.close(&mut self.place)
     }

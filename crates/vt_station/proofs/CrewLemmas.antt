@@ -1,0 +1,48 @@
+-- What the records of a place say of the run, once its worker's work has ended.
+use Rattle.std.proofs.Common.{◌≡◌, ℕ, List, [], ◌∷◌, map, Bool, true, false, cond, Option, Some, Result, Ok, Err, subst, ap, refl, sym, ◌∙◌, arith}
+use Rattle.std.proofs.lemmas.Bool.{le-ltb}
+use Rattle.std.specs.Prelude.{IfOk, MatchResult}
+use Rattle.atomic_table.specs.Seated.{TableId}
+use Rattle.vt_key.specs.Times.{Time, opening_time, time_before}
+use Rattle.vt_key.specs.declared.fault.Fault.{Fault}
+use Rattle.vt_model.specs.declared.rows.Record.{Record}
+use Rattle.vt_model.specs.declared.rows.Row.{Row}
+use Rattle.vt_model.specs.Simulation.{Simulation}
+use Rattle.vt_model.specs.Sequential.{rows_before, records_of, rows_after, whole_run, seq_records}
+use Rattle.vt_steps.specs.Marked.{answered, has_closed}
+use Rattle.vt_station.specs.declared.view.View.{View}
+use Rattle.vt_station.specs.declared.place.Place.{Place}
+use Rattle.vt_station.specs.declared.driver.Outcome.{Outcome}
+use Rattle.vt_station.specs.declared.driver.Outcome.TheVariants.{Closed}
+use Rattle.vt_station.specs.Calls.{AreRecordsShown, Unvisited, Stays}
+use Rattle.vt_station.specs.Crew.{IsLeft}
+
+module _ {S P : Type 0} (sim : Simulation S P) where
+  -- the worker closed the book, and its place knows it
+  pub closed-left : (table : TableId) (w : ℕ) (outcome : Option Outcome) (place : Place P) → IsLeft sim table w outcome place → outcome ≡ Some Closed → has_closed (map answered place.seat.me.0.mine) ≡ true
+  closed-left table w outcome place left is = subst (λ (o : Option Outcome). IsLeft sim table w o place) is left
+
+  -- the records are those before some time, and where the worker closed the book all
+  pub records-left : {X : Type 0} (items : X → List Record) (result : Result X Fault) (v w : View P) (outcome : Option Outcome)
+      → (outcome ≡ Some Closed → has_closed (map answered v.mine) ≡ true)
+      → MatchResult result (λ x. (floor : Time) × AreRecordsShown sim v floor (items x) × Unvisited v floor w) (λ _. Stays v w)
+      → IfOk result (λ x. (floor : Time) × (items x ≡ seq_records sim floor) × (outcome ≡ Some Closed → floor ≡ sim.end))
+  records-left items (Ok x) v w outcome closed done = (done.0, done.1.records_are, λ is. done.1.closed (closed is))
+  records-left items (Err fault) v w outcome closed done = tt
+
+-- nothing is before the opening
+rows-none : (rows : List Row) → rows_before opening_time rows ≡ []
+rows-none [] = refl
+rows-none (row ∷ rows) =
+    let no : time_before row.key.time opening_time ≡ false = le-ltb row.key.time opening_time (omega arith) in
+    ap (λ (b : Bool). cond b (row ∷ rows_before opening_time rows) (rows_before opening_time rows)) no ∙ rows-none rows
+
+pub none-at-first : {S P : Type 0} (sim : Simulation S P) → [] ≡ seq_records sim opening_time
+none-at-first sim = ap (λ (rows : List Row). records_of rows) (sym (rows-none (rows_after sim [] (whole_run sim))))
+
+-- what a run stops with: the records that a place shows, or none
+pub stop-records : {S P X : Type 0} (sim : Simulation S P) (items : X → List Record) (result : Result X Fault) (records : List Record) (Known : Time → Type 0) (A : X → Type 0) (B : Fault → Type 0)
+    → IfOk result (λ x. (floor : Time) × (items x ≡ seq_records sim floor) × Known floor) → MatchResult result (λ x. A x × (records ≡ items x)) (λ fault. B fault × (records ≡ []))
+    → (t : Time) × (records ≡ seq_records sim t)
+stop-records sim items (Ok x) records Known A B shown stops = (shown.0, stops.1 ∙ shown.1)
+stop-records sim items (Err fault) records Known A B shown stops = (opening_time, stops.1 ∙ none-at-first sim)

@@ -1,0 +1,27 @@
+use Rattle.std.proofs.Common.{◌≡◌, refl, sym, ◌∙◌, subst, ap, Some}
+use Rattle.std.specs.Prelude.{IfOk}
+use Rattle.vt_key.specs.Times.{Time}
+use Rattle.vt_model.specs.declared.settings.Config.{Config}
+use Rattle.vt_model.specs.Simulation.{simulation_of}
+use Rattle.vt_model.specs.Sequential.{seq_records}
+use Rattle.vt_station.specs.declared.place.Place.{Place}
+use Rattle.vt_station.specs.declared.driver.Outcome.TheVariants.{Closed}
+use Rattle.vt_station.specs.Crew.{AtJob, IsLeft}
+use Rattle.vt_station.proofs.CrewLemmas.{closed-left, records-left}
+use Rattle.vt_station.proofs.crew.Job.into_records.Goals as goal
+
+pub returns-clause-shown : goal.returns-clause-shown
+returns-clause-shown g c =
+    let i = c.self.inside in
+    let inv = c.self.invariant in
+    let H = g.M.Model.handlers in
+    let key = i.station.now.table.shared.key in
+    let place = c.in-Some.place in
+    let same : inv.there ≡ place = (let h : Some inv.there ≡ Some place = sym inv.place_is ∙ c.in-Some.is in cc) in
+    let sim = simulation_of (H i.model.now) i.config in
+    let left = subst (λ (p : Place g.row.M-Payload.Denot). IsLeft sim i.station.now.table.shared.table_id i.worker i.outcome p) same inv.left in
+    let shown = records-left (simulation_of (H key.model.value) key.config) (λ v. v.items) c.records.result place.seat.me.0 c.records.new.place.seat.me.0 i.outcome
+    (closed-left sim i.station.now.table.shared.table_id i.worker i.outcome place left) c.records.ensures.done in
+    let of-model = subst (λ (m : g.row.M.Denot). IfOk c.records.result (λ v. (floor : Time) × (v.items ≡ seq_records (simulation_of (H m) key.config) floor) × (i.outcome ≡ Some Closed → floor ≡ key.config.end))) inv.model_is shown in
+    let of-config = subst (λ (k : Config). IfOk c.records.result (λ v. (floor : Time) × (v.items ≡ seq_records (simulation_of (H i.model.now) k) floor) × (i.outcome ≡ Some Closed → floor ≡ k.end))) inv.config_is of-model in
+    subst (λ (j : AtJob g.row.M.Denot g.row.M-Payload.Denot). IfOk c.records.result (λ v. (floor : Time) × (v.items ≡ seq_records (simulation_of (H j.model) j.config) floor) × (j.outcome ≡ Some Closed → floor ≡ j.config.end))) c.self.view_is of-config

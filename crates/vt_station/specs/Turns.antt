@@ -1,0 +1,18 @@
+-- How the work of a worker ends.
+use Rattle.std.specs.Prelude.{◌≡◌, ◌⊎◌, true, map}
+use Rattle.vt_key.specs.declared.fault.Fault.{Fault}
+use Rattle.vt_key.specs.declared.fault.Fault.TheVariants.{Memory, Exhausted}
+use Rattle.vt_steps.specs.Marked.{answered, has_closed}
+use Rattle.vt_station.specs.declared.view.View.{View}
+use Rattle.vt_station.specs.declared.driver.Outcome.{Outcome}
+use Rattle.vt_station.specs.declared.driver.Outcome.TheVariants.{Closed, Refused}
+
+-- a fault that no later turn mends
+abbrev pub IsLasting : Fault → Type 0
+IsLasting fault = (fault ≡ Memory) ⊎ (fault ≡ Exhausted)
+
+-- what a place knows of how its worker's work ended: where it closed the book, that is one of its own steps
+abbrev pub HasEnded : {P : Type 0} → View P → Outcome → Type 0
+HasEnded view Closed = has_closed (map answered view.mine) ≡ true
+HasEnded view (Refused fault) = IsLasting fault
+HasEnded view _ = Unit {0}
