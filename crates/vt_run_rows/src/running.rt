@@ -1,0 +1,90 @@
+//! Runs, and what is expected of them.
+
+use std::alloc::AllocGlobal;
+use std::process::Abort;
+use std::rt;
+use std::thread::Threads;
+use vt_model::{Config, Model as EventModel, Record};
+use vt_models::Hop;
+use vt_seq::Sequential;
+use vt_station::{Gate, Open, run_workers};
+
+/// As many turns as the program grants a worker.
+pub const TURNS: u64 = 10_000_000;
+
+pub fn record(time: u64, lp: u32, kind: u32, value: u64) -> Record {
+    Record {
+        time,
+        lp,
+        kind,
+        value,
+    }
+}
+
+/// Two tokens of two hops, with a delay of two.
+pub fn two_hops(rt: &impl Abort) -> Hop {
+    Hop::new(2, 1, 2).expect(rt, "options")
+}
+
+/// All that the run with two hops commits before 10.
+pub fn all_records() -> [Record; 6] {
+    [
+        record(1, 0, 1, 1),
+        record(2, 1, 1, 2),
+        record(3, 1, 1, 513),
+        record(4, 0, 1, 258),
+        record(5, 0, 1, 66049),
+        record(6, 1, 1, 131330),
+    ]
+}
+
+/// The run goes to its end and has these records.
+pub fn gives<R: Abort + AllocGlobal + Threads + Sync, M: EventModel + Sync, G: Gate + Sync>(
+    rt: &R,
+    model: &M,
+    config: Config,
+    gate: &G,
+    want: &[Record],
+)
+where
+    M::State: Send,
+    M::Kept: Send,
+{
+    match run_workers(rt, rt.alloc(), config, model, gate, TURNS) {
+        Ok(records) => assert!(rt; records.as_slice() == want),
+        Err(stopped) => assert_eq!(rt; stopped.fault.number(), 0),
+    }
+}
+
+/// The run goes to its end and has these records, on one worker, two and three.
+pub fn gives_on_few<R: Abort + AllocGlobal + Threads + Sync, M: EventModel + Sync>(
+    rt: &R,
+    model: &M,
+    lps: u32,
+    end: u64,
+    want: &[Record],
+)
+where
+    M::State: Send,
+    M::Kept: Send,
+{
+    for workers in 1..4u32 {
+        let config = Config::new(lps, workers, end, 0).expect(rt, "config");
+        gives(rt, model, config, &Open, want);
+    }
+}
+
+/// The run has the records of the sequential simulator.
+pub fn agrees<R: Abort + AllocGlobal + Threads + Sync, M: EventModel + Sync>(
+    rt: &R,
+    model: &M,
+    config: Config,
+)
+where
+    M::State: Send,
+    M::Kept: Send,
+{
+    let mut sequential = Sequential::new(rt.alloc(), model, config).expect(rt, "memory");
+    let whole = sequential.run(rt.alloc()).expect(rt, "a run");
+    gives(rt, model, config, &Open, whole.as_slice());
+}

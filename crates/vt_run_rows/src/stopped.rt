@@ -1,0 +1,56 @@
+//! Runs that end before their end, since a worker has made all its turns.
+
+use crate::running::{all_records, two_hops};
+use std::alloc::AllocGlobal;
+use std::process::Abort;
+use std::rt::{self, HostRuntime};
+use std::thread::Threads;
+use vt_key::Fault;
+use vt_model::{Config, Record};
+use vt_station::{Open, Stopped, run_workers};
+
+// The run of two tokens with two hops.
+fn run<R: Abort + AllocGlobal + Threads + Sync>(
+    rt: &R,
+    workers: u32,
+    turns: u64,
+) -> Result<Vec<Record>, Stopped> {
+    let config = Config::new(2, workers, 10, 0).expect(rt, "config");
+    run_workers(rt, rt.alloc(), config, &two_hops(rt), &Open, turns)
+}
+
+#[test]
+fn one_worker_commits_four_records_in_two_turns(rt: HostRuntime) {
+    match run(&rt, 1, 2) {
+        Ok(_) => assert!(rt; false),
+        Err(stopped) => {
+            assert!(rt; stopped.fault == Fault::TurnsSpent);
+            assert!(rt; stopped.records.as_slice() == &all_records()[..4]);
+        }
+    }
+}
+
+#[test]
+fn two_workers_commit_nothing_in_one_turn(rt: HostRuntime) {
+    match run(&rt, 2, 1) {
+        Ok(_) => assert!(rt; false),
+        Err(stopped) => {
+            assert!(rt; stopped.fault == Fault::TurnsSpent);
+            assert_eq!(rt; stopped.records.len(), 0);
+        }
+    }
+}
+
+#[test]
+fn two_workers_commit_a_beginning_in_few_turns(rt: HostRuntime) {
+    for turns in 1..51u64 {
+        match run(&rt, 2, turns) {
+            Ok(records) => assert!(rt; records.as_slice() == &all_records()[..]),
+            Err(stopped) => {
+                assert!(rt; stopped.fault == Fault::TurnsSpent);
+                let count = stopped.records.len();
+                assert!(rt; all_records().get(..count) == Some(stopped.records.as_slice()));
+            }
+        }
+    }
+}
