@@ -1,11 +1,11 @@
 -- What a run in threads writes that stops: what comes before a time begins the text of the whole run.
-use Rattle.std.proofs.Common.{◌≡◌, ◌∙◌, ◌++◌, ◌<◌, ◌≤◌, ◌⊎◌, ℕ, true, false, refl, List, [], Option, Ok, Err, Result, OnErr, IfErr, inl, inr, sym, ap, subst, map, filter, nat_lt, append-nil, arith}
+use Rattle.std.proofs.Common.{◌≡◌, ◌∙◌, ◌++◌, ◌<◌, ◌≤◌, ◌⊎◌, ℕ, true, false, refl, List, [], Option, inl, inr, sym, ap, subst, map, nat_lt, append-nil, arith}
 use Rattle.std.specs.Io.KnownBytes.{Appends}
 use Rattle.std.proofs.lemmas.Bool.{ltb-true, ltb-false}
 use Rattle.std.proofs.lemmas.List.Concat.{flat_map-append}
 use Rattle.vt_key.specs.Times.{Time}
 use Rattle.vt_key.specs.declared.fault.Fault.{Fault}
-use Rattle.vt_key.specs.declared.fault.Fault.TheVariants.{Memory, NotLawful, Busy, Closed, Exhausted, TurnsSpent, BadOption, BadStep, Output}
+use Rattle.vt_key.specs.declared.fault.Fault.TheVariants.{Output}
 use Rattle.vt_model.specs.declared.rows.Row.{Row}
 use Rattle.vt_model.specs.declared.rows.Record.{Record}
 use Rattle.vt_model.specs.declared.sending.Sent.{Sent}
