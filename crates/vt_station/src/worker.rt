@@ -5,11 +5,13 @@ ghost use Rattle.vt_key.specs.declared.fault.Fault.TheVariants.{Memory};
 ghost use Rattle.vt_model.specs.Simulation.{simulation_of};
 ghost use Rattle.vt_steps.specs.World.{Part, opening_part};
 ghost use Rattle.vt_steps.specs.declared.step.Step.TheVariants as step;
+ghost use Rattle.vt_steps.specs.declared.step.Reply.TheVariants as reply;
+ghost use Rattle.vt_board.specs.Calls.{reply_of};
 ghost use Rattle.vt_kernel.specs.Held.{StandsFor};
 ghost use Rattle.vt_kernel.specs.Local.{local_step};
 ghost use Rattle.vt_kernel.specs.Guards.{IsDone};
 ghost use Rattle.vt_station.specs.Making.{IsNew};
-ghost use Rattle.vt_station.specs.Calls.{Closes, Stays};
+ghost use Rattle.vt_station.specs.Calls.{Visited, Closes, Stays, IsPostRefusal, IsFetchRefusal, IsCutRefusal, IsReportRefusal};
 ghost use Rattle.vt_station.specs.AtWork.{IsAtSamePlace, IsAtSameStation};
 
 use crate::place::Place;
@@ -177,6 +179,10 @@ impl<'a, M: EventModel> Worker<'a, M> {
     /// Sends all letters for processes of worker `v`.
     pub fn post(&mut self, v: u32) -> Result<(), Fault>
         ensures station { IsAtSameStation self.old self.new }
+        ensures done { MatchResult result
+            (λ _. Visited (M.handlers self.old.model) self.old.config self.old.view self.old.kernel (step.Send self.old.kernel.worker v) reply.Done self.new.kernel self.old.view.seen self.new.view)
+            (λ _. Stays self.old.view self.new.view × (self.new.kernel ≡ self.old.kernel)) }
+        ensures refused { (part : Part _) → StandsFor (M.handlers self.old.model) self.old.kernel part → IfErr result (λ fault. IsPostRefusal (simulation_of (M.handlers self.old.model) self.old.config) self.old.kernel.worker v part fault) }
     {
         self.station.post(&mut self.place, &mut self.kernel, v)
     }
@@ -184,6 +190,10 @@ impl<'a, M: EventModel> Worker<'a, M> {
     /// Takes in what was sent to this worker.
     pub fn fetch(&mut self) -> Result<(), Fault>
         ensures station { IsAtSameStation self.old self.new }
+        ensures done { MatchResult result
+            (λ _. Visited (M.handlers self.old.model) self.old.config self.old.view self.old.kernel (step.Fetch self.old.kernel.worker) reply.Done self.new.kernel self.old.view.seen self.new.view)
+            (λ _. Stays self.old.view self.new.view × (self.new.kernel ≡ self.old.kernel)) }
+        ensures refused { (part : Part _) → StandsFor (M.handlers self.old.model) self.old.kernel part → IfErr result (λ fault. IsFetchRefusal (simulation_of (M.handlers self.old.model) self.old.config) part fault) }
     {
         self.station.fetch(&mut self.place, &mut self.kernel)
     }
@@ -191,6 +201,10 @@ impl<'a, M: EventModel> Worker<'a, M> {
     /// Joins the open round of global virtual time, or opens one.
     pub fn cut(&mut self) -> Result<(), Fault>
         ensures station { IsAtSameStation self.old self.new }
+        ensures done { MatchResult result
+            (λ _. Visited (M.handlers self.old.model) self.old.config self.old.view self.old.kernel (step.Cut self.old.kernel.worker) reply.Done self.new.kernel self.old.view.seen self.new.view)
+            (λ _. Stays self.old.view self.new.view × (self.new.kernel ≡ self.old.kernel)) }
+        ensures refused { IfErr result (λ fault. IsCutRefusal (simulation_of (M.handlers self.old.model) self.old.config) self.old.view fault) }
     {
         self.station.cut(&mut self.place, &mut self.kernel)
     }
@@ -198,6 +212,10 @@ impl<'a, M: EventModel> Worker<'a, M> {
     /// Reports to the board.
     pub fn report(&mut self) -> Result<Report, Fault>
         ensures station { IsAtSameStation self.old self.new }
+        ensures done { MatchResult result
+            (λ report. Visited (M.handlers self.old.model) self.old.config self.old.view self.old.kernel (step.Report self.old.kernel.worker) (reply_of report) self.new.kernel self.old.view.seen self.new.view)
+            (λ _. Stays self.old.view self.new.view × (self.new.kernel ≡ self.old.kernel)) }
+        ensures refused { IfErr result (λ fault. IsReportRefusal (simulation_of (M.handlers self.old.model) self.old.config) self.old.view fault) }
     {
         self.station.report(&mut self.place, &mut self.kernel)
     }
