@@ -21,6 +21,7 @@ fn main(rt: HostRuntime) -> ExitCode {
     let mut err = rt.stderr();
     let status = match words_of(&rt) {
         Ok(words) => program(
+            &rt,
             rt.alloc(),
             words.as_slice(),
             &mut rt.stdin(),

@@ -5,3 +5,4 @@ pub mod RowLists
 pub mod FloorLemmas
 pub mod KeptLemmas
 pub mod RunLemmas
+pub mod SpanLemmas

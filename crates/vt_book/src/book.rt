@@ -1,6 +1,6 @@
 //! The book.
 
-ghost use Rattle.std.specs.Prelude.{◌≡◌, ◌≤◌, ◌<◌, ◌+◌, ◌^◌, ◌++◌, length, None, Ok, Err, IfOk, IfErr, IfSome, OnOk, MatchOption, MatchResult, vec_len, vec_capacity};
+ghost use Rattle.std.specs.Prelude.{◌≡◌, ◌≤◌, ◌<◌, ◌+◌, ◌^◌, ◌++◌, length, true, None, Ok, Err, IfOk, IfErr, IfSome, OnOk, MatchOption, MatchResult, vec_len, vec_capacity};
 ghost use Rattle.std.specs.List.{list_all};
 ghost use Rattle.vt_key.specs.declared.fault.Fault.TheVariants.{Memory};
 ghost use Rattle.vt_key.specs.declared.limits.TheConstants.{MAX_WORKERS};
@@ -11,6 +11,7 @@ ghost use Rattle.vt_steps.specs.BookSteps.{with_rows, closed_book};
 ghost use Rattle.vt_book.specs.Books.{may_hand, are_within, is_within, refusal_of_hand, refusal_of_close};
 ghost use Rattle.vt_book.specs.Kept.{AreSameRows};
 
+use crate::batch::Batch;
 use crate::floors::Floors;
 use crate::history::History;
 use crate::waiting::Waiting;
@@ -85,9 +86,42 @@ impl Book {
         if !self.may_hand(worker, rows, floor) {
             return Err(Fault::NotLawful);
         }
-        make_room(&mut self.shown, &self.waiting, rows.len())?;
-        self.waiting.insert(rows)?;
-        self.history = self.history.with(rows);
+        let batch = Batch::new(self.waiting.alloc(), rows)?;
+        self.take(worker, batch, floor)
+    }
+
+    /// Takes what a worker hands in, as [`Book::hand`] does, of rows that were made ready before: they are moved, and memory
+    /// grows at most to twice what it was. What is refused is gone.
+    pub fn hand_batch(&mut self, worker: u32, batch: Batch, floor: Time) -> Result<(), Fault>
+        ensures refused { IfSome (refusal_of_hand self.old worker batch floor) (λ fault. result ≡ Err fault) }
+        ensures taken { refusal_of_hand self.old worker batch floor ≡ None → MatchResult result
+            (λ _. self.new ≡ record self.old { book = with_rows worker batch floor self.old.book })
+            (λ fault. fault ≡ Memory) }
+        ensures unchanged { IfErr result (λ _. self.new ≡ self.old) }
+    {
+        if self.is_closed() {
+            return Err(Fault::Closed);
+        }
+        if !self.may_hand_batch(worker, &batch, floor) {
+            return Err(Fault::NotLawful);
+        }
+        self.take(worker, batch, floor)
+    }
+
+    /// Takes a lawful hand-in.
+    ///
+    /// [`Fault::Memory`]: memory was refused, and the book is as it was.
+    fn take(&mut self, worker: u32, batch: Batch, floor: Time) -> Result<(), Fault>
+        requires { may_hand self.old worker batch floor ≡ true }
+        ensures taken { MatchResult result
+            (λ _. self.new ≡ record self.old { book = with_rows worker batch floor self.old.book })
+            (λ fault. fault ≡ Memory) }
+        ensures unchanged { IfErr result (λ _. self.new ≡ self.old) }
+    {
+        make_room(&mut self.shown, &self.waiting, batch.len())?;
+        let history = batch.after(&self.history);
+        self.waiting.insert(batch)?;
+        self.history = history;
         self.floors.set(worker, floor);
         show_before(
             &mut self.waiting,
@@ -105,6 +139,16 @@ impl Book {
             return false;
         };
         handed_in <= floor && floor <= self.end && are_within(rows, handed_in, floor)
+    }
+
+    /// The same of rows that were made ready.
+    fn may_hand_batch(&self, worker: u32, batch: &Batch, floor: Time) -> bool
+        ensures { result ≡ may_hand self.now worker batch.now floor }
+    {
+        let Some(handed_in) = self.floors.get(worker) else {
+            return false;
+        };
+        handed_in <= floor && floor <= self.end && batch.are_within(handed_in, floor)
     }
 
     /// The book's floor, in ticks: the least of the floors up to which the workers have handed in, which are 0 at first. No

@@ -35,4 +35,11 @@ impl History {
     {
         History {}
     }
+
+    /// The same and those of another, which are handed in last.
+    pub(crate) fn and(&self, later: &History) -> History
+        ensures { result.rows ≡ self.now.rows ++ later.now.rows }
+    {
+        History {}
+    }
 }

@@ -5,12 +5,14 @@
 //! run it is closed.
 #![tactic(auto)]
 
+mod batch;
 mod book;
 mod floors;
 mod history;
 mod run;
 mod waiting;
 
+pub use batch::Batch;
 pub use book::Book;
 
 #[cfg(test)]

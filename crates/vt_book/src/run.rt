@@ -1,14 +1,16 @@
 //! Rows that were handed in together.
 
-ghost use Rattle.std.specs.Prelude.{◌≡◌, [], ◌∷◌, IfOk, IfErr, MatchOption, map};
+ghost use Rattle.std.specs.Prelude.{◌≡◌, [], ◌∷◌, IfOk, IfErr, MatchOption, get_or, map};
+ghost use Rattle.std.specs.List.{list_all};
 ghost use Rattle.std.specs.List.Sorted.{IsPermutation, IsSorted};
 ghost use Rattle.vt_key.specs.declared.fault.Fault.TheVariants.{Memory};
 ghost use Rattle.vt_book.specs.Kept.{AreSameRows};
-ghost use Rattle.vt_book.specs.Runs.{IsRun, rows_of};
+ghost use Rattle.vt_book.specs.Books.{is_within};
+ghost use Rattle.vt_book.specs.Runs.{IsRun, IsRunOf, rows_of};
 
 use std::alloc::{AllocError, Global};
 use std::cmp::Reverse;
-use vt_key::Fault;
+use vt_key::{Fault, Time};
 use vt_model::Row;
 
 /// Some rows, at least one: the first in order, and the others so that the next in order is last. A run is the greater, the
@@ -33,13 +35,30 @@ impl Run {
         };
         (first.0, Some(Run { first: next, rest }))
     }
+
+    /// Whether all rows have times from one time on and below another. It reads the first and the last row in order alone.
+    pub(crate) fn is_within(&self, from: Time, to: Time) -> bool
+        requires { IsRun self.now }
+        ensures { result ≡ list_all (is_within from to) (rows_of self.now) }
+    {
+        let (least, most) = self.span();
+        from <= least && most < to
+    }
+
+    /// The time of the first row in order, and that of the last.
+    fn span(&self) -> (Time, Time)
+        ensures { (result.0 ≡ self.now.first.0.key.time) × (result.1 ≡ (get_or self.now.rest.items 0 self.now.first).0.key.time) }
+    {
+        let last = self.rest.first().unwrap_or(&self.first);
+        (self.first.0.key.time, last.0.key.time)
+    }
 }
 
 /// The run of these rows; None where there is none.
 ///
 /// [`Fault::Memory`]: memory was refused.
 pub(crate) fn run_of(alloc: Global, rows: &[Row]) -> Result<Option<Run>, Fault>
-    ensures run { IfOk result (λ run. MatchOption run (rows.now ≡ []) (λ r. IsRun r × AreSameRows (rows_of r) rows.now)) }
+    ensures run { IfOk result (λ run. IsRunOf rows.now run) }
     ensures refused { IfErr result (λ fault. fault ≡ Memory) }
 {
     let mut rest = falling(alloc, rows)?;

@@ -1,4 +1,4 @@
-use crate::Book;
+use crate::{Batch, Book};
 use std::alloc::{AllocError, AllocGlobal};
 use std::process::Abort;
 use std::test::*;
@@ -40,6 +40,14 @@ fn is_shown(rt: &(impl Abort + AllocGlobal), book: &Book, rows: &[Row]) -> bool 
             .all(|(record, row)| *record == row.rec)
 }
 
+// These rows made ready; where memory is refused, by a second try.
+fn batch(rt: &(impl Abort + AllocGlobal), rows: &[Row]) -> Batch {
+    match Batch::new(rt.alloc(), rows) {
+        Ok(batch) => batch,
+        Err(_) => Batch::new(rt.alloc(), rows).expect(rt, "memory"),
+    }
+}
+
 #[test]
 fn rows_below_the_least_floor_are_shown_in_order(rt: HostRuntime) {
     let mut book = Book::new(rt.alloc(), 2, 10);
@@ -66,6 +74,34 @@ fn hostile_hand_ins_are_refused(rt: HostRuntime) {
     assert_eq!(rt; book.floor(), 0);
     assert_eq!(rt; book.hand(1, &[], 3), Ok(()));
     assert!(rt; is_shown(&rt, &book, &[row(2, 0, 0)]));
+}
+
+#[test]
+fn batches_are_refused_as_rows_are(rt: HostRuntime) {
+    let mut book = Book::new(rt.alloc(), 2, 10);
+    let [early, middle, late] = [row(1, 0, 0), row(4, 0, 1), row(9, 0, 2)];
+    let all = batch(&rt, &[late, early, middle]);
+    assert_eq!(rt; all.len(), 3);
+    assert_eq!(rt; book.hand_batch(0, all, 9), Err(Fault::NotLawful));
+    let all = batch(&rt, &[middle, early, late]);
+    assert_eq!(rt; book.hand_batch(0, all, 10), Ok(()));
+    assert_eq!(rt; book.hand_batch(1, batch(&rt, &[]), 5), Ok(()));
+    assert_eq!(rt;
+        book.hand_batch(1, batch(&rt, &[middle, late]), 10),
+        Err(Fault::NotLawful)
+    );
+    assert_eq!(rt;
+        book.hand_batch(2, batch(&rt, &[]), 10),
+        Err(Fault::NotLawful)
+    );
+    assert!(rt; is_shown(&rt, &book, &[early, middle]));
+    assert_eq!(rt; book.hand(1, &[], 10), Ok(()));
+    assert_eq!(rt; book.close(), Ok(()));
+    assert_eq!(rt;
+        book.hand_batch(1, batch(&rt, &[late]), 10),
+        Err(Fault::Closed)
+    );
+    assert!(rt; is_shown(&rt, &book, &[early, middle, late]));
 }
 
 #[test]
@@ -183,7 +219,7 @@ fn what_is_shown_is_what_sorting_all_would_show(rt: HostRuntime) -> Result<(), F
             .wrapping_add(draws.next().wrapping_mul(30))
             .min(100_000);
         let rows = random_rows(&rt, &mut draws, from, to)?;
-        assert_eq!(rt; book.hand(worker, &rows, to), Ok(()));
+        assert_eq!(rt; book.hand_batch(worker, batch(&rt, &rows), to), Ok(()));
         floors[worker as usize] = to;
         all.extend_from_slice(&rows)?;
         all.sort()?;
@@ -202,5 +238,6 @@ fn is_sent<T: Send>(value: T) -> T {
 #[test]
 fn a_book_may_go_to_another_thread(rt: HostRuntime) {
     let book = is_sent(Book::new(rt.alloc(), 1, 1));
+    assert_eq!(rt; is_sent(batch(&rt, &[])).len(), 0);
     assert_eq!(rt; book.floor(), 0);
 }

@@ -10,7 +10,7 @@ use Rattle.vt_text.specs.Numbers.{number_of}
 use Rattle.vt_command.specs.declared.choices.ModelName.{ModelName}
 use Rattle.vt_command.specs.declared.choices.ModelName.TheVariants.{Hop, Phold, Stations}
 use Rattle.vt_command.specs.declared.choices.Synch.{Synch}
-use Rattle.vt_command.specs.declared.choices.Synch.TheVariants.{Sequential}
+use Rattle.vt_command.specs.declared.choices.Synch.TheVariants.{Sequential, Optimistic}
 use Rattle.vt_command.specs.declared.limits.TheConstants.{MAX_TURNS}
 
 -- the text that a command line gives to an option, by the option's name
@@ -104,7 +104,7 @@ model_in (Some text) = model_named text
 
 -- the way of keeping order of a number
 abbrev pub synch_numbered : ℕ → Option Synch
-synch_numbered n = if n == 1 then Some Sequential else None
+synch_numbered n = if n == 1 then Some Sequential else if n == 3 then Some Optimistic else None
 
 -- the way of keeping order that a text gives: 1 where there is none
 abbrev pub synch_in : Option (List ℕ) → Option Synch

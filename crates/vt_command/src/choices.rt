@@ -19,6 +19,9 @@ pub enum ModelName {
 pub enum Synch {
     /// `1`: one thread, which always executes the pending event of least key.
     Sequential,
+    /// `3`: Time Warp, in a thread for each worker. A worker executes the least event that it knows of, and rolls back where an
+    /// earlier one comes after it.
+    Optimistic,
 }
 
 /// The options of a run, each in its range, whether the run uses it or not.
@@ -36,7 +39,7 @@ pub struct Options {
     pub phold: Phold,
     /// The network of stations, made of its options.
     pub stations: Stations,
-    /// How many turns each worker may take, from 1 to 2^63. A sequential run has none.
+    /// How many turns each worker may take, from 1 to 2^63. A sequential run has none, and doesn't use it.
     pub turns: u64,
 }
 

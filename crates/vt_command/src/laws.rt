@@ -52,8 +52,8 @@ pub fn other_lines_have_no_meaning()
 /// The first bad option is that of the table and not that of the line.
 pub fn first_bad_is_of_the_table()
     ensures lps { HasBadOption (codes "twarp" ∷ codes "run" ∷ codes "--end" ∷ codes "0" ∷ codes "--lps" ∷ codes "65537" ∷ []) (codes "lps") }
-    ensures synch { HasBadOption (codes "twarp" ∷ codes "run" ∷ codes "--workers" ∷ codes "0" ∷ codes "--synch" ∷ codes "3" ∷ []) (codes "synch") }
-    ensures model { HasBadOption (codes "twarp" ∷ codes "run" ∷ codes "--synch" ∷ codes "3" ∷ codes "--model" ∷ codes "token" ∷ []) (codes "model") }
+    ensures synch { HasBadOption (codes "twarp" ∷ codes "run" ∷ codes "--workers" ∷ codes "0" ∷ codes "--synch" ∷ codes "2" ∷ []) (codes "synch") }
+    ensures model { HasBadOption (codes "twarp" ∷ codes "run" ∷ codes "--synch" ∷ codes "2" ∷ codes "--model" ∷ codes "token" ∷ []) (codes "model") }
     ensures serial { HasBadOption (codes "twarp" ∷ codes "replay" ∷ codes "--serial" ∷ codes "9223372036854775809" ∷ []) (codes "serial") }
     ensures last { HasBadOption (codes "twarp" ∷ codes "replay" ∷ codes "--serial" ∷ codes "x" ∷ codes "--travel" ∷ codes "0" ∷ []) (codes "travel") }
     ensures unused { HasBadOption (codes "twarp" ∷ codes "run" ∷ codes "--travel" ∷ codes "0" ∷ []) (codes "travel") }

@@ -48,7 +48,7 @@ Options, with their ranges and defaults (twarp run --help and twarp replay --hel
   phold        --population 0..8 [1]  --remote 0..100 [0]  --lookahead 1..1000000 [1]
                --span 1..1000000 [1]
   stations     --jobs 0..1000 [1]  --service 1..1000000 [1]  --travel 1..1000000 [1]
-  run alone    --synch 1 [1]  --turns 1..9223372036854775808 [10000000]
+  run alone    --synch 1|3 [1]  --turns 1..9223372036854775808 [10000000]
   replay alone --serial 0..9223372036854775808 [0]";
 
 const RUN_ABOUT: &str =

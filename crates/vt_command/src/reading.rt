@@ -88,6 +88,7 @@ fn synch_option(matches: &ArgMatches) -> Result<Synch, Fault>
     };
     match read_number(text.as_bytes()) {
         Some(1) => Ok(Synch::Sequential),
+        Some(3) => Ok(Synch::Optimistic),
         _ => Err(Fault::BadOption("synch")),
     }
 }

@@ -199,9 +199,10 @@ fn what_is_not_there_is_named(rt: HostRuntime) -> Result<(), Fail> {
         ("run", "model", "phol"),
         ("replay", "model", "station"),
         ("replay", "model", ""),
-        ("run", "synch", "3"),
         ("run", "synch", "2"),
         ("run", "synch", "0"),
+        ("run", "synch", "4"),
+        ("run", "synch", "13"),
     ] {
         let fault = fault_of(rt.alloc(), subcommand, name, text)?;
         assert_eq!(rt; fault, Some(Fault::BadOption(name)), "{name} {text}");
@@ -212,7 +213,9 @@ fn what_is_not_there_is_named(rt: HostRuntime) -> Result<(), Fail> {
             assert_eq!(rt; fault, None, "{subcommand} {model}");
         }
     }
-    assert_eq!(rt; fault_of(rt.alloc(), "run", "synch", "1")?, None);
+    for text in ["1", "3"] {
+        assert_eq!(rt; fault_of(rt.alloc(), "run", "synch", text)?, None, "{text}");
+    }
     Ok(())
 }
 
@@ -245,10 +248,10 @@ fn expect_order(
 
 #[test]
 fn the_first_bad_option_of_the_table_is_named(rt: HostRuntime) -> Result<(), Fail> {
-    expect_order(&rt, "run", "synch", "3", &RANGES)?;
+    expect_order(&rt, "run", "synch", "2", &RANGES)?;
     let ranges = replay_ranges(rt.alloc())?;
     expect_order(&rt, "replay", "model", "token", ranges.as_slice())?;
-    let model_first = read_request(rt.alloc(), &["twarp", "run", "--synch=3", "--model=token"]);
+    let model_first = read_request(rt.alloc(), &["twarp", "run", "--synch=2", "--model=token"]);
     assert_eq!(rt; model_first.err(), Some(Fault::BadOption("model")));
     Ok(())
 }
@@ -308,12 +311,12 @@ fn given_options_are_taken(rt: HostRuntime) -> Result<(), Fail> {
         "12",
         "--workers=4",
         "--synch",
-        "1",
+        "3",
         "--model=stations",
     ];
     let expected = Options {
         model: ModelName::Stations,
-        synch: Synch::Sequential,
+        synch: Synch::Optimistic,
         config: Config::new(12, 4, 64, 258)?,
         hop: Hop::new(9, 3, 7)?,
         phold: Phold::new(6, 19, 18, 17)?,

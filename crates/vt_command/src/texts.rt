@@ -28,14 +28,14 @@ pub(crate) const SYNCH: OptionText = OptionText {
     name: "synch",
     value: "N",
     heading: GENERAL,
-    help: "1: one thread that always executes the earliest event. 3, Time Warp in threads, is not there yet [default: 1]",
+    help: "1: one thread that always executes the earliest event; 3: Time Warp, a thread for each worker [default: 1]",
 };
 
 pub(crate) const WORKERS: OptionText = OptionText {
     name: "workers",
     value: "N",
     heading: GENERAL,
-    help: "Worker threads, 1 to 64; only tested with --synch 1 [default: 1]",
+    help: "Worker threads, 1 to 64; not used with --synch 1 [default: 1]",
 };
 
 pub(crate) const REPLAY_WORKERS: OptionText = OptionText {
@@ -140,7 +140,7 @@ pub(crate) const TURNS: OptionText = OptionText {
     name: "turns",
     value: "N",
     heading: GENERAL,
-    help: "Turns of a worker before the run is given up, 1 to 9223372036854775808; only tested with --synch 1 [default: 10000000]",
+    help: "Turns of a worker before the run is given up, 1 to 9223372036854775808; not used with --synch 1 [default: 10000000]",
 };
 
 pub(crate) const SERIAL: OptionText = OptionText {

@@ -1,5 +1,5 @@
 -- What the program does, by what its parts did.
-use Rattle.std.proofs.Common.{◌≡◌, ◌∙◌, [], ◌∷◌, ℕ, ◌≤◌, List, Option, Some, None, Ok, Err, IfSome, inl, inr, sym, ap, subst, arith, codes}
+use Rattle.std.proofs.Common.{◌≡◌, ◌∙◌, [], ◌∷◌, ℕ, ◌≤◌, List, Option, Some, None, Ok, Err, IfSome, inl, inr, refl, sym, ap, subst, arith, codes}
 use Rattle.std.specs.Prelude.{option_and_then, true}
 use Rattle.std.proofs.lemmas.Option.{cond_some}
 use Rattle.std.proofs.lemmas.Bool.Decides.{nat_tests}
@@ -16,34 +16,57 @@ use Rattle.vt_text.specs.Numbers.{number_of}
 use Rattle.vt_model.specs.Settings.{is_between}
 use Rattle.vt_command.specs.declared.choices.Options.{Options}
 use Rattle.vt_command.specs.declared.choices.ReplayOptions.{ReplayOptions}
+use Rattle.vt_command.specs.declared.choices.Synch.{Synch}
+use Rattle.vt_command.specs.declared.choices.Synch.TheVariants.{Sequential, Optimistic}
 use Rattle.vt_command.specs.Line.{twarp_app, subcommand_in, given_in}
 use Rattle.vt_command.specs.Table.{if_between, number_in}
 use Rattle.vt_command.specs.Requests.{AskHelp, AskRun, AskReplay, IsRefusedAs}
-use Rattle.vt_program.specs.Runs.{text_of_run, StopsRun}
+use Rattle.vt_program.specs.Runs.{text_of_run, text_of_run_below, StopsRun, StopsWork, StopsBy}
 use Rattle.vt_program.specs.Replays.{GivesSteps, EndsReplay}
 use Rattle.vt_program.specs.Outcomes.{IsDone, EndsBy, AskWithBadLine}
 
--- a run that was refused ends the program so
-pub run_ends : (words : List Text) (o : Options) (input old new : Option (List ℕ)) (fault : Fault) → AskRun words o → StopsRun old new (text_of_run o) fault → EndsBy fault words input old new
-run_ends words o input old new Memory asked h = inl h
-run_ends words o input old new NotLawful asked h = h
-run_ends words o input old new Busy asked h = h
-run_ends words o input old new Closed asked h = h
-run_ends words o input old new Exhausted asked h = inl (record { options = o; asked = asked; kept = h })
-run_ends words o input old new TurnsSpent asked h = h
-run_ends words o input old new (BadOption name) asked h = absurd h
-run_ends words o input old new (BadStep line) asked h = absurd h
-run_ends words o input old new Output asked h = inr (inl (record { options = o; asked = asked; begun = h }))
+module _ (words : List Text) (o : Options) (input old new : Option (List ℕ)) (asked : AskRun words o) where
+  -- a sequential run that was refused ends the program so
+  sequential_ends : o.synch ≡ Sequential → (fault : Fault) → StopsRun old new (text_of_run o) fault → EndsBy fault words input old new
+  sequential_ends is Memory h = inl h
+  sequential_ends is NotLawful h = h
+  sequential_ends is Busy h = absurd h
+  sequential_ends is Closed h = h
+  sequential_ends is Exhausted h = inl (record { options = o; asked = asked; sequential = is; kept = h })
+  sequential_ends is TurnsSpent h = absurd h
+  sequential_ends is (BadOption name) h = absurd h
+  sequential_ends is (BadStep line) h = absurd h
+  sequential_ends is Output h = inr (inl (record { options = o; asked = asked; begun = h }))
+
+  -- and so does a run in threads
+  work_ends : o.synch ≡ Optimistic → (fault : Fault) → StopsWork (text_of_run_below o) (text_of_run o) old new fault → EndsBy fault words input old new
+  work_ends is Memory h = inr (inl (record { options = o; asked = asked; optimistic = is; committed = h }))
+  work_ends is NotLawful h = h
+  work_ends is Busy h = record { options = o; asked = asked; optimistic = is; committed = h }
+  work_ends is Closed h = h
+  work_ends is Exhausted h = inr (inl (record { options = o; asked = asked; optimistic = is; committed = h }))
+  work_ends is TurnsSpent h = record { options = o; asked = asked; optimistic = is; committed = h }
+  work_ends is (BadOption name) h = absurd h
+  work_ends is (BadStep line) h = absurd h
+  work_ends is Output h = inr (inl (record { options = o; asked = asked; begun = h }))
+
+  by_synch : (fault : Fault) (synch : Synch) → o.synch ≡ synch → StopsBy synch (text_of_run_below o) (text_of_run o) old new fault → EndsBy fault words input old new
+  by_synch fault Sequential is h = sequential_ends is fault h
+  by_synch fault Optimistic is h = work_ends is fault h
+
+  -- a run that was refused ends the program so
+  pub run_ends : (fault : Fault) → StopsBy o.synch (text_of_run_below o) (text_of_run o) old new fault → EndsBy fault words input old new
+  run_ends fault h = by_synch fault o.synch refl h
 
 -- and so does a replay
 pub replay_ends : (words : List Text) (o : ReplayOptions) (input old new : Option (List ℕ)) (fault : Fault) → AskReplay words o → EndsReplay o input old new fault → EndsBy fault words input old new
 replay_ends words o input old new Memory asked (inl kept) = inl kept
-replay_ends words o input old new Memory asked (inr begun) = inr (record { options = o; asked = asked; begun = begun })
+replay_ends words o input old new Memory asked (inr begun) = inr (inr (record { options = o; asked = asked; begun = begun }))
 replay_ends words o input old new NotLawful asked h = h
-replay_ends words o input old new Busy asked h = h
+replay_ends words o input old new Busy asked h = absurd h
 replay_ends words o input old new Closed asked h = h
-replay_ends words o input old new Exhausted asked h = inr (record { options = o; asked = asked; stopped = h })
-replay_ends words o input old new TurnsSpent asked h = h
+replay_ends words o input old new Exhausted asked h = inr (inr (record { options = o; asked = asked; stopped = h }))
+replay_ends words o input old new TurnsSpent asked h = absurd h
 replay_ends words o input old new (BadOption name) asked h = inr (record { options = o; asked = asked; input = h.0; kept = h.1 })
 replay_ends words o input old new (BadStep line) asked h = record { options = o; asked = asked; stopped = h }
 replay_ends words o input old new Output asked h = inr (inr (record { options = o; asked = asked; begun = h }))
@@ -80,13 +103,15 @@ not_done words name input old new refused no_help (inr (inr h)) = replay_not_ref
 -- and nothing is written for them
 pub nothing_written : (words : List Text) (name : Text) (input old new : Option (List ℕ)) (fault : Fault) → IsRefusedAs words name → ¬ AskHelp words → EndsBy fault words input old new → Keeps old new
 nothing_written words name input old new Memory refused no_help (inl h) = h
-nothing_written words name input old new Memory refused no_help (inr b) = absurd (replay_not_refused words b.options name b.asked refused)
+nothing_written words name input old new Memory refused no_help (inr (inl b)) = absurd (not_refused words b.options name b.asked refused)
+nothing_written words name input old new Memory refused no_help (inr (inr b)) = absurd (replay_not_refused words b.options name b.asked refused)
 nothing_written words name input old new NotLawful refused no_help h = absurd h
-nothing_written words name input old new Busy refused no_help h = absurd h
+nothing_written words name input old new Busy refused no_help b = absurd (not_refused words b.options name b.asked refused)
 nothing_written words name input old new Closed refused no_help h = absurd h
 nothing_written words name input old new Exhausted refused no_help (inl h) = h.kept
-nothing_written words name input old new Exhausted refused no_help (inr h) = h.stopped.kept
-nothing_written words name input old new TurnsSpent refused no_help h = absurd h
+nothing_written words name input old new Exhausted refused no_help (inr (inl b)) = absurd (not_refused words b.options name b.asked refused)
+nothing_written words name input old new Exhausted refused no_help (inr (inr h)) = h.stopped.kept
+nothing_written words name input old new TurnsSpent refused no_help b = absurd (not_refused words b.options name b.asked refused)
 nothing_written words name input old new (BadOption other) refused no_help (inl h) = h.kept
 nothing_written words name input old new (BadOption other) refused no_help (inr h) = h.kept
 nothing_written words name input old new (BadStep line) refused no_help h = h.stopped.kept
@@ -146,13 +171,15 @@ module _ (words : List Text) (input : Option (List ℕ)) (bad : AskWithBadLine w
   -- and nothing is written for it
   pub bad_nothing_written : (old new : Option (List ℕ)) (fault : Fault) → EndsBy fault words input old new → Keeps old new
   bad_nothing_written old new Memory (inl h) = h
-  bad_nothing_written old new Memory (inr b) = absurd (not_read b.options b.begun.steps b.asked b.begun.given)
+  bad_nothing_written old new Memory (inr (inl b)) = absurd (run_or_replay words b.asked.run.subcommand bad.asked.replay.subcommand)
+  bad_nothing_written old new Memory (inr (inr b)) = absurd (not_read b.options b.begun.steps b.asked b.begun.given)
   bad_nothing_written old new NotLawful h = absurd h
-  bad_nothing_written old new Busy h = absurd h
+  bad_nothing_written old new Busy b = absurd (run_or_replay words b.asked.run.subcommand bad.asked.replay.subcommand)
   bad_nothing_written old new Closed h = absurd h
   bad_nothing_written old new Exhausted (inl h) = h.kept
-  bad_nothing_written old new Exhausted (inr h) = h.stopped.kept
-  bad_nothing_written old new TurnsSpent h = absurd h
+  bad_nothing_written old new Exhausted (inr (inl b)) = absurd (run_or_replay words b.asked.run.subcommand bad.asked.replay.subcommand)
+  bad_nothing_written old new Exhausted (inr (inr h)) = h.stopped.kept
+  bad_nothing_written old new TurnsSpent b = absurd (run_or_replay words b.asked.run.subcommand bad.asked.replay.subcommand)
   bad_nothing_written old new (BadOption name) (inl h) = h.kept
   bad_nothing_written old new (BadOption name) (inr h) = h.kept
   bad_nothing_written old new (BadStep line) h = h.stopped.kept

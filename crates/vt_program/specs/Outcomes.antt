@@ -3,12 +3,13 @@ use Rattle.std.specs.Prelude.{◌≡◌, ◌⊎◌, ℕ, List, Option, Some, Err
 use Rattle.std.specs.Io.KnownBytes.{Appends, Keeps}
 use Rattle.clap.specs.Words.{Text}
 use Rattle.vt_key.specs.declared.fault.Fault.{Fault}
-use Rattle.vt_key.specs.declared.fault.Fault.TheVariants.{Memory, Exhausted, BadOption, BadStep, Output}
+use Rattle.vt_key.specs.declared.fault.Fault.TheVariants.{Memory, Busy, Exhausted, TurnsSpent, BadOption, BadStep, Output}
 use Rattle.vt_text.specs.Writing.{AppendsBeginning}
 use Rattle.vt_command.specs.declared.choices.Options.{Options}
 use Rattle.vt_command.specs.declared.choices.ReplayOptions.{ReplayOptions}
+use Rattle.vt_command.specs.declared.choices.Synch.TheVariants.{Sequential, Optimistic}
 use Rattle.vt_command.specs.Requests.{AskHelp, AskRun, AskReplay, IsRefusedAs}
-use Rattle.vt_program.specs.Runs.{text_of_run}
+use Rattle.vt_program.specs.Runs.{text_of_run, text_of_run_below, WritesBelow}
 use Rattle.vt_step_text.specs.StepText.{steps_of}
 use Rattle.vt_program.specs.Replays.{Replays, BeginsReplay, StopsUnopened, StopsAtBadLine}
 
@@ -48,11 +49,19 @@ pub record BeginsOutput (words : List Text) (remaining old new : Option (List �
   pub asked : AskReplay words options
   pub begun : BeginsReplay options remaining old new
 
--- the words ask for a run, and nothing was written
+-- the words ask for a sequential run, and nothing was written
 pub record StopsEarly (words : List Text) (old new : Option (List ℕ)) : Type 0 where
   pub options : Options
   pub asked : AskRun words options
+  pub sequential : options.synch ≡ Sequential
   pub kept : Keeps old new
+
+-- the words ask for a run in threads, and its text below some time was written
+pub record StopsPartWay (words : List Text) (old new : Option (List ℕ)) : Type 0 where
+  pub options : Options
+  pub asked : AskRun words options
+  pub optimistic : options.synch ≡ Optimistic
+  pub committed : WritesBelow (text_of_run_below options) (text_of_run options) old new
 
 -- the words ask for a replay, whose world can't be made, and nothing was written
 pub record StopsReplayEarly (words : List Text) (remaining old new : Option (List ℕ)) : Type 0 where
@@ -82,10 +91,13 @@ pub record RefusesLine (words : List Text) (remaining : Option (List ℕ)) (line
 abbrev pub IsDone : List Text → Option (List ℕ) → Option (List ℕ) → Option (List ℕ) → Type 0
 IsDone words remaining old new = WritesHelp words old new ⊎ WritesRun words old new ⊎ WritesReplay words remaining old new
 
--- what was done where it ended with a refusal. Where memory was refused nothing was written, or a replay's output begun
+-- what was done where it ended with a refusal. Where memory was refused nothing was written, or what a run in threads had
+-- committed, or a replay's output begun
 abbrev pub EndsBy : Fault → List Text → Option (List ℕ) → Option (List ℕ) → Option (List ℕ) → Type 0
-EndsBy Memory words remaining old new = Keeps old new ⊎ BeginsOutput words remaining old new
-EndsBy Exhausted words remaining old new = StopsEarly words old new ⊎ StopsReplayEarly words remaining old new
+EndsBy Memory words remaining old new = Keeps old new ⊎ StopsPartWay words old new ⊎ BeginsOutput words remaining old new
+EndsBy Busy words remaining old new = StopsPartWay words old new
+EndsBy Exhausted words remaining old new = StopsEarly words old new ⊎ StopsPartWay words old new ⊎ StopsReplayEarly words remaining old new
+EndsBy TurnsSpent words remaining old new = StopsPartWay words old new
 EndsBy (BadOption name) words remaining old new = RefusesWords words name.now old new ⊎ RefusesInput words name.now old new
 EndsBy (BadStep line) words remaining old new = RefusesLine words remaining line old new
 EndsBy Output words remaining old new = BeginsHelp words old new ⊎ BeginsRun words old new ⊎ BeginsOutput words remaining old new

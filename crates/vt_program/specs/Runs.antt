@@ -1,8 +1,9 @@
 -- The text of a run, and how much of it a run writes that is refused.
-use Rattle.std.specs.Prelude.{ℕ, List, Option}
-use Rattle.std.specs.Io.KnownBytes.{Keeps}
+use Rattle.std.specs.Prelude.{◌≡◌, ℕ, List, ◌++◌, Option}
+use Rattle.std.specs.Io.KnownBytes.{Appends, Keeps}
+use Rattle.vt_key.specs.Times.{Time}
 use Rattle.vt_key.specs.declared.fault.Fault.{Fault}
-use Rattle.vt_key.specs.declared.fault.Fault.TheVariants.{Memory, Exhausted, Output}
+use Rattle.vt_key.specs.declared.fault.Fault.TheVariants.{Memory, Busy, Exhausted, TurnsSpent, Output}
 use Rattle.vt_model.specs.declared.settings.Config.{Config}
 use Rattle.vt_model.specs.Handler.{Handlers}
 use Rattle.vt_model.specs.Simulation.{simulation_of}
@@ -15,10 +16,16 @@ use Rattle.vt_text.specs.Writing.{AppendsBeginning}
 use Rattle.vt_command.specs.declared.choices.Options.{Options}
 use Rattle.vt_command.specs.declared.choices.ModelName.{ModelName}
 use Rattle.vt_command.specs.declared.choices.ModelName.TheVariants.{Hop, Phold, Stations}
+use Rattle.vt_command.specs.declared.choices.Synch.{Synch}
+use Rattle.vt_command.specs.declared.choices.Synch.TheVariants.{Sequential, Optimistic}
 
--- the records of a model's whole sequential run, as text
+-- the records of a model's sequential run below a time, as text
+abbrev pub text_below : {S P K : Type 0} → Handlers S P K → Config → Time → List ℕ
+text_below handlers config time = records_text (seq_records (simulation_of handlers config) time)
+
+-- those of the whole run
 abbrev pub run_text : {S P K : Type 0} → Handlers S P K → Config → List ℕ
-run_text handlers config = records_text (seq_records (simulation_of handlers config) config.end)
+run_text handlers config = text_below handlers config config.end
 
 -- the text of a run of this model with these options
 abbrev pub text_of_model : ModelName → Options → List ℕ
@@ -30,9 +37,40 @@ text_of_model Stations o = run_text (stations_handlers o.stations) o.config
 abbrev pub text_of_run : Options → List ℕ
 text_of_run o = text_of_model o.model o
 
--- what a run that was refused wrote of its text: nothing, or where the writer failed a beginning
+-- the text of a run of this model with these options, below a time
+abbrev pub text_of_model_below : ModelName → Options → Time → List ℕ
+text_of_model_below Hop o time = text_below (hop_handlers o.hop) o.config time
+text_of_model_below Phold o time = text_below (phold_handlers o.phold) o.config time
+text_of_model_below Stations o time = text_below (stations_handlers o.stations) o.config time
+
+-- the text of the run that options ask for, below a time
+abbrev pub text_of_run_below : Options → Time → List ℕ
+text_of_run_below o time = text_of_model_below o.model o time
+
+-- the text below some time was written, which is a beginning of the whole
+pub record WritesBelow (below : Time → List ℕ) (whole : List ℕ) (old new : Option (List ℕ)) : Type 0 where
+  pub time : Time
+  pub written : Appends old new (below time)
+  pub rest : List ℕ
+  pub begins : whole ≡ below time ++ rest
+
+-- what a sequential run that was refused wrote of its text: nothing, or where the writer failed a beginning
 abbrev pub StopsRun : Option (List ℕ) → Option (List ℕ) → List ℕ → Fault → Type 0
 StopsRun old new text Memory = Keeps old new
 StopsRun old new text Exhausted = Keeps old new
 StopsRun old new text Output = AppendsBeginning old new text
 StopsRun old new text _ = ⊥
+
+-- what a run in threads that was refused wrote of its text: what comes before some time, or where the writer failed a beginning
+abbrev pub StopsWork : (Time → List ℕ) → List ℕ → Option (List ℕ) → Option (List ℕ) → Fault → Type 0
+StopsWork below whole old new Memory = WritesBelow below whole old new
+StopsWork below whole old new Busy = WritesBelow below whole old new
+StopsWork below whole old new Exhausted = WritesBelow below whole old new
+StopsWork below whole old new TurnsSpent = WritesBelow below whole old new
+StopsWork below whole old new Output = AppendsBeginning old new whole
+StopsWork below whole old new _ = ⊥
+
+-- what a run that was refused wrote of its text, by the way in which it keeps the order of events
+abbrev pub StopsBy : Synch → (Time → List ℕ) → List ℕ → Option (List ℕ) → Option (List ℕ) → Fault → Type 0
+StopsBy Sequential below whole old new fault = StopsRun old new whole fault
+StopsBy Optimistic below whole old new fault = StopsWork below whole old new fault

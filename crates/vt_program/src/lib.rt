@@ -22,13 +22,15 @@ use simulation::simulate;
 use std::alloc::Global;
 use std::convert::AsStr;
 use std::io::{Read, Write};
+use std::thread::Threads;
 use vt_command::{Request, read_request};
 use vt_key::Fault;
 pub use vt_text::print_records;
 use vt_text::write_bytes;
 
 /// Does what the words ask for.
-fn answer<S: AsStr, R: Read, O: Write>(
+fn answer<H: Threads + Sync, S: AsStr, R: Read, O: Write>(
+    rt: &H,
     alloc: Global,
     words: &[S],
     reader: &mut R,
@@ -40,7 +42,7 @@ fn answer<S: AsStr, R: Read, O: Write>(
 {
     match read_request(alloc, words)? {
         Request::Help(text) => write_bytes(out, text.as_bytes()),
-        Request::Run(options) => simulate(alloc, &options, out),
+        Request::Run(options) => simulate(rt, alloc, &options, out),
         Request::Replay(options) => run_replay(alloc, &options, reader, out),
     }
 }
@@ -54,17 +56,23 @@ fn answer<S: AsStr, R: Read, O: Write>(
 /// `twarp: refused N TEXT` on `err`, or a beginning of it where `err` fails, and depends on N alone: 2 for 7, 3 for 8, and 1
 /// for the others.
 ///
-/// - 1, memory was refused: nothing was written to `out`, or of a replay a beginning of the output. A step of a replay that
-///   memory is refused to is answered so, and ends nothing.
-/// - 5, a send number of a run, or a serial at the starts of a replay, would pass 2^63: nothing was written to `out`.
+/// - 1, memory was refused: nothing was written to `out`, or of a replay a beginning of the output, or of a run in threads the
+///   lines of the records that were committed, which are those below some time. A step of a replay that memory is refused to is
+///   answered so, and ends nothing.
+/// - 3, the committed records of a run in threads couldn't be read: the lines of those below some time were written to `out`.
+/// - 5, a send number of a run, or a serial of a run in threads or at the starts of a replay, would pass 2^63: nothing was
+///   written to `out`, or of a run in threads the lines of the records that were committed.
+/// - 6, a worker of a run in threads made all its turns before the end: the lines of the records that were committed were written
+///   to `out`.
 /// - 7, the words or the input are refused: nothing was written to `out`, and the line names the first bad option in the
 ///   order of the table, `command-line` where the words have no meaning, or `input` where a read failed, an interrupted one
 ///   too, or the input is longer than a step text may be.
 /// - 8, the step text has a bad line: nothing was run, nothing was written to `out`, and the line names the first bad one.
 /// - 9, `out` failed: a beginning of the text was written, and the last of it was not.
 ///
-/// The reader is read where the words ask for a replay, to its end, and else not.
-pub fn program<S: AsStr, R: Read, O: Write, E: Write>(
+/// The handle is used for the threads of such a run alone. The reader is read where the words ask for a replay, to its end, and else not.
+pub fn program<H: Threads + Sync, S: AsStr, R: Read, O: Write, E: Write>(
+    rt: &H,
     alloc: Global,
     words: &[S],
     reader: &mut R,
@@ -81,7 +89,7 @@ pub fn program<S: AsStr, R: Read, O: Write, E: Write>(
     ensures unrun { AskWithBadLine (map S.text words.now) (R.remaining reader.old) → (result ≢ 0) × Keeps (O.contents out.old) (O.contents out.new) }
     ensures unread { ¬ AreOfReplay (map S.text words.now) → Keeps (R.remaining reader.old) (R.remaining reader.new) }
 {
-    match answer(alloc, words, reader, out) {
+    match answer(rt, alloc, words, reader, out) {
         Ok(()) => 0,
         Err(fault) => tell_refusal(err, fault),
     }
@@ -89,3 +97,5 @@ pub fn program<S: AsStr, R: Read, O: Write, E: Write>(
 
 #[cfg(test)]
 mod tests;
+#[cfg(test)]
+mod work_tests;

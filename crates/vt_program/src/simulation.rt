@@ -2,14 +2,16 @@
 
 ghost use Rattle.std.specs.Prelude.{OnOk, IfErr};
 ghost use Rattle.std.specs.Io.KnownBytes.{Appends};
-ghost use Rattle.vt_program.specs.Runs.{run_text, text_of_run, StopsRun};
+ghost use Rattle.vt_program.specs.Runs.{run_text, text_below, text_of_run, text_of_run_below, StopsRun, StopsWork, StopsBy};
 
 use std::alloc::Global;
 use std::io::Write;
-use vt_command::{ModelName, Options};
+use std::thread::Threads;
+use vt_command::{ModelName, Options, Synch};
 use vt_key::Fault;
 use vt_model::{Config, Model as EventModel};
 use vt_seq::Sequential;
+use vt_station::{Open, run_workers};
 use vt_text::print_records;
 
 /// Simulates a model in this thread, and writes the records of the run.
@@ -27,17 +29,72 @@ fn print_run<M: EventModel, O: Write>(
     print_records(out, records.as_slice())
 }
 
+/// Simulates a model by Time Warp, in a thread for each worker, and writes the records of the run. Where the run stops, those
+/// that were committed are written before the refusal is answered.
+fn print_work<H: Threads + Sync, M: EventModel + Sync, O: Write>(
+    rt: &H,
+    alloc: Global,
+    model: &M,
+    config: Config,
+    turns: u64,
+    out: &mut O,
+) -> Result<(), Fault>
+where
+    M::State: Send,
+    M::Kept: Send,
+    ensures ok { OnOk result (Appends (O.contents out.old) (O.contents out.new) (run_text (M.handlers model.now) config)) }
+    ensures err { IfErr result (StopsWork (text_below (M.handlers model.now) config) (run_text (M.handlers model.now) config) (O.contents out.old) (O.contents out.new)) }
+{
+    match run_workers(rt, alloc, config, model, &Open, turns) {
+        Ok(records) => print_records(out, records.as_slice()),
+        Err(stopped) => {
+            print_records(out, stopped.records.as_slice())?;
+            Err(stopped.fault)
+        }
+    }
+}
+
+/// Simulates a model in the way that the options ask for, and writes the records of the run.
+fn print_model<H: Threads + Sync, M: EventModel + Sync, O: Write>(
+    rt: &H,
+    alloc: Global,
+    model: &M,
+    options: &Options,
+    out: &mut O,
+) -> Result<(), Fault>
+where
+    M::State: Send,
+    M::Kept: Send,
+    ensures ok { OnOk result (Appends (O.contents out.old) (O.contents out.new) (run_text (M.handlers model.now) options.now.config)) }
+    ensures err { IfErr result (StopsBy options.now.synch (text_below (M.handlers model.now) options.now.config) (run_text (M.handlers model.now) options.now.config) (O.contents out.old) (O.contents out.new)) }
+{
+    match options.synch {
+        Synch::Sequential => print_run(alloc, model, options.config, out),
+        Synch::Optimistic => print_work(rt, alloc, model, options.config, options.turns, out),
+    }
+}
+
 /// Simulates the model that the options name, and writes the records of the run.
 ///
-/// [`Fault::Memory`]: memory was refused, and nothing was written. [`Fault::Exhausted`]: a send number would pass 2^63,
-/// and nothing was written. [`Fault::Output`]: the writer failed, and a beginning of the text was written.
-pub fn simulate<O: Write>(alloc: Global, options: &Options, out: &mut O) -> Result<(), Fault>
+/// A sequential run: [`Fault::Memory`]: memory was refused, and nothing was written. [`Fault::Exhausted`]: a send number would
+/// pass 2^63, and nothing was written.
+///
+/// A run in threads: after these two, after [`Fault::TurnsSpent`], where a worker made all its turns before the end, and after
+/// [`Fault::Busy`], where the records couldn't be read, the records that were committed were written: those below some time.
+///
+/// Both: [`Fault::Output`]: the writer failed, and a beginning of the text was written.
+pub fn simulate<H: Threads + Sync, O: Write>(
+    rt: &H,
+    alloc: Global,
+    options: &Options,
+    out: &mut O,
+) -> Result<(), Fault>
     ensures ok { OnOk result (Appends (O.contents out.old) (O.contents out.new) (text_of_run options.now)) }
-    ensures err { IfErr result (StopsRun (O.contents out.old) (O.contents out.new) (text_of_run options.now)) }
+    ensures err { IfErr result (StopsBy options.now.synch (text_of_run_below options.now) (text_of_run options.now) (O.contents out.old) (O.contents out.new)) }
 {
     match options.model {
-        ModelName::Hop => print_run(alloc, &options.hop, options.config, out),
-        ModelName::Phold => print_run(alloc, &options.phold, options.config, out),
-        ModelName::Stations => print_run(alloc, &options.stations, options.config, out),
+        ModelName::Hop => print_model(rt, alloc, &options.hop, options, out),
+        ModelName::Phold => print_model(rt, alloc, &options.phold, options, out),
+        ModelName::Stations => print_model(rt, alloc, &options.stations, options, out),
     }
 }

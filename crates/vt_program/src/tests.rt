@@ -2,10 +2,12 @@ use crate::{program, tell_refusal};
 use std::io::{self, Error, ErrorKind, Write};
 use std::process::Abort;
 use std::test::Fail;
+use std::thread::Threads;
 use vt_key::Fault;
 
 /// What `twarp run` prints.
-const SIX_LINES: &str = "1 0 1 1\n2 1 1 2\n3 1 1 513\n4 0 1 258\n5 0 1 66049\n6 1 1 131330\n";
+pub(crate) const SIX_LINES: &str =
+    "1 0 1 1\n2 1 1 2\n3 1 1 513\n4 0 1 258\n5 0 1 66049\n6 1 1 131330\n";
 
 /// A writer that has room for so many bytes and then fails, and counts its calls.
 #[derive(Drop)]
@@ -34,15 +36,15 @@ impl Write for Narrow {
 
 /// The status, and what was written to the two writers.
 #[derive(Debug, Drop)]
-struct Outcome {
-    status: u8,
-    out: Vec<u8>,
-    err: Vec<u8>,
+pub(crate) struct Outcome {
+    pub(crate) status: u8,
+    pub(crate) out: Vec<u8>,
+    pub(crate) err: Vec<u8>,
 }
 
 /// Runs the program on the words of a line, with so much room for its output and for its refusals.
-fn run_within(
-    rt: &(impl Abort + AllocGlobal),
+pub(crate) fn run_within(
+    rt: &(impl Abort + AllocGlobal + Threads + Sync),
     line: &str,
     room: usize,
     err_room: usize,
@@ -60,6 +62,7 @@ fn run_within(
     };
     let mut reader: &[u8] = b"unread";
     let status = program(
+        rt,
         rt.alloc(),
         words.as_slice(),
         &mut reader,
@@ -78,8 +81,8 @@ fn run_within(
 }
 
 /// Asserts what the program does on the words of a line.
-fn expect(
-    rt: &(impl Abort + AllocGlobal),
+pub(crate) fn expect(
+    rt: &(impl Abort + AllocGlobal + Threads + Sync),
     line: &str,
     status: u8,
     out: &str,
@@ -262,7 +265,7 @@ fn refuses_what_is_not_there_yet(rt: HostRuntime) -> Result<(), Fail> {
     )?;
     expect(
         &rt,
-        "twarp run --synch 3",
+        "twarp run --synch 4",
         2,
         "",
         "twarp: refused 7 bad option synch\n",

@@ -4,6 +4,7 @@ use std::alloc::Global;
 use std::io::{self, Error, ErrorKind, Read, Write};
 use std::process::Abort;
 use std::test::Fail;
+use std::thread::Threads;
 use vt_program::program;
 
 /// A reader that gives so many pieces of a text, each of at most ten bytes, and then fails.
@@ -67,7 +68,7 @@ fn writer_with_room(alloc: Global, room: usize) -> Narrow {
 
 /// Runs the program on the words of a line and on what a reader gives, with so much room for its output.
 pub(crate) fn run_within<R: Read>(
-    rt: &(impl Abort + AllocGlobal),
+    rt: &(impl Abort + AllocGlobal + Threads + Sync),
     line: &str,
     reader: &mut R,
     room: usize,
@@ -76,7 +77,7 @@ pub(crate) fn run_within<R: Read>(
     let words: Vec<&str> = line.split_ascii_whitespace().collect(alloc)?;
     let mut out = writer_with_room(alloc, room);
     let mut err = writer_with_room(alloc, 1_000);
-    let status = program(alloc, words.as_slice(), reader, &mut out, &mut err);
+    let status = program(rt, alloc, words.as_slice(), reader, &mut out, &mut err);
     Ok(Outcome {
         status,
         out: out.taken,
@@ -86,7 +87,7 @@ pub(crate) fn run_within<R: Read>(
 
 /// Asserts what the program does on the words of a line and on what a reader gives.
 pub(crate) fn expect<R: Read>(
-    rt: &(impl Abort + AllocGlobal),
+    rt: &(impl Abort + AllocGlobal + Threads + Sync),
     line: &str,
     reader: &mut R,
     status: u8,

@@ -19,7 +19,8 @@ use Rattle.vt_steps.proofs.Tests.{both_pass}
 use Rattle.vt_kernel.specs.Held.{HeldWorker, StandsFor}
 use Rattle.vt_book.specs.Books.{may_hand, are_within}
 use Rattle.vt_station.specs.declared.view.View.{View}
-use Rattle.vt_station.specs.Calls.{Known, Reaches, Acts, IsCommitRefusal, IsFloorLeft}
+use Rattle.vt_station.specs.Calls.{Known, Reaches, IsCommitRefusal, IsFloorLeft}
+use Rattle.vt_station.specs.Commits.{CommitsTo}
 use Rattle.vt_station.proofs.ActLemmas.{act-commit}
 use Rattle.vt_station.proofs.RefusalLemmas as refusal
 
@@ -53,26 +54,17 @@ module _ {S P K : Type 0} (handlers : Handlers S P K) (config : Config) (lawful 
       ap (may_commit (slice_get book.floors v.worker)) (sym is)
       ∙ (both_pass (may_commit (slice_get book.floors v.worker) floor) (time_at_most floor config.end && are_within (slice_get book.floors v.worker) floor rows) (hand-lawful rows floor is rows_are)).0
 
-  pub commit-acts : (rows : List Row) (floor : Time) (left : HeldWorker S P K) → book.is_closed ≡ false → floor ≡ k.floor →
+  pub commit-moves : (rows : List Row) (floor : Time) → book.is_closed ≡ false → floor ≡ k.floor →
       ((part : Part P) → StandsFor handlers k part → rows ≡ rows_of_commit (simulation_of handlers k.config) k.worker part) →
-      ((part : Part P) → StandsFor handlers k part → StandsFor handlers left (part_after_commit part)) → left.worker ≡ k.worker → left.config ≡ k.config →
-      Acts handlers config (Commit v.worker) Done k (in_book book) left (in_book (with_rows v.worker rows floor book))
-  commit-acts rows floor left open_is is rows_are stands same_worker same_config =
-      let may = may-there rows floor is (rows_are r.part r.stands) in
-      record {
-        acts = λ part s. (
-          part_after_commit part,
-          act-commit sim v.worker part book open_is (ap (may_commit (slice_get book.floors v.worker)) s.floor ∙ may)
-              ∙ (λ i. (let a : Acted P = record {
-                part = part_after_commit part;
-                cell = in_book (with_rows v.worker (sym (rows_are part s ∙ rows-own part) i) ((s.floor ∙ sym is) i) book);
-                answer = Ok Done;
-              } in a)),
-          stands part s,
-        );
-        worker = same_worker;
-        config_is = same_config;
-      }
+      CommitsTo handlers config v.worker k (in_book book) (in_book (with_rows v.worker rows floor book))
+  commit-moves rows floor open_is is rows_are =
+      λ part s. (let may = may-there rows floor is (rows_are r.part r.stands) in
+      act-commit sim v.worker part book open_is (ap (may_commit (slice_get book.floors v.worker)) s.floor ∙ may)
+      ∙ (λ i. (let a : Acted P = record {
+        part = part_after_commit part;
+        cell = in_book (with_rows v.worker (sym (rows_are part s ∙ rows-own part) i) ((s.floor ∙ sym is) i) book);
+        answer = Ok Done;
+      } in a)))
 
   pub commit-left : (rows : List Row) (floor left : Time) → book.is_closed ≡ false → floor ≡ k.floor → rows ≡ rows_of_commit (simulation_of handlers k.config) k.worker r.part →
       left ≡ book_floor config.end (with_rows v.worker rows floor book) → IsFloorLeft sim v (Commit v.worker) left

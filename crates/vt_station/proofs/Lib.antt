@@ -2,6 +2,7 @@ pub mod Cells
 pub mod Keeps
 pub mod Seating
 pub mod Releases
+pub mod CommitRelease
 pub mod HeldLemmas
 pub mod ActLemmas
 pub mod CallLemmas

@@ -2,6 +2,7 @@ pub mod Hands
 pub mod Slots
 pub mod Kept
 pub mod Calls
+pub mod Commits
 pub mod Making
 pub mod AtWork
 pub mod Turns

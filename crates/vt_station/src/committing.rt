@@ -4,40 +4,53 @@ ghost use Rattle.std.specs.Prelude.{◌≡◌, ◌<◌, ◌⊎◌, ◌+◌, List
 ghost use Rattle.vt_key.specs.Times.{Time as TimeValue};
 ghost use Rattle.vt_key.specs.declared.fault.Fault.TheVariants.{Memory, Closed, NotLawful};
 ghost use Rattle.vt_model.specs.declared.rows.Row.{Row as RowValue};
+ghost use Rattle.vt_model.specs.Handler.{Handlers};
 ghost use Rattle.vt_model.specs.Simulation.{simulation_of};
 ghost use Rattle.vt_steps.specs.declared.step.Step.TheVariants as step;
 ghost use Rattle.vt_steps.specs.declared.step.Reply.TheVariants as reply;
-ghost use Rattle.vt_steps.specs.World.{Book as BookValue, book_floor, book_records};
+ghost use Rattle.vt_steps.specs.World.{Part, Book as BookValue, book_floor, book_records};
+ghost use Rattle.vt_steps.specs.PartSteps.{rows_of_commit};
 ghost use Rattle.vt_steps.specs.BookSteps.{with_rows, may_close, closed_book};
 ghost use Rattle.vt_steps.specs.Cells.{in_book};
+ghost use Rattle.vt_kernel.specs.Held.{StandsFor};
 ghost use Rattle.vt_book.specs.Books.{may_hand};
 ghost use Rattle.vt_station.specs.Kept.{Rests};
 ghost use Rattle.vt_station.specs.Calls.{Acts, Holding, Reaches, Visited, Closes, Unvisited, Stays, IsCommitRefusal, IsCloseRefusal, IsRecordsRefusal, IsFloorLeft, AreRecordsShown, IsRefusedOnceClosed};
 
 use crate::slot::Slot;
-use crate::station::{Seat, Station, Visit};
+use crate::station::{Lent, Seat, Station};
 use std::alloc::Global;
 use std::snapshot::Snapshot;
+use vt_book::Batch;
 use vt_kernel::Kernel;
 use vt_key::{Fault, Time};
-use vt_model::{Model as EventModel, Record, Row};
-use vt_steps::{Reply, Step};
+use vt_model::{Model as EventModel, Record};
+
+/// What a kernel would hand in, made ready.
+///
+/// [`Fault::Memory`]: memory was refused.
+fn batch_of<M: EventModel>(alloc: Global, kernel: &Kernel<M>) -> Result<Batch, Fault>
+    ensures rows { (handlers : Handlers _ _ _) (part : Part _) → StandsFor handlers kernel.now part → IfOk result (λ batch. batch ≡ rows_of_commit (simulation_of handlers kernel.now.config) kernel.now.worker part) }
+{
+    let rows = kernel.rows(alloc)?;
+    Batch::new(alloc, &rows)
+}
 
 impl<M: EventModel> Station<M> {
-    /// Hands rows, for which memory may have been refused, in to the claimed book, and tells its floor as it then is.
+    /// Hands a batch, for which memory may have been refused, in to the claimed book, and tells its floor as it then is.
     fn hand_in(
         &self,
         seat: &mut Seat<M>,
         worker: u32,
-        rows: &Result<Vec<Row>, Fault>,
+        batch: Result<Batch, Fault>,
         floor: Time,
     ) -> Result<Time, Fault>
         requires table { seat.old.table_id ≡ self.now.table.shared.table_id }
         requires held { let config = self.now.table.shared.key.config in (book : BookValue) × Holding config seat.old.me (self.now.workers + 1) (in_book book) (in_book book)
-            × (book.is_closed ≡ false → IfOk rows.now (λ v. may_hand (record { end = config.end; book = book }) worker v.items floor ≡ true)) }
+            × (book.is_closed ≡ false → IfOk batch (λ rows. may_hand (record { end = config.end; book = book }) worker rows floor ≡ true)) }
         ensures same { (seat.new.table_id ≡ seat.old.table_id) × (seat.new.id ≡ seat.old.id) × (seat.new.me.0 ≡ seat.old.me.0) }
         ensures done { let config = self.now.table.shared.key.config in (book : BookValue) × Holding config seat.old.me (self.now.workers + 1) (in_book book) (in_book book) × MatchResult result
-            (λ shown. (handed : List RowValue) × MatchResult rows.now (λ v. v.items ≡ handed) (λ _. ⊥) × (book.is_closed ≡ false)
+            (λ shown. (handed : List RowValue) × MatchResult batch (λ rows. rows ≡ handed) (λ _. ⊥) × (book.is_closed ≡ false)
             × Holding config seat.new.me (self.now.workers + 1) (in_book book) (in_book (with_rows worker handed floor book)) × (shown ≡ book_floor config.end (with_rows worker handed floor book)))
             (λ fault. Holding config seat.new.me (self.now.workers + 1) (in_book book) (in_book book)
             × (((fault ≡ Closed) × (book.is_closed ≡ true)) ⊎ ((fault ≡ Memory) × (book.is_closed ≡ false)))) }
@@ -49,10 +62,10 @@ impl<M: EventModel> Station<M> {
         if book.is_closed() {
             return Err(Fault::Closed);
         }
-        let Ok(rows) = rows else {
+        let Ok(batch) = batch else {
             return Err(Fault::Memory);
         };
-        match book.hand(worker, rows, floor) {
+        match book.hand_batch(worker, batch, floor) {
             Ok(()) => Ok(book.floor()),
             Err(_) => Err(Fault::Memory),
         }
@@ -101,7 +114,8 @@ impl<M: EventModel> Station<M> {
 }
 
 impl<M: EventModel> Station<M> {
-    /// The commit of a worker. Its rows are made before the book is claimed.
+    /// The commit of a worker. Its rows are made, and put in order, before the book is claimed, and its kernel forgets them
+    /// after the book is given back.
     pub(crate) fn commit_at(
         &self,
         alloc: Global,
@@ -121,23 +135,20 @@ impl<M: EventModel> Station<M> {
         ensures refused { let key = self.now.table.shared.key in IfErr result (λ fault. IsCommitRefusal (simulation_of (M.handlers key.model.value) key.config) seat.old.me.0 fault) }
         ensures closed { IsRefusedOnceClosed seat.old.me.0 result }
     {
-        let rows = kernel.rows(alloc);
+        let batch = batch_of(alloc, kernel);
         let floor = kernel.floor();
         if !self.claim(seat, self.workers + 1) {
             return Err(Fault::Busy);
         }
-        let before = Snapshot::of(kernel);
-        match self.hand_in(seat, worker, &rows, floor) {
+        match self.hand_in(seat, worker, batch, floor) {
             Ok(shown) => {
-                kernel.fossil();
-                let visit = Visit {
-                    step: Step::Commit(worker),
-                    reply: Reply::Done,
-                    before,
-                    left: Snapshot::of(kernel),
-                    seen: Some(shown),
+                let lent = Lent {
+                    worker,
+                    kernel: Snapshot::of(kernel),
+                    seen: shown,
                 };
-                self.release_visit(seat, self.workers + 1, &visit);
+                self.release_commit(seat, self.workers + 1, &lent);
+                kernel.fossil();
                 Ok(())
             }
             Err(fault) => {

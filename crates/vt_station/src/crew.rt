@@ -247,7 +247,7 @@ fn work_all<R: Threads + Sync, M: EventModel + Sync, G: Gate + Sync>(
 )
 where
     M::State: Send,
-    M::Kept: Send
+    M::Kept: Send,
     requires some { 0 < length jobs.old }
     ensures { IsSameWork jobs.old jobs.new }
 {

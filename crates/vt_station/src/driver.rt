@@ -1,6 +1,6 @@
 //! The turns of a worker.
 
-ghost use Rattle.std.specs.Prelude.{◌≡◌, IfErr, IfSome};
+ghost use Rattle.std.specs.Prelude.{◌≡◌, ◌≤◌, IfErr, IfSome};
 ghost use Rattle.vt_station.specs.Turns.{IsLasting, HasEnded};
 
 use crate::gate::Gate;
@@ -13,6 +13,9 @@ use vt_model::Model as EventModel;
 
 /// The most events that a worker executes in one turn.
 const MOST_EXECUTIONS: u32 = 16;
+
+/// The most turns without agreement that are told apart.
+const MOST_WAITED: u32 = 8;
 
 /// How the work of a worker ended.
 #[derive(Clone, Copy)]
@@ -35,6 +38,9 @@ pub(crate) struct Driver<'a, M: EventModel> {
     touched: Vec<u32>,
     // The floor of the last hand-in that was done.
     handed: Time,
+    // How many turns in a row got neither a cut nor a report done, as far as they are told apart: others lag behind.
+    waited: u32,
+    ghost told_apart: { waited ≤ 8 },
 }
 
 impl<'a, M: EventModel> Driver<'a, M> {
@@ -46,6 +52,7 @@ impl<'a, M: EventModel> Driver<'a, M> {
             worker,
             touched: Vec::new(alloc),
             handed: 0,
+            waited: 0,
         }
     }
 
@@ -113,12 +120,18 @@ impl<'a, M: EventModel> Driver<'a, M> {
         Ok(())
     }
 
+    /// How many events the next turn may execute: the longer others lag behind, the fewer, so that it won't have to undo many.
+    fn allowed(&self) -> u32 {
+        (MOST_EXECUTIONS >> (self.waited / 2)).max(1)
+    }
+
     /// Executes lawful events, the least first, and tells how many.
     fn execute_some<G: Gate>(&mut self, gate: &G, turn: u64) -> Result<u32, Fault>
         ensures same { self.new.worker.table ≡ self.old.worker.table }
         ensures lasting { IfErr result IsLasting }
     {
-        for done in 0..MOST_EXECUTIONS {
+        let most = self.allowed();
+        for done in 0..most {
             let Some(lp) = self.worker.kernel().next() else {
                 return Ok(done);
             };
@@ -127,7 +140,7 @@ impl<'a, M: EventModel> Driver<'a, M> {
                 return Ok(done);
             }
         }
-        Ok(MOST_EXECUTIONS)
+        Ok(most)
     }
 
     /// Sends to each worker that there are letters for.
@@ -220,7 +233,19 @@ impl<'a, M: EventModel> Driver<'a, M> {
         Ok(executed > 0)
     }
 
-    /// One turn. It gives the processor away where it did nothing that others don't have to help with.
+    /// Gives the processor away, twice as often each time, while others lag behind.
+    fn rest(&mut self)
+        ensures same { self.new.worker ≡ self.old.worker }
+    {
+        for _ in 0..(1u32 << self.waited) {
+            yield_now();
+        }
+        if self.waited < MOST_WAITED {
+            self.waited += 1;
+        }
+    }
+
+    /// One turn. At its end it gives the processor away where it executed nothing, or where neither cut nor report was done.
     fn turn<G: Gate>(&mut self, gate: &G, turn: u64) -> Result<(), Fault>
         ensures same { self.new.worker.table ≡ self.old.worker.table }
         ensures lasting { IfErr result IsLasting }
@@ -228,7 +253,12 @@ impl<'a, M: EventModel> Driver<'a, M> {
         let executed = self.work(gate, turn)?;
         let agreed = self.agree()?;
         self.commit_risen()?;
-        if !executed || !agreed {
+        if !agreed {
+            self.rest();
+            return Ok(());
+        }
+        self.waited = 0;
+        if !executed {
             yield_now();
         }
         Ok(())

@@ -11,6 +11,7 @@ ghost use Rattle.vt_steps.specs.Cells.{Cell, worker_of, cell_of, book_cell, act}
 ghost use Rattle.vt_steps.specs.Laws.{IsAny};
 ghost use Rattle.vt_station.specs.Slots.{cell_count, cell_at};
 ghost use Rattle.vt_station.specs.Kept.{Kept, Rests};
+ghost use Rattle.vt_station.specs.Commits.{CommitsTo, Commits};
 ghost use Rattle.vt_station.specs.Calls.{Took, Holding, Acts, MaySee, Reaches, Visited, Unvisited, Closes, ShowsFloor, seen_or};
 
 use crate::rule::{About, Aim, Law, Tell};
@@ -57,6 +58,14 @@ pub(crate) struct Visit<M: EventModel> {
     pub(crate) before: Snapshot<Kernel<M>>,
     pub(crate) left: Snapshot<Kernel<M>>,
     pub(crate) seen: Option<Time>,
+}
+
+/// A commit of a worker, with the kernel as it was lent, and the floor of the book as the commit left it.
+#[derive(Drop)]
+pub(crate) struct Lent<M: EventModel> {
+    pub(crate) worker: u32,
+    pub(crate) kernel: Snapshot<Kernel<M>>,
+    pub(crate) seen: Time,
 }
 
 /// A compare-exchange of 0 for 1. `_told` is for the caller's pick of the aim alone.
@@ -127,6 +136,22 @@ impl<M: EventModel> Station<M> {
         ensures stays { Unvisited seat.old.me.0 (seen_or seat.old.me.0.seen seen) seat.new.me.0 }
     {
         store::<M, Brand, Option<Time>>(&self.table.shared, seat, cell, &seen);
+    }
+
+    /// Gives the cell of the book back after a commit: the worker's steps stand behind all others, and its part is without what was
+    /// committed, which its kernel still keeps.
+    pub(crate) fn release_commit(&self, seat: &mut Seat<M>, cell: usize, lent: &Lent<M>)
+        requires table { seat.old.table_id ≡ self.now.table.shared.table_id }
+        requires near { cell < cell_count self.now.workers }
+        requires book { cell_at self.now.table.shared.key.config.workers cell ≡ book_cell }
+        requires worker { lent.now.worker ≡ seat.old.me.0.worker }
+        requires held { let key = self.now.table.shared.key in (found : Cell _) × (now : Cell _) × Holding key.config seat.old.me cell found now
+            × CommitsTo (M.handlers key.model.value) key.config lent.now.worker lent.now.kernel.value found now × ShowsFloor key.config.end lent.now.seen now }
+        requires kernel { let key = self.now.table.shared.key in Reaches (M.handlers key.model.value) key.config seat.old.me.0 lent.now.kernel.value }
+        ensures same { (seat.new.table_id ≡ seat.old.table_id) × (seat.new.id ≡ seat.old.id) × Rests seat.new.me }
+        ensures done { let key = self.now.table.shared.key in Commits (M.handlers key.model.value) key.config seat.old.me.0 lent.now.worker lent.now.kernel.value lent.now.seen seat.new.me.0 }
+    {
+        store::<M, Brand, Lent<M>>(&self.table.shared, seat, cell, lent);
     }
 
     /// Gives the cell of the book back closed.

@@ -1,11 +1,10 @@
 //! Two workers that exchange a straggler: the stretches of a run that the examples share.
 
+use crate::hand::Hand;
 use std::process::Abort;
 use vt_board::Report;
 use vt_key::Stamp;
 use vt_model::Record;
-use vt_models::Hop;
-use vt_station::Worker;
 
 pub(crate) fn record(time: u64, lp: u32, value: u64) -> Record {
     Record {
@@ -27,11 +26,7 @@ pub(crate) fn all_records() -> [Record; 4] {
 }
 
 /// The second worker runs ahead of what the first one sends it.
-pub(crate) fn run_ahead(
-    rt: &impl Abort,
-    first: &mut Worker<'_, Hop>,
-    second: &mut Worker<'_, Hop>,
-) {
+pub(crate) fn run_ahead(rt: &impl Abort, first: &mut Hand<'_>, second: &mut Hand<'_>) {
     assert_eq!(rt; first.home(), Ok(()));
     assert_eq!(rt; second.home(), Ok(()));
     assert_eq!(rt; second.execute(1), Ok(()));
@@ -41,11 +36,7 @@ pub(crate) fn run_ahead(
 }
 
 /// What was sent is a straggler: the second worker rolls back, and sends an anti-message, which the first one cancels.
-pub(crate) fn roll_back(
-    rt: &impl Abort,
-    first: &mut Worker<'_, Hop>,
-    second: &mut Worker<'_, Hop>,
-) {
+pub(crate) fn roll_back(rt: &impl Abort, first: &mut Hand<'_>, second: &mut Hand<'_>) {
     assert_eq!(rt; second.accept(0), Ok(()));
     assert_eq!(rt; second.undo(1), Ok(()));
     assert_eq!(rt; second.execute(1), Ok(()));
@@ -64,18 +55,14 @@ pub(crate) fn roll_back(
 }
 
 /// Both report, and the end of the run is announced. The first worker has cut already.
-pub(crate) fn agree(rt: &impl Abort, first: &mut Worker<'_, Hop>, second: &mut Worker<'_, Hop>) {
+pub(crate) fn agree(rt: &impl Abort, first: &mut Hand<'_>, second: &mut Hand<'_>) {
     assert_eq!(rt; second.cut(), Ok(()));
     assert_eq!(rt; first.report(), Ok(Report::Waiting));
     assert_eq!(rt; second.report(), Ok(Report::Announced(10)));
 }
 
 /// The first worker learns the floor, both commit, and the book is closed.
-pub(crate) fn commit_all(
-    rt: &impl Abort,
-    first: &mut Worker<'_, Hop>,
-    second: &mut Worker<'_, Hop>,
-) {
+pub(crate) fn commit_all(rt: &impl Abort, first: &mut Hand<'_>, second: &mut Hand<'_>) {
     assert_eq!(rt; first.cut(), Ok(()));
     assert_eq!(rt; first.commit(), Ok(()));
     assert_eq!(rt; first.records().expect(rt, "records").len(), 0);

@@ -5,6 +5,8 @@
 #[cfg(test)]
 mod driving;
 #[cfg(test)]
+mod hand;
+#[cfg(test)]
 mod refusals;
 #[cfg(test)]
 mod replay;

@@ -1,12 +1,13 @@
 //! Calls that are refused, and change nothing.
 
 use crate::driving::{agree, all_records, commit_all, roll_back, run_ahead};
+use crate::hand::Hand;
 use crate::workers_at;
 use std::rt::{self, HostRuntime};
 use vt_key::{Colour, Fault, Time};
 use vt_model::Config;
 use vt_models::Hop;
-use vt_station::{Station, Worker};
+use vt_station::Station;
 
 /// What is told of a worker: the lengths of its outbox and of what arrived, its serial, its colour, its counts of mail, white
 /// and red, and its red minimum and floor.
@@ -16,7 +17,7 @@ type Told = (
     (Time, Time),
 );
 
-fn told(worker: &Worker<'_, Hop>) -> Told {
+fn told(worker: &Hand<'_>) -> Told {
     let kernel = worker.kernel();
     (
         (kernel.outbox_len(), kernel.arrived_len(), kernel.serial()),
@@ -39,8 +40,8 @@ fn what_is_not_lawful_changes_nothing(rt: HostRuntime) {
     let mut workers = workers_at(rt.alloc(), &station, &model, config, places).expect(
         &rt, "memory",
     );
-    let mut second = workers.pop().expect(&rt, "a worker");
-    let mut first = workers.pop().expect(&rt, "a worker");
+    let mut second = Hand::of(workers.pop().expect(&rt, "a worker"));
+    let mut first = Hand::of(workers.pop().expect(&rt, "a worker"));
 
     // One letter is in the outbox, for a process of the worker itself.
     assert_eq!(rt; told(&first), ((1, 0, 1), (false, 0, 0, 0, 0), (10, 0)));
@@ -79,8 +80,8 @@ fn there_are_no_records_before_any_visit(rt: HostRuntime) {
     let mut workers = workers_at(rt.alloc(), &station, &model, config, places).expect(
         &rt, "memory",
     );
-    let mut second = workers.pop().expect(&rt, "a worker");
-    let mut first = workers.pop().expect(&rt, "a worker");
+    let mut second = Hand::of(workers.pop().expect(&rt, "a worker"));
+    let mut first = Hand::of(workers.pop().expect(&rt, "a worker"));
 
     assert_eq!(rt; first.records().expect(&rt, "records").len(), 0);
     assert_eq!(rt; second.records().expect(&rt, "records").len(), 0);

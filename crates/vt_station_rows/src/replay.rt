@@ -1,6 +1,7 @@
 //! Whole runs at a station.
 
 use crate::driving::{agree, all_records, commit_all, record, roll_back, run_ahead};
+use crate::hand::Hand;
 use crate::workers_at;
 use std::rt::{self, HostRuntime};
 use vt_board::Report;
@@ -17,8 +18,8 @@ fn a_straggler_is_rolled_back_and_all_is_committed(rt: HostRuntime) {
     let mut workers = workers_at(rt.alloc(), &station, &model, config, places).expect(
         &rt, "memory",
     );
-    let mut second = workers.pop().expect(&rt, "a worker");
-    let mut first = workers.pop().expect(&rt, "a worker");
+    let mut second = Hand::of(workers.pop().expect(&rt, "a worker"));
+    let mut first = Hand::of(workers.pop().expect(&rt, "a worker"));
 
     run_ahead(&rt, &mut first, &mut second);
     assert_eq!(rt; second.kernel().state(1).copied(), Some(2));
@@ -54,7 +55,7 @@ fn one_worker_alone(rt: HostRuntime) {
     let mut workers = workers_at(rt.alloc(), &station, &model, config, places).expect(
         &rt, "memory",
     );
-    let mut worker = workers.pop().expect(&rt, "a worker");
+    let mut worker = Hand::of(workers.pop().expect(&rt, "a worker"));
 
     assert_eq!(rt; worker.records().expect(&rt, "records").len(), 0);
     assert_eq!(rt; worker.home(), Ok(()));
@@ -83,8 +84,8 @@ fn nothing_is_committed_while_one_worker_has_not_committed(rt: HostRuntime) {
     let mut workers = workers_at(rt.alloc(), &station, &model, config, places).expect(
         &rt, "memory",
     );
-    let mut second = workers.pop().expect(&rt, "a worker");
-    let mut first = workers.pop().expect(&rt, "a worker");
+    let mut second = Hand::of(workers.pop().expect(&rt, "a worker"));
+    let mut first = Hand::of(workers.pop().expect(&rt, "a worker"));
 
     run_ahead(&rt, &mut first, &mut second);
     roll_back(&rt, &mut first, &mut second);

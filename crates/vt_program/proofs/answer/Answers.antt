@@ -15,7 +15,7 @@ pub returns-in-Run-clause-err : goal.returns-in-Run-clause-err
 returns-in-Run-clause-err g c =
     let words = map g.S.AsStr.text c.args.words.now in
     let asked = subst (λ (r : Request). IsAsked words r) c.in-Run.is c.in_ok-text.ensures.ok in
-    IfErr-weaker c.simulate.result _ _ (λ fault h. run_ends words c.in-Run.options _ _ _ fault asked h) c.simulate.ensures.err
+    IfErr-weaker c.simulate.result _ _ (λ fault h. run_ends words c.in-Run.options _ _ _ asked fault h) c.simulate.ensures.err
 
 pub returns-in-Replay-clause-ok : goal.returns-in-Replay-clause-ok
 returns-in-Replay-clause-ok g c =

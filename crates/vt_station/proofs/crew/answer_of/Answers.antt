@@ -16,8 +16,8 @@ pub returns-in-Some-clause-begun : goal.returns-in-Some-clause-begun
 returns-in-Some-clause-begun g c =
     let sim = simulation_of (g.M.Model.handlers c.args.model.now) c.args.config in
     elim c.match-into_records.branch [
-      in-Ok w ↦ subst (λ r. IfErr r (λ stopped. (t : Time) × (stopped.records.items ≡ seq_records sim t))) (sym w.result-is) tt
-    | in-Err w ↦ subst (λ r. IfErr r (λ stopped. (t : Time) × (stopped.records.items ≡ seq_records sim t))) (sym w.result-is) (opening_time, w.stop_with.ensures.1 ∙ none-at-first sim)
+      | in-Ok w ↦ subst (λ r. IfErr r (λ stopped. (t : Time) × (stopped.records.items ≡ seq_records sim t))) (sym w.result-is) tt
+      | in-Err w ↦ subst (λ r. IfErr r (λ stopped. (t : Time) × (stopped.records.items ≡ seq_records sim t))) (sym w.result-is) (opening_time, w.stop_with.ensures.1 ∙ none-at-first sim)
     ]
 
 pub returns-clause-begun : goal.returns-clause-begun
@@ -28,4 +28,4 @@ returns-clause-begun g c =
     let of-model = subst (λ (m : g.row.M.Denot). IfOk shown.result (λ v. (floor : Time) × (v.items ≡ seq_records (simulation_of (g.M.Model.handlers m) job.config) floor) × (job.outcome ≡ Some Closed → floor ≡ job.config.end))) told.0 shown.ensures.shown in
     let of-config = subst (λ (k : Config). IfOk shown.result (λ v. (floor : Time) × (v.items ≡ seq_records (simulation_of (g.M.Model.handlers c.args.model.now) k) floor) × (job.outcome ≡ Some Closed → floor ≡ k.end))) told.1 of-model in
     stop-records (simulation_of (g.M.Model.handlers c.args.model.now) c.args.config) (λ v. v.items) shown.result c.stop_with-2.result.records.items
-        (λ floor. job.outcome ≡ Some Closed → floor ≡ c.args.config.end) (λ v. c.stop_with-2.result.fault ≡ c.fault_of-fault.result) (λ refused. c.stop_with-2.result.fault ≡ refused) of-config c.stop_with-2.ensures
+    (λ floor. job.outcome ≡ Some Closed → floor ≡ c.args.config.end) (λ v. c.stop_with-2.result.fault ≡ c.fault_of-fault.result) (λ refused. c.stop_with-2.result.fault ≡ refused) of-config c.stop_with-2.ensures

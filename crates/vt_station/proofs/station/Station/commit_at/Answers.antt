@@ -7,18 +7,20 @@ use Rattle.vt_model.proofs.LawLemmas.{lawful_of}
 use Rattle.vt_steps.specs.declared.step.Step.TheVariants.{Commit}
 use Rattle.vt_steps.specs.declared.step.Reply.TheVariants.{Done}
 use Rattle.vt_steps.specs.World.{Part, Book, book_floor}
-use Rattle.vt_steps.specs.PartSteps.{rows_of_commit}
+use Rattle.vt_steps.specs.PartSteps.{part_after_commit, rows_of_commit}
 use Rattle.vt_steps.specs.BookSteps.{may_commit, with_rows}
 use Rattle.vt_steps.specs.Cells.{in_book}
 use Rattle.vt_steps.specs.Marked.{shown, has_closed, answered}
 use Rattle.vt_steps.proofs.OwnCloses.{closed-known}
 use Rattle.vt_kernel.specs.Held.{HeldWorker, StandsFor}
 use Rattle.vt_book.specs.Books.{may_hand}
-use Rattle.vt_station.specs.Calls.{Acts, Holding, IsCommitRefusal, IsFloorLeft, ShowsFloor, Visited}
+use Rattle.vt_station.specs.Calls.{Holding, IsCommitRefusal, IsFloorLeft, ShowsFloor, Visited}
+use Rattle.vt_station.specs.Commits.{CommitsTo}
 use Rattle.vt_station.proofs.HeldLemmas.{held-book}
-use Rattle.vt_station.proofs.CallLemmas.{took-book, took-place, visited-held}
+use Rattle.vt_station.proofs.CallLemmas.{took-book, took-place}
+use Rattle.vt_station.proofs.CommitRelease.{committed-visited}
 use Rattle.vt_station.proofs.RefusalLemmas as refusal
-use Rattle.vt_station.proofs.CommitAt.{handed-is, ok-more, hand-lawful, may-there, commit-acts, commit-left, refused-closed, refused-memory, once-closed}
+use Rattle.vt_station.proofs.CommitAt.{handed-is, ok-more, hand-lawful, commit-moves, commit-left, refused-closed, refused-memory, once-closed}
 use Rattle.vt_station.proofs.station.Station.commit_at.Goals as goal
 
 pub hand_in-requires-clause-held : goal.hand_in-requires-clause-held
@@ -36,14 +38,14 @@ hand_in-requires-clause-held g c κs within =
     let book = (shown sim t.known.log).book in (
       book,
       took-book sim key.config c.args.seat.now.me c.claim.new.seat.me (c.args.self.now.workers + 1) c.requires.rests t (omega arith),
-      λ open_is. ok-more c.rows-rows.result (λ x. x.items ≡ rows_of_commit (simulation_of H k.config) k.worker r.part) (λ x. may_hand (record { end = key.config.end; book = book }) c.args.worker x.items c.floor-floor.result ≡ true)
-          (λ x is. ap (λ w. may_hand (record { end = key.config.end; book = book }) w x.items c.floor-floor.result) (sym c.requires.worker)
-          ∙ hand-lawful H key.config lawful v (c.args.self.now.workers + 1) _ t.known k r x.items c.floor-floor.result c.floor-floor.ensures is)
-          (c.rows-rows.ensures.rows H r.part r.stands),
+      λ open_is. ok-more c.batch_of-batch.result (λ x. x ≡ rows_of_commit (simulation_of H k.config) k.worker r.part) (λ x. may_hand (record { end = key.config.end; book = book }) c.args.worker x c.floor-floor.result ≡ true)
+          (λ x is. ap (λ w. may_hand (record { end = key.config.end; book = book }) w x c.floor-floor.result) (sym c.requires.worker)
+          ∙ hand-lawful H key.config lawful v (c.args.self.now.workers + 1) _ t.known k r x c.floor-floor.result c.floor-floor.ensures is)
+          (c.batch_of-batch.ensures.rows H r.part r.stands),
     )
 
-pub release_visit-requires-clause-held : goal.release_visit-requires-clause-held
-release_visit-requires-clause-held g c κs within =
+pub release_commit-requires-clause-held : goal.release_commit-requires-clause-held
+release_commit-requires-clause-held g c κs within =
     let key = c.args.self.now.table.shared.key in
     let m = key.model.value in
     let H = g.M.Model.handlers m in
@@ -62,18 +64,15 @@ release_visit-requires-clause-held g c κs within =
     let d = c.in-Ok.ensures.done in
     let rows = d.2.0 in
     let same : book ≡ d.0 = held-book key.config c.claim.new.seat.me cell book d.0 _ _ took d.1 in
-    let acts : Acts H key.config (Commit v.worker) Done k (in_book book) c.fossil.new.self (in_book (with_rows v.worker rows floor book)) =
-    commit-acts H key.config lawful v cell _ t.known k r rows floor c.fossil.new.self (ap (λ (b : Book). b.is_closed) same ∙ d.2.2) c.floor-floor.ensures
-    (λ part s. handed-is c.rows-rows.result (λ x. x.items) rows (rows_of_commit (simulation_of H k.config) k.worker part) d.2.1 (c.rows-rows.ensures.rows H part s))
-    (λ part s. c.fossil.ensures.stands H part s) (ap (λ (h : HeldWorker _ _ _). h.worker) c.fossil.ensures.others) (ap (λ (h : HeldWorker _ _ _). h.config) c.fossil.ensures.others) in
-    let moved : Acts H key.config (Commit w) Done k (in_book d.0) c.fossil.new.self (in_book (with_rows w rows floor d.0)) =
-    subst (λ (b : Book). Acts H key.config (Commit w) Done k (in_book b) c.fossil.new.self (in_book (with_rows w rows floor b))) same
-    (subst (λ (u : ℕ). Acts H key.config (Commit u) Done k (in_book book) c.fossil.new.self (in_book (with_rows u rows floor book))) c.requires.worker acts) in (
+    let moves = commit-moves H key.config lawful v cell _ t.known k r rows floor (ap (λ (b : Book). b.is_closed) same ∙ d.2.2) c.floor-floor.ensures
+    (λ part s. handed-is c.batch_of-batch.result (λ x. x) rows (rows_of_commit (simulation_of H k.config) k.worker part) d.2.1 (c.batch_of-batch.ensures.rows H part s)) in
+    let moved : CommitsTo H key.config w k (in_book d.0) (in_book (with_rows w rows floor d.0)) =
+    subst (λ (b : Book). CommitsTo H key.config w k (in_book b) (in_book (with_rows w rows floor b))) same
+    (subst (λ (u : ℕ). CommitsTo H key.config u k (in_book book) (in_book (with_rows u rows floor book))) c.requires.worker moves) in (
       in_book d.0,
       in_book (with_rows w rows floor d.0),
       d.2.3,
-      subst (λ (h : HeldWorker _ _ _). Acts H key.config (Commit w) Done h (in_book d.0) c.of.result.value (in_book (with_rows w rows floor d.0))) (sym c.of-before.ensures)
-          (subst (λ (h : HeldWorker _ _ _). Acts H key.config (Commit w) Done k (in_book d.0) h (in_book (with_rows w rows floor d.0))) (sym c.of.ensures) moved),
+      subst (λ (h : HeldWorker _ _ _). CommitsTo H key.config w h (in_book d.0) (in_book (with_rows w rows floor d.0))) (sym c.of.ensures) moved,
       (let low = d.2.4 in omega arith),
     )
 
@@ -98,14 +97,18 @@ returns-in-Ok-clause-done g c =
     let rows = d.2.0 in
     let same : book ≡ d.0 = held-book key.config c.claim.new.seat.me cell book d.0 _ _ took d.1 in
     let place = took-place sim key.config c.args.seat.now.me c.claim.new.seat.me cell c.requires.rests t in
-    let after = c.release_visit.new.seat.me.0 in
-    let visited = visited-held H key.config v c.hand_in.new.seat.me.0 c.of-before.result.value c.of.result.value (Commit w) Done c.in-Ok.shown after (place.0, c.in-Ok.ensures.same.2 ∙ place.1) c.release_visit.ensures.done in (
+    let after = c.release_commit.new.seat.me.0 in
+    let lent = c.of.result.value in
+    let left = c.fossil.new.self in
+    let stands = subst (λ (h : HeldWorker _ _ _). (part : Part _) → StandsFor H h part → StandsFor H left (part_after_commit part)) (sym c.of.ensures) (λ part s. c.fossil.ensures.stands H part s) in
+    let visited = committed-visited H key.config v c.hand_in.new.seat.me.0 w lent left c.in-Ok.shown after (place.0, c.in-Ok.ensures.same.2 ∙ place.1) c.release_commit.ensures.done stands
+    (ap (λ (h : HeldWorker _ _ _). h.worker) (c.fossil.ensures.others) ∙ ap (λ (h : HeldWorker _ _ _). h.worker) (sym c.of.ensures))
+    (ap (λ (h : HeldWorker _ _ _). h.config) (c.fossil.ensures.others) ∙ ap (λ (h : HeldWorker _ _ _). h.config) (sym c.of.ensures)) in (
       c.in-Ok.shown,
-      subst (λ (h : HeldWorker _ _ _). Visited H key.config v h (Commit w) Done c.fossil.new.self c.in-Ok.shown after) c.of-before.ensures
-          (subst (λ (h : HeldWorker _ _ _). Visited H key.config v c.of-before.result.value (Commit w) Done h c.in-Ok.shown after) c.of.ensures visited),
+      subst (λ (h : HeldWorker _ _ _). Visited H key.config v h (Commit w) Done left c.in-Ok.shown after) c.of.ensures visited,
       subst (λ (u : ℕ). IsFloorLeft sim v (Commit u) c.in-Ok.shown) c.requires.worker
           (commit-left H key.config lawful v cell _ t.known k r rows floor c.in-Ok.shown (ap (λ (b : Book). b.is_closed) same ∙ d.2.2) c.floor-floor.ensures
-          (handed-is c.rows-rows.result (λ x. x.items) rows (rows_of_commit (simulation_of H k.config) k.worker r.part) d.2.1 (c.rows-rows.ensures.rows H r.part r.stands))
+          (handed-is c.batch_of-batch.result (λ x. x) rows (rows_of_commit (simulation_of H k.config) k.worker r.part) d.2.1 (c.batch_of-batch.ensures.rows H r.part r.stands))
           (d.2.4 ∙ (λ i. book_floor key.config.end (with_rows (sym c.requires.worker i) rows floor (sym same i))))),
     )
 
@@ -124,8 +127,8 @@ returns-in-Ok-clause-closed g c = λ h.
     let e : true ≡ false = sym closed ∙ ap (λ (b : Book). b.is_closed) same ∙ d.2.2 in
     absurd cc)
 
-pub returns-clause-refused : goal.returns-clause-refused
-returns-clause-refused g c =
+pub returns-in-Err-clause-refused : goal.returns-in-Err-clause-refused
+returns-in-Err-clause-refused g c =
     let key = c.args.self.now.table.shared.key in
     let m = key.model.value in
     let H = g.M.Model.handlers m in
@@ -147,8 +150,8 @@ returns-clause-refused g c =
       | inr x ↦ subst (IsCommitRefusal sim v) (sym x.0) (refused-memory H key.config lawful v cell _ t.known k r (closed ∙ x.1))
     ]
 
-pub returns-clause-closed : goal.returns-clause-closed
-returns-clause-closed g c = λ h.
+pub returns-in-Err-clause-closed : goal.returns-in-Err-clause-closed
+returns-in-Err-clause-closed g c = λ h.
     (let key = c.args.self.now.table.shared.key in
     let sim = simulation_of (g.M.Model.handlers key.model.value) key.config in
     let counted = c.args.self.now.counted in

@@ -1,0 +1,127 @@
+use crate::tests::{SIX_LINES, expect, run_within};
+use std::process::Abort;
+use std::test::Fail;
+use std::thread::Threads;
+
+/// What is told of a run whose turns don't reach its end.
+const TURNS_SPENT: &str = "twarp: refused 6 turns spent\n";
+
+/// What two turns of a single worker commit of the default run.
+const FOUR_LINES: &str = "1 0 1 1\n2 1 1 2\n3 1 1 513\n4 0 1 258\n";
+
+/// Asserts that a run in threads prints the same as a sequential one, with one, two and three workers.
+fn expect_same(
+    rt: &(impl Abort + AllocGlobal + Threads + Sync),
+    options: &str,
+    out: &str,
+) -> Result<(), Fail> {
+    for synch in ["1", "3 --workers 1", "3 --workers 2", "3 --workers 3"] {
+        let line = format!(in rt.alloc(); "twarp run {options} --synch {synch}")?;
+        expect(rt, line.as_str(), 0, out, "")?;
+    }
+    Ok(())
+}
+
+#[test]
+fn threads_print_the_records_of_the_default_run(rt: HostRuntime) -> Result<(), Fail> {
+    expect_same(&rt, "", SIX_LINES)?;
+    expect_same(&rt, "--seed 7 --turns 1000", SIX_LINES)
+}
+
+#[test]
+fn keys_decide_among_events_of_one_time_in_threads(rt: HostRuntime) -> Result<(), Fail> {
+    let two = "1 0 1 1\n2 1 1 1\n2 1 1 258\n3 0 1 258\n";
+    expect_same(&rt, "--hops 1 --delay 1", two)?;
+    let three = "1 0 1 1\n2 2 1 1\n2 1 1 2\n";
+    expect_same(&rt, "--hops 1 --delay 1 --lps 3 --stride 2 --end 3", three)
+}
+
+#[test]
+fn threads_end_at_the_end_of_virtual_time(rt: HostRuntime) -> Result<(), Fail> {
+    expect_same(&rt, "--end 4", "1 0 1 1\n2 1 1 2\n3 1 1 513\n")?;
+    expect_same(&rt, "--end 1", "")?;
+    expect_same(&rt, "--lps 1 --hops 0 --end 2", "1 0 1 1\n")
+}
+
+#[test]
+fn events_of_phold_schedule_each_other_in_threads(rt: HostRuntime) -> Result<(), Fail> {
+    let six = "3 0 2 1\n3 1 2 1\n6 0 2 2\n6 1 2 2\n9 0 2 3\n9 1 2 3\n";
+    expect_same(&rt, "--model phold --lookahead 3", six)
+}
+
+#[test]
+fn jobs_queue_at_stations_in_threads(rt: HostRuntime) -> Result<(), Fail> {
+    let two_jobs = "1 0 4 1\n2 0 3 2\n2 0 4 2\n3 0 3 2\n3 0 4 3\n4 0 3 2\n4 0 4 4\n";
+    expect_same(&rt, "--model stations --lps 1 --jobs 2 --end 5", two_jobs)
+}
+
+#[test]
+fn one_turn_commits_nothing(rt: HostRuntime) -> Result<(), Fail> {
+    let line = "twarp run --synch 3 --workers 2 --turns 1";
+    expect(&rt, line, 1, "", TURNS_SPENT)
+}
+
+#[test]
+fn two_turns_commit_four_records(rt: HostRuntime) -> Result<(), Fail> {
+    let line = "twarp run --synch 3 --workers 1 --turns 2";
+    expect(&rt, line, 1, FOUR_LINES, TURNS_SPENT)
+}
+
+#[test]
+fn turns_that_are_spent_leave_a_beginning(rt: HostRuntime) -> Result<(), Fail> {
+    let lines = SIX_LINES.as_bytes();
+    for turns in 1..51 {
+        let line = format!(in rt.alloc(); "twarp run --synch 3 --workers 2 --turns {turns}")?;
+        let outcome = run_within(&rt, line.as_str(), 100_000, 100_000)?;
+        let out = outcome.out.as_slice();
+        if outcome.status == 0 {
+            assert!(rt; out == lines && outcome.err.is_empty(), "{turns}");
+        } else {
+            assert_eq!(rt; outcome.status, 1, "{turns}");
+            assert!(rt;
+                lines.starts_with(out) && (out.is_empty() || out.ends_with(b"\n")),
+                "{turns}"
+            );
+            assert!(rt; outcome.err.as_slice() == TURNS_SPENT.as_bytes(), "{turns}");
+        }
+    }
+    Ok(())
+}
+
+#[test]
+fn a_full_writer_is_told_and_not_the_turns(rt: HostRuntime) -> Result<(), Fail> {
+    let text = FOUR_LINES.as_bytes();
+    assert_eq!(rt; text.len(), 36);
+    for room in 0..36 {
+        let line = "twarp run --synch 3 --workers 1 --turns 2";
+        let outcome = run_within(&rt, line, room, 100)?;
+        assert_eq!(rt; outcome.status, 1, "{room}");
+        assert!(rt;
+            outcome.out.len() == room && text.starts_with(outcome.out.as_slice()),
+            "{room}"
+        );
+        assert!(rt;
+            outcome.err.as_slice() == b"twarp: refused 9 output\n".as_slice(),
+            "{room}"
+        );
+    }
+    Ok(())
+}
+
+#[test]
+fn a_full_writer_leaves_a_beginning_of_the_whole_run(rt: HostRuntime) -> Result<(), Fail> {
+    let text = SIX_LINES.as_bytes();
+    for room in 0..61 {
+        let outcome = run_within(&rt, "twarp run --synch 3 --workers 2", room, 100)?;
+        assert_eq!(rt; outcome.status, 1, "{room}");
+        assert!(rt;
+            outcome.out.len() == room && text.starts_with(outcome.out.as_slice()),
+            "{room}"
+        );
+        assert!(rt;
+            outcome.err.as_slice() == b"twarp: refused 9 output\n".as_slice(),
+            "{room}"
+        );
+    }
+    Ok(())
+}

@@ -1,0 +1,76 @@
+-- The release of the book after a commit, and the place once its kernel has forgotten what was committed.
+use Rattle.std.proofs.Common.{◌≡◌, ◌⊎◌, inr, ℕ, ◌<◌, List, [], ◌∷◌, ◌++◌, refl, sym, subst}
+use Rattle.atomic_table.specs.Table.{Allows}
+use Rattle.vt_key.specs.Times.{Time, TimeAtMost}
+use Rattle.vt_model.specs.Handler.{Handlers}
+use Rattle.vt_model.specs.Histories.{IsLawful}
+use Rattle.vt_model.specs.declared.settings.Config.{Config}
+use Rattle.vt_model.specs.Simulation.{Simulation, simulation_of}
+use Rattle.vt_steps.specs.declared.step.Step.TheVariants.{Commit}
+use Rattle.vt_steps.specs.declared.step.Reply.TheVariants.{Done}
+use Rattle.vt_steps.specs.World.{Part}
+use Rattle.vt_steps.specs.PartSteps.{part_after_commit}
+use Rattle.vt_steps.specs.Cells.{book_cell, Cell}
+use Rattle.vt_steps.specs.Marked.{Made, made_done, Leads}
+use Rattle.vt_steps.proofs.LocalLeads.{leads}
+use Rattle.vt_kernel.specs.Held.{HeldWorker, StandsFor}
+use Rattle.vt_station.specs.declared.view.View.{View}
+use Rattle.vt_station.specs.Slots.{cell_count, cell_at}
+use Rattle.vt_station.specs.Kept.{Sat, Kept}
+use Rattle.vt_station.specs.Calls.{Reaches, Visited, Holding, ShowsFloor}
+use Rattle.vt_station.specs.Commits.{CommitsTo, Commits}
+use Rattle.vt_station.proofs.CallLemmas.{WithHand}
+use Rattle.vt_station.proofs.Keeps.{releases}
+use Rattle.vt_station.proofs.Releases.{steps-lead}
+
+module _ {S P K : Type 0} (handlers : Handlers S P K) (config : Config) where
+  -- after local steps and a commit
+  pub leaves-committed : IsLawful (simulation_of handlers config) → (slots id k : ℕ) (m : Sat P) (worker : ℕ) (seen : Time) (found now : Cell P) (lent : HeldWorker S P K) → k < cell_count config.workers
+      → worker ≡ m.0.worker → cell_at config.workers k ≡ book_cell → Holding config m k found now → CommitsTo handlers config worker lent found now → ShowsFloor config.end seen now → Reaches handlers config m.0 lent
+      → Allows (Kept (simulation_of handlers config) config) slots id m k (λ _. 0) (λ _. (λ (n : ℕ) (after : Sat P). (after.1 ≡ []) × Commits handlers config m.0 worker lent seen after.0) 0)
+  leaves-committed lawful slots id k m worker seen found now lent near whose at h does sees way =
+      let sim = simulation_of handlers config in
+      let left = part_after_commit way.part in
+      let own : List Made = made_done way.steps ++ record { step = Commit worker; reply = Done } ∷ [] in
+      let goes : Leads sim m.0.worker (cell_at sim.workers k) m.0.part found (way.steps ++ Commit worker ∷ []) left now own =
+      leads sim m.0.worker (cell_at sim.workers k) way.steps (Commit worker) m.0.part way.part left found now Done (steps-lead sim m.0.worker way.steps m.0.part way.part way.led) whose (sym at) (does way.part way.stands) in
+      releases sim config lawful slots id k m found h.slot (way.steps ++ Commit worker ∷ []) left own seen
+      (λ (n : ℕ) (after : Sat P). (after.1 ≡ []) × Commits handlers config m.0 worker lent seen after.0) near h.carried h.hand h.right
+      (subst (λ (c : Cell P). Leads sim m.0.worker (cell_at sim.workers k) m.0.part found (way.steps ++ Commit worker ∷ []) left c own) (sym h.now_is) goes)
+      (inr (subst (λ (c : Cell P). ShowsFloor sim.end seen c) (sym h.now_is) sees))
+      (λ n. (
+        refl,
+        record {
+          steps = way.steps;
+          part = way.part;
+          led = way.led;
+          stood = way.stands;
+          mine = refl;
+          gone = refl;
+          same = record { worker = refl; made = refl; waiting = refl };
+          floor = refl;
+          rests = refl;
+        },
+      ))
+
+  -- once the kernel stands for the part without what was committed, the place was visited
+  pub committed-visited : (v w : View P) (worker : ℕ) (lent left : HeldWorker S P K) (seen : Time) (after : View P) → WithHand v w → Commits handlers config w worker lent seen after →
+      ((part : Part P) → StandsFor handlers lent part → StandsFor handlers left (part_after_commit part)) → left.worker ≡ lent.worker → left.config ≡ lent.config →
+      Visited handlers config v lent (Commit worker) Done left seen after
+  committed-visited v w worker lent left seen after h r forgets same_worker same_config =
+      let x : Commits handlers config (record v { hand = h.0 }) worker lent seen after = subst (λ (y : View P). Commits handlers config y worker lent seen after) h.1 r in
+      record {
+        visits = record {
+          steps = x.steps;
+          part = x.part;
+          led = x.led;
+          stood = x.stood;
+          mine = x.mine;
+          stands = subst (StandsFor handlers left) (sym x.gone) (forgets x.part x.stood);
+          worker = same_worker;
+          config_is = same_config;
+        };
+        same = record { worker = x.same.worker; made = x.same.made; waiting = x.same.waiting };
+        floor = x.floor;
+        rests = x.rests;
+      }
