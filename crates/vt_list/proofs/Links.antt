@@ -1,7 +1,7 @@
 -- What becomes of links where nodes are joined and parted.
 use Rattle.std.proofs.Common.{◌≡◌, refl, sym, ap, ◌∙◌, subst, arith}
-use Rattle.std.specs.Prelude.{◌-◌, ◌<◌, List, [], ◌∷◌, ◌++◌, length, take, drop, Option, Some, None, slice_index_or}
-use Rattle.std.proofs.lemmas.List.{take_at, drop_at, length-append, append_assoc, map-append}
+use Rattle.std.specs.Prelude.{◌-◌, ◌<◌, List, [], ◌∷◌, ◌++◌, length, take, drop, reverse, Option, Some, None, slice_index_or}
+use Rattle.std.proofs.lemmas.List.{take_at, drop_at, length-append, append_assoc, map-append, reverse-append}
 use denote.RawPtr.{Ptr}
 use Rattle.vt_list.specs.Blocks.{place_at}
 use Rattle.vt_list.specs.declared.node.Node.{Node}
@@ -240,3 +240,26 @@ module _ {X : Type 0} where
         last_is = ap (λ n. n.prev) same ∙ (back-back None l.front ((p, l.content) ∷ []) whole.back).0 ∙ ap (last_or None) (sym f);
         next_is = ap (first_or None) (sym e);
       }
+
+  -- ---- all but the last
+
+  read-snoc : (b d : NodeAt X) (bs : List (NodeAt X)) → slice_index_or (bs ++ b ∷ []) (length bs) d ≡ b
+  read-snoc b d [] = refl
+  read-snoc b d (c ∷ bs) = read-snoc b d bs
+
+  -- without the last node, which was read: it leads back to the last that is left, all lead back as before, and its item is
+  -- the first from the back
+  pub without-last : (p : Ptr) (bs front : List (NodeAt X)) (node : Node X) → last_or None bs ≡ Some p → LeadBack None bs → front ≡ take (length bs - 1) bs
+      → node ≡ (slice_index_or bs (length bs - 1) (p, node)).1 → (node.prev ≡ last_or None front) × LeadBack None front × (reverse (items bs) ≡ node.item ∷ reverse (items front))
+  without-last p bs front node at back front_is read =
+      let l = last-of p bs at in
+      let f : front ≡ l.front = front_is ∙ take-last p bs l in
+      let same : node ≡ l.content =
+      read ∙ ap (λ k. (slice_index_or bs k (p, node)).1) (sym (one-less p bs l)) ∙ ap (λ (cs : List (NodeAt X)). (slice_index_or cs (length l.front) (p, node)).1) l.is
+      ∙ ap (λ (b : NodeAt X). b.1) (read-snoc (p, l.content) (p, node) l.front) in
+      let whole : LeadBack None (l.front ++ (p, l.content) ∷ []) = subst (LeadBack None) l.is back in (
+        ap (λ n. n.prev) same ∙ (back-back None l.front ((p, l.content) ∷ []) whole).0 ∙ ap (last_or None) (sym f),
+        subst (LeadBack None) (sym f) (back-front None l.front ((p, l.content) ∷ []) whole),
+        ap (λ (cs : List (NodeAt X)). reverse (items cs)) l.is ∙ ap reverse (items-append l.front ((p, l.content) ∷ [])) ∙ reverse-append (items l.front) (l.content.item ∷ [])
+            ∙ (λ i. (sym same i).item ∷ reverse (items (sym f i))),
+      )

@@ -1,7 +1,7 @@
 -- Blocks that are owned: how owning some is joined to owning others and taken apart, and how a value of the type that
 -- owns them looks to the machine. Assumes `Logic`.
 use Rattle.std.proofs.Common.{◌≡◌, List, [], ◌∷◌, ◌++◌, refl, ap, arith}
-use Rattle.std.specs.Prelude.{ℕ, zero, suc, ◌<◌, length, drop as dropped, slice_index_or}
+use Rattle.std.specs.Prelude.{ℕ, zero, suc, ◌<◌, length, take, drop as dropped, slice_index_or}
 use seplogic.Ra.Ura.{Ura}
 use mir.Val.{Val, vstruct, vcons, vnil}
 use base.Logic.{ent, sep, emp, via, fst∗, snd∗, id⊢}
@@ -80,6 +80,14 @@ module _ {M : Type 1} {𝓤 : Ura M} (𝓛 : Logic 𝓤) (R : RattleType) where
     pub seen-rest : (bs : List (Ptr × R.Denot)) → ent 𝓤 (sem 𝓛 (Lent bs)) (sem 𝓛 (Lent (dropped 1 bs)))
     seen-rest [] = id⊢ 𝓤 _
     seen-rest (b ∷ bs) = snd∗ 𝓤 (sem 𝓛 (Seen b)) (sem 𝓛 (Lent bs))
+
+    -- and one to the first n
+    pub seen-take : (n : ℕ) (bs : List (Ptr × R.Denot)) → ent 𝓤 (sem 𝓛 (Lent bs)) (sem 𝓛 (Lent (take n bs)))
+    seen-take zero bs = qed 𝓛 (‵ (Lent bs) ∷ []) ∵ drop ! $ nothing ! $ done !
+    seen-take (suc n) [] = id⊢ 𝓤 _
+    seen-take (suc n) (b ∷ bs) =
+        qed 𝓛 (‵ (Lent (b ∷ bs)) ∷ []) ∵ fsplit ! $
+        move ! (1 ∷ []) $ use1 𝓛 (‵ (Lent (take n bs))) (seen-take n bs) $ move ! (1 ∷ 0 ∷ []) $ fjoin ! $ done !
 
 -- ---- pairs
 

@@ -1,6 +1,6 @@
 //! Going over the items of a list.
 
-ghost use Rattle.std.specs.Prelude.{◌≡◌, length};
+ghost use Rattle.std.specs.Prelude.{◌≡◌, length, reverse};
 ghost use Rattle.std.specs.Iterator.{at_most};
 ghost use Rattle.std_collections.specs.Map.Iter.{TakesFirst, deref};
 
@@ -50,6 +50,51 @@ impl<'a, T> Iterator for Iter<'a, T> {
         let node = self.left.get(at);
         self.next = node.next;
         self.left = self.left.rest();
+        Some(&node.item)
+    }
+}
+
+/// Goes over the items of a list from the back. A clause sees the items that are left, the last first.
+#[derive(Drop)]
+pub struct IterBack<'a, T> {
+    next: Option<*mut Node<T>>,
+    left: &'a Blocks<Node<T>>,
+}
+
+impl<'a, T> Model for IterBack<'a, T> {
+    ghost use Rattle.std.specs.Prelude.{◌≡◌, List, None, reverse};
+    ghost use Rattle.vt_list.specs.Linked.{last_or, items, LeadBack};
+
+    ghost Value = { List T };
+
+    ghost view = { λ i. reverse (items i.left.now.owned) };
+
+    ghost invariant = { λ i. (i.next ≡ last_or None i.left.now.owned) × LeadBack None i.left.now.owned };
+}
+
+impl<'a, T> IterBack<'a, T> {
+    pub(crate) fn over(chain: &'a Chain<T>) -> IterBack<'a, T>
+        ensures { result ≡ reverse chain.now }
+    {
+        IterBack {
+            next: chain.tail,
+            left: &chain.nodes,
+        }
+    }
+}
+
+impl<'a, T> Iterator for IterBack<'a, T> {
+    type Item = &'a T;
+
+    ghost next_gives = { TakesFirst deref };
+
+    ghost remaining = { λ s. at_most (length s) };
+
+    fn next(&mut self) -> Option<&'a T> {
+        let at = self.next?;
+        let node = self.left.get(at);
+        self.next = node.prev;
+        self.left = self.left.front();
         Some(&node.item)
     }
 }

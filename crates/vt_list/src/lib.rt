@@ -10,7 +10,7 @@
 //! | Call | Time |
 //! |---|---|
 //! | `push_front`, `push_back`, `pop_front`, `pop_back`, `append`, `len`, `is_empty`, `front`, `back` | constant |
-//! | `get`, `remove`, `find`, `remove_first`, `insert_ordered` | the number of items that are passed over |
+//! | `get`, `remove`, `find`, `find_back`, `remove_first`, `insert_ordered` | the number of items that are passed over |
 //! | dropping a list | the number of items, in a loop and on constant stack |
 //!
 //! Lists have no bound on their length that a caller could state, so nothing here counts positions, an end is told by a
@@ -36,7 +36,7 @@ mod node;
 mod parcel;
 mod predicate;
 
-pub use iter::Iter;
+pub use iter::{Iter, IterBack};
 pub use list::List;
 pub use parcel::Parcel;
 pub use predicate::Predicate;

@@ -1,13 +1,13 @@
 //! Lists.
 
-ghost use Rattle.std.specs.Prelude.{◌≡◌, ◌-◌, ◌<◌, ◌%◌, ◌^◌, ◌↔◌, [], ◌∷◌, ◌++◌, length, slice_get, find, remove, MatchOption, IsTrue};
+ghost use Rattle.std.specs.Prelude.{◌≡◌, ◌-◌, ◌<◌, ◌%◌, ◌^◌, ◌↔◌, [], ◌∷◌, ◌++◌, length, slice_get, find, remove, reverse, MatchOption, IsTrue};
 ghost use Rattle.std.specs.Option.{option_copied};
 ghost use Rattle.vt_list.specs.First.{without_first};
 ghost use Rattle.vt_list.specs.Ordered.{insert_ordered};
 
 use crate::chain::Chain;
 use crate::cursor::{split_at, split_at_first, take_first, take_last};
-use crate::iter::Iter;
+use crate::iter::{Iter, IterBack};
 use crate::parcel::Parcel;
 use crate::predicate::Predicate;
 use std::alloc::Global;
@@ -163,6 +163,13 @@ impl<T> List<T> {
         Iter::over(&self.chain)
     }
 
+    /// Goes over the items from the back.
+    pub fn iter_back(&self) -> IterBack<'_, T>
+        ensures { result ≡ reverse self.now }
+    {
+        IterBack::over(&self.chain)
+    }
+
     /// The first item.
     pub fn front(&self) -> Option<&T>
         ensures { option_copied result ≡ slice_get self.now 0 }
@@ -191,6 +198,18 @@ impl<T> List<T> {
         for item in self.iter() {
             if test.test(item) {
                 return Some(item);
+            }
+        }
+        None
+    }
+
+    /// The last item that passes the test. It walks there from the back.
+    pub fn find_back<P: Predicate<T>>(&self, test: &P) -> Option<&T>
+        ensures { option_copied result ≡ find (P.passes test.now) (reverse self.now) }
+    {
+        for candidate in self.iter_back() {
+            if test.test(candidate) {
+                return Some(candidate);
             }
         }
         None

@@ -32,6 +32,19 @@ impl Predicate<u32> for Is {
     }
 }
 
+// Passes what is below a number.
+struct Below(u32);
+
+impl Predicate<u32> for Below {
+    ghost use Rattle.std.specs.Prelude.{nat_lt};
+
+    ghost passes = { λ t n. nat_lt n t.0 };
+
+    fn test(&self, item: &u32) -> bool {
+        *item < self.0
+    }
+}
+
 fn parcel<T: Drop>(rt: &HostRuntime, item: T) -> Result<Parcel<T>, Fail> {
     match Parcel::new(rt.alloc(), item) {
         Ok(parcel) => Ok(parcel),
@@ -181,6 +194,21 @@ fn the_first_that_passes_is_found_and_removed(rt: HostRuntime) -> Result<(), Fai
     assert_eq!(rt; list.remove_first(&Is(2)).map(|p| p.into_value()), Some(2));
     assert!(rt; is_made_of(&list, &[1, 3, 2]));
     assert_eq!(rt; list.len(), 3);
+    Ok(())
+}
+
+#[test]
+fn the_last_that_passes_is_found_from_the_back(rt: HostRuntime) -> Result<(), Fail> {
+    let mut list = numbers(&rt, 1, 4)?;
+    let mut from_back = list.iter_back();
+    for want in [3u32, 2, 1] {
+        assert_eq!(rt; from_back.next().copied(), Some(want));
+    }
+    assert!(rt; from_back.next().is_none());
+    assert_eq!(rt; list.find_back(&Below(3)).copied(), Some(2));
+    assert!(rt; list.find_back(&Below(1)).is_none());
+    list.push_back(parcel(&rt, 0)?);
+    assert_eq!(rt; list.find_back(&Below(3)).copied(), Some(0));
     Ok(())
 }
 

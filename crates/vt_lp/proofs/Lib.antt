@@ -1,5 +1,6 @@
 mod RisingLemmas
 mod PastLemmas
+mod ReachLemmas
 mod ReadyLemmas
 mod LeastLemmas
 mod AcceptLemmas

@@ -123,17 +123,29 @@ impl<'a, P: Copy> Predicate<Letter<P>> for Annihilates<'a, P> {
     }
 }
 
-/// Whether a past event has this rank. Past events stand in rising rank, so a rank after the last one's is none of theirs.
+// Passes a past event that isn't after this rank.
+#[derive(Drop)]
+struct NotAfter(Rank);
+
+impl<P: Copy, K: Copy> Predicate<PastEvent<P, K>> for NotAfter {
+    ghost use Rattle.std.specs.Prelude.{not};
+    ghost use Rattle.vt_key.specs.Order.{rank_before};
+
+    ghost passes = { λ t e. not (rank_before t.0 e.letter.event.rank) };
+
+    fn test(&self, event: &PastEvent<P, K>) -> bool {
+        !self.0.is_before(&event.letter.get().event.rank)
+    }
+}
+
+/// Whether a past event has this rank. Past events stand in rising rank, so of those from the back the first that isn't after
+/// the rank has it, or none has.
 fn has_executed<P: Copy, K: Copy>(past: &List<PastEvent<P, K>>, rank: Rank) -> bool
     requires { IsRisingPast past.now }
     ensures { result ≡ list_any (λ e. rank_same e.letter.event.rank rank) past.now }
 {
-    let Some(last) = past.back() else {
-        return false;
-    };
-    if last.letter.get().event.rank.is_before(&rank) {
-        return false;
+    match past.find_back(&NotAfter(rank)) {
+        Some(event) => event.letter.get().event.rank.is_same(&rank),
+        None => false,
     }
-    past.iter()
-        .any(|event| event.letter.get().event.rank.is_same(&rank))
 }

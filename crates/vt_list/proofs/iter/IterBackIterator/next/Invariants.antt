@@ -1,0 +1,5 @@
+use Rattle.std.specs.Prelude.{length, ◌-◌}
+use Rattle.vt_list.proofs.iter.IterBackIterator.next.Given as goal
+
+abbrev pub ghost-get : goal.ghost-get
+ghost-get g a = length a.self.now.owned - 1
