@@ -90,8 +90,8 @@ impl Book {
         self.take(worker, batch, floor)
     }
 
-    /// Takes what a worker hands in, as [`Book::hand`] does, of rows that were made ready before: they are moved, and memory
-    /// grows at most to twice what it was. What is refused is gone.
+    /// Takes what a worker hands in, as [`Book::hand`] does, of rows that were made ready before. No row is copied or sorted:
+    /// memory is asked for at most twice, for records that will be shown and for one more batch. A batch that is refused is gone.
     pub fn hand_batch(&mut self, worker: u32, batch: Batch, floor: Time) -> Result<(), Fault>
         ensures refused { IfSome (refusal_of_hand self.old worker batch floor) (λ fault. result ≡ Err fault) }
         ensures taken { refusal_of_hand self.old worker batch floor ≡ None → MatchResult result

@@ -35,18 +35,6 @@ module _ {S P K : Type 0} (handlers : Handlers S P K) (config : Config) where
       subst (λ (x : View P). Reaches handlers config x k) (sym h.1)
       (record { worker = r.worker; config_is = r.config_is; steps = r.steps; part = r.part; led = r.led; stands = r.stands })
 
-  pub visited-held : (v w : View P) (before left : HeldWorker S P K) (step : Step) (reply : Reply) (seen : Time) (after : View P) → WithHand v w → Visited handlers config w before step reply left seen after →
-      Visited handlers config v before step reply left seen after
-  visited-held v w before left step reply seen after h r =
-      let x : Visited handlers config (record v { hand = h.0 }) before step reply left seen after = subst (λ (y : View P). Visited handlers config y before step reply left seen after) h.1 r in
-      let n = x.visits in
-      record {
-        visits = record { steps = n.steps; part = n.part; led = n.led; stood = n.stood; mine = n.mine; stands = n.stands; worker = n.worker; config_is = n.config_is };
-        same = record { worker = x.same.worker; made = x.same.made; waiting = x.same.waiting };
-        floor = x.floor;
-        rests = x.rests;
-      }
-
 module _ {P : Type 0} where
   pub unvisited-held : (v w : View P) (seen : Time) (after : View P) → WithHand v w → Unvisited w seen after → Unvisited v seen after
   unvisited-held v w seen after h r =

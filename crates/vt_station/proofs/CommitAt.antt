@@ -1,5 +1,5 @@
 -- A commit at the claimed book.
-use Rattle.std.proofs.Common.{◌≡◌, ℕ, ◌<◌, ◌≤◌, Bool, true, false, ◌&&◌, List, [], map, refl, sym, ◌∙◌, ap, subst, Option, Some, None, Result, Ok, Err, MatchResult, IfOk, slice_get}
+use Rattle.std.proofs.Common.{◌≡◌, ℕ, true, false, ◌&&◌, List, map, refl, sym, ◌∙◌, ap, Result, Ok, Err, MatchResult, IfOk, slice_get}
 use Rattle.vt_key.specs.Times.{Time, time_at_most}
 use Rattle.vt_key.specs.declared.fault.Fault.TheVariants.{Memory, Closed}
 use Rattle.vt_model.specs.declared.rows.Row.{Row}

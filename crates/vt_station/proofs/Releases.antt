@@ -96,19 +96,19 @@ module _ {S P K : Type 0} (handlers : Handlers S P K) (config : Config) (lawful 
       ))
 
   -- after local steps and one step at the cell
-  pub leaves-visited : (slots id k : ℕ) (m : Sat P) (seen : Option Time) (found now : Cell P) (before left : HeldWorker S P K) (step : Step) (reply : Reply) → k < cell_count config.workers
+  pub leaves-visited : (slots id k : ℕ) (m : Sat P) (found now : Cell P) (before left : HeldWorker S P K) (step : Step) (reply : Reply) → k < cell_count config.workers
       → IsAny (worker_of (simulation_of handlers config) step) m.0.worker → IsAny (cell_of step) (cell_at config.workers k)
-      → Holding config m k found now → Acts handlers config step reply before found left now → MaySee config.end seen now → Reaches handlers config m.0 before
-      → Allows (Kept (simulation_of handlers config) config) slots id m k (λ _. 0) (λ _. (λ (n : ℕ) (after : Sat P). (after.1 ≡ []) × Visited handlers config m.0 before step reply left (seen_or m.0.seen seen) after.0) 0)
-  leaves-visited slots id k m seen found now before left step reply near whose at h does sees way =
+      → Holding config m k found now → Acts handlers config step reply before found left now → Reaches handlers config m.0 before
+      → Allows (Kept (simulation_of handlers config) config) slots id m k (λ _. 0) (λ _. (λ (n : ℕ) (after : Sat P). (after.1 ≡ []) × Visited handlers config m.0 before step reply left m.0.seen after.0) 0)
+  leaves-visited slots id k m found now before left step reply near whose at h does way =
       let sim = simulation_of handlers config in
       let a = does.acts way.part way.stands in
       let goes : Leads sim m.0.worker (cell_at sim.workers k) m.0.part found (way.steps ++ step ∷ []) a.0 now (made_done way.steps ++ record { step = step; reply = reply } ∷ []) =
       leads sim m.0.worker (cell_at sim.workers k) way.steps step m.0.part way.part a.0 found now reply (steps-lead sim m.0.worker way.steps m.0.part way.part way.led) whose at a.1 in
-      releases sim config lawful slots id k m found h.slot (way.steps ++ step ∷ []) a.0 (made_done way.steps ++ record { step = step; reply = reply } ∷ []) (seen_or m.0.seen seen)
-      (λ (n : ℕ) (after : Sat P). (after.1 ≡ []) × Visited handlers config m.0 before step reply left (seen_or m.0.seen seen) after.0) near h.carried h.hand h.right
+      releases sim config lawful slots id k m found h.slot (way.steps ++ step ∷ []) a.0 (made_done way.steps ++ record { step = step; reply = reply } ∷ []) m.0.seen
+      (λ (n : ℕ) (after : Sat P). (after.1 ≡ []) × Visited handlers config m.0 before step reply left m.0.seen after.0) near h.carried h.hand h.right
       (subst (λ (c : Cell P). Leads sim m.0.worker (cell_at sim.workers k) m.0.part found (way.steps ++ step ∷ []) a.0 c (made_done way.steps ++ record { step = step; reply = reply } ∷ [])) (sym h.now_is) goes)
-      (subst (λ (c : Cell P). TimeAtMost (seen_or m.0.seen seen) m.0.seen ⊎ ShowsFloor sim.end (seen_or m.0.seen seen) c) (sym h.now_is) (may-see config.end m.0.seen seen now sees))
+      (inl (le_refl m.0.seen))
       (λ n. (
         refl,
         record {

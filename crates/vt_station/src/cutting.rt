@@ -67,7 +67,6 @@ impl<M: EventModel> Station<M> {
                     reply: Reply::Done,
                     before,
                     left: Snapshot::of(kernel),
-                    seen: None,
                 };
                 self.release_visit(seat, self.workers, &visit);
                 Ok(())
@@ -139,7 +138,6 @@ impl<M: EventModel> Station<M> {
                     reply: reply_of(report),
                     before,
                     left: Snapshot::of(kernel),
-                    seen: None,
                 };
                 self.release_visit(seat, self.workers, &visit);
                 Ok(report)

@@ -110,7 +110,6 @@ impl<M: EventModel> Station<M> {
                     reply: Reply::Done,
                     before,
                     left: Snapshot::of(kernel),
-                    seen: None,
                 };
                 self.release_visit(seat, v as usize, &visit);
                 Ok(())
@@ -154,7 +153,6 @@ impl<M: EventModel> Station<M> {
                     reply: Reply::Done,
                     before,
                     left: Snapshot::of(kernel),
-                    seen: None,
                 };
                 self.release_visit(seat, worker as usize, &visit);
                 Ok(())

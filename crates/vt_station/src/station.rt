@@ -50,14 +50,13 @@ pub struct Station<M: EventModel> {
     ghost counted: { table.shared.key.config.workers ≡ workers },
 }
 
-/// A step with its reply, the kernel as it was lent and as the call leaves it, and the floor of the book where one was shown.
+/// A step with its reply, and the kernel as it was lent and as the call leaves it.
 #[derive(Drop)]
 pub(crate) struct Visit<M: EventModel> {
     pub(crate) step: Step,
     pub(crate) reply: Reply,
     pub(crate) before: Snapshot<Kernel<M>>,
     pub(crate) left: Snapshot<Kernel<M>>,
-    pub(crate) seen: Option<Time>,
 }
 
 /// A commit of a worker, with the kernel as it was lent, and the floor of the book as the commit left it.
@@ -119,10 +118,10 @@ impl<M: EventModel> Station<M> {
         requires near { cell < cell_count self.now.workers }
         requires marks { let key = self.now.table.shared.key in IsAny (worker_of (simulation_of (M.handlers key.model.value) key.config) visit.now.step) seat.old.me.0.worker × IsAny (cell_of visit.now.step) (cell_at key.config.workers cell) }
         requires held { let key = self.now.table.shared.key in (found : Cell _) × (now : Cell _) × Holding key.config seat.old.me cell found now
-            × Acts (M.handlers key.model.value) key.config visit.now.step visit.now.reply visit.now.before.value found visit.now.left.value now × MaySee key.config.end visit.now.seen now }
+            × Acts (M.handlers key.model.value) key.config visit.now.step visit.now.reply visit.now.before.value found visit.now.left.value now }
         requires kernel { let key = self.now.table.shared.key in Reaches (M.handlers key.model.value) key.config seat.old.me.0 visit.now.before.value }
         ensures same { (seat.new.table_id ≡ seat.old.table_id) × (seat.new.id ≡ seat.old.id) × Rests seat.new.me }
-        ensures done { let key = self.now.table.shared.key in Visited (M.handlers key.model.value) key.config seat.old.me.0 visit.now.before.value visit.now.step visit.now.reply visit.now.left.value (seen_or seat.old.me.0.seen visit.now.seen) seat.new.me.0 }
+        ensures done { let key = self.now.table.shared.key in Visited (M.handlers key.model.value) key.config seat.old.me.0 visit.now.before.value visit.now.step visit.now.reply visit.now.left.value seat.old.me.0.seen seat.new.me.0 }
     {
         store::<M, Brand, Visit<M>>(&self.table.shared, seat, cell, visit);
     }

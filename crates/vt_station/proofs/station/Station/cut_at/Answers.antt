@@ -52,7 +52,6 @@ release_visit-requires-clause-held g c κs within =
       d.1,
       subst (λ (h : HeldWorker _ _ _). Acts H key.config (Cut c.args.worker) Done h (on_board board) c.of.result.value (on_board d.0)) (sym c.of-before.ensures)
           (subst (λ (h : HeldWorker _ _ _). Acts H key.config (Cut c.args.worker) Done k (on_board board) h (on_board d.0)) (sym c.of.ensures) acts),
-      tt,
     )
 
 pub returns-in-Err-clause-refused : goal.returns-in-Err-clause-refused

@@ -13,7 +13,7 @@ store-requires-clause-allowed g c κs within =
     let h = c.requires.held in
     let v = c.args.visit.now in
     leaves-visited (g.M.Model.handlers m) key.config (lawful_of (g.M.Model.handlers m) key.config (g.met.M.Model.start_within m) (g.met.M.Model.forward_within m))
-    c.args.self.now.table.shared.table_id.slots c.args.seat.now.id c.args.cell c.args.seat.now.me v.seen h.0 h.1 v.before.value v.left.value v.step v.reply near c.requires.marks.0 c.requires.marks.1 h.2 h.3 h.4 c.requires.kernel
+    c.args.self.now.table.shared.table_id.slots c.args.seat.now.id c.args.cell c.args.seat.now.me h.0 h.1 v.before.value v.left.value v.step v.reply near c.requires.marks.0 c.requires.marks.1 h.2 h.3 c.requires.kernel
 
 pub returns-clause-same : goal.returns-clause-same
 returns-clause-same g c = (c.store.ensures.same.0, c.store.ensures.same.1, (c.store.ensures.told.1.rests, c.store.ensures.told.0))

@@ -67,7 +67,6 @@ release_visit-requires-clause-held g c κs within =
       d.0,
       subst (λ (h : HeldWorker _ _ _). Acts H key.config (Report w) c.reply_of.result h (on_board board) c.of.result.value (on_board new)) (sym c.of-before.ensures)
           (subst (λ (h : HeldWorker _ _ _). Acts H key.config (Report w) c.reply_of.result k (on_board board) h (on_board new)) (sym c.of.ensures) acts),
-      tt,
     )
 
 pub returns-in-Err-clause-refused : goal.returns-in-Err-clause-refused
