@@ -73,10 +73,10 @@ module _ {S P K : Type 0} (handlers : Handlers S P K) (config : Config) (lawful 
         let below = text_below handlers config in
         let whole = run_text handlers config in
         elim stop [
-          | inl e ↦ subst (StopsWork below whole old new) (sym e) (part_written h)
+          | inl (inl e) ↦ subst (StopsWork below whole old new) (sym e) (part_written h)
+          | inl (inr e) ↦ subst (StopsWork below whole old new) (sym e) (part_written h)
           | inr (inl e) ↦ subst (StopsWork below whole old new) (sym e) (part_written h)
-          | inr (inr (inl e)) ↦ subst (StopsWork below whole old new) (sym e) (part_written h)
-          | inr (inr (inr e)) ↦ subst (StopsWork below whole old new) (sym e) (part_written h)
+          | inr (inr e) ↦ subst (StopsWork below whole old new) (sym e) (part_written h)
         ]
 
     -- a beginning of these records was written
