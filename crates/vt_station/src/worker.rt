@@ -1,7 +1,8 @@
 //! A worker at its place: the kernel goes by local steps from what its place knows.
 
-ghost use Rattle.std.specs.Prelude.{◌≡◌, ◌<◌, IfOk, IfErr, MatchResult};
-ghost use Rattle.vt_key.specs.declared.fault.Fault.TheVariants.{Memory};
+ghost use Rattle.std.specs.Prelude.{◌≡◌, ◌<◌, None, IfOk, IfErr, MatchResult};
+ghost use Rattle.vt_key.specs.Times.{Time};
+ghost use Rattle.vt_key.specs.declared.fault.Fault.TheVariants.{Memory, NotLawful};
 ghost use Rattle.vt_model.specs.Simulation.{simulation_of};
 ghost use Rattle.vt_steps.specs.World.{Part, opening_part};
 ghost use Rattle.vt_steps.specs.declared.step.Step.TheVariants as step;
@@ -9,9 +10,9 @@ ghost use Rattle.vt_steps.specs.declared.step.Reply.TheVariants as reply;
 ghost use Rattle.vt_board.specs.Calls.{reply_of};
 ghost use Rattle.vt_kernel.specs.Held.{StandsFor};
 ghost use Rattle.vt_kernel.specs.Local.{local_step};
-ghost use Rattle.vt_kernel.specs.Guards.{IsDone};
+ghost use Rattle.vt_kernel.specs.Guards.{IsDone, IsExecuteRefusal, IsAcceptRefusal, SettlesTo};
 ghost use Rattle.vt_station.specs.Making.{IsNew};
-ghost use Rattle.vt_station.specs.Calls.{Visited, Closes, Stays, IsPostRefusal, IsFetchRefusal, IsCutRefusal, IsReportRefusal};
+ghost use Rattle.vt_station.specs.Calls.{Visited, Closes, Unvisited, Stays, IsPostRefusal, IsFetchRefusal, IsCutRefusal, IsReportRefusal, IsCommitRefusal, IsCloseRefusal, IsRecordsRefusal, IsFloorLeft, AreRecordsShown, IsRefusedOnceClosed};
 ghost use Rattle.vt_station.specs.AtWork.{IsAtSamePlace, IsAtSameStation};
 
 use crate::place::Place;
@@ -124,44 +125,60 @@ impl<'a, M: EventModel> Worker<'a, M> {
 
 impl<'a, M: EventModel> Worker<'a, M> {
     /// Executes the least pending event of process `lp`.
+    ///
+    /// [`Fault`]: as [`Kernel::execute`] tells; after each the worker is as it was.
     pub fn execute(&mut self, lp: u32) -> Result<(), Fault>
         ensures place { IsAtSamePlace self.old self.new }
         ensures done { (part : Part _) → StandsFor (M.handlers self.old.model) self.old.kernel part → IfOk result (λ done. IsDone (M.handlers self.old.model) self.new.kernel (local_step (simulation_of (M.handlers self.old.model) self.old.kernel.config) self.old.kernel.worker (step.Execute lp) part)) }
+        ensures refused { (part : Part _) → StandsFor (M.handlers self.old.model) self.old.kernel part → IfErr result (λ fault. IsExecuteRefusal (simulation_of (M.handlers self.old.model) self.old.kernel.config) lp (local_step (simulation_of (M.handlers self.old.model) self.old.kernel.config) self.old.kernel.worker (step.Execute lp) part) fault) }
+        ensures kept { (part : Part _) → StandsFor (M.handlers self.old.model) self.old.kernel part → IfErr result (λ _. self.new.kernel ≡ self.old.kernel) }
     {
         self.kernel.execute(self.alloc, self.model, lp)
     }
 
     /// Undoes the last past event of process `lp`.
+    ///
+    /// [`Fault::NotLawful`]: it isn't lawful; the worker is as it was.
     pub fn undo(&mut self, lp: u32) -> Result<(), Fault>
         ensures place { IsAtSamePlace self.old self.new }
         ensures done { (part : Part _) → StandsFor (M.handlers self.old.model) self.old.kernel part → IfOk result (λ done. IsDone (M.handlers self.old.model) self.new.kernel (local_step (simulation_of (M.handlers self.old.model) self.old.kernel.config) self.old.kernel.worker (step.Undo lp) part)) }
-        ensures kept { IfErr result (λ _. self.new.kernel ≡ self.old.kernel) }
+        ensures refused { (part : Part _) → StandsFor (M.handlers self.old.model) self.old.kernel part → IfErr result (λ _. local_step (simulation_of (M.handlers self.old.model) self.old.kernel.config) self.old.kernel.worker (step.Undo lp) part ≡ None) }
+        ensures kept { IfErr result (λ fault. (fault ≡ NotLawful) × (self.new.kernel ≡ self.old.kernel)) }
     {
         self.kernel.undo(self.model, lp)
     }
 
     /// Annihilates a message and its anti-message at process `lp`.
+    ///
+    /// [`Fault::NotLawful`]: it isn't lawful; the worker is as it was.
     pub fn cancel(&mut self, lp: u32, stamp: Stamp) -> Result<(), Fault>
         ensures place { IsAtSamePlace self.old self.new }
         ensures done { (part : Part _) → StandsFor (M.handlers self.old.model) self.old.kernel part → IfOk result (λ done. IsDone (M.handlers self.old.model) self.new.kernel (local_step (simulation_of (M.handlers self.old.model) self.old.kernel.config) self.old.kernel.worker (step.Cancel lp stamp) part)) }
-        ensures kept { IfErr result (λ _. self.new.kernel ≡ self.old.kernel) }
+        ensures refused { (part : Part _) → StandsFor (M.handlers self.old.model) self.old.kernel part → IfErr result (λ _. local_step (simulation_of (M.handlers self.old.model) self.old.kernel.config) self.old.kernel.worker (step.Cancel lp stamp) part ≡ None) }
+        ensures kept { IfErr result (λ fault. (fault ≡ NotLawful) × (self.new.kernel ≡ self.old.kernel)) }
     {
         self.kernel.cancel(lp, stamp)
     }
 
     /// Takes the first letter of the outbox that is for a process of this worker to it.
+    ///
+    /// [`Fault::NotLawful`]: there is none, or its process holds it already; the worker is as it was.
     pub fn home(&mut self) -> Result<(), Fault>
         ensures place { IsAtSamePlace self.old self.new }
         ensures done { (part : Part _) → StandsFor (M.handlers self.old.model) self.old.kernel part → IfOk result (λ done. IsDone (M.handlers self.old.model) self.new.kernel (local_step (simulation_of (M.handlers self.old.model) self.old.kernel.config) self.old.kernel.worker (step.Home self.old.kernel.worker) part)) }
-        ensures kept { IfErr result (λ _. self.new.kernel ≡ self.old.kernel) }
+        ensures refused { (part : Part _) → StandsFor (M.handlers self.old.model) self.old.kernel part → IfErr result (λ _. local_step (simulation_of (M.handlers self.old.model) self.old.kernel.config) self.old.kernel.worker (step.Home self.old.kernel.worker) part ≡ None) }
+        ensures kept { IfErr result (λ fault. (fault ≡ NotLawful) × (self.new.kernel ≡ self.old.kernel)) }
     {
         self.kernel.home()
     }
 
     /// Takes the letter at place `i` of the mail that has arrived to its process.
+    ///
+    /// [`Fault`]: as [`Kernel::accept`] tells; after each the worker is as it was.
     pub fn accept(&mut self, i: u64) -> Result<(), Fault>
         ensures place { IsAtSamePlace self.old self.new }
         ensures done { (part : Part _) → StandsFor (M.handlers self.old.model) self.old.kernel part → IfOk result (λ done. IsDone (M.handlers self.old.model) self.new.kernel (local_step (simulation_of (M.handlers self.old.model) self.old.kernel.config) self.old.kernel.worker (step.Accept self.old.kernel.worker i) part)) }
+        ensures refused { (part : Part _) → StandsFor (M.handlers self.old.model) self.old.kernel part → IfErr result (λ fault. IsAcceptRefusal (local_step (simulation_of (M.handlers self.old.model) self.old.kernel.config) self.old.kernel.worker (step.Accept self.old.kernel.worker i) part) fault) }
         ensures kept { IfErr result (λ _. self.new.kernel ≡ self.old.kernel) }
     {
         self.kernel.accept(self.alloc, i)
@@ -170,6 +187,7 @@ impl<'a, M: EventModel> Worker<'a, M> {
     /// Undoes and cancels at process `lp` until neither is lawful there.
     pub fn settle(&mut self, lp: u32)
         ensures place { IsAtSamePlace self.old self.new }
+        ensures settles { (part : Part _) → StandsFor (M.handlers self.old.model) self.old.kernel part → (new : Part _) × SettlesTo (simulation_of (M.handlers self.old.model) self.old.kernel.config) self.old.kernel.worker lp part new × StandsFor (M.handlers self.old.model) self.new.kernel new }
     {
         self.kernel.settle(self.model, lp);
     }
@@ -177,6 +195,8 @@ impl<'a, M: EventModel> Worker<'a, M> {
 
 impl<'a, M: EventModel> Worker<'a, M> {
     /// Sends all letters for processes of worker `v`.
+    ///
+    /// [`Fault`]: as [`Station::post`] tells; after each the worker is as it was.
     pub fn post(&mut self, v: u32) -> Result<(), Fault>
         ensures station { IsAtSameStation self.old self.new }
         ensures done { MatchResult result
@@ -188,6 +208,8 @@ impl<'a, M: EventModel> Worker<'a, M> {
     }
 
     /// Takes in what was sent to this worker.
+    ///
+    /// [`Fault`]: as [`Station::fetch`] tells; after each the worker is as it was.
     pub fn fetch(&mut self) -> Result<(), Fault>
         ensures station { IsAtSameStation self.old self.new }
         ensures done { MatchResult result
@@ -199,6 +221,8 @@ impl<'a, M: EventModel> Worker<'a, M> {
     }
 
     /// Joins the open round of global virtual time, or opens one.
+    ///
+    /// [`Fault`]: as [`Station::cut`] tells; after each the worker is as it was.
     pub fn cut(&mut self) -> Result<(), Fault>
         ensures station { IsAtSameStation self.old self.new }
         ensures done { MatchResult result
@@ -210,6 +234,8 @@ impl<'a, M: EventModel> Worker<'a, M> {
     }
 
     /// Reports to the board.
+    ///
+    /// [`Fault`]: as [`Station::report`] tells; after each the worker is as it was.
     pub fn report(&mut self) -> Result<Report, Fault>
         ensures station { IsAtSameStation self.old self.new }
         ensures done { MatchResult result
@@ -221,24 +247,44 @@ impl<'a, M: EventModel> Worker<'a, M> {
     }
 
     /// Hands in the rows below the worker's floor.
+    ///
+    /// [`Fault`]: as [`Station::commit`] tells; after each the worker is as it was.
     pub fn commit(&mut self) -> Result<(), Fault>
         ensures station { IsAtSameStation self.old self.new }
+        ensures done { MatchResult result
+            (λ _. (shown : Time) × Visited (M.handlers self.old.model) self.old.config self.old.view self.old.kernel (step.Commit self.old.kernel.worker) reply.Done self.new.kernel shown self.new.view
+            × IsFloorLeft (simulation_of (M.handlers self.old.model) self.old.config) self.old.view (step.Commit self.old.kernel.worker) shown)
+            (λ _. Stays self.old.view self.new.view × (self.new.kernel ≡ self.old.kernel)) }
+        ensures refused { IfErr result (λ fault. IsCommitRefusal (simulation_of (M.handlers self.old.model) self.old.config) self.old.view fault) }
+        ensures closed { IsRefusedOnceClosed self.old.view result }
     {
         self.station
             .commit(self.alloc, &mut self.place, &mut self.kernel)
     }
 
     /// Closes the book.
+    ///
+    /// [`Fault`]: as [`Station::close`] tells; after each the worker is as it was.
     pub fn close(&mut self) -> Result<(), Fault>
         ensures station { IsAtSameStation self.old self.new }
         ensures done { MatchResult result (λ _. Closes self.old.view self.old.config.end self.new.view) (λ _. Stays self.old.view self.new.view) }
+        ensures kernel { self.new.kernel ≡ self.old.kernel }
+        ensures refused { IfErr result (λ fault. IsCloseRefusal (simulation_of (M.handlers self.old.model) self.old.config) self.old.view fault) }
+        ensures closed { IsRefusedOnceClosed self.old.view result }
     {
         self.station.close(&mut self.place)
     }
 
     /// The records that the book shows.
+    ///
+    /// [`Fault`]: as [`Station::records`] tells; after each the worker is as it was.
     pub fn records(&mut self) -> Result<Vec<Record>, Fault>
         ensures station { IsAtSameStation self.old self.new }
+        ensures kernel { self.new.kernel ≡ self.old.kernel }
+        ensures done { MatchResult result
+            (λ v. (floor : Time) × AreRecordsShown (simulation_of (M.handlers self.old.model) self.old.config) self.old.view floor v.items × Unvisited self.old.view floor self.new.view)
+            (λ _. Stays self.old.view self.new.view) }
+        ensures refused { IfErr result (λ fault. IsRecordsRefusal (simulation_of (M.handlers self.old.model) self.old.config) fault) }
     {
         self.station.records(self.alloc, &mut self.place)
     }
