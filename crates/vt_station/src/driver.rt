@@ -14,8 +14,14 @@ use vt_model::Model as EventModel;
 /// The most events that a worker executes in one turn.
 const MOST_EXECUTIONS: u32 = 16;
 
-/// The most turns without agreement that are told apart.
-const MOST_WAITED: u32 = 8;
+/// How many turns in a row without agreement all workers together execute ahead as if nothing were.
+const PATIENCE: u32 = 128;
+
+/// How many of them each worker has at least.
+const LEAST_PATIENCE: u32 = 4;
+
+/// How often at most a worker gives the processor away in one turn.
+const MOST_RESTS: u32 = 256;
 
 /// How the work of a worker ended.
 #[derive(Clone, Copy)]
@@ -38,9 +44,9 @@ pub(crate) struct Driver<'a, M: EventModel> {
     touched: Vec<u32>,
     // The floor of the last hand-in that was done.
     handed: Time,
-    // How many turns in a row got neither a cut nor a report done, as far as they are told apart: others lag behind.
+    // How many turns in a row got neither a cut nor a report done, as far as it is counted: others lag behind.
     waited: u32,
-    ghost told_apart: { waited ≤ 8 },
+    ghost counted: { waited ≤ 128 },
 }
 
 impl<'a, M: EventModel> Driver<'a, M> {
@@ -120,9 +126,20 @@ impl<'a, M: EventModel> Driver<'a, M> {
         Ok(())
     }
 
-    /// How many events the next turn may execute: the longer others lag behind, the fewer, so that it won't have to undo many.
+    /// How many turns in a row without agreement the worker executes ahead as if nothing were.
+    fn patience(&self) -> u32
+        ensures { result ≤ 128 }
+    {
+        (PATIENCE / self.worker.config().workers).max(LEAST_PATIENCE)
+    }
+
+    /// How many events a turn may execute: few where others lag behind for long, so that it won't have to undo many.
     fn allowed(&self) -> u32 {
-        (MOST_EXECUTIONS >> (self.waited / 2)).max(1)
+        if self.waited < self.patience() {
+            MOST_EXECUTIONS
+        } else {
+            1
+        }
     }
 
     /// Executes lawful events, the least first, and tells how many.
@@ -233,31 +250,45 @@ impl<'a, M: EventModel> Driver<'a, M> {
         Ok(executed > 0)
     }
 
-    /// Gives the processor away, twice as often each time, while others lag behind.
-    fn rest(&mut self)
-        ensures same { self.new.worker ≡ self.old.worker }
+    /// Gives the processor away until a cut or a report is done, but not for ever.
+    fn rest(&mut self) -> Result<(), Fault>
+        ensures same { self.new.worker.table ≡ self.old.worker.table }
+        ensures lasting { IfErr result IsLasting }
     {
-        for _ in 0..(1u32 << self.waited) {
+        for _ in 0..MOST_RESTS {
             yield_now();
+            if self.agree()? {
+                self.waited = 0;
+                break;
+            }
         }
-        if self.waited < MOST_WAITED {
-            self.waited += 1;
-        }
+        Ok(())
     }
 
-    /// One turn. At its end it gives the processor away where it executed nothing, or where neither cut nor report was done.
+    /// One cut or report, for which a worker waits that has nothing to execute or has waited for many turns.
+    fn join_round(&mut self, executed: bool) -> Result<(), Fault>
+        ensures same { self.new.worker.table ≡ self.old.worker.table }
+        ensures lasting { IfErr result IsLasting }
+    {
+        if self.agree()? {
+            self.waited = 0;
+            return Ok(());
+        }
+        if executed && self.waited < self.patience() {
+            self.waited += 1;
+            return Ok(());
+        }
+        self.rest()
+    }
+
+    /// One turn. It gives the processor away where it executed nothing, and while neither a cut nor a report gets done.
     fn turn<G: Gate>(&mut self, gate: &G, turn: u64) -> Result<(), Fault>
         ensures same { self.new.worker.table ≡ self.old.worker.table }
         ensures lasting { IfErr result IsLasting }
     {
         let executed = self.work(gate, turn)?;
-        let agreed = self.agree()?;
+        self.join_round(executed)?;
         self.commit_risen()?;
-        if !agreed {
-            self.rest();
-            return Ok(());
-        }
-        self.waited = 0;
         if !executed {
             yield_now();
         }

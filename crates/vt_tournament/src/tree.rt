@@ -1,6 +1,6 @@
 //! The tree of winners.
 
-ghost use Rattle.std.specs.Prelude.{◌≡◌, ℕ, ◌+◌, ◌*◌, ◌<◌, ◌≤◌, ◌^◌, length, replicate, slice_get, slice_set, Option, Some, None, IfOk, IfErr, IfSome, IfNone};
+ghost use Rattle.std.specs.Prelude.{◌≡◌, true, ℕ, ◌+◌, ◌*◌, ◌<◌, ◌≤◌, ◌^◌, length, replicate, slice_get, slice_set, Option, Some, None, IfOk, IfErr, IfSome, IfNone};
 ghost use Rattle.vt_key.specs.declared.fault.Fault.TheVariants.{Memory};
 ghost use Rattle.vt_key.specs.declared.order.Rank.{Rank};
 ghost use Rattle.vt_tournament.specs.Contest.{node, HasLeaves, IsTreeFrom, WasTree};
@@ -59,6 +59,9 @@ impl Tournament {
         requires { number < length self.old }
         ensures { self.new ≡ slice_set self.old number rank }
     {
+        if are_same(&self.ranks[number as usize], &rank) {
+            return;
+        }
         self.ranks[number as usize] = rank;
         decide_above(self.ranks.as_slice(), self.nodes.as_mut_slice(), number);
     }
@@ -73,6 +76,17 @@ impl Tournament {
             Some(_) => Some(winner),
             None => None,
         }
+    }
+}
+
+/// Whether two entries are one.
+fn are_same(a: &Option<Rank>, b: &Option<Rank>) -> bool
+    ensures { result ≡ true → a.now ≡ b.now }
+{
+    match (a, b) {
+        (Some(a), Some(b)) => a.is_same(b),
+        (None, None) => true,
+        _ => false,
     }
 }
 
