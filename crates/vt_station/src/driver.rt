@@ -46,6 +46,8 @@ pub(crate) struct Driver<'a, M: EventModel> {
     handed: Time,
     // How many turns in a row got neither a cut nor a report done, as far as it is counted: others lag behind.
     waited: u32,
+    // Whether mail has come from another worker: what comes may undo what was executed ahead.
+    disturbed: bool,
     ghost counted: { waited ≤ 128 },
 }
 
@@ -59,6 +61,7 @@ impl<'a, M: EventModel> Driver<'a, M> {
             touched: Vec::new(alloc),
             handed: 0,
             waited: 0,
+            disturbed: false,
         }
     }
 
@@ -133,9 +136,14 @@ impl<'a, M: EventModel> Driver<'a, M> {
         (PATIENCE / self.worker.config().workers).max(LEAST_PATIENCE)
     }
 
+    /// Whether the worker executes ahead although others lag behind: not for long, or nothing that they send has ever reached it.
+    fn is_patient(&self) -> bool {
+        !self.disturbed || self.waited < self.patience()
+    }
+
     /// How many events a turn may execute: few where others lag behind for long, so that it won't have to undo many.
     fn allowed(&self) -> u32 {
-        if self.waited < self.patience() {
+        if self.is_patient() {
             MOST_EXECUTIONS
         } else {
             1
@@ -238,9 +246,7 @@ impl<'a, M: EventModel> Driver<'a, M> {
         ensures same { self.new.worker.table ≡ self.old.worker.table }
         ensures lasting { IfErr result IsLasting }
     {
-        if self.worker.kernel().arrived_len() == 0 {
-            pass_over(self.worker.fetch())?;
-        }
+        self.fetch()?;
         self.accept_all()?;
         self.settle_touched();
         self.home_all()?;
@@ -250,7 +256,20 @@ impl<'a, M: EventModel> Driver<'a, M> {
         Ok(executed > 0)
     }
 
-    /// Gives the processor away until a cut or a report is done, but not for ever.
+    /// The mail in the worker's inbox has arrived, and whether there is any that is not accepted yet.
+    fn fetch(&mut self) -> Result<bool, Fault>
+        ensures same { self.new.worker.table ≡ self.old.worker.table }
+        ensures lasting { IfErr result IsLasting }
+    {
+        if self.worker.kernel().arrived_len() == 0 {
+            pass_over(self.worker.fetch())?;
+        }
+        let some = self.worker.kernel().arrived_len() > 0;
+        self.disturbed = self.disturbed || some;
+        Ok(some)
+    }
+
+    /// Gives the processor away until mail comes, or a cut or a report is done, but not for ever.
     fn rest(&mut self) -> Result<(), Fault>
         ensures same { self.new.worker.table ≡ self.old.worker.table }
         ensures lasting { IfErr result IsLasting }
@@ -259,6 +278,9 @@ impl<'a, M: EventModel> Driver<'a, M> {
             yield_now();
             if self.agree()? {
                 self.waited = 0;
+                break;
+            }
+            if self.fetch()? {
                 break;
             }
         }
@@ -274,11 +296,13 @@ impl<'a, M: EventModel> Driver<'a, M> {
             self.waited = 0;
             return Ok(());
         }
-        if executed && self.waited < self.patience() {
-            self.waited += 1;
-            return Ok(());
+        if !executed || !self.is_patient() {
+            return self.rest();
         }
-        self.rest()
+        if self.waited < PATIENCE {
+            self.waited += 1;
+        }
+        Ok(())
     }
 
     /// One turn. It gives the processor away where it executed nothing, and while neither a cut nor a report gets done.
