@@ -262,9 +262,15 @@ where
     );
 }
 
-/// Runs a model on as many workers as the config has, each in a thread of its own, and gives the records of the whole run.
+/// Runs a model by Time Warp on as many workers as the config has, each in a thread of its own, and gives the records of the whole
+/// run, in the order of the sequential run.
 ///
-/// [`Stopped`]: the run ended before that.
+/// A worker makes at most `max_turns` turns. In each it takes its mail in, undoes what that overtakes, executes at most sixteen events,
+/// the least first, sends what they sent, joins the round of global virtual time and commits. `gate` is told before each execution,
+/// in the worker's thread. All threads are joined before the answer; nothing promises that there is one.
+///
+/// [`Stopped`]: memory was refused, a count would pass 2^63, or a worker made all its turns before the end of the run. Its records are
+/// those below some time, a beginning of all.
 pub fn run_workers<R: Threads + Sync, M: EventModel + Sync, G: Gate + Sync>(
     rt: &R,
     alloc: Global,
