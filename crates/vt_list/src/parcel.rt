@@ -5,6 +5,7 @@ ghost use Rattle.std.specs.Prelude.{◌≡◌, IfOk, IfErr};
 use crate::node::Node;
 use std::alloc::Global;
 use std::marker::Model;
+use std::mem::replace;
 
 /// An item in a node of its own, which is in no list. A clause sees the item.
 ///
@@ -66,6 +67,13 @@ impl<T> Parcel<T> {
         ensures { result.now ≡ self.now }
     {
         &self.node.item
+    }
+
+    /// Puts this item in the other's place, and hands back the other. The node stays.
+    pub fn replace(&mut self, item: T) -> T
+        ensures { (self.new ≡ item) × (result ≡ self.old) }
+    {
+        replace(&mut self.node.item, item)
     }
 
     ghost use Rattle.vt_list.specs.contracts.parcel.Parcel.{the_row};

@@ -12,6 +12,7 @@ ghost use Rattle.vt_lp.specs.Ripe.{unripe_events, rows_of_ripe};
 
 use crate::Lp;
 use crate::entry::PastEvent;
+use crate::spare::Spare;
 use arrayvec::ArrayVec;
 use std::alloc::Global;
 use vt_key::{Event, Fault, Key, Time};
@@ -56,19 +57,25 @@ impl<M: EventModel> Lp<M> {
         ensures committed { (handlers : Handlers _ _ _) (h : LogicalProcess _) → StandsFor handlers self.old h → StandsFor handlers self.new (process_after_commit floor h) }
         ensures same { (self.new.lp ≡ self.old.lp) × (self.new.config ≡ self.old.config) × (self.new.triple ≡ self.old.triple) × (self.new.pending ≡ self.old.pending) × (self.new.waiting ≡ self.old.waiting) }
     {
-        drop_ripe(&mut self.past, floor);
+        drop_ripe(&mut self.past, &mut self.spare, floor);
     }
 }
 
-/// Drops the first past events, as many as are before the floor.
-fn drop_ripe<P: Copy, K: Copy>(past: &mut List<PastEvent<P, K>>, floor: Time)
+/// Drops the first past events, as many as are before the floor, and keeps their memory.
+fn drop_ripe<P: Copy, K: Copy>(
+    past: &mut List<PastEvent<P, K>>,
+    spare: &mut Spare<P, K>,
+    floor: Time,
+)
     ensures { past.new ≡ unripe_events floor past.old }
 {
     while let Some(first) = past.front() {
         if first.letter.get().event.rank.key.time >= floor {
             break;
         }
-        past.pop_front();
+        if let Some(committed) = past.pop_front() {
+            spare.collect(committed);
+        }
     }
 }
 

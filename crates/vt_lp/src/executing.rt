@@ -19,6 +19,7 @@ ghost use Rattle.vt_lp.specs.Past.{past_event, ready_event, IsAdvanceRefusal};
 use crate::entry::PastEvent;
 use crate::lp::Lp;
 use crate::making::{is_counted, letters};
+use crate::spare::Spare;
 use arrayvec::ArrayVec;
 use std::alloc::Global;
 use vt_key::{Event, Fault, Letter, MAX_COUNT, Sign};
@@ -74,6 +75,7 @@ impl<M: EventModel> Lp<M> {
         let (trail, mut messages) = match advance(
             &mut self.process,
             alloc,
+            &mut self.spare,
             model,
             self.config,
             *serial,
@@ -86,7 +88,13 @@ impl<M: EventModel> Lp<M> {
         let kept = trail.kept;
         let drawn = trail.drawn;
         let number = trail.number;
-        if let Err(fault) = keep(alloc, &mut self.pending, &mut self.past, trail) {
+        if let Err(fault) = keep(
+            alloc,
+            &mut self.spare,
+            &mut self.pending,
+            &mut self.past,
+            trail,
+        ) {
             let sent = Sent {
                 key: event.rank.key,
                 dest: event.dest,
@@ -125,6 +133,7 @@ fn ready_event<P: Copy, K: Copy>(
 fn advance<M: EventModel>(
     process: &mut Process<M>,
     alloc: Global,
+    spare: &mut Spare<M::Payload, M::Kept>,
     model: &M,
     config: Config,
     serial: u64,
@@ -165,7 +174,7 @@ fn advance<M: EventModel>(
         return Err(Fault::Exhausted);
     }
     let worker = config.owner(event.dest);
-    let (messages, anti_messages) = match both_letters(alloc, worker, serial, out.sends()) {
+    let (messages, anti_messages) = match both_letters(alloc, spare, worker, serial, out.sends()) {
         Ok(made) => made,
         Err(fault) => {
             process.undo(model, sent, bits, kept, drawn, number);
@@ -186,8 +195,9 @@ fn advance<M: EventModel>(
 /// The messages of these sends and the anti-messages that take them back.
 ///
 /// [`Fault::Memory`]: memory was refused.
-fn both_letters<P: Copy>(
+fn both_letters<P: Copy, K: Copy>(
     alloc: Global,
+    spare: &mut Spare<P, K>,
     worker: u32,
     serial: u64,
     sends: &[Sent<P>],
@@ -197,11 +207,11 @@ fn both_letters<P: Copy>(
     ensures anti_messages { IfOk result (λ made. made.1 ≡ map (signed Minus) (stamped worker serial sends.now)) }
     ensures refused { IfErr result (λ fault. fault ≡ Memory) }
 {
-    let messages = match letters(alloc, Sign::Plus, worker, serial, sends) {
+    let messages = match letters(alloc, spare, Sign::Plus, worker, serial, sends) {
         Ok(messages) => messages,
         Err(fault) => return Err(fault),
     };
-    let anti_messages = match letters(alloc, Sign::Minus, worker, serial, sends) {
+    let anti_messages = match letters(alloc, spare, Sign::Minus, worker, serial, sends) {
         Ok(anti_messages) => anti_messages,
         Err(fault) => return Err(fault),
     };
@@ -213,6 +223,7 @@ fn both_letters<P: Copy>(
 /// [`Fault::Memory`]: memory was refused.
 fn keep<P: Copy, K: Copy>(
     alloc: Global,
+    spare: &mut Spare<P, K>,
     pending: &mut Pending<P>,
     past: &mut List<PastEvent<P, K>>,
     trail: Trail<P, K>,
@@ -244,7 +255,7 @@ fn keep<P: Copy, K: Copy>(
         records,
         anti_messages,
     };
-    match Parcel::new(alloc, event) {
+    match spare.event(alloc, event) {
         Ok(event) => {
             past.push_back(event);
             Ok(())

@@ -6,6 +6,7 @@ ghost use Rattle.vt_steps.specs.Letters.{least_time};
 ghost use Rattle.vt_lp.specs.Guards.{ready_rank, lesser_rank};
 
 use crate::entry::PastEvent;
+use crate::spare::Spare;
 use std::marker::Model;
 use vt_key::{Letter, Rank, Time};
 use vt_list::List;
@@ -26,6 +27,8 @@ pub struct Lp<M: EventModel> {
     pub(crate) past: List<PastEvent<M::Payload, M::Kept>>,
     pub(crate) pending: Pending<M::Payload>,
     pub(crate) waiting: Pending<M::Payload>,
+    // Memory of committed events, for the next ones.
+    pub(crate) spare: Spare<M::Payload, M::Kept>,
 }
 
 impl<M: EventModel> Model for Lp<M> {

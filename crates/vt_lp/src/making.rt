@@ -4,16 +4,18 @@ ghost use Rattle.std.specs.Prelude.{◌≡◌, ◌+◌, ◌≤◌, ◌↔◌, le
 ghost use Rattle.vt_key.specs.declared.fault.Fault.TheVariants.{Memory};
 ghost use Rattle.vt_steps.specs.Letters.{stamped, signed};
 
+use crate::spare::Spare;
 use std::alloc::Global;
 use vt_key::{Event, Fault, Letter, MAX_COUNT, Rank, Sign, Stamp};
-use vt_list::{List, Parcel};
+use vt_list::List;
 use vt_model::Sent;
 
 /// The letters of these sends, with this sign and with stamps of a worker from a serial on, each in a parcel of its own.
 ///
 /// [`Fault::Memory`]: memory was refused.
-pub(crate) fn letters<P: Copy>(
+pub(crate) fn letters<P: Copy, K: Copy>(
     alloc: Global,
+    spare: &mut Spare<P, K>,
     sign: Sign,
     worker: u32,
     serial: u64,
@@ -35,7 +37,7 @@ pub(crate) fn letters<P: Copy>(
             dest: send.dest,
             payload: send.payload,
         };
-        let Ok(letter) = Parcel::new(alloc, Letter { event, sign }) else {
+        let Ok(letter) = spare.letter(alloc, Letter { event, sign }) else {
             return Err(Fault::Memory);
         };
         letters.push_back(letter);

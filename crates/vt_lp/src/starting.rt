@@ -10,6 +10,7 @@ ghost use Rattle.vt_lp.specs.Held.{StandsFor, opening_process, AllWithinRun};
 
 use crate::lp::Lp;
 use crate::making::{is_counted, letters};
+use crate::spare::Spare;
 use std::alloc::Global;
 use vt_key::{Fault, Letter, MAX_COUNT, Sign};
 use vt_list::List;
@@ -42,7 +43,8 @@ impl<M: EventModel> Lp<M> {
         if lp >= config.lps {
             return Err(Fault::NotLawful);
         }
-        let (process, mut messages) = match start(alloc, model, config, lp, *serial) {
+        let mut spare = Spare::new(alloc);
+        let (process, mut messages) = match start(alloc, &mut spare, model, config, lp, *serial) {
             Ok(started) => started,
             Err(fault) => return Err(fault),
         };
@@ -55,6 +57,7 @@ impl<M: EventModel> Lp<M> {
             past: List::new(alloc),
             pending: Pending::new(alloc),
             waiting: Pending::new(alloc),
+            spare,
         })
     }
 }
@@ -64,6 +67,7 @@ impl<M: EventModel> Lp<M> {
 /// [`Fault::Exhausted`]: the serial would pass 2^63. [`Fault::Memory`]: memory was refused.
 fn start<M: EventModel>(
     alloc: Global,
+    spare: &mut Spare<M::Payload, M::Kept>,
     model: &M,
     config: Config,
     lp: u32,
@@ -85,7 +89,7 @@ fn start<M: EventModel>(
         return Err(Fault::Exhausted);
     }
     let worker = config.owner(lp);
-    match letters(alloc, Sign::Plus, worker, serial, out.sends()) {
+    match letters(alloc, spare, Sign::Plus, worker, serial, out.sends()) {
         Ok(messages) => Ok((process, messages)),
         Err(fault) => Err(fault),
     }
