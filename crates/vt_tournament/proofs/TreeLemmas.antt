@@ -1,5 +1,6 @@
 -- The tree of winners: what stands in it at first, how a place is decided, and what the first place has.
-use Rattle.std.proofs.Common.{◌≡◌, ℕ, zero, suc, ◌+◌, ◌-◌, ◌*◌, ◌/◌, ◌<◌, ◌≤◌, ◌⊎◌, inl, inr, Bool, false, nat_lt, if◌then◌else◌, ◌++◌, List, [], ◌∷◌, length, slice_index_or, Option, Some, None, slice_get, slice_set, replicate, length-append, refl, sym, subst, ap, ◌∙◌, arith}
+use Rattle.std.proofs.Common.{◌≡◌, ℕ, zero, suc, ◌+◌, ◌-◌, ◌*◌, ◌/◌, ◌<◌, ◌≤◌, ◌⊎◌, inl, inr, Bool, true, false, nat_lt, if◌then◌else◌, ◌++◌, List, [], ◌∷◌, length, slice_index_or, Option, Some, None, IfNone, slice_get, slice_set, replicate, length-append, refl, sym, subst, ap, ◌∙◌, arith}
+use Rattle.std.specs.Option.{is_some}
 use Rattle.std.proofs.lemmas.List.{get_or-set_same, get_or-set_other, length-set, length-replicate}
 use Rattle.std.proofs.lemmas.Bool.{cases_order, le-ltb}
 use Rattle.std.proofs.lemmas.Option.{slice_get-get_or, slice_get_past}
@@ -224,3 +225,24 @@ module _ (ranks : List (Option Rank)) (nodes : List Node) (tree : IsTree ranks n
   nobody is i other h =
       behind-none other (node nodes 1).number i
       (subst (λ (r : Option Rank). is_ahead_by (Some other) i r (node nodes 1).number ≡ false) is (not_behind-entry i (Some other) h))
+
+-- an option that is something has it, and one that isn't is None
+pub some_of : {X : Type 0} (o : Option X) → is_some o ≡ true → (x : X) × (o ≡ Some x)
+some_of None part = absurd (let h : false ≡ true = part in cc)
+some_of (Some x) part = (x, refl)
+
+pub none_of : {X : Type 0} (o : Option X) → is_some o ≡ false → o ≡ None
+none_of None part = refl
+none_of (Some x) part = absurd (let h : true ≡ false = part in cc)
+
+-- where nobody takes part, an entry of None is there already
+pub set-nobody : (ranks : List (Option Rank)) (number : ℕ) → ((i : ℕ) (rank : Rank) → slice_get ranks i ≡ Some (Some rank) → ⊥) → slice_set ranks number None ≡ ranks
+set-nobody [] number none = refl
+set-nobody (None ∷ rest) zero none = refl
+set-nobody (Some rank ∷ rest) zero none = absurd (none 0 rank refl)
+set-nobody (entry ∷ rest) (suc i) none = ap (λ xs. entry ∷ xs) (set-nobody rest i (λ j rank at. none (suc j) rank at))
+
+-- what holds where an option is None
+pub told_none : {X P : Type 0} (o : Option X) → is_some o ≡ false → IfNone o P → P
+told_none None part told = told
+told_none (Some x) part told = absurd (let h : true ≡ false = part in cc)

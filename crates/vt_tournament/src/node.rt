@@ -1,6 +1,7 @@
 //! A node of the tree, and who of two is ahead.
 
-ghost use Rattle.std.specs.Prelude.{◌≡◌, ◌<◌, length};
+ghost use Rattle.std.specs.Prelude.{◌≡◌, ◌<◌, None, length, slice_index_or};
+ghost use Rattle.std.specs.Option.{is_some};
 ghost use Rattle.vt_tournament.specs.Contest.{is_ahead, winner_of, contestant, node_of};
 
 use vt_key::{Rank, Time};
@@ -34,6 +35,15 @@ impl Node {
                 number,
             },
         }
+    }
+
+    /// Whether its contestant takes part. Mostly the node alone tells.
+    pub(crate) fn takes_part(&self, ranks: &[Option<Rank>]) -> bool
+        requires known { self.now.number < length ranks.now }
+        requires fits { self.now ≡ node_of (contestant ranks.now self.now.number) }
+        ensures { result ≡ is_some (slice_index_or ranks.now self.now.number None) }
+    {
+        self.time != LATEST || self.source != u32::MAX || ranks[self.number as usize].is_some()
     }
 
     /// Whether this one is ahead of the other: by rank, and with equal ranks by number. Who takes no part comes last.

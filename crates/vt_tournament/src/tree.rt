@@ -59,6 +59,10 @@ impl Tournament {
         requires { number < length self.old }
         ensures { self.new ≡ slice_set self.old number rank }
     {
+        // Where nobody takes part, the entry isn't even read.
+        if rank.is_none() && self.winner().is_none() {
+            return;
+        }
         if are_same(&self.ranks[number as usize], &rank) {
             return;
         }
@@ -71,10 +75,11 @@ impl Tournament {
         ensures nobody { IfNone result ((i : ℕ) (rank : Rank) → slice_get self.now i ≡ Some (Some rank) → ⊥) }
         ensures least { IfSome result (IsLeast self.now) }
     {
-        let winner = self.nodes[1].number;
-        match &self.ranks[winner as usize] {
-            Some(_) => Some(winner),
-            None => None,
+        let first = self.nodes[1];
+        if first.takes_part(self.ranks.as_slice()) {
+            Some(first.number)
+        } else {
+            None
         }
     }
 }
