@@ -15,7 +15,7 @@ use Rattle.vt_steps.specs.World.{LogicalProcess, Part, process_at}
 use Rattle.vt_steps.specs.PartSteps.{process_after_commit, part_after_commit, ripe_rows, rows_of_processes}
 use Rattle.vt_steps.specs.StandsFor.{StandsForProcess, StandForProcesses}
 use Rattle.vt_lp.specs.Held.{HeldProcess, process_memory, StandsFor as ProcessStandsFor}
-use Rattle.vt_kernel.specs.Held.{HeldWorker, StandsFor, AreProcesses, TellsLeast, IsWorkerInside, entries_of, earliest_of, ready_of}
+use Rattle.vt_kernel.specs.Held.{HeldWorker, StandsFor, AreProcesses, TellsLeast, IsWorkerInside, entries_of, unready_of, ready_of}
 use Rattle.vt_kernel.specs.Guards.{IsForgotten}
 use Rattle.vt_kernel.proofs.PartLemmas.{stands_along}
 use Rattle.vt_kernel.proofs.ProcessLemmas.{get-map_of, stands-at, process-at}
@@ -40,21 +40,6 @@ module _ {S P K : Type 0} (floor : Time) where
   are-forgotten config w base [] (y ∷ ys) f h = absurd f
   are-forgotten config w base (x ∷ xs) [] f h = absurd f
   are-forgotten config w base (x ∷ xs) (y ∷ ys) f h = (f.0.lp ∙ h.0, f.0.config ∙ h.1, are-forgotten config w (base + 1) xs ys f.1 h.2)
-
-  earliest-one : (x y : HeldProcess S P K) → IsForgotten floor x y → earliest_of y ≡ earliest_of x
-  earliest-one x y f = (λ j. earliest_of (record x { pending = f.pending j; waiting = f.waiting j }))
-
-  earliest-map : (xs ys : List (HeldProcess S P K)) → AllForgotten xs ys → map earliest_of ys ≡ map earliest_of xs
-  earliest-map [] [] f = refl
-  earliest-map [] (y ∷ ys) f = absurd f
-  earliest-map (x ∷ xs) [] f = absurd f
-  earliest-map (x ∷ xs) (y ∷ ys) f = (λ j. earliest-one x y f.0 j ∷ earliest-map xs ys f.1 j)
-
-  pub earliest-forgotten : (xs ys : List (HeldProcess S P K)) → AllForgotten xs ys → entries_of earliest_of ys ≡ entries_of earliest_of xs
-  earliest-forgotten [] [] f = refl
-  earliest-forgotten [] (y ∷ ys) f = absurd f
-  earliest-forgotten (x ∷ xs) [] f = absurd f
-  earliest-forgotten (x ∷ xs) (y ∷ ys) f = earliest-map (x ∷ xs) (y ∷ ys) f
 
   pub least-forgotten : (x y : HeldProcess S P K) → IsForgotten floor x y → TellsLeast x → TellsLeast y
   least-forgotten x y f h =
@@ -107,13 +92,13 @@ module _ {S P K : Type 0} where
       }
 
   -- how the fields of a worker go together then
-  pub inside-commit : {config : Config} {w : ℕ} {xs : List (HeldProcess S P K)} {outbox : List (Letter P)} {arrived : List (Mail P)} {sent got : Counts} {serial : ℕ} {ready earliest : List (Option Rank)} →
-      (floor : Time) (ys : List (HeldProcess S P K)) (entered : List (Option Rank)) → length ys ≡ length xs →
+  pub inside-commit : {config : Config} {w : ℕ} {xs : List (HeldProcess S P K)} {outbox : List (Letter P)} {arrived : List (Mail P)} {sent got : Counts} {serial : ℕ} {ready unready : List (Option Rank)} →
+      (floor : Time) (ys : List (HeldProcess S P K)) (entered entered_unready : List (Option Rank)) → length ys ≡ length xs →
       ((k : ℕ) (d : HeldProcess S P K) → k < length xs → IsForgotten floor (slice_index_or xs k d) (slice_index_or ys k d)) →
-      entered ≡ entries_of ready_of ys →
-      IsWorkerInside config w xs outbox arrived sent got serial ready earliest →
-      IsWorkerInside config w ys outbox arrived sent got serial entered earliest
-  inside-commit {config} {w} {xs} floor ys entered long each is h =
+      entered ≡ entries_of ready_of ys → entered_unready ≡ entries_of unready_of ys →
+      IsWorkerInside config w xs outbox arrived sent got serial ready unready →
+      IsWorkerInside config w ys outbox arrived sent got serial entered entered_unready
+  inside-commit {config} {w} {xs} floor ys entered entered_unready long each is isnt h =
       let all : AllForgotten floor xs ys = forgotten-each floor xs ys long each in
       record {
         known = h.known;
@@ -125,7 +110,7 @@ module _ {S P K : Type 0} where
         few_got = h.few_got;
         few_made = h.few_made;
         ready_entered = is;
-        earliest_entered = h.earliest_entered ∙ sym (earliest-forgotten floor xs ys all);
+        unready_entered = isnt;
         least_told = λ k d within. let inside : k < length xs = omega arith in least-forgotten floor (slice_index_or xs k d) (slice_index_or ys k d) (each k d inside) (h.least_told k d inside);
       }
 

@@ -1,5 +1,5 @@
 -- Home and Accept: a letter leaves the outbox or the mail that has arrived, and reaches its process.
-use Rattle.std.proofs.Common.{◌≡◌, ℕ, zero, suc, ◌+◌, ◌-◌, ◌*◌, ◌/◌, ◌%◌, ◌<◌, ◌≤◌, inl, inr, Bool, true, false, cond, ◌||◌, nat_eq, List, [], ◌∷◌, ◌++◌, map, length, take, drop, refl, sym, ◌∙◌, ap, subst, arith, Option, Some, None, slice_get, slice_set, if◌then◌else◌}
+use Rattle.std.proofs.Common.{◌≡◌, ℕ, zero, suc, ◌/◌, ◌%◌, inl, inr, Bool, true, false, cond, ◌||◌, nat_eq, List, [], ◌∷◌, map, take, drop, refl, sym, ◌∙◌, ap, subst, Option, Some, None, slice_get, slice_set, if◌then◌else◌}
 use Rattle.std.specs.List.{All, find, remove, list_any}
 use Rattle.vt_key.specs.Order.{rank_same}
 use Rattle.vt_key.specs.declared.letter.Sign.{Sign}
@@ -15,7 +15,7 @@ use Rattle.vt_key.specs.declared.letter.Mail.{Mail}
 use Rattle.vt_list.specs.First.{without_first as list_without_first}
 use Rattle.vt_model.specs.declared.settings.Config.{Config}
 use Rattle.vt_model.specs.Handler.{Handlers}
-use Rattle.vt_model.specs.Simulation.{Simulation, simulation_of}
+use Rattle.vt_model.specs.Simulation.{simulation_of}
 use Rattle.vt_steps.specs.declared.step.Step.TheVariants as step
 use Rattle.vt_steps.specs.Letters.{without_first, has_rank, Counts}
 use Rattle.vt_steps.specs.World.{Entry, LogicalProcess, Part}
@@ -24,9 +24,9 @@ use Rattle.vt_steps.specs.PartSteps.{at_process, with_effect, is_for, home, home
 use Rattle.vt_lp.specs.Held.{HeldProcess, remembered, IsWithinRun, StandsFor as ProcessStandsFor}
 use Rattle.vt_lp.specs.Guards.{holds_letter, IsDone as ProcessIsDone}
 use Rattle.vt_kernel.specs.Held.{HeldWorker, StandsFor, AreProcesses, IsWorkerInside}
-use Rattle.vt_kernel.specs.Local.{at_own, local_step}
+use Rattle.vt_kernel.specs.Local.{local_step}
 use Rattle.vt_kernel.specs.Guards.{IsDone}
-use Rattle.vt_kernel.proofs.OwnSteps.{own, own-step, found, refused-at, IsFound}
+use Rattle.vt_kernel.proofs.OwnSteps.{own, own-step, found, refused-at}
 use Rattle.vt_kernel.proofs.LocalLemmas.{at-found-done, plain-done}
 
 -- the two ways to leave out the first that passes are one
@@ -162,8 +162,8 @@ module _ {S P K : Type 0} (handlers : Handlers S P K) (held : HeldWorker S P K) 
       ∙ ap (accept_mail (simulation_of handlers held.config) i part) (ap (λ ms. slice_get ms i) h.arrived ∙ none)
 
 -- a letter that was found in the outbox is for one of the worker's processes, before the end of the run
-pub found-in : {S P K : Type 0} {config : Config} {w : ℕ} {processes : List (HeldProcess S P K)} {outbox : List (Letter P)} {arrived : List (Mail P)} {sent got : Counts} {serial : ℕ} {ready earliest : List (Option Rank)}
-    → IsWorkerInside config w processes outbox arrived sent got serial ready earliest → (letter : Letter P) → find (λ (l : Letter P). nat_eq (l.event.dest % config.workers) w) outbox ≡ Some letter
+pub found-in : {S P K : Type 0} {config : Config} {w : ℕ} {processes : List (HeldProcess S P K)} {outbox : List (Letter P)} {arrived : List (Mail P)} {sent got : Counts} {serial : ℕ} {ready unready : List (Option Rank)}
+    → IsWorkerInside config w processes outbox arrived sent got serial ready unready → (letter : Letter P) → find (λ (l : Letter P). nat_eq (l.event.dest % config.workers) w) outbox ≡ Some letter
     → (letter.event.dest % config.workers ≡ w) × IsWithinRun config.lps config.end letter
 found-in {config = config} {w = w} {outbox = outbox} h letter is = (
   for-worker config.workers w letter.event.dest (find-passes (λ l. nat_eq (l.event.dest % config.workers) w) outbox letter is),

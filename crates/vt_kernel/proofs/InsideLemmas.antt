@@ -8,11 +8,11 @@ use Rattle.vt_steps.specs.Letters.{Counts}
 use Rattle.vt_lp.specs.Held.{HeldProcess, AllWithinRun}
 use Rattle.vt_kernel.specs.Held.{IsWorkerInside, AllOwnMail, AreCounted}
 
-module _ {S P K : Type 0} {config : Config} {w : ℕ} {processes : List (HeldProcess S P K)} {outbox : List (Letter P)} {arrived : List (Mail P)} {sent got : Counts} {serial : ℕ} {ready earliest : List (Option Rank)} where
+module _ {S P K : Type 0} {config : Config} {w : ℕ} {processes : List (HeldProcess S P K)} {outbox : List (Letter P)} {arrived : List (Mail P)} {sent got : Counts} {serial : ℕ} {ready unready : List (Option Rank)} where
   -- other mail that has arrived, and other counts of what was got
   pub inside-arrived : (mails : List (Mail P)) (counts : Counts) → AllOwnMail config w mails → AreCounted counts →
-      IsWorkerInside config w processes outbox arrived sent got serial ready earliest →
-      IsWorkerInside config w processes outbox mails sent counts serial ready earliest
+      IsWorkerInside config w processes outbox arrived sent got serial ready unready →
+      IsWorkerInside config w processes outbox mails sent counts serial ready unready
   inside-arrived mails counts own few h = record {
     known = h.known;
     all_there = h.all_there;
@@ -23,14 +23,14 @@ module _ {S P K : Type 0} {config : Config} {w : ℕ} {processes : List (HeldPro
     few_got = few;
     few_made = h.few_made;
     ready_entered = h.ready_entered;
-    earliest_entered = h.earliest_entered;
+    unready_entered = h.unready_entered;
     least_told = h.least_told;
   }
 
   -- another outbox, and other counts of what was sent
   pub inside-outbox : (letters : List (Letter P)) (counts : Counts) → AllWithinRun config letters → AreCounted counts →
-      IsWorkerInside config w processes outbox arrived sent got serial ready earliest →
-      IsWorkerInside config w processes letters arrived counts got serial ready earliest
+      IsWorkerInside config w processes outbox arrived sent got serial ready unready →
+      IsWorkerInside config w processes letters arrived counts got serial ready unready
   inside-outbox letters counts within few h = record {
     known = h.known;
     all_there = h.all_there;
@@ -41,6 +41,6 @@ module _ {S P K : Type 0} {config : Config} {w : ℕ} {processes : List (HeldPro
     few_got = h.few_got;
     few_made = h.few_made;
     ready_entered = h.ready_entered;
-    earliest_entered = h.earliest_entered;
+    unready_entered = h.unready_entered;
     least_told = h.least_told;
   }

@@ -1,17 +1,21 @@
 -- The least time of all letters that wait at a worker's processes, by a tournament over their least ranks.
-use Rattle.std.proofs.Common.{◌≡◌, ◌∙◌, ℕ, zero, suc, List, [], ◌∷◌, ◌++◌, Option, Some, None, slice_get, refl, sym, ap, subst, inl}
+use Rattle.std.proofs.Common.{◌≡◌, ◌∙◌, ℕ, zero, suc, List, [], ◌∷◌, ◌++◌, ◌<◌, ◌⊎◌, inl, inr, Bool, true, false, if◌then◌else◌, Option, Some, None, IfSome, IfNone, length, slice_get, refl, sym, ap, subst}
 use Rattle.std.specs.List.{All, flat_map}
 use Rattle.std.proofs.lemmas.Option.{get_or_from_slice_get, slice_get_within}
-use Rattle.vt_key.specs.Times.{Time, TimeAtMost}
+use Rattle.vt_key.specs.Times.{Time, TimeAtMost, earlier}
+use Rattle.vt_key.specs.Order.{rank_same}
+use Rattle.vt_key.proofs.OrderLemmas.{rank_same-true}
 use Rattle.vt_key.specs.declared.order.Rank.{Rank}
 use Rattle.vt_key.specs.declared.letter.Letter.{Letter}
 use Rattle.vt_model.specs.declared.settings.Config.{Config}
-use Rattle.vt_steps.specs.Letters.{least_time}
+use Rattle.std.specs.List.{last_or}
+use Rattle.vt_steps.specs.Letters.{letter_time, least_time}
 use Rattle.vt_tournament.specs.Least.{IsLeast}
 use Rattle.vt_lp.specs.Held.{HeldProcess}
-use Rattle.vt_kernel.specs.Held.{AreProcesses, TellsLeast, earliest_of, entries_of, rank_time}
+use Rattle.vt_lp.specs.Guards.{ready_rank, may_come_after}
+use Rattle.vt_kernel.specs.Held.{AreProcesses, TellsLeast, ready_of, earliest_of, unready_of, other_rank, entries_of, rank_time}
 use Rattle.vt_kernel.proofs.ProcessLemmas.{get-map_of, process-at}
-use Rattle.vt_kernel.proofs.TimeLemmas.{least_time-low, least_time-append, same_low, same_times, at_most_both, earlier_low, earlier_low_right, not_before}
+use Rattle.vt_kernel.proofs.TimeLemmas.{least_time-low, least_time-append, same_low, same_times, at_most_both, earlier_low, earlier_low_right, not_before, at_most_chain}
 
 same_entry : {X : Type 0} (a b : X) → Some a ≡ Some b → a ≡ b
 same_entry a b e = cc
@@ -23,6 +27,29 @@ all-at Q xs i x all at = subst Q (get_or_from_slice_get xs i x x at) (all i x (s
 rank_low : (end t : Time) (o : Option Rank) → TimeAtMost t end → ((rank : Rank) → o ≡ Some rank → TimeAtMost t rank.key.time) → TimeAtMost t (rank_time end o)
 rank_low end t None low each = low
 rank_low end t (Some rank) low each = each rank refl
+
+-- what stands under a condition
+given : (b : Bool) (x r : Rank) → (if b then Some x else None) ≡ Some r → r ≡ x
+given true x r is = let h : Some x ≡ Some r = is in cc
+given false x r is = absurd (let h : None ≡ Some r = is in cc)
+
+-- of two ranks of which the second is least, one or the other is it
+other-or : (ready : Option Rank) (rank : Rank) → (ready ≡ Some rank) ⊎ (other_rank ready (Some rank) ≡ Some rank)
+other-or None rank = inr refl
+other-or (Some r) rank =
+    elim (rank_same r rank) as (λ b. rank_same r rank ≡ b → (Some r ≡ Some rank) ⊎ ((if b then None else Some rank) ≡ Some rank)) [
+      | true ↦ λ is. inl (ap Some (rank_same-true r rank is))
+      | false ↦ λ is. inr refl
+    ] refl
+
+other-only : (ready least : Option Rank) (rank : Rank) → other_rank ready least ≡ Some rank → least ≡ Some rank
+other-only None least rank is = is
+other-only (Some r) None rank is = is
+other-only (Some r) (Some l) rank is =
+    elim (rank_same r l) as (λ b. (if b then None else Some l) ≡ Some rank → Some l ≡ Some rank) [
+      | true ↦ λ h. absurd (let k : None ≡ Some rank = h in cc)
+      | false ↦ λ h. h
+    ] is
 
 module _ {X P : Type 0} (end : Time) (letters : X → List (Letter P)) where
   -- a time that is at most each one's least time is at most the least of all
@@ -51,23 +78,50 @@ module _ {S P K : Type 0} where
   abbrev pub kept_letters : HeldProcess S P K → List (Letter P)
   kept_letters held = held.pending ++ held.waiting
 
-  -- the entry of a process
-  entered : (processes : List (HeldProcess S P K)) (i : ℕ) (held : HeldProcess S P K) → slice_get processes i ≡ Some held →
-      slice_get (entries_of earliest_of processes) i ≡ Some (earliest_of held)
-  entered [] i held at = absurd (let h : None ≡ Some held = at in cc)
-  entered (x ∷ xs) i held at = get-map_of earliest_of (x ∷ xs) i held at
+  module _ (entry : HeldProcess S P K → Option Rank) where
+    -- the entry of a process
+    entered : (processes : List (HeldProcess S P K)) (i : ℕ) (held : HeldProcess S P K) → slice_get processes i ≡ Some held →
+        slice_get (entries_of entry processes) i ≡ Some (entry held)
+    entered [] i held at = absurd (let h : None ≡ Some held = at in cc)
+    entered (x ∷ xs) i held at = get-map_of entry (x ∷ xs) i held at
 
-  -- who has an entry with a rank is a process
-  pub entrant : (processes : List (HeldProcess S P K)) (i : ℕ) (rank : Rank) → slice_get (entries_of earliest_of processes) i ≡ Some (Some rank) →
-      (held : HeldProcess S P K) × (slice_get processes i ≡ Some held) × (earliest_of held ≡ Some rank)
-  entrant [] zero rank at = absurd (let h : Some None ≡ Some (Some rank) = at in cc)
-  entrant [] (suc i) rank at = absurd (let h : None ≡ Some (Some rank) = at in cc)
-  entrant (x ∷ xs) zero rank at = (x, refl, let h : Some (earliest_of x) ≡ Some (Some rank) = at in cc)
-  entrant (x ∷ []) (suc i) rank at = absurd (let h : None ≡ Some (Some rank) = at in cc)
-  entrant (x ∷ y ∷ ys) (suc i) rank at = entrant (y ∷ ys) i rank at
+    -- who has an entry with a rank is a process
+    pub entrant : (processes : List (HeldProcess S P K)) (i : ℕ) (rank : Rank) → slice_get (entries_of entry processes) i ≡ Some (Some rank) →
+        (held : HeldProcess S P K) × (slice_get processes i ≡ Some held) × (entry held ≡ Some rank)
+    entrant [] zero rank at = absurd (let h : Some None ≡ Some (Some rank) = at in cc)
+    entrant [] (suc i) rank at = absurd (let h : None ≡ Some (Some rank) = at in cc)
+    entrant (x ∷ xs) zero rank at = (x, refl, let h : Some (entry x) ≡ Some (Some rank) = at in cc)
+    entrant (x ∷ []) (suc i) rank at = absurd (let h : None ≡ Some (Some rank) = at in cc)
+    entrant (x ∷ y ∷ ys) (suc i) rank at = entrant (y ∷ ys) i rank at
+
+  -- a winner stands for a process
+  pub winner-within : (entry : HeldProcess S P K → Option Rank) (processes : List (HeldProcess S P K)) (i : ℕ) → IsLeast (entries_of entry processes) i → i < length processes
+  winner-within entry processes i least = let who = entrant entry processes i least.rank least.entered in slice_get_within processes i who.0 who.1
+
+  pub winner-there : (entry : HeldProcess S P K → Option Rank) (processes : List (HeldProcess S P K)) (winner : Option ℕ) → IfSome winner (IsLeast (entries_of entry processes)) → IfSome winner (λ i. i < length processes)
+  winner-there entry processes None least = tt
+  winner-there entry processes (Some i) least = winner-within entry processes i least
+
+  -- what is ready is pending first
+  ready-pending : (held : HeldProcess S P K) (rank : Rank) → ready_of held ≡ Some rank → (end : Time) → TimeAtMost (least_time end (kept_letters held)) rank.key.time
+  ready-pending held rank is end = go held.pending is
+    where
+      go : (pending : List (Letter P)) → ready_rank pending held.past ≡ Some rank → TimeAtMost (least_time end (pending ++ held.waiting)) rank.key.time
+      go [] is = absurd (let h : None ≡ Some rank = is in cc)
+      go (l ∷ ls) is =
+          let same : rank ≡ l.event.rank = given (may_come_after (last_or None held.past) l.event.rank) l.event.rank rank is in
+          subst (λ (r : Rank). TimeAtMost (least_time end (l ∷ ls ++ held.waiting)) r.key.time) (sym same)
+          (earlier_low (letter_time l) (least_time end (ls ++ held.waiting)) (letter_time l) (same_low (letter_time l)))
+
+  -- the least rank is entered in one of the two tournaments, and only it in the second
+  one-of-both : (held : HeldProcess S P K) (rank : Rank) → earliest_of held ≡ Some rank → (ready_of held ≡ Some rank) ⊎ (unready_of held ≡ Some rank)
+  one-of-both held rank is = subst (λ (o : Option Rank). (ready_of held ≡ Some rank) ⊎ (other_rank (ready_of held) o ≡ Some rank)) (sym is) (other-or (ready_of held) rank)
+
+  only-least : (held : HeldProcess S P K) (rank : Rank) → unready_of held ≡ Some rank → earliest_of held ≡ Some rank
+  only-least held rank is = other-only (ready_of held) (earliest_of held) rank is
 
 module _ {S P K : Type 0} (config : Config) (w : ℕ) where
-  -- the least time of a process, by its entry
+  -- the least time of a process, by its least rank
   pub told : (processes : List (HeldProcess S P K)) (i : ℕ) (held : HeldProcess S P K) → AreProcesses config w 0 processes → All TellsLeast processes → slice_get processes i ≡ Some held →
       rank_time config.end (earliest_of held) ≡ least_time config.end (kept_letters held)
   told processes i held are tells at =
@@ -75,28 +129,64 @@ module _ {S P K : Type 0} (config : Config) (w : ℕ) where
       subst (λ (c : Config). rank_time c.end (earliest_of held) ≡ least_time c.end (kept_letters held)) who.1 (all-at TellsLeast processes i held tells at)
 
   module _ (processes : List (HeldProcess S P K)) (are : AreProcesses config w 0 processes) (tells : All TellsLeast processes) where
-    -- where a process has the least rank of all, its least time is the least of all
-    pub winner_time : (i : ℕ) (held : HeldProcess S P K) → slice_get processes i ≡ Some held → IsLeast (entries_of earliest_of processes) i →
-        least_time config.end (flat_map kept_letters processes) ≡ least_time config.end (kept_letters held)
-    winner_time i held at least =
-        let rank = least.rank in
-        let mine : earliest_of held ≡ Some rank = same_entry (earliest_of held) (Some rank) (sym (entered processes i held at) ∙ least.entered) in
-        let time : rank.key.time ≡ least_time config.end (kept_letters held) = ap (rank_time config.end) (sym mine) ∙ told processes i held are tells at in
-        let low : TimeAtMost rank.key.time config.end = subst (λ (t : Time). TimeAtMost t config.end) (sym time) (least_time-low config.end (kept_letters held)) in
-        let each : (j : ℕ) (other : HeldProcess S P K) → slice_get processes j ≡ Some other → TimeAtMost rank.key.time (least_time config.end (kept_letters other)) =
-        λ j other there. subst (TimeAtMost rank.key.time) (told processes j other are tells there)
-        (rank_low config.end rank.key.time (earliest_of other) low (λ r is. not_before r.key.time rank.key.time (λ before. least.least j r (entered processes j other there ∙ ap Some is) (inl (inl before))))) in
-        same_times (least_time config.end (flat_map kept_letters processes)) (least_time config.end (kept_letters held))
-        (flat-at config.end kept_letters processes i held at)
-        (subst (λ (t : Time). TimeAtMost t (least_time config.end (flat_map kept_letters processes))) time (flat-low config.end kept_letters rank.key.time processes low each))
+    -- a time that comes from a tournament: of all letters it is not before the least, and no entry's is before it
+    pub record IsFirst (entry : HeldProcess S P K → Option Rank) (t : Time) : Type 0 where
+      pub low : TimeAtMost (least_time config.end (flat_map kept_letters processes)) t
+      pub end : TimeAtMost t config.end
+      pub entries : (j : ℕ) (other : HeldProcess S P K) (rank : Rank) → slice_get processes j ≡ Some other → entry other ≡ Some rank → TimeAtMost t rank.key.time
 
-    -- where nobody has a rank, nothing is there
-    pub nobody_time : ((i : ℕ) (rank : Rank) → slice_get (entries_of earliest_of processes) i ≡ Some (Some rank) → ⊥) →
-        least_time config.end (flat_map kept_letters processes) ≡ config.end
-    nobody_time nobody =
-        let each : (j : ℕ) (other : HeldProcess S P K) → slice_get processes j ≡ Some other → TimeAtMost config.end (least_time config.end (kept_letters other)) =
-        λ j other there. subst (TimeAtMost config.end) (told processes j other are tells there)
-        (rank_low config.end config.end (earliest_of other) (same_low config.end) (λ r is. absurd (nobody j r (entered processes j other there ∙ ap Some is)))) in
-        same_times (least_time config.end (flat_map kept_letters processes)) config.end
-        (least_time-low config.end (flat_map kept_letters processes))
-        (flat-low config.end kept_letters config.end processes (same_low config.end) each)
+    -- where nobody has an entry, the end is
+    pub nobody-first : (entry : HeldProcess S P K → Option Rank) → ((i : ℕ) (rank : Rank) → slice_get (entries_of entry processes) i ≡ Some (Some rank) → ⊥) → IsFirst entry config.end
+    nobody-first entry nobody = record {
+      low = least_time-low config.end (flat_map kept_letters processes);
+      end = same_low config.end;
+      entries = λ j other rank there is. absurd (nobody j rank (entered entry processes j other there ∙ ap Some is));
+    }
+
+    -- and else the least time of the process with the least entry
+    winner-first : (entry : HeldProcess S P K → Option Rank) →
+        ((j : ℕ) (other : HeldProcess S P K) (rank : Rank) → slice_get processes j ≡ Some other → entry other ≡ Some rank → TimeAtMost (least_time config.end (kept_letters other)) rank.key.time) →
+        (i : ℕ) (held : HeldProcess S P K) → slice_get processes i ≡ Some held → IsLeast (entries_of entry processes) i → IsFirst entry (least_time config.end (kept_letters held))
+    winner-first entry sound i held at least =
+        let rank = least.rank in
+        let mine : entry held ≡ Some rank = same_entry (entry held) (Some rank) (sym (entered entry processes i held at) ∙ least.entered) in
+        let first : TimeAtMost (least_time config.end (kept_letters held)) rank.key.time = sound i held rank at mine in
+        record {
+          low = flat-at config.end kept_letters processes i held at;
+          end = least_time-low config.end (kept_letters held);
+          entries = λ j other r there is.
+              let later : TimeAtMost rank.key.time r.key.time = not_before r.key.time rank.key.time (λ before. least.least j r (entered entry processes j other there ∙ ap Some is) (inl (inl before))) in
+              at_most_chain (least_time config.end (kept_letters held)) rank.key.time r.key.time first later;
+        }
+
+    pub ready-first : (i : ℕ) (held : HeldProcess S P K) → slice_get processes i ≡ Some held → IsLeast (entries_of ready_of processes) i → IsFirst ready_of (least_time config.end (kept_letters held))
+    ready-first = winner-first ready_of (λ j other rank there is. ready-pending other rank is config.end)
+
+    pub unready-first : (i : ℕ) (held : HeldProcess S P K) → slice_get processes i ≡ Some held → IsLeast (entries_of unready_of processes) i → IsFirst unready_of (least_time config.end (kept_letters held))
+    unready-first = winner-first unready_of (λ j other rank there is.
+        let time : least_time config.end (kept_letters other) ≡ rank.key.time = sym (told processes j other are tells there) ∙ ap (rank_time config.end) (only-least other rank is) in
+        subst (λ (t : Time). TimeAtMost (least_time config.end (kept_letters other)) t) time (same_low (least_time config.end (kept_letters other))))
+
+    -- the lesser of both is the least time of all
+    pub both-first : (a b : Time) → IsFirst ready_of a → IsFirst unready_of b → earlier a b ≡ least_time config.end (flat_map kept_letters processes)
+    both-first a b f g =
+        let low : TimeAtMost (earlier a b) config.end = earlier_low a b config.end f.end in
+        let each : (j : ℕ) (other : HeldProcess S P K) → slice_get processes j ≡ Some other → TimeAtMost (earlier a b) (least_time config.end (kept_letters other)) =
+        λ j other there. subst (TimeAtMost (earlier a b)) (told processes j other are tells there)
+        (rank_low config.end (earlier a b) (earliest_of other) low (λ r is. elim (one-of-both other r is) [
+          | inl here ↦ earlier_low a b r.key.time (f.entries j other r there here)
+          | inr here ↦ earlier_low_right a b r.key.time (g.entries j other r there here)
+        ])) in
+        same_times (earlier a b) (least_time config.end (flat_map kept_letters processes))
+        (flat-low config.end kept_letters (earlier a b) processes low each)
+        (at_most_both (least_time config.end (flat_map kept_letters processes)) a b f.low g.low)
+
+    -- what a tournament tells, by who wins there, if anybody does
+    pub told-first : (entry : HeldProcess S P K → Option Rank) →
+        ((i : ℕ) (held : HeldProcess S P K) → slice_get processes i ≡ Some held → IsLeast (entries_of entry processes) i → IsFirst entry (least_time config.end (kept_letters held))) →
+        (winner : Option ℕ) (t : Time) → IfSome winner (IsLeast (entries_of entry processes)) →
+        IfNone winner ((i : ℕ) (rank : Rank) → slice_get (entries_of entry processes) i ≡ Some (Some rank) → ⊥) →
+        IfSome winner (λ i. (held : HeldProcess S P K) × (slice_get processes i ≡ Some held) × (t ≡ least_time config.end (kept_letters held))) →
+        IfNone winner (t ≡ config.end) → IsFirst entry t
+    told-first entry first None t least nobody some none = subst (IsFirst entry) (sym none) (nobody-first entry nobody)
+    told-first entry first (Some i) t least nobody some none = subst (IsFirst entry) (sym some.2) (first i some.0 some.1 least)

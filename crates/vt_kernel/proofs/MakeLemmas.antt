@@ -19,7 +19,7 @@ use Rattle.vt_steps.specs.World.{process_at, process_count, start_sends}
 use Rattle.vt_steps.specs.StandsFor.{StandsForProcess, StandForProcesses}
 use Rattle.vt_lp.specs.Held.{HeldProcess, process_memory, StandsFor as ProcessStandsFor, opening_process}
 use Rattle.vt_lp.specs.Guards.{ready_rank, lesser_rank}
-use Rattle.vt_kernel.specs.Held.{AreProcesses, TellsLeast, entries_of, ready_of, earliest_of, rank_time}
+use Rattle.vt_kernel.specs.Held.{AreProcesses, TellsLeast, entries_of, ready_of, earliest_of, unready_of, other_rank, rank_time}
 
 -- ---- lists
 
@@ -185,8 +185,11 @@ module _ {S P K : Type 0} where
     pub ready-opening : (xs : List (HeldProcess S P K)) → All IsOpening xs → entries_of ready_of xs ≡ entries_of (λ (x : HeldProcess S P K). no_rank) xs
     ready-opening xs all = entries-opening ready_of ready-none xs all
 
-    pub earliest-opening : (xs : List (HeldProcess S P K)) → All IsOpening xs → entries_of earliest_of xs ≡ entries_of (λ (x : HeldProcess S P K). no_rank) xs
-    earliest-opening xs all = entries-opening earliest_of earliest-none xs all
+    unready-none : (held : HeldProcess S P K) → IsOpening held → unready_of held ≡ None
+    unready-none held s = (λ j. other_rank (ready-none held s j) (earliest-none held s j))
+
+    pub unready-opening : (xs : List (HeldProcess S P K)) → All IsOpening xs → entries_of unready_of xs ≡ entries_of (λ (x : HeldProcess S P K). no_rank) xs
+    unready-opening xs all = entries-opening unready_of unready-none xs all
 
     stand-all : (config : Config) (w base : ℕ) (xs : List (HeldProcess S P K)) → AreProcesses config w base xs → All IsOpening xs →
         StandForProcesses (simulation_of handlers config) w base (map (process_memory handlers) xs) (replicate (length xs) opening_process)

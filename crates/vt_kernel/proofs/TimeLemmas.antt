@@ -28,6 +28,9 @@ same_times a b low high = omega arith
 pub not_before : (a b : Time) → (TimeBefore a b → ⊥) → TimeAtMost b a
 not_before a b never = omega arith
 
+pub at_most_chain : (a b c : Time) → TimeAtMost a b → TimeAtMost b c → TimeAtMost a c
+at_most_chain a b c low more = omega arith
+
 pub same_low : (a : Time) → TimeAtMost a a
 same_low a = omega arith
 

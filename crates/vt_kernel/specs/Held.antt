@@ -3,6 +3,7 @@ use Rattle.std.specs.Prelude.{◌≡◌, ℕ, nat_eq, if◌then◌else◌, ◌+�
 use Rattle.vt_key.specs.Times.{Time}
 use Rattle.vt_key.specs.declared.limits.TheConstants.{MAX_COUNT}
 use Rattle.vt_key.specs.declared.order.Rank.{Rank}
+use Rattle.vt_key.specs.Order.{rank_same}
 use Rattle.vt_key.specs.declared.letter.Letter.{Letter}
 use Rattle.vt_key.specs.declared.letter.Mail.{Mail}
 use Rattle.vt_key.specs.declared.letter.Colour.{Colour}
@@ -75,6 +76,12 @@ abbrev pub rank_time : Time → Option Rank → Time
 rank_time end None = end
 rank_time end (Some rank) = rank.key.time
 
+-- the least rank, unless it is that of what is ready
+abbrev pub other_rank : Option Rank → Option Rank → Option Rank
+other_rank None least = least
+other_rank (Some ready) None = None
+other_rank (Some ready) (Some least) = if rank_same ready least then None else Some least
+
 module _ {S P K : Type 0} where
   -- the processes of worker w from this place on
   abbrev pub AreProcesses : Config → ℕ → ℕ → List (HeldProcess S P K) → Type 0
@@ -89,6 +96,10 @@ module _ {S P K : Type 0} where
   -- the least rank of what is pending or waits at a process
   abbrev pub earliest_of : HeldProcess S P K → Option Rank
   earliest_of held = lesser_rank (slice_get held.pending 0) (slice_get held.waiting 0)
+
+  -- the least rank of what is pending or waits at a process, unless it is that of the event that Execute would execute
+  abbrev pub unready_of : HeldProcess S P K → Option Rank
+  unready_of held = other_rank (ready_of held) (earliest_of held)
 
   -- the least rank of a process tells the least time of what is pending or waits there
   abbrev pub TellsLeast : HeldProcess S P K → Type 0
@@ -106,7 +117,7 @@ pub record AreCounted (counts : Counts) : Type 0 where
 
 -- how the fields of a worker go together
 pub record IsWorkerInside {S P K : Type 0} (config : Config) (w : ℕ) (processes : List (HeldProcess S P K)) (outbox : List (Letter P))
-    (arrived : List (Mail P)) (sent got : Counts) (serial : ℕ) (ready earliest : List (Option Rank)) : Type 0 where
+    (arrived : List (Mail P)) (sent got : Counts) (serial : ℕ) (ready unready : List (Option Rank)) : Type 0 where
   pub known : w < config.workers
   pub all_there : length processes ≡ (config.lps + (config.workers - 1) - w) / config.workers
   pub own_processes : AreProcesses config w 0 processes
@@ -116,5 +127,5 @@ pub record IsWorkerInside {S P K : Type 0} (config : Config) (w : ℕ) (processe
   pub few_got : AreCounted got
   pub few_made : serial ≤ MAX_COUNT
   pub ready_entered : ready ≡ entries_of ready_of processes
-  pub earliest_entered : earliest ≡ entries_of earliest_of processes
+  pub unready_entered : unready ≡ entries_of unready_of processes
   pub least_told : All TellsLeast processes

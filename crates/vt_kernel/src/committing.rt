@@ -6,10 +6,11 @@ ghost use Rattle.vt_model.specs.Handler.{Handlers};
 ghost use Rattle.vt_model.specs.Simulation.{simulation_of};
 ghost use Rattle.vt_steps.specs.World.{Part};
 ghost use Rattle.vt_steps.specs.PartSteps.{part_after_commit, rows_of_commit};
-ghost use Rattle.vt_kernel.specs.Held.{StandsFor, entries_of, ready_of};
+ghost use Rattle.vt_kernel.specs.Held.{StandsFor, entries_of, ready_of, unready_of};
 ghost use Rattle.vt_kernel.specs.Guards.{IsForgotten};
 
 use crate::kernel::Kernel;
+use crate::local::enter;
 use std::alloc::Global;
 use vt_key::{Fault, Time};
 use vt_lp::Lp;
@@ -36,21 +37,33 @@ impl<M: EventModel> Kernel<M> {
         ensures stands { (handlers : Handlers _ _ _) (part : Part _) → StandsFor handlers self.old part → StandsFor handlers self.new (part_after_commit part) }
         ensures others { self.new ≡ record self.old { processes = self.new.processes } }
     {
-        forget_before(&mut self.processes, &mut self.ready, self.floor);
+        forget_before(
+            &mut self.processes,
+            &mut self.ready,
+            &mut self.unready,
+            self.floor,
+        );
     }
 }
 
-/// Each process forgets its past events before the floor, and enters anew whether it may execute.
-fn forget_before<M: EventModel>(processes: &mut Vec<Lp<M>>, ready: &mut Tournament, floor: Time)
+/// Each process forgets its past events before the floor, and enters the tournaments anew.
+fn forget_before<M: EventModel>(
+    processes: &mut Vec<Lp<M>>,
+    ready: &mut Tournament,
+    unready: &mut Tournament,
+    floor: Time,
+)
     requires few { length processes.old.items < 2 ^ 32 }
     requires entered { ready.old ≡ entries_of ready_of processes.old.items }
+    requires unready { unready.old ≡ entries_of unready_of processes.old.items }
     ensures count { length processes.new.items ≡ length processes.old.items }
     ensures forgotten { (k : ℕ) (d : _) → k < length processes.old.items → IsForgotten floor (slice_index_or processes.old.items k d) (slice_index_or processes.new.items k d) }
     ensures entered { ready.new ≡ entries_of ready_of processes.new.items }
+    ensures unready { unready.new ≡ entries_of unready_of processes.new.items }
 {
     for place in 0..processes.len() {
         let process = &mut processes[place];
         process.fossil(floor);
-        ready.set(place as u32, process.ready());
+        enter(ready, unready, process, place);
     }
 }

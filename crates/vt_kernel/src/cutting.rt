@@ -1,6 +1,7 @@
 //! The worker's part of a cut, and what it reports.
 
-ghost use Rattle.std.specs.Prelude.{◌≡◌, ◌++◌, map, flat_map};
+ghost use Rattle.std.specs.Prelude.{◌≡◌, ◌++◌, ◌<◌, Some, IfSome, IfNone, length, slice_get, map, flat_map};
+ghost use Rattle.vt_lp.specs.Held.{HeldProcess};
 ghost use Rattle.vt_key.specs.Letters.{other_colour};
 ghost use Rattle.vt_key.specs.Times.{earlier};
 ghost use Rattle.vt_model.specs.Handler.{Handlers};
@@ -63,10 +64,21 @@ impl<M: EventModel> Kernel<M> {
     fn least_of_processes(&self) -> Time
         ensures { result ≡ least_time self.now.config.end (flat_map (λ process. process.pending ++ process.waiting) self.now.processes) }
     {
-        let Some(place) = self.earliest.winner() else {
-            return self.config.end;
-        };
-        self.processes[place as usize].least()
+        let ready = self.least_at(self.ready.winner());
+        let unready = self.least_at(self.unready.winner());
+        earlier(ready, unready)
+    }
+
+    /// The least time of what is pending or waits at the process at this place; of none the end of the run.
+    fn least_at(&self, place: Option<u32>) -> Time
+        requires { IfSome place (λ place. place < length self.now.processes) }
+        ensures some { IfSome place (λ place. (held : HeldProcess _ _ _) × (slice_get self.now.processes place ≡ Some held) × (result ≡ least_time self.now.config.end (held.pending ++ held.waiting))) }
+        ensures none { IfNone place (result ≡ self.now.config.end) }
+    {
+        match place {
+            Some(place) => self.processes[place as usize].least(),
+            None => self.config.end,
+        }
     }
 }
 

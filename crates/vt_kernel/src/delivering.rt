@@ -51,7 +51,7 @@ impl<M: EventModel> Kernel<M> {
         deliver(&mut self.processes[place], letter);
         enter(
             &mut self.ready,
-            &mut self.earliest,
+            &mut self.unready,
             &self.processes[place],
             place,
         );
@@ -84,7 +84,7 @@ impl<M: EventModel> Kernel<M> {
         deliver(&mut self.processes[place], parcel);
         enter(
             &mut self.ready,
-            &mut self.earliest,
+            &mut self.unready,
             &self.processes[place],
             place,
         );

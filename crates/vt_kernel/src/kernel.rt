@@ -30,8 +30,8 @@ pub struct Kernel<M: EventModel> {
     pub(crate) serial: u64,
     // Who of the processes may execute, by the rank of its least pending event.
     pub(crate) ready: Tournament,
-    // The least rank of what is pending or waits at each process.
-    pub(crate) earliest: Tournament,
+    // The least rank of what is pending or waits at each process, where that isn't an event that may be executed.
+    pub(crate) unready: Tournament,
 }
 
 impl<M: EventModel> Model for Kernel<M> {
@@ -53,7 +53,7 @@ impl<M: EventModel> Model for Kernel<M> {
       serial = k.serial;
     } };
 
-    ghost invariant = { λ k. IsWorkerInside k.config k.worker k.processes.items k.outbox k.arrived.items k.sent k.got k.serial k.ready k.earliest };
+    ghost invariant = { λ k. IsWorkerInside k.config k.worker k.processes.items k.outbox k.arrived.items k.sent k.got k.serial k.ready k.unready };
 }
 
 impl<M: EventModel> Kernel<M> {

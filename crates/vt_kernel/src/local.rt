@@ -6,13 +6,13 @@ ghost use Rattle.vt_model.specs.Handler.{Handlers};
 ghost use Rattle.vt_model.specs.Simulation.{simulation_of};
 ghost use Rattle.vt_steps.specs.World.{Part};
 ghost use Rattle.vt_steps.specs.declared.step.Step.TheVariants as step;
-ghost use Rattle.vt_kernel.specs.Held.{StandsFor, ready_of, earliest_of, TellsLeast};
+ghost use Rattle.vt_kernel.specs.Held.{StandsFor, ready_of, unready_of, other_rank, TellsLeast};
 ghost use Rattle.vt_kernel.specs.Local.{local_step};
 ghost use Rattle.vt_kernel.specs.Guards.{IsDone, AreWithinLimits, IsExecuteRefusal};
 
 use crate::kernel::Kernel;
 use std::alloc::Global;
-use vt_key::{Fault, Stamp};
+use vt_key::{Fault, Rank, Stamp};
 use vt_lp::Lp;
 use vt_model::{Config, Model as EventModel};
 use vt_tournament::Tournament;
@@ -41,7 +41,7 @@ impl<M: EventModel> Kernel<M> {
         );
         enter(
             &mut self.ready,
-            &mut self.earliest,
+            &mut self.unready,
             &self.processes[place],
             place,
         );
@@ -65,7 +65,7 @@ impl<M: EventModel> Kernel<M> {
         let result = self.processes[place].undo(model, &mut self.outbox);
         enter(
             &mut self.ready,
-            &mut self.earliest,
+            &mut self.unready,
             &self.processes[place],
             place,
         );
@@ -90,7 +90,7 @@ impl<M: EventModel> Kernel<M> {
         }
         enter(
             &mut self.ready,
-            &mut self.earliest,
+            &mut self.unready,
             &self.processes[place],
             place,
         );
@@ -112,17 +112,29 @@ pub(crate) fn place_of(config: Config, worker: u32, lp: u32) -> Option<usize>
 /// Enters a process that has changed into the tournaments again.
 pub(crate) fn enter<M: EventModel>(
     ready: &mut Tournament,
-    earliest: &mut Tournament,
+    unready: &mut Tournament,
     process: &Lp<M>,
     place: usize,
 )
     requires in_ready { place < length ready.old }
-    requires in_earliest { place < length earliest.old }
+    requires in_unready { place < length unready.old }
     requires small { place < 2 ^ 32 }
     ensures ready { ready.new ≡ slice_set ready.old place (ready_of process.now) }
-    ensures earliest { earliest.new ≡ slice_set earliest.old place (earliest_of process.now) }
+    ensures unready { unready.new ≡ slice_set unready.old place (unready_of process.now) }
     ensures told { TellsLeast process.now }
 {
-    ready.set(place as u32, process.ready());
-    earliest.set(place as u32, process.least_rank());
+    let least = process.least_rank();
+    let rank = process.ready();
+    ready.set(place as u32, rank);
+    unready.set(place as u32, other_than(rank, least));
+}
+
+/// The least rank, unless it is that of the event that is ready.
+fn other_than(ready: Option<Rank>, least: Option<Rank>) -> Option<Rank>
+    ensures { result ≡ other_rank ready least }
+{
+    match (ready, least) {
+        (Some(ready), Some(least)) if ready.is_same(&least) => None,
+        (_, least) => least,
+    }
 }

@@ -78,7 +78,7 @@ fn open<M: EventModel>(
     let mut outbox = List::new(alloc);
     let processes = start_all(alloc, model, config, w, &mut serial, &mut outbox)?;
     let ready = tournament(alloc, &processes)?;
-    let earliest = tournament(alloc, &processes)?;
+    let unready = tournament(alloc, &processes)?;
     Ok(Kernel {
         config,
         worker: w,
@@ -92,7 +92,7 @@ fn open<M: EventModel>(
         floor: 0,
         serial,
         ready,
-        earliest,
+        unready,
     })
 }
 

@@ -28,7 +28,7 @@ impl<M: EventModel> Kernel<M> {
         settle_process(&mut self.processes[place], model, &mut self.outbox);
         enter(
             &mut self.ready,
-            &mut self.earliest,
+            &mut self.unready,
             &self.processes[place],
             place,
         );

@@ -1,7 +1,7 @@
 use Rattle.std.proofs.Common.{rules, ◌≡◌, ◌≢◌, ◌∙◌, ℕ, ◌<◌, length, slice_index_or, slice_set, sym, subst, arith, below_more}
 use Rattle.std.proofs.lemmas.List.{length-set, get_or_default, get_or-set_same, get_or-set_other}
 use Rattle.vt_lp.specs.Held.{HeldProcess}
-use Rattle.vt_kernel.specs.Held.{ready_of}
+use Rattle.vt_kernel.specs.Held.{ready_of, unready_of}
 use Rattle.vt_kernel.specs.Guards.{IsForgotten}
 use Rattle.vt_kernel.proofs.ProcessLemmas.{entered-changed}
 use Rattle.vt_kernel.proofs.committing.forget_before.Goals as goal
@@ -35,5 +35,6 @@ loop-place-preserved g c =
           (subst (IsForgotten floor (slice_index_or old i d)) (sym (get_or-set_same now i q d within)) (subst (λ (x : HeldProcess _ _ _). IsForgotten floor x q) (before d) one))
           k less;
       left = λ k d more. let other : k ≢ i = omega arith in get_or-set_other now i k q d other ∙ inv.left k d (omega arith);
-      entered = c.set.ensures ∙ (λ j. slice_set (inv.entered j) i (c.ready.ensures j)) ∙ sym (entered-changed ready_of now i q within);
+      entered = c.enter.ensures.ready ∙ (λ j. slice_set (inv.entered j) i (ready_of q)) ∙ sym (entered-changed ready_of now i q within);
+      unready = c.enter.ensures.unready ∙ (λ j. slice_set (inv.unready j) i (unready_of q)) ∙ sym (entered-changed unready_of now i q within);
     }

@@ -5,7 +5,7 @@ use Rattle.vt_key.specs.declared.limits.TheConstants.{MAX_COUNT}
 use Rattle.vt_steps.specs.Letters.{Counts}
 use Rattle.vt_lp.specs.Held.{HeldProcess}
 use Rattle.vt_kernel.specs.Held.{AllOwnMail, IsOwnMail, AreCounted, entries_of}
-use Rattle.vt_kernel.proofs.MakeLemmas.{ready-opening, earliest-opening, tells-opening, stand-opening}
+use Rattle.vt_kernel.proofs.MakeLemmas.{ready-opening, unready-opening, tells-opening, stand-opening}
 use Rattle.vt_kernel.proofs.making.open.Goals as goal
 
 none_counted : (counts : Counts) → counts ≡ record { white = 0; red = 0 } → AreCounted counts
@@ -44,7 +44,7 @@ invariant_of-result g c =
       few_got = none_counted c.new-3.result c.new-3.ensures;
       few_made = few;
       ready_entered = c.in_ok-ready.ensures.nobody ∙ ap (λ (xs : List (HeldProcess _ _ _)). entries_of (λ (x : HeldProcess _ _ _). None) xs) c.deref.ensures.value ∙ sym (ready-opening handlers items made.started);
-      earliest_entered = c.in_ok-earliest.ensures.nobody ∙ ap (λ (xs : List (HeldProcess _ _ _)). entries_of (λ (x : HeldProcess _ _ _). None) xs) c.deref-2.ensures.value ∙ sym (earliest-opening handlers items made.started);
+      unready_entered = c.in_ok-unready.ensures.nobody ∙ ap (λ (xs : List (HeldProcess _ _ _)). entries_of (λ (x : HeldProcess _ _ _). None) xs) c.deref-2.ensures.value ∙ sym (unready-opening handlers items made.started);
       least_told = tells-opening handlers items made.started;
     }
 

@@ -1,4 +1,4 @@
-use Rattle.std.proofs.Common.{◌≡◌, ◌∙◌, refl, sym, subst, List}
+use Rattle.std.proofs.Common.{◌∙◌, refl, sym, subst}
 use Rattle.vt_model.specs.declared.settings.Config.{Config}
 use Rattle.vt_lp.specs.Held.{AllWithinRun}
 use Rattle.vt_lp.specs.Guards.{can_annihilate}

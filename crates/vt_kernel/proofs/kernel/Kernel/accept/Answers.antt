@@ -1,5 +1,4 @@
-use Rattle.std.proofs.Common.{rules, ◌≡◌, ◌/◌, ◌%◌, ◌<◌, ◌≤◌, ◌∙◌, IfOk, IfErr, Ok, Err, None, Some, length, slice_get, slice_set, slice_index_or, ℕ, List, [], sym, ap, subst, refl, arith, true, false, Bool, nat_eq, ◌+◌, ◌*◌}
-use Rattle.std.specs.List.{remove}
+use Rattle.std.proofs.Common.{rules, ◌≡◌, ◌/◌, ◌%◌, ◌<◌, ◌∙◌, length, slice_get, slice_set, slice_index_or, List, [], sym, ap, subst, refl, arith, false, ◌+◌, ◌*◌}
 use Rattle.std.proofs.lemmas.Bool.{ltb-true}
 use Rattle.std.proofs.Math.Nat.{div-add-mod'}
 use Rattle.vt_key.specs.Times.{TimeBefore}
@@ -12,13 +11,13 @@ use Rattle.vt_steps.specs.ProcessSteps.{accept_process}
 use Rattle.vt_steps.specs.declared.step.Step.TheVariants as step
 use Rattle.vt_lp.specs.Held.{HeldProcess}
 use Rattle.vt_lp.specs.Guards.{holds_letter, IsDone as ProcessIsDone}
-use Rattle.vt_kernel.specs.Held.{HeldWorker, IsWorkerInside, IsOwnMail, AllOwnMail, StandsFor, TellsLeast, ready_of, earliest_of}
+use Rattle.vt_kernel.specs.Held.{HeldWorker, IsOwnMail, AllOwnMail, StandsFor, TellsLeast, ready_of, unready_of}
 use Rattle.vt_kernel.specs.Local.{local_step}
 use Rattle.vt_kernel.specs.Guards.{IsDone, IsAcceptRefusal}
 use Rattle.vt_kernel.proofs.ProcessLemmas.{process-at}
 use Rattle.vt_kernel.proofs.LocalLemmas.{worker_view, index-get, place-within, in-entries, inside-changed, found-again, entered}
 use Rattle.vt_kernel.proofs.InsideLemmas.{inside-arrived}
-use Rattle.vt_kernel.proofs.DeliveryLemmas.{accept-done, accept-refused, accept-nothing, accept-lawful, one-letter, held-refused, get-all, removed-all}
+use Rattle.vt_kernel.proofs.DeliveryLemmas.{accept-done, accept-refused, accept-lawful, one-letter, held-refused, get-all, removed-all}
 use Rattle.vt_kernel.proofs.kernel.Kernel.accept.Goals as goal
 
 pub index-requires : goal.index-requires
@@ -164,8 +163,8 @@ enter-requires-clause-in_ready g c κs within =
     let less = place-within c.self.invariant letter.event.dest place i.config.some_worker refl own.own own.within.known in
     in-entries c.self.invariant ready_of place i.ready c.self.invariant.ready_entered less
 
-pub enter-requires-clause-in_earliest : goal.enter-requires-clause-in_earliest
-enter-requires-clause-in_earliest g c κs within =
+pub enter-requires-clause-in_unready : goal.enter-requires-clause-in_unready
+enter-requires-clause-in_unready g c κs within =
     let i = c.self.inside in
     let mail = c.in-Some.mail.now in
     let letter = mail.letter in
@@ -175,7 +174,7 @@ enter-requires-clause-in_earliest g c κs within =
     let there = index-get i.arrived.items c.args.i mail inside (sym (lookup.1 ∙ ap (λ (l : List (Mail _)). slice_index_or l c.args.i mail) c.deref.ensures.value)) in
     let own = get-all (IsOwnMail i.config i.worker) i.arrived.items c.args.i mail c.self.invariant.own_mail there in
     let less = place-within c.self.invariant letter.event.dest place i.config.some_worker refl own.own own.within.known in
-    in-entries c.self.invariant earliest_of place i.earliest c.self.invariant.earliest_entered less
+    in-entries c.self.invariant unready_of place i.unready c.self.invariant.unready_entered less
 
 pub invariant_of-self : goal.invariant_of-self
 invariant_of-self g c =
@@ -196,7 +195,7 @@ invariant_of-self g c =
     let again : c.index-2.result.now ≡ new = found-again i.processes.items place old new c.index-2.result.now at c.index-2.ensures in
     let rest = removed-all (IsOwnMail i.config i.worker) i.arrived.items c.args.i c.self.invariant.own_mail in
     inside-arrived c.remove.new.self.items i.got (subst (λ (ms : List (Mail _)). AllOwnMail i.config i.worker ms) (sym c.remove.ensures.items) rest) c.self.invariant.few_got
-    (entered i.ready i.earliest place new c.index-2.result.now c.enter.new.ready c.enter.new.earliest again c.enter.ensures.ready c.enter.ensures.earliest
+    (entered i.ready i.unready place new c.index-2.result.now c.enter.new.ready c.enter.new.unready again c.enter.ensures.ready c.enter.ensures.unready
     (inside-changed c.self.invariant place old new i.outbox i.serial at c.deliver.ensures.same.0 c.deliver.ensures.same.1 (subst (λ (q : HeldProcess _ _ _). TellsLeast q) again c.enter.ensures.told)
     c.self.invariant.sendable c.self.invariant.few_made))
 

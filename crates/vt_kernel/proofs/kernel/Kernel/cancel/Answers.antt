@@ -1,9 +1,9 @@
-use Rattle.std.proofs.Common.{rules, ◌≡◌, ◌/◌, ◌%◌, ◌<◌, ◌≤◌, ◌∙◌, IfOk, IfErr, Ok, Err, None, Some, length, slice_get, slice_set, slice_index_or, ℕ, List, [], sym, ap, subst, refl, arith}
+use Rattle.std.proofs.Common.{rules, ◌≡◌, None, slice_set, List, sym, subst}
 use Rattle.vt_model.specs.Simulation.{simulation_of}
 use Rattle.vt_steps.specs.ProcessSteps.{cancel_process}
 use Rattle.vt_steps.specs.declared.step.Step.TheVariants as step
 use Rattle.vt_lp.specs.Held.{HeldProcess}
-use Rattle.vt_kernel.specs.Held.{HeldWorker, IsWorkerInside, StandsFor, TellsLeast, ready_of, earliest_of}
+use Rattle.vt_kernel.specs.Held.{HeldWorker, IsWorkerInside, StandsFor, TellsLeast, ready_of, unready_of}
 use Rattle.vt_kernel.specs.Local.{local_step}
 use Rattle.vt_kernel.specs.Guards.{IsDone}
 use Rattle.vt_kernel.proofs.LocalLemmas.{worker_view, index-get, place-within, in-entries, inside-changed, unknown-refused, changed-done, changed-refused, plain-done, found-again, written-same, entered}
@@ -29,7 +29,7 @@ invariant_of-self g c =
     let own = c.in-Some.ensures.own in
     let less = place-within c.self.invariant c.args.lp c.in-Some.place i.config.some_worker own.0 own.1 own.2 in
     let at = index-get i.processes.items c.in-Some.place c.index_mut.result.now less (sym c.index_mut.ensures.value) in
-    subst (λ (ps : List (HeldProcess _ _ _)). IsWorkerInside i.config i.worker ps i.outbox i.arrived.items i.sent i.got i.serial i.ready i.earliest)
+    subst (λ (ps : List (HeldProcess _ _ _)). IsWorkerInside i.config i.worker ps i.outbox i.arrived.items i.sent i.got i.serial i.ready i.unready)
     (sym (written-same i.processes.items c.in-Some.place c.index_mut.result.now c.cancel.new.self at c.in-Err.ensures.kept.1)) c.self.invariant
 
 pub returns-in-Err-clause-refused : goal.returns-in-Err-clause-refused
@@ -56,12 +56,12 @@ enter-requires-clause-in_ready g c κs within =
     let less = place-within c.self.invariant c.args.lp c.in-Some.place i.config.some_worker own.0 own.1 own.2 in
     in-entries c.self.invariant ready_of c.in-Some.place i.ready c.self.invariant.ready_entered less
 
-pub enter-requires-clause-in_earliest : goal.enter-requires-clause-in_earliest
-enter-requires-clause-in_earliest g c κs within =
+pub enter-requires-clause-in_unready : goal.enter-requires-clause-in_unready
+enter-requires-clause-in_unready g c κs within =
     let i = c.self.inside in
     let own = c.in-Some.ensures.own in
     let less = place-within c.self.invariant c.args.lp c.in-Some.place i.config.some_worker own.0 own.1 own.2 in
-    in-entries c.self.invariant earliest_of c.in-Some.place i.earliest c.self.invariant.earliest_entered less
+    in-entries c.self.invariant unready_of c.in-Some.place i.unready c.self.invariant.unready_entered less
 
 pub invariant_of-self-2 : goal.invariant_of-self-2
 invariant_of-self-2 g c =
@@ -73,7 +73,7 @@ invariant_of-self-2 g c =
     let at = index-get i.processes.items c.in-Some.place old less (sym c.index_mut.ensures.value) in
     let again : c.index.result.now ≡ new = found-again i.processes.items c.in-Some.place old new c.index.result.now at c.index.ensures in
     let same = c.in_default-cancel.ensures.same in
-    entered i.ready i.earliest c.in-Some.place new c.index.result.now c.enter.new.ready c.enter.new.earliest again c.enter.ensures.ready c.enter.ensures.earliest
+    entered i.ready i.unready c.in-Some.place new c.index.result.now c.enter.new.ready c.enter.new.unready again c.enter.ensures.ready c.enter.ensures.unready
     (inside-changed c.self.invariant c.in-Some.place old new i.outbox i.serial at same.0 same.1 (subst (λ (q : HeldProcess _ _ _). TellsLeast q) again c.enter.ensures.told) c.self.invariant.sendable c.self.invariant.few_made)
 
 pub returns-clause-done : goal.returns-clause-done

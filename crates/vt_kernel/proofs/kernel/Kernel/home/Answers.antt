@@ -1,21 +1,20 @@
-use Rattle.std.proofs.Common.{rules, ◌≡◌, ◌/◌, ◌%◌, ◌<◌, ◌≤◌, ◌∙◌, IfOk, IfErr, Ok, Err, None, Some, length, slice_get, slice_set, slice_index_or, ℕ, List, [], sym, ap, subst, refl, arith, true, false, Bool, nat_eq, ◌+◌, ◌*◌}
+use Rattle.std.proofs.Common.{rules, ◌≡◌, ◌/◌, ◌%◌, ◌∙◌, None, slice_get, slice_set, List, [], sym, ap, subst, refl, arith, false, nat_eq, ◌+◌, ◌*◌}
 use Rattle.std.specs.List.{find}
 use Rattle.vt_key.specs.Times.{TimeBefore}
 use Rattle.vt_key.specs.declared.letter.Letter.{Letter}
 use Rattle.vt_model.specs.declared.settings.Config.{Config}
 use Rattle.vt_model.specs.Simulation.{simulation_of}
-use Rattle.vt_steps.specs.PartSteps.{is_for}
 use Rattle.vt_steps.specs.declared.step.Step.TheVariants as step
 use Rattle.vt_lp.specs.Held.{HeldProcess, AllWithinRun, IsWithinRun}
 use Rattle.std.proofs.Math.Nat.{div-add-mod'}
 use Rattle.vt_steps.specs.ProcessSteps.{accept_process}
 use Rattle.vt_lp.specs.Guards.{holds_letter, IsDone as ProcessIsDone}
-use Rattle.vt_kernel.specs.Held.{HeldWorker, IsWorkerInside, StandsFor, TellsLeast, ready_of, earliest_of}
+use Rattle.vt_kernel.specs.Held.{HeldWorker, StandsFor, TellsLeast, ready_of, unready_of}
 use Rattle.vt_kernel.specs.Local.{local_step}
 use Rattle.vt_kernel.specs.Guards.{IsDone}
 use Rattle.vt_kernel.proofs.ProcessLemmas.{process-at}
 use Rattle.vt_kernel.proofs.LocalLemmas.{worker_view, index-get, place-within, in-entries, inside-changed, found-again, entered}
-use Rattle.vt_kernel.proofs.DeliveryLemmas.{find-passes, find-all, without-all, for-worker, home-done, home-refused, home-nothing, found-in, one-letter, held-refused}
+use Rattle.vt_kernel.proofs.DeliveryLemmas.{without-all, home-done, home-refused, found-in, one-letter, held-refused}
 use Rattle.vt_kernel.proofs.kernel.Kernel.home.Goals as goal
 
 pub index-requires : goal.index-requires
@@ -111,14 +110,14 @@ enter-requires-clause-in_ready g c κs within =
     let less = place-within c.self.invariant letter.event.dest place i.config.some_worker refl own.0 own.1.known in
     in-entries c.self.invariant ready_of place i.ready c.self.invariant.ready_entered less
 
-pub enter-requires-clause-in_earliest : goal.enter-requires-clause-in_earliest
-enter-requires-clause-in_earliest g c κs within =
+pub enter-requires-clause-in_unready : goal.enter-requires-clause-in_unready
+enter-requires-clause-in_unready g c κs within =
     let i = c.self.inside in
     let letter = c.in-Some.letter.now in
     let place = letter.event.dest / i.config.workers in
     let own = found-in c.self.invariant letter (sym c.in-Some.ensures) in
     let less = place-within c.self.invariant letter.event.dest place i.config.some_worker refl own.0 own.1.known in
-    in-entries c.self.invariant earliest_of place i.earliest c.self.invariant.earliest_entered less
+    in-entries c.self.invariant unready_of place i.unready c.self.invariant.unready_entered less
 
 pub invariant_of-self-2 : goal.invariant_of-self-2
 invariant_of-self-2 g c =
@@ -134,7 +133,7 @@ invariant_of-self-2 g c =
     let new = c.deliver.new.process in
     let again : c.index-2.result.now ≡ new = found-again i.processes.items place old new c.index-2.result.now at c.index-2.ensures in
     let within = without-all (IsWithinRun i.config.lps i.config.end) (λ (l : Letter _). nat_eq (l.event.dest % i.config.workers) i.worker) i.outbox c.self.invariant.sendable in
-    entered i.ready i.earliest place new c.index-2.result.now c.enter.new.ready c.enter.new.earliest again c.enter.ensures.ready c.enter.ensures.earliest
+    entered i.ready i.unready place new c.index-2.result.now c.enter.new.ready c.enter.new.unready again c.enter.ensures.ready c.enter.ensures.unready
     (inside-changed c.self.invariant place old new c.remove_first.new.self i.serial at c.deliver.ensures.same.0 c.deliver.ensures.same.1 (subst (λ (q : HeldProcess _ _ _). TellsLeast q) again c.enter.ensures.told)
     (subst (λ (ls : List (Letter _)). AllWithinRun i.config ls) (sym c.remove_first.ensures.others) within) c.self.invariant.few_made)
 

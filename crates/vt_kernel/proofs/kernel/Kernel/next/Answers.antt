@@ -1,4 +1,4 @@
-use Rattle.std.proofs.Common.{rules, arith, ◌≡◌, ℕ, ◌+◌, ◌*◌, ◌<◌, ◌≤◌, List, Option, Some, None, slice_get, Fits, w32, sym, subst}
+use Rattle.std.proofs.Common.{arith, ◌≡◌, ℕ, ◌+◌, ◌*◌, List, Option, Some, None, slice_get, sym, subst}
 use Rattle.vt_key.specs.declared.order.Rank.{Rank}
 use Rattle.vt_tournament.specs.Least.{IsLeast}
 use Rattle.vt_model.specs.Simulation.{simulation_of}

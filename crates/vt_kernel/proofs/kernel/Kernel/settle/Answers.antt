@@ -1,9 +1,9 @@
-use Rattle.std.proofs.Common.{rules, ◌≡◌, length, slice_set, sym, subst}
+use Rattle.std.proofs.Common.{rules, ◌≡◌, slice_set, sym, subst}
 use Rattle.vt_model.specs.declared.settings.Config.{Config}
 use Rattle.vt_model.specs.Simulation.{simulation_of}
 use Rattle.vt_steps.specs.World.{Part}
 use Rattle.vt_lp.specs.Held.{HeldProcess, AllWithinRun}
-use Rattle.vt_kernel.specs.Held.{HeldWorker, StandsFor, TellsLeast, ready_of, earliest_of}
+use Rattle.vt_kernel.specs.Held.{HeldWorker, StandsFor, TellsLeast, ready_of, unready_of}
 use Rattle.vt_kernel.specs.Guards.{SettlesTo}
 use Rattle.vt_kernel.proofs.ProcessLemmas.{process-at}
 use Rattle.vt_kernel.proofs.LocalLemmas.{worker_view, index-get, place-within, in-entries, inside-changed, found-again, entered}
@@ -29,12 +29,12 @@ enter-requires-clause-in_ready g c κs within =
     let less = place-within c.self.invariant c.args.lp c.in-Some.place i.config.some_worker own.0 own.1 own.2 in
     in-entries c.self.invariant ready_of c.in-Some.place i.ready c.self.invariant.ready_entered less
 
-pub enter-requires-clause-in_earliest : goal.enter-requires-clause-in_earliest
-enter-requires-clause-in_earliest g c κs within =
+pub enter-requires-clause-in_unready : goal.enter-requires-clause-in_unready
+enter-requires-clause-in_unready g c κs within =
     let i = c.self.inside in
     let own = c.in-Some.ensures.own in
     let less = place-within c.self.invariant c.args.lp c.in-Some.place i.config.some_worker own.0 own.1 own.2 in
-    in-entries c.self.invariant earliest_of c.in-Some.place i.earliest c.self.invariant.earliest_entered less
+    in-entries c.self.invariant unready_of c.in-Some.place i.unready c.self.invariant.unready_entered less
 
 pub returns-in_default-clause-settles : goal.returns-in_default-clause-settles
 returns-in_default-clause-settles g c part s =
@@ -60,7 +60,7 @@ invariant_of-self g c =
     let again : c.index.result.now ≡ new = found-again i.processes.items c.in-Some.place old new c.index.result.now at c.index.ensures in
     let same = c.settle_process.ensures.same in
     let within = subst (λ (k : Config). AllWithinRun k i.outbox → AllWithinRun k c.settle_process.new.outbox) f.1 c.settle_process.ensures.within in
-    entered i.ready i.earliest c.in-Some.place new c.index.result.now c.enter.new.ready c.enter.new.earliest again c.enter.ensures.ready c.enter.ensures.earliest
+    entered i.ready i.unready c.in-Some.place new c.index.result.now c.enter.new.ready c.enter.new.unready again c.enter.ensures.ready c.enter.ensures.unready
     (inside-changed c.self.invariant c.in-Some.place old new c.settle_process.new.outbox i.serial at same.0 same.1 (subst (λ (q : HeldProcess _ _ _). TellsLeast q) again c.enter.ensures.told) (within c.self.invariant.sendable) c.self.invariant.few_made)
 
 pub returns-clause-settles : goal.returns-clause-settles

@@ -1,20 +1,15 @@
-use Rattle.std.proofs.Common.{rules, ◌≡◌, ◌/◌, ◌%◌, ◌<◌, ◌≤◌, ◌∙◌, IfOk, IfErr, Ok, Err, None, Some, length, slice_get, slice_set, slice_index_or, ℕ, List, [], sym, ap, subst, refl, arith}
-use Rattle.vt_key.specs.declared.fault.Fault.TheVariants.{NotLawful}
-use Rattle.vt_key.specs.declared.limits.TheConstants.{MAX_COUNT}
-use Rattle.vt_key.specs.declared.letter.Letter.{Letter}
+use Rattle.std.proofs.Common.{rules, ◌≡◌, ◌∙◌, IfOk, IfErr, None, Some, slice_get, slice_set, sym, subst}
 use Rattle.vt_model.specs.declared.settings.Config.{Config}
 use Rattle.vt_model.specs.Simulation.{simulation_of}
-use Rattle.vt_steps.specs.World.{process_at}
-use Rattle.vt_steps.specs.ProcessSteps.{execute_process, undo_process}
+use Rattle.vt_steps.specs.ProcessSteps.{undo_process}
 use Rattle.vt_steps.specs.declared.step.Step.TheVariants as step
 use Rattle.vt_lp.specs.Held.{HeldProcess, AllWithinRun}
-use Rattle.vt_lp.specs.Guards.{IsDone as ProcessIsDone}
-use Rattle.vt_kernel.specs.Held.{HeldWorker, IsWorkerInside, StandsFor, TellsLeast, ready_of, earliest_of}
+use Rattle.vt_kernel.specs.Held.{HeldWorker, StandsFor, TellsLeast, ready_of, unready_of}
 use Rattle.vt_kernel.specs.Local.{local_step}
-use Rattle.vt_kernel.specs.Guards.{IsDone, IsExecuteRefusal}
+use Rattle.vt_kernel.specs.Guards.{IsDone}
 use Rattle.vt_kernel.proofs.ProcessLemmas.{process-at}
 use Rattle.vt_kernel.proofs.OwnSteps.{found, refused-at}
-use Rattle.vt_kernel.proofs.LocalLemmas.{worker_view, index-get, place-within, in-entries, inside-changed, unknown-refused, changed-done, changed-refused, plain-done, found-again, written-same, entered, if_ok-more, if_err-more, either-way, at-found-done, no-serial}
+use Rattle.vt_kernel.proofs.LocalLemmas.{worker_view, index-get, place-within, in-entries, inside-changed, unknown-refused, found-again, written-same, entered, if_ok-more, if_err-more, at-found-done, no-serial}
 use Rattle.vt_kernel.proofs.kernel.Kernel.undo.Goals as goal
 
 pub index_mut-requires : goal.index_mut-requires
@@ -36,12 +31,12 @@ enter-requires-clause-in_ready g c κs within =
     let less = place-within c.self.invariant c.args.lp c.in-Some.place i.config.some_worker own.0 own.1 own.2 in
     in-entries c.self.invariant ready_of c.in-Some.place i.ready c.self.invariant.ready_entered less
 
-pub enter-requires-clause-in_earliest : goal.enter-requires-clause-in_earliest
-enter-requires-clause-in_earliest g c κs within =
+pub enter-requires-clause-in_unready : goal.enter-requires-clause-in_unready
+enter-requires-clause-in_unready g c κs within =
     let i = c.self.inside in
     let own = c.in-Some.ensures.own in
     let less = place-within c.self.invariant c.args.lp c.in-Some.place i.config.some_worker own.0 own.1 own.2 in
-    in-entries c.self.invariant earliest_of c.in-Some.place i.earliest c.self.invariant.earliest_entered less
+    in-entries c.self.invariant unready_of c.in-Some.place i.unready c.self.invariant.unready_entered less
 
 pub returns-in_default-clause-refused : goal.returns-in_default-clause-refused
 returns-in_default-clause-refused g c part s =
@@ -64,7 +59,7 @@ invariant_of-self g c =
     let again : c.index.result.now ≡ new = found-again i.processes.items c.in-Some.place old new c.index.result.now at c.index.ensures in
     let same = c.undo-result.ensures.same in
     let within = subst (λ (k : Config). AllWithinRun k i.outbox → AllWithinRun k c.undo-result.new.outbox) f.1 c.undo-result.ensures.within in
-    entered i.ready i.earliest c.in-Some.place new c.index.result.now c.enter.new.ready c.enter.new.earliest again c.enter.ensures.ready c.enter.ensures.earliest
+    entered i.ready i.unready c.in-Some.place new c.index.result.now c.enter.new.ready c.enter.new.unready again c.enter.ensures.ready c.enter.ensures.unready
     (inside-changed c.self.invariant c.in-Some.place old new c.undo-result.new.outbox i.serial at same.0 same.1 (subst (λ (q : HeldProcess _ _ _). TellsLeast q) again c.enter.ensures.told) (within c.self.invariant.sendable) c.self.invariant.few_made)
 
 pub returns-clause-done : goal.returns-clause-done
