@@ -23,12 +23,13 @@ use vt_pending::Pending;
 pub struct Lp<M: EventModel> {
     pub(crate) config: Config,
     pub(crate) lp: u32,
-    pub(crate) process: Process<M>,
     pub(crate) past: List<PastEvent<M::Payload, M::Kept>>,
     pub(crate) pending: Pending<M::Payload>,
     pub(crate) waiting: Pending<M::Payload>,
     // Memory of committed events, for the next ones.
     pub(crate) spare: Spare<M::Payload, M::Kept>,
+    // Last, since the random words that it keeps are many.
+    pub(crate) process: Process<M>,
 }
 
 impl<M: EventModel> Model for Lp<M> {
