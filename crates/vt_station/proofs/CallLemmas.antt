@@ -28,13 +28,6 @@ use Rattle.vt_station.proofs.Cells.{inbox-name, board-name, book-name, inbox-hol
 abbrev pub WithHand : {P : Type 0} → View P → View P → Type 0
 WithHand {P} v w = (hand : Hand P) × (w ≡ record v { hand = hand })
 
-module _ {S P K : Type 0} (handlers : Handlers S P K) (config : Config) where
-  -- the kernel is the place's, whatever the place holds
-  pub reaches-held : (v w : View P) (k : HeldWorker S P K) → WithHand v w → Reaches handlers config v k → Reaches handlers config w k
-  reaches-held v w k h r =
-      subst (λ (x : View P). Reaches handlers config x k) (sym h.1)
-      (record { worker = r.worker; config_is = r.config_is; steps = r.steps; part = r.part; led = r.led; stands = r.stands })
-
 module _ {P : Type 0} where
   pub unvisited-held : (v w : View P) (seen : Time) (after : View P) → WithHand v w → Unvisited w seen after → Unvisited v seen after
   unvisited-held v w seen after h r =
@@ -44,13 +37,6 @@ module _ {P : Type 0} where
         floor = x.floor;
         rests = x.rests;
       }
-
-  pub unvisited-stays : (v w : View P) (after : View P) → WithHand v w → Unvisited w w.seen after → Stays v after
-  unvisited-stays v w after h r = let u = unvisited-held v w w.seen after h r in (u.steps, u.floor ∙ ap (λ (x : View P). x.seen) h.1)
-
-  -- nothing was done
-  pub stays-same : (v : View P) → Stays v v
-  stays-same v = (record { same = record { worker = refl; made = refl; waiting = refl }; part = refl; mine = refl }, refl)
 
 module _ {S P : Type 0} (sim : Simulation S P) (config : Config) (m after : Sat P) (k : ℕ) (rests : Rests m) (t : Took sim config m k after) where
   -- a claim leaves the place as it was
@@ -87,34 +73,3 @@ module _ {S P : Type 0} (sim : Simulation S P) (config : Config) (m after : Sat 
       let world = shown sim t.known.log in
       let at : content world book_cell ≡ Some (held_in t.slot) = ap (content world) (sym (book-name sim.workers k more)) ∙ t.known.shows in
       took-held (in_book world.book) (book-holds world (held_in t.slot) at)
-
--- what holds in either case
-pub either-case : {T E : Type 0} (r : Result T E) (A : T → Type 0) (B : E → Type 0) (Q : Type 0) → ((x : T) → A x → Q) → ((e : E) → B e → Q) → MatchResult r A B → Q
-either-case (Ok x) A B Q f g h = f x h
-either-case (Err e) A B Q f g h = g e h
-
-module _ {S P K : Type 0} (handlers : Handlers S P K) (config : Config) where
-  -- after a visit the kernel is that of the place, without a further step
-  pub ready-visited : (v : View P) (before left : HeldWorker S P K) (step : Step) (reply : Reply) (seen : Time) (after : View P) → Reaches handlers config v before → Visited handlers config v before step reply left seen after → Reaches handlers config after left
-  ready-visited v before left step reply seen after r x = record {
-    worker = x.visits.worker ∙ r.worker ∙ sym x.same.worker;
-    config_is = x.visits.config_is ∙ r.config_is;
-    steps = [];
-    part = after.part;
-    led = refl;
-    stands = x.visits.stands;
-  }
-
-  -- and where nothing was done it still is
-  pub ready-stays : (v : View P) (before left : HeldWorker S P K) (after : View P) → Reaches handlers config v before → Stays v after × (left ≡ before) → Reaches handlers config after left
-  ready-stays v before left after r x =
-      let sim = simulation_of handlers config in
-      subst (Reaches handlers config after) (sym x.1)
-      (record {
-        worker = r.worker ∙ sym x.0.0.same.worker;
-        config_is = r.config_is;
-        steps = r.steps;
-        part = r.part;
-        led = (λ i. local_steps sim (x.0.0.same.worker i) r.steps (x.0.0.part i)) ∙ r.led;
-        stands = r.stands;
-      })

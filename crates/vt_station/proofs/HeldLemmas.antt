@@ -56,9 +56,6 @@ module _ {P : Type 0} where
 -- ---- a slot that a seat holds
 
 module _ {P : Type 0} (config : Config) (m : Sat P) (k : ℕ) (found now : Cell P) (h : Holding config m k found now) where
-  pub has-slot : (old : Slot P) × (m.1 ≡ (k, old) ∷ rest m.1)
-  has-slot = (h.slot, h.carried ∙ ap (λ (l : List (ℕ × Slot P)). (k, h.slot) ∷ rest l) (sym h.carried))
-
   same-slot : (s : Slot P) → m.1 ≡ (k, s) ∷ rest m.1 → h.slot ≡ s
   same-slot s e = ap (λ (l : List (ℕ × Slot P)). (get_or l 0 (0, s)).1) (sym h.carried ∙ e)
 

@@ -128,16 +128,6 @@ module _ {S P : Type 0} (sim : Simulation S P) where
     seen = refl;
   }
 
-  -- the maker's own
-  pub opens-first : (i : ℕ) (m : Sat P) → IsMaker sim i m → Opens sim 0 m
-  opens-first i m e = record {
-    rests = (ap (λ (x : Sat P). x.0.hand) e, ap (λ (x : Sat P). x.1) e);
-    worker = ap (λ (x : Sat P). x.0.worker) e;
-    part = ap (λ (x : Sat P). x.0.part) e;
-    mine = ap (λ (x : Sat P). x.0.mine) e;
-    seen = ap (λ (x : Sat P). x.0.seen) e;
-  }
-
   pub maker-same : (i j : ℕ) (m : Sat P) → IsMaker sim i m → IsMaker sim j m → i ≡ j
   maker-same i j m e f = ap (λ (x : Sat P). x.0.made) (sym e ∙ f)
 

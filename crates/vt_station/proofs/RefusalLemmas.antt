@@ -40,7 +40,7 @@ use Rattle.vt_world.proofs.CommitRows.{IsBetween, commit-between}
 use Rattle.vt_station.specs.declared.view.View.{View}
 use Rattle.vt_station.specs.Calls.{Known, IsRefusedBy, IsCutRefusal, IsReportRefusal, IsCommitRefusal, IsCloseRefusal, IsFloorLeft, AreRecordsShown}
 use Rattle.vt_station.proofs.BoardLemmas.{fails-first}
-use Rattle.vt_station.proofs.BookLemmas.{all-within, locals-floor, run-one}
+use Rattle.vt_station.proofs.BookLemmas.{all-within, run-one}
 use Rattle.vt_station.proofs.Releases.{steps-lead}
 
 module _ {S P : Type 0} (sim : Simulation S P) (v : View P) (k : ℕ) (cell : Cell P) (known : Known sim v k cell) (steps : List Step) (before : Part P) (led : local_steps sim v.worker steps v.part ≡ Some before) where
@@ -148,10 +148,6 @@ module _ {S P : Type 0} (sim : Simulation S P) (v : View P) (k : ℕ) (cell : Ce
         (ap (λ o. may_commit o floor) here ∙ above)
         (passes_both (time_at_most floor sim.end) (are_within (slice_get there.book.floors v.worker) floor rows) ends
         (ap (λ o. are_within o floor rows) here ∙ all-within handed_in.0 floor rows between))
-
-    -- the floor of the part in the view is that of the part before the step
-    pub own-floor : before.floor ≡ v.part.floor
-    own-floor = locals-floor sim v.worker steps v.part before led
 
     -- a commit that the book refuses as closed
     pub commit-closed : there.book.is_closed ≡ true → IsCommitRefusal sim v Closed
