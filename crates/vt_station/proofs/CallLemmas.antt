@@ -1,27 +1,17 @@
 -- From a claim to a release: what a seat holds in between, and that its place is the same.
-use Rattle.std.proofs.Common.{◌≡◌, ℕ, ◌+◌, ◌<◌, ◌≤◌, List, [], ◌∷◌, ◌++◌, refl, sym, ◌∙◌, ap, subst, arith, Option, Some, None, Result, Ok, Err, MatchResult, IfOk, IfErr}
-use Rattle.std.specs.Option.{option_and_then}
+use Rattle.std.proofs.Common.{◌≡◌, ℕ, ◌<◌, List, ◌∷◌, sym, ◌∙◌, ap, subst, Some}
 use Rattle.vt_key.specs.Times.{Time}
 use Rattle.vt_key.specs.declared.letter.Mail.{Mail}
-use Rattle.vt_model.specs.Handler.{Handlers}
 use Rattle.vt_model.specs.declared.settings.Config.{Config}
-use Rattle.vt_model.specs.Simulation.{Simulation, simulation_of}
-use Rattle.vt_steps.specs.declared.step.Step.{Step}
-use Rattle.vt_steps.specs.declared.step.Reply.{Reply}
-use Rattle.vt_steps.specs.World.{Part, Board, Book, opening_part}
-use Rattle.vt_steps.proofs.Changes.{chain_has}
-use Rattle.vt_steps.specs.Cells.{CellName, inbox_of, board_cell, book_cell, Cell, in_inbox, on_board, in_book, content}
+use Rattle.vt_model.specs.Simulation.{Simulation}
+use Rattle.vt_steps.specs.Cells.{inbox_of, board_cell, book_cell, Cell, in_inbox, on_board, in_book, content}
 use Rattle.vt_steps.specs.Marked.{shown}
-use Rattle.vt_kernel.specs.Held.{HeldWorker, StandsFor}
-use Rattle.vt_kernel.specs.Guards.{IsDone}
-use Rattle.vt_kernel.specs.Local.{local_step, local_steps}
 use Rattle.vt_station.specs.declared.slot.Slot.{Slot}
 use Rattle.vt_station.specs.declared.view.View.{View}
-use Rattle.vt_station.specs.Hands.{Hand, empty_hand, holding}
-use Rattle.vt_station.specs.Slots.{cell_count, cell_at, held_in, IsSlotOf}
+use Rattle.vt_station.specs.Hands.{Hand, holding}
+use Rattle.vt_station.specs.Slots.{held_in}
 use Rattle.vt_station.specs.Kept.{Sat, Rests}
-use Rattle.vt_station.specs.Calls.{IsSamePlace, HasSameSteps, Unvisited, Stays, Reaches, Visits, Visited, Acts, Known, Took, Holding}
-use Rattle.vt_station.specs.Making.{Opens}
+use Rattle.vt_station.specs.Calls.{Unvisited, Took, Holding}
 use Rattle.vt_station.proofs.Cells.{inbox-name, board-name, book-name, inbox-holds, board-holds, book-holds}
 
 -- a view that differs in its hand alone
