@@ -1,8 +1,8 @@
 -- The steps at a cell, by what they do to a part and to it.
-use Rattle.std.proofs.Common.{◌≡◌, ℕ, ◌%◌, ◌<◌, ◌≤◌, ◌⊎◌, inl, inr, Bool, true, false, cond, not, ◌&&◌, ◌||◌, List, [], ◌∷◌, ◌++◌, refl, sym, ◌∙◌, ap, subst, arith, nat_eq, Option, Some, None, Ok, Err, slice_get}
+use Rattle.std.proofs.Common.{◌≡◌, ℕ, ◌%◌, ◌<◌, ◌≤◌, inl, inr, true, false, cond, not, ◌||◌, List, [], ◌∷◌, ◌++◌, sym, ◌∙◌, ap, subst, nat_eq, Some, Ok, slice_get}
 use Rattle.std.specs.List.{list_any}
 use Rattle.std.proofs.Math.Nat.{mod-lt}
-use Rattle.std.proofs.lemmas.Bool.Decides.{nat_tests, eqb_tells}
+use Rattle.std.proofs.lemmas.Bool.Decides.{eqb_tells}
 use Rattle.vt_key.specs.declared.letter.Letter.{Letter}
 use Rattle.vt_key.specs.declared.letter.Mail.{Mail}
 use Rattle.vt_key.specs.declared.fault.Fault.TheVariants.{NotLawful, Closed}
@@ -12,10 +12,10 @@ use Rattle.vt_steps.specs.declared.step.Reply.TheVariants.{Done}
 use Rattle.vt_steps.specs.Letters.{is_empty}
 use Rattle.vt_steps.specs.World.{Part, Board, Book}
 use Rattle.vt_steps.specs.PartSteps.{is_for, part_after_send, mail_of_send, part_after_fetch, part_after_cut, report_sent, report_got, report_least, part_after_commit, rows_of_commit}
-use Rattle.vt_steps.specs.BoardSteps.{cut_board, may_report, with_report, board_after_report, report_reply}
+use Rattle.vt_steps.specs.BoardSteps.{cut_board, may_report, with_report}
 use Rattle.vt_steps.specs.BookSteps.{may_commit, with_rows, may_close, closed_book}
 use Rattle.vt_steps.specs.Next.{may_send}
-use Rattle.vt_steps.specs.Cells.{Cell, in_inbox, on_board, in_book, Acted, left_alone, act_cut, act_report, on_open_book, act}
+use Rattle.vt_steps.specs.Cells.{in_inbox, on_board, in_book, Acted, left_alone, act_cut, act_report, act}
 use Rattle.vt_steps.proofs.Tests.{both_pass}
 
 module _ {S P : Type 0} (sim : Simulation S P) where

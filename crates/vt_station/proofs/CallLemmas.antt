@@ -1,39 +1,22 @@
 -- From a claim to a release: what a seat holds in between, and that its place is the same.
-use Rattle.std.proofs.Common.{◌≡◌, ℕ, ◌+◌, ◌<◌, ◌≤◌, List, [], ◌∷◌, ◌++◌, refl, sym, ◌∙◌, ap, subst, arith, Option, Some, None, Result, Ok, Err, MatchResult, IfOk, IfErr}
-use Rattle.std.specs.Option.{option_and_then}
+use Rattle.std.proofs.Common.{◌≡◌, ℕ, ◌<◌, List, ◌∷◌, sym, ◌∙◌, ap, subst, Some}
 use Rattle.vt_key.specs.Times.{Time}
 use Rattle.vt_key.specs.declared.letter.Mail.{Mail}
-use Rattle.vt_model.specs.Handler.{Handlers}
 use Rattle.vt_model.specs.declared.settings.Config.{Config}
-use Rattle.vt_model.specs.Simulation.{Simulation, simulation_of}
-use Rattle.vt_steps.specs.declared.step.Step.{Step}
-use Rattle.vt_steps.specs.declared.step.Reply.{Reply}
-use Rattle.vt_steps.specs.World.{Part, Board, Book, opening_part}
-use Rattle.vt_steps.proofs.Changes.{chain_has}
-use Rattle.vt_steps.specs.Cells.{CellName, inbox_of, board_cell, book_cell, Cell, in_inbox, on_board, in_book, content}
+use Rattle.vt_model.specs.Simulation.{Simulation}
+use Rattle.vt_steps.specs.Cells.{inbox_of, board_cell, book_cell, Cell, in_inbox, on_board, in_book, content}
 use Rattle.vt_steps.specs.Marked.{shown}
-use Rattle.vt_kernel.specs.Held.{HeldWorker, StandsFor}
-use Rattle.vt_kernel.specs.Guards.{IsDone}
-use Rattle.vt_kernel.specs.Local.{local_step, local_steps}
 use Rattle.vt_station.specs.declared.slot.Slot.{Slot}
 use Rattle.vt_station.specs.declared.view.View.{View}
-use Rattle.vt_station.specs.Hands.{Hand, empty_hand, holding}
-use Rattle.vt_station.specs.Slots.{cell_count, cell_at, held_in, IsSlotOf}
+use Rattle.vt_station.specs.Hands.{Hand, holding}
+use Rattle.vt_station.specs.Slots.{held_in}
 use Rattle.vt_station.specs.Kept.{Sat, Rests}
-use Rattle.vt_station.specs.Calls.{IsSamePlace, HasSameSteps, Unvisited, Stays, Reaches, Visits, Visited, Acts, Known, Took, Holding}
-use Rattle.vt_station.specs.Making.{Opens}
+use Rattle.vt_station.specs.Calls.{Unvisited, Took, Holding}
 use Rattle.vt_station.proofs.Cells.{inbox-name, board-name, book-name, inbox-holds, board-holds, book-holds}
 
 -- a view that differs in its hand alone
 abbrev pub WithHand : {P : Type 0} → View P → View P → Type 0
 WithHand {P} v w = (hand : Hand P) × (w ≡ record v { hand = hand })
-
-module _ {S P K : Type 0} (handlers : Handlers S P K) (config : Config) where
-  -- the kernel is the place's, whatever the place holds
-  pub reaches-held : (v w : View P) (k : HeldWorker S P K) → WithHand v w → Reaches handlers config v k → Reaches handlers config w k
-  reaches-held v w k h r =
-      subst (λ (x : View P). Reaches handlers config x k) (sym h.1)
-      (record { worker = r.worker; config_is = r.config_is; steps = r.steps; part = r.part; led = r.led; stands = r.stands })
 
 module _ {P : Type 0} where
   pub unvisited-held : (v w : View P) (seen : Time) (after : View P) → WithHand v w → Unvisited w seen after → Unvisited v seen after
@@ -44,13 +27,6 @@ module _ {P : Type 0} where
         floor = x.floor;
         rests = x.rests;
       }
-
-  pub unvisited-stays : (v w : View P) (after : View P) → WithHand v w → Unvisited w w.seen after → Stays v after
-  unvisited-stays v w after h r = let u = unvisited-held v w w.seen after h r in (u.steps, u.floor ∙ ap (λ (x : View P). x.seen) h.1)
-
-  -- nothing was done
-  pub stays-same : (v : View P) → Stays v v
-  stays-same v = (record { same = record { worker = refl; made = refl; waiting = refl }; part = refl; mine = refl }, refl)
 
 module _ {S P : Type 0} (sim : Simulation S P) (config : Config) (m after : Sat P) (k : ℕ) (rests : Rests m) (t : Took sim config m k after) where
   -- a claim leaves the place as it was
@@ -87,83 +63,3 @@ module _ {S P : Type 0} (sim : Simulation S P) (config : Config) (m after : Sat 
       let world = shown sim t.known.log in
       let at : content world book_cell ≡ Some (held_in t.slot) = ap (content world) (sym (book-name sim.workers k more)) ∙ t.known.shows in
       took-held (in_book world.book) (book-holds world (held_in t.slot) at)
-
--- what holds in either case
-pub either-case : {T E : Type 0} (r : Result T E) (A : T → Type 0) (B : E → Type 0) (Q : Type 0) → ((x : T) → A x → Q) → ((e : E) → B e → Q) → MatchResult r A B → Q
-either-case (Ok x) A B Q f g h = f x h
-either-case (Err e) A B Q f g h = g e h
-
-module _ {S P K : Type 0} (handlers : Handlers S P K) (config : Config) where
-  -- after a visit the kernel is that of the place, without a further step
-  pub ready-visited : (v : View P) (before left : HeldWorker S P K) (step : Step) (reply : Reply) (seen : Time) (after : View P) → Reaches handlers config v before → Visited handlers config v before step reply left seen after → Reaches handlers config after left
-  ready-visited v before left step reply seen after r x = record {
-    worker = x.visits.worker ∙ r.worker ∙ sym x.same.worker;
-    config_is = x.visits.config_is ∙ r.config_is;
-    steps = [];
-    part = after.part;
-    led = refl;
-    stands = x.visits.stands;
-  }
-
-  -- and where nothing was done it still is
-  pub ready-stays : (v : View P) (before left : HeldWorker S P K) (after : View P) → Reaches handlers config v before → Stays v after × (left ≡ before) → Reaches handlers config after left
-  ready-stays v before left after r x =
-      let sim = simulation_of handlers config in
-      subst (Reaches handlers config after) (sym x.1)
-      (record {
-        worker = r.worker ∙ sym x.0.0.same.worker;
-        config_is = r.config_is;
-        steps = r.steps;
-        part = r.part;
-        led = (λ i. local_steps sim (x.0.0.same.worker i) r.steps (x.0.0.part i)) ∙ r.led;
-        stands = r.stands;
-      })
-
--- ---- local calls of a kernel
-
-module _ {S P : Type 0} (sim : Simulation S P) (w : ℕ) where
-  -- one local step more
-  local-more : (steps : List Step) (step : Step) (part mid new : Part P) → local_steps sim w steps part ≡ Some mid → local_step sim w step mid ≡ Some new → local_steps sim w (steps ++ step ∷ []) part ≡ Some new
-  local-more [] step part mid new e f =
-      let h : Some part ≡ Some mid = e in
-      let same : part ≡ mid = cc in
-      ap (λ p. option_and_then (local_steps sim w []) (local_step sim w step p)) same ∙ ap (option_and_then (local_steps sim w [])) f
-  local-more (s ∷ steps) step part mid new e f =
-      let h = chain_has (local_steps sim w steps) (local_step sim w s part) mid e in
-      ap (option_and_then (local_steps sim w (steps ++ step ∷ []))) h.1 ∙ local-more steps step h.0 mid new h.2 f
-
-module _ {S P K : Type 0} (handlers : Handlers S P K) (config : Config) where
-  -- a local call that was done leaves the kernel that of the place
-  pub reaches-done : (v : View P) (k new : HeldWorker S P K) (step : Step) → Reaches handlers config v k → new.worker ≡ k.worker → new.config ≡ k.config →
-      ((part : Part P) → StandsFor handlers k part → IsDone handlers new (local_step (simulation_of handlers k.config) k.worker step part)) → Reaches handlers config v new
-  reaches-done v k new step r same_worker same_config done =
-      let sim = simulation_of handlers config in
-      let d = done r.part r.stands in
-      let one : local_step sim v.worker step r.part ≡ Some d.part =
-      ap (λ (f : Config). local_step (simulation_of handlers f) v.worker step r.part) (sym r.config_is) ∙ ap (λ w. local_step (simulation_of handlers k.config) w step r.part) (sym r.worker) ∙ d.lawful in
-      record {
-        worker = same_worker ∙ r.worker;
-        config_is = same_config ∙ r.config_is;
-        steps = r.steps ++ step ∷ [];
-        part = d.part;
-        led = local-more sim v.worker r.steps step v.part r.part d.part r.led one;
-        stands = d.stands;
-      }
-
-  -- whether it was done or not
-  pub reaches-local : {X E : Type 0} (result : Result X E) (v : View P) (k new : HeldWorker S P K) (step : Step) → Reaches handlers config v k → new.worker ≡ k.worker → new.config ≡ k.config →
-      ((part : Part P) → StandsFor handlers k part → IfOk result (λ done. IsDone handlers new (local_step (simulation_of handlers k.config) k.worker step part))) →
-      IfErr result (λ fault. new ≡ k) → Reaches handlers config v new
-  reaches-local (Ok x) v k new step r same_worker same_config done kept = reaches-done v k new step r same_worker same_config done
-  reaches-local (Err e) v k new step r same_worker same_config done kept = subst (Reaches handlers config v) (sym kept) r
-
-  -- the kernel of a place as both are made
-  pub reaches-new : (i : ℕ) (m : Sat P) (k : HeldWorker S P K) → Opens (simulation_of handlers config) i m → k.worker ≡ i → k.config ≡ config → StandsFor handlers k (opening_part (simulation_of handlers config) 0 i) → Reaches handlers config m.0 k
-  reaches-new i m k o worker of stands = record {
-    worker = worker ∙ sym o.worker;
-    config_is = of;
-    steps = [];
-    part = opening_part (simulation_of handlers config) 0 i;
-    led = ap (λ p. Some p) o.part;
-    stands = stands;
-  }

@@ -1,19 +1,15 @@
 -- What a seat holds before and after a write, what a claimed cell is, and cases on results.
-use Rattle.std.proofs.Common.{◌≡◌, ℕ, ◌+◌, ◌<◌, ◌≤◌, Bool, true, false, cond, List, [], ◌∷◌, ◌++◌, map, refl, sym, ◌∙◌, ap, subst, arith, get_or, Option, Some, None, Result, Ok, Err, MatchResult, IfOk, IfErr}
+use Rattle.std.proofs.Common.{◌≡◌, ℕ, List, [], ◌∷◌, refl, sym, ◌∙◌, ap, subst, arith, get_or, Result, Ok, Err, MatchResult, IfOk, IfErr}
 use Rattle.std.specs.Prelude.{OnOk, OnErr}
-use Rattle.std.specs.List.{All, list_any}
+use Rattle.std.specs.List.{All}
 use Rattle.atomic_table.specs.Table.{rest}
-use Rattle.vt_key.specs.declared.letter.Letter.{Letter}
 use Rattle.vt_key.specs.declared.letter.Mail.{Mail}
 use Rattle.vt_model.specs.declared.settings.Config.{Config}
 use Rattle.vt_steps.specs.World.{Board, Book}
 use Rattle.vt_steps.specs.Cells.{Cell, in_inbox, on_board, in_book}
 use Rattle.vt_station.specs.declared.slot.Slot.{Slot}
-use Rattle.vt_station.specs.declared.slot.Slot.TheVariants as slot
-use Rattle.vt_station.specs.declared.view.View.{View}
-use Rattle.vt_station.specs.Hands.{empty_hand, holding}
 use Rattle.vt_station.specs.Slots.{held_in, IsSlotOf}
-use Rattle.vt_station.specs.Kept.{Sat, Rests}
+use Rattle.vt_station.specs.Kept.{Sat}
 use Rattle.vt_station.specs.Calls.{Holding}
 use Rattle.vt_station.proofs.Cells.{same-found}
 
@@ -56,9 +52,6 @@ module _ {P : Type 0} where
 -- ---- a slot that a seat holds
 
 module _ {P : Type 0} (config : Config) (m : Sat P) (k : ℕ) (found now : Cell P) (h : Holding config m k found now) where
-  pub has-slot : (old : Slot P) × (m.1 ≡ (k, old) ∷ rest m.1)
-  has-slot = (h.slot, h.carried ∙ ap (λ (l : List (ℕ × Slot P)). (k, h.slot) ∷ rest l) (sym h.carried))
-
   same-slot : (s : Slot P) → m.1 ≡ (k, s) ∷ rest m.1 → h.slot ≡ s
   same-slot s e = ap (λ (l : List (ℕ × Slot P)). (get_or l 0 (0, s)).1) (sym h.carried ∙ e)
 

@@ -1,33 +1,31 @@
 -- Each step on a station's table keeps the rule.
-use Rattle.std.proofs.Common.{◌≡◌, ◌≢◌, ◌⊎◌, ℕ, zero, suc, ◌+◌, ◌-◌, ◌<◌, ◌≤◌, eqb, List, [], ◌∷◌, ◌++◌, map, length, get_or, set, sym, refl, ap, ◌∙◌, subst, inl, inr, ⊎_elim, arith, le_refl, le_trans, length-set, get_or-set_other, get_or-set_same, length-append, Option, Some, slice_get, drop}
-use Rattle.std.specs.List.{range_with_len}
+use Rattle.std.proofs.Common.{◌≡◌, ◌≢◌, ◌⊎◌, ℕ, zero, suc, ◌<◌, ◌≤◌, eqb, List, [], ◌∷◌, ◌++◌, map, length, get_or, set, sym, refl, ap, ◌∙◌, subst, ⊎_elim, arith, le_refl, le_trans, length-set, get_or-set_other, get_or-set_same, Some, slice_get}
 use mathlib.Core.Logic.{dite}
 use mathlib.Core.Option.{Option as Maybe, none, some, some-injective, some-ne-none}
 use native.Mathlib.Decide.{ℕ_discrete}
-use lib.ListN.{get_elem?, length-map}
+use lib.ListN.{get_elem?}
 use lib.Seq.{set-get_or}
 use prog.Atomic.{either}
-use Rattle.atomic_table.specs.Table.{State, Me, Act, keeps, takes, gives, Valid, carried_after, stepped, Allows, Splits, rest, put_back}
-use Rattle.atomic_table.specs.Table.{opening as tabled}
-use Rattle.atomic_table.proofs.Lists.{at_set, set_here, set_else, set_again, at_snoc, at_longer, exchanged}
+use Rattle.atomic_table.specs.Table.{Act, keeps, takes, gives, Valid, carried_after, stepped, Allows, rest, put_back}
+use Rattle.atomic_table.proofs.Lists.{at_set, set_here, set_else, set_again, exchanged}
 use Rattle.std.proofs.lemmas.List.{append-nil}
 use Rattle.vt_key.specs.Times.{Time, TimeAtMost}
 use Rattle.vt_model.specs.Histories.{IsLawful}
 use Rattle.vt_model.specs.declared.settings.Config.{Config}
 use Rattle.vt_model.specs.Simulation.{Simulation}
 use Rattle.vt_steps.specs.declared.step.Step.{Step}
-use Rattle.vt_steps.specs.World.{Part, World, book_floor, opening_part, opening_world}
+use Rattle.vt_steps.specs.World.{Part, World, book_floor, opening_world}
 use Rattle.vt_steps.specs.Cells.{CellName, Cell, content}
-use Rattle.vt_steps.specs.Marked.{Marked, Made, Answered, answered, unmarked, marked, Each, IsMarkedRight, own_steps, own_steps_of, shown, DoesSo, Leads}
+use Rattle.vt_steps.specs.Marked.{Marked, Made, Answered, answered, unmarked, marked, Each, IsMarkedRight, own_steps_of, shown, DoesSo, Leads}
 use Rattle.vt_steps.specs.Next.{run}
 use Rattle.vt_steps.proofs.ReachedBooks.{reached-falls}
-use Rattle.vt_steps.proofs.MarkedRuns.{each-append, each-weaker, each-marked, own-append, own-others, shown-append, shown-marked, unmarked-append, unmarked-marked}
+use Rattle.vt_steps.proofs.MarkedRuns.{each-append, each-weaker, each-marked, own-append, own-others, shown-append, shown-marked}
 use Rattle.vt_station.specs.declared.slot.Slot.{Slot}
 use Rattle.vt_station.specs.declared.view.View.{View}
-use Rattle.vt_station.specs.Hands.{Hand, empty_hand, holding}
+use Rattle.vt_station.specs.Hands.{empty_hand, holding}
 use Rattle.vt_station.specs.Slots.{cell_count, cell_at, held_in, IsSlotOf}
-use Rattle.vt_station.specs.Kept.{Standing, Sat, IsClaimed, Makes, Sits, IsAtHome, IsHeld, Kept, blank, first_view, Rests, left_view, next_view}
-use Rattle.vt_station.specs.Calls.{Known, Took, ShowsFloor}
+use Rattle.vt_station.specs.Kept.{Standing, Sat, IsClaimed, Sits, IsAtHome, IsHeld, Kept, Rests}
+use Rattle.vt_station.specs.Calls.{Took, ShowsFloor}
 use Rattle.vt_station.proofs.Cells.{not-empty, same-cell_held, same-found, names-apart, holds-book}
 
 module _ {S P : Type 0} (sim : Simulation S P) (config : Config) where

@@ -1,8 +1,7 @@
 -- The cells and the seats of a new station.
-use Rattle.std.proofs.Common.{◌≡◌, ◌≢◌, ◌⊎◌, inl, inr, ℕ, zero, suc, ◌+◌, ◌-◌, ◌<◌, ◌≤◌, Bool, true, false, List, [], ◌∷◌, ◌++◌, map, length, get_or, replicate, drop, refl, sym, ◌∙◌, ap, subst, arith, length-append, Option, Some, None, slice_get}
+use Rattle.std.proofs.Common.{◌≡◌, ℕ, zero, suc, ◌+◌, ◌-◌, ◌<◌, List, [], ◌∷◌, ◌++◌, map, length, get_or, replicate, drop, refl, sym, ◌∙◌, ap, subst, arith, length-append, Some, slice_get}
 use Rattle.std.specs.List.{range_with_len}
 use Rattle.std.specs.Option.{option_map}
-use Rattle.std.proofs.lemmas.Bool.Decides.{nat_tests}
 use Rattle.std.proofs.lemmas.List.FromFn.{length-map-range_with_len}
 use mathlib.Core.Logic.{dite}
 use mathlib.Core.Option.{some}
@@ -13,13 +12,12 @@ use Rattle.vt_key.specs.declared.letter.Mail.{Mail}
 use Rattle.vt_model.specs.declared.settings.Config.{Config}
 use Rattle.vt_model.specs.Simulation.{Simulation}
 use Rattle.vt_steps.specs.World.{Part, opening_part, opening_world, opening_board, opening_book}
-use Rattle.vt_steps.specs.Cells.{inbox_of, board_cell, book_cell, Cell, in_inbox, on_board, in_book, content}
+use Rattle.vt_steps.specs.Cells.{inbox_of, board_cell, book_cell, in_inbox, on_board, in_book, content}
 use Rattle.vt_steps.specs.Marked.{Each}
 use Rattle.vt_station.specs.declared.slot.Slot.{Slot}
-use Rattle.vt_station.specs.declared.view.View.{View}
 use Rattle.vt_station.specs.declared.place.Place.{Place}
 use Rattle.vt_station.specs.Slots.{cell_count, cell_at, held_in, IsSlotOf}
-use Rattle.vt_station.specs.Kept.{Sat, Rests, first_view, left_view, next_view, first_or}
+use Rattle.vt_station.specs.Kept.{Sat, first_view, left_view, next_view, first_or}
 use Rattle.vt_station.specs.Making.{AreSlots, IsMaker, Opens, IsNew, AreNew}
 use Rattle.vt_station.proofs.Cells.{inbox-name, board-name, book-name}
 
@@ -126,16 +124,6 @@ module _ {S P : Type 0} (sim : Simulation S P) where
     part = ap (λ (x : Sat P). first_or x.0.part x.0.waiting) e ∙ first-part i (sim.workers - i) (opening_part sim 0 0) (omega arith);
     mine = refl;
     seen = refl;
-  }
-
-  -- the maker's own
-  pub opens-first : (i : ℕ) (m : Sat P) → IsMaker sim i m → Opens sim 0 m
-  opens-first i m e = record {
-    rests = (ap (λ (x : Sat P). x.0.hand) e, ap (λ (x : Sat P). x.1) e);
-    worker = ap (λ (x : Sat P). x.0.worker) e;
-    part = ap (λ (x : Sat P). x.0.part) e;
-    mine = ap (λ (x : Sat P). x.0.mine) e;
-    seen = ap (λ (x : Sat P). x.0.seen) e;
   }
 
   pub maker-same : (i j : ℕ) (m : Sat P) → IsMaker sim i m → IsMaker sim j m → i ≡ j

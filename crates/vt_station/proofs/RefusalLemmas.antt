@@ -1,9 +1,9 @@
 -- Refusals that are found in a claimed cell, as refusals of a world that cells and places showed.
-use Rattle.std.proofs.Common.{◌≡◌, ◌⊎◌, inl, inr, ℕ, ◌+◌, ◌<◌, ◌≤◌, Bool, true, false, cond, ◌&&◌, List, [], ◌∷◌, ◌++◌, map, refl, sym, ◌∙◌, ap, subst, arith, nat_le, Option, Some, None, Result, Ok, Err, slice_get}
+use Rattle.std.proofs.Common.{◌≡◌, inl, inr, ℕ, ◌<◌, true, false, cond, ◌&&◌, List, [], ◌∷◌, ◌++◌, refl, sym, ◌∙◌, ap, subst, arith, nat_le, Option, Some, None, Ok, Err, slice_get}
 use Rattle.std.proofs.lemmas.Bool.Decides.{nat_tests}
-use Rattle.vt_key.specs.Times.{Time, TimeAtMost, TimeBefore, time_at_most}
+use Rattle.vt_key.specs.Times.{Time, TimeAtMost, time_at_most}
 use Rattle.vt_key.specs.declared.fault.Fault.{Fault}
-use Rattle.vt_key.specs.declared.fault.Fault.TheVariants.{Memory, NotLawful, Busy, Closed, Exhausted}
+use Rattle.vt_key.specs.declared.fault.Fault.TheVariants.{Memory, NotLawful, Closed, Exhausted}
 use Rattle.vt_key.specs.declared.limits.TheConstants.{MAX_COUNT}
 use Rattle.vt_model.specs.declared.rows.Row.{Row}
 use Rattle.vt_model.specs.declared.rows.Record.{Record}
@@ -14,33 +14,33 @@ use Rattle.vt_steps.specs.declared.step.Step.{Step}
 use Rattle.vt_steps.specs.declared.step.Step.TheVariants.{Cut, Report, Commit, Close}
 use Rattle.vt_steps.specs.declared.step.Reply.TheVariants.{Done}
 use Rattle.vt_steps.specs.World.{Part, Board, Book, World, book_floor, book_records}
-use Rattle.vt_steps.specs.PartSteps.{report_sent, report_got, report_least, rows_of_commit}
+use Rattle.vt_steps.specs.PartSteps.{report_least, rows_of_commit}
 use Rattle.vt_steps.specs.BoardSteps.{cut_board, may_report}
 use Rattle.vt_steps.specs.BookSteps.{may_commit, may_close, with_rows}
-use Rattle.vt_steps.specs.Next.{Outcome, next, run, refused, replied}
-use Rattle.vt_steps.specs.Cells.{board_cell, book_cell, Cell, on_board, in_book, content}
-use Rattle.vt_steps.specs.Marked.{Marked, Made, Answered, answered, unmarked, marked, LeadsLocally, Each, IsMarkedRight, own_steps_of, shown, LeadLocally, DoesSo, made_done, has_cut_since, has_closed}
+use Rattle.vt_steps.specs.Next.{Outcome, next, run}
+use Rattle.vt_steps.specs.Cells.{board_cell, book_cell, Cell, on_board, in_book}
+use Rattle.vt_steps.specs.Marked.{Marked, unmarked, marked, shown, DoesSo, made_done, has_cut_since, has_closed}
 use Rattle.vt_steps.proofs.Floors.{AreTimesSound, reached-times}
 use Rattle.vt_steps.proofs.Lists.{Every}
 use Rattle.vt_steps.proofs.LocalLeads.{local-does}
 use Rattle.vt_steps.proofs.MarkedRuns.{steps-append, shown-marked}
-use Rattle.vt_steps.proofs.OwnCloses.{closed-floors, floor-ends, unclosable-floor, closed-known}
+use Rattle.vt_steps.proofs.OwnCloses.{closed-floors, unclosable-floor, closed-known}
 use Rattle.vt_steps.proofs.Places.{get-within}
 use Rattle.vt_steps.proofs.ReachedBooks.{reached-falls, reached-accounted}
 use Rattle.vt_steps.proofs.Records.{records-right}
-use Rattle.vt_steps.proofs.Tests.{passes_both, both_pass}
+use Rattle.vt_steps.proofs.Tests.{passes_both}
 use Rattle.std.proofs.lemmas.Option.{slice_get_within}
 use Rattle.vt_book.specs.Books.{may_hand, are_within}
 use Rattle.vt_steps.proofs.OwnCuts.{refused-cut-known}
 use Rattle.vt_board.specs.Calls.{counted, cut_outcome, takes_report}
 use Rattle.vt_kernel.specs.Local.{local_steps}
-use Rattle.vt_world.specs.Calls.{IsStepRefusal, IsSpent}
+use Rattle.vt_world.specs.Calls.{IsStepRefusal}
 use Rattle.vt_world.proofs.CellSteps.{next-cut, next-not_cut, next-not_report, next-commit, next-commit_closed, next-not_close, next-close_closed}
 use Rattle.vt_world.proofs.CommitRows.{IsBetween, commit-between}
 use Rattle.vt_station.specs.declared.view.View.{View}
 use Rattle.vt_station.specs.Calls.{Known, IsRefusedBy, IsCutRefusal, IsReportRefusal, IsCommitRefusal, IsCloseRefusal, IsFloorLeft, AreRecordsShown}
 use Rattle.vt_station.proofs.BoardLemmas.{fails-first}
-use Rattle.vt_station.proofs.BookLemmas.{all-within, locals-floor, run-one}
+use Rattle.vt_station.proofs.BookLemmas.{all-within, run-one}
 use Rattle.vt_station.proofs.Releases.{steps-lead}
 
 module _ {S P : Type 0} (sim : Simulation S P) (v : View P) (k : ℕ) (cell : Cell P) (known : Known sim v k cell) (steps : List Step) (before : Part P) (led : local_steps sim v.worker steps v.part ≡ Some before) where
@@ -148,10 +148,6 @@ module _ {S P : Type 0} (sim : Simulation S P) (v : View P) (k : ℕ) (cell : Ce
         (ap (λ o. may_commit o floor) here ∙ above)
         (passes_both (time_at_most floor sim.end) (are_within (slice_get there.book.floors v.worker) floor rows) ends
         (ap (λ o. are_within o floor rows) here ∙ all-within handed_in.0 floor rows between))
-
-    -- the floor of the part in the view is that of the part before the step
-    pub own-floor : before.floor ≡ v.part.floor
-    own-floor = locals-floor sim v.worker steps v.part before led
 
     -- a commit that the book refuses as closed
     pub commit-closed : there.book.is_closed ≡ true → IsCommitRefusal sim v Closed

@@ -1,9 +1,8 @@
 -- The release after each call, in the words of its contract.
-use Rattle.std.proofs.Common.{◌≡◌, ◌≢◌, ◌⊎◌, inl, inr, ℕ, ◌+◌, ◌%◌, ◌/◌, ◌<◌, ◌≤◌, Bool, true, false, cond, List, [], ◌∷◌, ◌++◌, refl, sym, ◌∙◌, ap, subst, arith, le_refl, get_or, nat_eq, Option, Some, None, Ok}
-use Rattle.std.specs.Option.{option_and_then}
+use Rattle.std.proofs.Common.{◌≡◌, ◌⊎◌, inl, inr, ℕ, ◌%◌, ◌/◌, ◌<◌, cond, List, [], ◌∷◌, ◌++◌, refl, sym, ◌∙◌, ap, subst, le_refl, nat_eq, Option, Some, None, Ok}
 use Rattle.std.proofs.lemmas.List.{append-nil}
 use Rattle.std.proofs.lemmas.Bool.Decides.{eqb_tells}
-use Rattle.atomic_table.specs.Table.{Allows, rest}
+use Rattle.atomic_table.specs.Table.{Allows}
 use Rattle.vt_key.specs.Times.{Time, TimeAtMost}
 use Rattle.vt_model.specs.Handler.{Handlers}
 use Rattle.vt_model.specs.Histories.{IsLawful}
@@ -13,21 +12,18 @@ use Rattle.vt_steps.specs.declared.step.Step.{Step}
 use Rattle.vt_steps.specs.declared.step.Step.TheVariants.{Execute, Undo, Cancel, Home, Send, Fetch, Accept, Cut, Report, Commit, Close}
 use Rattle.vt_steps.specs.declared.step.Reply.{Reply}
 use Rattle.vt_steps.specs.declared.step.Reply.TheVariants.{Done}
-use Rattle.vt_steps.specs.World.{Part, World}
+use Rattle.vt_steps.specs.World.{Part}
 use Rattle.vt_steps.specs.PartSteps.{execute, undo, cancel, home, accept}
 use Rattle.vt_steps.specs.Cells.{book_cell, Cell, worker_of, cell_of, acted_locally, act}
 use Rattle.vt_steps.specs.Laws.{IsAny}
 use Rattle.vt_steps.specs.Marked.{Made, made_done, LeadsLocally, LeadLocally, Leads}
 use Rattle.vt_steps.proofs.Changes.{chain_has}
 use Rattle.vt_steps.proofs.LocalLeads.{leads, leads-nowhere}
-use Rattle.vt_kernel.specs.Held.{HeldWorker, StandsFor}
-use Rattle.vt_kernel.specs.Local.{at_own, local_step, local_steps}
-use Rattle.vt_station.specs.declared.slot.Slot.{Slot}
-use Rattle.vt_station.specs.declared.view.View.{View}
-use Rattle.vt_station.specs.Hands.{empty_hand, holding}
-use Rattle.vt_station.specs.Slots.{cell_count, cell_at, held_in, IsSlotOf}
-use Rattle.vt_station.specs.Kept.{Sat, Kept, Rests}
-use Rattle.vt_station.specs.Calls.{IsSamePlace, HasSameSteps, seen_or, Unvisited, Closes, Reaches, Visits, Visited, Acts, Known, Took, Holding, ShowsFloor, MaySee}
+use Rattle.vt_kernel.specs.Held.{HeldWorker}
+use Rattle.vt_kernel.specs.Local.{local_step, local_steps}
+use Rattle.vt_station.specs.Slots.{cell_count, cell_at, held_in}
+use Rattle.vt_station.specs.Kept.{Sat, Kept}
+use Rattle.vt_station.specs.Calls.{seen_or, Unvisited, Closes, Reaches, Visited, Acts, Holding, ShowsFloor, MaySee}
 use Rattle.vt_station.proofs.Keeps.{releases}
 
 -- ---- local steps of a kernel as local steps of a worker

@@ -1,29 +1,28 @@
 -- The making of a station and of its places keeps the rule.
-use Rattle.std.proofs.Common.{◌≡◌, ◌≢◌, ◌⊎◌, ℕ, zero, suc, ◌+◌, ◌-◌, ◌<◌, ◌≤◌, List, [], ◌∷◌, ◌++◌, map, length, get_or, set, sym, refl, ap, ◌∙◌, subst, inl, inr, ⊎_elim, arith, le_refl, length-set, length-append, Option, Some, slice_get, drop, replicate}
+use Rattle.std.proofs.Common.{◌≡◌, ◌≢◌, ◌⊎◌, ℕ, zero, suc, ◌+◌, ◌-◌, ◌<◌, List, [], ◌∷◌, ◌++◌, map, length, get_or, set, sym, refl, ap, ◌∙◌, subst, inl, inr, ⊎_elim, arith, length-set, length-append, Some, slice_get, drop}
 use Rattle.std.specs.List.{range_with_len}
 use Rattle.std.proofs.lemmas.List.FromFn.{length-map-range_with_len}
 use mathlib.Core.Logic.{dite}
-use mathlib.Core.Option.{Option as Maybe, none, some, some-injective, some-ne-none}
+use mathlib.Core.Option.{some, some-injective, some-ne-none}
 use native.Mathlib.Decide.{ℕ_discrete}
 use lib.ListN.{get_elem?, length-map}
 use Rattle.atomic_table.specs.Table.{Splits}
 use Rattle.atomic_table.specs.Table.{opening as tabled}
 use Rattle.atomic_table.proofs.Lists.{at_set, set_else, at_snoc, at_longer}
-use Rattle.vt_key.specs.Times.{TimeAtMost}
 use Rattle.vt_model.specs.declared.settings.Config.{Config}
 use Rattle.vt_model.specs.Simulation.{Simulation}
-use Rattle.vt_steps.specs.World.{Part, World, book_floor, opening_part, opening_world}
+use Rattle.vt_steps.specs.World.{opening_part, opening_world}
 use Rattle.vt_steps.specs.Cells.{Cell, content}
-use Rattle.vt_steps.specs.Marked.{Marked, Made, answered, unmarked, Each, IsMarkedRight, own_steps, own_steps_of, shown}
-use Rattle.vt_steps.specs.Next.{run, next}
+use Rattle.vt_steps.specs.Marked.{Marked, Each, own_steps}
+use Rattle.vt_steps.specs.Next.{run}
 use Rattle.vt_steps.proofs.MarkedRuns.{each-weaker, own-others}
 use Rattle.vt_steps.proofs.LocalLeads.{run-others_part}
 use Rattle.vt_steps.proofs.Places.{get-map_range}
 use Rattle.vt_station.specs.declared.slot.Slot.{Slot}
 use Rattle.vt_station.specs.declared.view.View.{View}
-use Rattle.vt_station.specs.Hands.{Hand, empty_hand, holding}
+use Rattle.vt_station.specs.Hands.{empty_hand, holding}
 use Rattle.vt_station.specs.Slots.{cell_count, cell_at, held_in, IsSlotOf}
-use Rattle.vt_station.specs.Kept.{Standing, Sat, IsClaimed, Makes, Sits, IsAtHome, IsHeld, Kept, blank, first_view, Rests, left_view, next_view, first_or}
+use Rattle.vt_station.specs.Kept.{Standing, IsClaimed, Makes, Sits, Kept, first_view, left_view, next_view, first_or}
 use Rattle.vt_station.proofs.Cells.{not-empty}
 
 -- ---- lists

@@ -1,7 +1,6 @@
 -- What the calls of a station answer and leave.
-use Rattle.std.specs.Prelude.{◌≡◌, ◌≢◌, ℕ, ◌+◌, ◌<◌, ◌≤◌, ◌⊎◌, Bool, true, false, List, [], ◌∷◌, ◌++◌, map, length, Option, Some, None, Result, Ok, Err, slice_get, IfSome}
+use Rattle.std.specs.Prelude.{◌≡◌, ℕ, ◌+◌, ◌<◌, ◌≤◌, ◌⊎◌, true, false, List, [], ◌∷◌, ◌++◌, map, length, Option, Some, None, Result, Ok, slice_get, IfSome}
 use Rattle.std.specs.Result.{IsErrAnd}
-use Rattle.atomic_table.specs.Table.{rest}
 use Rattle.vt_key.specs.Times.{Time, TimeAtMost, TimeBefore}
 use Rattle.vt_key.specs.declared.fault.Fault.{Fault}
 use Rattle.vt_key.specs.declared.fault.Fault.TheVariants.{Memory, NotLawful, Busy, Closed, Exhausted}
@@ -17,13 +16,12 @@ use Rattle.vt_steps.specs.declared.step.Step.{Step}
 use Rattle.vt_steps.specs.declared.step.Step.TheVariants.{Cut, Report, Commit, Close}
 use Rattle.vt_steps.specs.declared.step.Reply.{Reply}
 use Rattle.vt_steps.specs.declared.step.Reply.TheVariants.{Done}
-use Rattle.vt_steps.specs.World.{Part, Book, World, book_floor}
+use Rattle.vt_steps.specs.World.{Part, book_floor}
 use Rattle.vt_steps.specs.Letters.{is_empty, count_of, count_colour}
 use Rattle.vt_steps.specs.PartSteps.{letters_for}
 use Rattle.vt_steps.specs.Next.{next, run, may_send}
-use Rattle.vt_steps.specs.Cells.{Cell, in_book, content, worker_of, cell_of, act}
-use Rattle.vt_steps.specs.Laws.{IsAny}
-use Rattle.vt_steps.specs.Marked.{Marked, Made, answered, made_done, Each, IsMarkedRight, own_steps_of, shown, has_cut_since, has_closed}
+use Rattle.vt_steps.specs.Cells.{Cell, in_book, content, act}
+use Rattle.vt_steps.specs.Marked.{Marked, answered, made_done, Each, IsMarkedRight, own_steps_of, shown, has_cut_since, has_closed}
 use Rattle.vt_kernel.specs.Held.{HeldWorker, StandsFor}
 use Rattle.vt_kernel.specs.Local.{local_steps}
 use Rattle.vt_kernel.specs.Guards.{IsSendRefusal}

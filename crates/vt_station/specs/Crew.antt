@@ -9,6 +9,7 @@ use Rattle.vt_model.specs.Simulation.{Simulation, simulation_of}
 use Rattle.vt_station.specs.declared.place.Place.{Place}
 use Rattle.vt_station.specs.declared.driver.Outcome.{Outcome}
 use Rattle.vt_station.specs.declared.driver.Outcome.TheVariants.{Closed}
+use Rattle.vt_station.specs.Told.{place_table, place_view}
 use Rattle.vt_station.specs.Making.{IsNew}
 use Rattle.vt_station.specs.Turns.{IsLasting, HasEnded}
 
@@ -16,7 +17,7 @@ use Rattle.vt_station.specs.Turns.{IsLasting, HasEnded}
 -- the work ended
 abbrev pub IsLeft : {S P : Type 0} → Simulation S P → TableId → ℕ → Option Outcome → Place P → Type 0
 IsLeft sim table w None place = IsNew sim table w place
-IsLeft sim table w (Some outcome) place = HasEnded place.seat.me.0 outcome
+IsLeft sim table w (Some outcome) place = HasEnded (place_view place) outcome
 
 -- what a contract sees of the work of a worker
 pub record AtJob (M P : Type 0) : Type 0 where
@@ -34,7 +35,7 @@ pub record IsJob {M S P K : Type 0} (handlers : M → Handlers S P K) (told : M)
   pub within : j.worker < j.config.workers
   pub there : Place P
   pub place_is : j.place ≡ Some there
-  pub table_is : there.seat.table_id ≡ j.table
+  pub table_is : place_table there ≡ j.table
   pub left : IsLeft (simulation_of (handlers j.model) j.config) j.table j.worker j.outcome there
 
 -- the work of the same worker for the same model and config

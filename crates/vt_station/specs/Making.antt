@@ -12,6 +12,7 @@ use Rattle.vt_station.specs.declared.slot.Slot.{Slot}
 use Rattle.vt_station.specs.declared.place.Place.{Place}
 use Rattle.vt_station.specs.Slots.{held_in, IsSlotOf}
 use Rattle.vt_station.specs.Kept.{Sat, Rests, first_view}
+use Rattle.vt_station.specs.Told.{place_table, place_worker, place_seat}
 
 -- an inbox for each worker, without mail, the board at the opening, and the empty book
 pub record AreSlots {P : Type 0} (config : Config) (slots : List (Slot P)) : Type 0 where
@@ -40,9 +41,9 @@ pub record Opens {S P : Type 0} (sim : Simulation S P) (i : ℕ) (m : Sat P) : T
 
 -- a place of the table, as it is made
 pub record IsNew {S P : Type 0} (sim : Simulation S P) (table : TableId) (i : ℕ) (place : Place P) : Type 0 where
-  pub table_is : place.seat.table_id ≡ table
-  pub worker : place.worker ≡ i
-  pub opens : Opens sim i place.seat.me
+  pub table_is : place_table place ≡ table
+  pub worker : place_worker place ≡ i
+  pub opens : Opens sim i (place_seat place)
 
 -- the places from this worker's on, in order
 abbrev pub AreNew : {S P : Type 0} → Simulation S P → TableId → ℕ → List (Place P) → Type 0

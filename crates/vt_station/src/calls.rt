@@ -8,6 +8,7 @@ ghost use Rattle.vt_steps.specs.declared.step.Reply.TheVariants as reply;
 ghost use Rattle.vt_steps.specs.World.{Part};
 ghost use Rattle.vt_board.specs.Calls.{reply_of};
 ghost use Rattle.vt_kernel.specs.Held.{StandsFor};
+ghost use Rattle.vt_station.specs.Told.{station_model, station_config, station_table, place_table, place_worker, place_view};
 ghost use Rattle.vt_station.specs.Calls.{Reaches, Visited, Closes, Unvisited, Stays, IsPostRefusal, IsFetchRefusal, IsCutRefusal, IsReportRefusal, IsCommitRefusal, IsCloseRefusal, IsRecordsRefusal, IsFloorLeft, AreRecordsShown, IsRefusedOnceClosed};
 
 use crate::place::Place;
@@ -32,14 +33,14 @@ impl<M: EventModel> Station<M> {
         kernel: &mut Kernel<M>,
         v: u32,
     ) -> Result<(), Fault>
-        requires own { place.old.seat.table_id ≡ self.now.table.shared.table_id }
-        requires kernel { let key = self.now.table.shared.key in Reaches (M.handlers key.model.value) key.config place.old.seat.me.0 kernel.old }
-        ensures same { (place.new.seat.table_id ≡ place.old.seat.table_id) × (place.new.worker ≡ place.old.worker) }
-        ensures done { let key = self.now.table.shared.key in MatchResult result
-            (λ _. Visited (M.handlers key.model.value) key.config place.old.seat.me.0 kernel.old (step.Send place.old.worker v) reply.Done kernel.new place.old.seat.me.0.seen place.new.seat.me.0)
-            (λ _. Stays place.old.seat.me.0 place.new.seat.me.0 × (kernel.new ≡ kernel.old)) }
-        ensures refused { let key = self.now.table.shared.key in (part : Part _) → StandsFor (M.handlers key.model.value) kernel.old part → IfErr result (λ fault. IsPostRefusal (simulation_of (M.handlers key.model.value) key.config) place.old.worker v part fault) }
-        ensures ready { let key = self.now.table.shared.key in Reaches (M.handlers key.model.value) key.config place.new.seat.me.0 kernel.new }
+        requires own { place_table place.old ≡ station_table self.now }
+        requires kernel { Reaches (M.handlers (station_model self.now)) (station_config self.now) (place_view place.old) kernel.old }
+        ensures same { (place_table place.new ≡ place_table place.old) × (place_worker place.new ≡ place_worker place.old) }
+        ensures done { let handlers = M.handlers (station_model self.now) in let config = station_config self.now in MatchResult result
+            (λ _. Visited handlers config (place_view place.old) kernel.old (step.Send (place_worker place.old) v) reply.Done kernel.new (place_view place.old).seen (place_view place.new))
+            (λ _. Stays (place_view place.old) (place_view place.new) × (kernel.new ≡ kernel.old)) }
+        ensures refused { let handlers = M.handlers (station_model self.now) in let config = station_config self.now in (part : Part _) → StandsFor handlers kernel.old part → IfErr result (λ fault. IsPostRefusal (simulation_of handlers config) (place_worker place.old) v part fault) }
+        ensures ready { Reaches (M.handlers (station_model self.now)) (station_config self.now) (place_view place.new) kernel.new }
     {
         self.post_at(&mut place.seat, kernel, place.worker, v)
     }
@@ -49,14 +50,14 @@ impl<M: EventModel> Station<M> {
     /// [`Fault::NotLawful`]: something that arrived before is not accepted yet. [`Fault::Busy`]: another place had claimed the inbox.
     /// [`Fault::Exhausted`]: a count of mail got would pass 2^63. After each of them the place and the kernel are as they were.
     pub fn fetch(&self, place: &mut Place<M::Payload>, kernel: &mut Kernel<M>) -> Result<(), Fault>
-        requires own { place.old.seat.table_id ≡ self.now.table.shared.table_id }
-        requires kernel { let key = self.now.table.shared.key in Reaches (M.handlers key.model.value) key.config place.old.seat.me.0 kernel.old }
-        ensures same { (place.new.seat.table_id ≡ place.old.seat.table_id) × (place.new.worker ≡ place.old.worker) }
-        ensures done { let key = self.now.table.shared.key in MatchResult result
-            (λ _. Visited (M.handlers key.model.value) key.config place.old.seat.me.0 kernel.old (step.Fetch place.old.worker) reply.Done kernel.new place.old.seat.me.0.seen place.new.seat.me.0)
-            (λ _. Stays place.old.seat.me.0 place.new.seat.me.0 × (kernel.new ≡ kernel.old)) }
-        ensures refused { let key = self.now.table.shared.key in (part : Part _) → StandsFor (M.handlers key.model.value) kernel.old part → IfErr result (λ fault. IsFetchRefusal (simulation_of (M.handlers key.model.value) key.config) part fault) }
-        ensures ready { let key = self.now.table.shared.key in Reaches (M.handlers key.model.value) key.config place.new.seat.me.0 kernel.new }
+        requires own { place_table place.old ≡ station_table self.now }
+        requires kernel { Reaches (M.handlers (station_model self.now)) (station_config self.now) (place_view place.old) kernel.old }
+        ensures same { (place_table place.new ≡ place_table place.old) × (place_worker place.new ≡ place_worker place.old) }
+        ensures done { let handlers = M.handlers (station_model self.now) in let config = station_config self.now in MatchResult result
+            (λ _. Visited handlers config (place_view place.old) kernel.old (step.Fetch (place_worker place.old)) reply.Done kernel.new (place_view place.old).seen (place_view place.new))
+            (λ _. Stays (place_view place.old) (place_view place.new) × (kernel.new ≡ kernel.old)) }
+        ensures refused { let handlers = M.handlers (station_model self.now) in let config = station_config self.now in (part : Part _) → StandsFor handlers kernel.old part → IfErr result (λ fault. IsFetchRefusal (simulation_of handlers config) part fault) }
+        ensures ready { Reaches (M.handlers (station_model self.now)) (station_config self.now) (place_view place.new) kernel.new }
     {
         self.fetch_at(&mut place.seat, kernel, place.worker)
     }
@@ -66,14 +67,14 @@ impl<M: EventModel> Station<M> {
     /// [`Fault::Busy`]: another place had claimed the board. [`Fault::NotLawful`]: the worker has cut in the open round.
     /// [`Fault::Exhausted`]: one more round would be more than 2^63. After each of them the place and the kernel are as they were.
     pub fn cut(&self, place: &mut Place<M::Payload>, kernel: &mut Kernel<M>) -> Result<(), Fault>
-        requires own { place.old.seat.table_id ≡ self.now.table.shared.table_id }
-        requires kernel { let key = self.now.table.shared.key in Reaches (M.handlers key.model.value) key.config place.old.seat.me.0 kernel.old }
-        ensures same { (place.new.seat.table_id ≡ place.old.seat.table_id) × (place.new.worker ≡ place.old.worker) }
-        ensures done { let key = self.now.table.shared.key in MatchResult result
-            (λ _. Visited (M.handlers key.model.value) key.config place.old.seat.me.0 kernel.old (step.Cut place.old.worker) reply.Done kernel.new place.old.seat.me.0.seen place.new.seat.me.0)
-            (λ _. Stays place.old.seat.me.0 place.new.seat.me.0 × (kernel.new ≡ kernel.old)) }
-        ensures refused { let key = self.now.table.shared.key in IfErr result (λ fault. IsCutRefusal (simulation_of (M.handlers key.model.value) key.config) place.old.seat.me.0 fault) }
-        ensures ready { let key = self.now.table.shared.key in Reaches (M.handlers key.model.value) key.config place.new.seat.me.0 kernel.new }
+        requires own { place_table place.old ≡ station_table self.now }
+        requires kernel { Reaches (M.handlers (station_model self.now)) (station_config self.now) (place_view place.old) kernel.old }
+        ensures same { (place_table place.new ≡ place_table place.old) × (place_worker place.new ≡ place_worker place.old) }
+        ensures done { let handlers = M.handlers (station_model self.now) in let config = station_config self.now in MatchResult result
+            (λ _. Visited handlers config (place_view place.old) kernel.old (step.Cut (place_worker place.old)) reply.Done kernel.new (place_view place.old).seen (place_view place.new))
+            (λ _. Stays (place_view place.old) (place_view place.new) × (kernel.new ≡ kernel.old)) }
+        ensures refused { IfErr result (λ fault. IsCutRefusal (simulation_of (M.handlers (station_model self.now)) (station_config self.now)) (place_view place.old) fault) }
+        ensures ready { Reaches (M.handlers (station_model self.now)) (station_config self.now) (place_view place.new) kernel.new }
     {
         self.cut_at(&mut place.seat, kernel, place.worker)
     }
@@ -87,14 +88,14 @@ impl<M: EventModel> Station<M> {
         place: &mut Place<M::Payload>,
         kernel: &mut Kernel<M>,
     ) -> Result<Report, Fault>
-        requires own { place.old.seat.table_id ≡ self.now.table.shared.table_id }
-        requires kernel { let key = self.now.table.shared.key in Reaches (M.handlers key.model.value) key.config place.old.seat.me.0 kernel.old }
-        ensures same { (place.new.seat.table_id ≡ place.old.seat.table_id) × (place.new.worker ≡ place.old.worker) }
-        ensures done { let key = self.now.table.shared.key in MatchResult result
-            (λ report. Visited (M.handlers key.model.value) key.config place.old.seat.me.0 kernel.old (step.Report place.old.worker) (reply_of report) kernel.new place.old.seat.me.0.seen place.new.seat.me.0)
-            (λ _. Stays place.old.seat.me.0 place.new.seat.me.0 × (kernel.new ≡ kernel.old)) }
-        ensures refused { let key = self.now.table.shared.key in IfErr result (λ fault. IsReportRefusal (simulation_of (M.handlers key.model.value) key.config) place.old.seat.me.0 fault) }
-        ensures ready { let key = self.now.table.shared.key in Reaches (M.handlers key.model.value) key.config place.new.seat.me.0 kernel.new }
+        requires own { place_table place.old ≡ station_table self.now }
+        requires kernel { Reaches (M.handlers (station_model self.now)) (station_config self.now) (place_view place.old) kernel.old }
+        ensures same { (place_table place.new ≡ place_table place.old) × (place_worker place.new ≡ place_worker place.old) }
+        ensures done { let handlers = M.handlers (station_model self.now) in let config = station_config self.now in MatchResult result
+            (λ report. Visited handlers config (place_view place.old) kernel.old (step.Report (place_worker place.old)) (reply_of report) kernel.new (place_view place.old).seen (place_view place.new))
+            (λ _. Stays (place_view place.old) (place_view place.new) × (kernel.new ≡ kernel.old)) }
+        ensures refused { IfErr result (λ fault. IsReportRefusal (simulation_of (M.handlers (station_model self.now)) (station_config self.now)) (place_view place.old) fault) }
+        ensures ready { Reaches (M.handlers (station_model self.now)) (station_config self.now) (place_view place.new) kernel.new }
     {
         self.report_at(&mut place.seat, kernel, place.worker)
     }
@@ -109,16 +110,16 @@ impl<M: EventModel> Station<M> {
         place: &mut Place<M::Payload>,
         kernel: &mut Kernel<M>,
     ) -> Result<(), Fault>
-        requires own { place.old.seat.table_id ≡ self.now.table.shared.table_id }
-        requires kernel { let key = self.now.table.shared.key in Reaches (M.handlers key.model.value) key.config place.old.seat.me.0 kernel.old }
-        ensures same { (place.new.seat.table_id ≡ place.old.seat.table_id) × (place.new.worker ≡ place.old.worker) }
-        ensures done { let key = self.now.table.shared.key in MatchResult result
-            (λ _. (shown : TimeValue) × Visited (M.handlers key.model.value) key.config place.old.seat.me.0 kernel.old (step.Commit place.old.worker) reply.Done kernel.new shown place.new.seat.me.0
-            × IsFloorLeft (simulation_of (M.handlers key.model.value) key.config) place.old.seat.me.0 (step.Commit place.old.worker) shown)
-            (λ _. Stays place.old.seat.me.0 place.new.seat.me.0 × (kernel.new ≡ kernel.old)) }
-        ensures refused { let key = self.now.table.shared.key in IfErr result (λ fault. IsCommitRefusal (simulation_of (M.handlers key.model.value) key.config) place.old.seat.me.0 fault) }
-        ensures closed { IsRefusedOnceClosed place.old.seat.me.0 result }
-        ensures ready { let key = self.now.table.shared.key in Reaches (M.handlers key.model.value) key.config place.new.seat.me.0 kernel.new }
+        requires own { place_table place.old ≡ station_table self.now }
+        requires kernel { Reaches (M.handlers (station_model self.now)) (station_config self.now) (place_view place.old) kernel.old }
+        ensures same { (place_table place.new ≡ place_table place.old) × (place_worker place.new ≡ place_worker place.old) }
+        ensures done { let handlers = M.handlers (station_model self.now) in let config = station_config self.now in MatchResult result
+            (λ _. (shown : TimeValue) × Visited handlers config (place_view place.old) kernel.old (step.Commit (place_worker place.old)) reply.Done kernel.new shown (place_view place.new)
+            × IsFloorLeft (simulation_of handlers config) (place_view place.old) (step.Commit (place_worker place.old)) shown)
+            (λ _. Stays (place_view place.old) (place_view place.new) × (kernel.new ≡ kernel.old)) }
+        ensures refused { IfErr result (λ fault. IsCommitRefusal (simulation_of (M.handlers (station_model self.now)) (station_config self.now)) (place_view place.old) fault) }
+        ensures closed { IsRefusedOnceClosed (place_view place.old) result }
+        ensures ready { Reaches (M.handlers (station_model self.now)) (station_config self.now) (place_view place.new) kernel.new }
     {
         self.commit_at(alloc, &mut place.seat, kernel, place.worker)
     }
@@ -128,11 +129,11 @@ impl<M: EventModel> Station<M> {
     /// [`Fault::Busy`]: another place had claimed the book. [`Fault::Closed`]: the book is closed. [`Fault::NotLawful`]: its floor isn't
     /// the end of the run. After each of them the place is as it was.
     pub fn close(&self, place: &mut Place<M::Payload>) -> Result<(), Fault>
-        requires own { place.old.seat.table_id ≡ self.now.table.shared.table_id }
-        ensures same { (place.new.seat.table_id ≡ place.old.seat.table_id) × (place.new.worker ≡ place.old.worker) }
-        ensures done { MatchResult result (λ _. Closes place.old.seat.me.0 self.now.table.shared.key.config.end place.new.seat.me.0) (λ _. Stays place.old.seat.me.0 place.new.seat.me.0) }
-        ensures refused { let key = self.now.table.shared.key in IfErr result (λ fault. IsCloseRefusal (simulation_of (M.handlers key.model.value) key.config) place.old.seat.me.0 fault) }
-        ensures closed { IsRefusedOnceClosed place.old.seat.me.0 result }
+        requires own { place_table place.old ≡ station_table self.now }
+        ensures same { (place_table place.new ≡ place_table place.old) × (place_worker place.new ≡ place_worker place.old) }
+        ensures done { MatchResult result (λ _. Closes (place_view place.old) (station_config self.now).end (place_view place.new)) (λ _. Stays (place_view place.old) (place_view place.new)) }
+        ensures refused { IfErr result (λ fault. IsCloseRefusal (simulation_of (M.handlers (station_model self.now)) (station_config self.now)) (place_view place.old) fault) }
+        ensures closed { IsRefusedOnceClosed (place_view place.old) result }
     {
         self.close_at(&mut place.seat)
     }
@@ -146,12 +147,12 @@ impl<M: EventModel> Station<M> {
         alloc: Global,
         place: &mut Place<M::Payload>,
     ) -> Result<Vec<Record>, Fault>
-        requires own { place.old.seat.table_id ≡ self.now.table.shared.table_id }
-        ensures same { (place.new.seat.table_id ≡ place.old.seat.table_id) × (place.new.worker ≡ place.old.worker) }
-        ensures done { let key = self.now.table.shared.key in MatchResult result
-            (λ v. (floor : TimeValue) × AreRecordsShown (simulation_of (M.handlers key.model.value) key.config) place.old.seat.me.0 floor v.items × Unvisited place.old.seat.me.0 floor place.new.seat.me.0)
-            (λ _. Stays place.old.seat.me.0 place.new.seat.me.0) }
-        ensures refused { let key = self.now.table.shared.key in IfErr result (λ fault. IsRecordsRefusal (simulation_of (M.handlers key.model.value) key.config) fault) }
+        requires own { place_table place.old ≡ station_table self.now }
+        ensures same { (place_table place.new ≡ place_table place.old) × (place_worker place.new ≡ place_worker place.old) }
+        ensures done { let handlers = M.handlers (station_model self.now) in let config = station_config self.now in MatchResult result
+            (λ v. (floor : TimeValue) × AreRecordsShown (simulation_of handlers config) (place_view place.old) floor v.items × Unvisited (place_view place.old) floor (place_view place.new))
+            (λ _. Stays (place_view place.old) (place_view place.new)) }
+        ensures refused { IfErr result (λ fault. IsRecordsRefusal (simulation_of (M.handlers (station_model self.now)) (station_config self.now)) fault) }
     {
         self.records_at(alloc, &mut place.seat)
     }

@@ -6,6 +6,7 @@ ghost use Rattle.vt_model.specs.Simulation.{simulation_of};
 ghost use Rattle.vt_model.specs.Sequential.{seq_records};
 ghost use Rattle.vt_key.specs.declared.fault.Fault.TheVariants.{Memory, Busy, TurnsSpent};
 ghost use Rattle.vt_station.specs.declared.driver.Outcome.TheVariants.{Closed};
+ghost use Rattle.vt_station.specs.Told.{station_model, station_config, station_table};
 ghost use Rattle.vt_station.specs.Making.{IsNew, AreNew};
 ghost use Rattle.vt_station.specs.Turns.{IsLasting};
 ghost use Rattle.vt_station.specs.Crew.{IsSameJob, IsSameWork, AllAt, IsClosedAt, IsStop};
@@ -43,6 +44,7 @@ pub(crate) struct Job<'a, M: EventModel> {
 }
 
 impl<'a, M: EventModel> Model for Job<'a, M> {
+    ghost use Rattle.vt_station.specs.Told.{station_model, station_config, station_table};
     ghost use Rattle.vt_station.specs.Crew.{AtJob, IsJob};
 
     ghost Value = { AtJob M M.Payload };
@@ -50,16 +52,16 @@ impl<'a, M: EventModel> Model for Job<'a, M> {
     ghost view = { λ j. record {
       model = j.model.now;
       config = j.config;
-      table = j.station.now.table.shared.table_id;
+      table = station_table j.station.now;
       worker = j.worker;
       place = j.place;
       outcome = j.outcome;
     } };
 
-    ghost invariant = { λ j. IsJob M.handlers j.station.now.table.shared.key.model.value j.station.now.table.shared.key.config (record {
+    ghost invariant = { λ j. IsJob M.handlers (station_model j.station.now) (station_config j.station.now) (record {
       model = j.model.now;
       config = j.config;
-      table = j.station.now.table.shared.table_id;
+      table = station_table j.station.now;
       worker = j.worker;
       place = j.place;
       outcome = j.outcome;
@@ -122,8 +124,8 @@ fn job_of<'a, M: EventModel>(
     place: Place<M::Payload>,
 ) -> Job<'a, M>
     requires known { worker < config.workers }
-    requires told { (station.now.table.shared.key.model.value ≡ model.now) × (station.now.table.shared.key.config ≡ config) }
-    requires place { IsNew (simulation_of (M.handlers model.now) config) station.now.table.shared.table_id worker place }
+    requires told { (station_model station.now ≡ model.now) × (station_config station.now ≡ config) }
+    requires place { IsNew (simulation_of (M.handlers model.now) config) (station_table station.now) worker place }
     ensures told { (result.model ≡ model.now) × (result.config ≡ config) }
 {
     Job {
@@ -144,9 +146,9 @@ fn jobs_at<'a, M: EventModel>(
     config: Config,
     places: Vec<Place<M::Payload>>,
 ) -> Result<Vec<Job<'a, M>>, Fault>
-    requires told { (station.now.table.shared.key.model.value ≡ model.now) × (station.now.table.shared.key.config ≡ config) }
+    requires told { (station_model station.now ≡ model.now) × (station_config station.now ≡ config) }
     requires count { length places.items ≡ config.workers }
-    requires places { AreNew (simulation_of (M.handlers model.now) config) station.now.table.shared.table_id 0 places.items }
+    requires places { AreNew (simulation_of (M.handlers model.now) config) (station_table station.now) 0 places.items }
     ensures told { IfOk result (λ v. AllAt model.now config v.items × (length v.items ≡ config.workers)) }
     ensures refused { IfErr result (λ fault. fault ≡ Memory) }
 {

@@ -1,6 +1,7 @@
 //! The turns of a worker.
 
 ghost use Rattle.std.specs.Prelude.{◌≡◌, ◌≤◌, IfErr, IfSome};
+ghost use Rattle.vt_station.specs.Told.{place_table, place_view};
 ghost use Rattle.vt_station.specs.Turns.{IsLasting, HasEnded};
 
 use crate::gate::Gate;
@@ -67,8 +68,8 @@ impl<'a, M: EventModel> Driver<'a, M> {
 
     /// The place of the worker, whose work has ended.
     pub(crate) fn leave(self) -> Place<M::Payload>
-        ensures table { result.seat.table_id ≡ self.entry.worker.table }
-        ensures view { result.seat.me.0 ≡ self.entry.worker.view }
+        ensures table { place_table result ≡ self.entry.worker.table }
+        ensures view { place_view result ≡ self.entry.worker.view }
     {
         self.worker.leave()
     }

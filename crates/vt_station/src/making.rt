@@ -4,6 +4,7 @@ ghost use Rattle.std.specs.Prelude.{◌≡◌, ◌<◌, ◌≤◌, ◌+◌, ℕ,
 ghost use Rattle.vt_key.specs.declared.fault.Fault.TheVariants.{Memory};
 ghost use Rattle.vt_model.specs.Simulation.{simulation_of};
 ghost use Rattle.vt_station.specs.Kept.{first_view};
+ghost use Rattle.vt_station.specs.Told.{station_model, station_config, station_table};
 ghost use Rattle.vt_station.specs.Making.{AreSlots, IsMaker, Opens, AreNew};
 
 use crate::place::{Place, place_of};
@@ -86,8 +87,8 @@ impl<M: EventModel> Station<M> {
         model: &M,
         config: Config,
     ) -> Result<(Station<M>, Vec<Place<M::Payload>>), Fault>
-        ensures told { IfOk result (λ r. (r.0.table.shared.key.model.value ≡ model.now) × (r.0.table.shared.key.config ≡ config)) }
-        ensures places { IfOk result (λ r. (length r.1.items ≡ config.workers) × AreNew (simulation_of (M.handlers model.now) config) r.0.table.shared.table_id 0 r.1.items) }
+        ensures told { IfOk result (λ r. (station_model r.0 ≡ model.now) × (station_config r.0 ≡ config)) }
+        ensures places { IfOk result (λ r. (length r.1.items ≡ config.workers) × AreNew (simulation_of (M.handlers model.now) config) (station_table r.0) 0 r.1.items) }
         ensures refused { IfErr result (λ fault. fault ≡ Memory) }
     {
         let Ok((station, maker)) = lay(alloc, model, config) else {

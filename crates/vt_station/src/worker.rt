@@ -11,6 +11,7 @@ ghost use Rattle.vt_board.specs.Calls.{reply_of};
 ghost use Rattle.vt_kernel.specs.Held.{StandsFor};
 ghost use Rattle.vt_kernel.specs.Local.{local_step};
 ghost use Rattle.vt_kernel.specs.Guards.{IsDone, IsExecuteRefusal, IsAcceptRefusal, SettlesTo};
+ghost use Rattle.vt_station.specs.Told.{station_model, station_config, station_table, place_table, place_view};
 ghost use Rattle.vt_station.specs.Making.{IsNew};
 ghost use Rattle.vt_station.specs.Calls.{Visited, Closes, Unvisited, Stays, IsPostRefusal, IsFetchRefusal, IsCutRefusal, IsReportRefusal, IsCommitRefusal, IsCloseRefusal, IsRecordsRefusal, IsFloorLeft, AreRecordsShown, IsRefusedOnceClosed};
 ghost use Rattle.vt_station.specs.AtWork.{IsAtSamePlace, IsAtSameStation};
@@ -38,23 +39,24 @@ pub struct Worker<'a, M: EventModel> {
 }
 
 impl<'a, M: EventModel> Model for Worker<'a, M> {
+    ghost use Rattle.vt_station.specs.Told.{station_model, station_config, station_table, place_table, place_view};
     ghost use Rattle.vt_station.specs.AtWork.{AtWork, IsAtWork};
 
     ghost Value = { AtWork M M.State M.Payload M.Kept };
 
     ghost view = { λ w. record {
       model = w.model.now;
-      config = w.station.now.table.shared.key.config;
-      table = w.station.now.table.shared.table_id;
-      view = w.place.seat.me.0;
+      config = station_config w.station.now;
+      table = station_table w.station.now;
+      view = place_view w.place;
       kernel = w.kernel;
     } };
 
-    ghost invariant = { λ w. IsAtWork M.handlers w.station.now.table.shared.key.model.value w.config w.place.seat.table_id (record {
+    ghost invariant = { λ w. IsAtWork M.handlers (station_model w.station.now) w.config (place_table w.place) (record {
       model = w.model.now;
-      config = w.station.now.table.shared.key.config;
-      table = w.station.now.table.shared.table_id;
-      view = w.place.seat.me.0;
+      config = station_config w.station.now;
+      table = station_table w.station.now;
+      view = place_view w.place;
       kernel = w.kernel;
     }) };
 }
@@ -81,10 +83,10 @@ impl<'a, M: EventModel> Worker<'a, M> {
         place: Place<M::Payload>,
     ) -> Result<Worker<'a, M>, NotMade<M::Payload>>
         requires known { w < config.workers }
-        requires told { (station.now.table.shared.key.model.value ≡ model.now) × (station.now.table.shared.key.config ≡ config) }
-        requires place { IsNew (simulation_of (M.handlers model.now) config) station.now.table.shared.table_id w place }
-        ensures made { IfOk result (λ made. (made.model ≡ model.now) × (made.config ≡ config) × (made.table ≡ station.now.table.shared.table_id)
-            × (made.view ≡ place.seat.me.0) × (made.kernel.worker ≡ w) × StandsFor (M.handlers model.now) made.kernel (opening_part (simulation_of (M.handlers model.now) config) 0 w)) }
+        requires told { (station_model station.now ≡ model.now) × (station_config station.now ≡ config) }
+        requires place { IsNew (simulation_of (M.handlers model.now) config) (station_table station.now) w place }
+        ensures made { IfOk result (λ made. (made.model ≡ model.now) × (made.config ≡ config) × (made.table ≡ station_table station.now)
+            × (made.view ≡ place_view place) × (made.kernel.worker ≡ w) × StandsFor (M.handlers model.now) made.kernel (opening_part (simulation_of (M.handlers model.now) config) 0 w)) }
         ensures refused { IfErr result (λ not. (not.fault ≡ Memory) × (not.place ≡ place)) }
     {
         match Kernel::new(alloc, model, config, w) {
@@ -102,8 +104,8 @@ impl<'a, M: EventModel> Worker<'a, M> {
 
     /// The place of the worker, whose kernel is no longer wanted.
     pub fn leave(self) -> Place<M::Payload>
-        ensures table { result.seat.table_id ≡ self.entry.table }
-        ensures view { result.seat.me.0 ≡ self.entry.view }
+        ensures table { place_table result ≡ self.entry.table }
+        ensures view { place_view result ≡ self.entry.view }
     {
         self.place
     }

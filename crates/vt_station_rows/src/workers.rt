@@ -3,6 +3,7 @@
 ghost use Rattle.std.specs.Prelude.{◌≡◌, IfOk, IfErr, length};
 ghost use Rattle.vt_key.specs.declared.fault.Fault.TheVariants.{Memory};
 ghost use Rattle.vt_model.specs.Simulation.{simulation_of};
+ghost use Rattle.vt_station.specs.Told.{station_model, station_config, station_table};
 ghost use Rattle.vt_station.specs.Making.{AreNew};
 
 use std::alloc::Global;
@@ -20,9 +21,9 @@ pub fn workers_at<'a, M: EventModel>(
     config: Config,
     places: Vec<Place<M::Payload>>,
 ) -> Result<Vec<Worker<'a, M>>, Fault>
-    requires told { (station.now.table.shared.key.model.value ≡ model.now) × (station.now.table.shared.key.config ≡ config) }
+    requires told { (station_model station.now ≡ model.now) × (station_config station.now ≡ config) }
     requires count { length places.items ≡ config.workers }
-    requires places { AreNew (simulation_of (M.handlers model.now) config) station.now.table.shared.table_id 0 places.items }
+    requires places { AreNew (simulation_of (M.handlers model.now) config) (station_table station.now) 0 places.items }
     ensures count { IfOk result (λ v. length v.items ≡ config.workers) }
     ensures refused { IfErr result (λ fault. fault ≡ Memory) }
 {

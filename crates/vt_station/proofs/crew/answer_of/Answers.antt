@@ -1,13 +1,10 @@
-use Rattle.std.proofs.Common.{rules, ◌≡◌, refl, sym, ◌∙◌, subst, ap, Some, Result, Ok, Err}
+use Rattle.std.proofs.Common.{rules, ◌≡◌, sym, ◌∙◌, subst, Some}
 use Rattle.std.specs.Prelude.{IfOk, IfErr}
 use Rattle.vt_key.specs.Times.{Time, opening_time}
-use Rattle.vt_key.specs.declared.fault.Fault.{Fault}
-use Rattle.vt_key.specs.declared.fault.Fault.TheVariants.{TurnsSpent}
 use Rattle.vt_model.specs.declared.settings.Config.{Config}
 use Rattle.vt_model.specs.Simulation.{simulation_of}
 use Rattle.vt_model.specs.Sequential.{seq_records}
 use Rattle.vt_station.specs.declared.driver.Outcome.TheVariants.{Closed}
-use Rattle.vt_station.specs.Crew.{AtJob}
 use Rattle.vt_station.proofs.CrewLemmas.{none-at-first, stop-records}
 use Rattle.vt_station.proofs.crew.answer_of.Goals as goal
 use Rattle.vt_station.proofs.crew.answer_of.Goals.{in-Ok, in-Err}

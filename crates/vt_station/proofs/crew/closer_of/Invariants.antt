@@ -1,4 +1,3 @@
-use Rattle.std.specs.Prelude.{◌≡◌}
 use Rattle.vt_station.proofs.crew.closer_of.Given as goal
 
 abbrev pub invariant-loop-i : goal.invariant-loop-i

@@ -1,8 +1,8 @@
-use Rattle.std.proofs.Common.{◌≡◌, refl, sym, ◌∙◌, subst, ap, length, take, drop, ◌++◌, List}
+use Rattle.std.proofs.Common.{◌≡◌, sym, ◌∙◌, subst, ap, length, take, drop, ◌++◌}
 use Rattle.std.proofs.Math.Seq.{take-append_seam}
 use Rattle.vt_key.specs.Times.{opening_time}
 use Rattle.vt_model.specs.Simulation.{simulation_of}
-use Rattle.vt_station.specs.Crew.{AtJob, AllAt}
+use Rattle.vt_station.specs.Crew.{AllAt}
 use Rattle.vt_station.proofs.CrewLemmas.{none-at-first}
 use Rattle.vt_station.proofs.crew.run_workers.Goals as goal
 

@@ -1,8 +1,6 @@
-use Rattle.std.proofs.Common.{rules, arith, ◌≡◌, ◌<◌, ◌+◌, ℕ, List, replicate, length, get_or, refl, sym, ap, subst, ◌∙◌}
+use Rattle.std.proofs.Common.{rules, ◌≡◌, ◌+◌, ℕ, List, replicate, length, get_or, refl, ap, ◌∙◌}
 use lib.ListN.{length-replicate}
-use Rattle.atomic_table.specs.Table.{opening}
 use Rattle.vt_model.specs.Simulation.{simulation_of}
-use Rattle.vt_station.specs.Kept.{Kept, first_view}
 use Rattle.vt_station.proofs.Seating.{starts}
 use Rattle.vt_station.proofs.Opening.{slots-count, slots-full, blank-words}
 use Rattle.vt_station.proofs.making.lay.Goals as goal

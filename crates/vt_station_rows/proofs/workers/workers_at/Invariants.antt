@@ -1,5 +1,6 @@
 use Rattle.std.proofs.Common.{◌≡◌, length, ◌+◌}
 use Rattle.vt_model.specs.Simulation.{simulation_of}
+use Rattle.vt_station.specs.Told.{station_table}
 use Rattle.vt_station.specs.Making.{AreNew}
 use Rattle.vt_station_rows.proofs.workers.workers_at.Given as goal
 
@@ -8,5 +9,5 @@ invariant-loop-w g l =
     record {
       left : length l.places.items + l.w ≡ l.fn.config.workers;
       made : length l.workers.items ≡ l.w;
-      new : AreNew (simulation_of (g.M.Model.handlers l.fn.model) l.fn.config) l.fn.station.table.shared.table_id l.w l.places.items;
+      new : AreNew (simulation_of (g.M.Model.handlers l.fn.model) l.fn.config) (station_table l.fn.station) l.w l.places.items;
     }

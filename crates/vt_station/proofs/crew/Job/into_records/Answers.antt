@@ -1,4 +1,4 @@
-use Rattle.std.proofs.Common.{◌≡◌, refl, sym, ◌∙◌, subst, ap, Some}
+use Rattle.std.proofs.Common.{◌≡◌, sym, ◌∙◌, subst, Some}
 use Rattle.std.specs.Prelude.{IfOk}
 use Rattle.vt_key.specs.Times.{Time}
 use Rattle.vt_model.specs.declared.settings.Config.{Config}

@@ -1,7 +1,7 @@
-use Rattle.std.proofs.Common.{rules, ◌≡◌, refl, sym, ◌∙◌, subst, ap, inl, Some}
+use Rattle.std.proofs.Common.{◌≡◌, refl, sym, ◌∙◌, subst, ap, inl, Some}
 use Rattle.vt_station.specs.declared.place.Place.{Place}
 use Rattle.vt_station.specs.declared.view.View.{View}
-use Rattle.vt_station.specs.Turns.{IsLasting, HasEnded}
+use Rattle.vt_station.specs.Turns.{HasEnded}
 use Rattle.vt_station.proofs.crew.Job.run.Goals as goal
 
 pub invariant_of-self-in-Ok-2 : goal.invariant_of-self-in-Ok-2

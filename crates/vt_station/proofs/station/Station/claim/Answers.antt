@@ -1,4 +1,4 @@
-use Rattle.std.proofs.Common.{◌≡◌, ◌<◌, ℕ, eqb-true, eqb, refl, sym, ap, subst, ◌∙◌, arith, false, true}
+use Rattle.std.proofs.Common.{◌≡◌, ◌<◌, eqb-true, eqb, sym, ap, ◌∙◌, arith, false, true}
 use Rattle.vt_model.specs.Simulation.{simulation_of}
 use Rattle.vt_station.specs.Slots.{cell_count}
 use Rattle.vt_station.proofs.Keeps.{claims}

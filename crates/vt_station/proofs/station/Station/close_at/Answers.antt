@@ -1,14 +1,11 @@
-use Rattle.std.proofs.Common.{◌≡◌, ◌<◌, ◌+◌, ◌⊎◌, inl, inr, ℕ, List, [], true, false, refl, sym, ap, subst, ◌∙◌, arith, le_refl, Ok, Err}
-use Rattle.std.proofs.lemmas.Bool.Decides.{nat_tests}
-use Rattle.vt_key.specs.Times.{Time, TimeAtMost, time_same}
-use Rattle.vt_key.specs.declared.fault.Fault.TheVariants.{NotLawful, Closed}
+use Rattle.std.proofs.Common.{◌≡◌, ◌+◌, inl, inr, [], true, false, refl, sym, ap, subst, ◌∙◌, arith}
 use Rattle.vt_model.specs.Simulation.{simulation_of}
 use Rattle.vt_model.proofs.LawLemmas.{lawful_of}
-use Rattle.vt_steps.specs.World.{Book, book_floor}
+use Rattle.vt_steps.specs.World.{Book}
 use Rattle.vt_steps.specs.BookSteps.{may_close, closed_book}
 use Rattle.vt_steps.specs.Cells.{in_book}
 use Rattle.vt_steps.specs.Marked.{shown}
-use Rattle.vt_station.specs.Calls.{Holding, IsCloseRefusal, ShowsFloor}
+use Rattle.vt_station.specs.Calls.{IsCloseRefusal}
 use Rattle.vt_station.proofs.ActLemmas.{act-close}
 use Rattle.vt_station.proofs.HeldLemmas.{held-book}
 use Rattle.vt_station.proofs.CallLemmas.{took-book}

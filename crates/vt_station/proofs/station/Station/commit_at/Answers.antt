@@ -1,25 +1,20 @@
-use Rattle.std.proofs.Common.{◌≡◌, ◌<◌, ◌+◌, ◌⊎◌, inl, inr, ℕ, List, true, false, refl, sym, ap, subst, ◌∙◌, arith, le_refl, Ok, Err}
-use Rattle.vt_key.specs.Times.{Time, TimeAtMost}
-use Rattle.vt_key.specs.declared.fault.Fault.TheVariants.{Memory, Closed}
-use Rattle.vt_model.specs.declared.rows.Row.{Row}
+use Rattle.std.proofs.Common.{◌≡◌, ◌+◌, inl, inr, ℕ, true, false, refl, sym, ap, subst, ◌∙◌, arith}
 use Rattle.vt_model.specs.Simulation.{simulation_of}
 use Rattle.vt_model.proofs.LawLemmas.{lawful_of}
 use Rattle.vt_steps.specs.declared.step.Step.TheVariants.{Commit}
 use Rattle.vt_steps.specs.declared.step.Reply.TheVariants.{Done}
 use Rattle.vt_steps.specs.World.{Part, Book, book_floor}
 use Rattle.vt_steps.specs.PartSteps.{part_after_commit, rows_of_commit}
-use Rattle.vt_steps.specs.BookSteps.{may_commit, with_rows}
+use Rattle.vt_steps.specs.BookSteps.{with_rows}
 use Rattle.vt_steps.specs.Cells.{in_book}
-use Rattle.vt_steps.specs.Marked.{shown, has_closed, answered}
-use Rattle.vt_steps.proofs.OwnCloses.{closed-known}
+use Rattle.vt_steps.specs.Marked.{shown}
 use Rattle.vt_kernel.specs.Held.{HeldWorker, StandsFor}
 use Rattle.vt_book.specs.Books.{may_hand}
-use Rattle.vt_station.specs.Calls.{Holding, IsCommitRefusal, IsFloorLeft, ShowsFloor, Visited}
+use Rattle.vt_station.specs.Calls.{IsCommitRefusal, IsFloorLeft, Visited}
 use Rattle.vt_station.specs.Commits.{CommitsTo}
 use Rattle.vt_station.proofs.HeldLemmas.{held-book}
 use Rattle.vt_station.proofs.CallLemmas.{took-book, took-place}
 use Rattle.vt_station.proofs.CommitRelease.{committed-visited}
-use Rattle.vt_station.proofs.RefusalLemmas as refusal
 use Rattle.vt_station.proofs.CommitAt.{handed-is, ok-more, hand-lawful, commit-moves, commit-left, refused-closed, refused-memory, once-closed}
 use Rattle.vt_station.proofs.station.Station.commit_at.Goals as goal
 

@@ -1,5 +1,4 @@
-use Rattle.std.proofs.Common.{◌≡◌, ◌<◌, ℕ, refl, sym, ap, subst, ◌∙◌, arith, Ok, Err}
-use Rattle.vt_key.specs.Times.{Time}
+use Rattle.std.proofs.Common.{◌≡◌, refl, sym, ap, subst, ◌∙◌}
 use Rattle.vt_model.specs.declared.settings.Config.{Config}
 use Rattle.vt_model.specs.Simulation.{simulation_of}
 use Rattle.vt_model.proofs.LawLemmas.{lawful_of}
@@ -10,9 +9,9 @@ use Rattle.vt_steps.specs.PartSteps.{part_after_cut}
 use Rattle.vt_steps.specs.Marked.{shown}
 use Rattle.vt_kernel.specs.Held.{HeldWorker, StandsFor}
 use Rattle.vt_board.specs.Calls.{cut_outcome}
-use Rattle.vt_station.specs.Calls.{Acts, Holding, IsCutRefusal}
+use Rattle.vt_station.specs.Calls.{Acts}
 use Rattle.vt_station.proofs.ActLemmas.{act-cut}
-use Rattle.vt_station.proofs.CallLemmas.{took-board, took-place}
+use Rattle.vt_station.proofs.CallLemmas.{took-board}
 use Rattle.vt_station.proofs.RefusalLemmas.{cut-refused}
 use Rattle.vt_station.proofs.station.Station.cut_at.Goals as goal
 

@@ -1,7 +1,6 @@
-use Rattle.std.proofs.Common.{◌≡◌, ◌∷◌, ℕ, refl, sym, ap, subst, ◌∙◌, Some, Ok, Err}
+use Rattle.std.proofs.Common.{◌≡◌, ◌∷◌, refl, sym, ap, ◌∙◌}
 use Rattle.atomic_table.specs.Table.{rest}
 use Rattle.vt_steps.specs.Cells.{on_board}
-use Rattle.vt_steps.specs.BoardSteps.{cut_board}
 use Rattle.vt_board.specs.BoardOfRun.{BoardOfRun}
 use Rattle.vt_board.specs.Calls.{cut_outcome}
 use Rattle.vt_station.specs.declared.slot.Slot.TheVariants as slot

@@ -1,8 +1,6 @@
-use Rattle.std.proofs.Common.{◌≡◌, ◌<◌, ◌+◌, ℕ, true, refl, sym, ap, subst, ◌∙◌, arith}
+use Rattle.std.proofs.Common.{◌<◌, refl, ap, arith}
 use Rattle.vt_model.specs.declared.settings.Config.{Config}
 use Rattle.vt_model.specs.Simulation.{simulation_of}
-use Rattle.vt_model.proofs.LawLemmas.{lawful_of}
-use Rattle.vt_station.specs.Slots.{cell_count}
 use Rattle.vt_station.proofs.ActLemmas.{sent-known}
 use Rattle.vt_station.proofs.CallLemmas.{took-inbox}
 use Rattle.vt_station.proofs.station.Station.post_at.Goals as goal

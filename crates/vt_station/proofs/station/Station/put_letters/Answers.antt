@@ -1,16 +1,15 @@
-use Rattle.std.proofs.Common.{◌≡◌, ◌++◌, ◌∷◌, ℕ, List, map, refl, sym, ap, subst, ◌∙◌, Ok, Err}
+use Rattle.std.proofs.Common.{◌≡◌, ◌++◌, ◌∷◌, List, map, refl, sym, ap, subst, ◌∙◌, Ok}
 use Rattle.std.specs.List.{filter}
 use Rattle.std.proofs.lemmas.List.Elements.{All-append}
 use Rattle.atomic_table.specs.Table.{rest}
 use Rattle.vt_key.specs.declared.letter.Mail.{Mail}
 use Rattle.vt_model.specs.declared.settings.Config.{Config}
-use Rattle.vt_model.specs.Simulation.{Simulation, simulation_of}
+use Rattle.vt_model.specs.Simulation.{simulation_of}
 use Rattle.vt_steps.specs.declared.step.Step.TheVariants.{Send}
 use Rattle.vt_steps.specs.declared.step.Reply.TheVariants.{Done}
 use Rattle.vt_steps.specs.World.{Part}
 use Rattle.vt_steps.specs.PartSteps.{part_after_send, mail_of_send}
-use Rattle.vt_steps.specs.Cells.{Acted, in_inbox, act}
-use Rattle.vt_steps.specs.Next.{may_send}
+use Rattle.vt_steps.specs.Cells.{in_inbox, act}
 use Rattle.vt_kernel.specs.Held.{HeldWorker, AllOwnMail, IsOwnMail, StandsFor}
 use Rattle.vt_kernel.specs.Guards.{is_for_worker, mailed}
 use Rattle.vt_station.specs.declared.slot.Slot.TheVariants.{Inbox}

@@ -1,9 +1,8 @@
-use Rattle.std.proofs.Common.{◌≡◌, ◌<◌, ◌+◌, ℕ, List, [], refl, sym, ap, subst, ◌∙◌, arith}
+use Rattle.std.proofs.Common.{◌≡◌, ◌+◌, [], refl, sym, ap, ◌∙◌, arith}
 use Rattle.vt_model.specs.Simulation.{simulation_of}
 use Rattle.vt_model.proofs.LawLemmas.{lawful_of}
-use Rattle.vt_steps.specs.World.{Book, book_floor, book_records}
+use Rattle.vt_steps.specs.World.{book_floor, book_records}
 use Rattle.vt_steps.specs.Marked.{shown}
-use Rattle.vt_station.specs.Calls.{Unvisited}
 use Rattle.vt_station.proofs.HeldLemmas.{held-book}
 use Rattle.vt_station.proofs.CallLemmas.{took-book, took-place, unvisited-held}
 use Rattle.vt_station.proofs.RefusalLemmas as refusal

@@ -1,4 +1,4 @@
-use Rattle.std.proofs.Common.{◌<◌, ℕ, arith}
+use Rattle.std.proofs.Common.{◌<◌, arith}
 use Rattle.vt_model.proofs.LawLemmas.{lawful_of}
 use Rattle.vt_station.specs.Slots.{cell_count}
 use Rattle.vt_station.proofs.Releases.{leaves-unvisited}

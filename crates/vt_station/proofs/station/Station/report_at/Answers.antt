@@ -1,22 +1,21 @@
-use Rattle.std.proofs.Common.{◌≡◌, ◌<◌, ◌≤◌, ℕ, true, refl, sym, ap, subst, ◌∙◌, arith, Ok, Err}
-use Rattle.vt_key.specs.Times.{Time, TimeAtMost, time_at_most}
+use Rattle.std.proofs.Common.{◌≡◌, true, refl, sym, ap, subst, ◌∙◌, arith, Ok}
+use Rattle.vt_key.specs.Times.{TimeAtMost, time_at_most}
 use Rattle.vt_model.specs.declared.settings.Config.{Config}
 use Rattle.vt_model.specs.Simulation.{simulation_of}
 use Rattle.vt_steps.specs.declared.step.Step.TheVariants.{Report}
 use Rattle.vt_steps.specs.declared.step.Reply.{Reply}
-use Rattle.vt_steps.specs.World.{Part, Board}
-use Rattle.vt_steps.specs.BoardSteps.{may_report, with_report, board_after_report, report_reply}
-use Rattle.vt_steps.specs.Cells.{Acted, on_board, act, act_report}
+use Rattle.vt_steps.specs.BoardSteps.{may_report, with_report, board_after_report}
+use Rattle.vt_steps.specs.Cells.{on_board, act_report}
 use Rattle.vt_steps.specs.PartSteps.{report_sent, report_got, report_least}
 use Rattle.vt_steps.specs.Marked.{shown}
 use Rattle.vt_steps.proofs.Tests.{both_pass}
 use Rattle.vt_kernel.specs.Held.{HeldWorker, StandsFor}
 use Rattle.vt_kernel.specs.Guards.{held_letters}
-use Rattle.vt_board.specs.Calls.{takes_report, reply_of}
+use Rattle.vt_board.specs.Calls.{takes_report}
 use Rattle.vt_world.proofs.ReportLemmas.{least-ends}
-use Rattle.vt_station.specs.Calls.{Acts, Holding, IsReportRefusal}
+use Rattle.vt_station.specs.Calls.{Acts, IsReportRefusal}
 use Rattle.vt_station.proofs.ActLemmas.{act-report}
-use Rattle.vt_station.proofs.CallLemmas.{took-board, took-place}
+use Rattle.vt_station.proofs.CallLemmas.{took-board}
 use Rattle.vt_station.proofs.RefusalLemmas.{report-refused}
 use Rattle.vt_station.proofs.station.Station.report_at.Goals as goal
 

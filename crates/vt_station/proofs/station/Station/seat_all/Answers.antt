@@ -1,4 +1,4 @@
-use Rattle.std.proofs.Common.{arith, ◌≡◌, ◌<◌, ◌+◌, ◌++◌, [], ◌∷◌, ℕ, List, length, length-append, refl, sym, ap, subst, ◌∙◌}
+use Rattle.std.proofs.Common.{arith, ◌≡◌, ◌+◌, [], ◌∷◌, ℕ, List, length, length-append, sym, ap, subst, ◌∙◌}
 use Rattle.vt_model.specs.Simulation.{simulation_of}
 use Rattle.vt_station.specs.declared.place.Place.{Place}
 use Rattle.vt_station.specs.Kept.{Sat}

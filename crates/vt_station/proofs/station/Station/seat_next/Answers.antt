@@ -1,4 +1,4 @@
-use Rattle.std.proofs.Common.{arith, ◌≡◌, ◌<◌, ◌+◌, ℕ, refl, sym, ap, subst, ◌∙◌}
+use Rattle.std.proofs.Common.{arith, sym, subst, ◌∙◌}
 use Rattle.vt_model.specs.Simulation.{simulation_of}
 use Rattle.vt_station.specs.Making.{Opens}
 use Rattle.vt_station.proofs.Seating.{splits}

@@ -1,8 +1,7 @@
-use Rattle.std.proofs.Common.{◌≡◌, ◌∷◌, [], ℕ, List, refl, sym, ap, subst, ◌∙◌, Ok}
+use Rattle.std.proofs.Common.{◌≡◌, ◌∷◌, [], List, sym, ap, subst, ◌∙◌}
 use Rattle.atomic_table.specs.Table.{rest}
 use Rattle.vt_key.specs.declared.letter.Mail.{Mail}
 use Rattle.vt_model.specs.Simulation.{simulation_of}
-use Rattle.vt_steps.specs.declared.step.Reply.TheVariants.{Done}
 use Rattle.vt_steps.specs.PartSteps.{part_after_fetch}
 use Rattle.vt_steps.specs.Cells.{in_inbox}
 use Rattle.vt_kernel.specs.Held.{HeldWorker, AllOwnMail, IsOwnMail, StandsFor}
