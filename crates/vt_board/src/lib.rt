@@ -8,8 +8,6 @@
 
 mod board;
 mod passes;
-#[cfg(test)]
-mod tests;
 mod worker_set;
 
 pub use board::{Board, Report};

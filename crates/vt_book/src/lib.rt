@@ -14,6 +14,3 @@ mod waiting;
 
 pub use batch::Batch;
 pub use book::Book;
-
-#[cfg(test)]
-mod tests;

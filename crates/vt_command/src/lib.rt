@@ -15,6 +15,3 @@ mod texts;
 pub use asking::{Request, read_request};
 pub use choices::{ModelName, Options, ReplayOptions, Synch};
 pub use limits::MAX_TURNS;
-
-#[cfg(test)]
-mod tests;

@@ -1,10 +1,12 @@
 //! How often a process calls its model's handlers.
 
 use crate::stage::{Stage, letter};
+use std::alloc::AllocGlobal;
 use std::cell::Cell;
+use std::process::Abort;
 use std::rt::{self, HostRuntime};
 use vt_key::{Fault, Sign, Time};
-use vt_model::{Bits, Config, Draws, Model as EventModel, Out};
+use vt_model::{Bits, Draws, Model as EventModel, Out};
 use vt_models::{Hop, Token};
 
 /// A model that counts the calls of its handlers, and otherwise is another.
@@ -94,6 +96,16 @@ impl<M: EventModel> EventModel for Counting<M> {
     ghost kept_align = { M.kept_align };
 }
 
+// The handlers must have been called so often.
+fn called<M: EventModel>(rt: &impl Abort, model: &Counting<M>, want: (u32, u32, u32)) {
+    assert_eq!(rt; model.calls(), want);
+}
+
+// The process's sum must be this.
+fn has_sum(rt: &impl Abort, stage: &Stage<Counting<Hop>>, sum: u64) {
+    assert_eq!(rt; *stage.state(), sum);
+}
+
 #[test]
 fn an_undo_is_one_reverse(rt: HostRuntime) {
     let model = Counting {
@@ -102,31 +114,36 @@ fn an_undo_is_one_reverse(rt: HostRuntime) {
         forwards: Cell::new(0),
         reverses: Cell::new(0),
     };
-    let config = Config::new(2, 2, 10, 0).expect(&rt, "config");
-    let mut stage = Stage::new(rt.alloc(), &model, config, 1, 0).expect(&rt, "memory");
-    assert_eq!(rt; model.calls(), (1, 0, 0));
+    let mut stage = Stage::of_two(&rt, &model);
+    called(&rt, &model, (1, 0, 0));
     let payload = Token { tag: 1, left: 0 };
     for (time, number, serial) in [(3, 2, 2), (4, 3, 3), (5, 4, 4)] {
         let told = (Sign::Plus, (time, 0, number), (0, serial));
-        let parcel = letter(&rt, rt.alloc(), 1, told, payload);
-        assert!(rt; stage.accept(&rt, parcel).is_ok());
+        stage.accepts(&rt, letter(&rt, rt.alloc(), 1, told, payload));
     }
     for _ in 0..3 {
-        assert_eq!(rt; stage.execute(rt.alloc(), &model), Ok(()));
+        stage.executes(&rt, &model);
     }
-    assert_eq!(rt; model.calls(), (1, 3, 0));
-    assert_eq!(rt; stage.undo(&model), Err(Fault::NotLawful));
-    assert_eq!(rt; model.calls(), (1, 3, 0));
+    called(&rt, &model, (1, 3, 0));
+    stage.undoes_not(&rt, &model);
+    called(&rt, &model, (1, 3, 0));
+    a_straggler_undoes_all(&rt, &mut stage, &model);
+}
 
-    // The process's own token, of time 2, is a straggler now: all three events are undone, one by one.
-    assert_eq!(rt; stage.accept_own(&rt), Ok(()));
-    assert_eq!(rt; stage.execute(rt.alloc(), &model), Err(Fault::NotLawful));
-    assert_eq!(rt; model.calls(), (1, 3, 0));
+// The process's own token, of time 2, is a straggler now: all three events are undone, one by one.
+fn a_straggler_undoes_all(
+    rt: &(impl Abort + AllocGlobal),
+    stage: &mut Stage<Counting<Hop>>,
+    model: &Counting<Hop>,
+) {
+    stage.accepts_own(rt);
+    stage.executes_not(rt, model, Fault::NotLawful);
+    called(rt, model, (1, 3, 0));
     for (undone, sum) in [(1, 257), (2, 1), (3, 0)] {
-        assert_eq!(rt; stage.undo(&model), Ok(()));
-        assert_eq!(rt; model.calls(), (1, 3, undone));
-        assert_eq!(rt; *stage.process.state(), sum);
+        stage.undoes(rt, model);
+        called(rt, model, (1, 3, undone));
+        has_sum(rt, stage, sum);
     }
-    assert_eq!(rt; stage.undo(&model), Err(Fault::NotLawful));
-    assert_eq!(rt; model.calls(), (1, 3, 3));
+    stage.undoes_not(rt, model);
+    called(rt, model, (1, 3, 3));
 }

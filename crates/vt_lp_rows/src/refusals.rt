@@ -1,7 +1,8 @@
 //! What is refused for want of memory or of serials, and what never is.
 
-use crate::stage::{Stage, Told, holds_exactly};
-use std::alloc::Global;
+use crate::stage::{Stage, Told};
+use std::alloc::{AllocGlobal, Global};
+use std::process::Abort;
 use std::rt::{self, HostRuntime};
 use vt_key::{Event, Fault, Key, Letter, Rank, Sign, Stamp};
 use vt_list::Parcel;
@@ -18,35 +19,26 @@ fn a_refused_execute_is_taken_back(rt: HostRuntime) {
     let Ok(mut stage) = Stage::new(rt.alloc(), &model, config, 0, 0) else {
         return;
     };
-    assert_eq!(rt; stage.accept_own(&rt), Ok(()));
+    stage.accepts_own(&rt);
     let executed = stage.execute(rt.alloc(), &model);
     if executed == Err(Fault::Memory) {
-        assert_eq!(rt;
-            (
-                *stage.process.state(),
-                stage.process.number(),
-                stage.process.place()
-            ),
-            (0, 1, 0)
-        );
-        assert_eq!(rt; stage.serial, 1);
-        assert!(rt; holds_exactly(&stage.outbox, &[]));
-        assert_eq!(rt; stage.sizes(), (0, 1, 0));
-        assert_eq!(rt; stage.execute(rt.alloc(), &model), Ok(()));
+        is_as_before(&rt, &stage, 1);
+        stage.executes(&rt, &model);
     } else {
         assert_eq!(rt; executed, Ok(()));
     }
-    assert_eq!(rt;
-        (
-            *stage.process.state(),
-            stage.process.number(),
-            stage.process.place()
-        ),
-        (1, 2, 0)
-    );
-    assert_eq!(rt; stage.serial, 2);
-    assert!(rt; holds_exactly(&stage.outbox, &[(Sign::Plus, (2, 0, 1), (0, 1))]));
-    assert_eq!(rt; stage.sizes(), (1, 0, 0));
+    stage.shows(&rt, 1, 2, 2);
+    stage.goes_on_at(&rt, 2, 0);
+    stage.sends(&rt, &[(Sign::Plus, (2, 0, 1), (0, 1))]);
+    stage.has(&rt, 1, 0, 0);
+}
+
+// The process has its own token and nothing else, and its next serial is this.
+fn is_as_before(rt: &impl Abort, stage: &Stage<Hop>, serial: u64) {
+    stage.shows(rt, 0, 1, serial);
+    stage.goes_on_at(rt, 1, 0);
+    stage.sends(rt, &[]);
+    stage.has(rt, 0, 1, 0);
 }
 
 #[test]
@@ -54,25 +46,26 @@ fn serials_end_at_their_limit(rt: HostRuntime) {
     let limit = 1 << 63;
     let model = Hop::new(1, 0, 1).expect(&rt, "options");
     let config = Config::new(1, 1, 10, 0).expect(&rt, "config");
-    let refused = Stage::new(rt.alloc(), &model, config, 0, limit);
-    assert_eq!(rt; refused.err(), Some(Fault::Exhausted));
+    is_refused(&rt, &model, config, 0, limit, Fault::Exhausted);
     let mut stage = Stage::new(rt.alloc(), &model, config, 0, limit - 1).expect(&rt, "memory");
-    assert_eq!(rt; stage.serial, limit);
-    assert_eq!(rt; stage.accept_own(&rt), Ok(()));
-    assert_eq!(rt; stage.execute(rt.alloc(), &model), Err(Fault::Exhausted));
-    assert_eq!(rt;
-        (
-            *stage.process.state(),
-            stage.process.number(),
-            stage.process.place()
-        ),
-        (0, 1, 0)
-    );
-    assert_eq!(rt; stage.serial, limit);
-    assert!(rt; holds_exactly(&stage.outbox, &[]));
-    assert_eq!(rt; stage.sizes(), (0, 1, 0));
-    let stranger = Stage::new(rt.alloc(), &model, config, 1, 0);
-    assert_eq!(rt; stranger.err(), Some(Fault::NotLawful));
+    stage.stamps_with(&rt, limit);
+    stage.accepts_own(&rt);
+    stage.executes_not(&rt, &model, Fault::Exhausted);
+    is_as_before(&rt, &stage, limit);
+    is_refused(&rt, &model, config, 1, 0, Fault::NotLawful);
+}
+
+// The process can't be made, because of this fault.
+fn is_refused(
+    rt: &(impl Abort + AllocGlobal),
+    model: &Hop,
+    config: Config,
+    lp: u32,
+    serial: u64,
+    want: Fault,
+) {
+    let refused = Stage::new(rt.alloc(), model, config, lp, serial);
+    assert_eq!(rt; refused.err(), Some(want));
 }
 
 /// To take in, to undo, to cancel, to forget and to tell the least time take no memory. With
@@ -85,67 +78,70 @@ fn what_takes_no_memory_goes_on_without_it(rt: HostRuntime) {
     let Ok(mut stage) = Stage::new(rt.alloc(), &model, config, 1, 0) else {
         return;
     };
-    assert_eq!(rt; stage.accept_own(&rt), Ok(()));
+    stage.accepts_own(&rt);
     if stage.execute(rt.alloc(), &model).is_err() {
         return;
     }
-    let token = Token { tag: 1, left: 0 };
-    let Some(straggler) = letter_or_none(rt.alloc(), (Sign::Plus, (2, 0, 1), (0, 1)), token) else {
+    let Some(straggler) = letter_or_none(rt.alloc(), Sign::Plus) else {
         return;
     };
-    let Some(anti_message) = letter_or_none(rt.alloc(), (Sign::Minus, (2, 0, 1), (0, 1)), token)
-    else {
+    let Some(anti_message) = letter_or_none(rt.alloc(), Sign::Minus) else {
         return;
     };
     // From here on no call takes memory but execute.
-    assert!(rt; stage.accept(&rt, straggler).is_ok());
-    assert_eq!(rt; stage.undo(&model), Ok(()));
-    assert_eq!(rt; (*stage.process.state(), stage.process.number()), (0, 1));
-    assert!(rt;
-        holds_exactly(
-            &stage.outbox,
-            &[
-                (Sign::Plus, (3, 1, 1), (1, 1)),
-                (Sign::Minus, (3, 1, 1), (1, 1))
-            ]
-        )
-    );
-    assert!(rt; stage.accept(&rt, anti_message).is_ok());
-    assert_eq!(rt; stage.sizes(), (0, 2, 1));
-    assert_eq!(rt; stage.process.least(), 2);
-    assert_eq!(rt;
-        stage.cancel(Stamp {
-            worker: 0,
-            serial: 1
-        }),
-        Ok(())
-    );
-    assert_eq!(rt; stage.sizes(), (0, 1, 0));
-    stage.fossil(10);
-    assert_eq!(rt; stage.process.least(), 2);
+    stage.accepts(&rt, straggler);
+    is_rolled_back(&rt, &mut stage, &model);
+    stage.accepts(&rt, anti_message);
+    is_cancelled_and_forgotten(&rt, &mut stage);
     match stage.execute(rt.alloc(), &model) {
-        Ok(()) => assert_eq!(rt; stage.sizes(), (1, 0, 0)),
+        Ok(()) => stage.has(&rt, 1, 0, 0),
         Err(fault) => {
             assert_eq!(rt; fault, Fault::Memory);
-            assert_eq!(rt; stage.sizes(), (0, 1, 0));
+            stage.has(&rt, 0, 1, 0);
         }
     }
 }
 
-// A letter for process 1 in a parcel; None where memory is refused.
-fn letter_or_none(alloc: Global, told: Told, payload: Token) -> Option<Parcel<Letter<Token>>> {
-    let (sign, (time, source, number), (worker, serial)) = told;
-    let event = Event {
-        rank: Rank {
-            key: Key {
-                time,
-                source,
-                number,
-            },
-            stamp: Stamp { worker, serial },
+fn is_rolled_back(rt: &impl Abort, stage: &mut Stage<Hop>, model: &Hop) {
+    let taken_back: [Told; 2] = [
+        (Sign::Plus, (3, 1, 1), (1, 1)),
+        (Sign::Minus, (3, 1, 1), (1, 1)),
+    ];
+    stage.undoes(rt, model);
+    stage.shows(rt, 0, 1, 2);
+    stage.sends(rt, &taken_back);
+}
+
+fn is_cancelled_and_forgotten(rt: &impl Abort, stage: &mut Stage<Hop>) {
+    let stamp = Stamp {
+        worker: 0,
+        serial: 1,
+    };
+    stage.has(rt, 0, 2, 1);
+    stage.tells_least(rt, 2);
+    stage.cancels(rt, stamp);
+    stage.has(rt, 0, 1, 0);
+    stage.fossil(10);
+    stage.tells_least(rt, 2);
+}
+
+// The straggler, or its anti-message, in a parcel; None where memory is refused.
+fn letter_or_none(alloc: Global, sign: Sign) -> Option<Parcel<Letter<Token>>> {
+    let rank = Rank {
+        key: Key {
+            time: 2,
+            source: 0,
+            number: 1,
         },
+        stamp: Stamp {
+            worker: 0,
+            serial: 1,
+        },
+    };
+    let event = Event {
+        rank,
         dest: 1,
-        payload,
+        payload: Token { tag: 1, left: 0 },
     };
     Parcel::new(alloc, Letter { event, sign }).ok()
 }

@@ -11,6 +11,3 @@
 mod pending;
 
 pub use pending::Pending;
-
-#[cfg(test)]
-mod tests;

@@ -94,8 +94,3 @@ pub fn program<H: Threads + Sync, S: AsStr, R: Read, O: Write, E: Write>(
         Err(fault) => tell_refusal(err, fault),
     }
 }
-
-#[cfg(test)]
-mod tests;
-#[cfg(test)]
-mod work_tests;

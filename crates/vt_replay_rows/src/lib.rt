@@ -10,3 +10,7 @@ mod faults;
 mod replays;
 #[cfg(test)]
 mod running;
+#[cfg(test)]
+mod runs;
+#[cfg(test)]
+mod workers;

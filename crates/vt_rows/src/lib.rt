@@ -5,8 +5,12 @@
 #[cfg(test)]
 mod models;
 #[cfg(test)]
+mod pending;
+#[cfg(test)]
 mod pieces;
 #[cfg(test)]
 mod sequential;
 #[cfg(test)]
 mod streams;
+#[cfg(test)]
+mod tournament;

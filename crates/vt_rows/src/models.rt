@@ -8,7 +8,7 @@ use std::process::Abort;
 use std::rt::{self, HostRuntime};
 use vt_key::{Fault, Time};
 use vt_model::stream::LpStream;
-use vt_model::{Bits, Config, Draws, Model as EventModel, Out};
+use vt_model::{Bits, Config, Draws, Model as EventModel, Out, Record};
 use vt_models::{JobEvent, Phold, Server, Stations};
 use vt_seq::Sequential;
 
@@ -27,18 +27,41 @@ fn expect_run<M: EventModel>(
 ) {
     let mut run = Sequential::new(alloc, model, config).expect(rt, "memory");
     let records = run.run(alloc).expect(rt, "run");
+    are_lines(rt, &records, lines);
+    end_so(rt, alloc, &run, endings);
+}
+
+fn are_lines(rt: &impl Abort, records: &[Record], lines: &[Line]) {
     assert_eq!(rt; records.len(), lines.len());
     for (record, line) in records.iter().zip(lines) {
         assert_eq!(rt; (record.time, record.lp, record.kind, record.value), *line);
     }
+}
+
+fn end_so<M: EventModel>(
+    rt: &impl Abort,
+    alloc: Global,
+    run: &Sequential<'_, M>,
+    endings: &[Ending],
+) {
     let finals = run.finals(alloc).expect(rt, "finals");
     assert_eq!(rt; finals.len(), endings.len());
     for (lp, (value, ending)) in finals.iter().zip(endings).enumerate() {
         let lp = u32::try_from(lp).expect(rt, "process");
-        let number = run.number(lp).expect(rt, "number");
-        let place = run.place(lp).expect(rt, "place");
-        assert_eq!(rt; (*value, number, place), *ending);
+        ends_so(rt, run, lp, *value, ending);
     }
+}
+
+fn ends_so<M: EventModel>(
+    rt: &impl Abort,
+    run: &Sequential<'_, M>,
+    lp: u32,
+    value: u64,
+    ending: &Ending,
+) {
+    let number = run.number(lp).expect(rt, "number");
+    let place = run.place(lp).expect(rt, "place");
+    assert_eq!(rt; (value, number, place), *ending);
 }
 
 #[test]

@@ -1,7 +1,9 @@
 //! Whole runs of the hop model.
 
+use std::alloc::AllocGlobal;
+use std::process::Abort;
 use std::rt::{self, HostRuntime};
-use vt_key::Fault;
+use vt_key::{Fault, Time};
 use vt_model::{Config, Record};
 use vt_models::Hop;
 use vt_seq::Sequential;
@@ -15,12 +17,58 @@ fn record(time: u64, lp: u32, kind: u32, value: u64) -> Record {
     }
 }
 
+// A run of the model by so many processes, up to this time.
+fn opened<'m>(
+    rt: &(impl Abort + AllocGlobal),
+    model: &'m Hop,
+    lps: u32,
+    end: Time,
+) -> Sequential<'m, Hop> {
+    let config = Config::new(lps, 1, end, 0).expect(rt, "config");
+    Sequential::new(rt.alloc(), model, config).expect(rt, "memory")
+}
+
+// The whole run must have exactly these records.
+fn runs(rt: &(impl Abort + AllocGlobal), run: &mut Sequential<'_, Hop>, want: &[Record]) {
+    let records = run.run(rt.alloc()).expect(rt, "run");
+    assert_eq!(rt; records.as_slice(), want);
+}
+
+// These must be the records so far, of those before this time.
+fn shows_below(
+    rt: &(impl Abort + AllocGlobal),
+    run: &Sequential<'_, Hop>,
+    time: Time,
+    want: &[Record],
+) {
+    let below = run.records_below(rt.alloc(), time).expect(rt, "records");
+    assert_eq!(rt; below.as_slice(), want);
+}
+
+// The processes must have these final values.
+fn ends_with(rt: &(impl Abort + AllocGlobal), run: &Sequential<'_, Hop>, want: &[u64]) {
+    let finals = run.finals(rt.alloc()).expect(rt, "finals");
+    assert_eq!(rt; finals.as_slice(), want);
+}
+
+fn has_no_finals(rt: &(impl Abort + AllocGlobal), run: &Sequential<'_, Hop>) {
+    assert!(rt; matches!(run.finals(rt.alloc()), Err(Fault::NotLawful)));
+}
+
+// A step must tell whether there was an event to execute.
+fn steps(rt: &impl Abort, run: &mut Sequential<'_, Hop>, want: bool) {
+    assert_eq!(rt; run.step(), Ok(want));
+}
+
+// The next send of the process must have this number.
+fn has_number(rt: &impl Abort, run: &Sequential<'_, Hop>, lp: u32, want: Option<u64>) {
+    assert_eq!(rt; run.number(lp), want);
+}
+
 #[test]
 fn two_tokens_hop_twice(rt: HostRuntime) {
     let model = Hop::new(2, 1, 2).expect(&rt, "options");
-    let config = Config::new(2, 1, 10, 0).expect(&rt, "config");
-    let mut run = Sequential::new(rt.alloc(), &model, config).expect(&rt, "memory");
-    let records = run.run(rt.alloc()).expect(&rt, "run");
+    let mut run = opened(&rt, &model, 2, 10);
     let want = [
         record(1, 0, 1, 1),
         record(2, 1, 1, 2),
@@ -29,84 +77,64 @@ fn two_tokens_hop_twice(rt: HostRuntime) {
         record(5, 0, 1, 66049),
         record(6, 1, 1, 131330),
     ];
-    assert_eq!(rt; records.as_slice(), &want[..]);
-    let finals = run.finals(rt.alloc()).expect(&rt, "finals");
-    assert_eq!(rt; finals.as_slice(), &[66049, 131330][..]);
+    runs(&rt, &mut run, &want);
+    ends_with(&rt, &run, &[66049, 131330]);
 }
 
 #[test]
 fn events_of_one_time_go_by_key(rt: HostRuntime) {
     let model = Hop::new(1, 1, 1).expect(&rt, "options");
-    let config = Config::new(2, 1, 10, 0).expect(&rt, "config");
-    let mut run = Sequential::new(rt.alloc(), &model, config).expect(&rt, "memory");
-    let records = run.run(rt.alloc()).expect(&rt, "run");
     let want = [
         record(1, 0, 1, 1),
         record(2, 1, 1, 1),
         record(2, 1, 1, 258),
         record(3, 0, 1, 258),
     ];
-    assert_eq!(rt; records.as_slice(), &want[..]);
+    runs(&rt, &mut opened(&rt, &model, 2, 10), &want);
 }
 
 #[test]
 fn sources_break_ties_and_not_receivers(rt: HostRuntime) {
     let model = Hop::new(1, 2, 1).expect(&rt, "options");
-    let config = Config::new(3, 1, 3, 0).expect(&rt, "config");
-    let mut run = Sequential::new(rt.alloc(), &model, config).expect(&rt, "memory");
-    let records = run.run(rt.alloc()).expect(&rt, "run");
     let want = [record(1, 0, 1, 1), record(2, 2, 1, 1), record(2, 1, 1, 2)];
-    assert_eq!(rt; records.as_slice(), &want[..]);
+    runs(&rt, &mut opened(&rt, &model, 3, 3), &want);
 }
 
 #[test]
 fn sends_past_the_end_take_numbers(rt: HostRuntime) {
     let model = Hop::new(2, 1, 2).expect(&rt, "options");
-    let config = Config::new(2, 1, 4, 0).expect(&rt, "config");
-    let mut run = Sequential::new(rt.alloc(), &model, config).expect(&rt, "memory");
-    let records = run.run(rt.alloc()).expect(&rt, "run");
+    let mut run = opened(&rt, &model, 2, 4);
     let want = [record(1, 0, 1, 1), record(2, 1, 1, 2), record(3, 1, 1, 513)];
-    assert_eq!(rt; records.as_slice(), &want[..]);
-    assert_eq!(rt; run.number(0), Some(2));
-    assert_eq!(rt; run.number(1), Some(3));
+    runs(&rt, &mut run, &want);
+    has_number(&rt, &run, 0, Some(2));
+    has_number(&rt, &run, 1, Some(3));
 }
 
 #[test]
 fn nothing_happens_before_time_one(rt: HostRuntime) {
     let model = Hop::new(2, 1, 2).expect(&rt, "options");
-    let config = Config::new(2, 1, 1, 0).expect(&rt, "config");
-    let mut run = Sequential::new(rt.alloc(), &model, config).expect(&rt, "memory");
-    assert_eq!(rt; run.step(), Ok(false));
-    let records = run.run(rt.alloc()).expect(&rt, "run");
-    assert_eq!(rt; records.len(), 0);
+    let mut run = opened(&rt, &model, 2, 1);
+    steps(&rt, &mut run, false);
+    runs(&rt, &mut run, &[]);
 }
 
 #[test]
 fn a_run_is_read_on_its_way(rt: HostRuntime) {
     let model = Hop::new(2, 1, 2).expect(&rt, "options");
-    let config = Config::new(2, 1, 10, 0).expect(&rt, "config");
-    let mut run = Sequential::new(rt.alloc(), &model, config).expect(&rt, "memory");
+    let mut run = opened(&rt, &model, 2, 10);
     for _ in 0..3 {
-        assert_eq!(rt; run.step(), Ok(true));
+        steps(&rt, &mut run, true);
     }
-    let below = run.records_below(rt.alloc(), 3).expect(&rt, "records");
-    assert_eq!(rt;
-        below.as_slice(),
-        &[record(1, 0, 1, 1), record(2, 1, 1, 2)][..]
-    );
-    let all = run.records_below(rt.alloc(), 10).expect(&rt, "records");
-    assert_eq!(rt;
-        all.as_slice(),
-        &[record(1, 0, 1, 1), record(2, 1, 1, 2), record(3, 1, 1, 513)][..]
-    );
-    let early = matches!(run.finals(rt.alloc()), Err(Fault::NotLawful));
-    assert!(rt; early);
+    let all = [record(1, 0, 1, 1), record(2, 1, 1, 2), record(3, 1, 1, 513)];
+    shows_below(&rt, &run, 3, &all[..2]);
+    shows_below(&rt, &run, 10, &all);
+    has_no_finals(&rt, &run);
     for _ in 3..6 {
-        assert_eq!(rt; run.step(), Ok(true));
+        steps(&rt, &mut run, true);
     }
-    assert_eq!(rt; run.step(), Ok(false));
-    assert_eq!(rt; run.number(0), Some(3));
-    assert_eq!(rt; run.number(2), None);
+    steps(&rt, &mut run, false);
+    has_number(&rt, &run, 0, Some(3));
+    has_number(&rt, &run, 2, None);
 }
 
 /// With `rt try vt_rows --test --fail-alloc N` the Nth allocation fails: a refused step leaves the run as it was, and
@@ -119,21 +147,34 @@ fn refused_steps_are_taken_back(rt: HostRuntime) {
         return;
     };
     for _ in 0..7 {
-        let before = (run.number(0), run.number(1));
-        if run.step() == Err(Fault::Memory) {
-            let after = (run.number(0), run.number(1));
-            assert!(rt; before == after);
-            assert!(rt; run.step().is_ok());
-        }
+        step_or_again(&rt, &mut run);
     }
+    has_six_records(&rt, &run);
+    has_finals_or_again(&rt, &run);
+}
+
+// Does a step, and does it again where memory was refused.
+fn step_or_again(rt: &impl Abort, run: &mut Sequential<'_, Hop>) {
+    let before = (run.number(0), run.number(1));
+    if run.step() == Err(Fault::Memory) {
+        let after = (run.number(0), run.number(1));
+        assert!(rt; before == after);
+        assert!(rt; run.step().is_ok());
+    }
+}
+
+fn has_six_records(rt: &(impl Abort + AllocGlobal), run: &Sequential<'_, Hop>) {
     let records = match run.records_below(rt.alloc(), 10) {
         Ok(records) => records,
-        Err(_) => run.records_below(rt.alloc(), 10).expect(&rt, "memory"),
+        Err(_) => run.records_below(rt.alloc(), 10).expect(rt, "memory"),
     };
     assert_eq!(rt; records.len(), 6);
+}
+
+fn has_finals_or_again(rt: &(impl Abort + AllocGlobal), run: &Sequential<'_, Hop>) {
     let finals = match run.finals(rt.alloc()) {
         Ok(finals) => finals,
-        Err(_) => run.finals(rt.alloc()).expect(&rt, "memory"),
+        Err(_) => run.finals(rt.alloc()).expect(rt, "memory"),
     };
     assert_eq!(rt; finals.as_slice(), &[66049, 131330][..]);
 }

@@ -1,13 +1,15 @@
 //! Calls that are refused, and change nothing.
 
-use crate::driving::{agree, all_records, commit_all, roll_back, run_ahead};
+use crate::driving::{Crew, all_records};
 use crate::hand::Hand;
 use crate::workers_at;
+use std::process::Abort;
 use std::rt::{self, HostRuntime};
 use vt_key::{Colour, Fault, Time};
 use vt_model::Config;
 use vt_models::Hop;
 use vt_station::Station;
+use vt_steps::Step;
 
 /// What is told of a worker: the lengths of its outbox and of what arrived, its serial, its colour, its counts of mail, white
 /// and red, and its red minimum and floor.
@@ -32,44 +34,47 @@ fn told(worker: &Hand<'_>) -> Told {
     )
 }
 
+// The worker must tell this of itself.
+fn tells(rt: &impl Abort, worker: &Hand<'_>, want: Told) {
+    assert_eq!(rt; told(worker), want);
+}
+
 #[test]
 fn what_is_not_lawful_changes_nothing(rt: HostRuntime) {
     let model = Hop::new(1, 1, 1).expect(&rt, "options");
     let config = Config::new(2, 2, 10, 0).expect(&rt, "config");
     let (station, places) = Station::new(rt.alloc(), &model, config).expect(&rt, "memory");
-    let mut workers = workers_at(rt.alloc(), &station, &model, config, places).expect(
-        &rt, "memory",
-    );
-    let mut second = Hand::of(workers.pop().expect(&rt, "a worker"));
-    let mut first = Hand::of(workers.pop().expect(&rt, "a worker"));
+    let workers = workers_at(rt.alloc(), &station, &model, config, places).expect(&rt, "memory");
+    let mut crew = Crew::of(&rt, workers);
+    refuses_mail(&rt, &mut crew);
+    refuses_a_cut(&rt, &mut crew);
+    crew.agree(&rt);
+    crew.commit_all(&rt);
+    crew.second.reads(&rt, &all_records());
+}
 
+fn refuses_mail(rt: &impl Abort, crew: &mut Crew<'_>) {
     // One letter is in the outbox, for a process of the worker itself.
-    assert_eq!(rt; told(&first), ((1, 0, 1), (false, 0, 0, 0, 0), (10, 0)));
-    assert_eq!(rt; first.post(0), Err(Fault::NotLawful));
-    assert_eq!(rt; first.post(1), Err(Fault::NotLawful));
-    assert_eq!(rt; first.post(2), Err(Fault::NotLawful));
-    assert_eq!(rt; told(&first), ((1, 0, 1), (false, 0, 0, 0, 0), (10, 0)));
-    assert_eq!(rt; second.fetch(), Ok(()));
+    tells(rt, &crew.first, ((1, 0, 1), (false, 0, 0, 0, 0), (10, 0)));
+    for v in 0..3 {
+        crew.first.refuses(rt, Step::Send(0, v), Fault::NotLawful);
+    }
+    tells(rt, &crew.first, ((1, 0, 1), (false, 0, 0, 0, 0), (10, 0)));
+    crew.second.does(rt, Step::Fetch(1));
+    crew.run_ahead(rt);
+    tells(rt, &crew.second, ((1, 1, 2), (false, 0, 0, 1, 0), (10, 0)));
+    crew.second.refuses(rt, Step::Fetch(1), Fault::NotLawful);
+    tells(rt, &crew.second, ((1, 1, 2), (false, 0, 0, 1, 0), (10, 0)));
+    crew.second.reports(rt, Err(Fault::NotLawful));
+}
 
-    run_ahead(&rt, &mut first, &mut second);
-    assert_eq!(rt; told(&second), ((1, 1, 2), (false, 0, 0, 1, 0), (10, 0)));
-    assert_eq!(rt; second.fetch(), Err(Fault::NotLawful));
-    assert_eq!(rt; told(&second), ((1, 1, 2), (false, 0, 0, 1, 0), (10, 0)));
-    assert_eq!(rt; second.report(), Err(Fault::NotLawful));
-
-    roll_back(&rt, &mut first, &mut second);
-    assert_eq!(rt; first.cut(), Ok(()));
-    assert_eq!(rt; told(&first), ((0, 0, 2), (true, 1, 0, 3, 0), (10, 0)));
-    assert_eq!(rt; first.cut(), Err(Fault::NotLawful));
-    assert_eq!(rt; first.report(), Err(Fault::NotLawful));
-    assert_eq!(rt; told(&first), ((0, 0, 2), (true, 1, 0, 3, 0), (10, 0)));
-
-    agree(&rt, &mut first, &mut second);
-    commit_all(&rt, &mut first, &mut second);
-    assert_eq!(rt;
-        second.records().expect(&rt, "records").as_slice(),
-        &all_records()[..]
-    );
+fn refuses_a_cut(rt: &impl Abort, crew: &mut Crew<'_>) {
+    crew.roll_back(rt);
+    crew.first.does(rt, Step::Cut(0));
+    tells(rt, &crew.first, ((0, 0, 2), (true, 1, 0, 3, 0), (10, 0)));
+    crew.first.refuses(rt, Step::Cut(0), Fault::NotLawful);
+    crew.first.reports(rt, Err(Fault::NotLawful));
+    tells(rt, &crew.first, ((0, 0, 2), (true, 1, 0, 3, 0), (10, 0)));
 }
 
 #[test]
@@ -77,13 +82,8 @@ fn there_are_no_records_before_any_visit(rt: HostRuntime) {
     let model = Hop::new(1, 1, 1).expect(&rt, "options");
     let config = Config::new(2, 2, 10, 0).expect(&rt, "config");
     let (station, places) = Station::new(rt.alloc(), &model, config).expect(&rt, "memory");
-    let mut workers = workers_at(rt.alloc(), &station, &model, config, places).expect(
-        &rt, "memory",
-    );
-    let mut second = Hand::of(workers.pop().expect(&rt, "a worker"));
-    let mut first = Hand::of(workers.pop().expect(&rt, "a worker"));
-
-    assert_eq!(rt; first.records().expect(&rt, "records").len(), 0);
-    assert_eq!(rt; second.records().expect(&rt, "records").len(), 0);
-    assert_eq!(rt; first.close(), Err(Fault::NotLawful));
+    let workers = workers_at(rt.alloc(), &station, &model, config, places).expect(&rt, "memory");
+    let mut crew = Crew::of(&rt, workers);
+    crew.read(&rt, &[]);
+    crew.first.refuses(&rt, Step::Close, Fault::NotLawful);
 }

@@ -1,50 +1,40 @@
 //! Whole runs at a station.
 
-use crate::driving::{agree, all_records, commit_all, record, roll_back, run_ahead};
+use crate::driving::{Crew, all_records, record};
 use crate::hand::Hand;
 use crate::workers_at;
-use std::rt::{self, HostRuntime};
+use std::process::Abort;
+use std::rt::HostRuntime;
 use vt_board::Report;
 use vt_key::Fault;
 use vt_model::Config;
 use vt_models::Hop;
 use vt_station::Station;
+use vt_steps::Step;
 
 #[test]
 fn a_straggler_is_rolled_back_and_all_is_committed(rt: HostRuntime) {
     let model = Hop::new(1, 1, 1).expect(&rt, "options");
     let config = Config::new(2, 2, 10, 0).expect(&rt, "config");
     let (station, places) = Station::new(rt.alloc(), &model, config).expect(&rt, "memory");
-    let mut workers = workers_at(rt.alloc(), &station, &model, config, places).expect(
-        &rt, "memory",
-    );
-    let mut second = Hand::of(workers.pop().expect(&rt, "a worker"));
-    let mut first = Hand::of(workers.pop().expect(&rt, "a worker"));
+    let workers = workers_at(rt.alloc(), &station, &model, config, places).expect(&rt, "memory");
+    commits_all(&rt, &mut Crew::of(&rt, workers));
+}
 
-    run_ahead(&rt, &mut first, &mut second);
-    assert_eq!(rt; second.kernel().state(1).copied(), Some(2));
-    roll_back(&rt, &mut first, &mut second);
-    assert_eq!(rt; second.kernel().state(1).copied(), Some(258));
-    assert_eq!(rt; first.kernel().state(0).copied(), Some(258));
-    assert_eq!(rt; first.cut(), Ok(()));
-    agree(&rt, &mut first, &mut second);
-    commit_all(&rt, &mut first, &mut second);
-
-    assert_eq!(rt; first.commit(), Err(Fault::Closed));
-    assert_eq!(rt;
-        first.records().expect(&rt, "records").as_slice(),
-        &all_records()[..]
-    );
-    assert_eq!(rt;
-        second.records().expect(&rt, "records").as_slice(),
-        &all_records()[..]
-    );
-    assert_eq!(rt; second.commit(), Err(Fault::Closed));
-    assert_eq!(rt; second.close(), Err(Fault::Closed));
-    assert_eq!(rt;
-        first.records().expect(&rt, "records").as_slice(),
-        &all_records()[..]
-    );
+fn commits_all(rt: &impl Abort, crew: &mut Crew<'_>) {
+    crew.run_ahead(rt);
+    crew.second.shows(rt, 1, 2);
+    crew.roll_back(rt);
+    crew.second.shows(rt, 1, 258);
+    crew.first.shows(rt, 0, 258);
+    crew.first.does(rt, Step::Cut(0));
+    crew.agree(rt);
+    crew.commit_all(rt);
+    crew.first.refuses(rt, Step::Commit(0), Fault::Closed);
+    crew.read(rt, &all_records());
+    crew.second.refuses(rt, Step::Commit(1), Fault::Closed);
+    crew.second.refuses(rt, Step::Close, Fault::Closed);
+    crew.first.reads(rt, &all_records());
 }
 
 #[test]
@@ -55,25 +45,22 @@ fn one_worker_alone(rt: HostRuntime) {
     let mut workers = workers_at(rt.alloc(), &station, &model, config, places).expect(
         &rt, "memory",
     );
-    let mut worker = Hand::of(workers.pop().expect(&rt, "a worker"));
+    let worker = workers.pop().expect(&rt, "a worker");
+    runs_alone(&rt, &mut Hand::of(worker));
+}
 
-    assert_eq!(rt; worker.records().expect(&rt, "records").len(), 0);
-    assert_eq!(rt; worker.home(), Ok(()));
-    assert_eq!(rt; worker.execute(0), Ok(()));
-    assert_eq!(rt; worker.cut(), Ok(()));
-    assert_eq!(rt; worker.report(), Ok(Report::Announced(2)));
-    assert_eq!(rt; worker.close(), Err(Fault::NotLawful));
-    assert_eq!(rt; worker.records().expect(&rt, "records").len(), 0);
-    assert_eq!(rt; worker.commit(), Ok(()));
-    assert_eq!(rt;
-        worker.records().expect(&rt, "records").as_slice(),
-        &[record(1, 0, 1)][..]
-    );
-    assert_eq!(rt; worker.close(), Ok(()));
-    assert_eq!(rt;
-        worker.records().expect(&rt, "records").as_slice(),
-        &[record(1, 0, 1)][..]
-    );
+fn runs_alone(rt: &impl Abort, worker: &mut Hand<'_>) {
+    worker.reads(rt, &[]);
+    worker.does(rt, Step::Home(0));
+    worker.does(rt, Step::Execute(0));
+    worker.does(rt, Step::Cut(0));
+    worker.reports(rt, Ok(Report::Announced(2)));
+    worker.refuses(rt, Step::Close, Fault::NotLawful);
+    worker.reads(rt, &[]);
+    worker.does(rt, Step::Commit(0));
+    worker.reads(rt, &[record(1, 0, 1)]);
+    worker.does(rt, Step::Close);
+    worker.reads(rt, &[record(1, 0, 1)]);
 }
 
 #[test]
@@ -81,18 +68,16 @@ fn nothing_is_committed_while_one_worker_has_not_committed(rt: HostRuntime) {
     let model = Hop::new(1, 1, 1).expect(&rt, "options");
     let config = Config::new(2, 2, 10, 0).expect(&rt, "config");
     let (station, places) = Station::new(rt.alloc(), &model, config).expect(&rt, "memory");
-    let mut workers = workers_at(rt.alloc(), &station, &model, config, places).expect(
-        &rt, "memory",
-    );
-    let mut second = Hand::of(workers.pop().expect(&rt, "a worker"));
-    let mut first = Hand::of(workers.pop().expect(&rt, "a worker"));
+    let workers = workers_at(rt.alloc(), &station, &model, config, places).expect(&rt, "memory");
+    commits_at_one_worker(&rt, &mut Crew::of(&rt, workers));
+}
 
-    run_ahead(&rt, &mut first, &mut second);
-    roll_back(&rt, &mut first, &mut second);
-    assert_eq!(rt; first.cut(), Ok(()));
-    agree(&rt, &mut first, &mut second);
-    assert_eq!(rt; second.commit(), Ok(()));
-    assert_eq!(rt; first.records().expect(&rt, "records").len(), 0);
-    assert_eq!(rt; second.records().expect(&rt, "records").len(), 0);
-    assert_eq!(rt; second.close(), Err(Fault::NotLawful));
+fn commits_at_one_worker(rt: &impl Abort, crew: &mut Crew<'_>) {
+    crew.run_ahead(rt);
+    crew.roll_back(rt);
+    crew.first.does(rt, Step::Cut(0));
+    crew.agree(rt);
+    crew.second.does(rt, Step::Commit(1));
+    crew.read(rt, &[]);
+    crew.second.refuses(rt, Step::Close, Fault::NotLawful);
 }

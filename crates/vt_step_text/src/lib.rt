@@ -14,6 +14,3 @@ pub use laws::{replies_are_those_of_the_steps, steps_are_read_back};
 pub use limits::MAX_INPUT;
 pub use printing::{REPLY_LEN, print_reply, print_state, put_reply, put_state};
 pub use reading::{NumberedStep, read_steps};
-
-#[cfg(test)]
-mod tests;

@@ -12,6 +12,3 @@ pub use buffer::{RECORD_LEN, TEXT_ROOM, TextBuffer};
 pub use number::{NUMBER_LEN, numbers_are_read_back, read_number};
 pub use printing::print_records;
 pub use writing::write_bytes;
-
-#[cfg(test)]
-mod tests;

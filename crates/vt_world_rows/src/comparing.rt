@@ -5,7 +5,7 @@ use crate::rounds::round;
 use std::alloc::AllocGlobal;
 use std::process::Abort;
 use std::rt;
-use vt_key::Fault;
+use vt_key::{Fault, Time};
 use vt_model::{Config, Model as EventModel, Record};
 use vt_seq::Sequential;
 use vt_steps::{Reply, Step};
@@ -45,16 +45,40 @@ pub fn compare<M: EventModel>(
     seed: u64,
     seen: &mut Seen,
 ) {
-    let mut sequential = Sequential::new(rt.alloc(), model, config).expect(rt, "memory");
-    let whole = sequential.run(rt.alloc()).expect(rt, "a run");
-    let finals = sequential.finals(rt.alloc()).expect(rt, "a whole run");
+    let (whole, finals) = sequential_run(rt, model, config);
     let mut world = World::new(rt.alloc(), model, config).expect(rt, "memory");
     wander(rt, &mut world, &config, &whole, seed, seen);
     close(rt, &mut world, &config, &whole);
+    shows(rt, &world, &whole, &finals);
+    stays_closed(rt, &mut world);
+}
+
+// The records and the final values of the sequential simulator.
+fn sequential_run<M: EventModel>(
+    rt: &(impl Abort + AllocGlobal),
+    model: &M,
+    config: Config,
+) -> (Vec<Record>, Vec<u64>) {
+    let mut sequential = Sequential::new(rt.alloc(), model, config).expect(rt, "memory");
+    let whole = sequential.run(rt.alloc()).expect(rt, "a run");
+    let finals = sequential.finals(rt.alloc()).expect(rt, "a whole run");
+    (whole, finals)
+}
+
+// The book must show exactly these records, and the processes these final values.
+fn shows<M: EventModel>(
+    rt: &(impl Abort + AllocGlobal),
+    world: &World<M>,
+    whole: &[Record],
+    finals: &[u64],
+) {
     let records = world.records(rt.alloc()).expect(rt, "memory");
-    assert!(rt; records.as_slice() == whole.as_slice());
+    assert!(rt; records.as_slice() == whole);
     let states = world.finals(rt.alloc()).expect(rt, "a closed book");
-    assert!(rt; states.as_slice() == finals.as_slice());
+    assert!(rt; states.as_slice() == finals);
+}
+
+fn stays_closed<M: EventModel>(rt: &(impl Abort + AllocGlobal), world: &mut World<M>) {
     assert!(rt; world.step(rt.alloc(), &Step::Close) == Err(Fault::Closed));
 }
 
@@ -70,17 +94,31 @@ fn wander<M: EventModel>(
     let mut dice = Dice { state: seed };
     let mut announced = 0;
     for n in 0..STEPS {
-        let step = dice.step(config);
-        match world.step(rt.alloc(), &step) {
-            Ok(reply) => count(&step, reply, seen),
-            Err(fault) => assert!(rt; fault == Fault::NotLawful || fault == Fault::Closed),
-        }
+        take(rt, world, dice.step(config), seen);
         if n % LOOK == 0 {
             look(rt, world, whole);
         }
-        assert!(rt; announced <= world.announced());
-        announced = world.announced();
+        announced = rises(rt, world, announced);
     }
+}
+
+fn take<M: EventModel>(
+    rt: &(impl Abort + AllocGlobal),
+    world: &mut World<M>,
+    step: Step,
+    seen: &mut Seen,
+) {
+    match world.step(rt.alloc(), &step) {
+        Ok(reply) => count(&step, reply, seen),
+        Err(fault) => assert!(rt; fault == Fault::NotLawful || fault == Fault::Closed),
+    }
+}
+
+// The announced time, which must be at least this.
+fn rises<M: EventModel>(rt: &impl Abort, world: &World<M>, announced: Time) -> Time {
+    let now = world.announced();
+    assert!(rt; announced <= now);
+    now
 }
 
 fn count(step: &Step, reply: Reply, seen: &mut Seen) {

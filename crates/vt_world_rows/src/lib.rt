@@ -2,6 +2,10 @@
 #![tactic(auto)]
 
 #[cfg(test)]
+mod board;
+#[cfg(test)]
+mod book;
+#[cfg(test)]
 mod comparing;
 #[cfg(test)]
 mod dice;

@@ -4,7 +4,7 @@
 use std::alloc::AllocGlobal;
 use std::process::Abort;
 use std::rt::{self, HostRuntime};
-use vt_key::{Fault, Key, MAX_COUNT, Rank, Stamp};
+use vt_key::{Fault, Key, MAX_COUNT, Rank, Stamp, Time};
 use vt_model::{Config, Model as EventModel, Record};
 use vt_models::Hop;
 use vt_steps::Step;
@@ -120,55 +120,87 @@ fn stands<M: EventModel>(rt: &(impl Abort + AllocGlobal), world: &World<M>) -> b
     left && right && world.least() == 10 && world.announced() == 0 && world.floor() == 0
 }
 
+// These steps must be taken, and so many of them refused.
+fn takes(
+    rt: &(impl Abort + AllocGlobal),
+    world: &mut World<'_, Hop>,
+    steps: &[Step],
+    refused: u64,
+) {
+    assert!(rt; world.run(rt.alloc(), steps) == Ok(refused));
+}
+
+// The least time of all that is unprocessed or travels must be this.
+fn has_least(rt: &impl Abort, world: &World<'_, Hop>, want: Time) {
+    assert!(rt; world.least() == want);
+}
+
+// Takes the rollback and then these steps, of which so many are refused, to the same end in whatever order.
+fn accepts(rt: &(impl Abort + AllocGlobal), steps: &[Step], refused: u64) {
+    let model = Hop::new(1, 1, 1).expect(rt, "options");
+    let mut world = world(rt, &model);
+    takes(rt, &mut world, &ROLLBACK, 0);
+    takes(rt, &mut world, steps, refused);
+    assert!(rt; stands(rt, &world));
+}
+
 #[test]
 fn letters_are_accepted_in_any_order(rt: HostRuntime) {
-    let model = Hop::new(1, 1, 1).expect(&rt, "options");
-    let mut world = world(&rt, &model);
-    assert!(rt; world.run(rt.alloc(), &ROLLBACK) == Ok(0));
-    assert!(rt; world.run(rt.alloc(), &IN_ORDER) == Ok(0));
-    assert!(rt; stands(&rt, &world));
+    accepts(&rt, &IN_ORDER, 0);
 }
 
 #[test]
 fn an_anti_message_waits_for_its_message(rt: HostRuntime) {
-    let model = Hop::new(1, 1, 1).expect(&rt, "options");
-    let mut world = world(&rt, &model);
-    assert!(rt; world.run(rt.alloc(), &ROLLBACK) == Ok(0));
-    assert!(rt; world.run(rt.alloc(), &ANTI_MESSAGE_FIRST) == Ok(1));
-    assert!(rt; stands(&rt, &world));
+    accepts(&rt, &ANTI_MESSAGE_FIRST, 1);
 }
 
 #[test]
 fn an_event_sent_again_outlives_the_anti_message(rt: HostRuntime) {
-    let model = Hop::new(1, 1, 1).expect(&rt, "options");
-    let mut world = world(&rt, &model);
-    assert!(rt; world.run(rt.alloc(), &ROLLBACK) == Ok(0));
-    assert!(rt; world.run(rt.alloc(), &NEW_EVENT_FIRST) == Ok(1));
-    assert!(rt; stands(&rt, &world));
+    accepts(&rt, &NEW_EVENT_FIRST, 1);
 }
 
 #[test]
 fn a_travelling_letter_is_the_least(rt: HostRuntime) {
     let model = Hop::new(1, 1, 1).expect(&rt, "options");
     let mut world = world(&rt, &model);
-    assert!(rt; world.least() == 1);
-    assert!(rt; world.run(rt.alloc(), &ROLLBACK[..10]) == Ok(0));
-    assert!(rt; world.least() == 3);
-    assert!(rt; world.step(rt.alloc(), &Step::Send(1, 0)).is_ok());
-    assert!(rt; world.least() == 3);
+    has_least(&rt, &world, 1);
+    takes(&rt, &mut world, &ROLLBACK[..10], 0);
+    has_least(&rt, &world, 3);
+    takes_one(&rt, &mut world, Step::Send(1, 0));
+    has_least(&rt, &world, 3);
+}
+
+// This step must be done.
+fn takes_one(rt: &(impl Abort + AllocGlobal), world: &mut World<'_, Hop>, step: Step) {
+    assert!(rt; world.step(rt.alloc(), &step).is_ok());
 }
 
 #[test]
 fn a_closed_world_holds_the_whole_run(rt: HostRuntime) {
     let model = Hop::new(1, 1, 1).expect(&rt, "options");
     let mut world = world(&rt, &model);
-    assert!(rt; world.run(rt.alloc(), &ROLLBACK) == Ok(0));
-    assert!(rt; world.run(rt.alloc(), &IN_ORDER) == Ok(0));
+    takes(&rt, &mut world, &ROLLBACK, 0);
+    takes(&rt, &mut world, &IN_ORDER, 0);
+    tells_no_finals(&rt, &world);
+    takes(&rt, &mut world, &ENDING, 0);
+    is_closed_at(&rt, &world, 10);
+    shows_all(&rt, &world);
+    takes(&rt, &mut world, &[Step::Commit(0), Step::Close], 2);
+    does_not_know(&rt, &world, 2);
+}
+
+fn tells_no_finals(rt: &(impl Abort + AllocGlobal), world: &World<'_, Hop>) {
     assert!(rt; matches!(world.finals(rt.alloc()), Err(Fault::NotLawful)));
-    assert!(rt; world.run(rt.alloc(), &ENDING) == Ok(0));
+}
+
+fn is_closed_at(rt: &impl Abort, world: &World<'_, Hop>, floor: Time) {
     assert!(rt; world.is_closed());
-    assert!(rt; world.floor() == 10);
-    let records = world.records(rt.alloc()).expect(&rt, "memory");
+    assert!(rt; world.floor() == floor);
+}
+
+// The records and final values of the whole run.
+fn shows_all(rt: &(impl Abort + AllocGlobal), world: &World<'_, Hop>) {
+    let records = world.records(rt.alloc()).expect(rt, "memory");
     let want = [
         record(1, 0, 1),
         record(2, 1, 1),
@@ -176,18 +208,19 @@ fn a_closed_world_holds_the_whole_run(rt: HostRuntime) {
         record(3, 0, 258),
     ];
     assert_eq!(rt; records.as_slice(), &want[..]);
-    let finals = world.finals(rt.alloc()).expect(&rt, "a closed book");
+    let finals = world.finals(rt.alloc()).expect(rt, "a closed book");
     assert_eq!(rt; finals.as_slice(), &[258, 258][..]);
-    assert!(rt; world.run(rt.alloc(), &[Step::Commit(0), Step::Close]) == Ok(2));
-    assert!(rt; matches!(world.past(rt.alloc(), 2), Err(Fault::NotLawful)));
+}
+
+fn does_not_know(rt: &(impl Abort + AllocGlobal), world: &World<'_, Hop>, lp: u32) {
+    assert!(rt; matches!(world.past(rt.alloc(), lp), Err(Fault::NotLawful)));
 }
 
 #[test]
 fn spent_serials_stop_a_run(rt: HostRuntime) {
     let model = Hop::new(1, 0, 1).expect(&rt, "options");
     let config = Config::new(1, 1, 10, 0).expect(&rt, "config");
-    let spent = World::with_serial(rt.alloc(), &model, config, MAX_COUNT);
-    assert!(rt; matches!(spent, Err(Fault::Exhausted)));
+    is_spent(&rt, &model, config);
     let last = World::with_serial(rt.alloc(), &model, config, MAX_COUNT - 1);
     let mut world = last.expect(&rt, "one serial");
     let steps = [Step::Undo(0), Step::Home(0), Step::Execute(0), Step::Cut(0)];
@@ -195,8 +228,21 @@ fn spent_serials_stop_a_run(rt: HostRuntime) {
         at: 2,
         fault: Fault::Exhausted,
     };
-    assert!(rt; world.run(rt.alloc(), &steps) == Err(stop));
-    assert!(rt; world.least() == 1);
-    let past = world.past(rt.alloc(), 0).expect(&rt, "a process");
+    stops(&rt, &mut world, &steps, stop);
+    has_least(&rt, &world, 1);
+    has_no_past(&rt, &world);
+}
+
+fn is_spent(rt: &(impl Abort + AllocGlobal), model: &Hop, config: Config) {
+    let spent = World::with_serial(rt.alloc(), model, config, MAX_COUNT);
+    assert!(rt; matches!(spent, Err(Fault::Exhausted)));
+}
+
+fn stops(rt: &(impl Abort + AllocGlobal), world: &mut World<'_, Hop>, steps: &[Step], want: Stop) {
+    assert!(rt; world.run(rt.alloc(), steps) == Err(want));
+}
+
+fn has_no_past(rt: &(impl Abort + AllocGlobal), world: &World<'_, Hop>) {
+    let past = world.past(rt.alloc(), 0).expect(rt, "a process");
     assert_eq!(rt; past.len(), 0);
 }

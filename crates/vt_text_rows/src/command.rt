@@ -1,7 +1,9 @@
-use crate::{ModelName, Options, ReplayOptions, Request, Synch, read_request};
+//! Command lines, read into requests.
+
 use std::alloc::{AllocError, Global};
 use std::process::Abort;
 use std::test::Fail;
+use vt_command::{ModelName, Options, ReplayOptions, Request, Synch, read_request};
 use vt_key::Fault;
 use vt_model::Config;
 use vt_models::{Hop, Phold, Stations};

@@ -1,9 +1,11 @@
-use crate::{program, tell_refusal};
+//! Runs through the whole program: what is printed, and what is refused.
+
 use std::io::{self, Error, ErrorKind, Write};
 use std::process::Abort;
 use std::test::Fail;
 use std::thread::Threads;
 use vt_key::Fault;
+use vt_program::{program, tell_refusal};
 
 /// What `twarp run` prints.
 pub(crate) const SIX_LINES: &str =

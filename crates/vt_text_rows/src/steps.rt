@@ -1,12 +1,14 @@
-use crate::{
-    MAX_INPUT, NumberedStep, REPLY_LEN, print_reply, print_state, put_reply, put_state, read_input,
-    read_steps,
-};
+//! Step texts that are read, and replies and states that are printed.
+
 use std::alloc::Global;
 use std::io::{self, Error, ErrorKind, Read, Write};
 use std::test::Fail;
 use vt_key::{Fault, Stamp};
 use vt_model::Record;
+use vt_step_text::{
+    MAX_INPUT, NumberedStep, REPLY_LEN, print_reply, print_state, put_reply, put_state, read_input,
+    read_steps,
+};
 use vt_steps::{Reply, Step};
 use vt_text::TextBuffer;
 

@@ -1,8 +1,10 @@
-use crate::Pending;
+//! Pending letters in the order of their ranks.
+
 use std::alloc::AllocError;
 use std::test::*;
 use vt_key::{Event, Key, Letter, Rank, Sign, Stamp};
 use vt_list::{Parcel, Predicate};
+use vt_pending::Pending;
 
 fn rank(key: (u64, u32, u64), stamp: (u32, u64)) -> Rank {
     Rank {

@@ -1,4 +1,6 @@
-use crate::tests::{SIX_LINES, expect, run_within};
+//! Runs on workers through the whole program.
+
+use crate::runs::{SIX_LINES, expect, run_within};
 use std::process::Abort;
 use std::test::Fail;
 use std::thread::Threads;

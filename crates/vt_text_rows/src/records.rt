@@ -1,8 +1,10 @@
-use crate::{RECORD_LEN, TEXT_ROOM, TextBuffer, print_records, read_number, write_bytes};
+//! Records that are printed, numbers that are read, and bytes that are written.
+
 use std::io::{self, Error, ErrorKind, Write};
 use std::test::Fail;
 use vt_key::Fault;
 use vt_model::Record;
+use vt_text::{RECORD_LEN, TEXT_ROOM, TextBuffer, print_records, read_number, write_bytes};
 
 /// The one record of a hop run of one process without hops.
 const FIRST: Record = Record {

@@ -1,7 +1,9 @@
-use crate::{Batch, Book};
+//! The book of committed records.
+
 use std::alloc::{AllocError, AllocGlobal};
 use std::process::Abort;
 use std::test::*;
+use vt_book::{Batch, Book};
 use vt_key::{Fault, Key, Time};
 use vt_model::{Record, Row};
 
@@ -40,6 +42,47 @@ fn is_shown(rt: &(impl Abort + AllocGlobal), book: &Book, rows: &[Row]) -> bool 
             .all(|(record, row)| *record == row.rec)
 }
 
+// These rows of a worker up to this floor must be answered so.
+fn hands(
+    rt: &impl Abort,
+    book: &mut Book,
+    worker: u32,
+    rows: &[Row],
+    floor: Time,
+    want: Result<(), Fault>,
+) {
+    assert_eq!(rt; book.hand(worker, rows, floor), want);
+}
+
+// This batch of a worker up to this floor must be answered so.
+fn hands_batch(
+    rt: &impl Abort,
+    book: &mut Book,
+    worker: u32,
+    rows: Batch,
+    floor: Time,
+    want: Result<(), Fault>,
+) {
+    assert_eq!(rt; book.hand_batch(worker, rows, floor), want);
+}
+
+fn closes(rt: &impl Abort, book: &mut Book, want: Result<(), Fault>) {
+    assert_eq!(rt; book.close(), want);
+}
+
+fn is_closed(rt: &impl Abort, book: &Book, want: bool) {
+    assert_eq!(rt; book.is_closed(), want);
+}
+
+fn has_floor(rt: &impl Abort, book: &Book, want: Time) {
+    assert_eq!(rt; book.floor(), want);
+}
+
+// The book must show exactly these rows.
+fn shows(rt: &(impl Abort + AllocGlobal), book: &Book, want: &[Row]) {
+    assert!(rt; is_shown(rt, book, want));
+}
+
 // These rows made ready; where memory is refused, by a second try.
 fn batch(rt: &(impl Abort + AllocGlobal), rows: &[Row]) -> Batch {
     match Batch::new(rt.alloc(), rows) {
@@ -52,28 +95,28 @@ fn batch(rt: &(impl Abort + AllocGlobal), rows: &[Row]) -> Batch {
 fn rows_below_the_least_floor_are_shown_in_order(rt: HostRuntime) {
     let mut book = Book::new(rt.alloc(), 2, 10);
     let [first, second, third] = [row(1, 0, 0), row(2, 0, 1), row(3, 0, 2)];
-    assert_eq!(rt; book.hand(1, &[second, third], 10), Ok(()));
-    assert_eq!(rt; book.floor(), 0);
-    assert!(rt; is_shown(&rt, &book, &[]));
-    assert_eq!(rt; book.hand(0, &[first], 3), Ok(()));
-    assert_eq!(rt; book.floor(), 3);
-    assert!(rt; is_shown(&rt, &book, &[first, second]));
-    assert_eq!(rt; book.close(), Err(Fault::NotLawful));
-    assert!(rt; !book.is_closed());
+    hands(&rt, &mut book, 1, &[second, third], 10, Ok(()));
+    has_floor(&rt, &book, 0);
+    shows(&rt, &book, &[]);
+    hands(&rt, &mut book, 0, &[first], 3, Ok(()));
+    has_floor(&rt, &book, 3);
+    shows(&rt, &book, &[first, second]);
+    closes(&rt, &mut book, Err(Fault::NotLawful));
+    is_closed(&rt, &book, false);
 }
 
 #[test]
 fn hostile_hand_ins_are_refused(rt: HostRuntime) {
     let mut book = Book::new(rt.alloc(), 2, 10);
-    assert_eq!(rt; book.hand(0, &[row(3, 0, 0)], 3), Err(Fault::NotLawful));
-    assert_eq!(rt; book.hand(0, &[row(2, 0, 0)], 3), Ok(()));
-    assert_eq!(rt; book.hand(0, &[row(2, 0, 0)], 4), Err(Fault::NotLawful));
-    assert_eq!(rt; book.hand(0, &[], 2), Err(Fault::NotLawful));
-    assert_eq!(rt; book.hand(0, &[], 11), Err(Fault::NotLawful));
-    assert_eq!(rt; book.hand(2, &[], 5), Err(Fault::NotLawful));
-    assert_eq!(rt; book.floor(), 0);
-    assert_eq!(rt; book.hand(1, &[], 3), Ok(()));
-    assert!(rt; is_shown(&rt, &book, &[row(2, 0, 0)]));
+    hands(&rt, &mut book, 0, &[row(3, 0, 0)], 3, Err(Fault::NotLawful));
+    hands(&rt, &mut book, 0, &[row(2, 0, 0)], 3, Ok(()));
+    hands(&rt, &mut book, 0, &[row(2, 0, 0)], 4, Err(Fault::NotLawful));
+    hands(&rt, &mut book, 0, &[], 2, Err(Fault::NotLawful));
+    hands(&rt, &mut book, 0, &[], 11, Err(Fault::NotLawful));
+    hands(&rt, &mut book, 2, &[], 5, Err(Fault::NotLawful));
+    has_floor(&rt, &book, 0);
+    hands(&rt, &mut book, 1, &[], 3, Ok(()));
+    shows(&rt, &book, &[row(2, 0, 0)]);
 }
 
 #[test]
@@ -82,44 +125,56 @@ fn batches_are_refused_as_rows_are(rt: HostRuntime) {
     let [early, middle, late] = [row(1, 0, 0), row(4, 0, 1), row(9, 0, 2)];
     let all = batch(&rt, &[late, early, middle]);
     assert_eq!(rt; all.len(), 3);
-    assert_eq!(rt; book.hand_batch(0, all, 9), Err(Fault::NotLawful));
+    hands_batch(&rt, &mut book, 0, all, 9, Err(Fault::NotLawful));
     let all = batch(&rt, &[middle, early, late]);
-    assert_eq!(rt; book.hand_batch(0, all, 10), Ok(()));
-    assert_eq!(rt; book.hand_batch(1, batch(&rt, &[]), 5), Ok(()));
-    assert_eq!(rt;
-        book.hand_batch(1, batch(&rt, &[middle, late]), 10),
-        Err(Fault::NotLawful)
+    hands_batch(&rt, &mut book, 0, all, 10, Ok(()));
+    hands_batch(&rt, &mut book, 1, batch(&rt, &[]), 5, Ok(()));
+    hands_batch(
+        &rt,
+        &mut book,
+        1,
+        batch(&rt, &[middle, late]),
+        10,
+        Err(Fault::NotLawful),
     );
-    assert_eq!(rt;
-        book.hand_batch(2, batch(&rt, &[]), 10),
-        Err(Fault::NotLawful)
+    hands_batch(
+        &rt,
+        &mut book,
+        2,
+        batch(&rt, &[]),
+        10,
+        Err(Fault::NotLawful),
     );
-    assert!(rt; is_shown(&rt, &book, &[early, middle]));
-    assert_eq!(rt; book.hand(1, &[], 10), Ok(()));
-    assert_eq!(rt; book.close(), Ok(()));
-    assert_eq!(rt;
-        book.hand_batch(1, batch(&rt, &[late]), 10),
-        Err(Fault::Closed)
+    shows(&rt, &book, &[early, middle]);
+    hands(&rt, &mut book, 1, &[], 10, Ok(()));
+    closes(&rt, &mut book, Ok(()));
+    hands_batch(
+        &rt,
+        &mut book,
+        1,
+        batch(&rt, &[late]),
+        10,
+        Err(Fault::Closed),
     );
-    assert!(rt; is_shown(&rt, &book, &[early, middle, late]));
+    shows(&rt, &book, &[early, middle, late]);
 }
 
 #[test]
 fn a_closed_book_takes_nothing_more(rt: HostRuntime) {
     let mut book = Book::new(rt.alloc(), 2, 10);
     let [early, late] = [row(1, 1, 0), row(9, 0, 0)];
-    assert_eq!(rt; book.hand(0, &[late], 10), Ok(()));
-    assert_eq!(rt; book.hand(1, &[early], 9), Ok(()));
-    assert_eq!(rt; book.close(), Err(Fault::NotLawful));
-    assert_eq!(rt; book.hand(1, &[], 10), Ok(()));
-    assert_eq!(rt; book.floor(), 10);
-    assert_eq!(rt; book.close(), Ok(()));
-    assert!(rt; book.is_closed());
-    assert_eq!(rt; book.close(), Err(Fault::Closed));
-    assert_eq!(rt; book.hand(0, &[], 10), Err(Fault::Closed));
-    assert_eq!(rt; book.hand(7, &[early], 11), Err(Fault::Closed));
-    assert_eq!(rt; book.floor(), 10);
-    assert!(rt; is_shown(&rt, &book, &[early, late]));
+    hands(&rt, &mut book, 0, &[late], 10, Ok(()));
+    hands(&rt, &mut book, 1, &[early], 9, Ok(()));
+    closes(&rt, &mut book, Err(Fault::NotLawful));
+    hands(&rt, &mut book, 1, &[], 10, Ok(()));
+    has_floor(&rt, &book, 10);
+    closes(&rt, &mut book, Ok(()));
+    is_closed(&rt, &book, true);
+    closes(&rt, &mut book, Err(Fault::Closed));
+    hands(&rt, &mut book, 0, &[], 10, Err(Fault::Closed));
+    hands(&rt, &mut book, 7, &[early], 11, Err(Fault::Closed));
+    has_floor(&rt, &book, 10);
+    shows(&rt, &book, &[early, late]);
 }
 
 // By time, then source, then number, then index: and a row that is handed in twice is there twice.
@@ -135,12 +190,16 @@ fn rows_of_one_time_are_in_order_too(rt: HostRuntime) {
             ..row(6, 0, 5)
         },
     ];
-    assert_eq!(rt; book.hand(2, &[by_index[1], by_number[1]], 10), Ok(()));
-    assert_eq!(rt;
-        book.hand(0, &[by_index[0], by_source[1], by_source[1]], 10),
-        Ok(())
+    hands(&rt, &mut book, 2, &[by_index[1], by_number[1]], 10, Ok(()));
+    hands(
+        &rt,
+        &mut book,
+        0,
+        &[by_index[0], by_source[1], by_source[1]],
+        10,
+        Ok(()),
     );
-    assert_eq!(rt; book.hand(1, &[by_number[0], by_source[0]], 10), Ok(()));
+    hands(&rt, &mut book, 1, &[by_number[0], by_source[0]], 10, Ok(()));
     let expected = [
         by_source[0],
         by_source[1],
@@ -150,7 +209,7 @@ fn rows_of_one_time_are_in_order_too(rt: HostRuntime) {
         by_index[0],
         by_index[1],
     ];
-    assert!(rt; is_shown(&rt, &book, &expected));
+    shows(&rt, &book, &expected);
 }
 
 // With `rt try --test --fail-alloc N` the Nth allocation fails: a refused hand-in leaves the book as it was, and succeeds when
@@ -165,10 +224,10 @@ fn refused_hand_ins_change_nothing(rt: HostRuntime) {
         let before = (book.floor(), records(&rt, &book));
         if book.hand(worker, &rows, floor) == Err(Fault::Memory) {
             assert!(rt; before == (book.floor(), records(&rt, &book)));
-            assert_eq!(rt; book.hand(worker, &rows, floor), Ok(()));
+            hands(&rt, &mut book, worker, &rows, floor, Ok(()));
         }
     }
-    assert_eq!(rt; book.floor(), 200);
+    has_floor(&rt, &book, 200);
     assert_eq!(rt; records(&rt, &book).len(), 80);
 }
 
@@ -219,14 +278,14 @@ fn what_is_shown_is_what_sorting_all_would_show(rt: HostRuntime) -> Result<(), F
             .wrapping_add(draws.next().wrapping_mul(30))
             .min(100_000);
         let rows = random_rows(&rt, &mut draws, from, to)?;
-        assert_eq!(rt; book.hand_batch(worker, batch(&rt, &rows), to), Ok(()));
+        hands_batch(&rt, &mut book, worker, batch(&rt, &rows), to, Ok(()));
         floors[worker as usize] = to;
         all.extend_from_slice(&rows)?;
         all.sort()?;
         let least = floors.iter().copied().min().unwrap_or(0);
         let below = all.iter().filter(|row| row.key.time < least).count();
-        assert_eq!(rt; book.floor(), least);
-        assert!(rt; is_shown(&rt, &book, all.get(..below).unwrap_or(&[])));
+        has_floor(&rt, &book, least);
+        shows(&rt, &book, all.get(..below).unwrap_or(&[]));
     }
     Ok(())
 }
@@ -239,5 +298,5 @@ fn is_sent<T: Send>(value: T) -> T {
 fn a_book_may_go_to_another_thread(rt: HostRuntime) {
     let book = is_sent(Book::new(rt.alloc(), 1, 1));
     assert_eq!(rt; is_sent(batch(&rt, &[])).len(), 0);
-    assert_eq!(rt; book.floor(), 0);
+    has_floor(&rt, &book, 0);
 }

@@ -1,0 +1,9 @@
+//! Worked examples of texts: records and numbers, steps and replies, and command lines, through public calls.
+#![tactic(auto)]
+
+#[cfg(test)]
+mod command;
+#[cfg(test)]
+mod records;
+#[cfg(test)]
+mod steps;
