@@ -54,6 +54,14 @@ module _ {P K : Type 0} where
   may_come_after None rank = true
   may_come_after (Some last) rank = rank_before last.letter.event.rank rank
 
+  -- the rank of the last past event, if there is one
+  abbrev pub rank_of_last : Option (PastEvent P K) → Option Rank
+  rank_of_last None = None
+  rank_of_last (Some last) = Some last.letter.event.rank
+
+  abbrev pub last_rank : List (PastEvent P K) → Option Rank
+  last_rank past = rank_of_last (last_or None past)
+
   -- the rank of the event that Execute would execute, if it is lawful
   abbrev pub ready_rank : List (Letter P) → List (PastEvent P K) → Option Rank
   ready_rank [] past = None

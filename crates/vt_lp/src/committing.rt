@@ -12,6 +12,7 @@ ghost use Rattle.vt_lp.specs.Ripe.{unripe_events, rows_of_ripe};
 
 use crate::Lp;
 use crate::entry::PastEvent;
+use crate::past::Past;
 use crate::spare::Spare;
 use arrayvec::ArrayVec;
 use std::alloc::Global;
@@ -28,7 +29,7 @@ impl<M: EventModel> Lp<M> {
         ensures refused { IfErr result (λ fault. fault ≡ Memory) }
     {
         let mut events = Vec::new(alloc);
-        for past_event in self.past.iter() {
+        for past_event in self.past.events().iter() {
             events
                 .push(past_event.letter.get().event)
                 .map_err(|_| Fault::Memory)?;
@@ -45,7 +46,7 @@ impl<M: EventModel> Lp<M> {
         ensures refused { IfErr result (λ fault. (fault ≡ Memory) × (rows.new.items ≡ rows.old.items)) }
     {
         let others = rows.len();
-        let appended = append_ripe(&self.past, floor, rows);
+        let appended = append_ripe(self.past.events(), floor, rows);
         if appended.is_err() {
             rows.truncate(others);
         }
@@ -62,11 +63,7 @@ impl<M: EventModel> Lp<M> {
 }
 
 /// Drops the first past events, as many as are before the floor, and keeps their memory.
-fn drop_ripe<P: Copy, K: Copy>(
-    past: &mut List<PastEvent<P, K>>,
-    spare: &mut Spare<P, K>,
-    floor: Time,
-)
+fn drop_ripe<P: Copy, K: Copy>(past: &mut Past<P, K>, spare: &mut Spare<P, K>, floor: Time)
     ensures { past.new ≡ unripe_events floor past.old }
 {
     while let Some(first) = past.front() {

@@ -19,6 +19,7 @@ ghost use Rattle.vt_lp.specs.Past.{past_event, ready_event, IsAdvanceRefusal};
 use crate::entry::PastEvent;
 use crate::lp::Lp;
 use crate::making::{is_counted, letters};
+use crate::past::Past;
 use crate::spare::Spare;
 use arrayvec::ArrayVec;
 use std::alloc::Global;
@@ -110,16 +111,13 @@ impl<M: EventModel> Lp<M> {
 }
 
 /// The least pending event, if it comes after the last past one.
-fn ready_event<P: Copy, K: Copy>(
-    pending: &Pending<P>,
-    past: &List<PastEvent<P, K>>,
-) -> Option<Event<P>>
+fn ready_event<P: Copy, K: Copy>(pending: &Pending<P>, past: &Past<P, K>) -> Option<Event<P>>
     ensures event { result ≡ ready_event pending.now past.now }
     ensures rising { IsRising pending.now }
 {
     let least = pending.least()?;
-    if let Some(last) = past.back() {
-        if !last.letter.get().event.rank.is_before(&least.event.rank) {
+    if let Some(last) = past.last_rank() {
+        if !last.is_before(&least.event.rank) {
             return None;
         }
     }
@@ -225,7 +223,7 @@ fn keep<P: Copy, K: Copy>(
     alloc: Global,
     spare: &mut Spare<P, K>,
     pending: &mut Pending<P>,
-    past: &mut List<PastEvent<P, K>>,
+    past: &mut Past<P, K>,
     trail: Trail<P, K>,
 ) -> Result<(), Fault>
     requires some { 0 < length pending.old }

@@ -2,7 +2,7 @@
 
 ghost use Rattle.std.specs.Prelude.{◌≡◌, suc, length, IfSome, IfNone, false, true, [], None, IfOk, IfErr};
 ghost use Rattle.vt_key.specs.declared.order.Stamp.{Stamp};
-ghost use Rattle.std.specs.List.{list_any};
+ghost use Rattle.std.specs.List.{list_any, last_or};
 ghost use Rattle.vt_key.specs.Order.{rank_same};
 ghost use Rattle.vt_key.specs.Times.{TimeBefore};
 ghost use Rattle.vt_key.specs.declared.fault.Fault.TheVariants.{NotLawful};
@@ -10,10 +10,11 @@ ghost use Rattle.vt_model.specs.Handler.{Handlers};
 ghost use Rattle.vt_steps.specs.World.{LogicalProcess};
 ghost use Rattle.vt_steps.specs.ProcessSteps.{cancel_process, accept_process};
 ghost use Rattle.vt_lp.specs.Held.{StandsFor, IsRisingPast};
-ghost use Rattle.vt_lp.specs.Guards.{IsDone, holds_letter, can_annihilate};
+ghost use Rattle.vt_lp.specs.Guards.{IsDone, holds_letter, can_annihilate, may_come_after};
 
 use crate::Lp;
 use crate::entry::PastEvent;
+use crate::past::Past;
 use vt_key::{Fault, Letter, Rank, Sign, Stamp};
 use vt_list::{List, Parcel, Predicate};
 use vt_model::Model as EventModel;
@@ -138,13 +139,26 @@ impl<P: Copy, K: Copy> Predicate<PastEvent<P, K>> for NotAfter {
     }
 }
 
+/// Whether there is no past event, or the last one is before this rank.
+fn ends_before<P: Copy, K: Copy>(past: &Past<P, K>, rank: Rank) -> bool
+    ensures { result ≡ may_come_after (last_or None past.now) rank }
+{
+    match past.last_rank() {
+        Some(last) => last.is_before(&rank),
+        None => true,
+    }
+}
+
 /// Whether a past event has this rank. Past events stand in rising rank, so of those from the back the first that isn't after
 /// the rank has it, or none has.
-fn has_executed<P: Copy, K: Copy>(past: &List<PastEvent<P, K>>, rank: Rank) -> bool
+fn has_executed<P: Copy, K: Copy>(past: &Past<P, K>, rank: Rank) -> bool
     requires { IsRisingPast past.now }
     ensures { result ≡ list_any (λ e. rank_same e.letter.event.rank rank) past.now }
 {
-    match past.find_back(&NotAfter(rank)) {
+    if ends_before(past, rank) {
+        return false;
+    }
+    match past.events().find_back(&NotAfter(rank)) {
         Some(event) => event.letter.get().event.rank.is_same(&rank),
         None => false,
     }

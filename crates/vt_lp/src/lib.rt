@@ -11,6 +11,7 @@ mod executing;
 mod letters;
 mod lp;
 mod making;
+mod past;
 mod spare;
 mod starting;
 mod undoing;

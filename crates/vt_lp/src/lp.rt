@@ -5,11 +5,10 @@ ghost use Rattle.std.specs.Option.{option_copied};
 ghost use Rattle.vt_steps.specs.Letters.{least_time};
 ghost use Rattle.vt_lp.specs.Guards.{ready_rank, lesser_rank};
 
-use crate::entry::PastEvent;
+use crate::past::Past;
 use crate::spare::Spare;
 use std::marker::Model;
 use vt_key::{Letter, Rank, Time};
-use vt_list::List;
 use vt_model::{Config, Model as EventModel, Process};
 use vt_pending::Pending;
 
@@ -23,7 +22,7 @@ use vt_pending::Pending;
 pub struct Lp<M: EventModel> {
     pub(crate) config: Config,
     pub(crate) lp: u32,
-    pub(crate) past: List<PastEvent<M::Payload, M::Kept>>,
+    pub(crate) past: Past<M::Payload, M::Kept>,
     pub(crate) pending: Pending<M::Payload>,
     pub(crate) waiting: Pending<M::Payload>,
     // Memory of committed events, for the next ones.
@@ -118,8 +117,8 @@ impl<M: EventModel> Lp<M> {
         ensures { result ≡ ready_rank self.now.pending self.now.past }
     {
         let least = self.pending.least()?;
-        if let Some(last) = self.past.back() {
-            if !last.letter.get().event.rank.is_before(&least.event.rank) {
+        if let Some(last) = self.past.last_rank() {
+            if !last.is_before(&least.event.rank) {
                 return None;
             }
         }

@@ -10,6 +10,7 @@ ghost use Rattle.vt_lp.specs.Held.{StandsFor, opening_process, AllWithinRun};
 
 use crate::lp::Lp;
 use crate::making::{is_counted, letters};
+use crate::past::Past;
 use crate::spare::Spare;
 use std::alloc::Global;
 use vt_key::{Fault, Letter, MAX_COUNT, Sign};
@@ -54,7 +55,7 @@ impl<M: EventModel> Lp<M> {
             config,
             lp,
             process,
-            past: List::new(alloc),
+            past: Past::new(alloc),
             pending: Pending::new(alloc),
             waiting: Pending::new(alloc),
             spare,

@@ -13,6 +13,7 @@ ghost use Rattle.vt_lp.specs.Past.{must_undo_last};
 
 use crate::entry::PastEvent;
 use crate::lp::Lp;
+use crate::past::Past;
 use vt_key::{Fault, Letter, Rank};
 use vt_list::List;
 use vt_model::{Model as EventModel, Sent};
@@ -66,14 +67,13 @@ impl<M: EventModel> Lp<M> {
 fn must_undo_last<P: Copy, K: Copy>(
     pending: &Pending<P>,
     waiting: &Pending<P>,
-    past: &List<PastEvent<P, K>>,
+    past: &Past<P, K>,
 ) -> bool
     ensures { result ≡ must_undo_last pending.now waiting.now (last_or None past.now) }
 {
-    let Some(last) = past.back() else {
+    let Some(rank) = past.last_rank() else {
         return false;
     };
-    let rank = last.letter.get().event.rank;
     has_before(pending, rank) || has_not_after(waiting, rank)
 }
 

@@ -9,5 +9,5 @@ use Rattle.vt_lp.proofs.lp.Lp.ripe.Goals as goal
 pub returns-else-is_err-clause-rows : goal.returns-else-is_err-clause-rows
 returns-else-is_err-clause-rows g c handlers h s =
     let held = c.args.self.now in
-    let rows = ap (λ (v : HeldProcess _ _ _). rows_of_ripe c.args.floor v.past) c.self.view_is ∙ sym (rows-ripe handlers c.args.floor held h s) in
+    let rows = ap (rows_of_ripe c.args.floor) c.events.ensures ∙ ap (λ (v : HeldProcess _ _ _). rows_of_ripe c.args.floor v.past) c.self.view_is ∙ sym (rows-ripe handlers c.args.floor held h s) in
     subst (λ (all : List Row). IfOk c.append_ripe-appended.result (λ done. c.append_ripe-appended.new.rows.items ≡ c.args.rows.now.items ++ all)) rows c.append_ripe-appended.ensures.rows

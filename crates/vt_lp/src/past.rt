@@ -1,0 +1,110 @@
+//! The past events of a process.
+
+ghost use Rattle.std.specs.Prelude.{◌≡◌, ◌-◌, ◌%◌, ◌^◌, [], ◌∷◌, ◌++◌, length, slice_get, MatchOption};
+ghost use Rattle.std.specs.Option.{option_copied};
+ghost use Rattle.vt_lp.specs.Guards.{last_rank};
+
+use crate::entry::PastEvent;
+use std::alloc::Global;
+use std::marker::Model;
+use vt_key::Rank;
+use vt_list::{List, Parcel};
+
+/// Past events, in the order of their execution. A clause sees the list of them.
+///
+/// The rank of the last one is kept beside them: what may be executed next is told by it, and reads no event.
+#[derive(Drop)]
+pub(crate) struct Past<P: Copy, K: Copy> {
+    events: List<PastEvent<P, K>>,
+    last: Option<Rank>,
+}
+
+impl<P: Copy, K: Copy> Model for Past<P, K> {
+    ghost use Rattle.std.specs.Prelude.{List as Events, ◌≡◌};
+    ghost use Rattle.vt_lp.specs.declared.entry.PastEvent.{PastEvent};
+    ghost use Rattle.vt_lp.specs.Guards.{last_rank};
+
+    ghost Value = { Events (PastEvent P K) };
+
+    ghost view = { λ p. p.events };
+
+    ghost invariant = { λ p. p.last ≡ last_rank p.events };
+}
+
+impl<P: Copy, K: Copy> Past<P, K> {
+    /// No event.
+    pub(crate) fn new(alloc: Global) -> Past<P, K>
+        ensures { result ≡ [] }
+    {
+        Past {
+            events: List::new(alloc),
+            last: None,
+        }
+    }
+
+    /// How many events there are, modulo 2^64.
+    pub(crate) fn len(&self) -> usize
+        ensures { result ≡ length self.now % 2 ^ 64 }
+    {
+        self.events.len()
+    }
+
+    /// The rank of the last event.
+    pub(crate) fn last_rank(&self) -> Option<Rank>
+        ensures { result ≡ last_rank self.now }
+    {
+        self.last
+    }
+
+    /// The first event.
+    pub(crate) fn front(&self) -> Option<&PastEvent<P, K>>
+        ensures { option_copied result ≡ slice_get self.now 0 }
+    {
+        self.events.front()
+    }
+
+    /// The events.
+    pub(crate) fn events(&self) -> &List<PastEvent<P, K>>
+        ensures { result.now ≡ self.now }
+    {
+        &self.events
+    }
+
+    /// Puts an event behind all others.
+    pub(crate) fn push_back(&mut self, event: Parcel<PastEvent<P, K>>)
+        ensures { self.new ≡ self.old ++ event ∷ [] }
+    {
+        self.last = Some(event.get().letter.get().event.rank);
+        self.events.push_back(event);
+    }
+
+    /// Takes out the first event.
+    pub(crate) fn pop_front(&mut self) -> Option<Parcel<PastEvent<P, K>>>
+        ensures { MatchOption result ((self.old ≡ []) × (self.new ≡ [])) (λ p. self.old ≡ p ∷ self.new) }
+    {
+        let first = self.events.pop_front();
+        if self.events.is_empty() {
+            self.last = None;
+        }
+        first
+    }
+
+    /// Takes out the last event.
+    pub(crate) fn pop_back(&mut self) -> Option<Parcel<PastEvent<P, K>>>
+        ensures { MatchOption result ((self.old ≡ []) × (self.new ≡ [])) (λ p. self.old ≡ self.new ++ p ∷ []) }
+    {
+        let last = self.events.pop_back();
+        self.last = rank_of_last(&self.events);
+        last
+    }
+}
+
+/// The rank of the last of these events.
+fn rank_of_last<P: Copy, K: Copy>(events: &List<PastEvent<P, K>>) -> Option<Rank>
+    ensures { result ≡ last_rank events.now }
+{
+    match events.back() {
+        Some(last) => Some(last.letter.get().event.rank),
+        None => None,
+    }
+}
