@@ -11,7 +11,7 @@ returns-then-not-is_before-clause-event g c =
     sym (event-told c.args.pending.now c.args.past.now least (Some c.in-Some.last) false (sym c.in_ok-least.ensures.letter) (sym c.in-Some.is ∙ c.last_rank.ensures) test)
 
 pub returns-clause-event : goal.returns-clause-event
-returns-clause-event g c = 
+returns-clause-event g c =
     let least = c.in_ok-least.least.now in
     elim c.match-last_rank.branch [
       | in-Some+else-not-is_before w ↦
