@@ -7,7 +7,7 @@ use std::alloc::Global;
 use vt_key::Letter;
 use vt_list::{List, Parcel};
 
-// How many letters, and how many past events, a process keeps the memory of at most.
+// A process that has the memory of so many letters takes in no more of them, and likewise of past events.
 const MOST: usize = 16;
 
 /// Nodes of committed past events and of their letters, to be written anew. What stands in them means nothing.
