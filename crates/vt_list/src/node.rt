@@ -14,18 +14,31 @@ pub(crate) struct Node<T> {
     pub(crate) item: T,
 }
 
-/// The one node, which lies at `at`, with these links.
-pub(crate) fn set_links<T>(
+/// The one node, which lies at `at`, where it leads on to `next`.
+pub(crate) fn set_next<T>(
     node: Blocks<Node<T>>,
     at: *mut Node<T>,
     next: Option<*mut Node<T>>,
-    prev: Option<*mut Node<T>>,
 ) -> Blocks<Node<T>>
     requires { places node.owned ≡ at ∷ [] }
-    ensures { result.owned ≡ map (λ b. (b.0, record b.1 { next = next; prev = prev })) node.owned }
+    ensures { result.owned ≡ map (λ b. (b.0, record b.1 { next = next })) node.owned }
 {
     unsafe {
         (*at).next = next;
+    }
+    node
+}
+
+/// The one node, which lies at `at`, where it leads back to `prev`.
+pub(crate) fn set_prev<T>(
+    node: Blocks<Node<T>>,
+    at: *mut Node<T>,
+    prev: Option<*mut Node<T>>,
+) -> Blocks<Node<T>>
+    requires { places node.owned ≡ at ∷ [] }
+    ensures { result.owned ≡ map (λ b. (b.0, record b.1 { prev = prev })) node.owned }
+{
+    unsafe {
         (*at).prev = prev;
     }
     node
@@ -41,8 +54,7 @@ pub(crate) fn set_last_next<T>(
     ensures { result.owned ≡ with_next next nodes.owned }
 {
     let (front, end) = nodes.split();
-    let prev = end.get(last).prev;
-    front.append(set_links(end, last, next, prev))
+    front.append(set_next(end, last, next))
 }
 
 /// The same nodes, where the first one, which lies at `first`, leads back to `prev`.
@@ -55,6 +67,5 @@ pub(crate) fn set_first_prev<T>(
     ensures { result.owned ≡ with_prev prev nodes.owned }
 {
     let (start, back) = nodes.split();
-    let next = start.get(first).next;
-    set_links(start, first, next, prev).append(back)
+    set_prev(start, first, prev).append(back)
 }

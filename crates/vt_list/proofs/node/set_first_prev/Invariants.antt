@@ -2,6 +2,3 @@ use Rattle.vt_list.proofs.node.set_first_prev.Given as goal
 
 abbrev pub ghost-split : goal.ghost-split
 ghost-split g a = 1
-
-abbrev pub ghost-get : goal.ghost-get
-ghost-get g a = 0

@@ -3,6 +3,3 @@ use Rattle.vt_list.proofs.node.set_last_next.Given as goal
 
 abbrev pub ghost-split : goal.ghost-split
 ghost-split g a = length a.self.owned - 1
-
-abbrev pub ghost-get : goal.ghost-get
-ghost-get g a = 0
