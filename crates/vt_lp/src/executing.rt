@@ -155,6 +155,7 @@ fn advance<M: EventModel>(
     ensures unchanged { M.IsState model.now process.old.state → IfErr result (λ fault. process.new ≡ process.old) }
     ensures refused { let fired = (simulation_of (M.handlers model.now) config).fire event.dest (triple_at process.old.state process.old.number process.old.stream) (unstamped event) in IfErr result (λ fault. IsAdvanceRefusal fired serial fault) }
 {
+    spare.read_ahead();
     let number = process.number;
     let sent = Sent {
         key: event.rank.key,

@@ -16,17 +16,42 @@ const MOST: usize = 16;
 /// goes on takes little memory anew, and writes where it wrote before.
 #[derive(Drop)]
 pub(crate) struct Spare<P: Copy, K: Copy> {
+    message: Option<Parcel<Letter<P>>>,
+    anti_message: Option<Parcel<Letter<P>>>,
+    event: Option<Parcel<PastEvent<P, K>>>,
     letters: List<Letter<P>>,
     events: List<PastEvent<P, K>>,
+    // What was read ahead, which means nothing.
+    seen: u64,
 }
 
 impl<P: Copy, K: Copy> Spare<P, K> {
     /// No memory.
     pub(crate) fn new(alloc: Global) -> Spare<P, K> {
         Spare {
+            message: None,
+            anti_message: None,
+            event: None,
             letters: List::new(alloc),
             events: List::new(alloc),
+            seen: 0,
         }
+    }
+
+    /// Reads the nodes at hand. They will be written soon, and so are on their way from memory together, and not each when it
+    /// is written.
+    pub(crate) fn read_ahead(&mut self) {
+        let mut seen = 0;
+        if let Some(letter) = &self.message {
+            seen ^= read_letter(letter.get());
+        }
+        if let Some(letter) = &self.anti_message {
+            seen ^= read_letter(letter.get());
+        }
+        if let Some(event) = &self.event {
+            seen ^= read_event(event.get());
+        }
+        self.seen = seen;
     }
 
     /// The letter in a node that was kept, or in a new one. Where memory is refused, it is handed back.
@@ -38,7 +63,7 @@ impl<P: Copy, K: Copy> Spare<P, K> {
         ensures made { IfOk result (λ parcel. parcel ≡ letter) }
         ensures item_returned { IfErr result (λ refused. refused ≡ letter) }
     {
-        let Some(mut parcel) = self.letters.pop_front() else {
+        let Some(mut parcel) = self.take_letter() else {
             return Parcel::new(alloc, letter);
         };
         parcel.replace(letter);
@@ -54,7 +79,7 @@ impl<P: Copy, K: Copy> Spare<P, K> {
         ensures made { IfOk result (λ parcel. parcel ≡ event) }
         ensures item_returned { IfErr result (λ refused. refused ≡ event) }
     {
-        let Some(mut parcel) = self.events.pop_front() else {
+        let Some(mut parcel) = self.take_event() else {
             return Parcel::new(alloc, event);
         };
         let PastEvent {
@@ -73,18 +98,56 @@ impl<P: Copy, K: Copy> Spare<P, K> {
     /// Keeps the nodes of a committed past event and of its letters, where there is room for them.
     pub(crate) fn collect(&mut self, event: Parcel<PastEvent<P, K>>) {
         let mut event = event;
+        if let Some(letter) = event.get_mut().anti_messages.pop_front() {
+            self.keep_letter(letter);
+        }
         if self.letters.len() < MOST {
             self.letters.append(&mut event.get_mut().anti_messages);
         }
-        if self.events.len() < MOST {
-            self.events.push_back(event);
+        if self.event.is_none() {
+            self.event = Some(event);
+        } else if self.events.len() < MOST {
+            self.events.push_front(event);
         }
+    }
+
+    // A node of a letter. Those at hand are given first: to find them, no other node is read.
+    fn take_letter(&mut self) -> Option<Parcel<Letter<P>>> {
+        if let Some(parcel) = self.message.take() {
+            return Some(parcel);
+        }
+        if let Some(parcel) = self.anti_message.take() {
+            return Some(parcel);
+        }
+        self.letters.pop_front()
+    }
+
+    // A node of a past event, the one at hand first.
+    fn take_event(&mut self) -> Option<Parcel<PastEvent<P, K>>> {
+        if let Some(parcel) = self.event.take() {
+            return Some(parcel);
+        }
+        self.events.pop_front()
     }
 
     // Keeps the node of a letter, where there is room for it.
     fn keep_letter(&mut self, letter: Parcel<Letter<P>>) {
-        if self.letters.len() < MOST {
+        if self.message.is_none() {
+            self.message = Some(letter);
+        } else if self.anti_message.is_none() {
+            self.anti_message = Some(letter);
+        } else if self.letters.len() < MOST {
             self.letters.push_front(letter);
         }
     }
+}
+
+// Words from both ends of a letter.
+fn read_letter<P: Copy>(letter: &Letter<P>) -> u64 {
+    letter.event.rank.key.time ^ u64::from(letter.event.dest)
+}
+
+// Words from everywhere in a past event.
+fn read_event<P: Copy, K: Copy>(event: &PastEvent<P, K>) -> u64 {
+    event.number ^ event.records.len() as u64 ^ event.anti_messages.len() as u64
 }
