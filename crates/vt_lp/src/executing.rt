@@ -26,7 +26,7 @@ use std::alloc::Global;
 use vt_key::{Event, Fault, Letter, MAX_COUNT, Sign};
 use vt_list::{List, Parcel};
 use vt_model::{
-    Bits, Config, Executed, MAX_DRAWS, MAX_RECORDS, Model as EventModel, Process, Record, Sent,
+    Bits, Config, MAX_DRAWS, MAX_RECORDS, Model as EventModel, Out, Process, Record, Sent, Undo,
 };
 use vt_pending::Pending;
 
@@ -162,12 +162,8 @@ fn advance<M: EventModel>(
         dest: event.dest,
         payload: event.payload,
     };
-    let Executed {
-        bits,
-        kept,
-        drawn,
-        out,
-    } = process.execute(model, config, sent);
+    let mut out = Out::new(config, event.dest, event.rank.key.time, number);
+    let Undo { bits, kept, drawn } = process.execute_into(model, config, sent, &mut out);
     if out.number() > MAX_COUNT || !is_counted(serial, out.sends()) {
         process.undo(model, sent, bits, kept, drawn, number);
         return Err(Fault::Exhausted);

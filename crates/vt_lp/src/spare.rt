@@ -19,10 +19,10 @@ pub(crate) struct Spare<P: Copy, K: Copy> {
     message: Option<Parcel<Letter<P>>>,
     anti_message: Option<Parcel<Letter<P>>>,
     event: Option<Parcel<PastEvent<P, K>>>,
-    letters: List<Letter<P>>,
-    events: List<PastEvent<P, K>>,
     // What was read ahead, which means nothing.
     seen: u64,
+    letters: List<Letter<P>>,
+    events: List<PastEvent<P, K>>,
 }
 
 impl<P: Copy, K: Copy> Spare<P, K> {
@@ -32,24 +32,24 @@ impl<P: Copy, K: Copy> Spare<P, K> {
             message: None,
             anti_message: None,
             event: None,
+            seen: 0,
             letters: List::new(alloc),
             events: List::new(alloc),
-            seen: 0,
         }
     }
 
-    /// Reads the nodes at hand. They will be written soon, and so are on their way from memory together, and not each when it
-    /// is written.
+    /// Reads the nodes that will be written next, so that they are on their way from memory together, and not each when it is
+    /// written.
     pub(crate) fn read_ahead(&mut self) {
         let mut seen = 0;
-        if let Some(letter) = &self.message {
-            seen ^= read_letter(letter.get());
+        if let Some(letter) = self.next_letter() {
+            seen ^= read_letter(letter);
         }
         if let Some(letter) = &self.anti_message {
             seen ^= read_letter(letter.get());
         }
-        if let Some(event) = &self.event {
-            seen ^= read_event(event.get());
+        if let Some(event) = self.next_event() {
+            seen ^= read_event(event);
         }
         self.seen = seen;
     }
@@ -108,6 +108,22 @@ impl<P: Copy, K: Copy> Spare<P, K> {
             self.event = Some(event);
         } else if self.events.len() < MOST {
             self.events.push_front(event);
+        }
+    }
+
+    // What stands in the node of a letter that is given next.
+    fn next_letter(&self) -> Option<&Letter<P>> {
+        match &self.message {
+            Some(letter) => Some(letter.get()),
+            None => self.letters.front(),
+        }
+    }
+
+    // What stands in the node of a past event that is given next.
+    fn next_event(&self) -> Option<&PastEvent<P, K>> {
+        match &self.event {
+            Some(event) => Some(event.get()),
+            None => self.events.front(),
         }
     }
 

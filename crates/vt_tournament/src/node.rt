@@ -37,6 +37,11 @@ impl Node {
         }
     }
 
+    /// Whether what the two nodes have of their ranks is one.
+    pub(crate) fn begins_like(&self, other: &Node) -> bool {
+        self.time == other.time && self.source == other.source
+    }
+
     /// Whether its contestant takes part. Mostly the node alone tells.
     pub(crate) fn takes_part(&self, ranks: &[Option<Rank>]) -> bool
         requires known { self.now.number < length ranks.now }

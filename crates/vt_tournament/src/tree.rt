@@ -63,7 +63,11 @@ impl Tournament {
         if rank.is_none() && self.winner().is_none() {
             return;
         }
-        if are_same(&self.ranks[number as usize], &rank) {
+        // Mostly the nodes alone tell that the entry changes, and the one before isn't read.
+        let leaf = self.nodes[self.ranks.len() + number as usize];
+        if leaf.begins_like(&Node::new(number, &rank))
+            && are_same(&self.ranks[number as usize], &rank)
+        {
             return;
         }
         self.ranks[number as usize] = rank;

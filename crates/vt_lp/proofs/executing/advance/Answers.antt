@@ -49,8 +49,16 @@ into_records-requires g c =
     let size_small : size (lone g.row.M-Payload.mir) < 2 ^ 32 = g.met.M.Model.payload_size in
     simp al (omega (arith, place, size_small))
 
-pub execute-drawn-requires-after_bounds : goal.execute-drawn-requires-after_bounds
-execute-drawn-requires-after_bounds g c κs within =
+pub new-out-requires : goal.new-out-requires
+new-out-requires g c =
+    let bounds = g.met.M.Model.payload_align in
+    let at = payload_place (align (lone g.row.M-Payload.mir)) bounds.0 bounds.1 in
+    let al = at.whole in let place = at.place in
+    let size_small : size (lone g.row.M-Payload.mir) < 2 ^ 32 = g.met.M.Model.payload_size in
+    (simp al (omega (arith, place, size_small)), (c.requires.known, (c.requires.early, c.requires.numbered)))
+
+pub execute_into-drawn-requires-after_bounds : goal.execute_into-drawn-requires-after_bounds
+execute_into-drawn-requires-after_bounds g c κs within =
     let bounds = g.met.M.Model.payload_align in
     let at = payload_place (align (lone g.row.M-Payload.mir)) bounds.0 bounds.1 in
     let al = at.whole in let place = at.place in
@@ -59,7 +67,7 @@ execute-drawn-requires-after_bounds g c κs within =
     let kept = kept_place (align (lone g.row.M-Kept.mir)) kept_bounds.0 kept_bounds.1 in
     let kept_al = kept.whole in let kept_at = kept.place in
     let kept_small : size (lone g.row.M-Kept.mir) < 2 ^ 32 = g.met.M.Model.kept_size in
-    (simp (al, kept_al) (omega (arith, place, size_small, kept_at, kept_small)), (c.requires.known, (c.requires.early, (c.requires.numbered, c.requires.stream))))
+    (simp (al, kept_al) (omega (arith, place, size_small, kept_at, kept_small)), (c.requires.known, (c.requires.stream, (c.new-out.ensures.fresh, c.new-out.ensures.whole))))
 
 pub returns-clause-remembered : goal.returns-clause-remembered
 returns-clause-remembered g c ok =
@@ -69,14 +77,14 @@ returns-clause-remembered g c ok =
     let p = c.args.process.now in
     let t = triple_at p.state p.number p.stream in
     let fired = sim.fire event.dest t (unstamped event) in
-    let sends = c.sends-2.ensures ∙ c.execute-drawn.ensures.fires.sends in
+    let sends = c.sends-2.ensures ∙ c.execute_into-drawn.ensures.fires.sends in
     remembers (g.M.Model.handlers c.args.model.now) config event.dest c.owner-worker.result c.args.serial event t
-    (triple_at c.execute-drawn.new.self.state c.execute-drawn.new.self.number c.execute-drawn.new.self.stream) _
-    ((λ j. record { state = c.execute-drawn.new.self.state; number = c.execute-drawn.ensures.number j; place = c.execute-drawn.new.self.stream.place }) ∙ c.execute-drawn.ensures.fires.triple)
-    (c.execute-drawn.ensures.undoes ok) refl c.execute-drawn.ensures.in_range c.execute-drawn.ensures.few
-    (ap (λ (w : Stream). w.place) c.execute-drawn.ensures.stream)
+    (triple_at c.execute_into-drawn.new.self.state c.execute_into-drawn.new.self.number c.execute_into-drawn.new.self.stream) _
+    ((λ j. record { state = c.execute_into-drawn.new.self.state; number = c.execute_into-drawn.ensures.number j; place = c.execute_into-drawn.new.self.stream.place }) ∙ c.execute_into-drawn.ensures.fires.triple)
+    (c.execute_into-drawn.ensures.undoes ok) refl c.execute_into-drawn.ensures.in_range c.execute_into-drawn.ensures.few
+    (ap (λ (w : Stream). w.place) c.execute_into-drawn.ensures.stream)
     (c.in-Ok.ensures.anti_messages ∙ ap (λ (xs : List (Sent _)). map (signed Minus) (stamped c.owner-worker.result c.args.serial xs)) sends)
-    (ap (λ (xs : List Record). rows_of event.rank.key xs) c.into_records.ensures ∙ c.execute-drawn.ensures.fires.rows)
+    (ap (λ (xs : List Record). rows_of event.rank.key xs) c.into_records.ensures ∙ c.execute_into-drawn.ensures.fires.rows)
 
 pub returns-clause-ready : goal.returns-clause-ready
 returns-clause-ready g c =
@@ -86,7 +94,7 @@ returns-clause-ready g c =
     let p = c.args.process.now in
     let t = triple_at p.state p.number p.stream in
     let fired = sim.fire event.dest t (unstamped event) in
-    let sends = c.sends-2.ensures ∙ c.execute-drawn.ensures.fires.sends in
+    let sends = c.sends-2.ensures ∙ c.execute_into-drawn.ensures.fires.sends in
     let lawful = lawful_of (g.M.Model.handlers c.args.model.now) config (g.met.M.Model.start_within c.args.model.now) (g.met.M.Model.forward_within c.args.model.now) in
     subst (λ (xs : List (Letter _)). All (IsReady config.lps config.end) xs)
     (sym (c.in-Ok.ensures.anti_messages ∙ ap (λ (xs : List (Sent _)). map (signed Minus) (stamped c.owner-worker.result c.args.serial xs)) sends))
@@ -104,7 +112,7 @@ returns-clause-within g c =
     let p = c.args.process.now in
     let t = triple_at p.state p.number p.stream in
     let fired = sim.fire event.dest t (unstamped event) in
-    let sends = c.sends-2.ensures ∙ c.execute-drawn.ensures.fires.sends in
+    let sends = c.sends-2.ensures ∙ c.execute_into-drawn.ensures.fires.sends in
     let lawful = lawful_of (g.M.Model.handlers c.args.model.now) config (g.met.M.Model.start_within c.args.model.now) (g.met.M.Model.forward_within c.args.model.now) in
     subst (λ (xs : List (Letter _)). AllWithinRun config xs)
     (sym (c.in-Ok.ensures.messages ∙ ap (λ (xs : List (Sent _)). map (signed Plus) (stamped c.owner-worker.result c.args.serial xs)) sends))
