@@ -160,7 +160,7 @@ impl<P: Copy, K: Copy> Spare<P, K> {
 
 // Words from both ends of a letter.
 fn read_letter<P: Copy>(letter: &Letter<P>) -> u64 {
-    letter.event.rank.key.time ^ u64::from(letter.event.dest)
+    letter.event.rank.key.number ^ u64::from(letter.event.dest)
 }
 
 // Words from everywhere in a past event.
