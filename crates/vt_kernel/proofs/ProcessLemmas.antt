@@ -25,6 +25,12 @@ get-map_of f [] i x at = absurd (let h : None ≡ Some x = at in cc)
 get-map_of f (y ∷ ys) zero x at = let h : Some y ≡ Some x = at in let same : y ≡ x = cc in ap (λ z. Some (f z)) same
 get-map_of f (y ∷ ys) (suc i) x at = get-map_of f ys i x at
 
+-- what is there already, put there again, changes nothing
+pub put-there : {X : Type 0} (xs : List X) (i : ℕ) (x : X) → slice_get xs i ≡ Some x → xs ≡ slice_set xs i x
+put-there [] i x at = refl
+put-there (y ∷ ys) zero x at = let h : Some y ≡ Some x = at in let same : y ≡ x = cc in ap (λ z. z ∷ ys) same
+put-there (y ∷ ys) (suc i) x at = ap (λ zs. y ∷ zs) (put-there ys i x at)
+
 -- ---- the processes of a worker
 
 module _ {S P : Type 0} (sim : Simulation S P) (w : ℕ) where
@@ -91,6 +97,12 @@ module _ {S P K : Type 0} where
   entered-changed entry [] place q within = absurd (omega arith)
   entered-changed entry (x ∷ xs) zero q within = refl
   entered-changed entry (x ∷ xs) (suc place) q within = ap (λ zs. entry x ∷ zs) (map-put entry xs place q)
+
+  -- what a process has entered into a tournament
+  pub entered-at : (entry : HeldProcess S P K → Option Rank) (held : List (HeldProcess S P K)) (place : ℕ) (q : HeldProcess S P K)
+      → slice_get held place ≡ Some q → slice_get (entries_of entry held) place ≡ Some (entry q)
+  entered-at entry [] place q at = absurd (let h : None ≡ Some q = at in cc)
+  entered-at entry (x ∷ xs) place q at = get-map_of entry (x ∷ xs) place q at
 
 -- the worker stands for the part after a step at the process of a place, once the process stands for the one after it
 pub stands-after : {S P K : Type 0} (handlers : Handlers S P K) (held : HeldWorker S P K) (part : Part P) (place : ℕ) (q : HeldProcess S P K) (effect : ProcessEffect P)

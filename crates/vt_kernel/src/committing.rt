@@ -1,6 +1,6 @@
 //! What a worker commits.
 
-ghost use Rattle.std.specs.Prelude.{◌≡◌, ℕ, ◌<◌, ◌≤◌, ◌^◌, length, slice_index_or, IfOk, IfErr};
+ghost use Rattle.std.specs.Prelude.{◌≡◌, ℕ, ◌<◌, ◌≤◌, ◌^◌, Some, length, slice_get, slice_index_or, slice_set, IfOk, IfErr};
 ghost use Rattle.vt_key.specs.declared.fault.Fault.TheVariants.{Memory};
 ghost use Rattle.vt_model.specs.Handler.{Handlers};
 ghost use Rattle.vt_model.specs.Simulation.{simulation_of};
@@ -13,7 +13,7 @@ use crate::kernel::Kernel;
 use crate::local::enter;
 use std::alloc::Global;
 use vt_key::{Fault, Time};
-use vt_lp::Lp;
+use vt_lp::{Lp, Spare};
 use vt_model::{Model as EventModel, Row};
 use vt_tournament::Tournament;
 
@@ -41,6 +41,7 @@ impl<M: EventModel> Kernel<M> {
             &mut self.processes,
             &mut self.ready,
             &mut self.unready,
+            &mut self.spare,
             self.floor,
         );
     }
@@ -51,6 +52,7 @@ fn forget_before<M: EventModel>(
     processes: &mut Vec<Lp<M>>,
     ready: &mut Tournament,
     unready: &mut Tournament,
+    spare: &mut Spare<M::Payload, M::Kept>,
     floor: Time,
 )
     requires few { length processes.old.items < 2 ^ 32 }
@@ -63,7 +65,27 @@ fn forget_before<M: EventModel>(
 {
     for place in 0..processes.len() {
         let process = &mut processes[place];
-        process.fossil(floor);
+        forget_at(process, ready, unready, spare, place, floor);
+    }
+}
+
+/// A process forgets its past events before the floor, and enters the tournaments anew where there was one.
+fn forget_at<M: EventModel>(
+    process: &mut Lp<M>,
+    ready: &mut Tournament,
+    unready: &mut Tournament,
+    spare: &mut Spare<M::Payload, M::Kept>,
+    place: usize,
+    floor: Time,
+)
+    requires small { place < 2 ^ 32 }
+    requires in_ready { slice_get ready.old place ≡ Some (ready_of process.old) }
+    requires in_unready { slice_get unready.old place ≡ Some (unready_of process.old) }
+    ensures forgotten { IsForgotten floor process.old process.new }
+    ensures ready { ready.new ≡ slice_set ready.old place (ready_of process.new) }
+    ensures unready { unready.new ≡ slice_set unready.old place (unready_of process.new) }
+{
+    if process.fossil_into(floor, spare) {
         enter(ready, unready, process, place);
     }
 }

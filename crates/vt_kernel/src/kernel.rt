@@ -7,7 +7,7 @@ use crate::counts::Counts;
 use std::marker::Model;
 use vt_key::{Colour, Letter, Mail, Time};
 use vt_list::List;
-use vt_lp::Lp;
+use vt_lp::{Lp, Spare};
 use vt_model::{Config, Model as EventModel};
 use vt_tournament::Tournament;
 
@@ -32,6 +32,8 @@ pub struct Kernel<M: EventModel> {
     pub(crate) ready: Tournament,
     // The least rank of what is pending or waits at each process, where that isn't an event that may be executed.
     pub(crate) unready: Tournament,
+    // Memory of committed events, for the next ones.
+    pub(crate) spare: Spare<M::Payload, M::Kept>,
 }
 
 impl<M: EventModel> Model for Kernel<M> {

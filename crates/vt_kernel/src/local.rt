@@ -33,11 +33,12 @@ impl<M: EventModel> Kernel<M> {
         let Some(place) = place_of(self.config, self.worker, lp) else {
             return Err(Fault::NotLawful);
         };
-        let result = self.processes[place].execute(
+        let result = self.processes[place].execute_reusing(
             alloc,
             model,
             &mut self.serial,
             &mut self.outbox,
+            &mut self.spare,
         );
         enter(
             &mut self.ready,

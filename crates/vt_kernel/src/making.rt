@@ -16,7 +16,7 @@ use crate::kernel::Kernel;
 use std::alloc::Global;
 use vt_key::{Colour, Fault, Letter, MAX_COUNT};
 use vt_list::List;
-use vt_lp::Lp;
+use vt_lp::{Lp, Spare};
 use vt_model::{Config, Model as EventModel, Out, Process};
 use vt_tournament::Tournament;
 
@@ -93,6 +93,7 @@ fn open<M: EventModel>(
         serial,
         ready,
         unready,
+        spare: Spare::new(alloc),
     })
 }
 

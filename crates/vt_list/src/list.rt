@@ -149,6 +149,11 @@ impl<T> List<T> {
         self.count
     }
 
+    /// The allocator that the list was made with.
+    pub fn allocator(&self) -> Global {
+        self.alloc
+    }
+
     /// Whether there is no item. It looks for a first node and reads no counter.
     pub fn is_empty(&self) -> bool
         ensures { IsTrue result ↔ (self.now ≡ []) }

@@ -1,6 +1,6 @@
 //! Past events that are committed: their rows, and how they are forgotten.
 
-ghost use Rattle.std.specs.Prelude.{◌≡◌, ◌++◌, List, map, IfOk, IfErr};
+ghost use Rattle.std.specs.Prelude.{◌≡◌, ◌++◌, List, map, IsFalse, IfOk, IfErr};
 ghost use Rattle.vt_key.specs.declared.fault.Fault.TheVariants.{Memory};
 ghost use Rattle.vt_model.specs.declared.rows.Row.{Row};
 ghost use Rattle.vt_model.specs.Handler.{Handlers};
@@ -58,22 +58,37 @@ impl<M: EventModel> Lp<M> {
         ensures committed { (handlers : Handlers _ _ _) (h : LogicalProcess _) → StandsFor handlers self.old h → StandsFor handlers self.new (process_after_commit floor h) }
         ensures same { (self.new.lp ≡ self.old.lp) × (self.new.config ≡ self.old.config) × (self.new.triple ≡ self.old.triple) × (self.new.pending ≡ self.old.pending) × (self.new.waiting ≡ self.old.waiting) }
     {
-        drop_ripe(&mut self.past, &mut self.spare, floor);
+        let mut spare = Spare::new(self.past.events().allocator());
+        let _ = self.fossil_into(floor, &mut spare);
+    }
+
+    /// [`Lp::fossil`], where the memory of the committed events is kept, for [`Lp::execute_reusing`]. It tells whether there was
+    /// one: else all is as it was.
+    pub fn fossil_into(&mut self, floor: Time, spare: &mut Spare<M::Payload, M::Kept>) -> bool
+        ensures committed { (handlers : Handlers _ _ _) (h : LogicalProcess _) → StandsFor handlers self.old h → StandsFor handlers self.new (process_after_commit floor h) }
+        ensures same { (self.new.lp ≡ self.old.lp) × (self.new.config ≡ self.old.config) × (self.new.triple ≡ self.old.triple) × (self.new.pending ≡ self.old.pending) × (self.new.waiting ≡ self.old.waiting) }
+        ensures unchanged { IsFalse result → self.new ≡ self.old }
+    {
+        drop_ripe(&mut self.past, spare, floor)
     }
 }
 
-/// Drops the first past events, as many as are before the floor, and keeps their memory.
-fn drop_ripe<P: Copy, K: Copy>(past: &mut Past<P, K>, spare: &mut Spare<P, K>, floor: Time)
-    ensures { past.new ≡ unripe_events floor past.old }
+/// Drops the first past events, as many as are before the floor, and keeps their memory. It tells whether there was one.
+fn drop_ripe<P: Copy, K: Copy>(past: &mut Past<P, K>, spare: &mut Spare<P, K>, floor: Time) -> bool
+    ensures unripe { past.new ≡ unripe_events floor past.old }
+    ensures unchanged { IsFalse result → past.new ≡ past.old }
 {
+    let mut some = false;
     while let Some(first) = past.front() {
         if first.letter.get().event.rank.key.time >= floor {
             break;
         }
         if let Some(committed) = past.pop_front() {
             spare.collect(committed);
+            some = true;
         }
     }
+    some
 }
 
 /// Appends the rows of the first past events, as many as are before the floor. Refused memory, some may have been appended.

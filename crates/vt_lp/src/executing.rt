@@ -70,13 +70,34 @@ impl<M: EventModel> Lp<M> {
         ensures within { AllWithinRun self.old.config outbox.old → AllWithinRun self.old.config outbox.new }
         ensures same { (self.new.lp ≡ self.old.lp) × (self.new.config ≡ self.old.config) }
     {
+        self.execute_reusing(alloc, model, serial, outbox, &mut Spare::new(alloc))
+    }
+
+    /// [`Lp::execute`], where memory of committed events is written anew, and other memory is taken only where there is no more
+    /// of it.
+    pub fn execute_reusing(
+        &mut self,
+        alloc: Global,
+        model: &M,
+        serial: &mut u64,
+        outbox: &mut List<Letter<M::Payload>>,
+        spare: &mut Spare<M::Payload, M::Kept>,
+    ) -> Result<(), Fault>
+        ensures done { let sim = simulation_of (M.handlers model.now) self.old.config in (h : LogicalProcess _) → StandsFor (M.handlers model.now) self.old h → IfOk result (λ _. IsDone (M.handlers model.now) self.new (execute_process sim self.old.lp (self.old.lp % self.old.config.workers) serial.old h) outbox.old outbox.new serial.old serial.new) }
+        ensures refused { let sim = simulation_of (M.handlers model.now) self.old.config in (h : LogicalProcess _) → StandsFor (M.handlers model.now) self.old h → IfErr result (λ fault. IsExecuteRefusal sim self.old.lp serial.old (execute_process sim self.old.lp (self.old.lp % self.old.config.workers) serial.old h) fault) }
+        ensures unchanged { (h : LogicalProcess _) → StandsFor (M.handlers model.now) self.old h → IfErr result (λ fault. self.new ≡ self.old) }
+        ensures kept { IfErr result (λ fault. (outbox.new ≡ outbox.old) × (serial.new ≡ serial.old)) }
+        ensures counted { IfOk result (λ _. (self.new.triple.number ≤ MAX_COUNT) × (serial.new ≤ MAX_COUNT)) }
+        ensures within { AllWithinRun self.old.config outbox.old → AllWithinRun self.old.config outbox.new }
+        ensures same { (self.new.lp ≡ self.old.lp) × (self.new.config ≡ self.old.config) }
+    {
         let Some(event) = ready_event(&self.pending, &self.past) else {
             return Err(Fault::NotLawful);
         };
         let (trail, mut messages) = match advance(
             &mut self.process,
             alloc,
-            &mut self.spare,
+            spare,
             model,
             self.config,
             *serial,
@@ -89,13 +110,7 @@ impl<M: EventModel> Lp<M> {
         let kept = trail.kept;
         let drawn = trail.drawn;
         let number = trail.number;
-        if let Err(fault) = keep(
-            alloc,
-            &mut self.spare,
-            &mut self.pending,
-            &mut self.past,
-            trail,
-        ) {
+        if let Err(fault) = keep(alloc, spare, &mut self.pending, &mut self.past, trail) {
             let sent = Sent {
                 key: event.rank.key,
                 dest: event.dest,

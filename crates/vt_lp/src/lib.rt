@@ -17,3 +17,4 @@ mod starting;
 mod undoing;
 
 pub use lp::Lp;
+pub use spare::Spare;

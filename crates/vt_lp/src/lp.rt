@@ -6,7 +6,6 @@ ghost use Rattle.vt_steps.specs.Letters.{least_time};
 ghost use Rattle.vt_lp.specs.Guards.{ready_rank, lesser_rank};
 
 use crate::past::Past;
-use crate::spare::Spare;
 use std::marker::Model;
 use vt_key::{Letter, Rank, Time};
 use vt_model::{Config, Model as EventModel, Process};
@@ -25,8 +24,6 @@ pub struct Lp<M: EventModel> {
     pub(crate) past: Past<M::Payload, M::Kept>,
     pub(crate) pending: Pending<M::Payload>,
     pub(crate) waiting: Pending<M::Payload>,
-    // Memory of committed events, for the next ones.
-    pub(crate) spare: Spare<M::Payload, M::Kept>,
     // Last, since the random words that it keeps are many.
     pub(crate) process: Process<M>,
 }

@@ -7,15 +7,12 @@ use std::alloc::Global;
 use vt_key::Letter;
 use vt_list::{List, Parcel};
 
-// A process that has the memory of so many letters takes in no more of them, and likewise of past events.
-const MOST: usize = 16;
-
 /// Nodes of committed past events and of their letters, to be written anew. What stands in them means nothing.
 ///
 /// An event needs a node, and one for each message and each anti-message: as many as a committed one leaves. So a process that
 /// goes on takes little memory anew, and writes where it wrote before.
 #[derive(Drop)]
-pub(crate) struct Spare<P: Copy, K: Copy> {
+pub struct Spare<P: Copy, K: Copy> {
     message: Option<Parcel<Letter<P>>>,
     anti_message: Option<Parcel<Letter<P>>>,
     event: Option<Parcel<PastEvent<P, K>>>,
@@ -27,7 +24,7 @@ pub(crate) struct Spare<P: Copy, K: Copy> {
 
 impl<P: Copy, K: Copy> Spare<P, K> {
     /// No memory.
-    pub(crate) fn new(alloc: Global) -> Spare<P, K> {
+    pub fn new(alloc: Global) -> Spare<P, K> {
         Spare {
             message: None,
             anti_message: None,
@@ -95,18 +92,16 @@ impl<P: Copy, K: Copy> Spare<P, K> {
         Ok(parcel)
     }
 
-    /// Keeps the nodes of a committed past event and of its letters, where there is room for them.
+    /// Keeps the nodes of a committed past event and of its letters.
     pub(crate) fn collect(&mut self, event: Parcel<PastEvent<P, K>>) {
         let mut event = event;
         if let Some(letter) = event.get_mut().anti_messages.pop_front() {
             self.keep_letter(letter);
         }
-        if self.letters.len() < MOST {
-            self.letters.append(&mut event.get_mut().anti_messages);
-        }
+        self.letters.append(&mut event.get_mut().anti_messages);
         if self.event.is_none() {
             self.event = Some(event);
-        } else if self.events.len() < MOST {
+        } else {
             self.events.push_front(event);
         }
     }
@@ -146,13 +141,13 @@ impl<P: Copy, K: Copy> Spare<P, K> {
         self.events.pop_front()
     }
 
-    // Keeps the node of a letter, where there is room for it.
+    // Keeps the node of a letter.
     fn keep_letter(&mut self, letter: Parcel<Letter<P>>) {
         if self.message.is_none() {
             self.message = Some(letter);
         } else if self.anti_message.is_none() {
             self.anti_message = Some(letter);
-        } else if self.letters.len() < MOST {
+        } else {
             self.letters.push_front(letter);
         }
     }

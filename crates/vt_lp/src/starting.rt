@@ -58,7 +58,6 @@ impl<M: EventModel> Lp<M> {
             past: Past::new(alloc),
             pending: Pending::new(alloc),
             waiting: Pending::new(alloc),
-            spare,
         })
     }
 }

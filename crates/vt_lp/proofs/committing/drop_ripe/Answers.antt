@@ -4,16 +4,16 @@ use Rattle.vt_key.specs.declared.letter.Letter.{Letter}
 use Rattle.vt_lp.proofs.RipeLemmas.{unripe_late, unripe_none}
 use Rattle.vt_lp.proofs.committing.drop_ripe.Goals as goal
 
-pub returns-then-get-floor : goal.returns-then-get-floor
-returns-then-get-floor g c =
+pub returns-then-get-floor-clause-unripe : goal.returns-then-get-floor-clause-unripe
+returns-then-get-floor-clause-unripe g c =
     let past = c.loop-first.past in
     let first = c.in-Some.first.now in
     let at : slice_get past 0 ≡ Some first = sym c.front.ensures ∙ ap option_copied c.in-Some.is in
     let late : c.args.floor ≤ first.letter.event.rank.key.time = subst (λ (l : Letter _). c.args.floor ≤ l.event.rank.key.time) c.get.ensures c.if-get-floor.true in
-    sym (unripe_late c.args.floor past first at late) ∙ c.loop-first.invariant
+    sym (unripe_late c.args.floor past first at late) ∙ c.loop-first.invariant.unripe
 
-pub returns-in_default : goal.returns-in_default
-returns-in_default g c =
+pub returns-in_default-clause-unripe : goal.returns-in_default-clause-unripe
+returns-in_default-clause-unripe g c =
     let past = c.loop-first.past in
     let at : slice_get past 0 ≡ None = sym c.front.ensures ∙ ap option_copied c.in_default.is in
-    sym (unripe_none c.args.floor past at) ∙ c.loop-first.invariant
+    sym (unripe_none c.args.floor past at) ∙ c.loop-first.invariant.unripe

@@ -1,9 +1,12 @@
-use Rattle.std.proofs.Common.{◌≡◌, length}
+use Rattle.std.proofs.Common.{◌≡◌, IsFalse, length}
 use Rattle.vt_lp.specs.Ripe.{unripe_events}
 use Rattle.vt_lp.proofs.committing.drop_ripe.Given as goal
 
 abbrev pub invariant-loop-first : goal.invariant-loop-first
-invariant-loop-first g l = unripe_events l.fn.floor l.past ≡ unripe_events l.fn.floor l.fn.past
+invariant-loop-first g l = record {
+  unripe : unripe_events l.fn.floor l.past ≡ unripe_events l.fn.floor l.fn.past;
+  unchanged : IsFalse l.some → l.past ≡ l.fn.past;
+}
 
 abbrev pub decreases-loop-first : goal.decreases-loop-first
 decreases-loop-first g l = length l.past

@@ -58,15 +58,15 @@ invariant_of-self g c =
     let own = c.in-Some.ensures.own in
     let less = place-within c.self.invariant c.args.lp c.in-Some.place i.config.some_worker own.0 own.1 own.2 in
     let old = c.index_mut.result.now in
-    let new = c.execute-result.new.self in
+    let new = c.execute_reusing-result.new.self in
     let at = index-get i.processes.items c.in-Some.place old less (sym c.index_mut.ensures.value) in
     let f = process-at i.config i.worker 0 c.in-Some.place i.processes.items old c.self.invariant.own_processes at in
     let again : c.index.result.now ≡ new = found-again i.processes.items c.in-Some.place old new c.index.result.now at c.index.ensures in
-    let same = c.execute-result.ensures.same in
-    let within = subst (λ (k : Config). AllWithinRun k i.outbox → AllWithinRun k c.execute-result.new.outbox) f.1 c.execute-result.ensures.within in
-    let few : c.execute-result.new.serial ≤ MAX_COUNT = either-way c.execute-result.result (λ _ counted. counted.1) (λ _ kept. subst (λ n. n ≤ MAX_COUNT) (sym kept.1) c.self.invariant.few_made) c.execute-result.ensures.counted c.execute-result.ensures.kept in
+    let same = c.execute_reusing-result.ensures.same in
+    let within = subst (λ (k : Config). AllWithinRun k i.outbox → AllWithinRun k c.execute_reusing-result.new.outbox) f.1 c.execute_reusing-result.ensures.within in
+    let few : c.execute_reusing-result.new.serial ≤ MAX_COUNT = either-way c.execute_reusing-result.result (λ _ counted. counted.1) (λ _ kept. subst (λ n. n ≤ MAX_COUNT) (sym kept.1) c.self.invariant.few_made) c.execute_reusing-result.ensures.counted c.execute_reusing-result.ensures.kept in
     entered i.ready i.unready c.in-Some.place new c.index.result.now c.enter.new.ready c.enter.new.unready again c.enter.ensures.ready c.enter.ensures.unready
-    (inside-changed c.self.invariant c.in-Some.place old new c.execute-result.new.outbox c.execute-result.new.serial at same.0 same.1 (subst (λ (q : HeldProcess _ _ _). TellsLeast q) again c.enter.ensures.told) (within c.self.invariant.sendable) few)
+    (inside-changed c.self.invariant c.in-Some.place old new c.execute_reusing-result.new.outbox c.execute_reusing-result.new.serial at same.0 same.1 (subst (λ (q : HeldProcess _ _ _). TellsLeast q) again c.enter.ensures.told) (within c.self.invariant.sendable) few)
 
 pub returns-clause-done : goal.returns-clause-done
 returns-clause-done g c part s =
@@ -76,17 +76,17 @@ returns-clause-done g c part s =
     let own = c.in-Some.ensures.own in
     let less = place-within c.self.invariant c.args.lp c.in-Some.place i.config.some_worker own.0 own.1 own.2 in
     let old = c.index_mut.result.now in
-    let new = c.execute-result.new.self in
+    let new = c.execute_reusing-result.new.self in
     let at = index-get i.processes.items c.in-Some.place old less (sym c.index_mut.ensures.value) in
-    let same = c.execute-result.ensures.same in
+    let same = c.execute_reusing-result.ensures.same in
     let h = subst (λ (v : HeldWorker _ _ _). StandsFor handlers v part) (sym c.self.view_is) s in
     let f = found handlers held part c.args.lp old h c.self.invariant.own_processes own.1 (subst (λ k. slice_get i.processes.items k ≡ Some old) own.0 at) in
     let one = same-execute handlers held part c.args.lp old f.process h own.1 f.lp f.config in
-    subst (λ (v : HeldWorker _ _ _). IfOk c.execute-result.result (λ _. IsDone handlers (worker_view i.worker i.config (slice_set i.processes.items c.in-Some.place new) c.execute-result.new.outbox i.arrived.items i.colour i.sent i.got i.red_minimum i.floor c.execute-result.new.serial)
+    subst (λ (v : HeldWorker _ _ _). IfOk c.execute_reusing-result.result (λ _. IsDone handlers (worker_view i.worker i.config (slice_set i.processes.items c.in-Some.place new) c.execute_reusing-result.new.outbox i.arrived.items i.colour i.sent i.got i.red_minimum i.floor c.execute_reusing-result.new.serial)
     (local_step (simulation_of handlers v.config) v.worker (step.Execute c.args.lp) part))) c.self.view_is
-    (if_ok-more c.execute-result.result (λ _ done. at-found-done handlers held c.self.invariant.own_processes part h c.args.lp c.in-Some.place old new c.execute-result.new.outbox c.execute-result.new.serial
+    (if_ok-more c.execute_reusing-result.result (λ _ done. at-found-done handlers held c.self.invariant.own_processes part h c.args.lp c.in-Some.place old new c.execute_reusing-result.new.outbox c.execute_reusing-result.new.serial
     (execute-step handlers held part c.args.lp) own.0 own.1 f same.0 same.1
-    (subst (λ x. ProcessIsDone handlers new x i.outbox c.execute-result.new.outbox i.serial c.execute-result.new.serial) one done)) (c.execute-result.ensures.done f.process f.stands))
+    (subst (λ x. ProcessIsDone handlers new x i.outbox c.execute_reusing-result.new.outbox i.serial c.execute_reusing-result.new.serial) one done)) (c.execute_reusing-result.ensures.done f.process f.stands))
 
 pub returns-clause-counted : goal.returns-clause-counted
 returns-clause-counted g c part s =
@@ -95,17 +95,17 @@ returns-clause-counted g c part s =
     let own = c.in-Some.ensures.own in
     let less = place-within c.self.invariant c.args.lp c.in-Some.place i.config.some_worker own.0 own.1 own.2 in
     let old = c.index_mut.result.now in
-    let new = c.execute-result.new.self in
+    let new = c.execute_reusing-result.new.self in
     let at = index-get i.processes.items c.in-Some.place old less (sym c.index_mut.ensures.value) in
-    let same = c.execute-result.ensures.same in
+    let same = c.execute_reusing-result.ensures.same in
     let who = process-at i.config i.worker 0 c.in-Some.place i.processes.items old c.self.invariant.own_processes at in
     let processes = slice_set i.processes.items c.in-Some.place new in
-    let held = worker_view i.worker i.config processes c.execute-result.new.outbox i.arrived.items i.colour i.sent i.got i.red_minimum i.floor c.execute-result.new.serial in
+    let held = worker_view i.worker i.config processes c.execute_reusing-result.new.outbox i.arrived.items i.colour i.sent i.got i.red_minimum i.floor c.execute_reusing-result.new.serial in
     let are = processes-changed i.config i.worker 0 c.in-Some.place i.processes.items new c.self.invariant.own_processes (same.0 ∙ who.0) (same.1 ∙ who.1) in
     let there : slice_get processes (c.args.lp / i.config.workers) ≡ Some new = subst (λ k. slice_get processes k ≡ Some new) own.0 (get-put_same i.processes.items c.in-Some.place old new at) in
     let f = found handlers held part c.args.lp new s are own.1 there in
-    subst (λ (v : HeldWorker _ _ _). IfOk c.execute-result.result (λ _. AreWithinLimits (simulation_of handlers v.config) c.args.lp part)) c.self.view_is
-    (if_ok-more c.execute-result.result (λ _ counted. within-limits handlers held part c.args.lp new s f counted.0 counted.1) c.execute-result.ensures.counted)
+    subst (λ (v : HeldWorker _ _ _). IfOk c.execute_reusing-result.result (λ _. AreWithinLimits (simulation_of handlers v.config) c.args.lp part)) c.self.view_is
+    (if_ok-more c.execute_reusing-result.result (λ _ counted. within-limits handlers held part c.args.lp new s f counted.0 counted.1) c.execute_reusing-result.ensures.counted)
 
 pub returns-clause-refused : goal.returns-clause-refused
 returns-clause-refused g c part s =
@@ -121,14 +121,14 @@ returns-clause-refused g c part s =
     let f = found handlers held part c.args.lp old h c.self.invariant.own_processes own.1 (subst (λ k. slice_get i.processes.items k ≡ Some old) own.0 at) in
     let one = same-execute handlers held part c.args.lp old f.process h own.1 f.lp f.config in
     let at_worker = own-step sim i.worker c.args.lp (execute-step handlers held part c.args.lp) part f.process own.1 f.there in
-    subst (λ (v : HeldWorker _ _ _). IfErr c.execute-result.result (λ fault. IsExecuteRefusal (simulation_of handlers v.config) c.args.lp (local_step (simulation_of handlers v.config) v.worker (step.Execute c.args.lp) part) fault)) c.self.view_is
-    (if_err-more c.execute-result.result (λ fault why.
+    subst (λ (v : HeldWorker _ _ _). IfErr c.execute_reusing-result.result (λ fault. IsExecuteRefusal (simulation_of handlers v.config) c.args.lp (local_step (simulation_of handlers v.config) v.worker (step.Execute c.args.lp) part) fault)) c.self.view_is
+    (if_err-more c.execute_reusing-result.result (λ fault why.
     subst (λ x. IsExecuteRefusal sim c.args.lp x fault) (sym at_worker)
     (refusal-at handlers held part c.args.lp (execute-step handlers held part c.args.lp f.process) f.process fault h f.there
     (subst (λ x. ProcessRefusal sim c.args.lp i.serial x fault) one
     (subst (λ k. ProcessRefusal sim k i.serial (execute_process (simulation_of handlers old.config) old.lp (old.lp % old.config.workers) i.serial f.process) fault) f.lp
     (subst (λ (k : Config). ProcessRefusal (simulation_of handlers k) old.lp i.serial (execute_process (simulation_of handlers old.config) old.lp (old.lp % old.config.workers) i.serial f.process) fault) f.config why)))))
-    (c.execute-result.ensures.refused f.process f.stands))
+    (c.execute_reusing-result.ensures.refused f.process f.stands))
 
 pub returns-clause-unchanged : goal.returns-clause-unchanged
 returns-clause-unchanged g c part s =
@@ -138,10 +138,10 @@ returns-clause-unchanged g c part s =
     let own = c.in-Some.ensures.own in
     let less = place-within c.self.invariant c.args.lp c.in-Some.place i.config.some_worker own.0 own.1 own.2 in
     let old = c.index_mut.result.now in
-    let new = c.execute-result.new.self in
+    let new = c.execute_reusing-result.new.self in
     let at = index-get i.processes.items c.in-Some.place old less (sym c.index_mut.ensures.value) in
     let h = subst (λ (v : HeldWorker _ _ _). StandsFor handlers v part) (sym c.self.view_is) s in
     let f = found handlers held part c.args.lp old h c.self.invariant.own_processes own.1 (subst (λ k. slice_get i.processes.items k ≡ Some old) own.0 at) in
-    both-errors c.execute-result.result (λ _ same kept.
+    both-errors c.execute_reusing-result.result (λ _ same kept.
     (λ j. worker_view i.worker i.config (written-same i.processes.items c.in-Some.place old new at same j) (kept.0 j) i.arrived.items i.colour i.sent i.got i.red_minimum i.floor (kept.1 j)) ∙ c.self.view_is)
-    (c.execute-result.ensures.unchanged f.process f.stands) c.execute-result.ensures.kept
+    (c.execute_reusing-result.ensures.unchanged f.process f.stands) c.execute_reusing-result.ensures.kept

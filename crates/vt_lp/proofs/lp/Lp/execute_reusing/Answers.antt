@@ -17,7 +17,7 @@ use Rattle.vt_lp.specs.Held.{HeldProcess, StandsFor, AllWithinRun, IsWithinRun, 
 use Rattle.vt_lp.specs.Guards.{IsDone, IsExecuteRefusal}
 use Rattle.vt_lp.proofs.Stamping.{length-letters}
 use Rattle.vt_lp.proofs.ExecuteLemmas.{ready-some, ready-own, execute-none, executes, refuses, came-back, inside-at, inside-more}
-use Rattle.vt_lp.proofs.lp.Lp.execute.Goals as goal
+use Rattle.vt_lp.proofs.lp.Lp.execute_reusing.Goals as goal
 
 pub returns-in_default-clause-refused : goal.returns-in_default-clause-refused
 returns-in_default-clause-refused g c h s =
