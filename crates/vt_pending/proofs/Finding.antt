@@ -2,8 +2,6 @@
 use Rattle.std.proofs.Common.{Bool, true, false, ◌||◌, if◌then◌else◌, ◌≡◌, refl, ap}
 use Rattle.std.specs.Prelude.{List, [], ◌∷◌, Option, Some, None, IfNone, find, is_some}
 use Rattle.std.specs.List.{list_any}
-use Rattle.std.specs.Option.{option_copied}
-use Rattle.std.proofs.Common.{Bor}
 use Rattle.vt_list.specs.First.{without_first}
 
 module _ {X : Type 0} (test : X → Bool) where
@@ -20,11 +18,6 @@ module _ {X : Type 0} (test : X → Bool) where
         | true ↦ λ e. absurd (let h : true ≡ false = e in cc)
         | false ↦ λ e. ap (λ l. x ∷ l) (without-none xs e)
       ] none
-
--- what a reference is found or not found tells of what it points to
-pub is_some-copied : {X : Type 0} (o : Option (Bor X)) → is_some (option_copied o) ≡ is_some o
-is_some-copied None = refl
-is_some-copied (Some x) = refl
 
 -- a fact for nothing, from one that says that nothing is there
 pub IfNone-from : {X : Type 0} (o : Option X) (Q : Type 0) → (is_some o ≡ false → Q) → IfNone o Q

@@ -1,2 +1,3 @@
 mod Finding
+mod Holding
 mod Rising

@@ -3,7 +3,7 @@
 ghost use Rattle.std.specs.Prelude.{◌≡◌, ◌-◌, ◌%◌, ◌^◌, ◌↔◌, [], ◌∷◌, false, length, find, slice_get, MatchOption, IfNone, IsNone, IsTrue};
 ghost use Rattle.std.specs.List.{list_any};
 ghost use Rattle.std.specs.Option.{option_copied};
-ghost use Rattle.vt_pending.specs.Letters.{has_rank, has_stamp, holds_rank, first_of_stamp, insert_letter, without_stamp, IsRising};
+ghost use Rattle.vt_pending.specs.Letters.{has_stamp, holds_rank, first_of_stamp, insert_letter, without_stamp, IsRising};
 
 use std::alloc::Global;
 use std::marker::Model;
@@ -54,11 +54,15 @@ impl<P: Copy> Pending<P> {
         self.letters.is_empty()
     }
 
-    /// Whether a letter of this rank is there.
+    /// Whether a letter of this rank is there. Letters stand in rising rank, so of those from the front the first that isn't
+    /// before the rank has it, or none has.
     pub fn holds(&self, rank: Rank) -> bool
         ensures { result ≡ holds_rank rank self.now }
     {
-        self.letters.find(&HasRank(rank)).is_some()
+        match self.letters.find(&NotBefore(rank)) {
+            Some(letter) => letter.event.rank.is_same(&rank),
+            None => false,
+        }
     }
 
     /// Puts a letter in its place: before the first one of greater rank, or last. No letter of its rank may be there,
@@ -113,17 +117,18 @@ impl<P: Copy> Pending<P> {
     }
 }
 
-// Passes a letter of this rank.
+// Passes a letter that isn't before this rank.
 #[derive(Drop)]
-struct HasRank(Rank);
+struct NotBefore(Rank);
 
-impl<P> Predicate<Letter<P>> for HasRank {
-    ghost use Rattle.vt_pending.specs.Letters.{has_rank};
+impl<P> Predicate<Letter<P>> for NotBefore {
+    ghost use Rattle.std.specs.Prelude.{not};
+    ghost use Rattle.vt_key.specs.Order.{rank_before};
 
-    ghost passes = { λ t letter. has_rank t.0 letter };
+    ghost passes = { λ t letter. not (rank_before letter.event.rank t.0) };
 
     fn test(&self, letter: &Letter<P>) -> bool {
-        letter.event.rank.is_same(&self.0)
+        !letter.event.rank.is_before(&self.0)
     }
 }
 
