@@ -5,7 +5,7 @@ ghost use Rattle.std.specs.Prelude.{◌≡◌, IfOk, IfErr};
 use crate::entry::PastEvent;
 use std::alloc::Global;
 use vt_key::Letter;
-use vt_list::{List, Parcel};
+use vt_list::{List, Parcel, Stack};
 
 // A process that has the memory of so many letters takes in no more of them, and likewise of past events.
 const MOST: usize = 16;
@@ -21,8 +21,8 @@ pub(crate) struct Spare<P: Copy, K: Copy> {
     event: Option<Parcel<PastEvent<P, K>>>,
     // What was read ahead, which means nothing.
     seen: u64,
-    letters: List<Letter<P>>,
-    events: List<PastEvent<P, K>>,
+    letters: Stack<Letter<P>>,
+    events: Stack<PastEvent<P, K>>,
 }
 
 impl<P: Copy, K: Copy> Spare<P, K> {
@@ -33,8 +33,8 @@ impl<P: Copy, K: Copy> Spare<P, K> {
             anti_message: None,
             event: None,
             seen: 0,
-            letters: List::new(alloc),
-            events: List::new(alloc),
+            letters: Stack::new(alloc),
+            events: Stack::new(alloc),
         }
     }
 
@@ -98,16 +98,11 @@ impl<P: Copy, K: Copy> Spare<P, K> {
     /// Keeps the nodes of a committed past event and of its letters, where there is room for them.
     pub(crate) fn collect(&mut self, event: Parcel<PastEvent<P, K>>) {
         let mut event = event;
-        if let Some(letter) = event.get_mut().anti_messages.pop_front() {
-            self.keep_letter(letter);
-        }
-        if self.letters.len() < MOST {
-            self.letters.append(&mut event.get_mut().anti_messages);
-        }
+        self.keep_letters(&mut event.get_mut().anti_messages);
         if self.event.is_none() {
             self.event = Some(event);
         } else if self.events.len() < MOST {
-            self.events.push_front(event);
+            self.events.push(event);
         }
     }
 
@@ -115,7 +110,7 @@ impl<P: Copy, K: Copy> Spare<P, K> {
     fn next_letter(&self) -> Option<&Letter<P>> {
         match &self.message {
             Some(letter) => Some(letter.get()),
-            None => self.letters.front(),
+            None => self.letters.top(),
         }
     }
 
@@ -123,7 +118,7 @@ impl<P: Copy, K: Copy> Spare<P, K> {
     fn next_event(&self) -> Option<&PastEvent<P, K>> {
         match &self.event {
             Some(event) => Some(event.get()),
-            None => self.events.front(),
+            None => self.events.top(),
         }
     }
 
@@ -135,7 +130,7 @@ impl<P: Copy, K: Copy> Spare<P, K> {
         if let Some(parcel) = self.anti_message.take() {
             return Some(parcel);
         }
-        self.letters.pop_front()
+        self.letters.pop()
     }
 
     // A node of a past event, the one at hand first.
@@ -143,7 +138,22 @@ impl<P: Copy, K: Copy> Spare<P, K> {
         if let Some(parcel) = self.event.take() {
             return Some(parcel);
         }
-        self.events.pop_front()
+        self.events.pop()
+    }
+
+    // Keeps the nodes of letters, while there is room for them. The others stay where they are.
+    fn keep_letters(&mut self, letters: &mut List<Letter<P>>) {
+        while self.has_room() {
+            let Some(letter) = letters.pop_front() else {
+                return;
+            };
+            self.keep_letter(letter);
+        }
+    }
+
+    // Whether there is room for the node of a letter.
+    fn has_room(&self) -> bool {
+        self.message.is_none() || self.anti_message.is_none() || self.letters.len() < MOST
     }
 
     // Keeps the node of a letter, where there is room for it.
@@ -153,7 +163,7 @@ impl<P: Copy, K: Copy> Spare<P, K> {
         } else if self.anti_message.is_none() {
             self.anti_message = Some(letter);
         } else if self.letters.len() < MOST {
-            self.letters.push_front(letter);
+            self.letters.push(letter);
         }
     }
 }
