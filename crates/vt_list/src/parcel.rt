@@ -1,4 +1,4 @@
-//! An item in a node of its own, which is in no list.
+//! An item in a node of its own, which is in no list and no stack.
 
 ghost use Rattle.std.specs.Prelude.{◌≡◌, IfOk, IfErr};
 
@@ -7,9 +7,9 @@ use std::alloc::Global;
 use std::marker::Model;
 use std::mem::replace;
 
-/// An item in a node of its own, which is in no list. A clause sees the item.
+/// An item in a node of its own, which is in no list and no stack. A clause sees the item.
 ///
-/// Putting a parcel into a list and taking it out moves its node, and takes no memory.
+/// Putting a parcel into a list or a stack and taking it out moves its node, and takes no memory.
 pub struct Parcel<T> {
     pub(crate) node: Box<Node<T>>,
 }

@@ -1,4 +1,4 @@
-use crate::{List, Parcel, Predicate};
+use crate::{List, Parcel, Predicate, Stack};
 use std::alloc::AllocError;
 use std::cell::Cell;
 use std::rc::Rc;
@@ -212,11 +212,88 @@ fn the_last_that_passes_is_found_from_the_back(rt: HostRuntime) -> Result<(), Fa
     Ok(())
 }
 
+#[test]
+fn a_stack_gives_the_last_first(rt: HostRuntime) -> Result<(), Fail> {
+    let mut stack = Stack::new(rt.alloc());
+    for number in 0..3u32 {
+        stack.push(parcel(&rt, number)?);
+    }
+    assert_eq!(rt; stack.len(), 3);
+    for want in [2u32, 1, 0] {
+        assert_eq!(rt; stack.top().copied(), Some(want));
+        assert_eq!(rt; stack.pop().map(|p| p.into_value()), Some(want));
+    }
+    assert!(rt; stack.top().is_none());
+    assert!(rt; stack.pop().is_none());
+    assert_eq!(rt; stack.len(), 0);
+    Ok(())
+}
+
+#[test]
+fn each_item_of_a_stack_is_dropped_once(rt: HostRuntime) -> Result<(), Fail> {
+    let mut counters = Vec::new(rt.alloc());
+    let mut stack = Stack::new(rt.alloc());
+    for number in 1..4u32 {
+        let drops = Rc::new(rt.alloc(), Cell::new(0u32))?;
+        counters.push(drops.clone()?)?;
+        stack.push(parcel(&rt, Counted { number, drops })?);
+    }
+    let top = stack.pop();
+    assert_eq!(rt; top.as_ref().map(|p| p.get().number), Some(3));
+    for drops in counters.iter() {
+        assert_eq!(rt; drops.get(), 0);
+    }
+    drop(stack);
+    for (drops, want) in counters.iter().zip([1u32, 1, 0].iter()) {
+        assert_eq!(rt; drops.get(), *want);
+    }
+    drop(top);
+    for drops in counters.iter() {
+        assert_eq!(rt; drops.get(), 1);
+    }
+    Ok(())
+}
+
+#[test]
+fn parcels_go_from_a_list_to_a_stack_and_back(rt: HostRuntime) -> Result<(), Fail> {
+    let mut list = numbers(&rt, 0, 3)?;
+    let mut stack = Stack::new(rt.alloc());
+    for _ in 0..3 {
+        if let Some(parcel) = list.pop_front() {
+            stack.push(parcel);
+        }
+    }
+    assert!(rt; list.is_empty());
+    assert_eq!(rt; stack.len(), 3);
+    for _ in 0..3 {
+        if let Some(parcel) = stack.pop() {
+            list.push_back(parcel);
+        }
+    }
+    assert_eq!(rt; stack.len(), 0);
+    assert!(rt; is_made_of(&list, &[2, 1, 0]));
+    for want in [0u32, 1, 2] {
+        assert_eq!(rt; list.pop_back().map(|p| p.into_value()), Some(want));
+    }
+    Ok(())
+}
+
 // A drop by recursion would take a hundred times the stack that a thread has.
 #[test]
 fn ten_million_nodes_are_dropped_on_a_small_stack(rt: HostRuntime) -> Result<(), Fail> {
     let list = numbers(&rt, 0, 10_000_000)?;
     assert_eq!(rt; list.len(), 10_000_000);
     drop(list);
+    Ok(())
+}
+
+#[test]
+fn ten_million_nodes_of_a_stack_are_dropped_in_a_loop(rt: HostRuntime) -> Result<(), Fail> {
+    let mut stack = Stack::new(rt.alloc());
+    for number in 0..10_000_000u32 {
+        stack.push(parcel(&rt, number)?);
+    }
+    assert_eq!(rt; stack.len(), 10_000_000);
+    drop(stack);
     Ok(())
 }

@@ -1,16 +1,16 @@
-//! Memory of what a process needs no more, kept for what it makes next.
+//! Memory of what processes need no more, kept for what they make next.
 
 ghost use Rattle.std.specs.Prelude.{◌≡◌, IfOk, IfErr};
 
 use crate::entry::PastEvent;
 use std::alloc::Global;
 use vt_key::Letter;
-use vt_list::{List, Parcel};
+use vt_list::{List, Parcel, Stack};
 
 /// Nodes of committed past events and of their letters, to be written anew. What stands in them means nothing.
 ///
-/// An event needs a node, and one for each message and each anti-message: as many as a committed one leaves. So a process that
-/// goes on takes little memory anew, and writes where it wrote before.
+/// An event needs a node, and one for each message and each anti-message: as many as a committed one leaves. So who commits now
+/// and then takes little memory anew, and writes where it wrote before. All that is kept is given back when the value is dropped.
 #[derive(Drop)]
 pub struct Spare<P: Copy, K: Copy> {
     message: Option<Parcel<Letter<P>>>,
@@ -18,8 +18,8 @@ pub struct Spare<P: Copy, K: Copy> {
     event: Option<Parcel<PastEvent<P, K>>>,
     // What was read ahead, which means nothing.
     seen: u64,
-    letters: List<Letter<P>>,
-    events: List<PastEvent<P, K>>,
+    letters: Stack<Letter<P>>,
+    events: Stack<PastEvent<P, K>>,
 }
 
 impl<P: Copy, K: Copy> Spare<P, K> {
@@ -30,8 +30,8 @@ impl<P: Copy, K: Copy> Spare<P, K> {
             anti_message: None,
             event: None,
             seen: 0,
-            letters: List::new(alloc),
-            events: List::new(alloc),
+            letters: Stack::new(alloc),
+            events: Stack::new(alloc),
         }
     }
 
@@ -95,14 +95,11 @@ impl<P: Copy, K: Copy> Spare<P, K> {
     /// Keeps the nodes of a committed past event and of its letters.
     pub(crate) fn collect(&mut self, event: Parcel<PastEvent<P, K>>) {
         let mut event = event;
-        if let Some(letter) = event.get_mut().anti_messages.pop_front() {
-            self.keep_letter(letter);
-        }
-        self.letters.append(&mut event.get_mut().anti_messages);
+        self.keep_letters(&mut event.get_mut().anti_messages);
         if self.event.is_none() {
             self.event = Some(event);
         } else {
-            self.events.push_front(event);
+            self.events.push(event);
         }
     }
 
@@ -110,7 +107,7 @@ impl<P: Copy, K: Copy> Spare<P, K> {
     fn next_letter(&self) -> Option<&Letter<P>> {
         match &self.message {
             Some(letter) => Some(letter.get()),
-            None => self.letters.front(),
+            None => self.letters.top(),
         }
     }
 
@@ -118,7 +115,7 @@ impl<P: Copy, K: Copy> Spare<P, K> {
     fn next_event(&self) -> Option<&PastEvent<P, K>> {
         match &self.event {
             Some(event) => Some(event.get()),
-            None => self.events.front(),
+            None => self.events.top(),
         }
     }
 
@@ -130,7 +127,7 @@ impl<P: Copy, K: Copy> Spare<P, K> {
         if let Some(parcel) = self.anti_message.take() {
             return Some(parcel);
         }
-        self.letters.pop_front()
+        self.letters.pop()
     }
 
     // A node of a past event, the one at hand first.
@@ -138,7 +135,14 @@ impl<P: Copy, K: Copy> Spare<P, K> {
         if let Some(parcel) = self.event.take() {
             return Some(parcel);
         }
-        self.events.pop_front()
+        self.events.pop()
+    }
+
+    // Keeps the nodes of letters.
+    fn keep_letters(&mut self, letters: &mut List<Letter<P>>) {
+        while let Some(letter) = letters.pop_front() {
+            self.keep_letter(letter);
+        }
     }
 
     // Keeps the node of a letter.
@@ -148,7 +152,7 @@ impl<P: Copy, K: Copy> Spare<P, K> {
         } else if self.anti_message.is_none() {
             self.anti_message = Some(letter);
         } else {
-            self.letters.push_front(letter);
+            self.letters.push(letter);
         }
     }
 }

@@ -1,0 +1,98 @@
+//! Stacks.
+
+ghost use Rattle.std.specs.Prelude.{◌≡◌, ◌%◌, ◌^◌, [], ◌∷◌, length, slice_get, MatchOption};
+ghost use Rattle.std.specs.Option.{option_copied};
+
+use crate::parcel::Parcel;
+use crate::trail::Trail;
+use std::alloc::Global;
+use std::marker::Model;
+
+/// A stack of items, each in a node of its own. A clause sees the list of the items, the top first.
+///
+/// Its parcels are those of a list. But only the top node is ever read or written: what a list would change in the node
+/// under it, a stack has no use for. So to take from a stack touches no memory but what is taken.
+///
+/// No call of a stack takes memory. A stack that is dropped drops each item once and frees each node, in a loop and not
+/// by recursion.
+pub struct Stack<T> {
+    alloc: Global,
+    // How many items there are, modulo 2^64.
+    count: usize,
+    trail: Trail<T>,
+}
+
+impl<T> Model for Stack<T> {
+    ghost use Rattle.std.specs.Prelude.{List, length, ◌≡◌, ◌%◌, ◌^◌};
+
+    ghost Value = { List T };
+
+    ghost view = { λ s. s.trail };
+
+    ghost invariant = { λ s. s.count ≡ length s.trail % 2 ^ 64 };
+}
+
+impl<T: Drop> Drop for Stack<T> {
+    fn drop(mut self) {
+        while let Some(parcel) = self.pop() {
+            drop(parcel);
+        }
+        let Stack {
+            alloc: _,
+            count: _,
+            trail,
+        } = self;
+        trail.end();
+    }
+}
+
+impl<T: Drop> Stack<T> {
+    /// An empty stack.
+    pub fn new(alloc: Global) -> Stack<T>
+        ensures { result ≡ [] }
+    {
+        Stack {
+            alloc,
+            count: 0,
+            trail: Trail::new(),
+        }
+    }
+
+    /// Puts the item on top of all others. It writes the item's node alone.
+    pub fn push(&mut self, parcel: Parcel<T>)
+        ensures { self.new ≡ parcel ∷ self.old }
+    {
+        let trail = self.trail.take();
+        self.trail.put(trail.with_first(parcel.into_node()));
+        self.count = self.count.wrapping_add(1);
+    }
+
+    /// Takes out the item on top. It reads that item's node alone.
+    pub fn pop(&mut self) -> Option<Parcel<T>>
+        ensures { MatchOption result ((self.old ≡ []) × (self.new ≡ [])) (λ p. self.old ≡ p ∷ self.new) }
+    {
+        let (first, others) = self.trail.take().split_first(self.alloc);
+        self.trail.put(others);
+        let node = first?;
+        self.count = self.count.wrapping_sub(1);
+        Some(Parcel { node })
+    }
+}
+
+impl<T> Stack<T> {
+    /// How many items there are, modulo 2^64. It reads a counter.
+    ///
+    /// The counter wraps round, as that of a list does.
+    pub fn len(&self) -> usize
+        ensures { result ≡ length self.now % 2 ^ 64 }
+    {
+        self.count
+    }
+
+    /// The item on top.
+    pub fn top(&self) -> Option<&T>
+        ensures { option_copied result ≡ slice_get self.now 0 }
+    {
+        self.trail.first()
+    }
+}

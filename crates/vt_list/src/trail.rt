@@ -1,0 +1,107 @@
+//! Nodes that are linked one way.
+
+ghost use Rattle.std.specs.Prelude.{◌≡◌, [], ◌∷◌, slice_get, MatchOption};
+ghost use Rattle.std.specs.Option.{option_copied};
+
+use crate::blocks::Blocks;
+use crate::node::Node;
+use std::alloc::Global;
+use std::marker::Model;
+use std::mem::replace;
+
+/// Nodes of which each leads on to the next one, with where the first lies. A clause sees the list of their items. What
+/// their links back say means nothing.
+///
+/// It is not `Drop`, so code that loses a node is refused.
+pub(crate) struct Trail<T> {
+    head: Option<*mut Node<T>>,
+    nodes: Blocks<Node<T>>,
+}
+
+impl<T> Model for Trail<T> {
+    ghost use Rattle.std.specs.Prelude.{◌≡◌, List, None};
+    ghost use Rattle.vt_list.specs.Linked.{first_or, items, LeadOn};
+
+    ghost Value = { List T };
+
+    ghost view = { λ t. items t.nodes.owned };
+
+    ghost invariant = { λ t. (t.head ≡ first_or None t.nodes.owned) × LeadOn t.nodes.owned None };
+}
+
+impl<T> Trail<T> {
+    /// No node.
+    pub(crate) fn new() -> Trail<T>
+        ensures { result ≡ [] }
+    {
+        Trail {
+            head: None,
+            nodes: Blocks::none(),
+        }
+    }
+
+    /// Lets go of no node.
+    pub(crate) fn end(self)
+        requires { self ≡ [] }
+    {
+        let Trail { head: _, nodes } = self;
+        nodes.end();
+    }
+
+    /// Takes all nodes out.
+    pub(crate) fn take(&mut self) -> Trail<T>
+        ensures { (result ≡ self.old) × (self.new ≡ []) }
+    {
+        replace(self, Trail::new())
+    }
+
+    /// Puts nodes in where there are none.
+    pub(crate) fn put(&mut self, trail: Trail<T>)
+        requires { self.old ≡ [] }
+        ensures { self.new ≡ trail }
+    {
+        replace(self, trail).end();
+    }
+
+    /// The first item.
+    pub(crate) fn first(&self) -> Option<&T>
+        ensures { option_copied result ≡ slice_get self.now 0 }
+    {
+        let Some(head) = self.head else {
+            return None;
+        };
+        Some(&self.nodes.get(head).item)
+    }
+
+    /// The first node, and the others. Of these none is read or written.
+    pub(crate) fn split_first(self, alloc: Global) -> (Option<Box<Node<T>>>, Trail<T>)
+        ensures { MatchOption result.0 ((self ≡ []) × (result.1 ≡ [])) (λ n. self ≡ n.value.item ∷ result.1) }
+    {
+        let Trail { head, nodes } = self;
+        let Some(at) = head else {
+            return (None, Trail { head, nodes });
+        };
+        let (one, others) = nodes.split();
+        let next = one.get(at).next;
+        let rest = Trail {
+            head: next,
+            nodes: others,
+        };
+        (Some(one.into_box(at, alloc)), rest)
+    }
+}
+
+impl<T: Drop> Trail<T> {
+    /// The node, and the others behind it. Of these none is read or written.
+    pub(crate) fn with_first(self, mut node: Box<Node<T>>) -> Trail<T>
+        ensures { result ≡ node.value.item ∷ self }
+    {
+        let Trail { head, nodes } = self;
+        node.next = head;
+        let (one, at) = Blocks::from_box(node);
+        Trail {
+            head: Some(at),
+            nodes: one.append(nodes),
+        }
+    }
+}
