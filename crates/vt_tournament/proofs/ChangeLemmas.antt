@@ -43,8 +43,8 @@ module _ (ranks : List (Option Rank)) (number : ℕ) (nodes : List Node) (few : 
   unfolding ago
   tree_ago = was.tree
 
-  full : length nodes ≡ 2 * length ranks
-  full = tree_ago.leaves.full ∙ ap (λ (n : ℕ). 2 * n) many
+  full : length nodes ≡ 2 * length ranks + 1
+  full = tree_ago.leaves.full ∙ ap (λ (n : ℕ). 2 * n + 1) many
 
   placed_ago : (k : ℕ) → 1 ≤ k → k < 2 * length ranks → IsPlaced (length ranks) nodes k
   placed_ago k low high = subst (λ (n : ℕ). IsPlaced n nodes k) many (tree_ago.placed k low (omega (arith, many, high)))
@@ -74,7 +74,7 @@ module _ (ranks : List (Option Rank)) (number : ℕ) (nodes : List Node) (few : 
   own = node_of (contestant ranks number)
 
   after : List Node
-  after = slice_set nodes place own
+  after = slice_set nodes (place + 1) own
 
   here : node after place ≡ own
   unfolding after place
@@ -108,7 +108,7 @@ module _ (ranks : List (Option Rank)) (number : ℕ) (nodes : List Node) (few : 
     | inr x ↦ absurd (omega (arith, few, l, x))
   ]
 
-  pub begun : IsChanged ranks number (length ranks + number) (slice_set nodes (length ranks + number) (node_of (contestant ranks number)))
+  pub begun : IsChanged ranks number (length ranks + number) (slice_set nodes (length ranks + number + 1) (node_of (contestant ranks number)))
   unfolding after place own
   begun =
       record {
@@ -118,7 +118,7 @@ module _ (ranks : List (Option Rank)) (number : ℕ) (nodes : List Node) (few : 
         high = omega (arith, known);
         tree = record {
           leaves = record {
-            full = length-set nodes place own ∙ full;
+            full = length-set nodes (place + 1) own ∙ full;
             own = λ i l. elim (cases_order i number) [
               | inl e ↦ subst (λ (n : ℕ). node after (length ranks + n) ≡ node_of (contestant ranks n)) (sym e) here
               | inr e ↦
@@ -202,11 +202,11 @@ module _ (ranks : List (Option Rank)) (number at : ℕ) (nodes : List Node) (c :
           ∙ ap node_of (winner-swapped (entrant ranks nodes (2 * (at / 2) + 1)) (entrant ranks nodes (2 * (at / 2))))
     ]
 
-    pub gone_on : (w : Node) → w ≡ node_of (winner_of (entrant ranks nodes at) (entrant ranks nodes (4 * (at / 2) + 1 - at))) → IsChanged ranks number (at / 2) (slice_set nodes (at / 2) w)
+    pub gone_on : (w : Node) → w ≡ node_of (winner_of (entrant ranks nodes at) (entrant ranks nodes (4 * (at / 2) + 1 - at))) → IsChanged ranks number (at / 2) (slice_set nodes (at / 2 + 1) w)
     gone_on w is =
         let p : ℕ = at / 2 in
         let few : p < length ranks = omega (arith, c.high) in
-        let after : List Node = slice_set nodes p w in
+        let after : List Node = slice_set nodes (p + 1) w in
         let other : (k : ℕ) → (k ≡ p → ⊥) → node nodes k ≡ node after k = λ k e. sym (node-set_other nodes p k w e) in
         record {
           known = c.known;

@@ -1,7 +1,7 @@
 -- The tree of winners: what stands in it at first, how a place is decided, and what the first place has.
 use Rattle.std.proofs.Common.{◌≡◌, ℕ, zero, suc, ◌+◌, ◌*◌, ◌/◌, ◌^◌, ◌<◌, ◌≤◌, ◌⊎◌, inl, inr, true, false, List, [], ◌∷◌, length, slice_index_or, Option, Some, None, IfNone, slice_get, slice_set, replicate, refl, sym, subst, ap, ◌∙◌, arith}
 use Rattle.std.specs.Option.{is_some}
-use Rattle.std.proofs.lemmas.List.{get_or-set_same, get_or-set_other, length-set, length-replicate}
+use Rattle.std.proofs.lemmas.List.{get_or-set_same, get_or-set_other, get_or_default, length-set, length-replicate}
 use Rattle.std.proofs.lemmas.Bool.{cases_order}
 use Rattle.std.proofs.lemmas.Option.{slice_get-get_or, slice_get_past}
 use Rattle.vt_key.specs.declared.order.Rank.{Rank}
@@ -24,13 +24,15 @@ nobody_there zero i = refl
 nobody_there (suc n) zero = refl
 nobody_there (suc n) (suc i) = nobody_there n i
 
-node-replicate : (n : ℕ) (w : Node) (i : ℕ) → i < n → node (replicate n w) i ≡ w
-node-replicate zero w i l = absurd (omega (arith, l))
-node-replicate (suc n) w zero l = refl
-node-replicate (suc n) w (suc i) l = node-replicate n w i (omega (arith, l))
+node-replicate : (n : ℕ) (w : Node) (i : ℕ) → i + 1 < n → node (replicate n w) i ≡ w
+node-replicate n w i l = there n (i + 1) l where
+  there : (m j : ℕ) → j < m → slice_index_or (replicate m w) j (record { time = 0; source = 0; number = 0 }) ≡ w
+  there zero j less = absurd (omega (arith, less))
+  there (suc m) zero less = refl
+  there (suc m) (suc j) less = there m j (omega (arith, less))
 
 -- where nobody takes part, nodes of nobody are a tree
-tree_of_nobody : (ranks : List (Option Rank)) (nodes : List Node) → length ranks ≤ 2 ^ 31 → ((i : ℕ) → slice_index_or ranks i None ≡ None) → length nodes ≡ 2 * length ranks → ((k : ℕ) → k < 2 * length ranks → node nodes k ≡ nobodys_node) → IsTreeFrom 1 ranks nodes
+tree_of_nobody : (ranks : List (Option Rank)) (nodes : List Node) → length ranks ≤ 2 ^ 31 → ((i : ℕ) → slice_index_or ranks i None ≡ None) → length nodes ≡ 2 * length ranks + 1 → ((k : ℕ) → k < 2 * length ranks → node nodes k ≡ nobodys_node) → IsTreeFrom 1 ranks nodes
 tree_of_nobody ranks nodes few none full all =
     let c : Contestant = contestant ranks nobodys_number in
     let at : (i : ℕ) → nobodys_node ≡ node_of (contestant ranks i) = λ i. ap (λ (r : Option Rank). node_of (record { rank = r; number = i })) (sym (none i)) in
@@ -44,27 +46,25 @@ tree_of_nobody ranks nodes few none full all =
           ∙ (λ j. winner_of (sym (who (2 * k) (omega (arith, high))) j) (sym (who (2 * k + 1) (omega (arith, high))) j));
     }
 
-pub nobodys_tree : (count : ℕ) → count ≤ 2 ^ 31 → IsTreeFrom 1 (replicate count None) (replicate (2 * count) nobodys_node)
+pub nobodys_tree : (count : ℕ) → count ≤ 2 ^ 31 → IsTreeFrom 1 (replicate count None) (replicate (2 * count + 1) nobodys_node)
 nobodys_tree count few =
     let ranks : List (Option Rank) = replicate count None in
     let e : length ranks ≡ count = length-replicate count None in
-    tree_of_nobody ranks (replicate (2 * count) nobodys_node) (omega (arith, few, e)) (nobody_there count)
-    (length-replicate (2 * count) nobodys_node ∙ (let w : 2 * count ≡ 2 * length ranks = omega (arith, e) in w))
-    (λ k high. node-replicate (2 * count) nobodys_node k (omega (arith, e, high)))
+    tree_of_nobody ranks (replicate (2 * count + 1) nobodys_node) (omega (arith, few, e)) (nobody_there count)
+    (length-replicate (2 * count + 1) nobodys_node ∙ (let w : 2 * count + 1 ≡ 2 * length ranks + 1 = omega (arith, e) in w))
+    (λ k high. node-replicate (2 * count + 1) nobodys_node k (omega (arith, e, high)))
 
 -- ---- one place
 
 -- what was read is what stands at the place
-pub read : (nodes : List Node) (i : ℕ) (x : Node) → i < length nodes → x ≡ slice_index_or nodes i x → x ≡ node nodes i
-read [] i x l h = absurd (omega (arith, l))
-read (c ∷ cs) zero x l h = h
-read (c ∷ cs) (suc i) x l h = read cs i x (omega (arith, l)) h
+pub read : (nodes : List Node) (k : ℕ) (x : Node) → k + 1 < length nodes → x ≡ slice_index_or nodes (k + 1) x → x ≡ node nodes k
+read nodes k x l h = h ∙ get_or_default nodes (k + 1) x (record { time = 0; source = 0; number = 0 }) l
 
-pub node-set_same : (nodes : List Node) (p : ℕ) (w : Node) → p < length nodes → node (slice_set nodes p w) p ≡ w
-node-set_same nodes p w l = get_or-set_same nodes p w (record { time = 0; source = 0; number = 0 }) l
+pub node-set_same : (nodes : List Node) (p : ℕ) (w : Node) → p + 1 < length nodes → node (slice_set nodes (p + 1) w) p ≡ w
+node-set_same nodes p w l = get_or-set_same nodes (p + 1) w (record { time = 0; source = 0; number = 0 }) l
 
-pub node-set_other : (nodes : List Node) (p k : ℕ) (w : Node) → (k ≡ p → ⊥) → node (slice_set nodes p w) k ≡ node nodes k
-node-set_other nodes p k w other = get_or-set_other nodes p k w (record { time = 0; source = 0; number = 0 }) other
+pub node-set_other : (nodes : List Node) (p k : ℕ) (w : Node) → (k ≡ p → ⊥) → node (slice_set nodes (p + 1) w) k ≡ node nodes k
+node-set_other nodes p k w other = get_or-set_other nodes (p + 1) (k + 1) w (record { time = 0; source = 0; number = 0 }) (λ e. other (omega (arith, e)))
 
 -- who is placed, decided and fits depends on few nodes
 pub placed-number : (count : ℕ) (ns ms : List Node) (k : ℕ) → (node ns k).number ≡ (node ms k).number → IsPlaced count ns k → IsPlaced count ms k
@@ -77,17 +77,17 @@ pub fits-node : (ranks : List (Option Rank)) (ns ms : List Node) (k : ℕ) → n
 fits-node ranks ns ms k e h = sym e ∙ h ∙ ap (λ (n : Node). node_of (contestant ranks n.number)) e
 
 -- the leaves stay where a place above them is decided
-pub leaves-set : (ranks : List (Option Rank)) (nodes : List Node) (p : ℕ) (w : Node) → p < length ranks → AreLeaves ranks nodes → AreLeaves ranks (slice_set nodes p w)
+pub leaves-set : (ranks : List (Option Rank)) (nodes : List Node) (p : ℕ) (w : Node) → p < length ranks → AreLeaves ranks nodes → AreLeaves ranks (slice_set nodes (p + 1) w)
 leaves-set ranks nodes p w l h = record {
-  full = length-set nodes p w ∙ h.full;
+  full = length-set nodes (p + 1) w ∙ h.full;
   own = λ i m. node-set_other nodes p (length ranks + i) w (λ e. omega (arith, e, l)) ∙ h.own i m;
 }
 
 -- a place that gets the winner of the two below it
-pub decide : (ranks : List (Option Rank)) (nodes : List Node) (p : ℕ) (w : Node) → 1 ≤ p → p < length ranks → IsTreeFrom (suc p) ranks nodes → w ≡ node_of (winner_of (entrant ranks nodes (2 * p)) (entrant ranks nodes (2 * p + 1))) → IsTreeFrom p ranks (slice_set nodes p w)
+pub decide : (ranks : List (Option Rank)) (nodes : List Node) (p : ℕ) (w : Node) → 1 ≤ p → p < length ranks → IsTreeFrom (suc p) ranks nodes → w ≡ node_of (winner_of (entrant ranks nodes (2 * p)) (entrant ranks nodes (2 * p + 1))) → IsTreeFrom p ranks (slice_set nodes (p + 1) w)
 decide ranks nodes p w low high tree is =
     let count : ℕ = length ranks in
-    let ms : List Node = slice_set nodes p w in
+    let ms : List Node = slice_set nodes (p + 1) w in
     let c : Contestant = winner_of (entrant ranks nodes (2 * p)) (entrant ranks nodes (2 * p + 1)) in
     let own : contestant ranks c.number ≡ c = winner-own ranks (node nodes (2 * p)).number (node nodes (2 * p + 1)).number in
     let here : node ms p ≡ w = node-set_same nodes p w (omega (arith, high, tree.leaves.full)) in

@@ -50,9 +50,9 @@ number_of None n = nobodys_number
 abbrev pub node_of : Contestant → Node
 node_of c = record { time = first_time c.rank; source = first_source c.rank; number = number_of c.rank c.number }
 
--- the node at a place
+-- the node at a place, which stands one further in the list
 abbrev pub node : List Node → ℕ → Node
-node nodes k = slice_index_or nodes k (record { time = 0; source = 0; number = 0 })
+node nodes k = slice_index_or nodes (k + 1) (record { time = 0; source = 0; number = 0 })
 
 -- the contestant that won at a place; there is no entry of nobody's number, so nobody has no rank
 abbrev pub entrant : List (Option Rank) → List Node → ℕ → Contestant
@@ -73,7 +73,7 @@ IsPlaced count nodes k = (node nodes k).number < count → IsAbove k (count + (n
 
 -- the last places are those of the contestants, in the order of their numbers
 pub record AreLeaves (ranks : List (Option Rank)) (nodes : List Node) : Type 0 where
-  pub full : length nodes ≡ 2 * length ranks
+  pub full : length nodes ≡ 2 * length ranks + 1
   pub own : (i : ℕ) → i < length ranks → node nodes (length ranks + i) ≡ node_of (contestant ranks i)
 
 -- a place has the winner of the two below it

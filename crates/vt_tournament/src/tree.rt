@@ -11,6 +11,10 @@ use std::alloc::Global;
 use std::marker::Model;
 use vt_key::{Fault, Rank};
 
+/// The node of a place stands this much further in the list: large blocks of the C library begin 16 bytes past a line of the
+/// cache, so that the two nodes below one, 16 bytes each, share a line.
+const SHIFT: usize = 1;
+
 /// A tournament of contestants that are numbered from 0. Contracts see the list of their entries: a rank, or None for who
 /// takes no part.
 #[derive(Drop)]
@@ -64,7 +68,7 @@ impl Tournament {
         }
         // Mostly the nodes alone tell whether the entry changes, and the one before isn't read.
         let node = Node::new(number, &rank);
-        if self.nodes[self.ranks.len() + number as usize].is_same(&node)
+        if self.nodes[self.ranks.len() + number as usize + SHIFT].is_same(&node)
             && (!node.takes_part() || are_same(&self.ranks[number as usize], &rank))
         {
             return;
@@ -83,7 +87,7 @@ impl Tournament {
         ensures nobody { IfNone result ((i : ℕ) (rank : Rank) → slice_get self.now i ≡ Some (Some rank) → ⊥) }
         ensures least { IfSome result (IsLeast self.now) }
     {
-        let first = self.nodes[1];
+        let first = self.nodes[1 + SHIFT];
         if first.takes_part() {
             Some(first.number)
         } else {
@@ -121,7 +125,7 @@ fn nodes_of_nobody(alloc: Global, count: u32) -> Result<Vec<Node>, Fault>
     ensures tree { IfOk result (λ nodes. IsTreeFrom 1 (replicate count None) nodes.items) }
     ensures refused { IfErr result (λ fault. fault ≡ Memory) }
 {
-    let places = 2 * count as usize;
+    let places = 2 * count as usize + SHIFT;
     let mut nodes = Vec::with_capacity(alloc, places).map_err(|_| Fault::Memory)?;
     for _ in 0..places {
         nodes.push(Node::new(0, &None)).map_err(|_| Fault::Memory)?;
@@ -139,15 +143,15 @@ fn decide_above(ranks: &[Option<Rank>], nodes: &mut [Node], number: u32, node: N
 {
     let mut at = ranks.len() + number as usize;
     let mut winner = node;
-    nodes[at] = winner;
+    nodes[at + SHIFT] = winner;
     while at > 1 {
-        let rival = nodes[4 * (at / 2) + 1 - at];
+        let rival = nodes[4 * (at / 2) + 1 - at + SHIFT];
         winner = winner.winner(rival, ranks);
         at /= 2;
         // Where another one wins as before, all above stays.
-        if winner.number != number && winner.number == nodes[at].number {
+        if winner.number != number && winner.number == nodes[at + SHIFT].number {
             return;
         }
-        nodes[at] = winner;
+        nodes[at + SHIFT] = winner;
     }
 }
