@@ -1,13 +1,13 @@
 -- An entry was changed: the places from some place on are decided again, and those above it where the changed contestant
 -- didn't win still are.
-use Rattle.std.proofs.Common.{◌≡◌, ℕ, zero, suc, ◌+◌, ◌-◌, ◌*◌, ◌/◌, ◌<◌, ◌≤◌, ◌⊎◌, inl, inr, List, length, slice_index_or, Option, None, slice_set, refl, sym, subst, ap, ◌∙◌, arith}
+use Rattle.std.proofs.Common.{◌≡◌, ℕ, zero, suc, ◌+◌, ◌-◌, ◌*◌, ◌/◌, ◌^◌, ◌<◌, ◌≤◌, ◌⊎◌, inl, inr, List, length, slice_index_or, Option, None, slice_set, sym, subst, ap, ◌∙◌, arith}
 use Rattle.std.proofs.lemmas.List.{get_or-set_other, length-set}
 use Rattle.std.proofs.lemmas.Bool.{cases_order}
 use Rattle.vt_key.specs.declared.order.Rank.{Rank}
 use Rattle.vt_tournament.specs.declared.node.Node.{Node}
-use Rattle.vt_tournament.specs.Contest.{Contestant, winner_of, contestant, node_of, node, entrant, halved, IsAbove, IsPlaced, AreLeaves, IsDecided, Fits, IsTreeFrom, WasTree}
+use Rattle.vt_tournament.specs.Contest.{Contestant, winner_of, contestant, node_of, node, entrant, halved, IsAbove, IsPlaced, IsDecided, Fits, IsTreeFrom, WasTree}
 use Rattle.vt_tournament.proofs.AheadLemmas.{winner-swapped}
-use Rattle.vt_tournament.proofs.NodeLemmas.{winner-one, winner-own}
+use Rattle.vt_tournament.proofs.NodeLemmas.{winner-one, winner-own, winner-number, number-one, node-own}
 use Rattle.vt_tournament.proofs.PathLemmas.{halved-le, halved-half, above-half, above-self, apart, upward}
 use Rattle.vt_tournament.proofs.TreeLemmas.{node-set_same, node-set_other, placed-number, decided-numbers, fits-node, decide}
 
@@ -31,7 +31,7 @@ split p k l = elim (cases_order p k) [ inl e ↦ inl (sym e) | inr m ↦ elim m 
 
 -- ---- the beginning
 
-module _ (ranks : List (Option Rank)) (number : ℕ) (nodes : List Node) (known : number < length ranks) (was : WasTree number ranks nodes) where
+module _ (ranks : List (Option Rank)) (number : ℕ) (nodes : List Node) (few : length ranks ≤ 2 ^ 31) (known : number < length ranks) (was : WasTree number ranks nodes) where
   ago : List (Option Rank)
   ago = slice_set ranks number was.entry
 
@@ -43,8 +43,8 @@ module _ (ranks : List (Option Rank)) (number : ℕ) (nodes : List Node) (known 
   unfolding ago
   tree_ago = was.tree
 
-  leaves_ago : AreLeaves (length ranks) nodes
-  leaves_ago = subst (λ (n : ℕ). AreLeaves n nodes) many tree_ago.leaves
+  full : length nodes ≡ 2 * length ranks + 1
+  full = tree_ago.leaves.full ∙ ap (λ (n : ℕ). 2 * n + 1) many
 
   placed_ago : (k : ℕ) → 1 ≤ k → k < 2 * length ranks → IsPlaced (length ranks) nodes k
   placed_ago k low high = subst (λ (n : ℕ). IsPlaced n nodes k) many (tree_ago.placed k low (omega (arith, many, high)))
@@ -53,6 +53,10 @@ module _ (ranks : List (Option Rank)) (number : ℕ) (nodes : List Node) (known 
   same : (n : ℕ) → (n ≡ number → ⊥) → contestant ago n ≡ contestant ranks n
   unfolding ago
   same n other = let e : slice_index_or ago n None ≡ slice_index_or ranks n None = get_or-set_other ranks number n was.entry None other in λ j. record { rank = e j; number = n }
+
+  own_ago : (i : ℕ) → i < length ranks → (i ≡ number → ⊥) → node nodes (length ranks + i) ≡ node_of (contestant ranks i)
+  own_ago i l other =
+      subst (λ (n : ℕ). node nodes (n + i) ≡ node_of (contestant ago i)) many (tree_ago.leaves.own i (omega (arith, many, l))) ∙ ap node_of (same i other)
 
   fits_ago : (k : ℕ) → 1 ≤ k → k < 2 * length ranks → ((node nodes k).number ≡ number → ⊥) → Fits ranks nodes k
   fits_ago k low high other = tree_ago.fits k low (omega (arith, many, high)) ∙ ap node_of (same (node nodes k).number other)
@@ -70,30 +74,43 @@ module _ (ranks : List (Option Rank)) (number : ℕ) (nodes : List Node) (known 
   own = node_of (contestant ranks number)
 
   after : List Node
-  after = slice_set nodes place own
+  after = slice_set nodes (place + 1) own
 
   here : node after place ≡ own
   unfolding after place
-  here = node-set_same nodes place own (omega (arith, leaves_ago.full, known))
+  here = node-set_same nodes place own (omega (arith, full, known))
 
   other : (k : ℕ) → (k ≡ place → ⊥) → node nodes k ≡ node after k
   unfolding after
   other k e = sym (node-set_other nodes place k own e)
 
-  -- a contestant's own place has its number
-  leaf : (k : ℕ) → length ranks ≤ k → k < 2 * length ranks → (node nodes k).number ≡ k - length ranks
-  leaf k low high =
+  -- another's own place doesn't have this number
+  leaf : (k : ℕ) → place < k → k < 2 * length ranks → (node nodes k).number ≡ number → ⊥
+  unfolding place
+  leaf k low high is =
       let e : length ranks + (k - length ranks) ≡ k = omega (arith, low) in
-      subst (λ (n : ℕ). (node nodes n).number ≡ k - length ranks) e (leaves_ago.numbers (k - length ranks) (omega (arith, low, high)))
+      let its : node nodes k ≡ node_of (contestant ranks (k - length ranks)) =
+      subst (λ (n : ℕ). node nodes n ≡ node_of (contestant ranks (k - length ranks))) e (own_ago (k - length ranks) (omega (arith, low, high)) (λ w. omega (arith, low, w))) in
+      let same : (node_of (contestant ranks (k - length ranks))).number ≡ number = ap (λ (n : Node). n.number) (sym its) ∙ is in
+      elim (number-one (contestant ranks (k - length ranks))) [
+        | inl x ↦ omega (arith, low, sym same ∙ x)
+        | inr x ↦ omega (arith, few, known, sym same ∙ x)
+      ]
 
-  own_number : own.number ≡ number
+  own_fits : own ≡ node_of (contestant ranks own.number)
   unfolding own
-  own_number = refl
+  own_fits = node-own ranks few number
 
-  pub begun : IsChanged ranks number (length ranks + number) (slice_set nodes (length ranks + number) (node_of (contestant ranks number)))
+  own_placed : own.number < length ranks → IsAbove place (length ranks + own.number)
+  unfolding own place
+  own_placed l = elim (number-one (contestant ranks number)) [
+    | inl x ↦ subst (λ (n : ℕ). IsAbove place (length ranks + n)) (sym x) (above-self place)
+    | inr x ↦ absurd (omega (arith, few, l, x))
+  ]
+
+  pub begun : IsChanged ranks number (length ranks + number) (slice_set nodes (length ranks + number + 1) (node_of (contestant ranks number)))
   unfolding after place own
   begun =
-      let at_place : (node after place).number ≡ number = ap (λ (n : Node). n.number) here ∙ own_number in
       record {
         known = known;
         path = above-self place;
@@ -101,22 +118,21 @@ module _ (ranks : List (Option Rank)) (number : ℕ) (nodes : List Node) (known 
         high = omega (arith, known);
         tree = record {
           leaves = record {
-            full = length-set nodes place own ∙ leaves_ago.full;
-            numbers = λ i l. elim (cases_order i number) [
-              | inl e ↦ subst (λ (n : ℕ). (node after (length ranks + n)).number ≡ n) (sym e) at_place
-              | inr e ↦ ap (λ (n : Node). n.number) (sym (other (length ranks + i) (λ w. elim e [ inl x ↦ omega (arith, x, w) | inr x ↦ omega (arith, x, w) ]))) ∙ leaves_ago.numbers i l
+            full = length-set nodes (place + 1) own ∙ full;
+            own = λ i l. elim (cases_order i number) [
+              | inl e ↦ subst (λ (n : ℕ). node after (length ranks + n) ≡ node_of (contestant ranks n)) (sym e) here
+              | inr e ↦
+                  let differs : i ≡ number → ⊥ = λ w. elim e [ inl x ↦ omega (arith, x, w) | inr x ↦ omega (arith, x, w) ] in
+                  sym (other (length ranks + i) (λ w. differs (omega (arith, w)))) ∙ own_ago i l differs
             ];
           };
           placed = λ k l h. elim (split place k l) [
-            | inl e ↦ subst (IsPlaced (length ranks) after) (sym e) (record {
-              known = subst (λ (n : ℕ). n < length ranks) (sym at_place) known;
-              above = subst (λ (n : ℕ). IsAbove place (length ranks + n)) (sym at_place) (above-self place);
-            })
+            | inl e ↦ subst (IsPlaced (length ranks) after) (sym e) (subst (λ (n : Node). n.number < length ranks → IsAbove place (length ranks + n.number)) (sym here) own_placed)
             | inr m ↦ placed-number (length ranks) nodes after k (ap (λ (n : Node). n.number) (other k (λ e. omega (arith, e, m)))) (placed_ago k (omega (arith, m)) h)
           ];
           fits = λ k l h. elim (split place k l) [
-            | inl e ↦ subst (Fits ranks after) (sym e) (here ∙ ap (λ (n : ℕ). node_of (contestant ranks n)) (sym at_place))
-            | inr m ↦ fits-node ranks nodes after k (other k (λ e. omega (arith, e, m))) (fits_ago k (omega (arith, m)) h (λ e. omega (arith, e, m, h, leaf k (omega (arith, m)) h)))
+            | inl e ↦ subst (Fits ranks after) (sym e) (subst (λ (n : Node). n ≡ node_of (contestant ranks n.number)) (sym here) own_fits)
+            | inr m ↦ fits-node ranks nodes after k (other k (λ e. omega (arith, e, m))) (fits_ago k (omega (arith, m)) h (leaf k m h))
           ];
           decided = λ k l h. absurd (omega (arith, l, h));
         };
@@ -139,7 +155,7 @@ module _ (ranks : List (Option Rank)) (number at : ℕ) (nodes : List Node) (c :
 
   -- where the changed contestant won is on its way to the first place
   on_path : (k : ℕ) → 1 ≤ k → k < 2 * length ranks → (node nodes k).number ≡ number → IsAbove k (length ranks + number)
-  on_path k low high e = subst (λ (n : ℕ). IsAbove k (length ranks + n)) e (all_placed k low high).above
+  on_path k low high e = subst (λ (n : ℕ). n < length ranks → IsAbove k (length ranks + n)) e (all_placed k low high) c.known
 
   -- so it won at no place between a place of that way and the next
   pub passed : (l k : ℕ) → IsAbove l (length ranks + number) → 1 ≤ k → k < 2 * length ranks → (k ≡ l → ⊥) → l / 2 < k → k / 2 < l → (node nodes k).number ≡ number → ⊥
@@ -186,11 +202,11 @@ module _ (ranks : List (Option Rank)) (number at : ℕ) (nodes : List Node) (c :
           ∙ ap node_of (winner-swapped (entrant ranks nodes (2 * (at / 2) + 1)) (entrant ranks nodes (2 * (at / 2))))
     ]
 
-    pub gone_on : (w : Node) → w ≡ node_of (winner_of (entrant ranks nodes at) (entrant ranks nodes (4 * (at / 2) + 1 - at))) → IsChanged ranks number (at / 2) (slice_set nodes (at / 2) w)
+    pub gone_on : (w : Node) → w ≡ node_of (winner_of (entrant ranks nodes at) (entrant ranks nodes (4 * (at / 2) + 1 - at))) → IsChanged ranks number (at / 2) (slice_set nodes (at / 2 + 1) w)
     gone_on w is =
         let p : ℕ = at / 2 in
         let few : p < length ranks = omega (arith, c.high) in
-        let after : List Node = slice_set nodes p w in
+        let after : List Node = slice_set nodes (p + 1) w in
         let other : (k : ℕ) → (k ≡ p → ⊥) → node nodes k ≡ node after k = λ k e. sym (node-set_other nodes p k w e) in
         record {
           known = c.known;
@@ -263,7 +279,9 @@ module _ (ranks : List (Option Rank)) (number at : ℕ) (nodes : List Node) (c :
       decided_next : IsDecided ranks nodes (at / 2)
       decided_next =
           let there : w ≡ node_of (winner_of (entrant ranks nodes (2 * (at / 2))) (entrant ranks nodes (2 * (at / 2) + 1))) = winner_there w is in
-          ap (contestant ranks) (sym before ∙ ap (λ (n : Node). n.number) there) ∙ winner-own ranks (node nodes (2 * (at / 2))).number (node nodes (2 * (at / 2) + 1)).number
+          let left : Fits ranks nodes (2 * (at / 2)) = next_fits (2 * (at / 2)) (omega (arith, more)) (omega (arith, c.high)) in
+          let right : Fits ranks nodes (2 * (at / 2) + 1) = next_fits (2 * (at / 2) + 1) (omega (arith, more)) (omega (arith, c.high)) in
+          ap (contestant ranks) (sym before ∙ ap (λ (n : Node). n.number) there ∙ winner-number ranks (node nodes (2 * (at / 2))) (node nodes (2 * (at / 2) + 1)) left right) ∙ winner-own ranks (node nodes (2 * (at / 2))).number (node nodes (2 * (at / 2) + 1)).number
 
       pub stopped : IsTreeFrom 1 ranks nodes
       stopped = record {

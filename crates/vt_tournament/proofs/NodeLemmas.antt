@@ -1,10 +1,12 @@
--- What the beginnings of two ranks say of who is ahead.
-use Rattle.std.proofs.Common.{◌≡◌, ℕ, ◌^◌, ◌<◌, ◌⊎◌, inl, inr, Bool, true, not, ◌||◌, ◌&&◌, nat_lt, List, Option, Some, None, refl, sym, ap, ◌∙◌, arith}
-use Rattle.std.proofs.lemmas.Bool.{cases_order, lt-ltb, le-ltb}
+-- What two nodes say of who is ahead.
+use Rattle.std.proofs.Common.{◌≡◌, ℕ, ◌^◌, ◌<◌, ◌≤◌, ◌⊎◌, inl, inr, Bool, true, false, not, ◌||◌, ◌&&◌, nat_eq, nat_lt, List, length, slice_index_or, Option, Some, None, refl, sym, ap, ◌∙◌, arith}
+use Rattle.std.proofs.lemmas.Bool.{cases_order, lt-ltb, le-ltb, eq-eqb, eqb-true}
+use Rattle.std.proofs.lemmas.List.{get_or_past}
 use Rattle.vt_key.specs.declared.order.Rank.{Rank}
 use Rattle.vt_key.specs.Order.{rank_before}
 use Rattle.vt_key.proofs.OrderLemmas.{before-rank_before}
-use Rattle.vt_tournament.specs.Contest.{Contestant, contestant, is_ahead, is_ahead_by, winner_of, first_time, first_source}
+use Rattle.vt_tournament.specs.declared.node.Node.{Node}
+use Rattle.vt_tournament.specs.Contest.{Contestant, contestant, is_ahead, is_ahead_by, winner_of, first_time, first_source, nobodys_number, number_of, node_of}
 use Rattle.vt_tournament.proofs.AheadLemmas.{tested, winner-first, winner-second, not_behind-ahead}
 
 -- whose time is earlier is ahead
@@ -53,4 +55,72 @@ pub winner-own : (ranks : List (Option Rank)) (a b : ℕ) → contestant ranks (
 winner-own ranks a b = elim (winner-one ranks a b) [
   | inl e ↦ ap (λ (c : Contestant). contestant ranks c.number) e ∙ sym e
   | inr e ↦ ap (λ (c : Contestant). contestant ranks c.number) e ∙ sym e
+]
+
+-- ---- nobody
+
+-- what a node says of taking part
+pub told_somebody : (n : ℕ) → not (nat_eq n nobodys_number) ≡ true → n ≡ nobodys_number → ⊥
+told_somebody n told e = absurd (let w : false ≡ true = sym (ap not (eq-eqb n nobodys_number e)) ∙ told in cc)
+
+pub told_nobody : (n : ℕ) → not (nat_eq n nobodys_number) ≡ false → n ≡ nobodys_number
+told_nobody n told = elim (tested (nat_eq n nobodys_number)) [
+  | inl y ↦ eqb-true n nobodys_number y
+  | inr y ↦ absurd (let w : true ≡ false = sym (ap not y) ∙ told in cc)
+]
+
+-- there is no entry of nobody's number
+pub nobodys_rank : (ranks : List (Option Rank)) → length ranks ≤ 2 ^ 31 → slice_index_or ranks nobodys_number None ≡ None
+nobodys_rank ranks few = get_or_past ranks nobodys_number None (omega (arith, few))
+
+-- a contestant's node has its number or nobody's
+pub number-one : (c : Contestant) → ((node_of c).number ≡ c.number) ⊎ ((node_of c).number ≡ nobodys_number)
+number-one c = cases c.rank refl where
+  cases : (r : Option Rank) → c.rank ≡ r → ((node_of c).number ≡ c.number) ⊎ ((node_of c).number ≡ nobodys_number)
+  cases (Some r) e = inl (ap (λ (x : Option Rank). number_of x c.number) e)
+  cases None e = inr (ap (λ (x : Option Rank). number_of x c.number) e)
+
+-- a contestant's node says what the rank of the contestant in it begins with
+pub node-own : (ranks : List (Option Rank)) → length ranks ≤ 2 ^ 31 → (i : ℕ) → node_of (contestant ranks i) ≡ node_of (contestant ranks (node_of (contestant ranks i)).number)
+node-own ranks few i = cases (slice_index_or ranks i None) refl where
+  cases : (r : Option Rank) → slice_index_or ranks i None ≡ r → node_of (contestant ranks i) ≡ node_of (contestant ranks (node_of (contestant ranks i)).number)
+  cases (Some r) e =
+      let same : (node_of (contestant ranks i)).number ≡ i = ap (λ (x : Option Rank). number_of x i) e in
+      ap (λ (n : ℕ). node_of (contestant ranks n)) (sym same)
+  cases None e =
+      let same : (node_of (contestant ranks i)).number ≡ nobodys_number = ap (λ (x : Option Rank). number_of x i) e in
+      ap (λ (x : Option Rank). node_of (record { rank = x; number = i })) e
+      ∙ ap (λ (x : Option Rank). node_of (record { rank = x; number = nobodys_number })) (sym (nobodys_rank ranks few))
+      ∙ ap (λ (n : ℕ). node_of (contestant ranks n)) (sym same)
+
+-- somebody in a node has a rank
+pub somebody : (ranks : List (Option Rank)) (n : Node) → n ≡ node_of (contestant ranks n.number) → (n.number ≡ nobodys_number → ⊥) → (r : Rank) × (slice_index_or ranks n.number None ≡ Some r)
+somebody ranks n fits other = cases (slice_index_or ranks n.number None) refl where
+  cases : (r : Option Rank) → slice_index_or ranks n.number None ≡ r → (r : Rank) × (slice_index_or ranks n.number None ≡ Some r)
+  cases (Some r) e = (r, e)
+  cases None e = absurd (other (ap (λ (m : Node). m.number) fits ∙ ap (λ (x : Option Rank). number_of x n.number) e))
+
+-- who has a rank is one of the contestants
+pub ranked-known : (ranks : List (Option Rank)) (i : ℕ) (r : Rank) → slice_index_or ranks i None ≡ Some r → i < length ranks
+ranked-known ranks i r e = elim (cases_order i (length ranks)) [
+  | inl x ↦ never (omega (arith, x))
+  | inr h ↦ elim h [ inl x ↦ x | inr x ↦ never (omega (arith, x)) ]
+] where
+  never : length ranks ≤ i → i < length ranks
+  never past = absurd (let w : None ≡ Some r = sym (get_or_past ranks i None past) ∙ e in cc)
+
+-- ---- the winner of two nodes
+
+-- the node of the winner is one of the two
+pub winner-node : (ranks : List (Option Rank)) (a b : Node) → a ≡ node_of (contestant ranks a.number) → b ≡ node_of (contestant ranks b.number) → (node_of (winner_of (contestant ranks a.number) (contestant ranks b.number)) ≡ a) ⊎ (node_of (winner_of (contestant ranks a.number) (contestant ranks b.number)) ≡ b)
+winner-node ranks a b fits other_fits = elim (winner-one ranks a.number b.number) [
+  | inl e ↦ inl (ap node_of e ∙ sym fits)
+  | inr e ↦ inr (ap node_of e ∙ sym other_fits)
+]
+
+-- and has the winner's number
+pub winner-number : (ranks : List (Option Rank)) (a b : Node) → a ≡ node_of (contestant ranks a.number) → b ≡ node_of (contestant ranks b.number) → (node_of (winner_of (contestant ranks a.number) (contestant ranks b.number))).number ≡ (winner_of (contestant ranks a.number) (contestant ranks b.number)).number
+winner-number ranks a b fits other_fits = elim (winner-one ranks a.number b.number) [
+  | inl e ↦ ap (λ (n : Node). n.number) (ap node_of e ∙ sym fits) ∙ sym (ap (λ (c : Contestant). c.number) e)
+  | inr e ↦ ap (λ (n : Node). n.number) (ap node_of e ∙ sym other_fits) ∙ sym (ap (λ (c : Contestant). c.number) e)
 ]

@@ -1,112 +1,74 @@
 -- The tree of winners: what stands in it at first, how a place is decided, and what the first place has.
-use Rattle.std.proofs.Common.{◌≡◌, ℕ, zero, suc, ◌+◌, ◌-◌, ◌*◌, ◌/◌, ◌<◌, ◌≤◌, ◌⊎◌, inl, inr, Bool, true, false, nat_lt, if◌then◌else◌, ◌++◌, List, [], ◌∷◌, length, slice_index_or, Option, Some, None, IfNone, slice_get, slice_set, replicate, length-append, refl, sym, subst, ap, ◌∙◌, arith}
+use Rattle.std.proofs.Common.{◌≡◌, ℕ, zero, suc, ◌+◌, ◌*◌, ◌/◌, ◌^◌, ◌<◌, ◌≤◌, ◌⊎◌, inl, inr, true, false, List, [], ◌∷◌, length, slice_index_or, Option, Some, None, IfNone, slice_get, slice_set, replicate, refl, sym, subst, ap, ◌∙◌, arith}
 use Rattle.std.specs.Option.{is_some}
-use Rattle.std.proofs.lemmas.List.{get_or-set_same, get_or-set_other, length-set, length-replicate}
-use Rattle.std.proofs.lemmas.Bool.{cases_order, le-ltb}
+use Rattle.std.proofs.lemmas.List.{get_or-set_same, get_or-set_other, get_or_default, length-set, length-replicate}
+use Rattle.std.proofs.lemmas.Bool.{cases_order}
 use Rattle.std.proofs.lemmas.Option.{slice_get-get_or, slice_get_past}
 use Rattle.vt_key.specs.declared.order.Rank.{Rank}
 use Rattle.vt_key.specs.Order.{RankBefore}
 use Rattle.vt_tournament.specs.declared.node.Node.{Node}
-use Rattle.vt_tournament.specs.Contest.{Contestant, is_ahead, is_ahead_by, winner_of, contestant, node_of, node, entrant, IsPlaced, IsAbove, AreLeaves, IsDecided, Fits, IsTreeFrom, IsTree, HasLeaves}
+use Rattle.vt_tournament.specs.Contest.{Contestant, is_ahead, is_ahead_by, winner_of, contestant, nobodys_number, number_of, node_of, node, entrant, IsPlaced, IsAbove, AreLeaves, IsDecided, Fits, IsTreeFrom, IsTree}
 use Rattle.vt_tournament.specs.Least.{IsLeast}
-use Rattle.vt_tournament.proofs.AheadLemmas.{NotBehind, not_behind-self, not_behind-transitive, winner-not_behind-first, winner-not_behind-second, not_behind-rank, behind-none}
-use Rattle.vt_tournament.proofs.NodeLemmas.{winner-one, winner-own}
+use Rattle.vt_tournament.proofs.AheadLemmas.{NotBehind, winner-first, not_behind-self, not_behind-transitive, winner-not_behind-first, winner-not_behind-second, not_behind-rank, behind-none}
+use Rattle.vt_tournament.proofs.NodeLemmas.{winner-own, winner-node, winner-number, nobodys_rank, somebody, ranked-known}
 use Rattle.vt_tournament.proofs.PathLemmas.{above-half}
 
 -- ---- before anybody takes part
 
--- a node before anybody takes part
-abbrev pub newcomer : ℕ → ℕ → Node
-newcomer count at = node_of (record { rank = None; number = if nat_lt at count then 0 else (at - count) })
-
--- the first nodes before anybody takes part
-abbrev pub newcomers : ℕ → ℕ → List Node
-newcomers count zero = []
-newcomers count (suc n) = newcomers count n ++ newcomer count n ∷ []
-
-at_end : (xs : List Node) (x d : Node) → slice_index_or (xs ++ x ∷ []) (length xs) d ≡ x
-at_end [] x d = refl
-at_end (y ∷ ys) x d = at_end ys x d
-
-before_end : (xs : List Node) (x d : Node) (i : ℕ) → i < length xs → slice_index_or (xs ++ x ∷ []) i d ≡ slice_index_or xs i d
-before_end [] x d i l = absurd (omega (arith, l))
-before_end (y ∷ ys) x d zero l = refl
-before_end (y ∷ ys) x d (suc i) l = before_end ys x d i (omega (arith, l))
-
-pub length-newcomers : (count n : ℕ) → length (newcomers count n) ≡ n
-length-newcomers count zero = refl
-length-newcomers count (suc n) = length-append (newcomers count n) (newcomer count n ∷ []) ∙ let e : length (newcomers count n) + 1 ≡ suc n = omega (arith, length-newcomers count n) in e
-
--- each of them is a newcomer
-node-newcomers : (count n i : ℕ) → i < n → node (newcomers count n) i ≡ newcomer count i
-node-newcomers count zero i l = absurd (omega (arith, l))
-node-newcomers count (suc n) i l = elim (last i n l) [
-  | inl less ↦ before_end (newcomers count n) (newcomer count n) (record { time = 0; source = 0; number = 0 }) i (omega (arith, less, length-newcomers count n)) ∙ node-newcomers count n i less
-  | inr at ↦
-      ap (λ (k : ℕ). slice_index_or (newcomers count n ++ newcomer count n ∷ []) k (record { time = 0; source = 0; number = 0 })) (at ∙ sym (length-newcomers count n))
-      ∙ at_end (newcomers count n) (newcomer count n) (record { time = 0; source = 0; number = 0 }) ∙ ap (newcomer count) (sym at)
-] where
-  last : (a b : ℕ) → a < suc b → (a < b) ⊎ (a ≡ b)
-  last a b h = elim (cases_order a b) [ inl e ↦ inr e | inr m ↦ elim m [ inl x ↦ inl x | inr x ↦ absurd (omega (arith, h, x)) ] ]
-
--- a contestant among them
-own_place : (count k : ℕ) → count ≤ k → k < 2 * count → node (newcomers count (2 * count)) k ≡ node_of (record { rank = None; number = k - count })
-own_place count k low high =
-    node-newcomers count (2 * count) k high
-    ∙ ap (λ (b : Bool). node_of (record { rank = None; number = if b then 0 else (k - count) })) (le-ltb k count low)
+-- the node of nobody
+abbrev pub nobodys_node : Node
+nobodys_node = node_of (record { rank = None; number = 0 })
 
 nobody_there : (n i : ℕ) → slice_index_or (replicate n (let d : Option Rank = None in d)) i None ≡ None
 nobody_there zero i = refl
 nobody_there (suc n) zero = refl
 nobody_there (suc n) (suc i) = nobody_there n i
 
--- where nobody takes part they are the leaves of a tree
-has_leaves : (ranks : List (Option Rank)) → ((i : ℕ) → slice_index_or ranks i None ≡ None) → HasLeaves ranks (newcomers (length ranks) (2 * length ranks))
-has_leaves ranks nobody =
-    let count : ℕ = length ranks in
-    let ns : List Node = newcomers count (2 * count) in
-    let number : (k : ℕ) → count ≤ k → k < 2 * count → (node ns k).number ≡ k - count = λ k low high. ap (λ (n : Node). n.number) (own_place count k low high) in
+node-replicate : (n : ℕ) (w : Node) (i : ℕ) → i + 1 < n → node (replicate n w) i ≡ w
+node-replicate n w i l = there n (i + 1) l where
+  there : (m j : ℕ) → j < m → slice_index_or (replicate m w) j (record { time = 0; source = 0; number = 0 }) ≡ w
+  there zero j less = absurd (omega (arith, less))
+  there (suc m) zero less = refl
+  there (suc m) (suc j) less = there m j (omega (arith, less))
+
+-- where nobody takes part, nodes of nobody are a tree
+tree_of_nobody : (ranks : List (Option Rank)) (nodes : List Node) → length ranks ≤ 2 ^ 31 → ((i : ℕ) → slice_index_or ranks i None ≡ None) → length nodes ≡ 2 * length ranks + 1 → ((k : ℕ) → k < 2 * length ranks → node nodes k ≡ nobodys_node) → IsTreeFrom 1 ranks nodes
+tree_of_nobody ranks nodes few none full all =
+    let c : Contestant = contestant ranks nobodys_number in
+    let at : (i : ℕ) → nobodys_node ≡ node_of (contestant ranks i) = λ i. ap (λ (r : Option Rank). node_of (record { rank = r; number = i })) (sym (none i)) in
+    let who : (k : ℕ) → k < 2 * length ranks → entrant ranks nodes k ≡ c = λ k h. ap (λ (n : Node). contestant ranks n.number) (all k h) in
     record {
-      leaves = record {
-        full = length-newcomers count (2 * count);
-        numbers = λ i l. number (count + i) (omega arith) (omega (arith, l)) ∙ let e : count + i - count ≡ i = omega arith in e;
-      };
-      placed = λ k low high. record {
-        known = omega (arith, number k low high, low, high);
-        above = (0, let e : count + (node ns k).number ≡ k = omega (arith, number k low high, low) in e);
-      };
-      fits = λ k low high.
-          let same : slice_index_or ranks (node ns k).number None ≡ None = nobody (node ns k).number in
-          own_place count k low high ∙ (λ j. node_of (record { rank = sym same j; number = sym (number k low high) j }));
-      decided = λ k low high. absurd (omega (arith, low, high));
+      leaves = record { full = full; own = λ i l. all (length ranks + i) (omega (arith, l)) ∙ at i };
+      placed = λ k low high l. absurd (let e : (node nodes k).number ≡ nobodys_number = ap (λ (n : Node). n.number) (all k high) in omega (arith, few, l, e));
+      fits = λ k low high. all k high ∙ at (node nodes k).number;
+      decided = λ k low high.
+          who k (omega (arith, high)) ∙ sym (winner-first c c (not_behind-self c))
+          ∙ (λ j. winner_of (sym (who (2 * k) (omega (arith, high))) j) (sym (who (2 * k + 1) (omega (arith, high))) j));
     }
 
-pub newcomers-leaves : (count : ℕ) → HasLeaves (replicate count None) (newcomers count (2 * count))
-newcomers-leaves count =
-    let nobody : List (Option Rank) = replicate count None in
-    let e : length nobody ≡ count = length-replicate count None in
-    subst (λ (n : ℕ). HasLeaves nobody (newcomers n (2 * n))) e (has_leaves nobody (nobody_there count))
+pub nobodys_tree : (count : ℕ) → count ≤ 2 ^ 31 → IsTreeFrom 1 (replicate count None) (replicate (2 * count + 1) nobodys_node)
+nobodys_tree count few =
+    let ranks : List (Option Rank) = replicate count None in
+    let e : length ranks ≡ count = length-replicate count None in
+    tree_of_nobody ranks (replicate (2 * count + 1) nobodys_node) (omega (arith, few, e)) (nobody_there count)
+    (length-replicate (2 * count + 1) nobodys_node ∙ (let w : 2 * count + 1 ≡ 2 * length ranks + 1 = omega (arith, e) in w))
+    (λ k high. node-replicate (2 * count + 1) nobodys_node k (omega (arith, e, high)))
 
 -- ---- one place
 
 -- what was read is what stands at the place
-pub read : (nodes : List Node) (i : ℕ) (x : Node) → i < length nodes → x ≡ slice_index_or nodes i x → x ≡ node nodes i
-read [] i x l h = absurd (omega (arith, l))
-read (c ∷ cs) zero x l h = h
-read (c ∷ cs) (suc i) x l h = read cs i x (omega (arith, l)) h
+pub read : (nodes : List Node) (k : ℕ) (x : Node) → k + 1 < length nodes → x ≡ slice_index_or nodes (k + 1) x → x ≡ node nodes k
+read nodes k x l h = h ∙ get_or_default nodes (k + 1) x (record { time = 0; source = 0; number = 0 }) l
 
-pub node-set_same : (nodes : List Node) (p : ℕ) (w : Node) → p < length nodes → node (slice_set nodes p w) p ≡ w
-node-set_same nodes p w l = get_or-set_same nodes p w (record { time = 0; source = 0; number = 0 }) l
+pub node-set_same : (nodes : List Node) (p : ℕ) (w : Node) → p + 1 < length nodes → node (slice_set nodes (p + 1) w) p ≡ w
+node-set_same nodes p w l = get_or-set_same nodes (p + 1) w (record { time = 0; source = 0; number = 0 }) l
 
-pub node-set_other : (nodes : List Node) (p k : ℕ) (w : Node) → (k ≡ p → ⊥) → node (slice_set nodes p w) k ≡ node nodes k
-node-set_other nodes p k w other = get_or-set_other nodes p k w (record { time = 0; source = 0; number = 0 }) other
+pub node-set_other : (nodes : List Node) (p k : ℕ) (w : Node) → (k ≡ p → ⊥) → node (slice_set nodes (p + 1) w) k ≡ node nodes k
+node-set_other nodes p k w other = get_or-set_other nodes (p + 1) (k + 1) w (record { time = 0; source = 0; number = 0 }) (λ e. other (omega (arith, e)))
 
 -- who is placed, decided and fits depends on few nodes
 pub placed-number : (count : ℕ) (ns ms : List Node) (k : ℕ) → (node ns k).number ≡ (node ms k).number → IsPlaced count ns k → IsPlaced count ms k
-placed-number count ns ms k e h = record {
-  known = subst (λ (n : ℕ). n < count) e h.known;
-  above = subst (λ (n : ℕ). IsAbove k (count + n)) e h.above;
-}
+placed-number count ns ms k e h = subst (λ (n : ℕ). n < count → IsAbove k (count + n)) e h
 
 pub decided-numbers : (ranks : List (Option Rank)) (ns ms : List Node) (k : ℕ) → node ns k ≡ node ms k → node ns (2 * k) ≡ node ms (2 * k) → node ns (2 * k + 1) ≡ node ms (2 * k + 1) → IsDecided ranks ns k → IsDecided ranks ms k
 decided-numbers ranks ns ms k e l r h = (λ j. contestant ranks (sym e j).number) ∙ h ∙ (λ j. winner_of (contestant ranks (l j).number) (contestant ranks (r j).number))
@@ -115,32 +77,32 @@ pub fits-node : (ranks : List (Option Rank)) (ns ms : List Node) (k : ℕ) → n
 fits-node ranks ns ms k e h = sym e ∙ h ∙ ap (λ (n : Node). node_of (contestant ranks n.number)) e
 
 -- the leaves stay where a place above them is decided
-pub leaves-set : (count : ℕ) (nodes : List Node) (p : ℕ) (w : Node) → p < count → AreLeaves count nodes → AreLeaves count (slice_set nodes p w)
-leaves-set count nodes p w l h = record {
-  full = length-set nodes p w ∙ h.full;
-  numbers = λ i m. ap (λ (n : Node). n.number) (node-set_other nodes p (count + i) w (λ e. omega (arith, e, l))) ∙ h.numbers i m;
+pub leaves-set : (ranks : List (Option Rank)) (nodes : List Node) (p : ℕ) (w : Node) → p < length ranks → AreLeaves ranks nodes → AreLeaves ranks (slice_set nodes (p + 1) w)
+leaves-set ranks nodes p w l h = record {
+  full = length-set nodes (p + 1) w ∙ h.full;
+  own = λ i m. node-set_other nodes p (length ranks + i) w (λ e. omega (arith, e, l)) ∙ h.own i m;
 }
 
 -- a place that gets the winner of the two below it
-pub decide : (ranks : List (Option Rank)) (nodes : List Node) (p : ℕ) (w : Node) → 1 ≤ p → p < length ranks → IsTreeFrom (suc p) ranks nodes → w ≡ node_of (winner_of (entrant ranks nodes (2 * p)) (entrant ranks nodes (2 * p + 1))) → IsTreeFrom p ranks (slice_set nodes p w)
+pub decide : (ranks : List (Option Rank)) (nodes : List Node) (p : ℕ) (w : Node) → 1 ≤ p → p < length ranks → IsTreeFrom (suc p) ranks nodes → w ≡ node_of (winner_of (entrant ranks nodes (2 * p)) (entrant ranks nodes (2 * p + 1))) → IsTreeFrom p ranks (slice_set nodes (p + 1) w)
 decide ranks nodes p w low high tree is =
     let count : ℕ = length ranks in
-    let ms : List Node = slice_set nodes p w in
+    let ms : List Node = slice_set nodes (p + 1) w in
     let c : Contestant = winner_of (entrant ranks nodes (2 * p)) (entrant ranks nodes (2 * p + 1)) in
     let own : contestant ranks c.number ≡ c = winner-own ranks (node nodes (2 * p)).number (node nodes (2 * p + 1)).number in
     let here : node ms p ≡ w = node-set_same nodes p w (omega (arith, high, tree.leaves.full)) in
-    let number : (node ms p).number ≡ c.number = ap (λ (n : Node). n.number) (here ∙ is) in
-    let left : IsPlaced count nodes (2 * p) = tree.placed (2 * p) (omega (arith, low)) (omega (arith, high)) in
-    let right : IsPlaced count nodes (2 * p + 1) = tree.placed (2 * p + 1) (omega (arith, low)) (omega (arith, high)) in
-    let half_left : 2 * p / 2 ≡ p = omega arith in
-    let half_right : (2 * p + 1) / 2 ≡ p = omega arith in
-    let placed_here : IsPlaced count ms p = elim (winner-one ranks (node nodes (2 * p)).number (node nodes (2 * p + 1)).number) [
-      | inl e ↦
-          let same : (node nodes (2 * p)).number ≡ (node ms p).number = sym (number ∙ ap (λ (x : Contestant). x.number) e) in
-          record { known = subst (λ (n : ℕ). n < count) same left.known; above = subst (λ (n : ℕ). IsAbove p (count + n)) same (subst (λ (n : ℕ). IsAbove n (count + (node nodes (2 * p)).number)) half_left (above-half (2 * p) (count + (node nodes (2 * p)).number) left.above)) }
-      | inr e ↦
-          let same : (node nodes (2 * p + 1)).number ≡ (node ms p).number = sym (number ∙ ap (λ (x : Contestant). x.number) e) in
-          record { known = subst (λ (n : ℕ). n < count) same right.known; above = subst (λ (n : ℕ). IsAbove p (count + n)) same (subst (λ (n : ℕ). IsAbove n (count + (node nodes (2 * p + 1)).number)) half_right (above-half (2 * p + 1) (count + (node nodes (2 * p + 1)).number) right.above)) }
+    let fits_left : Fits ranks nodes (2 * p) = tree.fits (2 * p) (omega (arith, low)) (omega (arith, high)) in
+    let fits_right : Fits ranks nodes (2 * p + 1) = tree.fits (2 * p + 1) (omega (arith, low)) (omega (arith, high)) in
+    let number : (node ms p).number ≡ c.number = ap (λ (n : Node). n.number) (here ∙ is) ∙ winner-number ranks (node nodes (2 * p)) (node nodes (2 * p + 1)) fits_left fits_right in
+    let from : (m : ℕ) → IsPlaced count nodes m → m / 2 ≡ p → node_of c ≡ node nodes m → IsPlaced count ms p =
+    λ m placed half e.
+    let same : (node nodes m).number ≡ (node ms p).number = ap (λ (n : Node). n.number) (sym (here ∙ is ∙ e)) in
+    let up : (node nodes m).number < count → IsAbove p (count + (node nodes m).number) =
+    λ l. subst (λ (n : ℕ). IsAbove n (count + (node nodes m).number)) half (above-half m (count + (node nodes m).number) (placed l)) in
+    subst (λ (n : ℕ). n < count → IsAbove p (count + n)) same up in
+    let placed_here : IsPlaced count ms p = elim (winner-node ranks (node nodes (2 * p)) (node nodes (2 * p + 1)) fits_left fits_right) [
+      | inl e ↦ from (2 * p) (tree.placed (2 * p) (omega (arith, low)) (omega (arith, high))) (omega arith) e
+      | inr e ↦ from (2 * p + 1) (tree.placed (2 * p + 1) (omega (arith, low)) (omega (arith, high))) (omega arith) e
     ] in
     let other : (k : ℕ) → (k ≡ p → ⊥) → node nodes k ≡ node ms k = λ k e. sym (node-set_other nodes p k w e) in
     let fits_here : Fits ranks ms p = here ∙ is ∙ ap node_of (sym own) ∙ ap (λ (n : ℕ). node_of (contestant ranks n)) (sym number) in
@@ -148,7 +110,7 @@ decide ranks nodes p w low high tree is =
     ap (contestant ranks) number ∙ own ∙ (λ j. winner_of (contestant ranks (other (2 * p) (λ e. omega (arith, e, low)) j).number) (contestant ranks (other (2 * p + 1) (λ e. omega (arith, e, low)) j).number)) in
     let split : (k : ℕ) → p ≤ k → (k ≡ p) ⊎ (suc p ≤ k) = λ k l. elim (cases_order p k) [ inl e ↦ inl (sym e) | inr m ↦ elim m [ inl x ↦ inr (omega (arith, x)) | inr x ↦ absurd (omega (arith, x, l)) ] ] in
     record {
-      leaves = leaves-set count nodes p w high tree.leaves;
+      leaves = leaves-set ranks nodes p w high tree.leaves;
       placed = λ k l h. elim (split k l) [
         | inl e ↦ subst (IsPlaced count ms) (sym e) placed_here
         | inr m ↦ placed-number count nodes ms k (ap (λ (n : Node). n.number) (other k (λ e. omega (arith, e, m)))) (tree.placed k m h)
@@ -197,22 +159,25 @@ module _ (ranks : List (Option Rank)) (nodes : List Node) (tree : IsTree ranks n
     inside e = cc
 
   -- who won is not behind a contestant with an entry
-  not_behind-entry : (i : ℕ) (r : Option Rank) → slice_get ranks i ≡ Some r → is_ahead_by r i (entrant ranks nodes 1).rank (node nodes 1).number ≡ false
+  not_behind-entry : (i : ℕ) (r : Rank) → slice_get ranks i ≡ Some (Some r) → is_ahead_by (Some r) i (entrant ranks nodes 1).rank (node nodes 1).number ≡ false
   not_behind-entry i r h =
-      let e = entered i r h in
-      let first : 1 < 2 * length ranks = omega (arith, tree.some) in
+      let e = entered i (Some r) h in
       let behind : NotBehind (entrant ranks nodes 1) (entrant ranks nodes (length ranks + i)) = top (2 * length ranks) (length ranks + i) (omega (arith, e.0)) (omega (arith, tree.some)) (omega (arith, e.0)) in
+      let number : (node nodes (length ranks + i)).number ≡ i = ap (λ (n : Node). n.number) (tree.tree.leaves.own i e.0) ∙ ap (λ (x : Option Rank). number_of x i) e.1 in
       subst (λ (x : Option Rank). is_ahead_by x i (entrant ranks nodes 1).rank (node nodes 1).number ≡ false) e.1
-      (subst (λ (n : ℕ). is_ahead (contestant ranks n) (entrant ranks nodes 1) ≡ false) (tree.tree.leaves.numbers i e.0) behind)
+      (subst (λ (n : ℕ). is_ahead (contestant ranks n) (entrant ranks nodes 1) ≡ false) number behind)
 
-  -- the first place has the least entry
-  pub first-least : (rank : Rank) → (entrant ranks nodes 1).rank ≡ Some rank → IsLeast ranks (node nodes 1).number
-  first-least rank is =
-      let known : (node nodes 1).number < length ranks = (tree.tree.placed 1 (omega arith) (omega (arith, tree.some))).known in
+  -- where somebody won at the first place, it has the least entry
+  pub first-least : ((node nodes 1).number ≡ nobodys_number → ⊥) → IsLeast ranks (node nodes 1).number
+  first-least part =
+      let found = somebody ranks (node nodes 1) (tree.tree.fits 1 (omega arith) (omega (arith, tree.some))) part in
+      let rank : Rank = found.0 in
+      let is : (entrant ranks nodes 1).rank ≡ Some rank = found.1 in
+      let known : (node nodes 1).number < length ranks = ranked-known ranks (node nodes 1).number rank is in
       let facts : (i : ℕ) (other : Rank) → slice_get ranks i ≡ Some (Some other) → (RankBefore other rank → ⊥) × (i < (node nodes 1).number → RankBefore rank other) =
       λ i other h.
       not_behind-rank rank other (node nodes 1).number i
-      (subst (λ (r : Option Rank). is_ahead_by (Some other) i r (node nodes 1).number ≡ false) is (not_behind-entry i (Some other) h)) in
+      (subst (λ (r : Option Rank). is_ahead_by (Some other) i r (node nodes 1).number ≡ false) is (not_behind-entry i other h)) in
       record {
         rank = rank;
         entered = slice_get-get_or ranks (node nodes 1).number None known ∙ ap Some is;
@@ -220,17 +185,14 @@ module _ (ranks : List (Option Rank)) (nodes : List Node) (tree : IsTree ranks n
         first = λ i other l h. (facts i other h).1 l;
       }
 
-  -- where it has no rank, nobody has
-  pub nobody : (entrant ranks nodes 1).rank ≡ None → (i : ℕ) (other : Rank) → slice_get ranks i ≡ Some (Some other) → ⊥
+  -- where nobody won, nobody has a rank
+  pub nobody : (node nodes 1).number ≡ nobodys_number → (i : ℕ) (other : Rank) → slice_get ranks i ≡ Some (Some other) → ⊥
   nobody is i other h =
+      let none : (entrant ranks nodes 1).rank ≡ None = ap (λ (n : ℕ). slice_index_or ranks n None) is ∙ nobodys_rank ranks tree.few in
       behind-none other (node nodes 1).number i
-      (subst (λ (r : Option Rank). is_ahead_by (Some other) i r (node nodes 1).number ≡ false) is (not_behind-entry i (Some other) h))
+      (subst (λ (r : Option Rank). is_ahead_by (Some other) i r (node nodes 1).number ≡ false) none (not_behind-entry i other h))
 
--- an option that is something has it, and one that isn't is None
-pub some_of : {X : Type 0} (o : Option X) → is_some o ≡ true → (x : X) × (o ≡ Some x)
-some_of None part = absurd (let h : false ≡ true = part in cc)
-some_of (Some x) part = (x, refl)
-
+-- an option that isn't something is None
 pub none_of : {X : Type 0} (o : Option X) → is_some o ≡ false → o ≡ None
 none_of None part = refl
 none_of (Some x) part = absurd (let h : true ≡ false = part in cc)

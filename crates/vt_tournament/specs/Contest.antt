@@ -37,15 +37,24 @@ abbrev pub first_source : Option Rank → ℕ
 first_source (Some r) = r.key.source
 first_source None = 2 ^ 32 - 1
 
--- the node where a contestant won
+-- the number that stands for nobody
+abbrev pub nobodys_number : ℕ
+nobodys_number = 2 ^ 32 - 1
+
+-- the number in a contestant's node: who takes no part is nobody there
+abbrev pub number_of : Option Rank → ℕ → ℕ
+number_of (Some r) n = n
+number_of None n = nobodys_number
+
+-- the node where a contestant won; all that take no part have the same
 abbrev pub node_of : Contestant → Node
-node_of c = record { time = first_time c.rank; source = first_source c.rank; number = c.number }
+node_of c = record { time = first_time c.rank; source = first_source c.rank; number = number_of c.rank c.number }
 
--- the node at a place
+-- the node at a place, which stands one further in the list
 abbrev pub node : List Node → ℕ → Node
-node nodes k = slice_index_or nodes k (record { time = 0; source = 0; number = 0 })
+node nodes k = slice_index_or nodes (k + 1) (record { time = 0; source = 0; number = 0 })
 
--- the contestant that won at a place
+-- the contestant that won at a place; there is no entry of nobody's number, so nobody has no rank
 abbrev pub entrant : List (Option Rank) → List Node → ℕ → Contestant
 entrant ranks nodes k = contestant ranks (node nodes k).number
 
@@ -58,15 +67,14 @@ halved (suc j) m = halved j (m / 2)
 abbrev pub IsAbove : ℕ → ℕ → Type 0
 IsAbove k m = (j : ℕ) × (halved j m ≡ k)
 
--- who won at a place stands at it or below it
-pub record IsPlaced (count : ℕ) (nodes : List Node) (k : ℕ) : Type 0 where
-  pub known : (node nodes k).number < count
-  pub above : IsAbove k (count + (node nodes k).number)
+-- a contestant that won at a place stands at it or below it
+abbrev pub IsPlaced : ℕ → List Node → ℕ → Type 0
+IsPlaced count nodes k = (node nodes k).number < count → IsAbove k (count + (node nodes k).number)
 
 -- the last places are those of the contestants, in the order of their numbers
-pub record AreLeaves (count : ℕ) (nodes : List Node) : Type 0 where
-  pub full : length nodes ≡ 2 * count
-  pub numbers : (i : ℕ) → i < count → (node nodes (count + i)).number ≡ i
+pub record AreLeaves (ranks : List (Option Rank)) (nodes : List Node) : Type 0 where
+  pub full : length nodes ≡ 2 * length ranks + 1
+  pub own : (i : ℕ) → i < length ranks → node nodes (length ranks + i) ≡ node_of (contestant ranks i)
 
 -- a place has the winner of the two below it
 abbrev pub IsDecided : List (Option Rank) → List Node → ℕ → Type 0
@@ -78,7 +86,7 @@ Fits ranks nodes k = node nodes k ≡ node_of (entrant ranks nodes k)
 
 -- the places from one on are decided
 pub record IsTreeFrom (from : ℕ) (ranks : List (Option Rank)) (nodes : List Node) : Type 0 where
-  pub leaves : AreLeaves (length ranks) nodes
+  pub leaves : AreLeaves ranks nodes
   pub placed : (k : ℕ) → from ≤ k → k < 2 * length ranks → IsPlaced (length ranks) nodes k
   pub fits : (k : ℕ) → from ≤ k → k < 2 * length ranks → Fits ranks nodes k
   pub decided : (k : ℕ) → from ≤ k → k < length ranks → IsDecided ranks nodes k
@@ -88,10 +96,6 @@ pub record IsTree (ranks : List (Option Rank)) (nodes : List Node) : Type 0 wher
   pub some : 1 ≤ length ranks
   pub few : length ranks ≤ 2 ^ 31
   pub tree : IsTreeFrom 1 ranks nodes
-
--- the contestants stand in their places, and none above them is decided yet
-abbrev pub HasLeaves : List (Option Rank) → List Node → Type 0
-HasLeaves ranks nodes = IsTreeFrom (length ranks) ranks nodes
 
 -- a tree for some other entry of one contestant
 pub record WasTree (number : ℕ) (ranks : List (Option Rank)) (nodes : List Node) : Type 0 where

@@ -1,16 +1,18 @@
 //! A node of the tree, and who of two is ahead.
 
-ghost use Rattle.std.specs.Prelude.{◌≡◌, ◌<◌, None, length, slice_index_or};
-ghost use Rattle.std.specs.Option.{is_some};
-ghost use Rattle.vt_tournament.specs.Contest.{is_ahead, winner_of, contestant, node_of};
+ghost use Rattle.std.specs.Prelude.{◌≡◌, ◌<◌, ◌≤◌, ◌^◌, true, not, nat_eq, length};
+ghost use Rattle.vt_tournament.specs.Contest.{is_ahead, winner_of, contestant, nobodys_number, node_of};
 
 use vt_key::{Rank, Time};
 
 /// No time is later: where who takes no part stands.
 const LATEST: Time = Time::MAX;
 
+/// The number in a node of nobody. There are at most 2^31 contestants, so it is no contestant's.
+const NOBODY: u32 = u32::MAX;
+
 /// A node: who won there, and the beginning of its rank, which mostly decides between two. It is small, since deciding a
-/// tournament reads and writes many.
+/// tournament reads and writes many. Where nobody takes part it is the one node of nobody, so no entry has to tell that.
 #[derive(Clone, Copy)]
 pub(crate) struct Node {
     pub(crate) time: Time,
@@ -19,7 +21,7 @@ pub(crate) struct Node {
 }
 
 impl Node {
-    /// The node of a contestant.
+    /// The node of a contestant; of one that takes no part, that of nobody.
     pub(crate) fn new(number: u32, rank: &Option<Rank>) -> Node
         ensures { result ≡ node_of (record { rank = rank.now; number = number }) }
     {
@@ -32,29 +34,28 @@ impl Node {
             None => Node {
                 time: LATEST,
                 source: u32::MAX,
-                number,
+                number: NOBODY,
             },
         }
     }
 
-    /// Whether what the two nodes have of their ranks is one.
-    pub(crate) fn begins_like(&self, other: &Node) -> bool {
-        self.time == other.time && self.source == other.source
-    }
-
-    /// Whether its contestant takes part. Mostly the node alone tells.
-    pub(crate) fn takes_part(&self, ranks: &[Option<Rank>]) -> bool
-        requires known { self.now.number < length ranks.now }
-        requires fits { self.now ≡ node_of (contestant ranks.now self.now.number) }
-        ensures { result ≡ is_some (slice_index_or ranks.now self.now.number None) }
+    /// Whether the two are one. Of nodes that are one, the ranks begin alike.
+    pub(crate) fn is_same(&self, other: &Node) -> bool
+        ensures { result ≡ true → self.now ≡ other.now }
     {
-        self.time != LATEST || self.source != u32::MAX || ranks[self.number as usize].is_some()
+        self.time == other.time && self.source == other.source && self.number == other.number
     }
 
-    /// Whether this one is ahead of the other: by rank, and with equal ranks by number. Who takes no part comes last.
+    /// Whether somebody won there who takes part.
+    pub(crate) fn takes_part(&self) -> bool
+        ensures { result ≡ not (nat_eq self.now.number nobodys_number) }
+    {
+        self.number != NOBODY
+    }
+
+    /// Whether this one is ahead of the other: by rank, and with equal ranks by number. Nobody comes last.
     pub(crate) fn is_ahead(&self, other: &Node, ranks: &[Option<Rank>]) -> bool
-        requires known { self.now.number < length ranks.now }
-        requires other_known { other.now.number < length ranks.now }
+        requires few { length ranks.now ≤ 2 ^ 31 }
         requires fits { self.now ≡ node_of (contestant ranks.now self.now.number) }
         requires other_fits { other.now ≡ node_of (contestant ranks.now other.now.number) }
         ensures { result ≡ is_ahead (contestant ranks.now self.now.number) (contestant ranks.now other.now.number) }
@@ -63,6 +64,10 @@ impl Node {
             self.time < other.time
         } else if self.source != other.source {
             self.source < other.source
+        } else if !self.takes_part() {
+            false
+        } else if !other.takes_part() {
+            true
         } else {
             is_ahead(ranks, self.number, other.number)
         }
@@ -70,8 +75,7 @@ impl Node {
 
     /// The one of the two that is ahead.
     pub(crate) fn winner(self, other: Node, ranks: &[Option<Rank>]) -> Node
-        requires known { self.number < length ranks.now }
-        requires other_known { other.number < length ranks.now }
+        requires few { length ranks.now ≤ 2 ^ 31 }
         requires fits { self ≡ node_of (contestant ranks.now self.number) }
         requires other_fits { other ≡ node_of (contestant ranks.now other.number) }
         ensures { result ≡ node_of (winner_of (contestant ranks.now self.number) (contestant ranks.now other.number)) }

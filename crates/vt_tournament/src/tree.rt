@@ -3,13 +3,17 @@
 ghost use Rattle.std.specs.Prelude.{◌≡◌, true, ℕ, ◌+◌, ◌*◌, ◌<◌, ◌≤◌, ◌^◌, length, replicate, slice_get, slice_set, Option, Some, None, IfOk, IfErr, IfSome, IfNone};
 ghost use Rattle.vt_key.specs.declared.fault.Fault.TheVariants.{Memory};
 ghost use Rattle.vt_key.specs.declared.order.Rank.{Rank};
-ghost use Rattle.vt_tournament.specs.Contest.{node, HasLeaves, IsTreeFrom, WasTree};
+ghost use Rattle.vt_tournament.specs.Contest.{contestant, node_of, IsTreeFrom, WasTree};
 ghost use Rattle.vt_tournament.specs.Least.{IsLeast};
 
 use crate::node::Node;
 use std::alloc::Global;
 use std::marker::Model;
 use vt_key::{Fault, Rank};
+
+/// The node of a place stands this much further in the list: large blocks of the C library begin 16 bytes past a line of the
+/// cache, so that the two nodes below one, 16 bytes each, share a line.
+const SHIFT: usize = 1;
 
 /// A tournament of contestants that are numbered from 0. Contracts see the list of their entries: a rank, or None for who
 /// takes no part.
@@ -42,8 +46,7 @@ impl Tournament {
         ensures refused { IfErr result (λ fault. fault ≡ Memory) }
     {
         let ranks = nobody(alloc, count)?;
-        let mut nodes = leaves(alloc, count)?;
-        decide_all(ranks.as_slice(), nodes.as_mut_slice());
+        let nodes = nodes_of_nobody(alloc, count)?;
         Ok(Tournament { ranks, nodes })
     }
 
@@ -63,15 +66,20 @@ impl Tournament {
         if rank.is_none() && self.winner().is_none() {
             return;
         }
-        // Mostly the nodes alone tell that the entry changes, and the one before isn't read.
-        let leaf = self.nodes[self.ranks.len() + number as usize];
-        if leaf.begins_like(&Node::new(number, &rank))
-            && are_same(&self.ranks[number as usize], &rank)
+        // Mostly the nodes alone tell whether the entry changes, and the one before isn't read.
+        let node = Node::new(number, &rank);
+        if self.nodes[self.ranks.len() + number as usize + SHIFT].is_same(&node)
+            && (!node.takes_part() || are_same(&self.ranks[number as usize], &rank))
         {
             return;
         }
         self.ranks[number as usize] = rank;
-        decide_above(self.ranks.as_slice(), self.nodes.as_mut_slice(), number);
+        decide_above(
+            self.ranks.as_slice(),
+            self.nodes.as_mut_slice(),
+            number,
+            node,
+        );
     }
 
     /// The contestant of least rank, and of those with equal ranks the one of least number; None where nobody takes part.
@@ -79,8 +87,8 @@ impl Tournament {
         ensures nobody { IfNone result ((i : ℕ) (rank : Rank) → slice_get self.now i ≡ Some (Some rank) → ⊥) }
         ensures least { IfSome result (IsLeast self.now) }
     {
-        let first = self.nodes[1];
-        if first.takes_part(self.ranks.as_slice()) {
+        let first = self.nodes[1 + SHIFT];
+        if first.takes_part() {
             Some(first.number)
         } else {
             None
@@ -111,55 +119,39 @@ fn nobody(alloc: Global, count: u32) -> Result<Vec<Option<Rank>>, Fault>
     Ok(ranks)
 }
 
-/// The nodes of so many contestants of whom nobody takes part, with none above them decided.
-fn leaves(alloc: Global, count: u32) -> Result<Vec<Node>, Fault>
+/// The nodes of so many contestants of whom nobody takes part: in each, nobody won.
+fn nodes_of_nobody(alloc: Global, count: u32) -> Result<Vec<Node>, Fault>
     requires few { count ≤ 2 ^ 31 }
-    ensures leaves { IfOk result (λ nodes. HasLeaves (replicate count None) nodes.items) }
+    ensures tree { IfOk result (λ nodes. IsTreeFrom 1 (replicate count None) nodes.items) }
     ensures refused { IfErr result (λ fault. fault ≡ Memory) }
 {
-    let count = count as usize;
-    let mut nodes = Vec::with_capacity(alloc, 2 * count).map_err(|_| Fault::Memory)?;
-    for at in 0..2 * count {
-        let number = if at < count { 0 } else { at - count };
-        nodes
-            .push(Node::new(number as u32, &None))
-            .map_err(|_| Fault::Memory)?;
+    let places = 2 * count as usize + SHIFT;
+    let mut nodes = Vec::with_capacity(alloc, places).map_err(|_| Fault::Memory)?;
+    for _ in 0..places {
+        nodes.push(Node::new(0, &None)).map_err(|_| Fault::Memory)?;
     }
     Ok(nodes)
 }
 
-/// Decides every node, from the last to the first.
-fn decide_all(ranks: &[Option<Rank>], nodes: &mut [Node])
-    requires some { 1 ≤ length ranks.now }
-    requires few { length ranks.now ≤ 2 ^ 31 }
-    requires leaves { HasLeaves ranks.now nodes.old }
-    ensures decided { IsTreeFrom 1 ranks.now nodes.new }
-{
-    let mut at = ranks.len();
-    while at > 1 {
-        at -= 1;
-        nodes[at] = nodes[2 * at].winner(nodes[2 * at + 1], ranks);
-    }
-}
-
-/// Decides the nodes above a contestant again, whose entry alone was changed.
-fn decide_above(ranks: &[Option<Rank>], nodes: &mut [Node], number: u32)
+/// Decides the nodes above a contestant again, whose entry alone was changed and has this node now.
+fn decide_above(ranks: &[Option<Rank>], nodes: &mut [Node], number: u32, node: Node)
     requires known { number < length ranks.now }
     requires few { length ranks.now ≤ 2 ^ 31 }
     requires was { WasTree number ranks.now nodes.old }
+    requires own { node ≡ node_of (contestant ranks.now number) }
     ensures decided { IsTreeFrom 1 ranks.now nodes.new }
 {
     let mut at = ranks.len() + number as usize;
-    let mut winner = Node::new(number, &ranks[number as usize]);
-    nodes[at] = winner;
+    let mut winner = node;
+    nodes[at + SHIFT] = winner;
     while at > 1 {
-        let rival = nodes[4 * (at / 2) + 1 - at];
+        let rival = nodes[4 * (at / 2) + 1 - at + SHIFT];
         winner = winner.winner(rival, ranks);
         at /= 2;
         // Where another one wins as before, all above stays.
-        if winner.number != number && winner.number == nodes[at].number {
+        if winner.number != number && winner.number == nodes[at + SHIFT].number {
             return;
         }
-        nodes[at] = winner;
+        nodes[at + SHIFT] = winner;
     }
 }

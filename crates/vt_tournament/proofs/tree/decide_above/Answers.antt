@@ -12,12 +12,12 @@ loop-at-init c =
     let ranks = c.args.ranks.now in
     let nodes = c.args.nodes.now in
     let place : ℕ = length ranks + c.args.number in
-    let w : Node = c.new-winner.result in
+    let w : Node = c.args.node in
     let many : length (slice_set ranks c.args.number c.requires.was.entry) ≡ length ranks = length-set ranks c.args.number c.requires.was.entry in
-    let there : place < length nodes = omega (arith, many, c.requires.was.tree.leaves.full, c.requires.known) in
+    let there : place + 1 < length nodes = omega (arith, many, c.requires.was.tree.leaves.full, c.requires.known) in
     record {
       there = sym (node-set_same nodes place w there);
-      changed = subst (λ (x : Node). IsChanged ranks c.args.number place (slice_set nodes place x)) (sym c.new-winner.ensures) (begun ranks c.args.number nodes c.requires.known c.requires.was);
+      changed = subst (λ (x : Node). IsChanged ranks c.args.number place (slice_set nodes (place + 1) x)) (sym c.requires.own) (begun ranks c.args.number nodes c.requires.few c.requires.known c.requires.was);
     }
 
 -- who wins of the two below the next place
@@ -47,7 +47,7 @@ loop-at-preserved c =
     let h = c.loop-at.invariant.changed in
     let nodes = c.loop-at.nodes in
     let more : 2 ≤ at = omega (arith, c.loop-at-test.true) in
-    let there : at / 2 < length nodes = omega (arith, h.tree.leaves.full, h.high) in
+    let there : at / 2 + 1 < length nodes = omega (arith, h.tree.leaves.full, h.high) in
     record {
       there = sym (node-set_same nodes (at / 2) c.winner-winner.result there);
       changed = gone_on c.args.ranks.now c.args.number at nodes h more c.winner-winner.result
