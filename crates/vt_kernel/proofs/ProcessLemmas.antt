@@ -25,12 +25,6 @@ get-map_of f [] i x at = absurd (let h : None ≡ Some x = at in cc)
 get-map_of f (y ∷ ys) zero x at = let h : Some y ≡ Some x = at in let same : y ≡ x = cc in ap (λ z. Some (f z)) same
 get-map_of f (y ∷ ys) (suc i) x at = get-map_of f ys i x at
 
--- what is there already, put there again, changes nothing
-pub put-there : {X : Type 0} (xs : List X) (i : ℕ) (x : X) → slice_get xs i ≡ Some x → xs ≡ slice_set xs i x
-put-there [] i x at = refl
-put-there (y ∷ ys) zero x at = let h : Some y ≡ Some x = at in let same : y ≡ x = cc in ap (λ z. z ∷ ys) same
-put-there (y ∷ ys) (suc i) x at = ap (λ zs. y ∷ zs) (put-there ys i x at)
-
 -- ---- the processes of a worker
 
 module _ {S P : Type 0} (sim : Simulation S P) (w : ℕ) where

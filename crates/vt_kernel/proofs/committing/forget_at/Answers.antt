@@ -1,19 +1,19 @@
 use Rattle.std.proofs.Common.{◌≡◌, ◌∙◌, slice_set, ap, sym}
 use Rattle.vt_lp.specs.Held.{HeldProcess}
 use Rattle.vt_kernel.specs.Held.{ready_of, unready_of}
-use Rattle.vt_kernel.proofs.ProcessLemmas.{put-there}
+use Rattle.vt_kernel.proofs.SettlingLemmas.{put-there}
 use Rattle.vt_kernel.proofs.committing.forget_at.Goals as goal
 
 pub returns-else-fossil_into-clause-ready : goal.returns-else-fossil_into-clause-ready
 returns-else-fossil_into-clause-ready g c =
     let now = c.args.ready.now in
     let same = c.fossil_into.ensures.unchanged c.if-fossil_into.false in
-    put-there now c.args.place (ready_of c.args.process.now) c.requires.in_ready
+    sym (put-there now c.args.place (ready_of c.args.process.now) c.requires.in_ready)
     ∙ ap (λ (q : HeldProcess _ _ _). slice_set now c.args.place (ready_of q)) (sym same)
 
 pub returns-else-fossil_into-clause-unready : goal.returns-else-fossil_into-clause-unready
 returns-else-fossil_into-clause-unready g c =
     let now = c.args.unready.now in
     let same = c.fossil_into.ensures.unchanged c.if-fossil_into.false in
-    put-there now c.args.place (unready_of c.args.process.now) c.requires.in_unready
+    sym (put-there now c.args.place (unready_of c.args.process.now) c.requires.in_unready)
     ∙ ap (λ (q : HeldProcess _ _ _). slice_set now c.args.place (unready_of q)) (sym same)
