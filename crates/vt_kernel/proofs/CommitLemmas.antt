@@ -1,7 +1,9 @@
 -- A worker's processes after they committed, and the rows of what they commit.
-use Rattle.std.proofs.Common.{◌≡◌, ◌∙◌, ℕ, suc, ◌+◌, ◌*◌, ◌<◌, List, [], ◌∷◌, ◌++◌, map, take, length, slice_index_or, refl, sym, ap, subst, arith, Option, Some, slice_get}
+use Rattle.std.proofs.Common.{◌≡◌, ◌∙◌, ◌⊎◌, inl, inr, ℕ, Bool, suc, ◌+◌, ◌*◌, ◌<◌, ◌≤◌, List, [], ◌∷◌, ◌++◌, map, take, length, slice_index_or, refl, sym, ap, subst, arith, Option, Some, None, slice_get}
 use Rattle.std.proofs.lemmas.List.{append-nil, append_assoc, take_more, length-take}
-use Rattle.std.proofs.lemmas.Option.{get_or_from_slice_get, slice_get_within}
+use Rattle.std.proofs.lemmas.Option.{get_or_from_slice_get, slice_get_within, slice_get_cases}
+use Rattle.vt_lp.specs.Ripe.{rows_of_ripe}
+use Rattle.vt_lp.proofs.RipeLemmas.{rows-ripe}
 use Rattle.vt_key.specs.Times.{Time}
 use Rattle.vt_key.specs.declared.order.Rank.{Rank}
 use Rattle.vt_key.specs.declared.letter.Letter.{Letter}
@@ -15,7 +17,7 @@ use Rattle.vt_steps.specs.World.{LogicalProcess, Part, process_at}
 use Rattle.vt_steps.specs.PartSteps.{process_after_commit, part_after_commit, ripe_rows, rows_of_processes}
 use Rattle.vt_steps.specs.StandsFor.{StandsForProcess, StandForProcesses}
 use Rattle.vt_lp.specs.Held.{HeldProcess, process_memory, StandsFor as ProcessStandsFor}
-use Rattle.vt_kernel.specs.Held.{HeldWorker, StandsFor, AreProcesses, TellsLeast, IsWorkerInside, entries_of, unready_of, ready_of}
+use Rattle.vt_kernel.specs.Held.{HeldWorker, StandsFor, AreProcesses, TellsLeast, IsWorkerInside, AreMarked, entries_of, unready_of, ready_of}
 use Rattle.vt_kernel.specs.Guards.{IsForgotten}
 use Rattle.vt_kernel.proofs.PartLemmas.{stands_along}
 use Rattle.vt_kernel.proofs.ProcessLemmas.{get-map_of, stands-at, process-at}
@@ -92,13 +94,13 @@ module _ {S P K : Type 0} where
       }
 
   -- how the fields of a worker go together then
-  pub inside-commit : {config : Config} {w : ℕ} {xs : List (HeldProcess S P K)} {outbox : List (Letter P)} {arrived : List (Mail P)} {sent got : Counts} {serial : ℕ} {ready unready : List (Option Rank)} →
-      (floor : Time) (ys : List (HeldProcess S P K)) (entered entered_unready : List (Option Rank)) → length ys ≡ length xs →
+  pub inside-commit : {config : Config} {w : ℕ} {xs : List (HeldProcess S P K)} {outbox : List (Letter P)} {arrived : List (Mail P)} {sent got : Counts} {serial : ℕ} {ready unready : List (Option Rank)} {marked : List Bool} →
+      (floor : Time) (ys : List (HeldProcess S P K)) (entered entered_unready : List (Option Rank)) (new_marked : List Bool) → length ys ≡ length xs →
       ((k : ℕ) (d : HeldProcess S P K) → k < length xs → IsForgotten floor (slice_index_or xs k d) (slice_index_or ys k d)) →
-      entered ≡ entries_of ready_of ys → entered_unready ≡ entries_of unready_of ys →
-      IsWorkerInside config w xs outbox arrived sent got serial ready unready →
-      IsWorkerInside config w ys outbox arrived sent got serial entered entered_unready
-  inside-commit {config} {w} {xs} floor ys entered entered_unready long each is isnt h =
+      entered ≡ entries_of ready_of ys → entered_unready ≡ entries_of unready_of ys → AreMarked new_marked ys →
+      IsWorkerInside config w xs outbox arrived sent got serial ready unready marked →
+      IsWorkerInside config w ys outbox arrived sent got serial entered entered_unready new_marked
+  inside-commit {config} {w} {xs} floor ys entered entered_unready new_marked long each is isnt marks h =
       let all : AllForgotten floor xs ys = forgotten-each floor xs ys long each in
       record {
         known = h.known;
@@ -112,6 +114,7 @@ module _ {S P K : Type 0} where
         ready_entered = is;
         unready_entered = isnt;
         least_told = λ k d within. let inside : k < length xs = omega arith in least-forgotten floor (slice_index_or xs k d) (slice_index_or ys k d) (each k d inside) (h.least_told k d inside);
+        past_marked = marks;
       }
 
 -- ---- rows
@@ -180,3 +183,19 @@ module _ {S P K : Type 0} (handlers : Handlers S P K) where
       ∙ ap (λ (n : ℕ). rows_of_processes sim held.worker held.floor 0 (take place part.processes) ++ ripe_rows sim (process_at sim held.worker n) held.floor p) (sym long)
       ∙ sym (rows-more sim held.worker held.floor 0 (take place part.processes) p)
       ∙ ap (rows_of_processes sim held.worker held.floor 0) (sym longer)
+
+  -- a process without past events has no row
+  pub rows-skip : (held : HeldWorker S P K) (part : Part P) (place : ℕ) (rows : List Row) → StandsFor handlers held part →
+      AreProcesses held.config held.worker 0 held.processes → place < length held.processes →
+      ((q : HeldProcess S P K) → slice_get held.processes place ≡ Some q → q.past ≡ []) →
+      rows ≡ rows_of_processes (simulation_of handlers held.config) held.worker held.floor 0 (take place part.processes) →
+      rows ≡ rows_of_processes (simulation_of handlers held.config) held.worker held.floor 0 (take (place + 1) part.processes)
+  rows-skip held part place rows s are less none so_far = go (slice_get_cases held.processes place).1
+    where
+      go : ((q : HeldProcess S P K) × (place < length held.processes) × (slice_get held.processes place ≡ Some q) × (slice_index_or held.processes place q ≡ q)) ⊎ ((length held.processes ≤ place) × (slice_get held.processes place ≡ None))
+          → rows ≡ rows_of_processes (simulation_of handlers held.config) held.worker held.floor 0 (take (place + 1) part.processes)
+      go (inl found) =
+          let q = found.0 in
+          rows-next held part place q rows rows s are found.2 so_far
+          (λ h stands. sym (append-nil rows) ∙ ap (λ (more : List Row). rows ++ more) (sym (rows-ripe handlers held.floor q h stands ∙ ap (rows_of_ripe held.floor) (none q found.2))))
+      go (inr beyond) = (let no = beyond.0 in absurd (omega (arith, no, less)))

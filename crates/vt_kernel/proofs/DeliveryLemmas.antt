@@ -162,8 +162,8 @@ module _ {S P K : Type 0} (handlers : Handlers S P K) (held : HeldWorker S P K) 
       ∙ ap (accept_mail (simulation_of handlers held.config) i part) (ap (λ ms. slice_get ms i) h.arrived ∙ none)
 
 -- a letter that was found in the outbox is for one of the worker's processes, before the end of the run
-pub found-in : {S P K : Type 0} {config : Config} {w : ℕ} {processes : List (HeldProcess S P K)} {outbox : List (Letter P)} {arrived : List (Mail P)} {sent got : Counts} {serial : ℕ} {ready unready : List (Option Rank)}
-    → IsWorkerInside config w processes outbox arrived sent got serial ready unready → (letter : Letter P) → find (λ (l : Letter P). nat_eq (l.event.dest % config.workers) w) outbox ≡ Some letter
+pub found-in : {S P K : Type 0} {config : Config} {w : ℕ} {processes : List (HeldProcess S P K)} {outbox : List (Letter P)} {arrived : List (Mail P)} {sent got : Counts} {serial : ℕ} {ready unready : List (Option Rank)} {marked : List Bool}
+    → IsWorkerInside config w processes outbox arrived sent got serial ready unready marked → (letter : Letter P) → find (λ (l : Letter P). nat_eq (l.event.dest % config.workers) w) outbox ≡ Some letter
     → (letter.event.dest % config.workers ≡ w) × IsWithinRun config.lps config.end letter
 found-in {config = config} {w = w} {outbox = outbox} h letter is = (
   for-worker config.workers w letter.event.dest (find-passes (λ l. nat_eq (l.event.dest % config.workers) w) outbox letter is),

@@ -1,5 +1,5 @@
 -- How the fields of a worker go together after one of them changed.
-use Rattle.std.proofs.Common.{ℕ, List, Option}
+use Rattle.std.proofs.Common.{ℕ, Bool, List, Option}
 use Rattle.vt_key.specs.declared.letter.Letter.{Letter}
 use Rattle.vt_key.specs.declared.letter.Mail.{Mail}
 use Rattle.vt_key.specs.declared.order.Rank.{Rank}
@@ -8,11 +8,11 @@ use Rattle.vt_steps.specs.Letters.{Counts}
 use Rattle.vt_lp.specs.Held.{HeldProcess, AllWithinRun}
 use Rattle.vt_kernel.specs.Held.{IsWorkerInside, AllOwnMail, AreCounted}
 
-module _ {S P K : Type 0} {config : Config} {w : ℕ} {processes : List (HeldProcess S P K)} {outbox : List (Letter P)} {arrived : List (Mail P)} {sent got : Counts} {serial : ℕ} {ready unready : List (Option Rank)} where
+module _ {S P K : Type 0} {config : Config} {w : ℕ} {processes : List (HeldProcess S P K)} {outbox : List (Letter P)} {arrived : List (Mail P)} {sent got : Counts} {serial : ℕ} {ready unready : List (Option Rank)} {marked : List Bool} where
   -- other mail that has arrived, and other counts of what was got
   pub inside-arrived : (mails : List (Mail P)) (counts : Counts) → AllOwnMail config w mails → AreCounted counts →
-      IsWorkerInside config w processes outbox arrived sent got serial ready unready →
-      IsWorkerInside config w processes outbox mails sent counts serial ready unready
+      IsWorkerInside config w processes outbox arrived sent got serial ready unready marked →
+      IsWorkerInside config w processes outbox mails sent counts serial ready unready marked
   inside-arrived mails counts own few h = record {
     known = h.known;
     all_there = h.all_there;
@@ -25,12 +25,13 @@ module _ {S P K : Type 0} {config : Config} {w : ℕ} {processes : List (HeldPro
     ready_entered = h.ready_entered;
     unready_entered = h.unready_entered;
     least_told = h.least_told;
+    past_marked = h.past_marked;
   }
 
   -- another outbox, and other counts of what was sent
   pub inside-outbox : (letters : List (Letter P)) (counts : Counts) → AllWithinRun config letters → AreCounted counts →
-      IsWorkerInside config w processes outbox arrived sent got serial ready unready →
-      IsWorkerInside config w processes letters arrived counts got serial ready unready
+      IsWorkerInside config w processes outbox arrived sent got serial ready unready marked →
+      IsWorkerInside config w processes letters arrived counts got serial ready unready marked
   inside-outbox letters counts within few h = record {
     known = h.known;
     all_there = h.all_there;
@@ -43,4 +44,5 @@ module _ {S P K : Type 0} {config : Config} {w : ℕ} {processes : List (HeldPro
     ready_entered = h.ready_entered;
     unready_entered = h.unready_entered;
     least_told = h.least_told;
+    past_marked = h.past_marked;
   }

@@ -1,5 +1,5 @@
 -- A local step at one process: what stays of how a worker's fields go together, and what the step does to the part.
-use Rattle.std.proofs.Common.{◌≡◌, ℕ, zero, suc, ◌+◌, ◌-◌, ◌/◌, ◌%◌, ◌<◌, ◌≤◌, inl, inr, List, [], ◌∷◌, ◌++◌, map, length, refl, sym, ◌∙◌, ap, subst, arith, Option, Some, None, Result, Ok, Err, IfOk, IfErr, slice_get, slice_set, slice_index_or}
+use Rattle.std.proofs.Common.{◌≡◌, ℕ, Bool, true, zero, suc, ◌+◌, ◌-◌, ◌/◌, ◌%◌, ◌<◌, ◌≤◌, inl, inr, List, [], ◌∷◌, ◌++◌, map, length, refl, sym, ◌∙◌, ap, subst, arith, Option, Some, None, Result, Ok, Err, IfOk, IfErr, slice_get, slice_set, slice_index_or}
 use Rattle.std.specs.List.{All}
 use Rattle.std.proofs.Math.ListN.{length-set}
 use Rattle.std.proofs.lemmas.Bool.Decides.{eqb_tells}
@@ -25,7 +25,7 @@ use Rattle.vt_lp.specs.Guards.{IsDone as ProcessIsDone}
 use Rattle.vt_kernel.specs.Held.{HeldWorker, IsWorkerInside, StandsFor, AreProcesses, TellsLeast, ready_of, unready_of, entries_of}
 use Rattle.vt_kernel.specs.Local.{at_own}
 use Rattle.vt_kernel.specs.Guards.{IsDone}
-use Rattle.vt_kernel.proofs.ProcessLemmas.{process-at, processes-changed, entered-changed, place-known, place-unknown, get-past}
+use Rattle.vt_kernel.proofs.ProcessLemmas.{process-at, processes-changed, entered-changed, marked-changed, place-known, place-unknown, get-past}
 use Rattle.vt_steps.proofs.Places.{get-put_same}
 use Rattle.vt_kernel.proofs.SettlingLemmas.{put-there}
 use Rattle.vt_kernel.proofs.OwnSteps.{not-own, no-process, found, done-at, refused-at, IsFound}
@@ -57,8 +57,8 @@ all-changed Q [] i x h q = h
 all-changed Q (y ∷ ys) zero x h q = All-cons Q x ys q (All-tail Q y ys h)
 all-changed Q (y ∷ ys) (suc i) x h q = All-cons Q y (slice_set ys i x) (All-head Q y ys h) (all-changed Q ys i x (All-tail Q y ys h) q)
 
-module _ {S P K : Type 0} {config : Config} {w : ℕ} {processes : List (HeldProcess S P K)} {outbox : List (Letter P)} {arrived : List (Mail P)} {sent got : Counts} {serial : ℕ} {ready unready : List (Option Rank)}
-    (h : IsWorkerInside config w processes outbox arrived sent got serial ready unready) where
+module _ {S P K : Type 0} {config : Config} {w : ℕ} {processes : List (HeldProcess S P K)} {outbox : List (Letter P)} {arrived : List (Mail P)} {sent got : Counts} {serial : ℕ} {ready unready : List (Option Rank)} {marked : List Bool}
+    (h : IsWorkerInside config w processes outbox arrived sent got serial ready unready marked) where
   -- the place of one of the worker's processes is within
   pub place-within : (p place : ℕ) → 1 ≤ config.workers → place ≡ p / config.workers → p % config.workers ≡ w → p < config.lps → place < length processes
   place-within p place some is own less =
@@ -77,7 +77,7 @@ module _ {S P K : Type 0} {config : Config} {w : ℕ} {processes : List (HeldPro
   -- a process that has changed, with what was made by it
   pub inside-changed : (place : ℕ) (q new : HeldProcess S P K) (letters : List (Letter P)) (next : ℕ) → slice_get processes place ≡ Some q
       → new.lp ≡ q.lp → new.config ≡ q.config → TellsLeast new → AllWithinRun config letters → next ≤ MAX_COUNT
-      → IsWorkerInside config w (slice_set processes place new) letters arrived sent got next (slice_set ready place (ready_of new)) (slice_set unready place (unready_of new))
+      → IsWorkerInside config w (slice_set processes place new) letters arrived sent got next (slice_set ready place (ready_of new)) (slice_set unready place (unready_of new)) (slice_set marked place true)
   inside-changed place q new letters next at same_lp same_config told within few =
       let less = slice_get_within processes place q at in
       let who = process-at config w 0 place processes q h.own_processes at in
@@ -93,6 +93,7 @@ module _ {S P K : Type 0} {config : Config} {w : ℕ} {processes : List (HeldPro
         ready_entered = ap (λ es. slice_set es place (ready_of new)) h.ready_entered ∙ sym (entered-changed ready_of processes place new less);
         unready_entered = ap (λ es. slice_set es place (unready_of new)) h.unready_entered ∙ sym (entered-changed unready_of processes place new less);
         least_told = all-changed TellsLeast processes place new h.least_told told;
+        past_marked = marked-changed marked processes place new h.past_marked;
       }
 
 -- as many processes stand for as there are
@@ -168,14 +169,16 @@ found-again xs i old new now there is =
 pub written-same : {X : Type 0} (xs : List X) (i : ℕ) (old new : X) → slice_get xs i ≡ Some old → new ≡ old → slice_set xs i new ≡ xs
 written-same xs i old new there same = ap (λ x. slice_set xs i x) same ∙ put-there xs i old there
 
--- the tournaments that the changed process has entered
-pub entered : {S P K : Type 0} {config : Config} {w : ℕ} {processes : List (HeldProcess S P K)} {outbox : List (Letter P)} {arrived : List (Mail P)} {sent got : Counts} {serial : ℕ} (ready unready : List (Option Rank))
-    (place : ℕ) (new now : HeldProcess S P K) (new_ready new_unready : List (Option Rank)) → now ≡ new → new_ready ≡ slice_set ready place (ready_of now) → new_unready ≡ slice_set unready place (unready_of now)
-    → IsWorkerInside config w processes outbox arrived sent got serial (slice_set ready place (ready_of new)) (slice_set unready place (unready_of new))
-    → IsWorkerInside config w processes outbox arrived sent got serial new_ready new_unready
-entered {S} {P} {K} {config} {w} {processes} {outbox} {arrived} {sent} {got} {serial} ready unready place new now new_ready new_unready same r e h =
-    subst (λ xs. IsWorkerInside config w processes outbox arrived sent got serial xs new_unready) (sym (r ∙ ap (λ q. slice_set ready place (ready_of q)) same))
-    (subst (λ xs. IsWorkerInside config w processes outbox arrived sent got serial (slice_set ready place (ready_of new)) xs) (sym (e ∙ ap (λ q. slice_set unready place (unready_of q)) same)) h)
+-- the tournaments that the changed process has entered, and its mark
+pub entered : {S P K : Type 0} {config : Config} {w : ℕ} {processes : List (HeldProcess S P K)} {outbox : List (Letter P)} {arrived : List (Mail P)} {sent got : Counts} {serial : ℕ} (ready unready : List (Option Rank)) (marked : List Bool)
+    (place : ℕ) (new now : HeldProcess S P K) (new_ready new_unready : List (Option Rank)) (new_marked : List Bool) → now ≡ new → new_ready ≡ slice_set ready place (ready_of now) → new_unready ≡ slice_set unready place (unready_of now)
+    → new_marked ≡ slice_set marked place true
+    → IsWorkerInside config w processes outbox arrived sent got serial (slice_set ready place (ready_of new)) (slice_set unready place (unready_of new)) (slice_set marked place true)
+    → IsWorkerInside config w processes outbox arrived sent got serial new_ready new_unready new_marked
+entered {S} {P} {K} {config} {w} {processes} {outbox} {arrived} {sent} {got} {serial} ready unready marked place new now new_ready new_unready new_marked same r e m h =
+    subst (λ xs. IsWorkerInside config w processes outbox arrived sent got serial xs new_unready new_marked) (sym (r ∙ ap (λ q. slice_set ready place (ready_of q)) same))
+    (subst (λ xs. IsWorkerInside config w processes outbox arrived sent got serial (slice_set ready place (ready_of new)) xs new_marked) (sym (e ∙ ap (λ q. slice_set unready place (unready_of q)) same))
+    (subst (λ xs. IsWorkerInside config w processes outbox arrived sent got serial (slice_set ready place (ready_of new)) (slice_set unready place (unready_of new)) xs) (sym m) h))
 
 -- ---- results
 

@@ -1,5 +1,5 @@
 -- The starts of a worker's processes: how many there are, and what they send.
-use Rattle.std.proofs.Common.{◌≡◌, ◌∙◌, ℕ, zero, suc, ◌+◌, ◌-◌, ◌*◌, ◌/◌, ◌%◌, ◌<◌, ◌≤◌, List, [], ◌∷◌, ◌++◌, map, replicate, length, slice_index_or, refl, sym, ap, subst, arith, Option, None, slice_get, max, Result, Ok, Err}
+use Rattle.std.proofs.Common.{◌≡◌, ◌∙◌, ℕ, zero, suc, ◌+◌, ◌-◌, ◌*◌, ◌/◌, ◌%◌, ◌<◌, ◌≤◌, List, [], ◌∷◌, ◌++◌, map, replicate, length, slice_index_or, refl, sym, ap, subst, arith, Option, Some, None, true, false, slice_get, max, Result, Ok, Err}
 use Rattle.std.specs.Result.{IfOk}
 use Rattle.std.specs.List.{All, flat_map, range_with_len}
 use Rattle.std.proofs.lemmas.List.{append-nil, append_assoc, length-append}
@@ -209,3 +209,9 @@ module _ {S P K : Type 0} where
 pub if_ok : {V E : Type 0} {A B : V → Type 0} (r : Result V E) → ((v : V) → A v → B v) → IfOk r A → IfOk r B
 if_ok (Ok v) f h = f v h
 if_ok (Err e) f h = tt
+
+-- of marks that are all true none is false
+pub all-marked : (n place : ℕ) → slice_get (replicate n true) place ≡ Some false → ⊥
+all-marked zero place at = absurd (let no : None ≡ Some false = at in cc)
+all-marked (suc n) zero at = absurd (let no : Some true ≡ Some false = at in cc)
+all-marked (suc n) (suc place) at = all-marked n place at

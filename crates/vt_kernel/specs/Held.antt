@@ -1,5 +1,5 @@
 -- What a worker keeps in memory, and which parts of a world it stands for.
-use Rattle.std.specs.Prelude.{◌≡◌, ℕ, nat_eq, if◌then◌else◌, ◌+◌, ◌-◌, ◌*◌, ◌/◌, ◌%◌, ◌<◌, ◌≤◌, List, [], ◌∷◌, ◌++◌, map, length, All, Option, Some, None, slice_get}
+use Rattle.std.specs.Prelude.{◌≡◌, ℕ, Bool, false, nat_eq, if◌then◌else◌, ◌+◌, ◌-◌, ◌*◌, ◌/◌, ◌%◌, ◌<◌, ◌≤◌, List, [], ◌∷◌, ◌++◌, map, length, All, Option, Some, None, slice_get}
 use Rattle.vt_key.specs.Times.{Time}
 use Rattle.vt_key.specs.declared.limits.TheConstants.{MAX_COUNT}
 use Rattle.vt_key.specs.declared.order.Rank.{Rank}
@@ -110,6 +110,11 @@ module _ {S P K : Type 0} where
   entries_of entry [] = None ∷ []
   entries_of entry (held ∷ rest) = map entry (held ∷ rest)
 
+module _ {S P K : Type 0} where
+  -- a process whose mark is false has no past event
+  abbrev pub AreMarked : List Bool → List (HeldProcess S P K) → Type 0
+  AreMarked marked processes = (place : ℕ) (held : HeldProcess S P K) → slice_get marked place ≡ Some false → slice_get processes place ≡ Some held → held.past ≡ []
+
 -- both counts are within their limit
 pub record AreCounted (counts : Counts) : Type 0 where
   pub white : counts.white ≤ MAX_COUNT
@@ -117,7 +122,7 @@ pub record AreCounted (counts : Counts) : Type 0 where
 
 -- how the fields of a worker go together
 pub record IsWorkerInside {S P K : Type 0} (config : Config) (w : ℕ) (processes : List (HeldProcess S P K)) (outbox : List (Letter P))
-    (arrived : List (Mail P)) (sent got : Counts) (serial : ℕ) (ready unready : List (Option Rank)) : Type 0 where
+    (arrived : List (Mail P)) (sent got : Counts) (serial : ℕ) (ready unready : List (Option Rank)) (marked : List Bool) : Type 0 where
   pub known : w < config.workers
   pub all_there : length processes ≡ (config.lps + (config.workers - 1) - w) / config.workers
   pub own_processes : AreProcesses config w 0 processes
@@ -129,3 +134,4 @@ pub record IsWorkerInside {S P K : Type 0} (config : Config) (w : ℕ) (processe
   pub ready_entered : ready ≡ entries_of ready_of processes
   pub unready_entered : unready ≡ entries_of unready_of processes
   pub least_told : All TellsLeast processes
+  pub past_marked : AreMarked marked processes

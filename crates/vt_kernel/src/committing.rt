@@ -1,16 +1,16 @@
 //! What a worker commits.
 
-ghost use Rattle.std.specs.Prelude.{◌≡◌, ℕ, ◌<◌, ◌≤◌, ◌^◌, Some, length, slice_get, slice_index_or, slice_set, IfOk, IfErr};
+ghost use Rattle.std.specs.Prelude.{◌≡◌, ◌≢◌, ◌↔◌, ℕ, ◌<◌, ◌≤◌, ◌^◌, [], Some, false, length, slice_get, slice_index_or, slice_set, IsTrue, IfOk, IfErr};
 ghost use Rattle.vt_key.specs.declared.fault.Fault.TheVariants.{Memory};
 ghost use Rattle.vt_model.specs.Handler.{Handlers};
 ghost use Rattle.vt_model.specs.Simulation.{simulation_of};
 ghost use Rattle.vt_steps.specs.World.{Part};
 ghost use Rattle.vt_steps.specs.PartSteps.{part_after_commit, rows_of_commit};
-ghost use Rattle.vt_kernel.specs.Held.{StandsFor, entries_of, ready_of, unready_of};
+ghost use Rattle.vt_kernel.specs.Held.{StandsFor, AreMarked, entries_of, ready_of, unready_of};
 ghost use Rattle.vt_kernel.specs.Guards.{IsForgotten};
 
 use crate::kernel::Kernel;
-use crate::local::enter;
+use crate::local::{enter, mark};
 use std::alloc::Global;
 use vt_key::{Fault, Time};
 use vt_lp::{Lp, Spare};
@@ -26,8 +26,11 @@ impl<M: EventModel> Kernel<M> {
         ensures refused { IfErr result (λ fault. fault ≡ Memory) }
     {
         let mut rows = Vec::new(alloc);
-        for process in &self.processes {
-            process.ripe(self.floor, &mut rows)?;
+        for place in 0..self.processes.len() {
+            if is_unmarked(&self.marked, place) {
+                continue;
+            }
+            self.processes[place].ripe(self.floor, &mut rows)?;
         }
         Ok(rows)
     }
@@ -41,10 +44,18 @@ impl<M: EventModel> Kernel<M> {
             &mut self.processes,
             &mut self.ready,
             &mut self.unready,
+            &mut self.marked,
             &mut self.spare,
             self.floor,
         );
     }
+}
+
+/// Whether the mark of a process says that it has no past event.
+fn is_unmarked(marked: &[bool], place: usize) -> bool
+    ensures { IsTrue result ↔ (slice_get marked.now place ≡ Some false) }
+{
+    place < marked.len() && !marked[place]
 }
 
 /// Each process forgets its past events before the floor, and enters the tournaments anew.
@@ -52,28 +63,59 @@ fn forget_before<M: EventModel>(
     processes: &mut Vec<Lp<M>>,
     ready: &mut Tournament,
     unready: &mut Tournament,
+    marked: &mut Vec<bool>,
     spare: &mut Spare<M::Payload, M::Kept>,
     floor: Time,
 )
     requires few { length processes.old.items < 2 ^ 32 }
     requires entered { ready.old ≡ entries_of ready_of processes.old.items }
     requires unready { unready.old ≡ entries_of unready_of processes.old.items }
+    requires marked { AreMarked marked.old.items processes.old.items }
     ensures count { length processes.new.items ≡ length processes.old.items }
     ensures forgotten { (k : ℕ) (d : _) → k < length processes.old.items → IsForgotten floor (slice_index_or processes.old.items k d) (slice_index_or processes.new.items k d) }
     ensures entered { ready.new ≡ entries_of ready_of processes.new.items }
     ensures unready { unready.new ≡ entries_of unready_of processes.new.items }
+    ensures marked { AreMarked marked.new.items processes.new.items }
 {
     for place in 0..processes.len() {
         let process = &mut processes[place];
-        forget_at(process, ready, unready, spare, place, floor);
+        forget_at(process, ready, unready, marked, spare, place, floor);
     }
 }
 
-/// A process forgets its past events before the floor, and enters the tournaments anew where there was one.
+/// A process forgets its past events before the floor. Where its mark says that it has none, it isn't looked at.
 fn forget_at<M: EventModel>(
     process: &mut Lp<M>,
     ready: &mut Tournament,
     unready: &mut Tournament,
+    marked: &mut Vec<bool>,
+    spare: &mut Spare<M::Payload, M::Kept>,
+    place: usize,
+    floor: Time,
+)
+    requires small { place < 2 ^ 32 }
+    requires in_ready { slice_get ready.old place ≡ Some (ready_of process.old) }
+    requires in_unready { slice_get unready.old place ≡ Some (unready_of process.old) }
+    requires unmarked { slice_get marked.old.items place ≡ Some false → process.old.past ≡ [] }
+    ensures forgotten { IsForgotten floor process.old process.new }
+    ensures ready { ready.new ≡ slice_set ready.old place (ready_of process.new) }
+    ensures unready { unready.new ≡ slice_set unready.old place (unready_of process.new) }
+    ensures others { (k : ℕ) → k ≢ place → slice_get marked.new.items k ≡ slice_get marked.old.items k }
+    ensures unmarked { slice_get marked.new.items place ≡ Some false → process.new.past ≡ [] }
+{
+    if is_unmarked(marked, place) {
+        return;
+    }
+    forget_marked(process, ready, unready, marked, spare, place, floor);
+    mark(marked, place, process.has_past());
+}
+
+/// A process forgets its past events before the floor, and enters the tournaments anew where there was one.
+fn forget_marked<M: EventModel>(
+    process: &mut Lp<M>,
+    ready: &mut Tournament,
+    unready: &mut Tournament,
+    marked: &mut Vec<bool>,
     spare: &mut Spare<M::Payload, M::Kept>,
     place: usize,
     floor: Time,
@@ -84,8 +126,9 @@ fn forget_at<M: EventModel>(
     ensures forgotten { IsForgotten floor process.old process.new }
     ensures ready { ready.new ≡ slice_set ready.old place (ready_of process.new) }
     ensures unready { unready.new ≡ slice_set unready.old place (unready_of process.new) }
+    ensures others { (k : ℕ) → k ≢ place → slice_get marked.new.items k ≡ slice_get marked.old.items k }
 {
     if process.fossil_into(floor, spare) {
-        enter(ready, unready, process, place);
+        enter(ready, unready, marked, process, place);
     }
 }

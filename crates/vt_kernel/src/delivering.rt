@@ -52,6 +52,7 @@ impl<M: EventModel> Kernel<M> {
         enter(
             &mut self.ready,
             &mut self.unready,
+            &mut self.marked,
             &self.processes[place],
             place,
         );
@@ -85,6 +86,7 @@ impl<M: EventModel> Kernel<M> {
         enter(
             &mut self.ready,
             &mut self.unready,
+            &mut self.marked,
             &self.processes[place],
             place,
         );

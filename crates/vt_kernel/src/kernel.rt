@@ -32,6 +32,8 @@ pub struct Kernel<M: EventModel> {
     pub(crate) ready: Tournament,
     // The least rank of what is pending or waits at each process, where that isn't an event that may be executed.
     pub(crate) unready: Tournament,
+    // Who of the processes may have past events: one whose mark is false has none.
+    pub(crate) marked: Vec<bool>,
     // Memory of committed events, for the next ones.
     pub(crate) spare: Spare<M::Payload, M::Kept>,
 }
@@ -55,7 +57,7 @@ impl<M: EventModel> Model for Kernel<M> {
       serial = k.serial;
     } };
 
-    ghost invariant = { λ k. IsWorkerInside k.config k.worker k.processes.items k.outbox k.arrived.items k.sent k.got k.serial k.ready k.unready };
+    ghost invariant = { λ k. IsWorkerInside k.config k.worker k.processes.items k.outbox k.arrived.items k.sent k.got k.serial k.ready k.unready k.marked.items };
 }
 
 impl<M: EventModel> Kernel<M> {

@@ -1,6 +1,6 @@
 //! Local steps at one process: Execute, Undo and Cancel.
 
-ghost use Rattle.std.specs.Prelude.{◌≡◌, ◌^◌, ◌%◌, ◌/◌, ◌<◌, ◌≤◌, IfSome, IfNone, IfOk, IfErr, None, length, slice_set};
+ghost use Rattle.std.specs.Prelude.{◌≡◌, ◌^◌, ◌%◌, ◌/◌, ◌<◌, ◌≤◌, IfSome, IfNone, IfOk, IfErr, None, true, length, slice_set};
 ghost use Rattle.vt_key.specs.declared.fault.Fault.TheVariants.{NotLawful};
 ghost use Rattle.vt_model.specs.Handler.{Handlers};
 ghost use Rattle.vt_model.specs.Simulation.{simulation_of};
@@ -43,6 +43,7 @@ impl<M: EventModel> Kernel<M> {
         enter(
             &mut self.ready,
             &mut self.unready,
+            &mut self.marked,
             &self.processes[place],
             place,
         );
@@ -67,6 +68,7 @@ impl<M: EventModel> Kernel<M> {
         enter(
             &mut self.ready,
             &mut self.unready,
+            &mut self.marked,
             &self.processes[place],
             place,
         );
@@ -92,6 +94,7 @@ impl<M: EventModel> Kernel<M> {
         enter(
             &mut self.ready,
             &mut self.unready,
+            &mut self.marked,
             &self.processes[place],
             place,
         );
@@ -110,10 +113,11 @@ pub(crate) fn place_of(config: Config, worker: u32, lp: u32) -> Option<usize>
     Some((lp / config.workers) as usize)
 }
 
-/// Enters a process that has changed into the tournaments again.
+/// Enters a process that has changed into the tournaments again, and marks it: it may have past events.
 pub(crate) fn enter<M: EventModel>(
     ready: &mut Tournament,
     unready: &mut Tournament,
+    marked: &mut Vec<bool>,
     process: &Lp<M>,
     place: usize,
 )
@@ -122,12 +126,23 @@ pub(crate) fn enter<M: EventModel>(
     requires small { place < 2 ^ 32 }
     ensures ready { ready.new ≡ slice_set ready.old place (ready_of process.now) }
     ensures unready { unready.new ≡ slice_set unready.old place (unready_of process.now) }
+    ensures marked { marked.new.items ≡ slice_set marked.old.items place true }
     ensures told { TellsLeast process.now }
 {
     let least = process.least_rank();
     let rank = process.ready();
     ready.set(place as u32, rank);
     unready.set(place as u32, other_than(rank, least));
+    mark(marked, place, true);
+}
+
+/// Writes the mark of a process, where it has one.
+pub(crate) fn mark(marked: &mut Vec<bool>, place: usize, value: bool)
+    ensures { marked.new.items ≡ slice_set marked.old.items place value }
+{
+    if place < marked.len() {
+        marked[place] = value;
+    }
 }
 
 /// The least rank, unless it is that of the event that is ready.

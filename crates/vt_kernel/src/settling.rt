@@ -29,6 +29,7 @@ impl<M: EventModel> Kernel<M> {
         enter(
             &mut self.ready,
             &mut self.unready,
+            &mut self.marked,
             &self.processes[place],
             place,
         );

@@ -7,7 +7,7 @@ mod AcceptLemmas
 mod CancelLemmas
 mod Sizes
 mod Stamping
-mod RipeLemmas
+pub mod RipeLemmas
 mod Ends
 mod Advancing
 mod ExecuteLemmas

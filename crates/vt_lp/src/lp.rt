@@ -1,6 +1,6 @@
 //! The process and its readers.
 
-ghost use Rattle.std.specs.Prelude.{◌≡◌, ◌++◌, ◌%◌, ◌^◌, [], length, slice_get, IfSome, IfNone};
+ghost use Rattle.std.specs.Prelude.{◌≡◌, ◌++◌, ◌%◌, ◌^◌, ◌↔◌, [], length, slice_get, IsFalse, IfSome, IfNone};
 ghost use Rattle.std.specs.Option.{option_copied};
 ghost use Rattle.vt_steps.specs.Letters.{least_time};
 ghost use Rattle.vt_lp.specs.Guards.{ready_rank, lesser_rank};
@@ -73,6 +73,13 @@ impl<M: EventModel> Lp<M> {
         ensures { result ≡ length self.now.past % 2 ^ 64 }
     {
         self.past.len()
+    }
+
+    /// Whether there is a past event.
+    pub fn has_past(&self) -> bool
+        ensures { IsFalse result ↔ (self.now.past ≡ []) }
+    {
+        !self.past.events().is_empty()
     }
 
     /// How many messages are pending, modulo 2^64.

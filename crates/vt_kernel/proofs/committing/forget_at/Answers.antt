@@ -1,19 +1,23 @@
-use Rattle.std.proofs.Common.{◌≡◌, ◌∙◌, slice_set, ap, sym}
-use Rattle.vt_lp.specs.Held.{HeldProcess}
+use Rattle.std.proofs.Common.{◌≡◌, ◌∙◌, Some, false, slice_get, ap, sym}
+use Rattle.vt_steps.proofs.Places.{get-put_other}
 use Rattle.vt_kernel.specs.Held.{ready_of, unready_of}
+use Rattle.vt_kernel.proofs.ProcessLemmas.{put-tells}
 use Rattle.vt_kernel.proofs.SettlingLemmas.{put-there}
 use Rattle.vt_kernel.proofs.committing.forget_at.Goals as goal
 
-pub returns-else-fossil_into-clause-ready : goal.returns-else-fossil_into-clause-ready
-returns-else-fossil_into-clause-ready g c =
-    let now = c.args.ready.now in
-    let same = c.fossil_into.ensures.unchanged c.if-fossil_into.false in
-    sym (put-there now c.args.place (ready_of c.args.process.now) c.requires.in_ready)
-    ∙ ap (λ (q : HeldProcess _ _ _). slice_set now c.args.place (ready_of q)) (sym same)
+pub returns-then-is_unmarked-clause-ready : goal.returns-then-is_unmarked-clause-ready
+returns-then-is_unmarked-clause-ready g c = sym (put-there c.args.ready.now c.args.place (ready_of c.args.process.now) c.requires.in_ready)
 
-pub returns-else-fossil_into-clause-unready : goal.returns-else-fossil_into-clause-unready
-returns-else-fossil_into-clause-unready g c =
-    let now = c.args.unready.now in
-    let same = c.fossil_into.ensures.unchanged c.if-fossil_into.false in
-    sym (put-there now c.args.place (unready_of c.args.process.now) c.requires.in_unready)
-    ∙ ap (λ (q : HeldProcess _ _ _). slice_set now c.args.place (unready_of q)) (sym same)
+pub returns-then-is_unmarked-clause-unready : goal.returns-then-is_unmarked-clause-unready
+returns-then-is_unmarked-clause-unready g c = sym (put-there c.args.unready.now c.args.place (unready_of c.args.process.now) c.requires.in_unready)
+
+pub returns-clause-others : goal.returns-clause-others
+returns-clause-others g c k other =
+    ap (λ bs. slice_get bs k) c.mark.ensures
+    ∙ get-put_other c.forget_marked.new.marked.items c.args.place k c.has_past.result other
+    ∙ c.forget_marked.ensures.others k other
+
+pub returns-clause-unmarked : goal.returns-clause-unmarked
+returns-clause-unmarked g c at =
+    let told : slice_get c.mark.new.marked.items c.args.place ≡ Some false = at in
+    c.has_past.ensures.0 (put-tells c.forget_marked.new.marked.items c.args.place c.has_past.result false (ap (λ bs. slice_get bs c.args.place) (sym c.mark.ensures) ∙ told))

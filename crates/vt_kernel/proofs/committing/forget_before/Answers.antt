@@ -4,7 +4,7 @@ use Rattle.vt_lp.specs.Held.{HeldProcess}
 use Rattle.vt_kernel.specs.Held.{ready_of, unready_of}
 use Rattle.vt_kernel.specs.Guards.{IsForgotten}
 use Rattle.std.proofs.lemmas.Option.{slice_get_read}
-use Rattle.vt_kernel.proofs.ProcessLemmas.{entered-changed, entered-at}
+use Rattle.vt_kernel.proofs.ProcessLemmas.{entered-changed, entered-at, marked-forgotten}
 use Rattle.vt_kernel.proofs.committing.forget_before.Goals as goal
 
 pub loop-place-preserved : goal.loop-place-preserved
@@ -30,6 +30,7 @@ loop-place-preserved g c =
           k less;
       left = λ k d more. let other : k ≢ i = omega arith in get_or-set_other now i k q d other ∙ inv.left k d (omega arith);
       entered = c.forget_at.ensures.ready ∙ (λ j. slice_set (inv.entered j) i (ready_of q)) ∙ sym (entered-changed ready_of now i q within);
+      marked = marked-forgotten c.loop-place.marked.items c.forget_at.new.marked.items now i q inv.marked c.forget_at.ensures.others c.forget_at.ensures.unmarked;
       unready = c.forget_at.ensures.unready ∙ (λ j. slice_set (inv.unready j) i (unready_of q)) ∙ sym (entered-changed unready_of now i q within);
     }
 
@@ -54,3 +55,13 @@ forget_at-requires-clause-in_unready g c κs lasts =
     let within : i < length now = omega (arith, len, c.loop-place-test.true, inv.count) in
     let at : slice_get now i ≡ Some was = slice_get_read now (length now) i was refl within c.index_mut-process.ensures.value in
     (λ j. slice_get (inv.unready j) i) ∙ entered-at unready_of now i was at
+
+pub forget_at-requires-clause-unmarked : goal.forget_at-requires-clause-unmarked
+forget_at-requires-clause-unmarked g c κs lasts is =
+    let inv = c.loop-place.invariant in
+    let now = c.loop-place.processes.items in
+    let i = c.loop-place.place in
+    let was : HeldProcess _ _ _ = c.index_mut-process.result.now in
+    let len : length c.args.processes.now.items ≡ c.len-place-end.result = search (rules, c.len-place-end.ensures) in
+    let within : i < length now = omega (arith, len, c.loop-place-test.true, inv.count) in
+    inv.marked i was is (slice_get_read now (length now) i was refl within c.index_mut-process.ensures.value)

@@ -1,6 +1,6 @@
 use Rattle.std.proofs.Common.{◌≡◌, ℕ, ◌<◌, ◌≤◌, length, slice_index_or}
 use Rattle.vt_lp.specs.Held.{HeldProcess}
-use Rattle.vt_kernel.specs.Held.{entries_of, ready_of, unready_of}
+use Rattle.vt_kernel.specs.Held.{AreMarked, entries_of, ready_of, unready_of}
 use Rattle.vt_kernel.specs.Guards.{IsForgotten}
 use Rattle.vt_kernel.proofs.committing.forget_before.Given as goal
 
@@ -11,4 +11,5 @@ invariant-loop-place g l = record {
   left : (k : ℕ) (d : HeldProcess _ _ _) → l.place ≤ k → slice_index_or l.processes.items k d ≡ slice_index_or l.initial.processes.items k d;
   entered : l.ready ≡ entries_of ready_of l.processes.items;
   unready : l.unready ≡ entries_of unready_of l.processes.items;
+  marked : AreMarked l.marked.items l.processes.items;
 }

@@ -1,11 +1,11 @@
-use Rattle.std.proofs.Common.{◌≡◌, ◌∙◌, ◌≤◌, ◌+◌, ◌-◌, List, None, length, refl, sym, ap, subst, arith}
+use Rattle.std.proofs.Common.{◌≡◌, ◌∙◌, ◌≤◌, ◌+◌, ◌-◌, List, None, length, slice_get, refl, sym, ap, subst, arith}
 use Rattle.std.proofs.lemmas.List.Elements.{All-nil}
 use Rattle.std.proofs.Math.Nat.{div-le_self}
 use Rattle.vt_key.specs.declared.limits.TheConstants.{MAX_COUNT}
 use Rattle.vt_steps.specs.Letters.{Counts}
 use Rattle.vt_lp.specs.Held.{HeldProcess}
 use Rattle.vt_kernel.specs.Held.{AllOwnMail, IsOwnMail, AreCounted, entries_of}
-use Rattle.vt_kernel.proofs.MakeLemmas.{ready-opening, unready-opening, tells-opening, stand-opening}
+use Rattle.vt_kernel.proofs.MakeLemmas.{ready-opening, unready-opening, tells-opening, stand-opening, all-marked}
 use Rattle.vt_kernel.proofs.making.open.Goals as goal
 
 none_counted : (counts : Counts) → counts ≡ record { white = 0; red = 0 } → AreCounted counts
@@ -46,6 +46,7 @@ invariant_of-result g c =
       ready_entered = c.in_ok-ready.ensures.nobody ∙ ap (λ (xs : List (HeldProcess _ _ _)). entries_of (λ (x : HeldProcess _ _ _). None) xs) c.deref.ensures.value ∙ sym (ready-opening handlers items made.started);
       unready_entered = c.in_ok-unready.ensures.nobody ∙ ap (λ (xs : List (HeldProcess _ _ _)). entries_of (λ (x : HeldProcess _ _ _). None) xs) c.deref-2.ensures.value ∙ sym (unready-opening handlers items made.started);
       least_told = tells-opening handlers items made.started;
+      past_marked = λ place held at there. absurd (all-marked _ place (ap (λ bs. slice_get bs place) (sym c.in_ok-marked.ensures.marked) ∙ at));
     }
 
 pub returns-clause-opening : goal.returns-clause-opening

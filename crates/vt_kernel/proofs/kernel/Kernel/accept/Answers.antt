@@ -195,7 +195,7 @@ invariant_of-self g c =
     let again : c.index-2.result.now ≡ new = found-again i.processes.items place old new c.index-2.result.now at c.index-2.ensures in
     let rest = removed-all (IsOwnMail i.config i.worker) i.arrived.items c.args.i c.self.invariant.own_mail in
     inside-arrived c.remove.new.self.items i.got (subst (λ (ms : List (Mail _)). AllOwnMail i.config i.worker ms) (sym c.remove.ensures.items) rest) c.self.invariant.few_got
-    (entered i.ready i.unready place new c.index-2.result.now c.enter.new.ready c.enter.new.unready again c.enter.ensures.ready c.enter.ensures.unready
+    (entered i.ready i.unready i.marked.items place new c.index-2.result.now c.enter.new.ready c.enter.new.unready c.enter.new.marked.items again c.enter.ensures.ready c.enter.ensures.unready c.enter.ensures.marked
     (inside-changed c.self.invariant place old new i.outbox i.serial at c.deliver.ensures.same.0 c.deliver.ensures.same.1 (subst (λ (q : HeldProcess _ _ _). TellsLeast q) again c.enter.ensures.told)
     c.self.invariant.sendable c.self.invariant.few_made))
 

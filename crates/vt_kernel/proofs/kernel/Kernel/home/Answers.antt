@@ -133,7 +133,7 @@ invariant_of-self-2 g c =
     let new = c.deliver.new.process in
     let again : c.index-2.result.now ≡ new = found-again i.processes.items place old new c.index-2.result.now at c.index-2.ensures in
     let within = without-all (IsWithinRun i.config.lps i.config.end) (λ (l : Letter _). nat_eq (l.event.dest % i.config.workers) i.worker) i.outbox c.self.invariant.sendable in
-    entered i.ready i.unready place new c.index-2.result.now c.enter.new.ready c.enter.new.unready again c.enter.ensures.ready c.enter.ensures.unready
+    entered i.ready i.unready i.marked.items place new c.index-2.result.now c.enter.new.ready c.enter.new.unready c.enter.new.marked.items again c.enter.ensures.ready c.enter.ensures.unready c.enter.ensures.marked
     (inside-changed c.self.invariant place old new c.remove_first.new.self i.serial at c.deliver.ensures.same.0 c.deliver.ensures.same.1 (subst (λ (q : HeldProcess _ _ _). TellsLeast q) again c.enter.ensures.told)
     (subst (λ (ls : List (Letter _)). AllWithinRun i.config ls) (sym c.remove_first.ensures.others) within) c.self.invariant.few_made)
 

@@ -6,6 +6,6 @@ use Rattle.vt_steps.specs.PartSteps.{rows_of_processes}
 use Rattle.vt_kernel.specs.Held.{StandsFor}
 use Rattle.vt_kernel.proofs.kernel.Kernel.rows.Given as goal
 
-abbrev pub invariant-loop-process : goal.invariant-loop-process
-invariant-loop-process g l = (handlers : Handlers _ _ _) (part : Part _) → StandsFor handlers l.fn.self part
-    → l.rows.items ≡ rows_of_processes (simulation_of handlers l.fn.self.config) l.fn.self.worker l.fn.self.floor 0 (take l.process-index part.processes)
+abbrev pub invariant-loop-place : goal.invariant-loop-place
+invariant-loop-place g l = (handlers : Handlers _ _ _) (part : Part _) → StandsFor handlers l.fn.self part
+    → l.rows.items ≡ rows_of_processes (simulation_of handlers l.fn.self.config) l.fn.self.worker l.fn.self.floor 0 (take l.place part.processes)

@@ -60,7 +60,7 @@ invariant_of-self g c =
     let again : c.index.result.now ≡ new = found-again i.processes.items c.in-Some.place old new c.index.result.now at c.index.ensures in
     let same = c.settle_process.ensures.same in
     let within = subst (λ (k : Config). AllWithinRun k i.outbox → AllWithinRun k c.settle_process.new.outbox) f.1 c.settle_process.ensures.within in
-    entered i.ready i.unready c.in-Some.place new c.index.result.now c.enter.new.ready c.enter.new.unready again c.enter.ensures.ready c.enter.ensures.unready
+    entered i.ready i.unready i.marked.items c.in-Some.place new c.index.result.now c.enter.new.ready c.enter.new.unready c.enter.new.marked.items again c.enter.ensures.ready c.enter.ensures.unready c.enter.ensures.marked
     (inside-changed c.self.invariant c.in-Some.place old new c.settle_process.new.outbox i.serial at same.0 same.1 (subst (λ (q : HeldProcess _ _ _). TellsLeast q) again c.enter.ensures.told) (within c.self.invariant.sendable) c.self.invariant.few_made)
 
 pub returns-clause-settles : goal.returns-clause-settles
