@@ -119,24 +119,12 @@ not_behind-transitive a b c h k = elim (tested (is_ahead c a)) [
       ]
 ]
 
--- the winner of two is one of them, and not behind either
+-- the winner of two is one of them
 pub winner-first : (a b : Contestant) → is_ahead b a ≡ false → winner_of a b ≡ a
 winner-first a b h = ap (λ (t : Bool). if t then b else a) h
 
 pub winner-second : (a b : Contestant) → is_ahead b a ≡ true → winner_of a b ≡ b
 winner-second a b h = ap (λ (t : Bool). if t then b else a) h
-
-pub winner-not_behind-first : (a b : Contestant) → NotBehind (winner_of a b) a
-winner-not_behind-first a b = elim (tested (is_ahead b a)) [
-  | inl y ↦ subst (λ (w : Contestant). NotBehind w a) (sym (winner-second a b y)) (not_behind-ahead b a y)
-  | inr y ↦ subst (λ (w : Contestant). NotBehind w a) (sym (winner-first a b y)) (not_behind-self a)
-]
-
-pub winner-not_behind-second : (a b : Contestant) → NotBehind (winner_of a b) b
-winner-not_behind-second a b = elim (tested (is_ahead b a)) [
-  | inl y ↦ subst (λ (w : Contestant). NotBehind w b) (sym (winner-second a b y)) (not_behind-self b)
-  | inr y ↦ subst (λ (w : Contestant). NotBehind w b) (sym (winner-first a b y)) y
-]
 
 -- with ranks, who is not behind has no greater rank, and with equal ranks no greater number
 pub not_behind-rank : (a b : Rank) (i j : ℕ) → is_ahead_by (Some b) j (Some a) i ≡ false → (RankBefore b a → ⊥) × (j < i → RankBefore a b)
@@ -155,16 +143,9 @@ not_behind-rank a b i j h = (
 pub behind-none : (b : Rank) (i j : ℕ) → is_ahead_by (Some b) j None i ≡ false → ⊥
 behind-none b i j h = apart h
 
--- it doesn't matter which of two is asked first
-pub winner-swapped : (a b : Contestant) → winner_of a b ≡ winner_of b a
-winner-swapped a b = elim (total a.rank a.number b.rank b.number) [
-  | inl l ↦
-      let ahead : is_ahead a b ≡ true = true-ahead a.rank a.number b.rank b.number l in
-      winner-first a b (not_behind-ahead a b ahead) ∙ sym (winner-second b a ahead)
-  | inr l ↦ elim l [
-    | inl same ↦ let e : a ≡ b = (λ i. record { rank = same.0 i; number = same.1 i }) in ap (λ (x : Contestant). winner_of a x) (sym e) ∙ ap (λ (x : Contestant). winner_of x a) e
-    | inr m ↦
-        let ahead : is_ahead b a ≡ true = true-ahead b.rank b.number a.rank a.number m in
-        winner-second a b ahead ∙ sym (winner-first b a (not_behind-ahead b a ahead))
-  ]
+-- two of which neither is behind the other have one number
+pub not_behind-same : (a b : Contestant) → NotBehind a b → NotBehind b a → a.number ≡ b.number
+not_behind-same a b h k = elim (total a.rank a.number b.rank b.number) [
+  | inl l ↦ apart (sym (true-ahead a.rank a.number b.rank b.number l) ∙ k)
+  | inr l ↦ elim l [ inl same ↦ same.1 | inr m ↦ apart (sym (true-ahead b.rank b.number a.rank a.number m) ∙ h) ]
 ]

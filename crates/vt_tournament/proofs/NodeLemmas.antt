@@ -6,8 +6,8 @@ use Rattle.vt_key.specs.declared.order.Rank.{Rank}
 use Rattle.vt_key.specs.Order.{rank_before}
 use Rattle.vt_key.proofs.OrderLemmas.{before-rank_before}
 use Rattle.vt_tournament.specs.declared.node.Node.{Node}
-use Rattle.vt_tournament.specs.Contest.{Contestant, contestant, is_ahead, is_ahead_by, winner_of, first_time, first_source, nobodys_number, number_of, node_of}
-use Rattle.vt_tournament.proofs.AheadLemmas.{tested, winner-first, winner-second, not_behind-ahead}
+use Rattle.vt_tournament.specs.Contest.{Contestant, contestant, is_ahead, is_ahead_by, first_time, first_source, nobodys_number, number_of, node_of}
+use Rattle.vt_tournament.proofs.AheadLemmas.{tested, not_behind-ahead}
 
 -- whose time is earlier is ahead
 earlier : (a : Option Rank) (i : ℕ) (b : Option Rank) (j : ℕ) → first_time a < first_time b → first_time b < 2 ^ 64 → is_ahead_by a i b j ≡ true
@@ -41,20 +41,6 @@ by_source a b same differ low high = elim (cases_order (first_source a.rank) (fi
     | inl l ↦ lt-ltb (first_source a.rank) (first_source b.rank) l ∙ sym (lesser a.rank a.number b.rank b.number same l high)
     | inr l ↦ le-ltb (first_source a.rank) (first_source b.rank) (omega (arith, l)) ∙ sym (not_behind-ahead b a (lesser b.rank b.number a.rank a.number (sym same) l low))
   ]
-]
-
--- the winner of two contestants of a list is one of them
-pub winner-one : (ranks : List (Option Rank)) (a b : ℕ) → (winner_of (contestant ranks a) (contestant ranks b) ≡ contestant ranks a) ⊎ (winner_of (contestant ranks a) (contestant ranks b) ≡ contestant ranks b)
-winner-one ranks a b = elim (tested (is_ahead (contestant ranks b) (contestant ranks a))) [
-  | inl y ↦ inr (winner-second (contestant ranks a) (contestant ranks b) y)
-  | inr y ↦ inl (winner-first (contestant ranks a) (contestant ranks b) y)
-]
-
--- so it is the contestant of its number
-pub winner-own : (ranks : List (Option Rank)) (a b : ℕ) → contestant ranks (winner_of (contestant ranks a) (contestant ranks b)).number ≡ winner_of (contestant ranks a) (contestant ranks b)
-winner-own ranks a b = elim (winner-one ranks a b) [
-  | inl e ↦ ap (λ (c : Contestant). contestant ranks c.number) e ∙ sym e
-  | inr e ↦ ap (λ (c : Contestant). contestant ranks c.number) e ∙ sym e
 ]
 
 -- ---- nobody
@@ -108,19 +94,3 @@ ranked-known ranks i r e = elim (cases_order i (length ranks)) [
 ] where
   never : length ranks ≤ i → i < length ranks
   never past = absurd (let w : None ≡ Some r = sym (get_or_past ranks i None past) ∙ e in cc)
-
--- ---- the winner of two nodes
-
--- the node of the winner is one of the two
-pub winner-node : (ranks : List (Option Rank)) (a b : Node) → a ≡ node_of (contestant ranks a.number) → b ≡ node_of (contestant ranks b.number) → (node_of (winner_of (contestant ranks a.number) (contestant ranks b.number)) ≡ a) ⊎ (node_of (winner_of (contestant ranks a.number) (contestant ranks b.number)) ≡ b)
-winner-node ranks a b fits other_fits = elim (winner-one ranks a.number b.number) [
-  | inl e ↦ inl (ap node_of e ∙ sym fits)
-  | inr e ↦ inr (ap node_of e ∙ sym other_fits)
-]
-
--- and has the winner's number
-pub winner-number : (ranks : List (Option Rank)) (a b : Node) → a ≡ node_of (contestant ranks a.number) → b ≡ node_of (contestant ranks b.number) → (node_of (winner_of (contestant ranks a.number) (contestant ranks b.number))).number ≡ (winner_of (contestant ranks a.number) (contestant ranks b.number)).number
-winner-number ranks a b fits other_fits = elim (winner-one ranks a.number b.number) [
-  | inl e ↦ ap (λ (n : Node). n.number) (ap node_of e ∙ sym fits) ∙ sym (ap (λ (c : Contestant). c.number) e)
-  | inr e ↦ ap (λ (n : Node). n.number) (ap node_of e ∙ sym other_fits) ∙ sym (ap (λ (c : Contestant). c.number) e)
-]

@@ -1,17 +1,17 @@
--- The tree of winners: what stands in it at first, how a place is decided, and what the first place has.
-use Rattle.std.proofs.Common.{◌≡◌, ℕ, zero, suc, ◌+◌, ◌*◌, ◌/◌, ◌^◌, ◌<◌, ◌≤◌, ◌⊎◌, inl, inr, true, false, List, [], ◌∷◌, length, slice_index_or, Option, Some, None, IfNone, slice_get, slice_set, replicate, refl, sym, subst, ap, ◌∙◌, arith}
+-- The winner at a place of the tree: of nobody, of the four below it, and at the first place.
+use Rattle.std.proofs.Common.{◌≡◌, ℕ, zero, suc, ◌+◌, ◌-◌, ◌*◌, ◌/◌, ◌^◌, ◌<◌, ◌≤◌, ◌⊎◌, inl, inr, true, false, List, [], ◌∷◌, length, slice_index_or, Option, Some, None, IfNone, slice_get, slice_set, replicate, refl, sym, subst, ap, ◌∙◌, arith}
 use Rattle.std.specs.Option.{is_some}
-use Rattle.std.proofs.lemmas.List.{get_or-set_same, get_or-set_other, get_or_default, length-set, length-replicate}
+use Rattle.std.proofs.lemmas.List.{get_or-set_same, get_or-set_other, get_or_default, length-replicate}
 use Rattle.std.proofs.lemmas.Bool.{cases_order}
 use Rattle.std.proofs.lemmas.Option.{slice_get-get_or, slice_get_past}
 use Rattle.vt_key.specs.declared.order.Rank.{Rank}
 use Rattle.vt_key.specs.Order.{RankBefore}
 use Rattle.vt_tournament.specs.declared.node.Node.{Node}
-use Rattle.vt_tournament.specs.Contest.{Contestant, is_ahead, is_ahead_by, winner_of, contestant, nobodys_number, number_of, node_of, node, entrant, IsPlaced, IsAbove, AreLeaves, IsDecided, Fits, IsTreeFrom, IsTree}
+use Rattle.vt_tournament.specs.Contest.{is_ahead, is_ahead_by, winner_of, contestant, nobodys_number, number_of, node_of, Fits, inner_places, last_place, place, node, IsBelow, IsAbove, IsWinner, IsBest, AreWinners}
 use Rattle.vt_tournament.specs.Least.{IsLeast}
-use Rattle.vt_tournament.proofs.AheadLemmas.{NotBehind, winner-first, not_behind-self, not_behind-transitive, winner-not_behind-first, winner-not_behind-second, not_behind-rank, behind-none}
-use Rattle.vt_tournament.proofs.NodeLemmas.{winner-own, winner-node, winner-number, nobodys_rank, somebody, ranked-known}
-use Rattle.vt_tournament.proofs.PathLemmas.{above-half}
+use Rattle.vt_tournament.proofs.AheadLemmas.{tested, NotBehind, winner-first, winner-second, not_behind-self, not_behind-ahead, not_behind-transitive, not_behind-rank, behind-none}
+use Rattle.vt_tournament.proofs.NodeLemmas.{nobodys_rank, node-own, number-one, somebody, ranked-known}
+use Rattle.vt_tournament.proofs.PathLemmas.{above-self, above-first, above-transitive, through, lowest}
 
 -- ---- before anybody takes part
 
@@ -24,173 +24,229 @@ nobody_there zero i = refl
 nobody_there (suc n) zero = refl
 nobody_there (suc n) (suc i) = nobody_there n i
 
-node-replicate : (n : ℕ) (w : Node) (i : ℕ) → i + 1 < n → node (replicate n w) i ≡ w
-node-replicate n w i l = there n (i + 1) l where
+node-replicate : (n : ℕ) (w : Node) (k : ℕ) → k + 2 < n → node (replicate n w) k ≡ w
+node-replicate n w k l = there n (k + 2) l where
   there : (m j : ℕ) → j < m → slice_index_or (replicate m w) j (record { time = 0; source = 0; number = 0 }) ≡ w
   there zero j less = absurd (omega (arith, less))
   there (suc m) zero less = refl
   there (suc m) (suc j) less = there m j (omega (arith, less))
 
--- where nobody takes part, nodes of nobody are a tree
-tree_of_nobody : (ranks : List (Option Rank)) (nodes : List Node) → length ranks ≤ 2 ^ 31 → ((i : ℕ) → slice_index_or ranks i None ≡ None) → length nodes ≡ 2 * length ranks + 1 → ((k : ℕ) → k < 2 * length ranks → node nodes k ≡ nobodys_node) → IsTreeFrom 1 ranks nodes
-tree_of_nobody ranks nodes few none full all =
-    let c : Contestant = contestant ranks nobodys_number in
-    let at : (i : ℕ) → nobodys_node ≡ node_of (contestant ranks i) = λ i. ap (λ (r : Option Rank). node_of (record { rank = r; number = i })) (sym (none i)) in
-    let who : (k : ℕ) → k < 2 * length ranks → entrant ranks nodes k ≡ c = λ k h. ap (λ (n : Node). contestant ranks n.number) (all k h) in
-    record {
-      leaves = record { full = full; own = λ i l. all (length ranks + i) (omega (arith, l)) ∙ at i };
-      placed = λ k low high l. absurd (let e : (node nodes k).number ≡ nobodys_number = ap (λ (n : Node). n.number) (all k high) in omega (arith, few, l, e));
-      fits = λ k low high. all k high ∙ at (node nodes k).number;
-      decided = λ k low high.
-          who k (omega (arith, high)) ∙ sym (winner-first c c (not_behind-self c))
-          ∙ (λ j. winner_of (sym (who (2 * k) (omega (arith, high))) j) (sym (who (2 * k + 1) (omega (arith, high))) j));
-    }
+-- where nobody takes part, nobody's node is the winner's
+winner-nobody : (ranks : List (Option Rank)) → length ranks ≤ 2 ^ 31 → ((i : ℕ) → slice_index_or ranks i None ≡ None) → (k : ℕ) → IsWinner ranks k nobodys_node
+winner-nobody ranks few none k = record {
+  fits = ap (λ (r : Option Rank). node_of (record { rank = r; number = nobodys_number })) (sym (none nobodys_number));
+  placed = λ l. absurd (omega (arith, few, l));
+  least = λ i rank is path. absurd (let w : None ≡ Some rank = sym (none i) ∙ is in cc);
+}
 
-pub nobodys_tree : (count : ℕ) → count ≤ 2 ^ 31 → IsTreeFrom 1 (replicate count None) (replicate (2 * count + 1) nobodys_node)
+pub nobodys_tree : (count : ℕ) → count ≤ 2 ^ 31 → AreWinners (replicate count None) (replicate (last_place count + 3) nobodys_node)
 nobodys_tree count few =
     let ranks : List (Option Rank) = replicate count None in
     let e : length ranks ≡ count = length-replicate count None in
-    tree_of_nobody ranks (replicate (2 * count + 1) nobodys_node) (omega (arith, few, e)) (nobody_there count)
-    (length-replicate (2 * count + 1) nobodys_node ∙ (let w : 2 * count + 1 ≡ 2 * length ranks + 1 = omega (arith, e) in w))
-    (λ k high. node-replicate (2 * count + 1) nobodys_node k (omega (arith, e, high)))
+    record {
+      full = length-replicate (last_place count + 3) nobodys_node ∙ ap (λ (n : ℕ). last_place n + 3) (sym e);
+      won = λ k l.
+          subst (IsWinner ranks k) (sym (node-replicate (last_place count + 3) nobodys_node k (omega (arith, e, l))))
+          (winner-nobody ranks (omega (arith, few, e)) (nobody_there count) k);
+    }
 
 -- ---- one place
 
 -- what was read is what stands at the place
-pub read : (nodes : List Node) (k : ℕ) (x : Node) → k + 1 < length nodes → x ≡ slice_index_or nodes (k + 1) x → x ≡ node nodes k
-read nodes k x l h = h ∙ get_or_default nodes (k + 1) x (record { time = 0; source = 0; number = 0 }) l
+pub read : (nodes : List Node) (k : ℕ) (x : Node) → k + 2 < length nodes → x ≡ slice_index_or nodes (k + 2) x → x ≡ node nodes k
+read nodes k x l h = h ∙ get_or_default nodes (k + 2) x (record { time = 0; source = 0; number = 0 }) l
 
-pub node-set_same : (nodes : List Node) (p : ℕ) (w : Node) → p + 1 < length nodes → node (slice_set nodes (p + 1) w) p ≡ w
-node-set_same nodes p w l = get_or-set_same nodes (p + 1) w (record { time = 0; source = 0; number = 0 }) l
+pub node-set_same : (nodes : List Node) (k : ℕ) (w : Node) → k + 2 < length nodes → node (slice_set nodes (k + 2) w) k ≡ w
+node-set_same nodes k w l = get_or-set_same nodes (k + 2) w (record { time = 0; source = 0; number = 0 }) l
 
-pub node-set_other : (nodes : List Node) (p k : ℕ) (w : Node) → (k ≡ p → ⊥) → node (slice_set nodes (p + 1) w) k ≡ node nodes k
-node-set_other nodes p k w other = get_or-set_other nodes (p + 1) (k + 1) w (record { time = 0; source = 0; number = 0 }) (λ e. other (omega (arith, e)))
+pub node-set_other : (nodes : List Node) (p k : ℕ) (w : Node) → (k ≡ p → ⊥) → node (slice_set nodes (p + 2) w) k ≡ node nodes k
+node-set_other nodes p k w other = get_or-set_other nodes (p + 2) (k + 2) w (record { time = 0; source = 0; number = 0 }) (λ e. other (omega (arith, e)))
 
--- who is placed, decided and fits depends on few nodes
-pub placed-number : (count : ℕ) (ns ms : List Node) (k : ℕ) → (node ns k).number ≡ (node ms k).number → IsPlaced count ns k → IsPlaced count ms k
-placed-number count ns ms k e h = subst (λ (n : ℕ). n < count → IsAbove k (count + n)) e h
-
-pub decided-numbers : (ranks : List (Option Rank)) (ns ms : List Node) (k : ℕ) → node ns k ≡ node ms k → node ns (2 * k) ≡ node ms (2 * k) → node ns (2 * k + 1) ≡ node ms (2 * k + 1) → IsDecided ranks ns k → IsDecided ranks ms k
-decided-numbers ranks ns ms k e l r h = (λ j. contestant ranks (sym e j).number) ∙ h ∙ (λ j. winner_of (contestant ranks (l j).number) (contestant ranks (r j).number))
-
-pub fits-node : (ranks : List (Option Rank)) (ns ms : List Node) (k : ℕ) → node ns k ≡ node ms k → Fits ranks ns k → Fits ranks ms k
-fits-node ranks ns ms k e h = sym e ∙ h ∙ ap (λ (n : Node). node_of (contestant ranks n.number)) e
-
--- the leaves stay where a place above them is decided
-pub leaves-set : (ranks : List (Option Rank)) (nodes : List Node) (p : ℕ) (w : Node) → p < length ranks → AreLeaves ranks nodes → AreLeaves ranks (slice_set nodes (p + 1) w)
-leaves-set ranks nodes p w l h = record {
-  full = length-set nodes (p + 1) w ∙ h.full;
-  own = λ i m. node-set_other nodes p (length ranks + i) w (λ e. omega (arith, e, l)) ∙ h.own i m;
-}
-
--- a place that gets the winner of the two below it
-pub decide : (ranks : List (Option Rank)) (nodes : List Node) (p : ℕ) (w : Node) → 1 ≤ p → p < length ranks → IsTreeFrom (suc p) ranks nodes → w ≡ node_of (winner_of (entrant ranks nodes (2 * p)) (entrant ranks nodes (2 * p + 1))) → IsTreeFrom p ranks (slice_set nodes (p + 1) w)
-decide ranks nodes p w low high tree is =
-    let count : ℕ = length ranks in
-    let ms : List Node = slice_set nodes (p + 1) w in
-    let c : Contestant = winner_of (entrant ranks nodes (2 * p)) (entrant ranks nodes (2 * p + 1)) in
-    let own : contestant ranks c.number ≡ c = winner-own ranks (node nodes (2 * p)).number (node nodes (2 * p + 1)).number in
-    let here : node ms p ≡ w = node-set_same nodes p w (omega (arith, high, tree.leaves.full)) in
-    let fits_left : Fits ranks nodes (2 * p) = tree.fits (2 * p) (omega (arith, low)) (omega (arith, high)) in
-    let fits_right : Fits ranks nodes (2 * p + 1) = tree.fits (2 * p + 1) (omega (arith, low)) (omega (arith, high)) in
-    let number : (node ms p).number ≡ c.number = ap (λ (n : Node). n.number) (here ∙ is) ∙ winner-number ranks (node nodes (2 * p)) (node nodes (2 * p + 1)) fits_left fits_right in
-    let from : (m : ℕ) → IsPlaced count nodes m → m / 2 ≡ p → node_of c ≡ node nodes m → IsPlaced count ms p =
-    λ m placed half e.
-    let same : (node nodes m).number ≡ (node ms p).number = ap (λ (n : Node). n.number) (sym (here ∙ is ∙ e)) in
-    let up : (node nodes m).number < count → IsAbove p (count + (node nodes m).number) =
-    λ l. subst (λ (n : ℕ). IsAbove n (count + (node nodes m).number)) half (above-half m (count + (node nodes m).number) (placed l)) in
-    subst (λ (n : ℕ). n < count → IsAbove p (count + n)) same up in
-    let placed_here : IsPlaced count ms p = elim (winner-node ranks (node nodes (2 * p)) (node nodes (2 * p + 1)) fits_left fits_right) [
-      | inl e ↦ from (2 * p) (tree.placed (2 * p) (omega (arith, low)) (omega (arith, high))) (omega arith) e
-      | inr e ↦ from (2 * p + 1) (tree.placed (2 * p + 1) (omega (arith, low)) (omega (arith, high))) (omega arith) e
-    ] in
-    let other : (k : ℕ) → (k ≡ p → ⊥) → node nodes k ≡ node ms k = λ k e. sym (node-set_other nodes p k w e) in
-    let fits_here : Fits ranks ms p = here ∙ is ∙ ap node_of (sym own) ∙ ap (λ (n : ℕ). node_of (contestant ranks n)) (sym number) in
-    let decided_here : IsDecided ranks ms p =
-    ap (contestant ranks) number ∙ own ∙ (λ j. winner_of (contestant ranks (other (2 * p) (λ e. omega (arith, e, low)) j).number) (contestant ranks (other (2 * p + 1) (λ e. omega (arith, e, low)) j).number)) in
-    let split : (k : ℕ) → p ≤ k → (k ≡ p) ⊎ (suc p ≤ k) = λ k l. elim (cases_order p k) [ inl e ↦ inl (sym e) | inr m ↦ elim m [ inl x ↦ inr (omega (arith, x)) | inr x ↦ absurd (omega (arith, x, l)) ] ] in
+-- a contestant's own node is the winner's at its place
+pub winner-own_place : (ranks : List (Option Rank)) (number : ℕ) → length ranks ≤ 2 ^ 31 → number < length ranks → IsWinner ranks (place ranks number) (node_of (contestant ranks number))
+winner-own_place ranks number few known =
+    let w : Node = node_of (contestant ranks number) in
     record {
-      leaves = leaves-set ranks nodes p w high tree.leaves;
-      placed = λ k l h. elim (split k l) [
-        | inl e ↦ subst (IsPlaced count ms) (sym e) placed_here
-        | inr m ↦ placed-number count nodes ms k (ap (λ (n : Node). n.number) (other k (λ e. omega (arith, e, m)))) (tree.placed k m h)
+      fits = node-own ranks few number;
+      placed = λ l. elim (number-one (contestant ranks number)) [
+        | inl e ↦ subst (λ (n : ℕ). IsAbove (place ranks number) (place ranks n)) (sym e) (above-self (place ranks number))
+        | inr e ↦ absurd (omega (arith, few, l, e))
       ];
-      fits = λ k l h. elim (split k l) [
-        | inl e ↦ subst (Fits ranks ms) (sym e) fits_here
-        | inr m ↦ fits-node ranks nodes ms k (other k (λ e. omega (arith, e, m))) (tree.fits k m h)
+      least = λ i rank is path.
+          let there : i < length ranks = ranked-known ranks i rank is in
+          let same : place ranks number ≡ place ranks i = lowest (place ranks number) (place ranks i) (omega (arith, there)) path in
+          let e : i ≡ number = omega (arith, same) in
+          let had : slice_index_or ranks number None ≡ Some rank = subst (λ (n : ℕ). slice_index_or ranks n None ≡ Some rank) e is in
+          let its : w.number ≡ i = ap (λ (r : Option Rank). number_of r number) had ∙ sym e in
+          subst (λ (n : ℕ). is_ahead (contestant ranks i) (contestant ranks n) ≡ false) (sym its) (not_behind-self (contestant ranks i));
+    }
+
+-- where the node of who takes no part stands at a contestant's own place, it takes none
+pub own-nobody : (ranks : List (Option Rank)) (number : ℕ) (entry : Option Rank) (w : Node) → length ranks ≤ 2 ^ 31 → number < length ranks → IsWinner ranks (place ranks number) w → w ≡ node_of (record { rank = entry; number = number }) → w.number ≡ nobodys_number → slice_index_or ranks number None ≡ entry
+own-nobody ranks number entry w few known won is nobodys = had (slice_index_or ranks number None) refl ∙ sym (new entry refl) where
+  had : (r : Option Rank) → slice_index_or ranks number None ≡ r → slice_index_or ranks number None ≡ None
+  had None e = e
+  had (Some rank) e =
+      let none : slice_index_or ranks w.number None ≡ None = ap (λ (n : ℕ). slice_index_or ranks n None) nobodys ∙ nobodys_rank ranks few in
+      absurd (behind-none rank w.number number
+      (subst (λ (r : Option Rank). is_ahead_by (Some rank) number r w.number ≡ false) none
+      (subst (λ (r : Option Rank). is_ahead_by r number (slice_index_or ranks w.number None) w.number ≡ false) e (won.least number rank e (above-self (place ranks number))))))
+
+  new : (r : Option Rank) → entry ≡ r → entry ≡ None
+  new None e = e
+  new (Some rank) e =
+      let its : w.number ≡ number = ap (λ (x : Node). x.number) is ∙ ap (λ (r : Option Rank). number_of r number) e in
+      absurd (omega (arith, few, known, its, nobodys))
+
+-- ---- the four below a place
+
+-- a node is one of two, and neither is ahead of it
+record IsAheadOfTwo (ranks : List (Option Rank)) (a b w : Node) : Type 0 where
+  one : (w ≡ a) ⊎ (w ≡ b)
+  first : NotBehind (contestant ranks w.number) (contestant ranks a.number)
+  second : NotBehind (contestant ranks w.number) (contestant ranks b.number)
+
+of_two : (ranks : List (Option Rank)) (a b w : Node) → Fits ranks a → Fits ranks b → w ≡ node_of (winner_of (contestant ranks a.number) (contestant ranks b.number)) → IsAheadOfTwo ranks a b w
+of_two ranks a b w fits other_fits is = elim (tested (is_ahead (contestant ranks b.number) (contestant ranks a.number))) [
+  | inl y ↦
+      let e : w ≡ b = is ∙ ap node_of (winner-second (contestant ranks a.number) (contestant ranks b.number) y) ∙ sym other_fits in
+      subst (IsAheadOfTwo ranks a b) (sym e) (record { one = inr refl; first = not_behind-ahead (contestant ranks b.number) (contestant ranks a.number) y; second = not_behind-self (contestant ranks b.number) })
+  | inr y ↦
+      let e : w ≡ a = is ∙ ap node_of (winner-first (contestant ranks a.number) (contestant ranks b.number) y) ∙ sym fits in
+      subst (IsAheadOfTwo ranks a b) (sym e) (record { one = inl refl; first = not_behind-self (contestant ranks a.number); second = y })
+]
+
+-- who wins of two nodes that fit, fits
+pub fits-two : (ranks : List (Option Rank)) (a b w : Node) → Fits ranks a → Fits ranks b → w ≡ node_of (winner_of (contestant ranks a.number) (contestant ranks b.number)) → Fits ranks w
+fits-two ranks a b w fits other_fits is = elim (of_two ranks a b w fits other_fits is).one [
+  | inl e ↦ subst (Fits ranks) (sym e) fits
+  | inr e ↦ subst (Fits ranks) (sym e) other_fits
+]
+
+-- one of the four places below a place
+which : (k at : ℕ) → IsBelow k at → (k ≡ 4 * at + 1) ⊎ ((k ≡ 4 * at + 2) ⊎ ((k ≡ 4 * at + 3) ⊎ (k ≡ 4 * at + 4)))
+which k at h = elim (cases_order k (4 * at + 2)) [
+  | inl e ↦ inr (inl e)
+  | inr m ↦ elim m [
+    | inl x ↦ inl (omega (arith, x, h.0))
+    | inr x ↦ elim (cases_order k (4 * at + 3)) [
+      | inl e ↦ inr (inr (inl e))
+      | inr n ↦ elim n [
+        | inl y ↦ absurd (omega (arith, x, y))
+        | inr y ↦ inr (inr (inr (omega (arith, y, h.1))))
+      ]
+    ]
+  ]
+]
+
+-- who wins of the winners of two and two is the best of the four
+pub of_four : (ranks : List (Option Rank)) (nodes : List Node) (at : ℕ) (early late w : Node) → ((k : ℕ) → IsBelow k at → Fits ranks (node nodes k)) → early ≡ node_of (winner_of (contestant ranks (node nodes (4 * at + 1)).number) (contestant ranks (node nodes (4 * at + 2)).number)) → late ≡ node_of (winner_of (contestant ranks (node nodes (4 * at + 3)).number) (contestant ranks (node nodes (4 * at + 4)).number)) → w ≡ node_of (winner_of (contestant ranks early.number) (contestant ranks late.number)) → IsBest ranks nodes at w
+of_four ranks nodes at early late w fit is_early is_late is =
+    let a : Node = node nodes (4 * at + 1) in
+    let b : Node = node nodes (4 * at + 2) in
+    let c : Node = node nodes (4 * at + 3) in
+    let d : Node = node nodes (4 * at + 4) in
+    let fit_a : Fits ranks a = fit (4 * at + 1) (omega arith, omega arith) in
+    let fit_b : Fits ranks b = fit (4 * at + 2) (omega arith, omega arith) in
+    let fit_c : Fits ranks c = fit (4 * at + 3) (omega arith, omega arith) in
+    let fit_d : Fits ranks d = fit (4 * at + 4) (omega arith, omega arith) in
+    let of_early : IsAheadOfTwo ranks a b early = of_two ranks a b early fit_a fit_b is_early in
+    let of_late : IsAheadOfTwo ranks c d late = of_two ranks c d late fit_c fit_d is_late in
+    let of_both : IsAheadOfTwo ranks early late w = of_two ranks early late w (fits-two ranks a b early fit_a fit_b is_early) (fits-two ranks c d late fit_c fit_d is_late) is in
+    let over_early : (x : Node) → NotBehind (contestant ranks early.number) (contestant ranks x.number) → NotBehind (contestant ranks w.number) (contestant ranks x.number) =
+    λ x h. not_behind-transitive (contestant ranks w.number) (contestant ranks early.number) (contestant ranks x.number) of_both.first h in
+    let over_late : (x : Node) → NotBehind (contestant ranks late.number) (contestant ranks x.number) → NotBehind (contestant ranks w.number) (contestant ranks x.number) =
+    λ x h. not_behind-transitive (contestant ranks w.number) (contestant ranks late.number) (contestant ranks x.number) of_both.second h in
+    let over : ℕ → Type 0 = λ k. NotBehind (contestant ranks w.number) (contestant ranks (node nodes k).number) in
+    record {
+      one = elim of_both.one [
+        | inl e ↦ elim of_early.one [
+          | inl x ↦ (4 * at + 1, ((omega arith, omega arith), e ∙ x))
+          | inr x ↦ (4 * at + 2, ((omega arith, omega arith), e ∙ x))
+        ]
+        | inr e ↦ elim of_late.one [
+          | inl x ↦ (4 * at + 3, ((omega arith, omega arith), e ∙ x))
+          | inr x ↦ (4 * at + 4, ((omega arith, omega arith), e ∙ x))
+        ]
       ];
-      decided = λ k l h. elim (split k l) [
-        | inl e ↦ subst (IsDecided ranks ms) (sym e) decided_here
-        | inr m ↦ decided-numbers ranks nodes ms k (other k (λ e. omega (arith, e, m))) (other (2 * k) (λ e. omega (arith, e, m))) (other (2 * k + 1) (λ e. omega (arith, e, m))) (tree.decided k m h)
+      least = λ k h. elim (which k at h) [
+        | inl e ↦ subst over (sym e) (over_early a of_early.first)
+        | inr m ↦ elim m [
+          | inl e ↦ subst over (sym e) (over_early b of_early.second)
+          | inr n ↦ elim n [
+            | inl e ↦ subst over (sym e) (over_late c of_late.first)
+            | inr e ↦ subst over (sym e) (over_late d of_late.second)
+          ]
+        ]
       ];
     }
 
+-- the best of the winners below a place is the winner there
+pub winner-best : (ranks : List (Option Rank)) (nodes : List Node) (at : ℕ) (w : Node) → at < inner_places (length ranks) → ((k : ℕ) → IsBelow k at → IsWinner ranks k (node nodes k)) → IsBest ranks nodes at w → IsWinner ranks at w
+winner-best ranks nodes at w high below best =
+    let from : ℕ = best.one.0 in
+    let its : IsWinner ranks from w = subst (IsWinner ranks from) (sym best.one.1.1) (below from best.one.1.0) in
+    record {
+      fits = its.fits;
+      placed = λ l. above-transitive at from (place ranks w.number) (right_above from best.one.1.0) (its.placed l);
+      least = λ i rank is path. elim (through at (place ranks i) path) [
+        | inl e ↦ absurd (omega (arith, e, high))
+        | inr c ↦
+            not_behind-transitive (contestant ranks w.number) (contestant ranks (node nodes c.0).number) (contestant ranks i) (best.least c.0 c.1.0)
+            ((below c.0 c.1.0).least i rank is c.1.1)
+      ];
+    } where
+      right_above : (k : ℕ) → IsBelow k at → IsAbove at k
+      right_above k h = (1, let e : (k - 1) / 4 ≡ at = omega (arith, h.0, h.1) in e)
+
 -- ---- the first place
 
-module _ (ranks : List (Option Rank)) (nodes : List Node) (tree : IsTree ranks nodes) where
-  -- who won at the first place is not behind who won at the place k, for k up to a bound
-  top : (bound k : ℕ) → k ≤ bound → 1 ≤ k → k < 2 * length ranks → NotBehind (entrant ranks nodes 1) (entrant ranks nodes k)
-  top zero k l low high = absurd (omega (arith, l, low))
-  top (suc bound) k l low high = elim (cases_order k 1) [
-    | inl y ↦ subst (λ (j : ℕ). NotBehind (entrant ranks nodes 1) (entrant ranks nodes j)) (sym y) (not_behind-self (entrant ranks nodes 1))
-    | inr y ↦
-        let more : 2 ≤ k = elim y [ inl z ↦ absurd (omega (arith, z, low)) | inr z ↦ let w : 2 ≤ k = omega (arith, z) in w ] in
-        let up : NotBehind (entrant ranks nodes 1) (entrant ranks nodes (k / 2)) = top bound (k / 2) (omega (arith, l, more)) (omega (arith, more)) (omega (arith, high)) in
-        let at : IsDecided ranks nodes (k / 2) = tree.tree.decided (k / 2) (omega (arith, more)) (omega (arith, high)) in
-        not_behind-transitive (entrant ranks nodes 1) (entrant ranks nodes (k / 2)) (entrant ranks nodes k) up
-        (subst (λ (w : Contestant). NotBehind w (entrant ranks nodes k)) (sym at) (elim (halves k) [
-          | inl e ↦ subst (λ (j : ℕ). NotBehind (winner_of (entrant ranks nodes (2 * (k / 2))) (entrant ranks nodes (2 * (k / 2) + 1))) (entrant ranks nodes j)) (sym e) (winner-not_behind-first (entrant ranks nodes (2 * (k / 2))) (entrant ranks nodes (2 * (k / 2) + 1)))
-          | inr e ↦ subst (λ (j : ℕ). NotBehind (winner_of (entrant ranks nodes (2 * (k / 2))) (entrant ranks nodes (2 * (k / 2) + 1))) (entrant ranks nodes j)) (sym e) (winner-not_behind-second (entrant ranks nodes (2 * (k / 2))) (entrant ranks nodes (2 * (k / 2) + 1)))
-        ]))
+module _ (ranks : List (Option Rank)) (w : Node) (few : length ranks ≤ 2 ^ 31) (won : IsWinner ranks 0 w) where
+  -- an entry that there is
+  entered : (i : ℕ) (r : Option Rank) → slice_get ranks i ≡ Some r → slice_index_or ranks i None ≡ r
+  entered i r h = elim (cases_order i (length ranks)) [
+    | inl x ↦ never (omega (arith, x))
+    | inr m ↦ elim m [
+      | inl l ↦ let e : Some (slice_index_or ranks i None) ≡ Some r = sym (slice_get-get_or ranks i None l) ∙ h in inside e
+      | inr x ↦ never (omega (arith, x))
+    ]
   ] where
-    halves : (n : ℕ) → (n ≡ 2 * (n / 2)) ⊎ (n ≡ 2 * (n / 2) + 1)
-    halves n = elim (cases_order n (2 * (n / 2))) [ inl e ↦ inl e | inr e ↦ inr (elim e [ inl x ↦ absurd (omega (arith, x)) | inr x ↦ let w : n ≡ 2 * (n / 2) + 1 = omega (arith, x) in w ]) ]
-
-  -- where there is an entry there is a contestant
-  entered : (i : ℕ) (r : Option Rank) → slice_get ranks i ≡ Some r → (i < length ranks) × (slice_index_or ranks i None ≡ r)
-  entered i r h = elim (order i (length ranks)) [
-    | inl l ↦ (l, let e : Some (slice_index_or ranks i None) ≡ Some r = sym (slice_get-get_or ranks i None l) ∙ h in inside e)
-    | inr l ↦ absurd (let w : None ≡ Some r = sym (slice_get_past ranks i l) ∙ h in cc)
-  ] where
-    order : (a b : ℕ) → (a < b) ⊎ (b ≤ a)
-    order a b = elim (cases_order a b) [ inl e ↦ inr (omega (arith, e)) | inr h ↦ elim h [ inl x ↦ inl x | inr x ↦ inr (omega (arith, x)) ] ]
+    never : length ranks ≤ i → slice_index_or ranks i None ≡ r
+    never past = absurd (let v : None ≡ Some r = sym (slice_get_past ranks i past) ∙ h in cc)
 
     inside : {x y : Option Rank} → Some x ≡ Some y → x ≡ y
     inside e = cc
 
   -- who won is not behind a contestant with an entry
-  not_behind-entry : (i : ℕ) (r : Rank) → slice_get ranks i ≡ Some (Some r) → is_ahead_by (Some r) i (entrant ranks nodes 1).rank (node nodes 1).number ≡ false
+  not_behind-entry : (i : ℕ) (r : Rank) → slice_get ranks i ≡ Some (Some r) → is_ahead_by (Some r) i (slice_index_or ranks w.number None) w.number ≡ false
   not_behind-entry i r h =
-      let e = entered i (Some r) h in
-      let behind : NotBehind (entrant ranks nodes 1) (entrant ranks nodes (length ranks + i)) = top (2 * length ranks) (length ranks + i) (omega (arith, e.0)) (omega (arith, tree.some)) (omega (arith, e.0)) in
-      let number : (node nodes (length ranks + i)).number ≡ i = ap (λ (n : Node). n.number) (tree.tree.leaves.own i e.0) ∙ ap (λ (x : Option Rank). number_of x i) e.1 in
-      subst (λ (x : Option Rank). is_ahead_by x i (entrant ranks nodes 1).rank (node nodes 1).number ≡ false) e.1
-      (subst (λ (n : ℕ). is_ahead (contestant ranks n) (entrant ranks nodes 1) ≡ false) number behind)
+      let e : slice_index_or ranks i None ≡ Some r = entered i (Some r) h in
+      subst (λ (x : Option Rank). is_ahead_by x i (slice_index_or ranks w.number None) w.number ≡ false) e (won.least i r e (above-first (place ranks i)))
 
   -- where somebody won at the first place, it has the least entry
-  pub first-least : ((node nodes 1).number ≡ nobodys_number → ⊥) → IsLeast ranks (node nodes 1).number
+  pub first-least : (w.number ≡ nobodys_number → ⊥) → IsLeast ranks w.number
   first-least part =
-      let found = somebody ranks (node nodes 1) (tree.tree.fits 1 (omega arith) (omega (arith, tree.some))) part in
+      let found = somebody ranks w won.fits part in
       let rank : Rank = found.0 in
-      let is : (entrant ranks nodes 1).rank ≡ Some rank = found.1 in
-      let known : (node nodes 1).number < length ranks = ranked-known ranks (node nodes 1).number rank is in
-      let facts : (i : ℕ) (other : Rank) → slice_get ranks i ≡ Some (Some other) → (RankBefore other rank → ⊥) × (i < (node nodes 1).number → RankBefore rank other) =
+      let is : slice_index_or ranks w.number None ≡ Some rank = found.1 in
+      let known : w.number < length ranks = ranked-known ranks w.number rank is in
+      let facts : (i : ℕ) (other : Rank) → slice_get ranks i ≡ Some (Some other) → (RankBefore other rank → ⊥) × (i < w.number → RankBefore rank other) =
       λ i other h.
-      not_behind-rank rank other (node nodes 1).number i
-      (subst (λ (r : Option Rank). is_ahead_by (Some other) i r (node nodes 1).number ≡ false) is (not_behind-entry i other h)) in
+      not_behind-rank rank other w.number i
+      (subst (λ (r : Option Rank). is_ahead_by (Some other) i r w.number ≡ false) is (not_behind-entry i other h)) in
       record {
         rank = rank;
-        entered = slice_get-get_or ranks (node nodes 1).number None known ∙ ap Some is;
+        entered = slice_get-get_or ranks w.number None known ∙ ap Some is;
         least = λ i other h. (facts i other h).0;
         first = λ i other l h. (facts i other h).1 l;
       }
 
   -- where nobody won, nobody has a rank
-  pub nobody : (node nodes 1).number ≡ nobodys_number → (i : ℕ) (other : Rank) → slice_get ranks i ≡ Some (Some other) → ⊥
+  pub nobody : w.number ≡ nobodys_number → (i : ℕ) (other : Rank) → slice_get ranks i ≡ Some (Some other) → ⊥
   nobody is i other h =
-      let none : (entrant ranks nodes 1).rank ≡ None = ap (λ (n : ℕ). slice_index_or ranks n None) is ∙ nobodys_rank ranks tree.few in
-      behind-none other (node nodes 1).number i
-      (subst (λ (r : Option Rank). is_ahead_by (Some other) i r (node nodes 1).number ≡ false) none (not_behind-entry i other h))
+      let none : slice_index_or ranks w.number None ≡ None = ap (λ (n : ℕ). slice_index_or ranks n None) is ∙ nobodys_rank ranks few in
+      behind-none other w.number i
+      (subst (λ (r : Option Rank). is_ahead_by (Some other) i r w.number ≡ false) none (not_behind-entry i other h))
 
 -- an option that isn't something is None
 pub none_of : {X : Type 0} (o : Option X) → is_some o ≡ false → o ≡ None

@@ -50,54 +50,63 @@ number_of None n = nobodys_number
 abbrev pub node_of : Contestant → Node
 node_of c = record { time = first_time c.rank; source = first_source c.rank; number = number_of c.rank c.number }
 
--- the node at a place, which stands one further in the list
+-- a node says what the rank of its contestant begins with; there is no entry of nobody's number, so nobody has no rank
+abbrev pub Fits : List (Option Rank) → Node → Type 0
+Fits ranks w = w ≡ node_of (contestant ranks w.number)
+
+-- how many places of the tree stand above those of so many contestants
+abbrev pub inner_places : ℕ → ℕ
+inner_places count = (count + 1) / 3
+
+-- the last place of so many contestants' tree: below each inner place are four, and the first is below none
+abbrev pub last_place : ℕ → ℕ
+last_place count = 4 * inner_places count
+
+-- the place of a contestant: these come after the inner places, in the order of their numbers
+abbrev pub place : List (Option Rank) → ℕ → ℕ
+place ranks number = inner_places (length ranks) + number
+
+-- the node at a place, which stands two further in the list
 abbrev pub node : List Node → ℕ → Node
-node nodes k = slice_index_or nodes (k + 1) (record { time = 0; source = 0; number = 0 })
+node nodes k = slice_index_or nodes (k + 2) (record { time = 0; source = 0; number = 0 })
 
--- the contestant that won at a place; there is no entry of nobody's number, so nobody has no rank
-abbrev pub entrant : List (Option Rank) → List Node → ℕ → Contestant
-entrant ranks nodes k = contestant ranks (node nodes k).number
+-- one place is right below another
+abbrev pub IsBelow : ℕ → ℕ → Type 0
+IsBelow k above = (4 * above + 1 ≤ k) × (k ≤ 4 * above + 4)
 
--- a number halved so often, each time rounded down
-abbrev pub halved : ℕ → ℕ → ℕ
-halved zero m = m
-halved (suc j) m = halved j (m / 2)
+-- the place so many levels above another; the first place stands for all that would be above it
+abbrev pub raised : ℕ → ℕ → ℕ
+raised zero k = k
+raised (suc levels) k = raised levels ((k - 1) / 4)
 
--- one place is another, or above it: the places below k are 2 k and 2 k + 1
+-- one place is another, or above it
 abbrev pub IsAbove : ℕ → ℕ → Type 0
-IsAbove k m = (j : ℕ) × (halved j m ≡ k)
+IsAbove k low = (levels : ℕ) × (raised levels low ≡ k)
 
--- a contestant that won at a place stands at it or below it
-abbrev pub IsPlaced : ℕ → List Node → ℕ → Type 0
-IsPlaced count nodes k = (node nodes k).number < count → IsAbove k (count + (node nodes k).number)
+-- a node is that of the winner at a place: it fits, its contestant stands at the place or below it, and of all who do and
+-- take part nobody is ahead
+pub record IsWinner (ranks : List (Option Rank)) (k : ℕ) (w : Node) : Type 0 where
+  pub fits : Fits ranks w
+  pub placed : w.number < length ranks → IsAbove k (place ranks w.number)
+  pub least : (i : ℕ) (rank : Rank) → slice_index_or ranks i None ≡ Some rank → IsAbove k (place ranks i) → is_ahead (contestant ranks i) (contestant ranks w.number) ≡ false
 
--- the last places are those of the contestants, in the order of their numbers
-pub record AreLeaves (ranks : List (Option Rank)) (nodes : List Node) : Type 0 where
-  pub full : length nodes ≡ 2 * length ranks + 1
-  pub own : (i : ℕ) → i < length ranks → node nodes (length ranks + i) ≡ node_of (contestant ranks i)
+-- a node is one of the four below a place, and none of these is ahead
+pub record IsBest (ranks : List (Option Rank)) (nodes : List Node) (at : ℕ) (w : Node) : Type 0 where
+  pub one : (k : ℕ) × (IsBelow k at × (w ≡ node nodes k))
+  pub least : (k : ℕ) → IsBelow k at → is_ahead (contestant ranks (node nodes k).number) (contestant ranks w.number) ≡ false
 
--- a place has the winner of the two below it
-abbrev pub IsDecided : List (Option Rank) → List Node → ℕ → Type 0
-IsDecided ranks nodes k = entrant ranks nodes k ≡ winner_of (entrant ranks nodes (2 * k)) (entrant ranks nodes (2 * k + 1))
-
--- a node says what the rank of its contestant begins with
-abbrev pub Fits : List (Option Rank) → List Node → ℕ → Type 0
-Fits ranks nodes k = node nodes k ≡ node_of (entrant ranks nodes k)
-
--- the places from one on are decided
-pub record IsTreeFrom (from : ℕ) (ranks : List (Option Rank)) (nodes : List Node) : Type 0 where
-  pub leaves : AreLeaves ranks nodes
-  pub placed : (k : ℕ) → from ≤ k → k < 2 * length ranks → IsPlaced (length ranks) nodes k
-  pub fits : (k : ℕ) → from ≤ k → k < 2 * length ranks → Fits ranks nodes k
-  pub decided : (k : ℕ) → from ≤ k → k < length ranks → IsDecided ranks nodes k
+-- each place has the winner's node
+pub record AreWinners (ranks : List (Option Rank)) (nodes : List Node) : Type 0 where
+  pub full : length nodes ≡ last_place (length ranks) + 3
+  pub won : (k : ℕ) → k ≤ last_place (length ranks) → IsWinner ranks k (node nodes k)
 
 -- a tree of contestants
 pub record IsTree (ranks : List (Option Rank)) (nodes : List Node) : Type 0 where
   pub some : 1 ≤ length ranks
   pub few : length ranks ≤ 2 ^ 31
-  pub tree : IsTreeFrom 1 ranks nodes
+  pub tree : AreWinners ranks nodes
 
 -- a tree for some other entry of one contestant
 pub record WasTree (number : ℕ) (ranks : List (Option Rank)) (nodes : List Node) : Type 0 where
   pub entry : Option Rank
-  pub tree : IsTreeFrom 1 (slice_set ranks number entry) nodes
+  pub tree : AreWinners (slice_set ranks number entry) nodes

@@ -3,7 +3,7 @@
 ghost use Rattle.std.specs.Prelude.{◌≡◌, true, ℕ, ◌+◌, ◌*◌, ◌<◌, ◌≤◌, ◌^◌, length, replicate, slice_get, slice_set, Option, Some, None, IfOk, IfErr, IfSome, IfNone};
 ghost use Rattle.vt_key.specs.declared.fault.Fault.TheVariants.{Memory};
 ghost use Rattle.vt_key.specs.declared.order.Rank.{Rank};
-ghost use Rattle.vt_tournament.specs.Contest.{contestant, node_of, IsTreeFrom, WasTree};
+ghost use Rattle.vt_tournament.specs.Contest.{contestant, node_of, inner_places, node, IsBelow, Fits, IsBest, AreWinners, WasTree};
 ghost use Rattle.vt_tournament.specs.Least.{IsLeast};
 
 use crate::node::Node;
@@ -12,8 +12,8 @@ use std::marker::Model;
 use vt_key::{Fault, Rank};
 
 /// The node of a place stands this much further in the list: large blocks of the C library begin 16 bytes past a line of the
-/// cache, so that the two nodes below one, 16 bytes each, share a line.
-const SHIFT: usize = 1;
+/// cache, so that the four nodes below one, 16 bytes each, share a line.
+const SHIFT: usize = 2;
 
 /// A tournament of contestants that are numbered from 0. Contracts see the list of their entries: a rank, or None for who
 /// takes no part.
@@ -68,7 +68,7 @@ impl Tournament {
         }
         // Mostly the nodes alone tell whether the entry changes, and the one before isn't read.
         let node = Node::new(number, &rank);
-        if self.nodes[self.ranks.len() + number as usize + SHIFT].is_same(&node)
+        if self.nodes[inner_places(self.ranks.len()) + number as usize + SHIFT].is_same(&node)
             && (!node.takes_part() || are_same(&self.ranks[number as usize], &rank))
         {
             return;
@@ -87,7 +87,7 @@ impl Tournament {
         ensures nobody { IfNone result ((i : ℕ) (rank : Rank) → slice_get self.now i ≡ Some (Some rank) → ⊥) }
         ensures least { IfSome result (IsLeast self.now) }
     {
-        let first = self.nodes[1 + SHIFT];
+        let first = self.nodes[SHIFT];
         if first.takes_part() {
             Some(first.number)
         } else {
@@ -119,13 +119,22 @@ fn nobody(alloc: Global, count: u32) -> Result<Vec<Option<Rank>>, Fault>
     Ok(ranks)
 }
 
+/// How many places of the tree stand above those of so many contestants. The places are numbered from the first one, 0, where
+/// the least of all stands, and below place k are the four from 4 k + 1.
+fn inner_places(count: usize) -> usize
+    requires few { count ≤ 2 ^ 31 }
+    ensures { result ≡ inner_places count }
+{
+    (count + 1) / 3
+}
+
 /// The nodes of so many contestants of whom nobody takes part: in each, nobody won.
 fn nodes_of_nobody(alloc: Global, count: u32) -> Result<Vec<Node>, Fault>
     requires few { count ≤ 2 ^ 31 }
-    ensures tree { IfOk result (λ nodes. IsTreeFrom 1 (replicate count None) nodes.items) }
+    ensures tree { IfOk result (λ nodes. AreWinners (replicate count None) nodes.items) }
     ensures refused { IfErr result (λ fault. fault ≡ Memory) }
 {
-    let places = 2 * count as usize + SHIFT;
+    let places = 4 * inner_places(count as usize) + 1 + SHIFT;
     let mut nodes = Vec::with_capacity(alloc, places).map_err(|_| Fault::Memory)?;
     for _ in 0..places {
         nodes.push(Node::new(0, &None)).map_err(|_| Fault::Memory)?;
@@ -133,21 +142,31 @@ fn nodes_of_nobody(alloc: Global, count: u32) -> Result<Vec<Node>, Fault>
     Ok(nodes)
 }
 
-/// Decides the nodes above a contestant again, whose entry alone was changed and has this node now.
+/// The one that is ahead of the four below a place.
+fn best_below(nodes: &[Node], ranks: &[Option<Rank>], at: usize) -> Node
+    requires few { length ranks.now ≤ 2 ^ 31 }
+    requires there { 4 * at + 6 < length nodes.now }
+    requires fit { (k : ℕ) → IsBelow k at → Fits ranks.now (node nodes.now k) }
+    ensures { IsBest ranks.now nodes.now at result }
+{
+    let early = nodes[4 * at + 1 + SHIFT].winner(nodes[4 * at + 2 + SHIFT], ranks);
+    let late = nodes[4 * at + 3 + SHIFT].winner(nodes[4 * at + 4 + SHIFT], ranks);
+    early.winner(late, ranks)
+}
+
+/// Decides the places above a contestant again, whose entry alone was changed and has this node now.
 fn decide_above(ranks: &[Option<Rank>], nodes: &mut [Node], number: u32, node: Node)
     requires known { number < length ranks.now }
     requires few { length ranks.now ≤ 2 ^ 31 }
     requires was { WasTree number ranks.now nodes.old }
     requires own { node ≡ node_of (contestant ranks.now number) }
-    ensures decided { IsTreeFrom 1 ranks.now nodes.new }
+    ensures decided { AreWinners ranks.now nodes.new }
 {
-    let mut at = ranks.len() + number as usize;
-    let mut winner = node;
-    nodes[at + SHIFT] = winner;
-    while at > 1 {
-        let rival = nodes[4 * (at / 2) + 1 - at + SHIFT];
-        winner = winner.winner(rival, ranks);
-        at /= 2;
+    let mut at = inner_places(ranks.len()) + number as usize;
+    nodes[at + SHIFT] = node;
+    while at > 0 {
+        at = (at - 1) / 4;
+        let winner = best_below(nodes, ranks, at);
         // Where another one wins as before, all above stays.
         if winner.number != number && winner.number == nodes[at + SHIFT].number {
             return;

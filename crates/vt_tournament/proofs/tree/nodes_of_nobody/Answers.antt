@@ -1,12 +1,12 @@
-use Rattle.std.proofs.Common.{◌≡◌, ◌+◌, ◌*◌, List, None, replicate, sym, subst, ap, ◌∙◌, arith}
+use Rattle.std.proofs.Common.{◌≡◌, ◌+◌, List, None, replicate, sym, subst, ap, ◌∙◌, arith}
 use Rattle.vt_tournament.specs.declared.node.Node.{Node}
-use Rattle.vt_tournament.specs.Contest.{IsTreeFrom}
+use Rattle.vt_tournament.specs.Contest.{last_place, AreWinners}
 use Rattle.vt_tournament.proofs.TreeLemmas.{nobodys_node, nobodys_tree}
 use Rattle.vt_tournament.proofs.tree.nodes_of_nobody.Goals as goal
 
 pub returns-clause-tree : goal.returns-clause-tree
 returns-clause-tree c =
     let count = c.args.count in
-    let at : c.loop.counter ≡ 2 * count + 1 = omega arith in
-    let made : c.loop.nodes.items ≡ replicate (2 * count + 1) nobodys_node = c.loop.invariant ∙ ap (λ n. replicate n nobodys_node) at in
-    subst (λ (ns : List Node). IsTreeFrom 1 (replicate count None) ns) (sym made) (nobodys_tree count c.requires.few)
+    let at : c.loop.counter ≡ last_place count + 3 = omega arith in
+    let made : c.loop.nodes.items ≡ replicate (last_place count + 3) nobodys_node = c.loop.invariant ∙ ap (λ n. replicate n nobodys_node) at in
+    subst (λ (ns : List Node). AreWinners (replicate count None) ns) (sym made) (nobodys_tree count c.requires.few)

@@ -10,19 +10,19 @@ use Rattle.vt_tournament.proofs.tree.Tournament.winner.Goals as goal
 pub returns-then-takes_part-clause-least : goal.returns-then-takes_part-clause-least
 returns-then-takes_part-clause-least c =
     let t = c.self.inside in
-    let there : 2 < length t.nodes.items = omega (arith, c.self.invariant.tree.leaves.full, c.self.invariant.some) in
-    let first : c.index.result.now ≡ node t.nodes.items 1 = read t.nodes.items 1 c.index.result.now there c.index.ensures in
-    let number : c.index.result.now.number ≡ (node t.nodes.items 1).number = ap (λ (n : Node). n.number) first in
-    let part : (node t.nodes.items 1).number ≡ nobodys_number → ⊥ = λ e. told_somebody c.index.result.now.number (sym c.takes_part.ensures ∙ c.if-takes_part.true) (number ∙ e) in
+    let there : 2 < length t.nodes.items = omega (arith, c.self.invariant.tree.full) in
+    let first : c.index.result.now ≡ node t.nodes.items 0 = read t.nodes.items 0 c.index.result.now there c.index.ensures in
+    let number : c.index.result.now.number ≡ (node t.nodes.items 0).number = ap (λ (n : Node). n.number) first in
+    let part : (node t.nodes.items 0).number ≡ nobodys_number → ⊥ = λ e. told_somebody c.index.result.now.number (sym c.takes_part.ensures ∙ c.if-takes_part.true) (number ∙ e) in
     subst (λ (v : List (Option Rank)). IsLeast v c.index.result.now.number) c.self.view_is
-    (subst (IsLeast t.ranks.items) (sym number) (first-least t.ranks.items t.nodes.items c.self.invariant part))
+    (subst (IsLeast t.ranks.items) (sym number) (first-least t.ranks.items (node t.nodes.items 0) c.self.invariant.few (c.self.invariant.tree.won 0 (omega arith)) part))
 
 pub returns-else-takes_part-clause-nobody : goal.returns-else-takes_part-clause-nobody
 returns-else-takes_part-clause-nobody c =
     let t = c.self.inside in
-    let there : 2 < length t.nodes.items = omega (arith, c.self.invariant.tree.leaves.full, c.self.invariant.some) in
-    let first : c.index.result.now ≡ node t.nodes.items 1 = read t.nodes.items 1 c.index.result.now there c.index.ensures in
-    let number : c.index.result.now.number ≡ (node t.nodes.items 1).number = ap (λ (n : Node). n.number) first in
+    let there : 2 < length t.nodes.items = omega (arith, c.self.invariant.tree.full) in
+    let first : c.index.result.now ≡ node t.nodes.items 0 = read t.nodes.items 0 c.index.result.now there c.index.ensures in
+    let number : c.index.result.now.number ≡ (node t.nodes.items 0).number = ap (λ (n : Node). n.number) first in
     let none : c.index.result.now.number ≡ nobodys_number = told_nobody c.index.result.now.number (sym c.takes_part.ensures ∙ c.if-takes_part.false) in
     subst (λ (v : List (Option Rank)). (i : ℕ) (other : Rank) → slice_get v i ≡ Some (Some other) → ⊥) c.self.view_is
-    (nobody t.ranks.items t.nodes.items c.self.invariant (sym number ∙ none))
+    (nobody t.ranks.items (node t.nodes.items 0) c.self.invariant.few (c.self.invariant.tree.won 0 (omega arith)) (sym number ∙ none))
