@@ -20,9 +20,9 @@ use vt_key::{Rank, Ranked};
 /// drops each item once and frees each node, in a loop and not by recursion.
 pub struct List<T> {
     alloc: Global,
+    chain: Chain<T>,
     // How many items there are, modulo 2^64.
     count: usize,
-    chain: Chain<T>,
 }
 
 impl<T> Model for List<T> {

@@ -19,13 +19,14 @@ use vt_pending::Pending;
 /// past begins.
 #[derive(Drop)]
 pub struct Lp<M: EventModel> {
-    pub(crate) config: Config,
-    pub(crate) lp: u32,
+    // First, since the random words that it keeps are many: what every event reads stands together behind them, in few
+    // lines of the cache.
+    pub(crate) process: Process<M>,
     pub(crate) past: Past<M::Payload, M::Kept>,
     pub(crate) pending: Pending<M::Payload>,
     pub(crate) waiting: Pending<M::Payload>,
-    // Last, since the random words that it keeps are many.
-    pub(crate) process: Process<M>,
+    pub(crate) config: Config,
+    pub(crate) lp: u32,
 }
 
 impl<M: EventModel> Model for Lp<M> {

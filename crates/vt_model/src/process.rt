@@ -15,12 +15,12 @@ use vt_stream::LpStream;
 /// A logical process: its state, its next send number and its random words. For simulators.
 #[derive(Drop)]
 pub struct Process<M: EventModel> {
-    /// The model's state of this process.
-    pub state: M::State,
-    /// The number of its next send.
-    pub number: u64,
     /// Its random words.
     pub stream: LpStream,
+    /// The number of its next send.
+    pub number: u64,
+    /// The model's state of this process.
+    pub state: M::State,
 }
 
 /// What the execution of an event leaves beside the new state: what undoes it, and what it sent and recorded.

@@ -21,11 +21,12 @@ const WINDOW: usize = 32;
 pub struct LpStream {
     seed: u64,
     lp: u32,
-    place: u64,
-    // The words from place `first` on, of which `len` are known: none at first, and then all.
+    // The words from place `first` on, of which `len` are known: none at first, and then all. What each draw reads stands
+    // together, behind them.
+    words: [u32; WINDOW],
     first: u64,
     len: u64,
-    words: [u32; WINDOW],
+    place: u64,
 }
 
 impl Model for LpStream {
