@@ -100,13 +100,13 @@ pub record AreWinners (ranks : List (Option Rank)) (nodes : List Node) : Type 0 
   pub full : length nodes ≡ last_place (length ranks) + 3
   pub won : (k : ℕ) → k ≤ last_place (length ranks) → IsWinner ranks k (node nodes k)
 
--- a tree of contestants
-pub record IsTree (ranks : List (Option Rank)) (nodes : List Node) : Type 0 where
+-- nodes are a tournament of contestants with these entries
+pub record IsTournamentOf (ranks : List (Option Rank)) (nodes : List Node) : Type 0 where
   pub some : 1 ≤ length ranks
   pub few : length ranks ≤ 2 ^ 31
   pub tree : AreWinners ranks nodes
 
--- a tree for some other entry of one contestant
-pub record WasTree (number : ℕ) (ranks : List (Option Rank)) (nodes : List Node) : Type 0 where
+-- they were one of the same entries but that of one contestant, which was this one
+pub record WasTournamentOf (number : ℕ) (ranks : List (Option Rank)) (nodes : List Node) : Type 0 where
   pub entry : Option Rank
-  pub tree : AreWinners (slice_set ranks number entry) nodes
+  pub was : IsTournamentOf (slice_set ranks number entry) nodes
