@@ -1,5 +1,5 @@
 -- Contestants, who of two is ahead, and the tree of winners.
-use Rattle.std.specs.Prelude.{◌≡◌, ℕ, zero, suc, ◌+◌, ◌-◌, ◌*◌, ◌/◌, ◌^◌, ◌<◌, ◌≤◌, Bool, true, false, not, ◌||◌, ◌&&◌, nat_lt, if◌then◌else◌, List, length, Option, Some, None, slice_index_or, slice_set}
+use Rattle.std.specs.Prelude.{◌≡◌, ℕ, zero, suc, ◌+◌, ◌-◌, ◌*◌, ◌/◌, ◌^◌, ◌<◌, ◌≤◌, ◌⊎◌, Bool, true, false, not, ◌||◌, ◌&&◌, nat_lt, if◌then◌else◌, List, length, Option, Some, None, slice_index_or, slice_set}
 use Rattle.vt_key.specs.declared.order.Rank.{Rank}
 use Rattle.vt_key.specs.Order.{rank_before}
 use Rattle.vt_key.specs.Times.{Time}
@@ -89,6 +89,12 @@ pub record IsWinner (ranks : List (Option Rank)) (k : ℕ) (w : Node) : Type 0 w
   pub fits : Fits ranks w
   pub placed : w.number < length ranks → IsAbove k (place ranks w.number)
   pub least : (i : ℕ) (rank : Rank) → slice_index_or ranks i None ≡ Some rank → IsAbove k (place ranks i) → is_ahead (contestant ranks i) (contestant ranks w.number) ≡ false
+
+-- a node is one of two, and neither of these is ahead
+pub record IsAheadOfTwo (ranks : List (Option Rank)) (a b w : Node) : Type 0 where
+  pub one : (w ≡ a) ⊎ (w ≡ b)
+  pub first : is_ahead (contestant ranks a.number) (contestant ranks w.number) ≡ false
+  pub second : is_ahead (contestant ranks b.number) (contestant ranks w.number) ≡ false
 
 -- a node is one of the four below a place, and none of these is ahead
 pub record IsBest (ranks : List (Option Rank)) (nodes : List Node) (at : ℕ) (w : Node) : Type 0 where

@@ -40,13 +40,6 @@ impl Node {
         }
     }
 
-    /// Whether the two are one. Of nodes that are one, the ranks begin alike.
-    pub(crate) fn is_same(&self, other: &Node) -> bool
-        ensures { result ≡ true → self.now ≡ other.now }
-    {
-        self.time == other.time && self.source == other.source && self.number == other.number
-    }
-
     /// Whether somebody won there who takes part.
     pub(crate) fn takes_part(&self) -> bool
         ensures { result ≡ not (nat_eq self.now.number nobodys_number) }

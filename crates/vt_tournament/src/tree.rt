@@ -3,7 +3,7 @@
 ghost use Rattle.std.specs.Prelude.{◌≡◌, true, ℕ, ◌+◌, ◌*◌, ◌<◌, ◌≤◌, ◌^◌, List, length, replicate, slice_get, Option, Some, None, IfOk, IfErr, IfSome, IfNone};
 ghost use Rattle.vt_key.specs.declared.fault.Fault.TheVariants.{Memory};
 ghost use Rattle.vt_key.specs.declared.order.Rank.{Rank};
-ghost use Rattle.vt_tournament.specs.Contest.{contestant, node_of, inner_places, node, IsBelow, Fits, IsBest, AreWinners, IsTournamentOf, WasTournamentOf};
+ghost use Rattle.vt_tournament.specs.Contest.{contestant, node_of, inner_places, node, IsBelow, Fits, IsAheadOfTwo, IsBest, AreWinners, IsTournamentOf, WasTournamentOf};
 ghost use Rattle.vt_tournament.specs.Least.{IsLeast};
 
 use crate::contestants::Contestants;
@@ -102,6 +102,18 @@ fn nodes_of_nobody(alloc: Global, count: u32) -> Result<Vec<Node>, Fault>
     Ok(nodes)
 }
 
+/// Of a place and the next one, that of the node that is ahead. It is reckoned: a branch would be foretold wrongly half the time.
+fn ahead_of_two<C: Contestants>(nodes: &[Node], contestants: &C, at: usize) -> usize
+    requires few { length (C.entries contestants.now) ≤ 2 ^ 31 }
+    requires there { at + 3 < length nodes.now }
+    requires fits { Fits (C.entries contestants.now) (node nodes.now at) }
+    requires next_fits { Fits (C.entries contestants.now) (node nodes.now (at + 1)) }
+    ensures near { result ≤ at + 1 }
+    ensures best { IsAheadOfTwo (C.entries contestants.now) (node nodes.now at) (node nodes.now (at + 1)) (node nodes.now result) }
+{
+    at + nodes[at + 1 + SHIFT].is_ahead(&nodes[at + SHIFT], contestants) as usize
+}
+
 /// The one that is ahead of the four below a place.
 fn best_below<C: Contestants>(nodes: &[Node], contestants: &C, at: usize) -> Node
     requires few { length (C.entries contestants.now) ≤ 2 ^ 31 }
@@ -109,9 +121,9 @@ fn best_below<C: Contestants>(nodes: &[Node], contestants: &C, at: usize) -> Nod
     requires fit { (k : ℕ) → IsBelow k at → Fits (C.entries contestants.now) (node nodes.now k) }
     ensures { IsBest (C.entries contestants.now) nodes.now at result }
 {
-    let early = nodes[4 * at + 1 + SHIFT].winner(nodes[4 * at + 2 + SHIFT], contestants);
-    let late = nodes[4 * at + 3 + SHIFT].winner(nodes[4 * at + 4 + SHIFT], contestants);
-    early.winner(late, contestants)
+    let early = ahead_of_two(nodes, contestants, 4 * at + 1);
+    let late = ahead_of_two(nodes, contestants, 4 * at + 3);
+    nodes[early + SHIFT].winner(nodes[late + SHIFT], contestants)
 }
 
 /// Decides the places above a contestant again, whose entry alone was changed and has this node now.
