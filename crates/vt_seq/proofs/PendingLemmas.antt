@@ -12,6 +12,8 @@ use Rattle.vt_model.specs.Histories.{Among}
 use Rattle.vt_model.proofs.HistoryLemmas.{among-left, among-right, among-append}
 use Rattle.vt_model.proofs.RunLemmas.{tested}
 use Rattle.vt_pending.specs.Letters.{AllAfter, IsRising, insert_letter, holds_rank}
+use Rattle.vt_tournament.specs.declared.node.Node.{Node}
+use Rattle.vt_tournament.specs.Contest.{IsTournamentOf, WasTournamentOf}
 use Rattle.vt_tournament.specs.Least.{IsLeast}
 use Rattle.vt_seq.specs.Queue.{inserted, all_inserted}
 use Rattle.vt_seq.specs.Letters.{event_of, events_in, in_order, front_rank, IsPlain, IsQueueOf, AreQueues}
@@ -201,10 +203,11 @@ module _ {P : Type 0} where
     later k (l ∷ ls) h (inl at) = subst (λ (y : Letter P). RankBefore k y.event.rank) (sym at) h.0
     later k (l ∷ ls) h (inr b) = later k ls h.1 b
 
-  map_set : (qs : List (List (Letter P))) (p : ℕ) (q : List (Letter P)) → slice_set (map front_rank qs) p (front_rank q) ≡ map front_rank (slice_set qs p q)
-  map_set [] p q = refl
-  map_set (r ∷ qs) zero q = refl
-  map_set (r ∷ qs) (suc p) q = ap (λ (os : List (Option Rank)). front_rank r ∷ os) (map_set qs p q)
+  -- with one queue changed and its old front back in its place, the fronts are as they were
+  set_back : (qs : List (List (Letter P))) (p : ℕ) (q : List (Letter P)) → map front_rank qs ≡ slice_set (map front_rank (slice_set qs p q)) p (front_rank (slice_index_or qs p []))
+  set_back [] p q = refl
+  set_back (r ∷ qs) zero q = refl
+  set_back (r ∷ qs) (suc p) q = ap (λ (os : List (Option Rank)). front_rank r ∷ os) (set_back qs p q)
 
   length_map : (qs : List (List (Letter P))) → length (map front_rank qs) ≡ length qs
   length_map [] = refl
@@ -223,40 +226,42 @@ module _ {P : Type 0} where
   set_there Q (x ∷ qs) (suc p) q new old zero d l = old 0 d (omega arith)
   set_there Q (x ∷ qs) (suc p) q new old (suc r) d l = set_there (λ (i : ℕ). Q (suc i)) qs p q new (λ i e k. old (suc i) e (omega (arith, k))) r d (omega (arith, l))
 
-  pub queues_set : (qs : List (List (Letter P))) (fronts : List (Option Rank)) (p : ℕ) (q : List (Letter P)) → AreQueues qs fronts → IsQueueOf p q → AreQueues (slice_set qs p q) (slice_set fronts p (front_rank q))
-  queues_set qs fronts p q h new = record {
-    fronts_are = ap (λ (os : List (Option Rank)). slice_set os p (front_rank q)) h.fronts_are ∙ map_set qs p q;
-    queues_are = set_there IsQueueOf qs p q new h.queues_are;
+  -- where one queue was changed, they were a tournament of the fronts but that of this one
+  pub front_changed : (qs : List (List (Letter P))) (nodes : List Node) (p : ℕ) (q : List (Letter P)) → AreQueues qs nodes → WasTournamentOf p (map front_rank (slice_set qs p q)) nodes
+  front_changed qs nodes p q h = record {
+    entry = front_rank (slice_index_or qs p []);
+    was = subst (λ (os : List (Option Rank)). IsTournamentOf os nodes) (set_back qs p q) h.fronts_are;
   }
 
-  pub processes_kept : (qs : List (List (Letter P))) (p : ℕ) (q : List (Letter P)) → length (slice_set qs p q) ≡ length qs
-  processes_kept qs p q = length_set qs p q
+  pub queues_set : (qs : List (List (Letter P))) (nodes later : List Node) (p : ℕ) (q : List (Letter P)) → AreQueues qs nodes → IsQueueOf p q → IsTournamentOf (map front_rank (slice_set qs p q)) later → AreQueues (slice_set qs p q) later
+  queues_set qs nodes later p q h new decided = record { fronts_are = decided; queues_are = set_there IsQueueOf qs p q new h.queues_are }
 
-  pub fronts_there : (qs : List (List (Letter P))) (fronts : List (Option Rank)) → AreQueues qs fronts → length fronts ≡ length qs
-  fronts_there qs fronts h = ap length h.fronts_are ∙ length_map qs
+  -- where one queue was changed, its front is an entry as before
+  pub front_among : (qs : List (List (Letter P))) (p : ℕ) (q : List (Letter P)) → p < length qs → p < length (map front_rank (slice_set qs p q))
+  front_among qs p q l = subst (λ (n : ℕ). p < n) (sym (length_map (slice_set qs p q) ∙ length_set qs p q)) l
 
   -- ---- the least front
 
-  pub winner_there : (qs : List (List (Letter P))) (fronts : List (Option Rank)) (p : ℕ) → AreQueues qs fronts → IsLeast fronts p → p < length qs
-  winner_there qs fronts p h w =
-      let inside : p < length fronts = slice_get_within fronts p (Some w.rank) w.entered in
-      let same : length fronts ≡ length qs = fronts_there qs fronts h in omega (arith, inside, same)
+  pub winner_there : (qs : List (List (Letter P))) (nodes : List Node) (p : ℕ) → AreQueues qs nodes → IsLeast (map front_rank qs) p → p < length qs
+  winner_there qs nodes p h w =
+      let inside : p < length (map front_rank qs) = slice_get_within (map front_rank qs) p (Some w.rank) w.entered in
+      let same : length (map front_rank qs) ≡ length qs = length_map qs in omega (arith, inside, same)
 
   -- no letter's rank is before that of the least front
-  none_before : (qs : List (List (Letter P))) (fronts : List (Option Rank)) (p i : ℕ) (m : Letter P) (w : IsLeast fronts p) → AreQueues qs fronts → i < length qs → Among m (slice_index_or qs i []) → RankBefore m.event.rank w.rank → ⊥
-  none_before qs fronts p i m w h l a before =
+  none_before : (qs : List (List (Letter P))) (nodes : List Node) (p i : ℕ) (m : Letter P) (w : IsLeast (map front_rank qs) p) → AreQueues qs nodes → i < length qs → Among m (slice_index_or qs i []) → RankBefore m.event.rank w.rank → ⊥
+  none_before qs nodes p i m w h l a before =
       let r = front_of (slice_index_or qs i []) m (h.queues_are i [] l).rising a in
-      let entry : slice_get fronts i ≡ Some (Some r.0.event.rank) = ap (λ (os : List (Option Rank)). slice_get os i) h.fronts_are ∙ front_entry qs i r.0 r.1 l r.2 in
+      let entry : slice_get (map front_rank qs) i ≡ Some (Some r.0.event.rank) = front_entry qs i r.0 r.1 l r.2 in
       elim r.3 [
         | inl at ↦ w.least i r.0.event.rank entry (subst (λ (y : Letter P). RankBefore y.event.rank w.rank) at before)
         | inr k ↦ w.least i r.0.event.rank entry (rank-transitive r.0.event.rank m.event.rank w.rank k before)
       ]
 
   -- those of the queues before are after it
-  all_after : (qs : List (List (Letter P))) (fronts : List (Option Rank)) (p i : ℕ) (m : Letter P) (w : IsLeast fronts p) → AreQueues qs fronts → i < length qs → i < p → Among m (slice_index_or qs i []) → RankBefore w.rank m.event.rank
-  all_after qs fronts p i m w h l less a =
+  all_after : (qs : List (List (Letter P))) (nodes : List Node) (p i : ℕ) (m : Letter P) (w : IsLeast (map front_rank qs) p) → AreQueues qs nodes → i < length qs → i < p → Among m (slice_index_or qs i []) → RankBefore w.rank m.event.rank
+  all_after qs nodes p i m w h l less a =
       let r = front_of (slice_index_or qs i []) m (h.queues_are i [] l).rising a in
-      let entry : slice_get fronts i ≡ Some (Some r.0.event.rank) = ap (λ (os : List (Option Rank)). slice_get os i) h.fronts_are ∙ front_entry qs i r.0 r.1 l r.2 in
+      let entry : slice_get (map front_rank qs) i ≡ Some (Some r.0.event.rank) = front_entry qs i r.0 r.1 l r.2 in
       elim r.3 [
         | inl at ↦ subst (λ (y : Letter P). RankBefore w.rank y.event.rank) (sym at) (w.first i r.0.event.rank less entry)
         | inr k ↦ rank-transitive w.rank r.0.event.rank m.event.rank (w.first i r.0.event.rank less entry) k
@@ -294,19 +299,19 @@ module _ {P : Type 0} where
   winner_front (r ∷ qs) (suc p) rank h = winner_front qs p rank h
 
   -- the winner's queue isn't empty
-  pub winner_full : (qs : List (List (Letter P))) (fronts : List (Option Rank)) (p : ℕ) (d : List (Letter P)) → AreQueues qs fronts → IsLeast fronts p → slice_index_or qs p d ≡ [] → ⊥
-  winner_full qs fronts p d h w none =
-      let inside : p < length qs = winner_there qs fronts p h w in
-      let f = winner_front qs p w.rank (sym (ap (λ (os : List (Option Rank)). slice_get os p) h.fronts_are) ∙ w.entered) in
+  pub winner_full : (qs : List (List (Letter P))) (nodes : List Node) (p : ℕ) (d : List (Letter P)) → AreQueues qs nodes → IsLeast (map front_rank qs) p → slice_index_or qs p d ≡ [] → ⊥
+  winner_full qs nodes p d h w none =
+      let inside : p < length qs = winner_there qs nodes p h w in
+      let f = winner_front qs p w.rank w.entered in
       let both : [] ≡ f.0 ∷ f.1 = sym none ∙ get_or_default qs p d [] inside ∙ f.2 in absurd (cc)
 
   -- the first letter of the winner's queue brings the first event of all
-  pub taken_out : (qs : List (List (Letter P))) (fronts : List (Option Rank)) (p : ℕ) (d : List (Letter P)) (l : Letter P) (q : List (Letter P)) → AreQueues qs fronts → IsLeast fronts p
+  pub taken_out : (qs : List (List (Letter P))) (nodes : List Node) (p : ℕ) (d : List (Letter P)) (l : Letter P) (q : List (Letter P)) → AreQueues qs nodes → IsLeast (map front_rank qs) p
       → slice_index_or qs p d ≡ l ∷ q → in_order qs ≡ event_of l ∷ in_order (slice_set qs p q)
-  taken_out qs fronts p d l q h w at =
-      let inside : p < length qs = winner_there qs fronts p h w in
+  taken_out qs nodes p d l q h w at =
+      let inside : p < length qs = winner_there qs nodes p h w in
       let at' : slice_index_or qs p [] ≡ l ∷ q = get_or_default qs p [] d inside ∙ at in
-      let f = winner_front qs p w.rank (sym (ap (λ (os : List (Option Rank)). slice_get os p) h.fronts_are) ∙ w.entered) in
+      let f = winner_front qs p w.rank w.entered in
       let same : f.0 ∷ f.1 ≡ l ∷ q = sym f.2 ∙ at' in
       let head : f.0 ≡ l = cc in
       let rank : l.event.rank ≡ w.rank = ap (λ (y : Letter P). y.event.rank) (sym head) ∙ f.3 in
@@ -316,12 +321,12 @@ module _ {P : Type 0} where
       let there : i < length qs = omega (arith, less, inside) in
       let stamp : m.event.rank.stamp ≡ l.event.rank.stamp = ((h.queues_are i [] there).plain m a).stamp ∙ sym plain.stamp in
       let one : m.event.rank ≡ w.rank = (λ j. record { key = key j; stamp = stamp j }) ∙ rank in
-      rank-irreflexive w.rank (subst (λ (r : Rank). RankBefore w.rank r) one (all_after qs fronts p i m w h there less a)) in
+      rank-irreflexive w.rank (subst (λ (r : Rank). RankBefore w.rank r) one (all_after qs nodes p i m w h there less a)) in
       let least : (e : Sent P) → Among e (events_in (slice_set qs p q)) → KeyBefore e.key l.event.rank.key → ⊥ =
       λ e m before.
       let b = from_queues qs e (set-among l q qs p e inside at' m) in
       let earlier : KeyBefore b.2.event.rank.key w.rank.key = subst (λ (r : Rank). KeyBefore b.2.event.rank.key r.key) rank (subst (λ (y : Sent P). KeyBefore y.key l.event.rank.key) b.4 before) in
-      none_before qs fronts p b.0 b.2 w h b.1 b.3 (inl earlier) in
+      none_before qs nodes p b.0 b.2 w h b.1 b.3 (inl earlier) in
       take-there l q qs p [] inside at' apart ∙ all_later (event_of l) (events_in (slice_set qs p q)) [] least
 
   no_items : (es : List (Sent P)) → ((e : Sent P) → Among e es → ⊥) → es ≡ []
@@ -329,11 +334,11 @@ module _ {P : Type 0} where
   no_items (e ∷ es) h = absurd (h e (inl refl))
 
   -- where no front takes part, there is no event
-  pub nobody_there : (qs : List (List (Letter P))) (fronts : List (Option Rank)) → AreQueues qs fronts → ((i : ℕ) (rank : Rank) → slice_get fronts i ≡ Some (Some rank) → ⊥) → in_order qs ≡ []
-  nobody_there qs fronts h none = ap (λ (es : List (Sent P)). all_inserted es []) (no_items (events_in qs) (λ e m.
+  pub nobody_there : (qs : List (List (Letter P))) (nodes : List Node) → AreQueues qs nodes → ((i : ℕ) (rank : Rank) → slice_get (map front_rank qs) i ≡ Some (Some rank) → ⊥) → in_order qs ≡ []
+  nobody_there qs nodes h none = ap (λ (es : List (Sent P)). all_inserted es []) (no_items (events_in qs) (λ e m.
       let b = from_queues qs e m in
       let f = front_of (slice_index_or qs b.0 []) b.2 (h.queues_are b.0 [] b.1).rising b.3 in
-      none b.0 f.0.event.rank (ap (λ (os : List (Option Rank)). slice_get os b.0) h.fronts_are ∙ front_entry qs b.0 f.0 f.1 b.1 f.2)))
+      none b.0 f.0.event.rank (front_entry qs b.0 f.0 f.1 b.1 f.2)))
 
   -- ---- the first letter, and queues without letters
 
@@ -361,9 +366,9 @@ module _ {P : Type 0} where
   all_empty (suc n) zero d l = refl
   all_empty (suc n) (suc p) d l = all_empty n p d (omega (arith, l))
 
-  pub empty_queues : (n : ℕ) (qs : List (List (Letter P))) (fronts : List (Option Rank)) → qs ≡ replicate n [] → fronts ≡ replicate n None → AreQueues qs fronts
-  empty_queues n qs fronts h k = record {
-    fronts_are = k ∙ map_of (front_rank {P = P}) [] n ∙ ap (map front_rank) (sym h);
+  pub empty_queues : (n : ℕ) (qs : List (List (Letter P))) (nodes : List Node) → qs ≡ replicate n [] → IsTournamentOf (replicate n None) nodes → AreQueues qs nodes
+  empty_queues n qs nodes h nobody = record {
+    fronts_are = subst (λ (os : List (Option Rank)). IsTournamentOf os nodes) (map_of (front_rank {P = P}) [] n ∙ ap (map front_rank) (sym h)) nobody;
     queues_are = λ p d l.
         let inside : p < n = subst (λ (m : ℕ). p < m) (ap length h ∙ length_of [] n) l in
         subst (IsQueueOf p) (sym (ap (λ (rs : List (List (Letter P))). slice_index_or rs p d) h ∙ all_empty n p d inside)) (empty_queue p);

@@ -6,6 +6,8 @@ use Rattle.vt_key.specs.declared.order.Rank.{Rank}
 use Rattle.vt_model.specs.declared.sending.Sent.{Sent}
 use Rattle.vt_model.specs.Histories.{Among}
 use Rattle.vt_pending.specs.Letters.{IsRising}
+use Rattle.vt_tournament.specs.declared.node.Node.{Node}
+use Rattle.vt_tournament.specs.Contest.{IsTournamentOf}
 use Rattle.vt_seq.specs.Queue.{inserted, all_inserted}
 
 -- what a contract sees of the pending events: how many processes there are, and the events in the order of their keys
@@ -48,7 +50,7 @@ module _ {P : Type 0} where
     pub plain : (l : Letter P) → Among l q → IsPlain l
     pub own : (l : Letter P) → Among l q → l.event.dest ≡ p
 
-  -- each process has its queue, and its front takes part in the tournament
-  pub record AreQueues (queues : List (List (Letter P))) (fronts : List (Option Rank)) : Type 0 where
-    pub fronts_are : fronts ≡ map front_rank queues
+  -- each process has its queue, and the nodes are a tournament of the queues' fronts
+  pub record AreQueues (queues : List (List (Letter P))) (nodes : List Node) : Type 0 where
+    pub fronts_are : IsTournamentOf (map front_rank queues) nodes
     pub queues_are : (p : ℕ) (d : List (Letter P)) → p < length queues → IsQueueOf p (slice_index_or queues p d)

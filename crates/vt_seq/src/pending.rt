@@ -13,7 +13,7 @@ use vt_key::{Event, Fault, Letter, Rank, Sign, Stamp};
 use vt_list::{List, Parcel};
 use vt_model::Sent;
 use vt_pending::Pending;
-use vt_tournament::Tournament;
+use vt_tournament::{Contestants, Tournament};
 
 /// The events that were sent and not yet executed. Each process has a queue of those that it receives, and a tournament
 /// over the fronts of the queues tells the first of all, so that an event goes in and out at a cost that grows with the
@@ -87,7 +87,10 @@ impl<P: Copy> PendingEvents<P> {
             return None;
         };
         let first = self.queues[p as usize].take_least();
-        self.fronts.set(p, front_rank(&self.queues[p as usize]));
+        let fronts = Fronts {
+            queues: self.queues.as_slice(),
+        };
+        self.fronts.set(p, &fronts);
         first
     }
 
@@ -122,8 +125,10 @@ impl<P: Copy> PendingEvents<P> {
     {
         let dest = letter.get().event.dest;
         self.queues[dest as usize].insert(letter);
-        self.fronts
-            .set(dest, front_rank(&self.queues[dest as usize]));
+        let fronts = Fronts {
+            queues: self.queues.as_slice(),
+        };
+        self.fronts.set(dest, &fronts);
     }
 
     /// Inserts the events that letters bring, one after the other. It takes no memory.
@@ -153,6 +158,28 @@ impl<P: Copy> PendingEvents<P> {
             letters.push_back(letter);
         }
         Some(letters)
+    }
+}
+
+/// The fronts of the queues, as the contestants of their tournament: the rank of each queue's first letter.
+#[derive(Drop)]
+struct Fronts<'a, P: Copy> {
+    queues: &'a [Pending<P>],
+}
+
+impl<'a, P: Copy> Contestants for Fronts<'a, P> {
+    ghost use Rattle.std.specs.Prelude.{map};
+    ghost use Rattle.vt_seq.specs.Letters.{front_rank};
+
+    ghost entries = { λ t. map front_rank t.queues.now };
+
+    fn count(&self) -> usize {
+        self.queues.len()
+    }
+
+    fn rank(&self, number: u32) -> Option<Rank> {
+        let queue = self.queues.get(number as usize)?;
+        front_rank(queue)
     }
 }
 

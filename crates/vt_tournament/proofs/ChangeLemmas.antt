@@ -4,7 +4,7 @@ use Rattle.std.proofs.lemmas.List.{get_or-set_other, length-set}
 use Rattle.std.proofs.lemmas.Bool.{cases_order}
 use Rattle.vt_key.specs.declared.order.Rank.{Rank}
 use Rattle.vt_tournament.specs.declared.node.Node.{Node}
-use Rattle.vt_tournament.specs.Contest.{is_ahead, is_ahead_by, contestant, node_of, Fits, inner_places, last_place, place, node, IsBelow, IsAbove, IsWinner, IsBest, AreWinners, WasTree}
+use Rattle.vt_tournament.specs.Contest.{is_ahead, is_ahead_by, contestant, node_of, Fits, inner_places, last_place, place, node, IsBelow, IsAbove, IsWinner, IsBest, AreWinners, WasTournamentOf}
 use Rattle.vt_tournament.proofs.AheadLemmas.{NotBehind, not_behind-transitive, not_behind-same, behind-none}
 use Rattle.vt_tournament.proofs.NodeLemmas.{somebody, ranked-known}
 use Rattle.vt_tournament.proofs.PathLemmas.{above-self, above-low, above-next, above-transitive, between, upward}
@@ -134,11 +134,11 @@ module _ (ranks : List (Option Rank)) (number : ℕ) (nodes : List Node) (few : 
   }
 
   -- the contestant's own place
-  pub begun : WasTree number ranks nodes → IsChanged ranks number (place ranks number) (slice_set nodes (place ranks number + 2) (node_of (contestant ranks number)))
+  pub begun : WasTournamentOf number ranks nodes → IsChanged ranks number (place ranks number) (slice_set nodes (place ranks number + 2) (node_of (contestant ranks number)))
   begun was =
       let kept_count : length (slice_set ranks number was.entry) ≡ length ranks = length-set ranks number was.entry in
-      let had : (k : ℕ) → k ≤ last_place (length ranks) → IsWinner (slice_set ranks number was.entry) k (node nodes k) = λ k h. was.tree.won k (omega (arith, kept_count, h)) in
-      written (place ranks number) (node_of (contestant ranks number)) was.entry (above-self (place ranks number)) (was.tree.full ∙ ap (λ (n : ℕ). last_place n + 3) kept_count) (omega (arith, known)) (winner-own_place ranks number few known)
+      let had : (k : ℕ) → k ≤ last_place (length ranks) → IsWinner (slice_set ranks number was.entry) k (node nodes k) = λ k h. was.was.tree.won k (omega (arith, kept_count, h)) in
+      written (place ranks number) (node_of (contestant ranks number)) was.entry (above-self (place ranks number)) (was.was.tree.full ∙ ap (λ (n : ℕ). last_place n + 3) kept_count) (omega (arith, known)) (winner-own_place ranks number few known)
       (λ k l. had k (omega (arith, known, l)))
       (λ k l h. elsewhere ranks number was.entry known k (node nodes k) (λ path. omega (arith, l, above-low k (place ranks number) path)) (had k h))
 

@@ -7,7 +7,7 @@ use Rattle.std.proofs.lemmas.Option.{slice_get-get_or, slice_get_past}
 use Rattle.vt_key.specs.declared.order.Rank.{Rank}
 use Rattle.vt_key.specs.Order.{RankBefore}
 use Rattle.vt_tournament.specs.declared.node.Node.{Node}
-use Rattle.vt_tournament.specs.Contest.{is_ahead, is_ahead_by, winner_of, contestant, nobodys_number, number_of, node_of, Fits, inner_places, last_place, place, node, IsBelow, IsAbove, IsWinner, IsBest, AreWinners}
+use Rattle.vt_tournament.specs.Contest.{is_ahead, is_ahead_by, winner_of, contestant, nobodys_number, number_of, node_of, Fits, IsAheadOfTwo, inner_places, last_place, place, node, IsBelow, IsAbove, IsWinner, IsBest, AreWinners}
 use Rattle.vt_tournament.specs.Least.{IsLeast}
 use Rattle.vt_tournament.proofs.AheadLemmas.{tested, NotBehind, winner-first, winner-second, not_behind-self, not_behind-ahead, not_behind-transitive, not_behind-rank, behind-none}
 use Rattle.vt_tournament.proofs.NodeLemmas.{nobodys_rank, node-own, number-one, somebody, ranked-known}
@@ -100,12 +100,7 @@ own-nobody ranks number entry w few known won is nobodys = had (slice_index_or r
 
 -- ---- the four below a place
 
--- a node is one of two, and neither is ahead of it
-record IsAheadOfTwo (ranks : List (Option Rank)) (a b w : Node) : Type 0 where
-  one : (w ≡ a) ⊎ (w ≡ b)
-  first : NotBehind (contestant ranks w.number) (contestant ranks a.number)
-  second : NotBehind (contestant ranks w.number) (contestant ranks b.number)
-
+-- who wins of two nodes is one of them, and neither is ahead
 of_two : (ranks : List (Option Rank)) (a b w : Node) → Fits ranks a → Fits ranks b → w ≡ node_of (winner_of (contestant ranks a.number) (contestant ranks b.number)) → IsAheadOfTwo ranks a b w
 of_two ranks a b w fits other_fits is = elim (tested (is_ahead (contestant ranks b.number) (contestant ranks a.number))) [
   | inl y ↦
@@ -116,9 +111,9 @@ of_two ranks a b w fits other_fits is = elim (tested (is_ahead (contestant ranks
       subst (IsAheadOfTwo ranks a b) (sym e) (record { one = inl refl; first = not_behind-self (contestant ranks a.number); second = y })
 ]
 
--- who wins of two nodes that fit, fits
-pub fits-two : (ranks : List (Option Rank)) (a b w : Node) → Fits ranks a → Fits ranks b → w ≡ node_of (winner_of (contestant ranks a.number) (contestant ranks b.number)) → Fits ranks w
-fits-two ranks a b w fits other_fits is = elim (of_two ranks a b w fits other_fits is).one [
+-- who is ahead of two nodes that fit, fits
+pub fits-two : (ranks : List (Option Rank)) (a b w : Node) → Fits ranks a → Fits ranks b → IsAheadOfTwo ranks a b w → Fits ranks w
+fits-two ranks a b w fits other_fits ahead = elim ahead.one [
   | inl e ↦ subst (Fits ranks) (sym e) fits
   | inr e ↦ subst (Fits ranks) (sym e) other_fits
 ]
@@ -139,20 +134,16 @@ which k at h = elim (cases_order k (4 * at + 2)) [
   ]
 ]
 
--- who wins of the winners of two and two is the best of the four
-pub of_four : (ranks : List (Option Rank)) (nodes : List Node) (at : ℕ) (early late w : Node) → ((k : ℕ) → IsBelow k at → Fits ranks (node nodes k)) → early ≡ node_of (winner_of (contestant ranks (node nodes (4 * at + 1)).number) (contestant ranks (node nodes (4 * at + 2)).number)) → late ≡ node_of (winner_of (contestant ranks (node nodes (4 * at + 3)).number) (contestant ranks (node nodes (4 * at + 4)).number)) → w ≡ node_of (winner_of (contestant ranks early.number) (contestant ranks late.number)) → IsBest ranks nodes at w
-of_four ranks nodes at early late w fit is_early is_late is =
+-- who wins of those that are ahead of two and two is the best of the four
+pub of_four : (ranks : List (Option Rank)) (nodes : List Node) (at : ℕ) (early late w : Node) → ((k : ℕ) → IsBelow k at → Fits ranks (node nodes k)) → IsAheadOfTwo ranks (node nodes (4 * at + 1)) (node nodes (4 * at + 2)) early → IsAheadOfTwo ranks (node nodes (4 * at + 3)) (node nodes (4 * at + 4)) late → w ≡ node_of (winner_of (contestant ranks early.number) (contestant ranks late.number)) → IsBest ranks nodes at w
+of_four ranks nodes at early late w fit of_early of_late is =
     let a : Node = node nodes (4 * at + 1) in
     let b : Node = node nodes (4 * at + 2) in
     let c : Node = node nodes (4 * at + 3) in
     let d : Node = node nodes (4 * at + 4) in
-    let fit_a : Fits ranks a = fit (4 * at + 1) (omega arith, omega arith) in
-    let fit_b : Fits ranks b = fit (4 * at + 2) (omega arith, omega arith) in
-    let fit_c : Fits ranks c = fit (4 * at + 3) (omega arith, omega arith) in
-    let fit_d : Fits ranks d = fit (4 * at + 4) (omega arith, omega arith) in
-    let of_early : IsAheadOfTwo ranks a b early = of_two ranks a b early fit_a fit_b is_early in
-    let of_late : IsAheadOfTwo ranks c d late = of_two ranks c d late fit_c fit_d is_late in
-    let of_both : IsAheadOfTwo ranks early late w = of_two ranks early late w (fits-two ranks a b early fit_a fit_b is_early) (fits-two ranks c d late fit_c fit_d is_late) is in
+    let early_fits : Fits ranks early = fits-two ranks a b early (fit (4 * at + 1) (omega arith, omega arith)) (fit (4 * at + 2) (omega arith, omega arith)) of_early in
+    let late_fits : Fits ranks late = fits-two ranks c d late (fit (4 * at + 3) (omega arith, omega arith)) (fit (4 * at + 4) (omega arith, omega arith)) of_late in
+    let of_both : IsAheadOfTwo ranks early late w = of_two ranks early late w early_fits late_fits is in
     let over_early : (x : Node) → NotBehind (contestant ranks early.number) (contestant ranks x.number) → NotBehind (contestant ranks w.number) (contestant ranks x.number) =
     λ x h. not_behind-transitive (contestant ranks w.number) (contestant ranks early.number) (contestant ranks x.number) of_both.first h in
     let over_late : (x : Node) → NotBehind (contestant ranks late.number) (contestant ranks x.number) → NotBehind (contestant ranks w.number) (contestant ranks x.number) =

@@ -1,5 +1,5 @@
 -- Contestants, who of two is ahead, and the tree of winners.
-use Rattle.std.specs.Prelude.{◌≡◌, ℕ, zero, suc, ◌+◌, ◌-◌, ◌*◌, ◌/◌, ◌^◌, ◌<◌, ◌≤◌, Bool, true, false, not, ◌||◌, ◌&&◌, nat_lt, if◌then◌else◌, List, length, Option, Some, None, slice_index_or, slice_set}
+use Rattle.std.specs.Prelude.{◌≡◌, ℕ, zero, suc, ◌+◌, ◌-◌, ◌*◌, ◌/◌, ◌^◌, ◌<◌, ◌≤◌, ◌⊎◌, Bool, true, false, not, ◌||◌, ◌&&◌, nat_lt, if◌then◌else◌, List, length, Option, Some, None, slice_index_or, slice_set}
 use Rattle.vt_key.specs.declared.order.Rank.{Rank}
 use Rattle.vt_key.specs.Order.{rank_before}
 use Rattle.vt_key.specs.Times.{Time}
@@ -90,6 +90,12 @@ pub record IsWinner (ranks : List (Option Rank)) (k : ℕ) (w : Node) : Type 0 w
   pub placed : w.number < length ranks → IsAbove k (place ranks w.number)
   pub least : (i : ℕ) (rank : Rank) → slice_index_or ranks i None ≡ Some rank → IsAbove k (place ranks i) → is_ahead (contestant ranks i) (contestant ranks w.number) ≡ false
 
+-- a node is one of two, and neither of these is ahead
+pub record IsAheadOfTwo (ranks : List (Option Rank)) (a b w : Node) : Type 0 where
+  pub one : (w ≡ a) ⊎ (w ≡ b)
+  pub first : is_ahead (contestant ranks a.number) (contestant ranks w.number) ≡ false
+  pub second : is_ahead (contestant ranks b.number) (contestant ranks w.number) ≡ false
+
 -- a node is one of the four below a place, and none of these is ahead
 pub record IsBest (ranks : List (Option Rank)) (nodes : List Node) (at : ℕ) (w : Node) : Type 0 where
   pub one : (k : ℕ) × (IsBelow k at × (w ≡ node nodes k))
@@ -100,13 +106,13 @@ pub record AreWinners (ranks : List (Option Rank)) (nodes : List Node) : Type 0 
   pub full : length nodes ≡ last_place (length ranks) + 3
   pub won : (k : ℕ) → k ≤ last_place (length ranks) → IsWinner ranks k (node nodes k)
 
--- a tree of contestants
-pub record IsTree (ranks : List (Option Rank)) (nodes : List Node) : Type 0 where
+-- nodes are a tournament of contestants with these entries
+pub record IsTournamentOf (ranks : List (Option Rank)) (nodes : List Node) : Type 0 where
   pub some : 1 ≤ length ranks
   pub few : length ranks ≤ 2 ^ 31
   pub tree : AreWinners ranks nodes
 
--- a tree for some other entry of one contestant
-pub record WasTree (number : ℕ) (ranks : List (Option Rank)) (nodes : List Node) : Type 0 where
+-- they were one of the same entries but that of one contestant, which was this one
+pub record WasTournamentOf (number : ℕ) (ranks : List (Option Rank)) (nodes : List Node) : Type 0 where
   pub entry : Option Rank
-  pub tree : AreWinners (slice_set ranks number entry) nodes
+  pub was : IsTournamentOf (slice_set ranks number entry) nodes

@@ -4,7 +4,9 @@
 //! This is the winner tree of replacement selection (Knuth, The Art of Computer Programming, volume 3, section 5.4.1).
 #![tactic(auto)]
 
+mod contestants;
 mod node;
 mod tree;
 
+pub use contestants::Contestants;
 pub use tree::Tournament;

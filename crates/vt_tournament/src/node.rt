@@ -3,6 +3,7 @@
 ghost use Rattle.std.specs.Prelude.{◌≡◌, ◌<◌, ◌≤◌, ◌^◌, true, not, nat_eq, length};
 ghost use Rattle.vt_tournament.specs.Contest.{is_ahead, winner_of, contestant, nobodys_number, node_of};
 
+use crate::contestants::Contestants;
 use vt_key::{Rank, Time};
 
 /// No time is later: where who takes no part stands.
@@ -39,13 +40,6 @@ impl Node {
         }
     }
 
-    /// Whether the two are one. Of nodes that are one, the ranks begin alike.
-    pub(crate) fn is_same(&self, other: &Node) -> bool
-        ensures { result ≡ true → self.now ≡ other.now }
-    {
-        self.time == other.time && self.source == other.source && self.number == other.number
-    }
-
     /// Whether somebody won there who takes part.
     pub(crate) fn takes_part(&self) -> bool
         ensures { result ≡ not (nat_eq self.now.number nobodys_number) }
@@ -54,11 +48,11 @@ impl Node {
     }
 
     /// Whether this one is ahead of the other: by rank, and with equal ranks by number. Nobody comes last.
-    pub(crate) fn is_ahead(&self, other: &Node, ranks: &[Option<Rank>]) -> bool
-        requires few { length ranks.now ≤ 2 ^ 31 }
-        requires fits { self.now ≡ node_of (contestant ranks.now self.now.number) }
-        requires other_fits { other.now ≡ node_of (contestant ranks.now other.now.number) }
-        ensures { result ≡ is_ahead (contestant ranks.now self.now.number) (contestant ranks.now other.now.number) }
+    pub(crate) fn is_ahead<C: Contestants>(&self, other: &Node, contestants: &C) -> bool
+        requires few { length (C.entries contestants.now) ≤ 2 ^ 31 }
+        requires fits { self.now ≡ node_of (contestant (C.entries contestants.now) self.now.number) }
+        requires other_fits { other.now ≡ node_of (contestant (C.entries contestants.now) other.now.number) }
+        ensures { result ≡ is_ahead (contestant (C.entries contestants.now) self.now.number) (contestant (C.entries contestants.now) other.now.number) }
     {
         if self.time != other.time {
             self.time < other.time
@@ -69,18 +63,18 @@ impl Node {
         } else if !other.takes_part() {
             true
         } else {
-            is_ahead(ranks, self.number, other.number)
+            is_ahead(contestants, self.number, other.number)
         }
     }
 
     /// The one of the two that is ahead.
-    pub(crate) fn winner(self, other: Node, ranks: &[Option<Rank>]) -> Node
-        requires few { length ranks.now ≤ 2 ^ 31 }
-        requires fits { self ≡ node_of (contestant ranks.now self.number) }
-        requires other_fits { other ≡ node_of (contestant ranks.now other.number) }
-        ensures { result ≡ node_of (winner_of (contestant ranks.now self.number) (contestant ranks.now other.number)) }
+    pub(crate) fn winner<C: Contestants>(self, other: Node, contestants: &C) -> Node
+        requires few { length (C.entries contestants.now) ≤ 2 ^ 31 }
+        requires fits { self ≡ node_of (contestant (C.entries contestants.now) self.number) }
+        requires other_fits { other ≡ node_of (contestant (C.entries contestants.now) other.number) }
+        ensures { result ≡ node_of (winner_of (contestant (C.entries contestants.now) self.number) (contestant (C.entries contestants.now) other.number)) }
     {
-        if other.is_ahead(&self, ranks) {
+        if other.is_ahead(&self, contestants) {
             other
         } else {
             self
@@ -91,14 +85,12 @@ impl Node {
 /// Whether the first contestant is ahead of the second, by their whole ranks.
 #[cold]
 #[inline(never)]
-fn is_ahead(ranks: &[Option<Rank>], number: u32, other: u32) -> bool
-    requires known { number < length ranks.now }
-    requires other_known { other < length ranks.now }
-    ensures { result ≡ is_ahead (contestant ranks.now number) (contestant ranks.now other) }
+fn is_ahead<C: Contestants>(contestants: &C, number: u32, other: u32) -> bool
+    ensures { result ≡ is_ahead (contestant (C.entries contestants.now) number) (contestant (C.entries contestants.now) other) }
 {
-    match (&ranks[number as usize], &ranks[other as usize]) {
+    match (contestants.rank(number), contestants.rank(other)) {
         (Some(own), Some(theirs)) => {
-            own.is_before(theirs) || (!theirs.is_before(own) && number < other)
+            own.is_before(&theirs) || (!theirs.is_before(&own) && number < other)
         }
         (Some(_), None) => true,
         (None, Some(_)) => false,

@@ -1,13 +1,12 @@
-use Rattle.std.proofs.Common.{◌≡◌, ℕ, ◌<◌, ◌∙◌, List, length, slice_set, sym, ap, subst, arith, Option}
-use Rattle.std.proofs.lemmas.List.{get_or-set_same}
+use Rattle.std.proofs.Common.{◌≡◌, ℕ, ◌<◌, ◌∙◌, List, length, map, slice_set, sym, ap, subst, arith}
 use Rattle.vt_key.specs.declared.letter.Letter.{Letter}
-use Rattle.vt_key.specs.declared.order.Rank.{Rank}
 use Rattle.vt_model.specs.declared.sending.Sent.{Sent}
 use Rattle.vt_model.specs.Histories.{Among}
 use Rattle.vt_pending.specs.Letters.{IsRising, insert_letter, holds_rank}
+use Rattle.vt_tournament.specs.Contest.{IsTournamentOf, WasTournamentOf}
 use Rattle.vt_seq.specs.Queue.{inserted}
-use Rattle.vt_seq.specs.Letters.{event_of, in_order, front_rank, HeldEvents, IsQueueOf, AreQueues}
-use Rattle.vt_seq.proofs.PendingLemmas.{put_in, not_held, queue_put, queues_set}
+use Rattle.vt_seq.specs.Letters.{event_of, in_order, front_rank, HeldEvents, IsQueueOf}
+use Rattle.vt_seq.proofs.PendingLemmas.{put_in, not_held, queue_put, queues_set, front_among, front_changed}
 use Rattle.vt_seq.proofs.pending.PendingEvents.insert.Goals as goal
 
 pub insert-requires : goal.insert-requires
@@ -37,10 +36,23 @@ invariant_of-self g c =
     let put = c.insert.ensures.letters in
     let before : IsQueueOf p now = subst (IsQueueOf p) (sym c.index_mut.ensures.value) (c.self.invariant.queues_are p now inside) in
     let queue : IsQueueOf p later = subst (IsQueueOf p) (sym put) (queue_put p x now before c.requires.plain (sym dest) (subst IsRising put c.insert.ensures.rising)) in
-    let there : c.index.result.now ≡ later = c.index.ensures ∙ get_or-set_same qs p later c.index.result.now inside in
-    let front : c.front_rank.result ≡ front_rank later = c.front_rank.ensures ∙ ap front_rank there in
-    subst (λ (os : List (Option Rank)). AreQueues (slice_set qs p later) os) (sym (c.set.ensures ∙ ap (slice_set s.fronts p) front))
-    (queues_set qs s.fronts p later c.self.invariant queue)
+    let decided : IsTournamentOf (map front_rank (slice_set qs p later)) c.set.new.self = subst (λ (rs : List (List (Letter _))). IsTournamentOf (map front_rank rs) c.set.new.self) c.as_slice.ensures.value c.set.ensures in
+    queues_set qs s.fronts c.set.new.self p later c.self.invariant queue decided
+
+pub set-requires-clause-known : goal.set-requires-clause-known
+set-requires-clause-known g c =
+    let qs = c.self.inside.queues.items in
+    let p : ℕ = c.get.result.now.event.dest in
+    let dest : p ≡ c.args.letter.event.dest = ap (λ (l : Letter _). l.event.dest) c.get.ensures in
+    let count : length qs ≡ c.args.self.now.processes = ap (λ (v : HeldEvents _). v.processes) c.self.view_is in
+    let inside : p < length qs = omega (arith, dest, count, c.requires.known) in
+    subst (λ (rs : List (List (Letter _))). p < length (map front_rank rs)) (sym c.as_slice.ensures.value) (front_among qs p c.insert.new.self inside)
+
+pub set-requires-clause-was : goal.set-requires-clause-was
+set-requires-clause-was g c =
+    let s = c.self.inside in
+    let p : ℕ = c.get.result.now.event.dest in
+    subst (λ (rs : List (List (Letter _))). WasTournamentOf p (map front_rank rs) s.fronts) (sym c.as_slice.ensures.value) (front_changed s.queues.items s.fronts p c.insert.new.self c.self.invariant)
 
 pub returns-clause-events : goal.returns-clause-events
 returns-clause-events g c =

@@ -5,9 +5,9 @@ use Rattle.vt_tournament.proofs.NodeLemmas.{by_time, by_source}
 use Rattle.vt_tournament.proofs.node.Node.is_ahead.Goals as goal
 
 pub returns-then-self-other : goal.returns-then-self-other
-returns-then-self-other c =
-    let own : Contestant = contestant c.args.ranks.now c.args.self.now.number in
-    let others : Contestant = contestant c.args.ranks.now c.args.other.now.number in
+returns-then-self-other g c =
+    let own : Contestant = contestant (g.C.Contestants.entries c.args.contestants.now) c.args.self.now.number in
+    let others : Contestant = contestant (g.C.Contestants.entries c.args.contestants.now) c.args.other.now.number in
     let at : c.args.self.now.time ≡ first_time own.rank = ap (λ (n : Node). n.time) c.requires.fits in
     let other_at : c.args.other.now.time ≡ first_time others.rank = ap (λ (n : Node). n.time) c.requires.other_fits in
     let small : c.args.self.now.time < 2 ^ 64 = omega arith in
@@ -15,9 +15,9 @@ returns-then-self-other c =
     (λ j. nat_lt (at j) (other_at j)) ∙ by_time own others (λ e. c.if-self-other.true (at ∙ e ∙ sym other_at)) (omega (arith, at, small)) (omega (arith, other_at, other_small))
 
 pub returns-then-self-other-2 : goal.returns-then-self-other-2
-returns-then-self-other-2 c =
-    let own : Contestant = contestant c.args.ranks.now c.args.self.now.number in
-    let others : Contestant = contestant c.args.ranks.now c.args.other.now.number in
+returns-then-self-other-2 g c =
+    let own : Contestant = contestant (g.C.Contestants.entries c.args.contestants.now) c.args.self.now.number in
+    let others : Contestant = contestant (g.C.Contestants.entries c.args.contestants.now) c.args.other.now.number in
     let at : c.args.self.now.time ≡ first_time own.rank = ap (λ (n : Node). n.time) c.requires.fits in
     let other_at : c.args.other.now.time ≡ first_time others.rank = ap (λ (n : Node). n.time) c.requires.other_fits in
     let from : c.args.self.now.source ≡ first_source own.rank = ap (λ (n : Node). n.source) c.requires.fits in
