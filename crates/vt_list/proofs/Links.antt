@@ -201,44 +201,44 @@ module _ {X : Type 0} where
   }
 
   -- a chain is parted at a place: what was passed is one, and what is ahead is one
-  pub front-chain : (h t next : Option Ptr) (p : Ptr) (passed ahead : List (NodeAt X)) → IsPlace h t (Some p) next passed ahead → IsChain h (Some p) (with_next None passed)
-  front-chain h t next p [] ahead place = absurd (none-some p (sym place.last_is))
-  front-chain h t next p (b ∷ bs) ahead place = front-more h t (Some p) next b bs ahead place
+  pub front-chain : (h t last next : Option Ptr) (p : Ptr) (passed ahead : List (NodeAt X)) → last ≡ Some p → IsPlace h t last next passed ahead → IsChain h last (with_next None passed)
+  front-chain h t last next p [] ahead is place = absurd (none-some p (sym place.last_is ∙ is))
+  front-chain h t last next p (b ∷ bs) ahead is place = front-more h t last next b bs ahead place
 
-  pub back-chain : (h t last : Option Ptr) (p : Ptr) (passed ahead : List (NodeAt X)) → IsPlace h t last (Some p) passed ahead → IsChain (Some p) t (with_prev None ahead)
-  back-chain h t last p passed [] place = absurd (none-some p (sym place.next_is))
-  back-chain h t last p passed (b ∷ bs) place = back-more h t last (Some p) passed b bs place
+  pub back-chain : (h t last next : Option Ptr) (p : Ptr) (passed ahead : List (NodeAt X)) → next ≡ Some p → IsPlace h t last next passed ahead → IsChain next t (with_prev None ahead)
+  back-chain h t last next p passed [] is place = absurd (none-some p (sym place.next_is ∙ is))
+  back-chain h t last next p passed (b ∷ bs) is place = back-more h t last next passed b bs place
 
   -- where no node was passed, all are ahead
-  pub all-ahead : (h t next : Option Ptr) (passed ahead : List (NodeAt X)) → IsPlace h t None next passed ahead → (passed ≡ []) × IsChain h t ahead
-  all-ahead h t next [] ahead place = (refl, place.chain)
-  all-ahead h t next (b ∷ bs) ahead place = absurd (last-some b bs (sym place.last_is))
+  pub all-ahead : (h t last next : Option Ptr) (passed ahead : List (NodeAt X)) → last ≡ None → IsPlace h t last next passed ahead → (passed ≡ []) × IsChain h t ahead
+  all-ahead h t last next [] ahead is place = (refl, place.chain)
+  all-ahead h t last next (b ∷ bs) ahead is place = absurd (last-some b bs (sym place.last_is ∙ is))
 
   -- ---- places
 
   -- one node further
-  pub next-place : (h t last : Option Ptr) (p : Ptr) (passed ahead : List (NodeAt X)) (node : Node X) → IsPlace h t last (Some p) passed ahead
-      → node ≡ (slice_index_or (take 1 ahead) 0 (p, node)).1 → IsPlace h t (Some p) node.next (passed ++ take 1 ahead) (drop 1 ahead)
-  next-place h t last p passed [] node place read = absurd (none-some p (sym place.next_is))
-  next-place h t last p passed (b ∷ ahead) node place read = record {
+  pub next-place : (h t last next : Option Ptr) (p : Ptr) (passed ahead : List (NodeAt X)) (node : Node X) → next ≡ Some p → IsPlace h t last next passed ahead
+      → node ≡ (slice_index_or (take 1 ahead) 0 (p, node)).1 → IsPlace h t next node.next (passed ++ take 1 ahead) (drop 1 ahead)
+  next-place h t last next p passed [] node is place read = absurd (none-some p (sym place.next_is ∙ is))
+  next-place h t last next p passed (b ∷ ahead) node is place read = record {
     chain = subst (IsChain h t) (sym (append_assoc passed (b ∷ []) ahead)) place.chain;
     last_is = place.next_is ∙ sym (last-append None passed (b ∷ []));
     next_is = ap (λ n. n.next) read ∙ (on-back None passed (b ∷ ahead) place.chain.on).0;
   }
 
   -- before the last node
-  pub last-place : (h : Option Ptr) (p : Ptr) (bs front end : List (NodeAt X)) (node : Node X) (chain : IsChain h (Some p) bs) → front ≡ take (length bs - 1) bs → end ≡ drop (length bs - 1) bs
-      → node ≡ (slice_index_or end 0 (p, node)).1 → IsPlace h (Some p) node.prev (Some p) front end
-  last-place h p bs front end node chain front_is end_is read =
-      let l = last-of p bs (sym chain.tail_is) in
+  pub last-place : (h t : Option Ptr) (p : Ptr) (bs front end : List (NodeAt X)) (node : Node X) → t ≡ Some p → IsChain h t bs → front ≡ take (length bs - 1) bs → end ≡ drop (length bs - 1) bs
+      → node ≡ (slice_index_or end 0 (p, node)).1 → IsPlace h t node.prev t front end
+  last-place h t p bs front end node is chain front_is end_is read =
+      let l = last-of p bs (sym chain.tail_is ∙ is) in
       let f : front ≡ l.front = front_is ∙ take-last p bs l in
       let e : end ≡ (p, l.content) ∷ [] = end_is ∙ drop-last p bs l in
       let same : node ≡ l.content = read ∙ ap (λ (cs : List (NodeAt X)). (slice_index_or cs 0 (p, node)).1) e in
-      let whole : IsChain h (Some p) (l.front ++ (p, l.content) ∷ []) = subst (IsChain h (Some p)) l.is chain in
+      let whole : IsChain h t (l.front ++ (p, l.content) ∷ []) = subst (IsChain h t) l.is chain in
       record {
-        chain = subst (IsChain h (Some p)) (λ i. sym f i ++ sym e i) whole;
+        chain = subst (IsChain h t) (λ i. sym f i ++ sym e i) whole;
         last_is = ap (λ n. n.prev) same ∙ (back-back None l.front ((p, l.content) ∷ []) whole.back).0 ∙ ap (last_or None) (sym f);
-        next_is = ap (first_or None) (sym e);
+        next_is = is ∙ ap (first_or None) (sym e);
       }
 
   -- ---- all but the last

@@ -4,18 +4,23 @@ use Rattle.std.proofs.Common.{◌≡◌, List, [], ◌∷◌, ◌++◌, refl, ap
 use Rattle.std.specs.Prelude.{ℕ, zero, suc, ◌<◌, length, take, drop as dropped, slice_index_or}
 use seplogic.Ra.Ura.{Ura}
 use mir.Val.{Val, vstruct, vcons, vnil}
-use base.Logic.{ent, sep, emp, via, fst∗, snd∗, id⊢}
+use mir.Raw.{raw as bare}
+use base.Fraction.{full_share}
+use base.Logic.{ent, sep, emp, via, fst∗, snd∗, id⊢, guard_i}
 use base.Fml.{Lft, Fml, ftrue, fsep}
+use contract.Monad.{fact_use}
 use types.Logic.{Logic, sem}
-use types.Kit.{‵, ◌⊛◌, ◌$◌, ◌∵◌, !, qed, move, drop, split, fsplit, fjoin, fjoin3, fpack, feq_i, use1, use2, done}
+use types.Kit.{mean, ‵, given, ◌⊛◌, ◌$◌, ◌∵◌, !, qed, move, drop, split, fsplit, fjoin, fjoin3, fpack, feq_i, use1, use2, done}
 use denote.RattleType.{RattleType, Valss}
-use denote.RawPtr.{Ptr}
+use denote.Memory.{lone}
+use denote.RawPtr.{Ptr, Testable, lies_at}
 use denote.Shadow.{makes_shadow}
 use denote.Steps.{nothing}
 use denote.Struct.Struct.{Struct, Shape, within}
 use denote.Struct.Tuple.{Tuple}
 use denote.Struct.Owning.{shape}
 use denote.Struct.Lending.{lent_at}
+use Rattle.std.proofs.GlobalToken.{dealloc_token-Testable}
 use Rattle.std_alloc.specs.Box.Ownership.{box_owns}
 use Rattle.vt_list.specs.Blocks.{may_free, blocks_owned, blocks_lent, places, place_at}
 use Rattle.vt_list.specs.contracts.blocks.Blocks as blocks
@@ -45,6 +50,13 @@ module _ {M : Type 1} {𝓤 : Ura M} (𝓛 : Logic 𝓤) (R : RattleType) where
 
   pub blank : ent 𝓤 (emp 𝓤) (sem 𝓛 Blank)
   blank = makes_shadow 𝓛 Blank (λ vss. (tt, ((λ uss. (tt, tt)), tt))) ((vstruct vnil ∷ [], tt), (refl, ((tt, (refl, tt)), tt)))
+
+  -- who owns a block may compare with null where it lies
+  pub compared : (p : Ptr) (x : R.Denot) → ent 𝓤 (sem 𝓛 (box_owns may_free R p x)) (mean 𝓛 (given (Testable p) (‵ (box_owns may_free R p x))))
+  compared p x =
+      let lies = sem 𝓛 (lies_at R full_share p x) in let free = sem 𝓛 (may_free (bare (lone R.mir)) p) in
+      let may = via 𝓤 free (snd∗ 𝓤 lies free) (dealloc_token-Testable 𝓛 (record { memory = record { seal = tt } }) (bare (lone R.mir)) p) in
+      fact_use 𝓤 (Testable p) may (guard_i 𝓤 (Testable p) (sem 𝓛 (box_owns may_free R p x)))
 
   -- of two rows of blocks, one
   pub joined : (bs cs : List (Ptr × R.Denot)) → ent 𝓤 (sep 𝓤 (sem 𝓛 (blocks_owned R bs)) (sem 𝓛 (blocks_owned R cs))) (sem 𝓛 (blocks_owned R (bs ++ cs)))

@@ -3,6 +3,7 @@
 ghost use Rattle.std.specs.Prelude.{◌≡◌, ℕ, ◌-◌, ◌<◌, List, [], ◌∷◌, ◌++◌, take, drop, length, slice_index_or};
 ghost use denote.RawPtr.{Ptr};
 ghost use Rattle.vt_list.specs.Blocks.{blocks_owned, blocks_lent, places, contents, place_at};
+ghost use Rattle.vt_list.specs.Place.{IsSomewhere};
 
 use std::alloc::Global;
 use std::marker::{Model, PhantomData};
@@ -91,7 +92,8 @@ impl<N> Blocks<N> {
 impl<N: Drop> Blocks<N> {
     /// The block of a box, and where it lies.
     pub(crate) fn from_box(content: Box<N>) -> (Blocks<N>, *mut N)
-        ensures { result.0.owned ≡ (result.1, content.value) ∷ [] }
+        ensures block { result.0.owned ≡ (result.1, content.value) ∷ [] }
+        ensures somewhere { IsSomewhere result.1 }
     {
         let at = Box::into_raw(content);
         (Blocks { mark: PhantomData }, at)

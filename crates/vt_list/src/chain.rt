@@ -3,6 +3,7 @@
 ghost use Rattle.std.specs.Prelude.{◌≡◌, ◌-◌, ◌<◌, ◌≤◌, ◌↔◌, [], ◌∷◌, ◌++◌, length, slice_index_or, MatchOption, IfSome, IsSome, IsTrue};
 
 use crate::blocks::Blocks;
+use crate::link::Link;
 use crate::node::{Node, set_first_prev, set_last_next};
 use std::alloc::Global;
 use std::marker::Model;
@@ -12,8 +13,8 @@ use std::mem::replace;
 ///
 /// It is not `Drop`, so code that loses a node is refused.
 pub(crate) struct Chain<T> {
-    pub(crate) head: Option<*mut Node<T>>,
-    pub(crate) tail: Option<*mut Node<T>>,
+    pub(crate) head: Link,
+    pub(crate) tail: Link,
     pub(crate) nodes: Blocks<Node<T>>,
 }
 
@@ -34,8 +35,8 @@ impl<T> Chain<T> {
         ensures { result ≡ [] }
     {
         Chain {
-            head: None,
-            tail: None,
+            head: Link::none(),
+            tail: Link::none(),
             nodes: Blocks::none(),
         }
     }
@@ -79,7 +80,7 @@ impl<T> Chain<T> {
         ensures variant { IsSome result ↔ (0 < length self.now) }
         ensures lookup { IfSome result (λ x. x.now ≡ slice_index_or self.now (length self.now - 1) x.now) }
     {
-        let Some(tail) = self.tail else {
+        let Some(tail) = self.tail.place() else {
             return None;
         };
         Some(&self.nodes.get(tail).item)
@@ -89,11 +90,11 @@ impl<T> Chain<T> {
     pub(crate) fn join(self, other: Chain<T>) -> Chain<T>
         ensures { result ≡ self ++ other }
     {
-        let Some(end) = self.tail else {
+        let Some(end) = self.tail.place() else {
             self.end();
             return other;
         };
-        let Some(start) = other.head else {
+        let Some(start) = other.head.place() else {
             other.end();
             return self;
         };
@@ -122,7 +123,7 @@ impl<T> Chain<T> {
             tail: _,
             nodes,
         } = self;
-        let Some(at) = head else {
+        let Some(at) = head.place() else {
             nodes.end();
             return None;
         };
@@ -135,12 +136,12 @@ impl<T: Drop> Chain<T> {
     pub(crate) fn of(mut node: Box<Node<T>>) -> Chain<T>
         ensures { result ≡ node.value.item ∷ [] }
     {
-        node.next = None;
-        node.prev = None;
+        node.next = Link::none();
+        node.prev = Link::none();
         let (nodes, at) = Blocks::from_box(node);
         Chain {
-            head: Some(at),
-            tail: Some(at),
+            head: Link::to(at),
+            tail: Link::to(at),
             nodes,
         }
     }

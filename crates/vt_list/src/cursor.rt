@@ -6,6 +6,7 @@ ghost use Rattle.vt_list.specs.Linked.{advanced};
 
 use crate::blocks::Blocks;
 use crate::chain::Chain;
+use crate::link::Link;
 use crate::node::{Node, set_first_prev, set_last_next};
 use crate::predicate::Predicate;
 use std::alloc::Global;
@@ -15,10 +16,10 @@ use std::marker::Model;
 ///
 /// The nodes stay linked as they were. To go on is to read one link.
 pub(crate) struct Cursor<T> {
-    head: Option<*mut Node<T>>,
-    tail: Option<*mut Node<T>>,
-    last: Option<*mut Node<T>>,
-    next: Option<*mut Node<T>>,
+    head: Link,
+    tail: Link,
+    last: Link,
+    next: Link,
     passed: Blocks<Node<T>>,
     ahead: Blocks<Node<T>>,
 }
@@ -43,7 +44,7 @@ impl<T> Cursor<T> {
         Cursor {
             head,
             tail,
-            last: None,
+            last: Link::none(),
             next: head,
             passed: Blocks::none(),
             ahead: nodes,
@@ -54,7 +55,7 @@ impl<T> Cursor<T> {
     fn before_last(chain: Chain<T>) -> Cursor<T>
         ensures { result ≡ (take (length chain - 1) chain, drop (length chain - 1) chain) }
     {
-        let Some(last) = chain.tail else {
+        let Some(last) = chain.tail.place() else {
             return Cursor::at_front(chain);
         };
         let Chain { head, tail, nodes } = chain;
@@ -74,7 +75,7 @@ impl<T> Cursor<T> {
     fn peek(&self) -> Option<&T>
         ensures { MatchOption result (self.now.1 ≡ []) (λ x. take 1 self.now.1 ≡ x.now ∷ []) }
     {
-        let Some(next) = self.next else {
+        let Some(next) = self.next.place() else {
             return None;
         };
         Some(&self.ahead.get(next).item)
@@ -99,7 +100,7 @@ impl<T> Cursor<T> {
             passed,
             ahead,
         } = self;
-        let Some(at) = next else {
+        let Some(at) = next.place() else {
             return Cursor {
                 head,
                 tail,
@@ -133,7 +134,7 @@ impl<T> Cursor<T> {
             passed,
             ahead,
         } = self;
-        let Some(end) = last else {
+        let Some(end) = last.place() else {
             passed.end();
             let back = Chain {
                 head,
@@ -142,7 +143,7 @@ impl<T> Cursor<T> {
             };
             return (Chain::new(), back);
         };
-        let Some(start) = next else {
+        let Some(start) = next.place() else {
             ahead.end();
             let front = Chain {
                 head,
@@ -154,12 +155,12 @@ impl<T> Cursor<T> {
         let front = Chain {
             head,
             tail: last,
-            nodes: set_last_next(passed, end, None),
+            nodes: set_last_next(passed, end, Link::none()),
         };
         let back = Chain {
             head: next,
             tail,
-            nodes: set_first_prev(ahead, start, None),
+            nodes: set_first_prev(ahead, start, Link::none()),
         };
         (front, back)
     }

@@ -6,13 +6,14 @@ ghost use Rattle.std_collections.specs.Map.Iter.{TakesFirst, deref};
 
 use crate::blocks::Blocks;
 use crate::chain::Chain;
+use crate::link::Link;
 use crate::node::Node;
 use std::marker::Model;
 
 /// Goes over the items of a list from the front. A clause sees the items that are left.
 #[derive(Drop)]
 pub struct Iter<'a, T> {
-    next: Option<*mut Node<T>>,
+    next: Link,
     left: &'a Blocks<Node<T>>,
 }
 
@@ -46,7 +47,7 @@ impl<'a, T> Iterator for Iter<'a, T> {
     ghost remaining = { λ s. at_most (length s) };
 
     fn next(&mut self) -> Option<&'a T> {
-        let at = self.next?;
+        let at = self.next.place()?;
         let node = self.left.get(at);
         self.next = node.next;
         self.left = self.left.rest();
@@ -57,7 +58,7 @@ impl<'a, T> Iterator for Iter<'a, T> {
 /// Goes over the items of a list from the back. A clause sees the items that are left, the last first.
 #[derive(Drop)]
 pub struct IterBack<'a, T> {
-    next: Option<*mut Node<T>>,
+    next: Link,
     left: &'a Blocks<Node<T>>,
 }
 
@@ -91,7 +92,7 @@ impl<'a, T> Iterator for IterBack<'a, T> {
     ghost remaining = { λ s. at_most (length s) };
 
     fn next(&mut self) -> Option<&'a T> {
-        let at = self.next?;
+        let at = self.next.place()?;
         let node = self.left.get(at);
         self.next = node.prev;
         self.left = self.left.front();

@@ -26,17 +26,19 @@
 //!
 //! # How it is built
 //!
-//! From below: `blocks` owns memory and knows of no links, and has the only raw reads; `node` has the links and the only
-//! raw writes; `chain` is linked nodes with their two ends; `cursor` is a place in a chain, where it can be parted; `list`
-//! counts. Beside these, `trail` is nodes that lead on alone, and `stack` counts them. Of all this `blocks` and two
-//! functions of `node` are proved by hand, and the rest is plain code without pointers that are followed. Neither blocks
-//! nor chains nor trails may be let go, so code that loses a node is refused.
+//! From below: `blocks` owns memory and knows of no links, and has the only raw reads; `link` is a pointer that may be
+//! null; `node` has the links and the only raw writes; `chain` is linked nodes with their two ends; `cursor` is a place
+//! in a chain, where it can be parted; `list` counts. Beside these, `trail` is nodes that lead on alone, and `stack`
+//! counts them. Of all this `blocks` and two functions of `node` are proved by hand, and the rest is plain code without
+//! pointers that are followed. Neither blocks nor chains nor trails may be let go, so code that loses a node is
+//! refused.
 #![tactic(auto)]
 
 mod blocks;
 mod chain;
 mod cursor;
 mod iter;
+mod link;
 mod list;
 mod node;
 mod parcel;

@@ -5,21 +5,18 @@ ghost use Rattle.vt_list.specs.Blocks.{places};
 ghost use Rattle.vt_list.specs.Linked.{first_or, last_or, with_next, with_prev};
 
 use crate::blocks::Blocks;
+use crate::link::Link;
 
 /// An item of a list, and where its neighbours lie.
 #[derive(Drop)]
 pub(crate) struct Node<T> {
-    pub(crate) next: Option<*mut Node<T>>,
-    pub(crate) prev: Option<*mut Node<T>>,
+    pub(crate) next: Link,
+    pub(crate) prev: Link,
     pub(crate) item: T,
 }
 
 /// The one node, which lies at `at`, where it leads on to `next`.
-pub(crate) fn set_next<T>(
-    node: Blocks<Node<T>>,
-    at: *mut Node<T>,
-    next: Option<*mut Node<T>>,
-) -> Blocks<Node<T>>
+pub(crate) fn set_next<T>(node: Blocks<Node<T>>, at: *mut Node<T>, next: Link) -> Blocks<Node<T>>
     requires { places node.owned ≡ at ∷ [] }
     ensures { result.owned ≡ map (λ b. (b.0, record b.1 { next = next })) node.owned }
 {
@@ -30,11 +27,7 @@ pub(crate) fn set_next<T>(
 }
 
 /// The one node, which lies at `at`, where it leads back to `prev`.
-pub(crate) fn set_prev<T>(
-    node: Blocks<Node<T>>,
-    at: *mut Node<T>,
-    prev: Option<*mut Node<T>>,
-) -> Blocks<Node<T>>
+pub(crate) fn set_prev<T>(node: Blocks<Node<T>>, at: *mut Node<T>, prev: Link) -> Blocks<Node<T>>
     requires { places node.owned ≡ at ∷ [] }
     ensures { result.owned ≡ map (λ b. (b.0, record b.1 { prev = prev })) node.owned }
 {
@@ -48,7 +41,7 @@ pub(crate) fn set_prev<T>(
 pub(crate) fn set_last_next<T>(
     nodes: Blocks<Node<T>>,
     last: *mut Node<T>,
-    next: Option<*mut Node<T>>,
+    next: Link,
 ) -> Blocks<Node<T>>
     requires { last_or None nodes.owned ≡ Some last }
     ensures { result.owned ≡ with_next next nodes.owned }
@@ -61,7 +54,7 @@ pub(crate) fn set_last_next<T>(
 pub(crate) fn set_first_prev<T>(
     nodes: Blocks<Node<T>>,
     first: *mut Node<T>,
-    prev: Option<*mut Node<T>>,
+    prev: Link,
 ) -> Blocks<Node<T>>
     requires { first_or None nodes.owned ≡ Some first }
     ensures { result.owned ≡ with_prev prev nodes.owned }

@@ -2,6 +2,7 @@
 
 ghost use Rattle.std.specs.Prelude.{◌≡◌, IfOk, IfErr};
 
+use crate::link::Link;
 use crate::node::Node;
 use std::alloc::Global;
 use std::marker::Model;
@@ -36,8 +37,8 @@ impl<T> Parcel<T> {
         ensures item_returned { IfErr result (λ x. x ≡ item) }
     {
         let node = Node {
-            next: None,
-            prev: None,
+            next: Link::none(),
+            prev: Link::none(),
             item,
         };
         match Box::new(alloc, node) {

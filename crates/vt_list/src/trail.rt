@@ -4,6 +4,7 @@ ghost use Rattle.std.specs.Prelude.{◌≡◌, [], ◌∷◌, slice_get, MatchOp
 ghost use Rattle.std.specs.Option.{option_copied};
 
 use crate::blocks::Blocks;
+use crate::link::Link;
 use crate::node::Node;
 use std::alloc::Global;
 use std::marker::Model;
@@ -14,7 +15,7 @@ use std::mem::replace;
 ///
 /// It is not `Drop`, so code that loses a node is refused.
 pub(crate) struct Trail<T> {
-    head: Option<*mut Node<T>>,
+    head: Link,
     nodes: Blocks<Node<T>>,
 }
 
@@ -35,7 +36,7 @@ impl<T> Trail<T> {
         ensures { result ≡ [] }
     {
         Trail {
-            head: None,
+            head: Link::none(),
             nodes: Blocks::none(),
         }
     }
@@ -67,7 +68,7 @@ impl<T> Trail<T> {
     pub(crate) fn first(&self) -> Option<&T>
         ensures { option_copied result ≡ slice_get self.now 0 }
     {
-        let Some(head) = self.head else {
+        let Some(head) = self.head.place() else {
             return None;
         };
         Some(&self.nodes.get(head).item)
@@ -78,7 +79,7 @@ impl<T> Trail<T> {
         ensures { MatchOption result.0 ((self ≡ []) × (result.1 ≡ [])) (λ n. self ≡ n.value.item ∷ result.1) }
     {
         let Trail { head, nodes } = self;
-        let Some(at) = head else {
+        let Some(at) = head.place() else {
             return (None, Trail { head, nodes });
         };
         let (one, others) = nodes.split();
@@ -100,7 +101,7 @@ impl<T: Drop> Trail<T> {
         node.next = head;
         let (one, at) = Blocks::from_box(node);
         Trail {
-            head: Some(at),
+            head: Link::to(at),
             nodes: one.append(nodes),
         }
     }

@@ -1,4 +1,4 @@
-use Rattle.std.proofs.Common.{[], ◌∷◌, ◌++◌, map, sym, ap, ◌∙◌}
+use Rattle.std.proofs.Common.{◌++◌, map, sym, ap, ◌∙◌}
 use Rattle.vt_list.specs.Blocks.{places}
 use Rattle.vt_list.specs.Linked.{NodeAt, with_next}
 use Rattle.vt_list.proofs.Links.{last-of, take-last, drop-last, with_next-snoc}

@@ -1,5 +1,5 @@
 -- `set_prev` writes the second field of the node that is owned.
-use Rattle.vt_list.proofs.Walk.{◌≡◌, List, [], ◌∷◌, ◌++◌, refl, sym, ap, ◌∙◌, subst, a_type, Val, vptr, inst_fn, SProp, ent, emp, id⊢, Lft, ftrue, flft, WpFn, ‵, raw, ◌⊛◌, ◌$◌, ◌∵◌, !, qed, by, move, keep, drop, split, fsplit, fsplit3, fjoin, use0, use1, use2, rewrite, feq_i, feq_l, suffices, of_opd, returns, enter, alloc_all, pass_all, free_all, look_at, get, sets, tables, fact, fact_i, ◌⊑◌, yes, no, RattleType, owns, types_at, plain, Ptr, RawPtr, nothing, heard, param, param_laws, layout, layouts, Stays, stay_dropped, walk_of, Goes-dropped, one, proved_at, leaves}
+use Rattle.vt_list.proofs.Walk.{◌≡◌, List, [], ◌∷◌, ◌++◌, refl, sym, ap, ◌∙◌, subst, a_type, Val, vptr, inst_fn, SProp, ent, emp, id⊢, Lft, ftrue, flft, WpFn, ‵, raw, ◌⊛◌, ◌$◌, ◌∵◌, !, qed, by, move, keep, drop, split, fsplit, fsplit3, fjoin, use0, use1, use2, rewrite, feq_i, feq_l, suffices, of_opd, returns, enter, alloc_all, pass_all, free_all, look_at, get, sets, tables, fact, fact_i, ◌⊑◌, yes, no, owns, types_at, plain, Ptr, RawPtr, nothing, heard, param, param_laws, layout, layouts, Stays, stay_dropped, walk_of, Goes-dropped, one, proved_at, leaves}
 use mir.Raw.{raw as bare}
 use mir.Val.{vstruct, vcons, vnil, of_list}
 use base.Fraction.{full_share}
@@ -7,42 +7,31 @@ use base.Fml.{fat}
 use base.Logic.{fst∗, never}
 use types.Logic.{sem}
 use types.Kit.{some, at_ret, pick, fpick, fpack, fjoin3}
-use types.Run.{stop, fld, assigns, assigns_last, first, blocks as enters_block, exec}
+use types.Run.{stop, fld, assigns_last, first, blocks as enters_block, exec}
 use types.ByLocal.{through, env}
 use types.Part.{sub, whole, store_in}
 use borrow.Table.OneValue.{part_out, part_in}
 use denote.Laws.{Is, shows}
 use denote.Memory.{lone, part_at}
-use denote.Param.Laws.{Laws, of_field}
-use denote.Param.Shared.{copy_shared}
 use denote.RattleType.{Valss}
 use denote.RawPtr.{block_ptr, null_ptr, ptr_val, in_a_block}
 use denote.Steps.{only, peeks}
 use denote.Struct.Declared.{shape, fields}
-use denote.Struct.Field.{RawPtr-field}
-use denote.Struct.Laws.{RawPtr-laws, RawPtr-copy}
 use denote.Struct.Struct.{within}
 use Rattle.core.proofs.alloc.Shapes.{after}
-use Rattle.core.proofs.option.Option.TheLaws as option_laws
-use Rattle.core.specs.contracts.option.Option as option
 use Rattle.std.specs.Prelude.{map}
 use Rattle.std_alloc.specs.Box.Ownership.{box_owns}
 use Rattle.vt_list.specs.Blocks.{may_free, blocks_owned, places}
 use Rattle.vt_list.specs.contracts.blocks.Blocks as blocks
+use Rattle.vt_list.specs.contracts.link.Link.{the_row as Link}
 use Rattle.vt_list.specs.contracts.node.Node as node
 use Rattle.vt_list.specs.contracts.node.set_prev as this
 use Rattle.vt_list.proofs.Owning.{only-block, Bytes}
 use Rattle.vt_list.proofs.blocks.Blocks.TheLaws as blocks_laws
+use Rattle.vt_list.proofs.link.Link.TheLaws.{the_row_laws as link_laws}
 use Rattle.vt_list.proofs.node.Node.TheLaws as node_laws
 use Rattle.vt_list.proofs.node.set_prev.Statement.{statement}
 use Rattle.vt_list.proofs.node.set_prev.Code as code
-
--- where a neighbour lies, if there is one
-abbrev Link : RattleType
-Link = option.the_row RawPtr
-
-abbrev link_laws : Laws Link
-link_laws = option_laws.the_row_laws RawPtr (of_field RawPtr-field RawPtr-laws refl (copy_shared RawPtr-field RawPtr-copy))
 
 -- what a node is to the machine
 abbrev words : Val → Val → Val → Val

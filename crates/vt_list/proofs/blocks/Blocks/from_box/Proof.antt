@@ -5,10 +5,10 @@ use mir.Raw.{raw as bare}
 use base.Fraction.{full_share}
 use base.Logic.{fst∗, never}
 use types.Logic.{sem}
-use types.Kit.{some, later, split3, pick, await}
+use types.Kit.{some, later, given, learn, split3, pick, await}
 use types.ByLocal.{lands_as}
 use contract.BorrowLft.{⊑_static}
-use denote.RawPtr.{block_ptr, null_ptr, ptr_val, in_a_block}
+use denote.RawPtr.{block_ptr, null_ptr, ptr_val, in_a_block, Testable}
 use denote.Steps.{only}
 use denote.Param.{bounded}
 use denote.Param.NoDrop.{glues}
@@ -24,10 +24,11 @@ use Rattle.std_alloc.proofs.boxed.Box.into_raw.Met.{met}
 use Rattle.std_heap.specs.contracts.GlobalAllocator.TheImpl.{ghosts, dict as methods}
 use Rattle.std_heap.proofs.GlobalAllocator.TheImpl.Met.{passed}
 use Rattle.vt_list.specs.Blocks.{may_free}
+use Rattle.vt_list.specs.Place.{IsSomewhere}
 use Rattle.vt_list.specs.contracts.blocks.Blocks as blocks
 use Rattle.vt_list.specs.contracts.blocks.Blocks.from_box as this
 use Rattle.vt_list.proofs.Boxes.{Handle, handle_laws, handle_drop, Content, content_laws, Boxed, box_laws}
-use Rattle.vt_list.proofs.Owning.{no_bytes, Blank, blank, pair, paired}
+use Rattle.vt_list.proofs.Owning.{no_bytes, Blank, blank, compared, pair, paired}
 use Rattle.vt_list.proofs.Destruct++none.drop.Code.{code as nothing_to_drop}
 use Rattle.vt_list.proofs.blocks.Blocks.from_box.Statement.{statement}
 use Rattle.vt_list.proofs.blocks.Blocks.from_box.Code as code
@@ -67,6 +68,7 @@ from_box_spec {M = M} 𝓤 𝓛 𝓜 𝓡 wired N laws drops drop_met =
     in_a_block ! p (λ at. box_owns may_free R at x) (fst∗ 𝓤 (never 𝓤) (sem 𝓛 (may_free (bare (layout N)) null_ptr))) (λ block offset e.
     let at : Ptr = block_ptr block offset in let there : Val = vptr block offset in
     let made : Row.Denot = record { mark = record {}; owned = (at, x) ∷ [] } in let Told : Type 0 = made.owned ≡ (at, x) ∷ [] in
+    use1 𝓛 (given (Testable at) (‵ (box_owns may_free R at x))) (compared 𝓛 R at x) $ learn ! (λ testable.
     move ! (1 ∷ []) $ split ! $ move ! (1 ∷ []) $ feq_l ! (λ f. split3 ! $ move ! (1 ∷ []) $ drop ! $ join ! $
     -- [the token; the block]
     lands_as ! (ap only f ∙ ap ptr_val e) refl (tt, tt) $
@@ -76,5 +78,6 @@ from_box_spec {M = M} 𝓤 𝓛 𝓜 𝓡 wired N laws drops drop_met =
     feq_i ! (List Val) (there ∷ []) (there ∷ []) refl $ move ! (1 ∷ 0 ∷ []) $
     use2 𝓛 (‵ ((Tuple (Row ∷ RawPtr ∷ [])).own_val (made, at) (pair no_bytes there ∷ []))) (paired 𝓛 Row RawPtr made at no_bytes there) $
     -- [the result; the token]
-    use0 𝓛 (raw (fact 𝓤 Told)) (fact_i 𝓤 Told (emp 𝓤) refl) $ nothing ! $ nothing ! $ fjoin ! $
-    returns ! (look_at ! 0 refl) $ free_all ! refl $ keep ! (3 ∷ 0 ∷ 2 ∷ 1 ∷ []) $ by ! (leaves 𝓛 T stays c y (pair no_bytes there) (made, at) (tt, tt) (tt, tt))))))))))
+    use0 𝓛 (raw (fact 𝓤 (IsSomewhere at))) (fact_i 𝓤 (IsSomewhere at) (emp 𝓤) (tt, testable)) $
+    use0 𝓛 (raw (fact 𝓤 Told)) (fact_i 𝓤 Told (emp 𝓤) refl) $ join ! $ nothing ! $ nothing ! $ fjoin ! $
+    returns ! (look_at ! 0 refl) $ free_all ! refl $ keep ! (3 ∷ 0 ∷ 2 ∷ 1 ∷ []) $ by ! (leaves 𝓛 T stays c y (pair no_bytes there) (made, at) (tt, tt) (tt, tt)))))))))))

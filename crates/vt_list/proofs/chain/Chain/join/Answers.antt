@@ -4,18 +4,18 @@ use Rattle.vt_list.proofs.Links.{join-chain, no-last, items-append, items-with_n
 use Rattle.vt_list.proofs.chain.Chain.join.Goals as goal
 
 pub end-requires : goal.end-requires
-end-requires g c = sym c.self.view_is ∙ ap items (no-last c.self.inside.nodes.owned (sym c.self.invariant.tail_is ∙ c.in_default.is))
+end-requires g c = sym c.self.view_is ∙ ap items (no-last c.self.inside.nodes.owned (sym c.self.invariant.tail_is ∙ sym c.place.ensures ∙ c.in_default.is))
 
 pub returns-in_default : goal.returns-in_default
 returns-in_default g c =
-    let none = sym c.self.view_is ∙ ap items (no-last c.self.inside.nodes.owned (sym c.self.invariant.tail_is ∙ c.in_default.is)) in
+    let none = sym c.self.view_is ∙ ap items (no-last c.self.inside.nodes.owned (sym c.self.invariant.tail_is ∙ sym c.place.ensures ∙ c.in_default.is)) in
     c.other.view_is ∙ ap (λ xs. xs ++ c.args.other) (sym none)
 
 pub invariant_of-result-2 : goal.invariant_of-result-2
 invariant_of-result-2 g c =
     let s = c.self.inside in let o = c.other.inside in
     subst (IsChain s.head o.tail) (sym (c.append.ensures ∙ (λ i. c.set_last_next-front.ensures i ++ c.set_first_prev-back.ensures i)))
-    (join-chain s.head s.tail o.head o.tail c.in-Some.end c.in-Some-head.start s.nodes.owned o.nodes.owned c.self.invariant c.other.invariant c.in-Some.is c.in-Some-head.is)
+    (join-chain s.head s.tail o.head o.tail c.in-Some.end c.in-Some-place.start s.nodes.owned o.nodes.owned c.self.invariant c.other.invariant (sym c.place.ensures ∙ c.in-Some.is) (sym c.place-2.ensures ∙ c.in-Some-place.is))
 
 pub returns : goal.returns
 returns g c =

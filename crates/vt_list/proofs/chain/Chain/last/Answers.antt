@@ -4,9 +4,9 @@ use Rattle.vt_list.proofs.Links.{place-last, no-last}
 use Rattle.vt_list.proofs.chain.Chain.last.Goals as goal
 
 pub get-requires : goal.get-requires
-get-requires g c κs within = (search rules, place-last c.in-Some.tail c.self.inside.nodes.owned (sym c.self.invariant.tail_is ∙ c.in-Some.is))
+get-requires g c κs within = (search rules, place-last c.in-Some.tail c.self.inside.nodes.owned (sym c.self.invariant.tail_is ∙ sym c.place.ensures ∙ c.in-Some.is))
 
 pub returns-in_default-clause-variant : goal.returns-in_default-clause-variant
 returns-in_default-clause-variant g c =
-    let none = sym c.self.view_is ∙ ap items (no-last c.self.inside.nodes.owned (sym c.self.invariant.tail_is ∙ c.in_default.is)) in
+    let none = sym c.self.view_is ∙ ap items (no-last c.self.inside.nodes.owned (sym c.self.invariant.tail_is ∙ sym c.place.ensures ∙ c.in_default.is)) in
     ((λ e. absurd (let f : false ≡ true = e in cc)), (λ some. absurd (omega (arith, some, ap length none))))
