@@ -1,4 +1,4 @@
-use Rattle.std.proofs.Common.{length, ◌<◌, arith, ◌≡◌, ℕ, List, sym, subst, ap, ◌∙◌}
+use Rattle.std.proofs.Common.{arith, ◌≡◌, sym, subst, ap, ◌∙◌}
 use Rattle.vt_tournament.specs.declared.node.Node.{Node}
 use Rattle.vt_tournament.specs.Contest.{nobodys_number, node, IsTournamentOf}
 use Rattle.vt_tournament.specs.Least.{IsLeast}
