@@ -1,11 +1,13 @@
 -- A worker's processes after they committed, and the rows of what they commit.
-use Rattle.std.proofs.Common.{◌≡◌, ◌∙◌, ◌⊎◌, inl, inr, ℕ, Bool, suc, ◌+◌, ◌*◌, ◌<◌, ◌≤◌, List, [], ◌∷◌, ◌++◌, map, take, length, slice_index_or, refl, sym, ap, subst, arith, Option, Some, None, slice_get}
+use Rattle.std.proofs.Common.{◌≡◌, ◌∙◌, ◌⊎◌, inl, inr, ℕ, Bool, suc, ◌+◌, ◌*◌, ◌<◌, ◌≤◌, List, [], ◌∷◌, ◌++◌, map, take, drop, length, slice_index_or, refl, sym, ap, subst, arith, Some, None, slice_get, slice_set}
+use Rattle.std.specs.List.{prefix_len}
 use Rattle.std.proofs.lemmas.List.{append-nil, append_assoc, take_more, length-take}
 use Rattle.std.proofs.lemmas.Option.{get_or_from_slice_get, slice_get_within, slice_get_cases}
 use Rattle.vt_lp.specs.Ripe.{rows_of_ripe}
 use Rattle.vt_lp.proofs.RipeLemmas.{rows-ripe}
 use Rattle.vt_key.specs.Times.{Time}
-use Rattle.vt_key.specs.declared.order.Rank.{Rank}
+use Rattle.vt_tournament.specs.declared.node.Node.{Node}
+use Rattle.vt_tournament.specs.Contest.{IsTournamentOf}
 use Rattle.vt_key.specs.declared.letter.Letter.{Letter}
 use Rattle.vt_key.specs.declared.letter.Mail.{Mail}
 use Rattle.vt_model.specs.declared.rows.Row.{Row}
@@ -14,12 +16,13 @@ use Rattle.vt_model.specs.Handler.{Handlers}
 use Rattle.vt_model.specs.Simulation.{Simulation, simulation_of}
 use Rattle.vt_steps.specs.Letters.{Counts}
 use Rattle.vt_steps.specs.World.{LogicalProcess, Part, process_at}
-use Rattle.vt_steps.specs.PartSteps.{process_after_commit, part_after_commit, ripe_rows, rows_of_processes}
-use Rattle.vt_steps.specs.StandsFor.{StandsForProcess, StandForProcesses}
-use Rattle.vt_lp.specs.Held.{HeldProcess, process_memory, StandsFor as ProcessStandsFor}
+use Rattle.vt_steps.specs.PartSteps.{process_after_commit, part_after_commit, ripe_rows, rows_of_processes, is_below}
+use Rattle.vt_steps.specs.StandsFor.{StandsForProcess, StandForProcesses, entry_of}
+use Rattle.vt_lp.specs.Held.{HeldProcess, process_memory, remembered, StandsFor as ProcessStandsFor}
 use Rattle.vt_kernel.specs.Held.{HeldWorker, StandsFor, AreProcesses, TellsLeast, IsWorkerInside, AreMarked, entries_of, unready_of, ready_of}
-use Rattle.vt_kernel.specs.Guards.{IsForgotten}
+use Rattle.vt_kernel.specs.Guards.{IsForgotten, HasForgotten}
 use Rattle.vt_kernel.proofs.PartLemmas.{stands_along}
+use Rattle.vt_kernel.proofs.SettlingLemmas.{put-there}
 use Rattle.vt_kernel.proofs.ProcessLemmas.{get-map_of, stands-at, process-at}
 
 module _ {S P K : Type 0} (floor : Time) where
@@ -53,6 +56,46 @@ module _ {S P K : Type 0} (floor : Time) where
         pending = sym f.pending j;
         waiting = sym f.waiting j;
       }) h
+
+  -- a process without past events has nothing to forget
+  unforgotten : (q : HeldProcess S P K) → q.past ≡ [] → IsForgotten floor q q
+  unforgotten q none = record {
+    committed = λ handlers process s.
+        let gone : process.past ≡ [] = s.past ∙ ap (λ es. map entry_of (map (remembered handlers q.lp) es)) none in
+        let done : process.done ++ take (prefix_len (is_below floor) process.past) process.past ≡ process.done =
+        ap (λ es. process.done ++ take (prefix_len (is_below floor) es) es) gone ∙ append-nil process.done in
+        let past : drop (prefix_len (is_below floor) process.past) process.past ≡ process.past = ap (λ es. drop (prefix_len (is_below floor) es) es) gone ∙ sym gone in
+        let same : process_after_commit floor process ≡ process = λ j. record process { done = done j; past = past j } in
+        subst (ProcessStandsFor handlers q) (sym same) s;
+    lp = refl;
+    config = refl;
+    pending = refl;
+    waiting = refl;
+  }
+
+  pub none-forgotten : (processes : List (HeldProcess S P K)) (place : ℕ) → place < length processes
+      → ((q : HeldProcess S P K) → slice_get processes place ≡ Some q → q.past ≡ []) → HasForgotten floor place processes processes
+  none-forgotten processes place less none = go (slice_get_cases processes place).1
+    where
+      go : ((q : HeldProcess S P K) × (place < length processes) × (slice_get processes place ≡ Some q) × (slice_index_or processes place q ≡ q)) ⊎ ((length processes ≤ place) × (slice_get processes place ≡ None))
+          → HasForgotten floor place processes processes
+      go (inl found) =
+          let q = found.0 in
+          record {
+            process = q;
+            forgotten = λ d. subst (λ x. IsForgotten floor x q) (sym (get_or_from_slice_get processes place q d found.2)) (unforgotten q (none q found.2));
+            others = sym (put-there processes place q found.2);
+          }
+      go (inr beyond) = (let no = beyond.0 in absurd (omega (arith, no, less)))
+
+  -- of the processes one is changed
+  pub one-forgotten : (processes : List (HeldProcess S P K)) (place : ℕ) (q new : HeldProcess S P K) → slice_get processes place ≡ Some q → IsForgotten floor q new
+      → HasForgotten floor place processes (slice_set processes place new)
+  one-forgotten processes place q new at h = record {
+    process = new;
+    forgotten = λ d. subst (λ x. IsForgotten floor x new) (sym (get_or_from_slice_get processes place q d at)) h;
+    others = refl;
+  }
 
   pub stand-forgotten : (handlers : Handlers S P K) (config : Config) (w base : ℕ) (xs ys : List (HeldProcess S P K)) (processes : List (LogicalProcess P))
       → AllForgotten xs ys → AreProcesses config w base xs
@@ -94,10 +137,10 @@ module _ {S P K : Type 0} where
       }
 
   -- how the fields of a worker go together then
-  pub inside-commit : {config : Config} {w : ℕ} {xs : List (HeldProcess S P K)} {outbox : List (Letter P)} {arrived : List (Mail P)} {sent got : Counts} {serial : ℕ} {ready unready : List (Option Rank)} {marked : List Bool} →
-      (floor : Time) (ys : List (HeldProcess S P K)) (entered entered_unready : List (Option Rank)) (new_marked : List Bool) → length ys ≡ length xs →
+  pub inside-commit : {config : Config} {w : ℕ} {xs : List (HeldProcess S P K)} {outbox : List (Letter P)} {arrived : List (Mail P)} {sent got : Counts} {serial : ℕ} {ready unready : List Node} {marked : List Bool} →
+      (floor : Time) (ys : List (HeldProcess S P K)) (entered entered_unready : List Node) (new_marked : List Bool) → length ys ≡ length xs →
       ((k : ℕ) (d : HeldProcess S P K) → k < length xs → IsForgotten floor (slice_index_or xs k d) (slice_index_or ys k d)) →
-      entered ≡ entries_of ready_of ys → entered_unready ≡ entries_of unready_of ys → AreMarked new_marked ys →
+      IsTournamentOf (entries_of ready_of ys) entered → IsTournamentOf (entries_of unready_of ys) entered_unready → AreMarked new_marked ys →
       IsWorkerInside config w xs outbox arrived sent got serial ready unready marked →
       IsWorkerInside config w ys outbox arrived sent got serial entered entered_unready new_marked
   inside-commit {config} {w} {xs} floor ys entered entered_unready new_marked long each is isnt marks h =

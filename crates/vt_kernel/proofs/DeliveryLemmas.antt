@@ -21,6 +21,7 @@ use Rattle.vt_steps.specs.Letters.{without_first, has_rank, Counts}
 use Rattle.vt_steps.specs.World.{Entry, LogicalProcess, Part}
 use Rattle.vt_steps.specs.ProcessSteps.{ProcessEffect, holds, with_letter, accept_process}
 use Rattle.vt_steps.specs.PartSteps.{at_process, with_effect, is_for, home, home_letter, accept, accept_mail}
+use Rattle.vt_tournament.specs.declared.node.Node.{Node}
 use Rattle.vt_lp.specs.Held.{HeldProcess, remembered, IsWithinRun, StandsFor as ProcessStandsFor}
 use Rattle.vt_lp.specs.Guards.{holds_letter, IsDone as ProcessIsDone}
 use Rattle.vt_kernel.specs.Held.{HeldWorker, StandsFor, AreProcesses, IsWorkerInside}
@@ -162,7 +163,7 @@ module _ {S P K : Type 0} (handlers : Handlers S P K) (held : HeldWorker S P K) 
       ∙ ap (accept_mail (simulation_of handlers held.config) i part) (ap (λ ms. slice_get ms i) h.arrived ∙ none)
 
 -- a letter that was found in the outbox is for one of the worker's processes, before the end of the run
-pub found-in : {S P K : Type 0} {config : Config} {w : ℕ} {processes : List (HeldProcess S P K)} {outbox : List (Letter P)} {arrived : List (Mail P)} {sent got : Counts} {serial : ℕ} {ready unready : List (Option Rank)} {marked : List Bool}
+pub found-in : {S P K : Type 0} {config : Config} {w : ℕ} {processes : List (HeldProcess S P K)} {outbox : List (Letter P)} {arrived : List (Mail P)} {sent got : Counts} {serial : ℕ} {ready unready : List Node} {marked : List Bool}
     → IsWorkerInside config w processes outbox arrived sent got serial ready unready marked → (letter : Letter P) → find (λ (l : Letter P). nat_eq (l.event.dest % config.workers) w) outbox ≡ Some letter
     → (letter.event.dest % config.workers ≡ w) × IsWithinRun config.lps config.end letter
 found-in {config = config} {w = w} {outbox = outbox} h letter is = (

@@ -5,10 +5,10 @@ use Rattle.std.proofs.Math.ListN.{length-set}
 use Rattle.std.proofs.lemmas.Bool.Decides.{eqb_tells}
 use Rattle.std.proofs.lemmas.List.{length-map}
 use Rattle.std.proofs.lemmas.List.Elements.{All-cons, All-head, All-tail}
-use Rattle.std.proofs.lemmas.Option.{slice_get_within}
 use Rattle.vt_key.specs.Times.{Time}
 use Rattle.vt_key.specs.declared.limits.TheConstants.{MAX_COUNT}
-use Rattle.vt_key.specs.declared.order.Rank.{Rank}
+use Rattle.vt_tournament.specs.declared.node.Node.{Node}
+use Rattle.vt_tournament.specs.Contest.{IsTournamentOf}
 use Rattle.vt_key.specs.declared.letter.Letter.{Letter}
 use Rattle.vt_key.specs.declared.letter.Mail.{Mail}
 use Rattle.vt_key.specs.declared.letter.Colour.{Colour}
@@ -22,10 +22,10 @@ use Rattle.vt_steps.specs.PartSteps.{at_process}
 use Rattle.vt_steps.specs.StandsFor.{ProcessMemory, StandForProcesses}
 use Rattle.vt_lp.specs.Held.{HeldProcess, process_memory, AllWithinRun, StandsFor as ProcessStandsFor}
 use Rattle.vt_lp.specs.Guards.{IsDone as ProcessIsDone}
-use Rattle.vt_kernel.specs.Held.{HeldWorker, IsWorkerInside, StandsFor, AreProcesses, TellsLeast, ready_of, unready_of, entries_of}
+use Rattle.vt_kernel.specs.Held.{HeldWorker, IsWorkerInside, StandsFor, AreProcesses, AreMarked, TellsLeast, ready_of, unready_of, entries_of}
 use Rattle.vt_kernel.specs.Local.{at_own}
 use Rattle.vt_kernel.specs.Guards.{IsDone}
-use Rattle.vt_kernel.proofs.ProcessLemmas.{process-at, processes-changed, entered-changed, marked-changed, place-known, place-unknown, get-past}
+use Rattle.vt_kernel.proofs.ProcessLemmas.{process-at, processes-changed, marked-changed, place-known, place-unknown, get-past}
 use Rattle.vt_steps.proofs.Places.{get-put_same}
 use Rattle.vt_kernel.proofs.SettlingLemmas.{put-there}
 use Rattle.vt_kernel.proofs.OwnSteps.{not-own, no-process, found, done-at, refused-at, IsFound}
@@ -57,7 +57,7 @@ all-changed Q [] i x h q = h
 all-changed Q (y ∷ ys) zero x h q = All-cons Q x ys q (All-tail Q y ys h)
 all-changed Q (y ∷ ys) (suc i) x h q = All-cons Q y (slice_set ys i x) (All-head Q y ys h) (all-changed Q ys i x (All-tail Q y ys h) q)
 
-module _ {S P K : Type 0} {config : Config} {w : ℕ} {processes : List (HeldProcess S P K)} {outbox : List (Letter P)} {arrived : List (Mail P)} {sent got : Counts} {serial : ℕ} {ready unready : List (Option Rank)} {marked : List Bool}
+module _ {S P K : Type 0} {config : Config} {w : ℕ} {processes : List (HeldProcess S P K)} {outbox : List (Letter P)} {arrived : List (Mail P)} {sent got : Counts} {serial : ℕ} {ready unready : List Node} {marked : List Bool}
     (h : IsWorkerInside config w processes outbox arrived sent got serial ready unready marked) where
   -- the place of one of the worker's processes is within
   pub place-within : (p place : ℕ) → 1 ≤ config.workers → place ≡ p / config.workers → p % config.workers ≡ w → p < config.lps → place < length processes
@@ -66,20 +66,14 @@ module _ {S P K : Type 0} {config : Config} {w : ℕ} {processes : List (HeldPro
       let all = h.all_there in
       omega (arith, known, all, is)
 
-  -- and within the tournaments
-  pub in-entries : (entry : HeldProcess S P K → Option Rank) (place : ℕ) (entries : List (Option Rank)) → entries ≡ entries_of entry processes → place < length processes → place < length entries
-  in-entries entry place entries is less = subst (λ es. place < length es) (sym is) (go processes less)
-    where
-      go : (ps : List (HeldProcess S P K)) → place < length ps → place < length (entries_of entry ps)
-      go [] less = absurd (omega arith)
-      go (q ∷ qs) less = subst (λ n. place < n) (sym (length-map (q ∷ qs) entry)) less
-
-  -- a process that has changed, with what was made by it
-  pub inside-changed : (place : ℕ) (q new : HeldProcess S P K) (letters : List (Letter P)) (next : ℕ) → slice_get processes place ≡ Some q
-      → new.lp ≡ q.lp → new.config ≡ q.config → TellsLeast new → AllWithinRun config letters → next ≤ MAX_COUNT
-      → IsWorkerInside config w (slice_set processes place new) letters arrived sent got next (slice_set ready place (ready_of new)) (slice_set unready place (unready_of new)) (slice_set marked place true)
-  inside-changed place q new letters next at same_lp same_config told within few =
-      let less = slice_get_within processes place q at in
+  -- a process that has changed and has entered the tournaments again, with what was made by it
+  pub inside-changed : (place : ℕ) (q new : HeldProcess S P K) (letters : List (Letter P)) (next : ℕ) (now : List (HeldProcess S P K)) (new_ready new_unready : List Node) (new_marked : List Bool)
+      → slice_get processes place ≡ Some q → new.lp ≡ q.lp → new.config ≡ q.config → now ≡ slice_set processes place new
+      → IsTournamentOf (entries_of ready_of now) new_ready → IsTournamentOf (entries_of unready_of now) new_unready → new_marked ≡ slice_set marked place true
+      → ((held : HeldProcess S P K) → slice_get now place ≡ Some held → TellsLeast held) → AllWithinRun config letters → next ≤ MAX_COUNT
+      → IsWorkerInside config w (slice_set processes place new) letters arrived sent got next new_ready new_unready new_marked
+  inside-changed place q new letters next now new_ready new_unready new_marked at same_lp same_config is ready_now unready_now marks told within few =
+      let there : slice_get now place ≡ Some new = ap (λ ps. slice_get ps place) is ∙ get-put_same processes place q new at in
       let who = process-at config w 0 place processes q h.own_processes at in
       record {
         known = h.known;
@@ -90,10 +84,10 @@ module _ {S P K : Type 0} {config : Config} {w : ℕ} {processes : List (HeldPro
         few_sent = h.few_sent;
         few_got = h.few_got;
         few_made = few;
-        ready_entered = ap (λ es. slice_set es place (ready_of new)) h.ready_entered ∙ sym (entered-changed ready_of processes place new less);
-        unready_entered = ap (λ es. slice_set es place (unready_of new)) h.unready_entered ∙ sym (entered-changed unready_of processes place new less);
-        least_told = all-changed TellsLeast processes place new h.least_told told;
-        past_marked = marked-changed marked processes place new h.past_marked;
+        ready_entered = subst (λ ps. IsTournamentOf (entries_of ready_of ps) new_ready) is ready_now;
+        unready_entered = subst (λ ps. IsTournamentOf (entries_of unready_of ps) new_unready) is unready_now;
+        least_told = all-changed TellsLeast processes place new h.least_told (told new there);
+        past_marked = subst (λ bs. AreMarked bs (slice_set processes place new)) (sym marks) (marked-changed marked processes place new h.past_marked);
       }
 
 -- as many processes stand for as there are
@@ -154,31 +148,9 @@ module _ {S P K : Type 0} (handlers : Handlers S P K) (held : HeldWorker S P K) 
       let f = found handlers held part p q h are own (subst (λ k. slice_get held.processes k ≡ Some q) is at) in
       refused-at handlers held part p q step own f (none f.process f.stands)
 
--- a process that was written is found again
-pub found-again : {X : Type 0} (xs : List X) (i : ℕ) (old new now : X) → slice_get xs i ≡ Some old → now ≡ slice_index_or (slice_set xs i new) i now → now ≡ new
-found-again xs i old new now there is =
-    let less = slice_get_within xs i old there in
-    let size = length-set xs i new in
-    let a : slice_get (slice_set xs i new) i ≡ Some now = index-get (slice_set xs i new) i now (omega (arith, less, size)) (sym is) in
-    let b : slice_get (slice_set xs i new) i ≡ Some new = get-put_same xs i old new there in
-    let both : Some new ≡ Some now = sym b ∙ a in
-    let same : new ≡ now = cc in
-    sym same
-
 -- a process that was written as it was leaves them all
 pub written-same : {X : Type 0} (xs : List X) (i : ℕ) (old new : X) → slice_get xs i ≡ Some old → new ≡ old → slice_set xs i new ≡ xs
 written-same xs i old new there same = ap (λ x. slice_set xs i x) same ∙ put-there xs i old there
-
--- the tournaments that the changed process has entered, and its mark
-pub entered : {S P K : Type 0} {config : Config} {w : ℕ} {processes : List (HeldProcess S P K)} {outbox : List (Letter P)} {arrived : List (Mail P)} {sent got : Counts} {serial : ℕ} (ready unready : List (Option Rank)) (marked : List Bool)
-    (place : ℕ) (new now : HeldProcess S P K) (new_ready new_unready : List (Option Rank)) (new_marked : List Bool) → now ≡ new → new_ready ≡ slice_set ready place (ready_of now) → new_unready ≡ slice_set unready place (unready_of now)
-    → new_marked ≡ slice_set marked place true
-    → IsWorkerInside config w processes outbox arrived sent got serial (slice_set ready place (ready_of new)) (slice_set unready place (unready_of new)) (slice_set marked place true)
-    → IsWorkerInside config w processes outbox arrived sent got serial new_ready new_unready new_marked
-entered {S} {P} {K} {config} {w} {processes} {outbox} {arrived} {sent} {got} {serial} ready unready marked place new now new_ready new_unready new_marked same r e m h =
-    subst (λ xs. IsWorkerInside config w processes outbox arrived sent got serial xs new_unready new_marked) (sym (r ∙ ap (λ q. slice_set ready place (ready_of q)) same))
-    (subst (λ xs. IsWorkerInside config w processes outbox arrived sent got serial (slice_set ready place (ready_of new)) xs new_marked) (sym (e ∙ ap (λ q. slice_set unready place (unready_of q)) same))
-    (subst (λ xs. IsWorkerInside config w processes outbox arrived sent got serial (slice_set ready place (ready_of new)) (slice_set unready place (unready_of new)) xs) (sym m) h))
 
 -- ---- results
 

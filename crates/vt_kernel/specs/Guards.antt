@@ -1,5 +1,5 @@
 -- What the calls of a worker answer and leave, by the steps of a world's part.
-use Rattle.std.specs.Prelude.{◌≡◌, ℕ, ◌+◌, ◌<◌, ◌≤◌, ◌⊎◌, ◌/◌, ◌%◌, Bool, nat_eq, true, false, List, ◌++◌, map, length, Option, Some, None, slice_get}
+use Rattle.std.specs.Prelude.{◌≡◌, ℕ, ◌+◌, ◌<◌, ◌≤◌, ◌⊎◌, ◌/◌, ◌%◌, Bool, nat_eq, true, false, List, ◌++◌, map, length, Option, Some, None, slice_get, slice_set, slice_index_or}
 use Rattle.std.specs.List.{flat_map}
 use Rattle.vt_key.specs.Times.{Time}
 use Rattle.vt_key.specs.declared.limits.TheConstants.{MAX_COUNT}
@@ -90,3 +90,9 @@ pub record IsForgotten {S P K : Type 0} (floor : Time) (old new : HeldProcess S 
   pub config : new.config ≡ old.config
   pub pending : new.pending ≡ old.pending
   pub waiting : new.waiting ≡ old.waiting
+
+-- of these processes the one at a place has committed below a floor
+pub record HasForgotten {S P K : Type 0} (floor : Time) (place : ℕ) (old new : List (HeldProcess S P K)) : Type 0 where
+  pub process : HeldProcess S P K
+  pub forgotten : (d : HeldProcess S P K) → IsForgotten floor (slice_index_or old place d) process
+  pub others : new ≡ slice_set old place process

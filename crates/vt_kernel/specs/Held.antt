@@ -15,6 +15,8 @@ use Rattle.vt_steps.specs.World.{Part}
 use Rattle.vt_steps.specs.StandsFor.{PartMemory, StandsForPart}
 use Rattle.vt_lp.specs.Held.{HeldProcess, process_memory, AllWithinRun, IsWithinRun}
 use Rattle.vt_lp.specs.Guards.{ready_rank, lesser_rank}
+use Rattle.vt_tournament.specs.declared.node.Node.{Node}
+use Rattle.vt_tournament.specs.Contest.{IsTournamentOf}
 
 -- what a contract sees of a worker: its number and the config, and all that a part of a world has, with its processes as they
 -- are in memory. Process p is at place p / workers
@@ -122,7 +124,7 @@ pub record AreCounted (counts : Counts) : Type 0 where
 
 -- how the fields of a worker go together
 pub record IsWorkerInside {S P K : Type 0} (config : Config) (w : ℕ) (processes : List (HeldProcess S P K)) (outbox : List (Letter P))
-    (arrived : List (Mail P)) (sent got : Counts) (serial : ℕ) (ready unready : List (Option Rank)) (marked : List Bool) : Type 0 where
+    (arrived : List (Mail P)) (sent got : Counts) (serial : ℕ) (ready unready : List Node) (marked : List Bool) : Type 0 where
   pub known : w < config.workers
   pub all_there : length processes ≡ (config.lps + (config.workers - 1) - w) / config.workers
   pub own_processes : AreProcesses config w 0 processes
@@ -131,7 +133,7 @@ pub record IsWorkerInside {S P K : Type 0} (config : Config) (w : ℕ) (processe
   pub few_sent : AreCounted sent
   pub few_got : AreCounted got
   pub few_made : serial ≤ MAX_COUNT
-  pub ready_entered : ready ≡ entries_of ready_of processes
-  pub unready_entered : unready ≡ entries_of unready_of processes
+  pub ready_entered : IsTournamentOf (entries_of ready_of processes) ready
+  pub unready_entered : IsTournamentOf (entries_of unready_of processes) unready
   pub least_told : All TellsLeast processes
   pub past_marked : AreMarked marked processes

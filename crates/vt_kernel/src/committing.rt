@@ -1,13 +1,14 @@
 //! What a worker commits.
 
-ghost use Rattle.std.specs.Prelude.{◌≡◌, ◌≢◌, ◌↔◌, ℕ, ◌<◌, ◌≤◌, ◌^◌, [], Some, false, length, slice_get, slice_index_or, slice_set, IsTrue, IfOk, IfErr};
+ghost use Rattle.std.specs.Prelude.{◌≡◌, ◌≢◌, ◌↔◌, ℕ, ◌<◌, ◌≤◌, ◌^◌, Some, false, length, slice_get, slice_index_or, IsTrue, IfOk, IfErr};
 ghost use Rattle.vt_key.specs.declared.fault.Fault.TheVariants.{Memory};
 ghost use Rattle.vt_model.specs.Handler.{Handlers};
 ghost use Rattle.vt_model.specs.Simulation.{simulation_of};
 ghost use Rattle.vt_steps.specs.World.{Part};
 ghost use Rattle.vt_steps.specs.PartSteps.{part_after_commit, rows_of_commit};
+ghost use Rattle.vt_tournament.specs.Contest.{IsTournamentOf};
 ghost use Rattle.vt_kernel.specs.Held.{StandsFor, AreMarked, entries_of, ready_of, unready_of};
-ghost use Rattle.vt_kernel.specs.Guards.{IsForgotten};
+ghost use Rattle.vt_kernel.specs.Guards.{IsForgotten, HasForgotten};
 
 use crate::kernel::Kernel;
 use crate::local::{enter, mark};
@@ -68,24 +69,23 @@ fn forget_before<M: EventModel>(
     floor: Time,
 )
     requires few { length processes.old.items < 2 ^ 32 }
-    requires entered { ready.old ≡ entries_of ready_of processes.old.items }
-    requires unready { unready.old ≡ entries_of unready_of processes.old.items }
+    requires entered { IsTournamentOf (entries_of ready_of processes.old.items) ready.old }
+    requires unready { IsTournamentOf (entries_of unready_of processes.old.items) unready.old }
     requires marked { AreMarked marked.old.items processes.old.items }
     ensures count { length processes.new.items ≡ length processes.old.items }
     ensures forgotten { (k : ℕ) (d : _) → k < length processes.old.items → IsForgotten floor (slice_index_or processes.old.items k d) (slice_index_or processes.new.items k d) }
-    ensures entered { ready.new ≡ entries_of ready_of processes.new.items }
-    ensures unready { unready.new ≡ entries_of unready_of processes.new.items }
+    ensures entered { IsTournamentOf (entries_of ready_of processes.new.items) ready.new }
+    ensures unready { IsTournamentOf (entries_of unready_of processes.new.items) unready.new }
     ensures marked { AreMarked marked.new.items processes.new.items }
 {
     for place in 0..processes.len() {
-        let process = &mut processes[place];
-        forget_at(process, ready, unready, marked, spare, place, floor);
+        forget_at(processes, ready, unready, marked, spare, place, floor);
     }
 }
 
-/// A process forgets its past events before the floor. Where its mark says that it has none, it isn't looked at.
+/// The process at a place forgets its past events before the floor. Where its mark says that it has none, it isn't looked at.
 fn forget_at<M: EventModel>(
-    process: &mut Lp<M>,
+    processes: &mut Vec<Lp<M>>,
     ready: &mut Tournament,
     unready: &mut Tournament,
     marked: &mut Vec<bool>,
@@ -93,26 +93,27 @@ fn forget_at<M: EventModel>(
     place: usize,
     floor: Time,
 )
+    requires there { place < length processes.old.items }
     requires small { place < 2 ^ 32 }
-    requires in_ready { slice_get ready.old place ≡ Some (ready_of process.old) }
-    requires in_unready { slice_get unready.old place ≡ Some (unready_of process.old) }
-    requires unmarked { slice_get marked.old.items place ≡ Some false → process.old.past ≡ [] }
-    ensures forgotten { IsForgotten floor process.old process.new }
-    ensures ready { ready.new ≡ slice_set ready.old place (ready_of process.new) }
-    ensures unready { unready.new ≡ slice_set unready.old place (unready_of process.new) }
-    ensures others { (k : ℕ) → k ≢ place → slice_get marked.new.items k ≡ slice_get marked.old.items k }
-    ensures unmarked { slice_get marked.new.items place ≡ Some false → process.new.past ≡ [] }
+    requires entered { IsTournamentOf (entries_of ready_of processes.old.items) ready.old }
+    requires unready { IsTournamentOf (entries_of unready_of processes.old.items) unready.old }
+    requires marked { AreMarked marked.old.items processes.old.items }
+    ensures forgotten { HasForgotten floor place processes.old.items processes.new.items }
+    ensures entered { IsTournamentOf (entries_of ready_of processes.new.items) ready.new }
+    ensures unready { IsTournamentOf (entries_of unready_of processes.new.items) unready.new }
+    ensures marked { AreMarked marked.new.items processes.new.items }
 {
     if is_unmarked(marked, place) {
         return;
     }
-    forget_marked(process, ready, unready, marked, spare, place, floor);
-    mark(marked, place, process.has_past());
+    forget_marked(processes, ready, unready, marked, spare, place, floor);
+    let has_past = processes[place].has_past();
+    mark(marked, place, has_past);
 }
 
-/// A process forgets its past events before the floor, and enters the tournaments anew where there was one.
+/// The process at a place forgets its past events before the floor, and enters the tournaments anew where there was one.
 fn forget_marked<M: EventModel>(
-    process: &mut Lp<M>,
+    processes: &mut Vec<Lp<M>>,
     ready: &mut Tournament,
     unready: &mut Tournament,
     marked: &mut Vec<bool>,
@@ -120,15 +121,16 @@ fn forget_marked<M: EventModel>(
     place: usize,
     floor: Time,
 )
+    requires there { place < length processes.old.items }
     requires small { place < 2 ^ 32 }
-    requires in_ready { slice_get ready.old place ≡ Some (ready_of process.old) }
-    requires in_unready { slice_get unready.old place ≡ Some (unready_of process.old) }
-    ensures forgotten { IsForgotten floor process.old process.new }
-    ensures ready { ready.new ≡ slice_set ready.old place (ready_of process.new) }
-    ensures unready { unready.new ≡ slice_set unready.old place (unready_of process.new) }
+    requires entered { IsTournamentOf (entries_of ready_of processes.old.items) ready.old }
+    requires unready { IsTournamentOf (entries_of unready_of processes.old.items) unready.old }
+    ensures forgotten { HasForgotten floor place processes.old.items processes.new.items }
+    ensures entered { IsTournamentOf (entries_of ready_of processes.new.items) ready.new }
+    ensures unready { IsTournamentOf (entries_of unready_of processes.new.items) unready.new }
     ensures others { (k : ℕ) → k ≢ place → slice_get marked.new.items k ≡ slice_get marked.old.items k }
 {
-    if process.fossil_into(floor, spare) {
-        enter(ready, unready, marked, process, place);
+    if processes[place].fossil_into(floor, spare) {
+        enter(ready, unready, marked, processes, place);
     }
 }

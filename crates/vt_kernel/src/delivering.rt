@@ -53,7 +53,7 @@ impl<M: EventModel> Kernel<M> {
             &mut self.ready,
             &mut self.unready,
             &mut self.marked,
-            &self.processes[place],
+            &self.processes,
             place,
         );
         Ok(())
@@ -87,7 +87,7 @@ impl<M: EventModel> Kernel<M> {
             &mut self.ready,
             &mut self.unready,
             &mut self.marked,
-            &self.processes[place],
+            &self.processes,
             place,
         );
         Ok(())

@@ -7,6 +7,7 @@
 mod asking;
 mod choosing;
 mod committing;
+mod contestants;
 mod counts;
 mod cutting;
 mod delivering;

@@ -1,15 +1,17 @@
 //! Local steps at one process: Execute, Undo and Cancel.
 
-ghost use Rattle.std.specs.Prelude.{◌≡◌, ◌^◌, ◌%◌, ◌/◌, ◌<◌, ◌≤◌, IfSome, IfNone, IfOk, IfErr, None, true, length, slice_set};
+ghost use Rattle.std.specs.Prelude.{◌≡◌, ◌^◌, ◌%◌, ◌/◌, ◌<◌, ◌≤◌, IfSome, IfNone, IfOk, IfErr, None, true, length, slice_get, slice_set, Some};
 ghost use Rattle.vt_key.specs.declared.fault.Fault.TheVariants.{NotLawful};
 ghost use Rattle.vt_model.specs.Handler.{Handlers};
 ghost use Rattle.vt_model.specs.Simulation.{simulation_of};
 ghost use Rattle.vt_steps.specs.World.{Part};
 ghost use Rattle.vt_steps.specs.declared.step.Step.TheVariants as step;
-ghost use Rattle.vt_kernel.specs.Held.{StandsFor, ready_of, unready_of, other_rank, TellsLeast};
+ghost use Rattle.vt_tournament.specs.Contest.{IsTournamentOf, WasTournamentOf};
+ghost use Rattle.vt_kernel.specs.Held.{StandsFor, entries_of, ready_of, unready_of, other_rank, TellsLeast};
 ghost use Rattle.vt_kernel.specs.Local.{local_step};
 ghost use Rattle.vt_kernel.specs.Guards.{IsDone, AreWithinLimits, IsExecuteRefusal};
 
+use crate::contestants::{Teller, enter_ready, enter_unready, ready_at, unready_at};
 use crate::kernel::Kernel;
 use std::alloc::Global;
 use vt_key::{Fault, Rank, Stamp};
@@ -44,7 +46,7 @@ impl<M: EventModel> Kernel<M> {
             &mut self.ready,
             &mut self.unready,
             &mut self.marked,
-            &self.processes[place],
+            &self.processes,
             place,
         );
         result
@@ -69,7 +71,7 @@ impl<M: EventModel> Kernel<M> {
             &mut self.ready,
             &mut self.unready,
             &mut self.marked,
-            &self.processes[place],
+            &self.processes,
             place,
         );
         result
@@ -95,7 +97,7 @@ impl<M: EventModel> Kernel<M> {
             &mut self.ready,
             &mut self.unready,
             &mut self.marked,
-            &self.processes[place],
+            &self.processes,
             place,
         );
         Ok(())
@@ -113,26 +115,33 @@ pub(crate) fn place_of(config: Config, worker: u32, lp: u32) -> Option<usize>
     Some((lp / config.workers) as usize)
 }
 
-/// Enters a process that has changed into the tournaments again, and marks it: it may have past events.
+/// Enters the process at `place`, the only one that may have changed, into the tournaments again, and marks it: it may have
+/// past events.
 pub(crate) fn enter<M: EventModel>(
     ready: &mut Tournament,
     unready: &mut Tournament,
     marked: &mut Vec<bool>,
-    process: &Lp<M>,
+    processes: &[Lp<M>],
     place: usize,
 )
-    requires in_ready { place < length ready.old }
-    requires in_unready { place < length unready.old }
+    requires there { place < length processes.now }
     requires small { place < 2 ^ 32 }
-    ensures ready { ready.new ≡ slice_set ready.old place (ready_of process.now) }
-    ensures unready { unready.new ≡ slice_set unready.old place (unready_of process.now) }
+    requires in_ready { WasTournamentOf place (entries_of ready_of processes.now) ready.old }
+    requires in_unready { WasTournamentOf place (entries_of unready_of processes.now) unready.old }
+    ensures ready { IsTournamentOf (entries_of ready_of processes.now) ready.new }
+    ensures unready { IsTournamentOf (entries_of unready_of processes.now) unready.new }
     ensures marked { marked.new.items ≡ slice_set marked.old.items place true }
-    ensures told { TellsLeast process.now }
+    ensures told { (held : _) → slice_get processes.now place ≡ Some held → TellsLeast held }
 {
+    let process = &processes[place];
     let least = process.least_rank();
-    let rank = process.ready();
-    ready.set(place as u32, rank);
-    unready.set(place as u32, other_than(rank, least));
+    let own = process.ready();
+    let rank = other_than(own, least);
+    let number = place as u32;
+    let who_is_ready = Teller(|other| ready_at(processes, other));
+    enter_ready(ready, processes, number, own, who_is_ready);
+    let who_is_not = Teller(|other| unready_at(processes, other));
+    enter_unready(unready, processes, number, rank, who_is_not);
     mark(marked, place, true);
 }
 
@@ -146,7 +155,7 @@ pub(crate) fn mark(marked: &mut Vec<bool>, place: usize, value: bool)
 }
 
 /// The least rank, unless it is that of the event that is ready.
-fn other_than(ready: Option<Rank>, least: Option<Rank>) -> Option<Rank>
+pub(crate) fn other_than(ready: Option<Rank>, least: Option<Rank>) -> Option<Rank>
     ensures { result ≡ other_rank ready least }
 {
     match (ready, least) {

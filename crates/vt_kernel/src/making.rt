@@ -9,6 +9,7 @@ ghost use Rattle.vt_model.specs.declared.limits.TheConstants.{MAX_SENDS};
 ghost use Rattle.vt_steps.specs.Letters.{signed};
 ghost use Rattle.vt_steps.specs.World.{process_count, start_sends, start_events, opening_part};
 ghost use Rattle.vt_lp.specs.Held.{StandsFor as ProcessStandsFor, AllWithinRun, opening_process};
+ghost use Rattle.vt_tournament.specs.Contest.{IsTournamentOf};
 ghost use Rattle.vt_kernel.specs.Held.{StandsFor, AreProcesses, entries_of};
 
 use crate::counts::Counts;
@@ -134,7 +135,7 @@ fn start_all<M: EventModel>(
 /// A tournament for these processes, in which none takes part yet.
 fn tournament<M: EventModel>(alloc: Global, processes: &[Lp<M>]) -> Result<Tournament, Fault>
     requires few { length processes.now ≤ 2 ^ 31 }
-    ensures nobody { IfOk result (λ t. t ≡ entries_of (λ _. None) processes.now) }
+    ensures nobody { IfOk result (IsTournamentOf (entries_of (λ _. None) processes.now)) }
     ensures refused { IfErr result (λ fault. fault ≡ Memory) }
 {
     let count = processes.len();
@@ -155,7 +156,7 @@ fn all_marked(alloc: Global, count: usize) -> Result<Vec<bool>, Fault>
 }
 
 /// The number, or 1 in the place of 0: a tournament has one contestant at least.
-fn at_least_one(n: usize) -> usize
+pub(crate) fn at_least_one(n: usize) -> usize
     ensures { result ≡ max n 1 }
 {
     if n == 0 { 1 } else { n }

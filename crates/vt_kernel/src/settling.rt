@@ -30,7 +30,7 @@ impl<M: EventModel> Kernel<M> {
             &mut self.ready,
             &mut self.unready,
             &mut self.marked,
-            &self.processes[place],
+            &self.processes,
             place,
         );
     }

@@ -1,23 +1,71 @@
-use Rattle.std.proofs.Common.{◌≡◌, ◌∙◌, true, slice_get, slice_set, ap, sym}
+use Rattle.std.proofs.Common.{◌∙◌, true, List, slice_get, ap, sym, subst}
+use Rattle.vt_tournament.specs.Contest.{IsTournamentOf}
 use Rattle.vt_steps.proofs.Places.{get-put_other}
 use Rattle.vt_lp.specs.Held.{HeldProcess}
-use Rattle.vt_kernel.specs.Held.{ready_of, unready_of}
-use Rattle.vt_kernel.proofs.SettlingLemmas.{put-there}
+use Rattle.vt_kernel.specs.Held.{entries_of, ready_of, unready_of}
+use Rattle.vt_kernel.proofs.EnteringLemmas.{in-changed, was-entered}
+use Rattle.vt_kernel.proofs.CommitLemmas.{one-forgotten}
+use Rattle.vt_kernel.proofs.LocalLemmas.{index-get, written-same}
 use Rattle.vt_kernel.proofs.committing.forget_marked.Goals as goal
 
-pub returns-else-fossil_into-clause-ready : goal.returns-else-fossil_into-clause-ready
-returns-else-fossil_into-clause-ready g c =
-    let now = c.args.ready.now in
-    let same = c.fossil_into.ensures.unchanged c.if-fossil_into.false in
-    sym (put-there now c.args.place (ready_of c.args.process.now) c.requires.in_ready)
-    ∙ ap (λ (q : HeldProcess _ _ _). slice_set now c.args.place (ready_of q)) (sym same)
+pub enter-requires-clause-there : goal.enter-requires-clause-there
+enter-requires-clause-there g c κs within =
+    let old = c.args.processes.now.items in
+    let was : HeldProcess _ _ _ = c.index_mut.result.now in
+    let at = index-get old c.args.place was c.requires.there (sym c.index_mut.ensures.value) in
+    in-changed old c.deref.result.now c.args.place was c.fossil_into.new.self at c.deref.ensures.value
+
+pub enter-requires-clause-in_ready : goal.enter-requires-clause-in_ready
+enter-requires-clause-in_ready g c κs within =
+    let old = c.args.processes.now.items in
+    let was : HeldProcess _ _ _ = c.index_mut.result.now in
+    let at = index-get old c.args.place was c.requires.there (sym c.index_mut.ensures.value) in
+    was-entered ready_of old c.deref.result.now c.args.place was c.fossil_into.new.self c.args.ready.now at c.deref.ensures.value c.requires.entered
+
+pub enter-requires-clause-in_unready : goal.enter-requires-clause-in_unready
+enter-requires-clause-in_unready g c κs within =
+    let old = c.args.processes.now.items in
+    let was : HeldProcess _ _ _ = c.index_mut.result.now in
+    let at = index-get old c.args.place was c.requires.there (sym c.index_mut.ensures.value) in
+    was-entered unready_of old c.deref.result.now c.args.place was c.fossil_into.new.self c.args.unready.now at c.deref.ensures.value c.requires.unready
+
+pub returns-then-fossil_into-clause-forgotten : goal.returns-then-fossil_into-clause-forgotten
+returns-then-fossil_into-clause-forgotten g c =
+    let old = c.args.processes.now.items in
+    let was : HeldProcess _ _ _ = c.index_mut.result.now in
+    let at = index-get old c.args.place was c.requires.there (sym c.index_mut.ensures.value) in
+    let f = c.fossil_into.ensures in
+    one-forgotten c.args.floor old c.args.place was c.fossil_into.new.self at (record { committed = f.committed; lp = f.same.0; config = f.same.1; pending = f.same.3; waiting = f.same.4 })
+
+pub returns-else-fossil_into-clause-forgotten : goal.returns-else-fossil_into-clause-forgotten
+returns-else-fossil_into-clause-forgotten g c =
+    let old = c.args.processes.now.items in
+    let was : HeldProcess _ _ _ = c.index_mut.result.now in
+    let at = index-get old c.args.place was c.requires.there (sym c.index_mut.ensures.value) in
+    let f = c.fossil_into.ensures in
+    one-forgotten c.args.floor old c.args.place was c.fossil_into.new.self at (record { committed = f.committed; lp = f.same.0; config = f.same.1; pending = f.same.3; waiting = f.same.4 })
+
+pub returns-then-fossil_into-clause-entered : goal.returns-then-fossil_into-clause-entered
+returns-then-fossil_into-clause-entered g c = subst (λ (ps : List (HeldProcess _ _ _)). IsTournamentOf (entries_of ready_of ps) c.enter.new.ready) c.deref.ensures.value c.enter.ensures.ready
+
+pub returns-then-fossil_into-clause-unready : goal.returns-then-fossil_into-clause-unready
+returns-then-fossil_into-clause-unready g c = subst (λ (ps : List (HeldProcess _ _ _)). IsTournamentOf (entries_of unready_of ps) c.enter.new.unready) c.deref.ensures.value c.enter.ensures.unready
+
+pub returns-else-fossil_into-clause-entered : goal.returns-else-fossil_into-clause-entered
+returns-else-fossil_into-clause-entered g c =
+    let old = c.args.processes.now.items in
+    let was : HeldProcess _ _ _ = c.index_mut.result.now in
+    let at = index-get old c.args.place was c.requires.there (sym c.index_mut.ensures.value) in
+    let same = written-same old c.args.place was c.fossil_into.new.self at (c.fossil_into.ensures.unchanged c.if-fossil_into.false) in
+    subst (λ (ps : List (HeldProcess _ _ _)). IsTournamentOf (entries_of ready_of ps) c.args.ready.now) (sym same) c.requires.entered
 
 pub returns-else-fossil_into-clause-unready : goal.returns-else-fossil_into-clause-unready
 returns-else-fossil_into-clause-unready g c =
-    let now = c.args.unready.now in
-    let same = c.fossil_into.ensures.unchanged c.if-fossil_into.false in
-    sym (put-there now c.args.place (unready_of c.args.process.now) c.requires.in_unready)
-    ∙ ap (λ (q : HeldProcess _ _ _). slice_set now c.args.place (unready_of q)) (sym same)
+    let old = c.args.processes.now.items in
+    let was : HeldProcess _ _ _ = c.index_mut.result.now in
+    let at = index-get old c.args.place was c.requires.there (sym c.index_mut.ensures.value) in
+    let same = written-same old c.args.place was c.fossil_into.new.self at (c.fossil_into.ensures.unchanged c.if-fossil_into.false) in
+    subst (λ (ps : List (HeldProcess _ _ _)). IsTournamentOf (entries_of unready_of ps) c.args.unready.now) (sym same) c.requires.unready
 
 pub returns-then-fossil_into-clause-others : goal.returns-then-fossil_into-clause-others
 returns-then-fossil_into-clause-others g c k other = ap (λ bs. slice_get bs k) c.enter.ensures.marked ∙ get-put_other c.args.marked.now.items c.args.place k true other

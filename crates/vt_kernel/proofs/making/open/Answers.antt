@@ -1,8 +1,10 @@
-use Rattle.std.proofs.Common.{◌≡◌, ◌∙◌, ◌≤◌, ◌+◌, ◌-◌, List, None, length, slice_get, refl, sym, ap, subst, arith}
+use Rattle.std.proofs.Common.{◌≡◌, ◌∙◌, ◌≤◌, ◌+◌, ◌-◌, List, Option, None, length, slice_get, refl, sym, ap, subst, arith}
 use Rattle.std.proofs.lemmas.List.Elements.{All-nil}
 use Rattle.std.proofs.Math.Nat.{div-le_self}
 use Rattle.vt_key.specs.declared.limits.TheConstants.{MAX_COUNT}
+use Rattle.vt_key.specs.declared.order.Rank.{Rank}
 use Rattle.vt_steps.specs.Letters.{Counts}
+use Rattle.vt_tournament.specs.Contest.{IsTournamentOf}
 use Rattle.vt_lp.specs.Held.{HeldProcess}
 use Rattle.vt_kernel.specs.Held.{AllOwnMail, IsOwnMail, AreCounted, entries_of}
 use Rattle.vt_kernel.proofs.MakeLemmas.{ready-opening, unready-opening, tells-opening, stand-opening, all-marked}
@@ -43,8 +45,10 @@ invariant_of-result g c =
       few_sent = none_counted c.new-2.result c.new-2.ensures;
       few_got = none_counted c.new-3.result c.new-3.ensures;
       few_made = few;
-      ready_entered = c.in_ok-ready.ensures.nobody ∙ ap (λ (xs : List (HeldProcess _ _ _)). entries_of (λ (x : HeldProcess _ _ _). None) xs) c.deref.ensures.value ∙ sym (ready-opening handlers items made.started);
-      unready_entered = c.in_ok-unready.ensures.nobody ∙ ap (λ (xs : List (HeldProcess _ _ _)). entries_of (λ (x : HeldProcess _ _ _). None) xs) c.deref-2.ensures.value ∙ sym (unready-opening handlers items made.started);
+      ready_entered = subst (λ (es : List (Option Rank)). IsTournamentOf es c.in_ok-ready.ready)
+          (ap (λ (xs : List (HeldProcess _ _ _)). entries_of (λ (x : HeldProcess _ _ _). None) xs) c.deref.ensures.value ∙ sym (ready-opening handlers items made.started)) c.in_ok-ready.ensures.nobody;
+      unready_entered = subst (λ (es : List (Option Rank)). IsTournamentOf es c.in_ok-unready.unready)
+          (ap (λ (xs : List (HeldProcess _ _ _)). entries_of (λ (x : HeldProcess _ _ _). None) xs) c.deref-2.ensures.value ∙ sym (unready-opening handlers items made.started)) c.in_ok-unready.ensures.nobody;
       least_told = tells-opening handlers items made.started;
       past_marked = λ place held at there. absurd (all-marked _ place (ap (λ bs. slice_get bs place) (sym c.in_ok-marked.ensures.marked) ∙ at));
     }

@@ -11,11 +11,12 @@ use Rattle.vt_steps.specs.ProcessSteps.{accept_process}
 use Rattle.vt_steps.specs.declared.step.Step.TheVariants as step
 use Rattle.vt_lp.specs.Held.{HeldProcess}
 use Rattle.vt_lp.specs.Guards.{holds_letter, IsDone as ProcessIsDone}
-use Rattle.vt_kernel.specs.Held.{HeldWorker, IsOwnMail, AllOwnMail, StandsFor, TellsLeast, ready_of, unready_of}
+use Rattle.vt_kernel.specs.Held.{HeldWorker, IsOwnMail, AllOwnMail, StandsFor, ready_of, unready_of}
 use Rattle.vt_kernel.specs.Local.{local_step}
 use Rattle.vt_kernel.specs.Guards.{IsDone, IsAcceptRefusal}
 use Rattle.vt_kernel.proofs.ProcessLemmas.{process-at}
-use Rattle.vt_kernel.proofs.LocalLemmas.{worker_view, index-get, place-within, in-entries, inside-changed, found-again, entered}
+use Rattle.vt_kernel.proofs.EnteringLemmas.{in-changed, was-entered}
+use Rattle.vt_kernel.proofs.LocalLemmas.{worker_view, index-get, place-within, inside-changed}
 use Rattle.vt_kernel.proofs.InsideLemmas.{inside-arrived}
 use Rattle.vt_kernel.proofs.DeliveryLemmas.{accept-done, accept-refused, accept-lawful, one-letter, held-refused, get-all, removed-all}
 use Rattle.vt_kernel.proofs.kernel.Kernel.accept.Goals as goal
@@ -137,8 +138,8 @@ deliver-requires-clause-new g c κs within =
     subst (λ (l : Letter _). holds_letter old.pending old.waiting old.past l.sign l.event.rank ≡ false) (sym made)
     (subst (λ (x : HeldProcess _ _ _). holds_letter x.pending x.waiting x.past letter.sign letter.event.rank ≡ false) same (sym c.holds.ensures ∙ c.if-holds.false))
 
-pub index-requires-2 : goal.index-requires-2
-index-requires-2 g c =
+pub enter-requires-clause-there : goal.enter-requires-clause-there
+enter-requires-clause-there g c κs within =
     let i = c.self.inside in
     let mail = c.in-Some.mail.now in
     let letter = mail.letter in
@@ -148,7 +149,9 @@ index-requires-2 g c =
     let there = index-get i.arrived.items c.args.i mail inside (sym (lookup.1 ∙ ap (λ (l : List (Mail _)). slice_index_or l c.args.i mail) c.deref.ensures.value)) in
     let own = get-all (IsOwnMail i.config i.worker) i.arrived.items c.args.i mail c.self.invariant.own_mail there in
     let less = place-within c.self.invariant letter.event.dest place i.config.some_worker refl own.own own.within.known in
-    search (rules, less)
+    let old = c.index_mut.result.now in
+    let at = index-get i.processes.items place old less (sym c.index_mut.ensures.value) in
+    in-changed i.processes.items c.deref-2.result.now place old c.deliver.new.process at c.deref-2.ensures.value
 
 pub enter-requires-clause-in_ready : goal.enter-requires-clause-in_ready
 enter-requires-clause-in_ready g c κs within =
@@ -161,7 +164,9 @@ enter-requires-clause-in_ready g c κs within =
     let there = index-get i.arrived.items c.args.i mail inside (sym (lookup.1 ∙ ap (λ (l : List (Mail _)). slice_index_or l c.args.i mail) c.deref.ensures.value)) in
     let own = get-all (IsOwnMail i.config i.worker) i.arrived.items c.args.i mail c.self.invariant.own_mail there in
     let less = place-within c.self.invariant letter.event.dest place i.config.some_worker refl own.own own.within.known in
-    in-entries c.self.invariant ready_of place i.ready c.self.invariant.ready_entered less
+    let old = c.index_mut.result.now in
+    let at = index-get i.processes.items place old less (sym c.index_mut.ensures.value) in
+    was-entered ready_of i.processes.items c.deref-2.result.now place old c.deliver.new.process i.ready at c.deref-2.ensures.value c.self.invariant.ready_entered
 
 pub enter-requires-clause-in_unready : goal.enter-requires-clause-in_unready
 enter-requires-clause-in_unready g c κs within =
@@ -174,7 +179,9 @@ enter-requires-clause-in_unready g c κs within =
     let there = index-get i.arrived.items c.args.i mail inside (sym (lookup.1 ∙ ap (λ (l : List (Mail _)). slice_index_or l c.args.i mail) c.deref.ensures.value)) in
     let own = get-all (IsOwnMail i.config i.worker) i.arrived.items c.args.i mail c.self.invariant.own_mail there in
     let less = place-within c.self.invariant letter.event.dest place i.config.some_worker refl own.own own.within.known in
-    in-entries c.self.invariant unready_of place i.unready c.self.invariant.unready_entered less
+    let old = c.index_mut.result.now in
+    let at = index-get i.processes.items place old less (sym c.index_mut.ensures.value) in
+    was-entered unready_of i.processes.items c.deref-2.result.now place old c.deliver.new.process i.unready at c.deref-2.ensures.value c.self.invariant.unready_entered
 
 pub invariant_of-self : goal.invariant_of-self
 invariant_of-self g c =
@@ -192,12 +199,11 @@ invariant_of-self g c =
     let at = index-get i.processes.items place old less (sym c.index_mut.ensures.value) in
     let who = process-at i.config i.worker 0 place i.processes.items old c.self.invariant.own_processes at in
     let new = c.deliver.new.process in
-    let again : c.index-2.result.now ≡ new = found-again i.processes.items place old new c.index-2.result.now at c.index-2.ensures in
     let rest = removed-all (IsOwnMail i.config i.worker) i.arrived.items c.args.i c.self.invariant.own_mail in
     inside-arrived c.remove.new.self.items i.got (subst (λ (ms : List (Mail _)). AllOwnMail i.config i.worker ms) (sym c.remove.ensures.items) rest) c.self.invariant.few_got
-    (entered i.ready i.unready i.marked.items place new c.index-2.result.now c.enter.new.ready c.enter.new.unready c.enter.new.marked.items again c.enter.ensures.ready c.enter.ensures.unready c.enter.ensures.marked
-    (inside-changed c.self.invariant place old new i.outbox i.serial at c.deliver.ensures.same.0 c.deliver.ensures.same.1 (subst (λ (q : HeldProcess _ _ _). TellsLeast q) again c.enter.ensures.told)
-    c.self.invariant.sendable c.self.invariant.few_made))
+    (inside-changed c.self.invariant place old new i.outbox i.serial c.deref-2.result.now c.enter.new.ready c.enter.new.unready c.enter.new.marked.items at c.deliver.ensures.same.0 c.deliver.ensures.same.1 c.deref-2.ensures.value
+    c.enter.ensures.ready c.enter.ensures.unready c.enter.ensures.marked c.enter.ensures.told
+    c.self.invariant.sendable c.self.invariant.few_made)
 
 pub returns-clause-done : goal.returns-clause-done
 returns-clause-done g c handlers part s =

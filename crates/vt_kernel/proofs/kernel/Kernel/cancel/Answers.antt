@@ -3,10 +3,11 @@ use Rattle.vt_model.specs.Simulation.{simulation_of}
 use Rattle.vt_steps.specs.ProcessSteps.{cancel_process}
 use Rattle.vt_steps.specs.declared.step.Step.TheVariants as step
 use Rattle.vt_lp.specs.Held.{HeldProcess}
-use Rattle.vt_kernel.specs.Held.{HeldWorker, IsWorkerInside, StandsFor, TellsLeast, ready_of, unready_of}
+use Rattle.vt_kernel.specs.Held.{HeldWorker, IsWorkerInside, StandsFor, ready_of, unready_of}
 use Rattle.vt_kernel.specs.Local.{local_step}
 use Rattle.vt_kernel.specs.Guards.{IsDone}
-use Rattle.vt_kernel.proofs.LocalLemmas.{worker_view, index-get, place-within, in-entries, inside-changed, unknown-refused, changed-done, changed-refused, plain-done, found-again, written-same, entered}
+use Rattle.vt_kernel.proofs.EnteringLemmas.{in-changed, was-entered}
+use Rattle.vt_kernel.proofs.LocalLemmas.{worker_view, index-get, place-within, inside-changed, unknown-refused, changed-done, changed-refused, plain-done, written-same}
 use Rattle.vt_kernel.proofs.kernel.Kernel.cancel.Goals as goal
 
 pub returns-in_default-clause-refused : goal.returns-in_default-clause-refused
@@ -43,25 +44,32 @@ returns-in-Err-clause-refused g c handlers part s =
     (changed-refused handlers held c.self.invariant.own_processes part (subst (λ (v : HeldWorker _ _ _). StandsFor handlers v part) (sym c.self.view_is) s)
     c.args.lp c.in-Some.place c.index_mut.result.now (cancel_process c.args.stamp) own.0 own.1 at (λ process st. c.in-Err.ensures.refused handlers process st))
 
-pub index-requires : goal.index-requires
-index-requires g c =
+pub enter-requires-clause-there : goal.enter-requires-clause-there
+enter-requires-clause-there g c κs within =
+    let i = c.self.inside in
     let own = c.in-Some.ensures.own in
-    let less = place-within c.self.invariant c.args.lp c.in-Some.place c.self.inside.config.some_worker own.0 own.1 own.2 in
-    search (rules, less)
+    let less = place-within c.self.invariant c.args.lp c.in-Some.place i.config.some_worker own.0 own.1 own.2 in
+    let old = c.index_mut.result.now in
+    let at = index-get i.processes.items c.in-Some.place old less (sym c.index_mut.ensures.value) in
+    in-changed i.processes.items c.deref.result.now c.in-Some.place old c.cancel.new.self at c.deref.ensures.value
 
 pub enter-requires-clause-in_ready : goal.enter-requires-clause-in_ready
 enter-requires-clause-in_ready g c κs within =
     let i = c.self.inside in
     let own = c.in-Some.ensures.own in
     let less = place-within c.self.invariant c.args.lp c.in-Some.place i.config.some_worker own.0 own.1 own.2 in
-    in-entries c.self.invariant ready_of c.in-Some.place i.ready c.self.invariant.ready_entered less
+    let old = c.index_mut.result.now in
+    let at = index-get i.processes.items c.in-Some.place old less (sym c.index_mut.ensures.value) in
+    was-entered ready_of i.processes.items c.deref.result.now c.in-Some.place old c.cancel.new.self i.ready at c.deref.ensures.value c.self.invariant.ready_entered
 
 pub enter-requires-clause-in_unready : goal.enter-requires-clause-in_unready
 enter-requires-clause-in_unready g c κs within =
     let i = c.self.inside in
     let own = c.in-Some.ensures.own in
     let less = place-within c.self.invariant c.args.lp c.in-Some.place i.config.some_worker own.0 own.1 own.2 in
-    in-entries c.self.invariant unready_of c.in-Some.place i.unready c.self.invariant.unready_entered less
+    let old = c.index_mut.result.now in
+    let at = index-get i.processes.items c.in-Some.place old less (sym c.index_mut.ensures.value) in
+    was-entered unready_of i.processes.items c.deref.result.now c.in-Some.place old c.cancel.new.self i.unready at c.deref.ensures.value c.self.invariant.unready_entered
 
 pub invariant_of-self-2 : goal.invariant_of-self-2
 invariant_of-self-2 g c =
@@ -71,10 +79,9 @@ invariant_of-self-2 g c =
     let old = c.index_mut.result.now in
     let new = c.cancel.new.self in
     let at = index-get i.processes.items c.in-Some.place old less (sym c.index_mut.ensures.value) in
-    let again : c.index.result.now ≡ new = found-again i.processes.items c.in-Some.place old new c.index.result.now at c.index.ensures in
     let same = c.in_default-cancel.ensures.same in
-    entered i.ready i.unready i.marked.items c.in-Some.place new c.index.result.now c.enter.new.ready c.enter.new.unready c.enter.new.marked.items again c.enter.ensures.ready c.enter.ensures.unready c.enter.ensures.marked
-    (inside-changed c.self.invariant c.in-Some.place old new i.outbox i.serial at same.0 same.1 (subst (λ (q : HeldProcess _ _ _). TellsLeast q) again c.enter.ensures.told) c.self.invariant.sendable c.self.invariant.few_made)
+    inside-changed c.self.invariant c.in-Some.place old new i.outbox i.serial c.deref.result.now c.enter.new.ready c.enter.new.unready c.enter.new.marked.items at same.0 same.1 c.deref.ensures.value
+    c.enter.ensures.ready c.enter.ensures.unready c.enter.ensures.marked c.enter.ensures.told c.self.invariant.sendable c.self.invariant.few_made
 
 pub returns-clause-done : goal.returns-clause-done
 returns-clause-done g c handlers part s =

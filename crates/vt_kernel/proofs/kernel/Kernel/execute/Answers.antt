@@ -6,14 +6,15 @@ use Rattle.vt_model.specs.Simulation.{simulation_of}
 use Rattle.vt_steps.specs.ProcessSteps.{execute_process}
 use Rattle.vt_steps.specs.declared.step.Step.TheVariants as step
 use Rattle.vt_steps.proofs.Places.{get-put_same}
-use Rattle.vt_lp.specs.Held.{HeldProcess, AllWithinRun}
+use Rattle.vt_lp.specs.Held.{AllWithinRun}
 use Rattle.vt_lp.specs.Guards.{IsDone as ProcessIsDone, IsExecuteRefusal as ProcessRefusal}
-use Rattle.vt_kernel.specs.Held.{HeldWorker, StandsFor, TellsLeast, ready_of, unready_of}
+use Rattle.vt_kernel.specs.Held.{HeldWorker, StandsFor, ready_of, unready_of}
 use Rattle.vt_kernel.specs.Local.{local_step}
 use Rattle.vt_kernel.specs.Guards.{IsDone, AreWithinLimits, IsExecuteRefusal}
 use Rattle.vt_kernel.proofs.ProcessLemmas.{process-at, processes-changed}
 use Rattle.vt_kernel.proofs.OwnSteps.{found, within-limits, same-execute, refusal-at, own-step}
-use Rattle.vt_kernel.proofs.LocalLemmas.{worker_view, index-get, place-within, in-entries, inside-changed, unknown-refused, found-again, written-same, entered, if_ok-more, if_err-more, either-way, at-found-done, execute-step, both-errors}
+use Rattle.vt_kernel.proofs.EnteringLemmas.{in-changed, was-entered}
+use Rattle.vt_kernel.proofs.LocalLemmas.{worker_view, index-get, place-within, inside-changed, unknown-refused, written-same, if_ok-more, if_err-more, either-way, at-found-done, execute-step, both-errors}
 use Rattle.vt_kernel.proofs.kernel.Kernel.execute.Goals as goal
 
 pub index_mut-requires : goal.index_mut-requires
@@ -22,25 +23,32 @@ index_mut-requires g c =
     let less = place-within c.self.invariant c.args.lp c.in-Some.place c.self.inside.config.some_worker own.0 own.1 own.2 in
     search (rules, less)
 
-pub index-requires : goal.index-requires
-index-requires g c =
+pub enter-requires-clause-there : goal.enter-requires-clause-there
+enter-requires-clause-there g c κs within =
+    let i = c.self.inside in
     let own = c.in-Some.ensures.own in
-    let less = place-within c.self.invariant c.args.lp c.in-Some.place c.self.inside.config.some_worker own.0 own.1 own.2 in
-    search (rules, less)
+    let less = place-within c.self.invariant c.args.lp c.in-Some.place i.config.some_worker own.0 own.1 own.2 in
+    let old = c.index_mut.result.now in
+    let at = index-get i.processes.items c.in-Some.place old less (sym c.index_mut.ensures.value) in
+    in-changed i.processes.items c.deref.result.now c.in-Some.place old c.execute_reusing-result.new.self at c.deref.ensures.value
 
 pub enter-requires-clause-in_ready : goal.enter-requires-clause-in_ready
 enter-requires-clause-in_ready g c κs within =
     let i = c.self.inside in
     let own = c.in-Some.ensures.own in
     let less = place-within c.self.invariant c.args.lp c.in-Some.place i.config.some_worker own.0 own.1 own.2 in
-    in-entries c.self.invariant ready_of c.in-Some.place i.ready c.self.invariant.ready_entered less
+    let old = c.index_mut.result.now in
+    let at = index-get i.processes.items c.in-Some.place old less (sym c.index_mut.ensures.value) in
+    was-entered ready_of i.processes.items c.deref.result.now c.in-Some.place old c.execute_reusing-result.new.self i.ready at c.deref.ensures.value c.self.invariant.ready_entered
 
 pub enter-requires-clause-in_unready : goal.enter-requires-clause-in_unready
 enter-requires-clause-in_unready g c κs within =
     let i = c.self.inside in
     let own = c.in-Some.ensures.own in
     let less = place-within c.self.invariant c.args.lp c.in-Some.place i.config.some_worker own.0 own.1 own.2 in
-    in-entries c.self.invariant unready_of c.in-Some.place i.unready c.self.invariant.unready_entered less
+    let old = c.index_mut.result.now in
+    let at = index-get i.processes.items c.in-Some.place old less (sym c.index_mut.ensures.value) in
+    was-entered unready_of i.processes.items c.deref.result.now c.in-Some.place old c.execute_reusing-result.new.self i.unready at c.deref.ensures.value c.self.invariant.unready_entered
 
 pub returns-in_default-clause-refused : goal.returns-in_default-clause-refused
 returns-in_default-clause-refused g c part s =
@@ -61,12 +69,11 @@ invariant_of-self g c =
     let new = c.execute_reusing-result.new.self in
     let at = index-get i.processes.items c.in-Some.place old less (sym c.index_mut.ensures.value) in
     let f = process-at i.config i.worker 0 c.in-Some.place i.processes.items old c.self.invariant.own_processes at in
-    let again : c.index.result.now ≡ new = found-again i.processes.items c.in-Some.place old new c.index.result.now at c.index.ensures in
     let same = c.execute_reusing-result.ensures.same in
     let within = subst (λ (k : Config). AllWithinRun k i.outbox → AllWithinRun k c.execute_reusing-result.new.outbox) f.1 c.execute_reusing-result.ensures.within in
     let few : c.execute_reusing-result.new.serial ≤ MAX_COUNT = either-way c.execute_reusing-result.result (λ _ counted. counted.1) (λ _ kept. subst (λ n. n ≤ MAX_COUNT) (sym kept.1) c.self.invariant.few_made) c.execute_reusing-result.ensures.counted c.execute_reusing-result.ensures.kept in
-    entered i.ready i.unready i.marked.items c.in-Some.place new c.index.result.now c.enter.new.ready c.enter.new.unready c.enter.new.marked.items again c.enter.ensures.ready c.enter.ensures.unready c.enter.ensures.marked
-    (inside-changed c.self.invariant c.in-Some.place old new c.execute_reusing-result.new.outbox c.execute_reusing-result.new.serial at same.0 same.1 (subst (λ (q : HeldProcess _ _ _). TellsLeast q) again c.enter.ensures.told) (within c.self.invariant.sendable) few)
+    inside-changed c.self.invariant c.in-Some.place old new c.execute_reusing-result.new.outbox c.execute_reusing-result.new.serial c.deref.result.now c.enter.new.ready c.enter.new.unready c.enter.new.marked.items at same.0 same.1 c.deref.ensures.value
+    c.enter.ensures.ready c.enter.ensures.unready c.enter.ensures.marked c.enter.ensures.told (within c.self.invariant.sendable) few
 
 pub returns-clause-done : goal.returns-clause-done
 returns-clause-done g c part s =

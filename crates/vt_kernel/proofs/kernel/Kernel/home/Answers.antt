@@ -9,11 +9,12 @@ use Rattle.vt_lp.specs.Held.{HeldProcess, AllWithinRun, IsWithinRun}
 use Rattle.std.proofs.Math.Nat.{div-add-mod'}
 use Rattle.vt_steps.specs.ProcessSteps.{accept_process}
 use Rattle.vt_lp.specs.Guards.{holds_letter, IsDone as ProcessIsDone}
-use Rattle.vt_kernel.specs.Held.{HeldWorker, StandsFor, TellsLeast, ready_of, unready_of}
+use Rattle.vt_kernel.specs.Held.{HeldWorker, StandsFor, ready_of, unready_of}
 use Rattle.vt_kernel.specs.Local.{local_step}
 use Rattle.vt_kernel.specs.Guards.{IsDone}
 use Rattle.vt_kernel.proofs.ProcessLemmas.{process-at}
-use Rattle.vt_kernel.proofs.LocalLemmas.{worker_view, index-get, place-within, in-entries, inside-changed, found-again, entered}
+use Rattle.vt_kernel.proofs.EnteringLemmas.{in-changed, was-entered}
+use Rattle.vt_kernel.proofs.LocalLemmas.{worker_view, index-get, place-within, inside-changed}
 use Rattle.vt_kernel.proofs.DeliveryLemmas.{without-all, home-done, home-refused, found-in, one-letter, held-refused}
 use Rattle.vt_kernel.proofs.kernel.Kernel.home.Goals as goal
 
@@ -92,14 +93,16 @@ deliver-requires-clause-new g c κs within =
     subst (λ (l : Letter _). holds_letter old.pending old.waiting old.past l.sign l.event.rank ≡ false) taken
     (subst (λ (x : HeldProcess _ _ _). holds_letter x.pending x.waiting x.past letter.sign letter.event.rank ≡ false) same (sym c.holds.ensures ∙ c.if-holds.false))
 
-pub index-requires-2 : goal.index-requires-2
-index-requires-2 g c =
+pub enter-requires-clause-there : goal.enter-requires-clause-there
+enter-requires-clause-there g c κs within =
     let i = c.self.inside in
     let letter = c.in-Some.letter.now in
     let place = letter.event.dest / i.config.workers in
     let own = found-in c.self.invariant letter (sym c.in-Some.ensures) in
     let less = place-within c.self.invariant letter.event.dest place i.config.some_worker refl own.0 own.1.known in
-    search (rules, less)
+    let old = c.index_mut.result.now in
+    let at = index-get i.processes.items place old less (sym c.index_mut.ensures.value) in
+    in-changed i.processes.items c.deref.result.now place old c.deliver.new.process at c.deref.ensures.value
 
 pub enter-requires-clause-in_ready : goal.enter-requires-clause-in_ready
 enter-requires-clause-in_ready g c κs within =
@@ -108,7 +111,9 @@ enter-requires-clause-in_ready g c κs within =
     let place = letter.event.dest / i.config.workers in
     let own = found-in c.self.invariant letter (sym c.in-Some.ensures) in
     let less = place-within c.self.invariant letter.event.dest place i.config.some_worker refl own.0 own.1.known in
-    in-entries c.self.invariant ready_of place i.ready c.self.invariant.ready_entered less
+    let old = c.index_mut.result.now in
+    let at = index-get i.processes.items place old less (sym c.index_mut.ensures.value) in
+    was-entered ready_of i.processes.items c.deref.result.now place old c.deliver.new.process i.ready at c.deref.ensures.value c.self.invariant.ready_entered
 
 pub enter-requires-clause-in_unready : goal.enter-requires-clause-in_unready
 enter-requires-clause-in_unready g c κs within =
@@ -117,7 +122,9 @@ enter-requires-clause-in_unready g c κs within =
     let place = letter.event.dest / i.config.workers in
     let own = found-in c.self.invariant letter (sym c.in-Some.ensures) in
     let less = place-within c.self.invariant letter.event.dest place i.config.some_worker refl own.0 own.1.known in
-    in-entries c.self.invariant unready_of place i.unready c.self.invariant.unready_entered less
+    let old = c.index_mut.result.now in
+    let at = index-get i.processes.items place old less (sym c.index_mut.ensures.value) in
+    was-entered unready_of i.processes.items c.deref.result.now place old c.deliver.new.process i.unready at c.deref.ensures.value c.self.invariant.unready_entered
 
 pub invariant_of-self-2 : goal.invariant_of-self-2
 invariant_of-self-2 g c =
@@ -131,11 +138,10 @@ invariant_of-self-2 g c =
     let at = index-get i.processes.items place old less (sym c.index_mut.ensures.value) in
     let who = process-at i.config i.worker 0 place i.processes.items old c.self.invariant.own_processes at in
     let new = c.deliver.new.process in
-    let again : c.index-2.result.now ≡ new = found-again i.processes.items place old new c.index-2.result.now at c.index-2.ensures in
     let within = without-all (IsWithinRun i.config.lps i.config.end) (λ (l : Letter _). nat_eq (l.event.dest % i.config.workers) i.worker) i.outbox c.self.invariant.sendable in
-    entered i.ready i.unready i.marked.items place new c.index-2.result.now c.enter.new.ready c.enter.new.unready c.enter.new.marked.items again c.enter.ensures.ready c.enter.ensures.unready c.enter.ensures.marked
-    (inside-changed c.self.invariant place old new c.remove_first.new.self i.serial at c.deliver.ensures.same.0 c.deliver.ensures.same.1 (subst (λ (q : HeldProcess _ _ _). TellsLeast q) again c.enter.ensures.told)
-    (subst (λ (ls : List (Letter _)). AllWithinRun i.config ls) (sym c.remove_first.ensures.others) within) c.self.invariant.few_made)
+    inside-changed c.self.invariant place old new c.remove_first.new.self i.serial c.deref.result.now c.enter.new.ready c.enter.new.unready c.enter.new.marked.items at c.deliver.ensures.same.0 c.deliver.ensures.same.1 c.deref.ensures.value
+    c.enter.ensures.ready c.enter.ensures.unready c.enter.ensures.marked c.enter.ensures.told
+    (subst (λ (ls : List (Letter _)). AllWithinRun i.config ls) (sym c.remove_first.ensures.others) within) c.self.invariant.few_made
 
 pub returns-clause-done : goal.returns-clause-done
 returns-clause-done g c handlers part s =

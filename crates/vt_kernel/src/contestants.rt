@@ -1,0 +1,166 @@
+//! A worker's processes as the contestants of its two tournaments.
+
+ghost use Rattle.std.specs.Prelude.{◌≡◌, ℕ, ◌<◌, length, List, Option, None, slice_index_or};
+ghost use Rattle.vt_key.specs.declared.order.Rank.{Rank as RankValue};
+ghost use Rattle.vt_tournament.specs.Contest.{IsTournamentOf, WasTournamentOf};
+ghost use Rattle.vt_lp.specs.Held.{HeldProcess};
+ghost use Rattle.vt_kernel.specs.Held.{entries_of, ready_of, unready_of};
+ghost use Rattle.vt_kernel.specs.Entered.{AreTold};
+
+use crate::local::other_than;
+use crate::making::at_least_one;
+use std::marker::Model;
+use vt_key::Rank;
+use vt_lp::Lp;
+use vt_model::Model as EventModel;
+use vt_tournament::{Contestants, Tournament};
+
+/// What tells the rank of a process.
+pub(crate) trait Tells {
+    /// It may be asked for the process of this place.
+    ghost may: { Self → ℕ → Type 0 };
+
+    /// It tells this of the process of this place.
+    ghost gives: { Self → ℕ → Option RankValue → Type 0 };
+
+    fn tell(&self, place: u32) -> Option<Rank>
+        requires { may self.now place }
+        ensures { gives self.now place result };
+}
+
+/// A closure that tells the rank of a process.
+#[derive(Drop)]
+pub(crate) struct Teller<F>(pub(crate) F);
+
+impl<F: Fn(u32) -> Option<Rank>> Tells for Teller<F> {
+    ghost may = { λ t place. F.pre t.0 place };
+
+    ghost gives = { λ t place rank. F.post t.0 place rank };
+
+    fn tell(&self, place: u32) -> Option<Rank> {
+        (self.0)(place)
+    }
+}
+
+/// The processes as contestants of who is ready. The rank of one is at hand, and those of the others are told.
+#[derive(Drop)]
+struct Ready<'a, M: EventModel, T: Tells> {
+    processes: &'a [Lp<M>],
+    place: u32,
+    rank: Option<Rank>,
+    others: T,
+}
+
+impl<'a, M: EventModel, T: Tells> Model for Ready<'a, M, T> {
+    ghost Value = { List (HeldProcess M.State M.Payload M.Kept) };
+
+    ghost view = { λ t. t.processes.now };
+
+    ghost invariant = { λ t. AreTold (entries_of ready_of t.processes.now) t.place t.rank (T.may t.others) (T.gives t.others) };
+}
+
+impl<'a, M: EventModel, T: Tells> Contestants for Ready<'a, M, T> {
+    ghost entries = { λ processes. entries_of ready_of processes };
+
+    fn count(&self) -> usize {
+        at_least_one(self.processes.len())
+    }
+
+    fn rank(&self, number: u32) -> Option<Rank> {
+        if number == self.place {
+            return self.rank;
+        }
+        self.others.tell(number)
+    }
+}
+
+/// Enters the process of a place, the only one that may have changed, into the tournament of who is ready. Its rank is at hand.
+pub(crate) fn enter_ready<M: EventModel, T: Tells + Drop>(
+    tournament: &mut Tournament,
+    processes: &[Lp<M>],
+    place: u32,
+    rank: Option<Rank>,
+    others: T,
+)
+    requires there { place < length processes.now }
+    requires told { AreTold (entries_of ready_of processes.now) place rank (T.may others) (T.gives others) }
+    requires was { WasTournamentOf place (entries_of ready_of processes.now) tournament.old }
+    ensures { IsTournamentOf (entries_of ready_of processes.now) tournament.new }
+{
+    let contestants = Ready {
+        processes,
+        place,
+        rank,
+        others,
+    };
+    tournament.set(place, &contestants);
+}
+
+/// The rank of the event that the process of a place may execute; None where there is none, and where no process is.
+pub(crate) fn ready_at<M: EventModel>(processes: &[Lp<M>], place: u32) -> Option<Rank>
+    ensures { result ≡ slice_index_or (entries_of ready_of processes.now) place None }
+{
+    processes.get(place as usize)?.ready()
+}
+
+/// The processes as contestants of who is not ready. The rank of one is at hand, and those of the others are told.
+#[derive(Drop)]
+struct Unready<'a, M: EventModel, T: Tells> {
+    processes: &'a [Lp<M>],
+    place: u32,
+    rank: Option<Rank>,
+    others: T,
+}
+
+impl<'a, M: EventModel, T: Tells> Model for Unready<'a, M, T> {
+    ghost Value = { List (HeldProcess M.State M.Payload M.Kept) };
+
+    ghost view = { λ t. t.processes.now };
+
+    ghost invariant = { λ t. AreTold (entries_of unready_of t.processes.now) t.place t.rank (T.may t.others) (T.gives t.others) };
+}
+
+impl<'a, M: EventModel, T: Tells> Contestants for Unready<'a, M, T> {
+    ghost entries = { λ processes. entries_of unready_of processes };
+
+    fn count(&self) -> usize {
+        at_least_one(self.processes.len())
+    }
+
+    fn rank(&self, number: u32) -> Option<Rank> {
+        if number == self.place {
+            return self.rank;
+        }
+        self.others.tell(number)
+    }
+}
+
+/// Enters the process of a place, the only one that may have changed, into the tournament of who is not ready. Its rank is at hand.
+pub(crate) fn enter_unready<M: EventModel, T: Tells + Drop>(
+    tournament: &mut Tournament,
+    processes: &[Lp<M>],
+    place: u32,
+    rank: Option<Rank>,
+    others: T,
+)
+    requires there { place < length processes.now }
+    requires told { AreTold (entries_of unready_of processes.now) place rank (T.may others) (T.gives others) }
+    requires was { WasTournamentOf place (entries_of unready_of processes.now) tournament.old }
+    ensures { IsTournamentOf (entries_of unready_of processes.now) tournament.new }
+{
+    let contestants = Unready {
+        processes,
+        place,
+        rank,
+        others,
+    };
+    tournament.set(place, &contestants);
+}
+
+/// The least rank of what is pending or waits at the process of a place, unless it is that of the event that it may execute.
+pub(crate) fn unready_at<M: EventModel>(processes: &[Lp<M>], place: u32) -> Option<Rank>
+    ensures { result ≡ slice_index_or (entries_of unready_of processes.now) place None }
+{
+    let process = processes.get(place as usize)?;
+    other_than(process.ready(), process.least_rank())
+}
