@@ -1,5 +1,6 @@
 use Rattle.std.proofs.Common.{rules, ◌≡◌, ◌/◌, ◌%◌, ◌∙◌, None, slice_get, slice_set, List, [], sym, ap, subst, refl, arith, false, nat_eq, ◌+◌, ◌*◌}
 use Rattle.std.specs.List.{find}
+use Rattle.std.specs.Option.{option_copied}
 use Rattle.vt_key.specs.Times.{TimeBefore}
 use Rattle.vt_key.specs.declared.letter.Letter.{Letter}
 use Rattle.vt_model.specs.declared.settings.Config.{Config}
@@ -15,7 +16,7 @@ use Rattle.vt_kernel.specs.Guards.{IsDone}
 use Rattle.vt_kernel.proofs.ProcessLemmas.{process-at}
 use Rattle.vt_kernel.proofs.EnteringLemmas.{in-changed, was-entered}
 use Rattle.vt_kernel.proofs.LocalLemmas.{worker_view, index-get, place-within, inside-changed}
-use Rattle.vt_kernel.proofs.DeliveryLemmas.{without-all, home-done, home-refused, found-in, one-letter, held-refused}
+use Rattle.vt_kernel.proofs.DeliveryLemmas.{without-all, home-done, home-refused, home-nothing, found-in, one-letter, held-refused}
 use Rattle.vt_kernel.proofs.kernel.Kernel.home.Goals as goal
 
 pub index-requires : goal.index-requires
@@ -26,6 +27,13 @@ index-requires g c =
     let own = found-in c.self.invariant letter (sym c.in-Some.ensures) in
     let less = place-within c.self.invariant letter.event.dest place i.config.some_worker refl own.0 own.1.known in
     search (rules, less)
+
+pub returns-in_default-clause-refused : goal.returns-in_default-clause-refused
+returns-in_default-clause-refused g c handlers part s =
+    let i = c.self.inside in
+    let held = worker_view i.worker i.config i.processes.items i.outbox i.arrived.items i.colour i.sent i.got i.red_minimum i.floor i.serial in
+    subst (λ (v : HeldWorker _ _ _). local_step (simulation_of handlers v.config) v.worker (step.Home v.worker) part ≡ None) c.self.view_is
+    (home-nothing handlers held c.self.invariant.own_processes part (subst (λ (v : HeldWorker _ _ _). StandsFor handlers v part) (sym c.self.view_is) s) (sym c.find.ensures ∙ ap option_copied c.in_default.is))
 
 pub returns-then-holds-clause-refused : goal.returns-then-holds-clause-refused
 returns-then-holds-clause-refused g c handlers part s =

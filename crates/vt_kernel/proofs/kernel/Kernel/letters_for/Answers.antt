@@ -25,6 +25,9 @@ returns-in_err-count-clause-refused g c handlers part s =
     c.from_residual.result c.in_err-count.field-0.0 (search rules)
     (refused-send c.self.view_is handlers c.args.v part s c.in_err-count.field-0.0 c.room-room.result c.room-room.ensures test c.in_err-count.ensures.refused)
 
+pub room-room-requires : goal.room-room-requires
+room-room-requires g c = record { few = count_of-counted c.self.inside.sent c.self.inside.colour c.self.invariant.few_sent }
+
 pub invariant_of-self : goal.invariant_of-self
 invariant_of-self g c =
     let k = c.self.inside in
