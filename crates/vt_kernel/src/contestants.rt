@@ -15,7 +15,8 @@ use vt_lp::Lp;
 use vt_model::Model as EventModel;
 use vt_tournament::{Contestants, Tournament};
 
-/// What tells the rank of a process.
+/// What tells the rank of a process: a closure, since calls of a process rest on it that a model's payloads are `Send`, and an
+/// `impl` of a trait can't.
 pub(crate) trait Tells {
     /// It may be asked for the process of this place.
     ghost may: { Self → ℕ → Type 0 };
@@ -74,7 +75,8 @@ impl<'a, M: EventModel, T: Tells> Contestants for Ready<'a, M, T> {
     }
 }
 
-/// Enters the process of a place, the only one that may have changed, into the tournament of who is ready. Its rank is at hand.
+/// Enters the process of a place, the only one that may have changed, into the tournament of who is ready, where it has this
+/// rank.
 pub(crate) fn enter_ready<M: EventModel, T: Tells + Drop>(
     tournament: &mut Tournament,
     processes: &[Lp<M>],
@@ -135,7 +137,8 @@ impl<'a, M: EventModel, T: Tells> Contestants for Unready<'a, M, T> {
     }
 }
 
-/// Enters the process of a place, the only one that may have changed, into the tournament of who is not ready. Its rank is at hand.
+/// Enters the process of a place, the only one that may have changed, into the tournament of who is not ready, where it has
+/// this rank.
 pub(crate) fn enter_unready<M: EventModel, T: Tells + Drop>(
     tournament: &mut Tournament,
     processes: &[Lp<M>],
