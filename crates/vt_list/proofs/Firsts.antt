@@ -21,7 +21,7 @@ module _ {X : Type 0} where
 
   module _ (test : X → Bool) where
     -- the first item from the first that passes on
-    find-from : (xs : List X) → find test xs ≡ slice_get (from_first test xs) 0
+    pub find-from : (xs : List X) → find test xs ≡ slice_get (from_first test xs) 0
     find-from [] = refl
     find-from (x ∷ xs) =
         elim (test x) as (λ b. (if b then Some x else find test xs) ≡ slice_get (if b then x ∷ xs else from_first test xs) 0) [ true ↦ refl | false ↦ find-from xs ]

@@ -1,5 +1,5 @@
 mod Boxes
-mod Firsts
+pub mod Firsts
 mod Lending
 mod Links
 mod Owning

@@ -14,7 +14,7 @@
 //! | Call | Time |
 //! |---|---|
 //! | `push_front`, `push_back`, `pop_front`, `pop_back`, `append`, `len`, `is_empty`, `front`, `back` | constant |
-//! | `get`, `remove`, `find`, `find_back`, `remove_first`, `insert_ordered` | the number of items that are passed over |
+//! | `get`, `remove`, `find`, `find_back`, `remove_first`, `split_off_first`, `insert_ordered` | the number of items that are passed over |
 //! | `push`, `pop`, `top` and `len` of a stack | constant, and of nodes they touch one at most |
 //! | dropping a list or a stack | the number of items, in a loop and on constant stack |
 //!
@@ -42,6 +42,7 @@ mod link;
 mod list;
 mod node;
 mod parcel;
+mod parting;
 mod predicate;
 mod stack;
 mod trail;

@@ -19,10 +19,10 @@ use vt_key::{Rank, Ranked};
 /// No call of a list takes memory: what it takes in are parcels, whose nodes are there already. A list that is dropped
 /// drops each item once and frees each node, in a loop and not by recursion.
 pub struct List<T> {
-    alloc: Global,
-    chain: Chain<T>,
+    pub(crate) alloc: Global,
+    pub(crate) chain: Chain<T>,
     // How many items there are, modulo 2^64.
-    count: usize,
+    pub(crate) count: usize,
 }
 
 impl<T> Model for List<T> {
@@ -129,7 +129,7 @@ impl<T: Drop> List<T> {
         ensures item { result ≡ find (P.passes test.now) self.old }
         ensures others { self.new ≡ without_first (P.passes test.now) self.old }
     {
-        let (before, from) = split_at_first(self.chain.take(), test);
+        let (before, from, _) = split_at_first(self.chain.take(), test);
         let (found, after) = take_first(from, self.alloc);
         self.chain.put(before.join(after));
         let node = found?;
@@ -228,7 +228,7 @@ impl<T: Drop + Ranked> List<T> {
         ensures { self.new ≡ insert_ordered T.rank_of parcel self.old }
     {
         let later = RankedAfter(parcel.get().rank());
-        let (before, after) = split_at_first(self.chain.take(), &later);
+        let (before, after, _) = split_at_first(self.chain.take(), &later);
         self.chain
             .put(before.join(Chain::of(parcel.into_node())).join(after));
         self.count = self.count.wrapping_add(1);
