@@ -1,11 +1,13 @@
 -- Letters in rising rank: what the first one that isn't before a rank tells of all.
 use Rattle.std.proofs.Common.{Bool, true, false, not, ◌||◌, if◌then◌else◌, ◌≡◌, refl, sym, ◌∙◌, ap, subst}
-use Rattle.std.specs.Prelude.{List, [], ◌∷◌, Option, Some, None, find}
+use Rattle.std.specs.Prelude.{List, [], ◌∷◌, Some, find, slice_get}
 use Rattle.vt_key.specs.Order.{RankBefore, rank_before, rank_same}
 use Rattle.vt_key.specs.declared.order.Rank.{Rank}
 use Rattle.vt_key.specs.declared.letter.Letter.{Letter}
 use Rattle.vt_key.proofs.OrderLemmas.{rank-irreflexive, rank_before-true, before-rank_before, rank_same-true}
-use Rattle.vt_pending.specs.Letters.{letter_rank, has_rank, holds_rank, AllAfter, IsRising}
+use Rattle.vt_list.specs.First.{from_first}
+use Rattle.vt_list.proofs.Firsts.{find-from}
+use Rattle.vt_pending.specs.Letters.{letter_rank, has_rank, some_has_rank, holds_rank, AllAfter, IsRising}
 
 -- a rank that is before another is not the same
 before-differs : (a r : Rank) → RankBefore a r → rank_same a r ≡ false
@@ -19,10 +21,6 @@ module _ {P : Type 0} (r : Rank) where
   abbrev pub is_reached : Letter P → Bool
   is_reached l = not (rank_before l.event.rank r)
 
-  abbrev pub some_is_it : Option (Letter P) → Bool
-  some_is_it None = false
-  some_is_it (Some l) = has_rank r l
-
   -- none that is after one that isn't before the rank has it
   none-holds : (a : Rank) (ls : List (Letter P)) → rank_before a r ≡ false → AllAfter a ls → holds_rank r ls ≡ false
   none-holds a [] reached all = refl
@@ -34,13 +32,17 @@ module _ {P : Type 0} (r : Rank) where
   ] refl
 
   -- of letters in rising rank the first that isn't before a rank has it, or none has
-  pub holds-first : (ls : List (Letter P)) → IsRising ls → some_is_it (find is_reached ls) ≡ holds_rank r ls
+  pub holds-first : (ls : List (Letter P)) → IsRising ls → some_has_rank r (find is_reached ls) ≡ holds_rank r ls
   holds-first [] rises = refl
   holds-first (l ∷ ls) rises =
-      elim (rank_before (letter_rank l) r) as (λ b. rank_before (letter_rank l) r ≡ b → some_is_it (if not b then Some l else find is_reached ls) ≡ has_rank r l || holds_rank r ls) [
+      elim (rank_before (letter_rank l) r) as (λ b. rank_before (letter_rank l) r ≡ b → some_has_rank r (if not b then Some l else find is_reached ls) ≡ has_rank r l || holds_rank r ls) [
         | true ↦ λ is. holds-first ls rises.1 ∙ ap (λ b. b || holds_rank r ls) (sym (before-differs (letter_rank l) r (rank_before-true (letter_rank l) r is)))
         | false ↦ λ is. alone (has_rank r l) (holds_rank r ls) (none-holds (letter_rank l) ls is rises.0)
       ] refl where
         alone : (b c : Bool) → c ≡ false → b ≡ b || c
         alone true c none = refl
         alone false c none = sym none
+
+  -- it is the first of those from there on
+  pub holds-from : (ls : List (Letter P)) → IsRising ls → some_has_rank r (slice_get (from_first is_reached ls) 0) ≡ holds_rank r ls
+  holds-from ls rises = ap (some_has_rank r) (sym (find-from is_reached ls)) ∙ holds-first ls rises

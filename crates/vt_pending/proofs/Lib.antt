@@ -1,3 +1,4 @@
 mod Finding
 mod Holding
+mod Placing
 mod Rising

@@ -1,5 +1,5 @@
 -- Letters in the order of their ranks.
-use Rattle.std.specs.Prelude.{Bool, Option, List, [], ◌∷◌, find}
+use Rattle.std.specs.Prelude.{Bool, false, Option, None, Some, List, [], ◌∷◌, find}
 use Rattle.std.specs.List.{list_any}
 use Rattle.vt_key.specs.Order.{RankBefore, rank_same, stamp_same}
 use Rattle.vt_key.specs.declared.order.Rank.{Rank}
@@ -16,6 +16,11 @@ module _ {P : Type 0} where
   -- the letter has this rank
   abbrev pub has_rank : Rank → Letter P → Bool
   has_rank rank letter = rank_same (letter_rank letter) rank
+
+  -- there is a letter, and it has this rank
+  abbrev pub some_has_rank : Rank → Option (Letter P) → Bool
+  some_has_rank rank None = false
+  some_has_rank rank (Some letter) = has_rank rank letter
 
   -- the letter has this stamp
   abbrev pub has_stamp : Stamp → Letter P → Bool

@@ -1,9 +1,9 @@
 //! The queue.
 
-ghost use Rattle.std.specs.Prelude.{◌≡◌, ◌-◌, ◌%◌, ◌^◌, ◌↔◌, [], ◌∷◌, false, length, find, slice_get, MatchOption, IfNone, IsNone, IsTrue};
+ghost use Rattle.std.specs.Prelude.{◌≡◌, ◌-◌, ◌%◌, ◌^◌, ◌↔◌, [], ◌∷◌, false, length, find, slice_get, MatchOption, IfOk, IfErr, IfNone, IsNone, IsTrue, true};
 ghost use Rattle.std.specs.List.{list_any};
 ghost use Rattle.std.specs.Option.{option_copied};
-ghost use Rattle.vt_pending.specs.Letters.{has_stamp, holds_rank, first_of_stamp, insert_letter, without_stamp, IsRising};
+ghost use Rattle.vt_pending.specs.Letters.{has_stamp, holds_rank, some_has_rank, first_of_stamp, insert_letter, without_stamp, IsRising};
 
 use std::alloc::Global;
 use std::marker::Model;
@@ -59,10 +59,7 @@ impl<P: Copy> Pending<P> {
     pub fn holds(&self, rank: Rank) -> bool
         ensures { result ≡ holds_rank rank self.now }
     {
-        match self.letters.find(&NotBefore(rank)) {
-            Some(letter) => letter.event.rank.is_same(&rank),
-            None => false,
-        }
+        has_rank(self.letters.find(&NotBefore(rank)), rank)
     }
 
     /// Puts a letter in its place: before the first one of greater rank, or last. No letter of its rank may be there,
@@ -73,6 +70,28 @@ impl<P: Copy> Pending<P> {
         ensures rising { IsRising self.new }
     {
         self.letters.insert_ordered(letter);
+    }
+
+    /// Puts a letter in its place, unless one of its rank is there: what [`Pending::holds`] tells and [`Pending::insert`]
+    /// does, in one walk.
+    ///
+    /// An error says that one of its rank is there. The letter is handed back, and all is as it was.
+    pub fn insert_new(&mut self, letter: Parcel<Letter<P>>) -> Result<(), Parcel<Letter<P>>>
+        ensures letters { IfOk result (λ _. self.new ≡ insert_letter letter self.old) }
+        ensures new { IfOk result (λ _. holds_rank letter.event.rank self.old ≡ false) }
+        ensures held { IfErr result (λ _. holds_rank letter.event.rank self.old ≡ true) }
+        ensures unchanged { IfErr result (λ back. (back ≡ letter) × (self.new ≡ self.old)) }
+        ensures rising { IsRising self.new }
+    {
+        let rank = letter.get().event.rank;
+        let mut later = self.letters.split_off_first(&NotBefore(rank));
+        if has_rank(later.front(), rank) {
+            self.letters.append(&mut later);
+            return Err(letter);
+        }
+        self.letters.push_back(letter);
+        self.letters.append(&mut later);
+        Ok(())
     }
 
     /// The letter of least rank.
@@ -114,6 +133,16 @@ impl<P: Copy> Pending<P> {
         ensures rising { IsRising self.new }
     {
         self.letters.remove_first(&HasStamp(stamp))
+    }
+}
+
+/// Whether there is a letter, and it has this rank.
+fn has_rank<P: Copy>(letter: Option<&Letter<P>>, rank: Rank) -> bool
+    ensures { result ≡ some_has_rank rank (option_copied letter.entry) }
+{
+    match letter {
+        Some(letter) => letter.event.rank.is_same(&rank),
+        None => false,
     }
 }
 
