@@ -1,6 +1,6 @@
 //! What has arrived.
 
-ghost use Rattle.std.specs.Prelude.{◌≡◌, ◌+◌, ◌<◌, ◌≤◌, ◌⊎◌, true, false, IfOk, IfErr};
+ghost use Rattle.std.specs.Prelude.{◌≡◌, ◌+◌, ◌<◌, ◌≤◌, ◌⊎◌, [], true, false, IfOk, IfErr};
 ghost use Rattle.vt_key.specs.declared.fault.Fault.TheVariants.{NotLawful, Exhausted};
 ghost use Rattle.vt_key.specs.declared.letter.Colour.TheVariants.{White, Red};
 ghost use Rattle.vt_key.specs.declared.limits.TheConstants.{MAX_COUNT};
@@ -12,6 +12,7 @@ ghost use Rattle.vt_kernel.specs.Held.{StandsFor, AllOwnMail, AreCounted};
 
 use crate::counts::Counts;
 use crate::kernel::Kernel;
+use std::mem;
 use vt_key::{Fault, Mail};
 use vt_model::Model as EventModel;
 
@@ -31,14 +32,33 @@ impl<M: EventModel> Kernel<M> {
         ensures refused { IfErr result (λ e. ((e.0 ≡ NotLawful) × (is_empty self.old.arrived ≡ false)) ⊎ ((e.0 ≡ Exhausted) × (is_empty self.old.arrived ≡ true) × ((MAX_COUNT < self.old.got.white + count_colour White mail.items) ⊎ (MAX_COUNT < self.old.got.red + count_colour Red mail.items)))) }
         ensures kept { IfErr result (λ e. (self.new ≡ self.old) × (e.1.items ≡ mail.items)) }
     {
-        if !self.arrived.is_empty() {
-            return Err((Fault::NotLawful, mail));
+        let mut mail = mail;
+        match self.exchange_mail(&mut mail) {
+            Ok(()) => Ok(()),
+            Err(fault) => Err((fault, mail)),
         }
-        let Some(got) = self.got.plus(&Counts::of_mail(&mail)) else {
-            return Err((Fault::Exhausted, mail));
+    }
+
+    /// The same of the mail in an inbox, which is empty afterwards and keeps room: it has the worker's emptied list in exchange.
+    ///
+    /// [`Fault`]: as [`Kernel::take_in`] tells; after each the mail is where it was, too.
+    pub fn exchange_mail(&mut self, mail: &mut Vec<Mail<M::Payload>>) -> Result<(), Fault>
+        requires own { AllOwnMail self.old.config self.old.worker mail.old.items }
+        ensures taken { IfOk result (λ _. self.new ≡ record self.old { arrived = mail.old.items; got = raised (raised self.old.got White (count_colour White mail.old.items)) Red (count_colour Red mail.old.items) }) }
+        ensures emptied { IfOk result (λ _. mail.new.items ≡ []) }
+        ensures lawful { IfOk result (λ _. (is_empty self.old.arrived ≡ true) × AreCounted self.new.got) }
+        ensures done { (handlers : Handlers _ _ _) (part : Part _) → StandsFor handlers self.old part → IfOk result (λ _. (is_empty part.arrived ≡ true) × StandsFor handlers self.new (part_after_fetch mail.old.items part)) }
+        ensures refused { IfErr result (λ fault. ((fault ≡ NotLawful) × (is_empty self.old.arrived ≡ false)) ⊎ ((fault ≡ Exhausted) × (is_empty self.old.arrived ≡ true) × ((MAX_COUNT < self.old.got.white + count_colour White mail.old.items) ⊎ (MAX_COUNT < self.old.got.red + count_colour Red mail.old.items)))) }
+        ensures kept { IfErr result (λ _. (self.new ≡ self.old) × (mail.new ≡ mail.old)) }
+    {
+        if !self.arrived.is_empty() {
+            return Err(Fault::NotLawful);
+        }
+        let Some(got) = self.got.plus(&Counts::of_mail(mail.as_slice())) else {
+            return Err(Fault::Exhausted);
         };
         self.got = got;
-        self.arrived = mail;
+        mem::swap(&mut self.arrived, mail);
         Ok(())
     }
 }

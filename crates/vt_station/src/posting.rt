@@ -18,7 +18,6 @@ ghost use Rattle.vt_station.specs.Calls.{Acts, Holding, Reaches, Visited, Stays,
 
 use crate::slot::Slot;
 use crate::station::{Seat, Station, Visit};
-use std::mem;
 use std::snapshot::Snapshot;
 use vt_kernel::Kernel;
 use vt_key::Fault;
@@ -67,15 +66,7 @@ impl<M: EventModel> Station<M> {
         let Slot::Inbox(mails) = held else {
             unreachable!()
         };
-        let empty = Vec::new(*mails.allocator());
-        let mail = mem::replace(mails, empty);
-        match kernel.take_in(mail) {
-            Ok(()) => Ok(()),
-            Err((fault, mail)) => {
-                *mails = mail;
-                Err(fault)
-            }
-        }
+        kernel.exchange_mail(mails)
     }
 }
 
