@@ -1,5 +1,6 @@
 -- What the fields stand for is what a contract sees.
 use Rattle.std.proofs.Common.{◌≡◌, ℕ, zero, suc, ◌<◌, ◌≤◌, List, [], ◌∷◌, Bool, true, false, ◌&&◌, map, length, Some, slice_get, slice_index_or, Result, Ok, Err, IfOk, IfErr, refl, ap, ◌∙◌, arith}
+use Rattle.std.proofs.Math.Logic.{∥∥₁_map}
 use Rattle.std.specs.List.{list_all}
 use Rattle.vt_key.specs.declared.order.Key.{Key}
 use Rattle.vt_key.specs.Order.{key_before}
@@ -8,10 +9,11 @@ use Rattle.vt_model.specs.declared.process.Process.{Process}
 use Rattle.vt_model.specs.declared.rows.Record.{Record}
 use Rattle.vt_model.specs.declared.sending.Sent.{Sent}
 use Rattle.vt_model.specs.declared.settings.Config.{Config}
-use Rattle.vt_model.specs.Simulation.{Simulation}
+use Rattle.vt_model.specs.Handler.{Handlers}
+use Rattle.vt_model.specs.Simulation.{Simulation, simulation_of}
 use Rattle.vt_model.specs.Histories.{AllAfter, IsRising}
 use Rattle.vt_model.specs.Process.{triple_at}
-use Rattle.vt_seq.specs.Progress.{Progress, IsAfter}
+use Rattle.vt_seq.specs.Progress.{Progress, IsAfter, IsReached}
 use Rattle.vt_seq.specs.StandsFor.{StandsAt}
 
 -- ---- a test of rising keys
@@ -102,3 +104,10 @@ module _ {M S P K : Type 0} (sim : Simulation S P) (model : M) (config : Config)
     triples = λ p d known. indexed (λ (q : Process M S P K). triple_at q.state q.number q.stream) _ processes p d (is.triples p known);
     recorded = is.records;
   }
+
+-- fields that stand for the run after some number of steps are seen as reached
+pub seen-reached : {M S P K : Type 0} (handlers : Handlers S P K) (model : M) (config : Config) (pending : List (Sent P)) (processes : List (Process M S P K)) (records : List Record)
+    → config.lps ≤ length processes → ∥ ((n : ℕ) × StandsAt (simulation_of handlers config) n pending processes records) ∥₁
+    → IsReached handlers (seen (simulation_of handlers config) model config pending processes records)
+seen-reached handlers model config pending processes records there stands =
+    ∥∥₁_map stands (λ x. (x.0, stands-after (simulation_of handlers config) model config x.0 pending processes records there x.1))

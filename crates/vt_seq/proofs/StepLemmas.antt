@@ -6,6 +6,7 @@ use Rattle.std.proofs.lemmas.List.Sums.{sum_by-cons}
 use Rattle.std.proofs.lemmas.Bool.{eqb-true, eq-eqb}
 use Rattle.std.proofs.Math.Nat.{pow-suc, one-le-pow, pow-le-pow_right, mul-le-mul_right}
 use Rattle.vt_key.specs.Times.{time_before}
+use Rattle.vt_key.specs.declared.limits.TheConstants.{MAX_COUNT}
 use Rattle.vt_key.specs.declared.order.Key.{Key}
 use Rattle.vt_key.specs.Order.{KeyBefore, key_same}
 use Rattle.vt_key.proofs.OrderLemmas.{key-irreflexive, key_same-true, same-key_same}
@@ -17,8 +18,9 @@ use Rattle.vt_model.specs.Sequential.{RunState, events_of, least_event, fired_af
 use Rattle.vt_model.specs.Histories.{Among, IsRising, sends_of, IsLawful}
 use Rattle.vt_model.proofs.HistoryLemmas.{among-left, among-right, among-append, after-among}
 use Rattle.vt_model.proofs.RunLemmas.{tested, among-filter, filter-among, least-found, known_sent, lists_of, IsReached, reached, numbered-all, numbered-among, events_of-same, events_of-other, after-snoc}
-use Rattle.vt_model.proofs.EndLemmas.{least-none, sum_by-bound, executed_all}
+use Rattle.vt_model.proofs.EndLemmas.{least-none, no_step, sum_by-bound, executed_all}
 use Rattle.vt_model.specs.Process.{triple_at}
+use Rattle.vt_seq.specs.Limits.{number_after, IsCounted, IsCountedWhole}
 use Rattle.vt_seq.specs.StandsFor.{StandsFor, StandsAt, HasExecuted}
 use Rattle.vt_seq.specs.Queue.{IsWithinRun, all_inserted}
 use Rattle.vt_model.specs.declared.process.Process.{Process}
@@ -57,6 +59,10 @@ module _ {S P : Type 0} (sim : Simulation S P) (lawful : IsLawful sim) where
   rows-snoc done (x ∷ xs) e =
       ap (λ (l : List Row). (fired_after sim done x).rows ++ l) (rows-snoc (done ++ x ∷ []) xs e ∙ ap (λ (l : List (Sent P)). rows_after sim (done ++ x ∷ []) xs ++ (fired_after sim l e).rows) (append_assoc done (x ∷ []) xs))
       ∙ sym (append_assoc (fired_after sim done x).rows (rows_after sim (done ++ x ∷ []) xs) (fired_after sim (done ++ x ∷ xs) e).rows)
+
+-- the send number of each of so many processes is within its limit
+abbrev pub AreCounted : {M S P K : Type 0} → ℕ → List (Process M S P K) → Type 0
+AreCounted lps processes = (p : ℕ) (d : Process _ _ _ _) → p < lps → (slice_index_or processes p d).number ≤ MAX_COUNT
 
 module _ {M S P K : Type 0} (sim : Simulation S P) (lawful : IsLawful sim) where
   stands_with : (x : RunState P) (e : Sent P) (rest : List (Sent P)) (processes : List (Process M S P K)) (records : List Record) (q : Process M S P K)
@@ -112,6 +118,15 @@ module _ {M S P K : Type 0} (sim : Simulation S P) (lawful : IsLawful sim) where
             ∙ ap (map (λ (r : Row). r.rec)) (sym (rows-snoc sim lawful [] x.executed e));
       }
 
+  -- the definition's next step executes the first pending event
+  step_is : (n : ℕ) (e : Sent P) (pending : List (Sent P)) (processes : List (Process M S P K)) (records : List Record)
+      → StandsAt sim n pending processes records → 0 < length pending → slice_index_or pending 0 e ≡ e → after_steps sim (suc n) ≡ with_event sim (after_steps sim n) e
+  step_is n e pending processes records st some first =
+      let x : RunState P = after_steps sim n in
+      let rest : List (Sent P) = drop 1 pending in
+      let st' : StandsFor sim x (e ∷ rest) processes records = subst (λ (l : List (Sent P)). StandsFor sim x l processes records) (opened pending e some first) st in
+      ap (next_state sim x) (head-least sim lawful x e rest st'.rising st'.sent st'.had)
+
   -- the code's step is the definition's
   pub stands_step : (n : ℕ) (e : Sent P) (pending after_pending : List (Sent P)) (processes : List (Process M S P K)) (records after_records : List Record) (p q : Process M S P K)
       → StandsAt sim n pending processes records → length processes ≡ sim.lps → e.dest < sim.lps → 0 < length pending → slice_index_or pending 0 e ≡ e
@@ -124,8 +139,7 @@ module _ {M S P K : Type 0} (sim : Simulation S P) (lawful : IsLawful sim) where
       let rest : List (Sent P) = drop 1 pending in
       let head : pending ≡ e ∷ rest = opened pending e some first in
       let st' : StandsFor sim x (e ∷ rest) processes records = subst (λ (l : List (Sent P)). StandsFor sim x l processes records) head st in
-      let least : least_event x.pending ≡ Some e = head-least sim lawful x e rest st'.rising st'.sent st'.had in
-      let next : after_steps sim (suc n) ≡ with_event sim x e = ap (next_state sim x) least in
+      let next : after_steps sim (suc n) ≡ with_event sim x e = step_is n e pending processes records st some first in
       let seat : triple_at p.state p.number p.stream ≡ after sim e.dest (events_of e.dest x.executed) = ap (λ (o : Process M S P K). triple_at o.state o.number o.stream) (sym at) ∙ st.triples e.dest p dest in
       let is : sim.fire e.dest (triple_at p.state p.number p.stream) e ≡ fired_after sim x.executed e = ap (λ (t : Triple S). sim.fire e.dest t e) seat in
       let stood = stands_with x e rest processes records q (reached sim lawful n) st' there (f.triple ∙ ap (λ (g : Fired S P). g.triple) is) in
@@ -141,14 +155,33 @@ module _ {M S P K : Type 0} (sim : Simulation S P) (lawful : IsLawful sim) where
       → (sim.fire e.dest (triple_at p.state p.number p.stream) e).triple ≡ after sim e.dest (events_of e.dest (after_steps sim (suc n)).executed)
   next_triple n e pending processes records p st dest some first at =
       let x : RunState P = after_steps sim n in
-      let rest : List (Sent P) = drop 1 pending in
-      let st' : StandsFor sim x (e ∷ rest) processes records = subst (λ (l : List (Sent P)). StandsFor sim x l processes records) (opened pending e some first) st in
-      let next : after_steps sim (suc n) ≡ with_event sim x e = ap (next_state sim x) (head-least sim lawful x e rest st'.rising st'.sent st'.had) in
+      let next : after_steps sim (suc n) ≡ with_event sim x e = step_is n e pending processes records st some first in
       let seat : triple_at p.state p.number p.stream ≡ after sim e.dest (events_of e.dest x.executed) = ap (λ (o : Process M S P K). triple_at o.state o.number o.stream) (sym at) ∙ st.triples e.dest p dest in
       ap (λ (t : Triple S). (sim.fire e.dest t e).triple) seat
       ∙ sym (after-snoc sim lawful e.dest (sim.start e.dest).triple (events_of e.dest x.executed) e)
       ∙ ap (after sim e.dest) (sym (events_of-same e.dest x.executed e refl))
       ∙ ap (λ (y : RunState P). after sim e.dest (events_of e.dest y.executed)) (sym next)
+
+  -- the send numbers are within their limits where those of the processes are
+  pub counted_at : (n : ℕ) (pending : List (Sent P)) (processes : List (Process M S P K)) (records : List Record)
+      → StandsAt sim n pending processes records → length processes ≡ sim.lps → AreCounted sim.lps processes → IsCounted sim n
+  counted_at n pending [] records st there numbered p is = absurd (omega (arith, there, is))
+  counted_at n pending (x ∷ xs) records st there numbered p is = subst (λ (t : Triple S). t.number ≤ MAX_COUNT) (st.triples p x is) (numbered p x is)
+
+  -- and so they are after the next event, if its receiver's is
+  pub counted_next : (n : ℕ) (e : Sent P) (pending : List (Sent P)) (processes : List (Process M S P K)) (records : List Record) (p : Process M S P K)
+      → StandsAt sim n pending processes records → length processes ≡ sim.lps → AreCounted sim.lps processes → e.dest < sim.lps → 0 < length pending → slice_index_or pending 0 e ≡ e
+      → slice_index_or processes e.dest p ≡ p → (sim.fire e.dest (triple_at p.state p.number p.stream) e).triple.number ≤ MAX_COUNT → IsCounted sim (suc n)
+  counted_next n e pending processes records p st there numbered dest some first at fits r is = elim (tested (nat_eq e.dest r)) [
+    | inl y ↦
+        subst (λ (i : ℕ). number_after sim (suc n) i ≤ MAX_COUNT) (eqb-true e.dest r y)
+        (subst (λ (t : Triple S). t.number ≤ MAX_COUNT) (next_triple n e pending processes records p st dest some first at) fits)
+    | inr y ↦
+        let x : RunState P = after_steps sim n in
+        let next : after_steps sim (suc n) ≡ with_event sim x e = step_is n e pending processes records st some first in
+        subst (λ (z : RunState P). (after sim r (events_of r z.executed)).number ≤ MAX_COUNT) (sym next)
+        (subst (λ (es : List (Sent P)). (after sim r es).number ≤ MAX_COUNT) (sym (events_of-other r x.executed e y)) (counted_at n pending processes records st there numbered r is))
+  ]
 
   -- what is pending is for a known process and soon
   pub taken : (n : ℕ) (pending : List (Sent P)) (processes : List (Process M S P K)) (records : List Record) → StandsAt sim n pending processes records
@@ -167,7 +200,7 @@ module _ {M S P K : Type 0} (sim : Simulation S P) (lawful : IsLawful sim) where
       let seat : p.number ≡ (after sim q (events_of q x.executed)).number = ap (λ (o : Process M S P K). o.number) (sym at) ∙ ap (λ (t : Triple S). t.number) (st.triples q p is) in
       omega (arith, before, seat)
 
-  -- with nothing pending, the records are those of the whole run
+  -- with nothing pending, nothing is in the run's state
   pub nothing_left : (n : ℕ) (pending : List (Sent P)) (processes : List (Process M S P K)) (records : List Record) → StandsAt sim n pending processes records
       → pending ≡ [] → (after_steps sim n).pending ≡ []
   nothing_left n pending processes records st h = empty (after_steps sim n).pending (λ d m. subst (Among d) h (st.had d m)) where
@@ -272,6 +305,20 @@ module _ {M S P K : Type 0} (sim : Simulation S P) (lawful : IsLawful sim) where
       ∙ ap (seq_of sim) all where
         seq_of : (y : Simulation S P) → List (Sent P) → List Record
         seq_of y es = map (λ (r : Row). r.rec) (filter (λ (r : Row). nat_lt r.key.time y.end) (rows_after y [] es))
+
+  -- with nothing pending, the whole run's send numbers are within their limits where those of the processes are
+  pub counted_whole : (n : ℕ) (pending : List (Sent P)) (processes : List (Process M S P K)) (records : List Record) → StandsAt sim n pending processes records
+      → length processes ≡ sim.lps → AreCounted sim.lps processes → pending ≡ [] → IsCountedWhole sim
+  counted_whole n pending processes records st there numbered none p is =
+      let all : (after_steps sim n).executed ≡ whole_run sim = executed_all sim lawful n (nothing_left sim lawful n pending processes records st none) in
+      subst (λ (es : List (Sent P)). (after sim p (events_of p es)).number ≤ MAX_COUNT) all (counted_at sim lawful n pending processes records st there numbered p is)
+
+  -- with nothing pending, no further step raises a send number
+  pub counted_on : (n : ℕ) (pending : List (Sent P)) (processes : List (Process M S P K)) (records : List Record) → StandsAt sim n pending processes records
+      → length processes ≡ sim.lps → AreCounted sim.lps processes → pending ≡ [] → IsCounted sim (suc n)
+  counted_on n pending processes records st there numbered none =
+      subst (λ (x : RunState P). (p : ℕ) → p < sim.lps → (after sim p (events_of p x.executed)).number ≤ MAX_COUNT) (sym (no_step sim lawful n (nothing_left sim lawful n pending processes records st none)))
+      (counted_at sim lawful n pending processes records st there numbered)
 
   -- the records below a time are those of the rows below it
   pub records_before : (n t : ℕ) (pending : List (Sent P)) (processes : List (Process M S P K)) (records : List Record) → StandsAt sim n pending processes records

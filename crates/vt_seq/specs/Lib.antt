@@ -1,4 +1,5 @@
 pub mod Letters
+pub mod Limits
 pub mod Progress
 pub mod Queue
 pub mod StandsFor

@@ -3,7 +3,8 @@ use Rattle.std.specs.Prelude.{◌≡◌, ℕ, ◌<◌, List, [], Some, slice_get
 use Rattle.vt_model.specs.declared.rows.Record.{Record}
 use Rattle.vt_model.specs.declared.sending.Sent.{Sent}
 use Rattle.vt_model.specs.declared.settings.Config.{Config}
-use Rattle.vt_model.specs.Simulation.{Simulation, Triple, after}
+use Rattle.vt_model.specs.Handler.{Handlers}
+use Rattle.vt_model.specs.Simulation.{Simulation, Triple, after, simulation_of}
 use Rattle.vt_model.specs.Sequential.{RunState, after_steps, events_of, rows_after, records_of}
 use Rattle.vt_model.specs.Histories.{Among}
 
@@ -28,3 +29,7 @@ module _ {M S P : Type 0} (sim : Simulation S P) where
   -- the run has made n steps
   abbrev pub IsAfter : ℕ → Progress M S P → Type 0
   IsAfter n now = IsIn (after_steps sim n) now
+
+-- the run of its model and config has made some number of steps
+abbrev pub IsReached : {M S P K : Type 0} → Handlers S P K → Progress M S P → Type 0
+IsReached handlers now = ∥ ((n : ℕ) × IsAfter (simulation_of handlers now.config) n now) ∥₁

@@ -1,8 +1,5 @@
 -- What the sequential simulator's fields stand for: a state of the sequential run.
-use Rattle.std.specs.Prelude.{◌≡◌, ℕ, ◌<◌, ◌⊎◌, List, [], ◌++◌, drop, slice_index_or}
-use Rattle.vt_key.specs.declared.fault.Fault.{Fault}
-use Rattle.vt_key.specs.declared.fault.Fault.TheVariants.{Memory, Exhausted}
-use Rattle.vt_key.specs.declared.limits.TheConstants.{MAX_COUNT}
+use Rattle.std.specs.Prelude.{◌≡◌, ℕ, ◌<◌, List, [], ◌++◌, drop, slice_index_or}
 use Rattle.vt_model.specs.declared.process.Process.{Process}
 use Rattle.vt_model.specs.declared.rows.Record.{Record}
 use Rattle.vt_model.specs.declared.sending.Sent.{Sent}
@@ -26,10 +23,6 @@ pub record HasStarted {S P : Type 0} (f : Fired S P) (before : List (Sent P))
     (s : S) (n : ℕ) (w : Stream) (new_pending : List (Sent P)) : Type 0 where
   pub triple : triple_at s n w ≡ f.triple
   pub pending : new_pending ≡ all_inserted f.sends before
-
--- memory, or a send number that would pass its limit
-abbrev pub IsRefusal : ℕ → Fault → Type 0
-IsRefusal n fault = (fault ≡ Memory) ⊎ ((fault ≡ Exhausted) × (MAX_COUNT < n))
 
 module _ {M S P K : Type 0} (sim : Simulation S P) where
   -- the fields stand for this state of the run: its pending events in rising order of keys, each process where its

@@ -8,7 +8,8 @@ ghost use Rattle.vt_model.specs.Histories.{Among};
 ghost use Rattle.vt_model.specs.Process.{triple_at, IsProcessStream};
 ghost use Rattle.vt_model.specs.Simulation.{simulation_of};
 ghost use Rattle.vt_seq.specs.Letters.{event_of, IsPlain};
-ghost use Rattle.vt_seq.specs.StandsFor.{HasExecuted, HasStarted, IsRefusal};
+ghost use Rattle.vt_seq.specs.Limits.{IsRefusal};
+ghost use Rattle.vt_seq.specs.StandsFor.{HasExecuted, HasStarted};
 
 use crate::pending::PendingEvents;
 use vt_key::{Fault, Letter, MAX_COUNT};

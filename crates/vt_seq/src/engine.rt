@@ -1,11 +1,12 @@
 //! The fields of a sequential run, and its steps on them.
 
-ghost use Rattle.std.specs.Prelude.{◌≡◌, ℕ, suc, ◌+◌, ◌<◌, ◌≤◌, ◌↔◌, ◌⊎◌, [], length, map, All, IfOk, IfErr, IsTrue, IfSome, IfNone, slice_index_or, vec_len, false, true};
+ghost use Rattle.std.specs.Prelude.{◌≡◌, ℕ, suc, ◌+◌, ◌<◌, ◌≤◌, ◌↔◌, ◌⊎◌, [], length, map, All, IfOk, IfErr, IsTrue, IfSome, IfNone, Err, slice_index_or, vec_len, false, true};
 ghost use Rattle.vt_key.specs.declared.fault.Fault.TheVariants.{Memory, NotLawful, Exhausted};
 ghost use Rattle.vt_key.specs.declared.limits.TheConstants.{MAX_COUNT};
 ghost use Rattle.vt_model.specs.Process.{IsProcessStream};
 ghost use Rattle.vt_model.specs.Simulation.{simulation_of, after};
 ghost use Rattle.vt_model.specs.Sequential.{after_steps, whole_run, events_of, rows_after, rows_before, records_of, seq_records, weight, numbers_below};
+ghost use Rattle.vt_seq.specs.Limits.{IsStepRefusal, IsCountedWhole};
 ghost use Rattle.vt_seq.specs.Queue.{IsWithinRun};
 ghost use Rattle.vt_seq.specs.StandsFor.{StandsAt};
 
@@ -98,8 +99,8 @@ impl<'m, M: EventModel> Engine<'m, M> {
 
     /// Executes the pending event of least key; false where none is pending, which changes nothing.
     ///
-    /// [`Fault::Memory`]: memory was refused. [`Fault::Exhausted`]: the process's send number would pass 2^63. After
-    /// either all is as it was, and the step may be tried again.
+    /// [`Fault::Exhausted`]: the process's send number would pass 2^63. [`Fault::Memory`]: it would not, and memory was
+    /// refused. After either all is as it was, and the step may be tried again.
     pub(crate) fn step(&mut self) -> Result<bool, Fault>
         ensures model { self.new.model.now ≡ self.old.model.now }
         ensures config { self.new.config ≡ self.old.config }
@@ -110,7 +111,7 @@ impl<'m, M: EventModel> Engine<'m, M> {
         ensures pending { IfErr result (λ fault. self.new.pending ≡ self.old.pending) }
         ensures records { IfErr result (λ fault. self.new.records.items ≡ self.old.records.items) }
         ensures processes { IfErr result (λ fault. self.new.processes.items ≡ self.old.processes.items) }
-        ensures refused { let sim = simulation_of (M.handlers self.old.model.now) self.old.config in (n : ℕ) → StandsAt sim n self.old.pending.events self.old.processes.items self.old.records.items → IfErr result (λ fault. (fault ≡ Memory) ⊎ ((fault ≡ Exhausted) × (p : ℕ) × (MAX_COUNT < (after sim p (events_of p (after_steps sim (suc n)).executed)).number))) }
+        ensures refused { let sim = simulation_of (M.handlers self.old.model.now) self.old.config in (n : ℕ) → StandsAt sim n self.old.pending.events self.old.processes.items self.old.records.items → IfErr result (IsStepRefusal sim n) }
         ensures faults { IfErr result (λ fault. (fault ≡ Memory) ⊎ (fault ≡ Exhausted)) }
     {
         let Some(event) = self.pending.first() else {
@@ -129,15 +130,17 @@ impl<'m, M: EventModel> Engine<'m, M> {
 
     /// Executes events until none is pending, and answers the records of the whole run.
     ///
-    /// [`Fault::Memory`], [`Fault::Exhausted`] as of [`Sequential::step`]: the steps made before stand, and the run may be
-    /// gone on with.
+    /// [`Fault::Exhausted`]: the next step would let a send number pass 2^63. [`Fault::Memory`]: it would not, and memory was
+    /// refused. After either the steps made before stand, and the run may be gone on with.
     pub(crate) fn run(&mut self, alloc: Global) -> Result<Vec<Record>, Fault>
         ensures model { self.new.model.now ≡ self.old.model.now }
         ensures config { self.new.config ≡ self.old.config }
         ensures whole { IfOk result (λ v. v.items ≡ seq_records (simulation_of (M.handlers self.old.model.now) self.old.config) self.old.config.end) }
         ensures faults { IfErr result (λ fault. (fault ≡ Memory) ⊎ (fault ≡ Exhausted)) }
         ensures nothing_left { IfOk result (λ v. self.new.pending.events ≡ []) }
+        ensures counted { IfOk result (λ v. IsCountedWhole (simulation_of (M.handlers self.old.model.now) self.old.config)) }
         ensures stands { let sim = simulation_of (M.handlers self.old.model.now) self.old.config in (n : ℕ) → StandsAt sim n self.old.pending.events self.old.processes.items self.old.records.items → (k : ℕ) × StandsAt sim (k + n) self.new.pending.events self.new.processes.items self.new.records.items }
+        ensures refused { let sim = simulation_of (M.handlers self.old.model.now) self.old.config in (n : ℕ) → StandsAt sim n self.old.pending.events self.old.processes.items self.old.records.items → IfErr result (λ fault. (k : ℕ) × StandsAt sim (k + n) self.new.pending.events self.new.processes.items self.new.records.items × IsStepRefusal sim (k + n) fault) }
     {
         while self.step()? {}
         let mut all = Vec::new(alloc);
@@ -148,11 +151,12 @@ impl<'m, M: EventModel> Engine<'m, M> {
 
     /// The final value of each process, in rising order of processes.
     ///
-    /// [`Fault::NotLawful`]: an event is pending still. [`Fault::Memory`]: memory was refused.
+    /// [`Fault::NotLawful`]: an event is pending still. [`Fault::Memory`]: none is, and memory was refused.
     pub(crate) fn finals(&self, alloc: Global) -> Result<Vec<u64>, Fault>
         ensures values { let sim = simulation_of (M.handlers self.now.model.now) self.now.config in IfOk result (λ v. v.items ≡ map (λ p. (M.handlers self.now.model.now).finish p (after sim p (events_of p (whole_run sim))).state) (numbers_below self.now.config.lps)) }
         ensures nothing_left { IfOk result (λ v. self.now.pending.events ≡ []) }
-        ensures refused { IfErr result (λ fault. (fault ≡ Memory) ⊎ ((fault ≡ NotLawful) × (0 < length self.now.pending.events))) }
+        ensures not_lawful { 0 < length self.now.pending.events → result ≡ Err NotLawful }
+        ensures refused { self.now.pending.events ≡ [] → IfErr result (λ fault. fault ≡ Memory) }
     {
         let None = self.pending.first() else {
             return Err(Fault::NotLawful);

@@ -1,10 +1,10 @@
 //! The sequential run of a model.
 
-ghost use Rattle.std.specs.Prelude.{◌≡◌, ℕ, suc, ◌+◌, ◌<◌, ◌≤◌, ◌↔◌, ◌⊎◌, [], length, IfOk, IfErr, IsTrue, IfSome, IfNone, false, true};
-ghost use Rattle.vt_key.specs.declared.limits.TheConstants.{MAX_COUNT};
+ghost use Rattle.std.specs.Prelude.{◌≡◌, ℕ, suc, ◌+◌, ◌<◌, ◌≤◌, ◌↔◌, ◌⊎◌, [], length, IfOk, IfErr, IsTrue, IfSome, IfNone, Err, false, true};
 ghost use Rattle.vt_model.specs.Simulation.{simulation_of, after};
 ghost use Rattle.vt_model.specs.Sequential.{after_steps, events_of, rows_after, rows_before, records_of, seq_records, seq_finals};
-ghost use Rattle.vt_seq.specs.Progress.{IsAfter};
+ghost use Rattle.vt_seq.specs.Limits.{IsCounted, IsCountedWhole, IsStepRefusal};
+ghost use Rattle.vt_seq.specs.Progress.{IsAfter, IsReached};
 
 use crate::engine::Engine;
 use std::alloc::Global;
@@ -15,7 +15,8 @@ use vt_model::{Config, Model as EventModel, Record};
 /// A sequential run of a model, from its first event to any later one.
 ///
 /// Contracts see it as its model and config, the pending events, where each process stands and the records so far, and say by
-/// `IsAfter sim n` that it is where the sequential run of the definitions is after `n` steps.
+/// `IsAfter sim n` that it is where the sequential run of the definitions is after `n` steps. The type keeps that it is there
+/// after some number of steps (`IsReached`).
 #[derive(Drop)]
 pub struct Sequential<'m, M: EventModel> {
     engine: Engine<'m, M>,
@@ -55,6 +56,7 @@ impl<'m, M: EventModel> Sequential<'m, M> {
     /// None where there is no such process.
     pub fn number(&self, p: u32) -> Option<u64>
         ensures unknown { IfNone result (self.now.config.lps ≤ p) }
+        ensures reached { IsReached (M.handlers self.now.model) self.now }
         ensures value { let sim = simulation_of (M.handlers self.now.model) self.now.config in (n : ℕ) → IsAfter sim n self.now → IfSome result (λ v. (p < self.now.config.lps) × (v ≡ (after sim p (events_of p (after_steps sim n).executed)).number)) }
     {
         self.engine.number(p)
@@ -64,6 +66,7 @@ impl<'m, M: EventModel> Sequential<'m, M> {
     /// None where there is no such process.
     pub fn place(&self, p: u32) -> Option<u64>
         ensures unknown { IfNone result (self.now.config.lps ≤ p) }
+        ensures reached { IsReached (M.handlers self.now.model) self.now }
         ensures value { let sim = simulation_of (M.handlers self.now.model) self.now.config in (n : ℕ) → IsAfter sim n self.now → IfSome result (λ v. (p < self.now.config.lps) × (v ≡ (after sim p (events_of p (after_steps sim n).executed)).place)) }
     {
         self.engine.place(p)
@@ -74,6 +77,7 @@ impl<'m, M: EventModel> Sequential<'m, M> {
     /// [`Fault::Memory`]: memory was refused.
     pub fn records_below(&self, alloc: Global, t: Time) -> Result<Vec<Record>, Fault>
         ensures rows { let sim = simulation_of (M.handlers self.now.model) self.now.config in (n : ℕ) → IsAfter sim n self.now → IfOk result (λ v. v.items ≡ records_of (rows_before t (rows_after sim [] (after_steps sim n).executed))) }
+        ensures reached { IsReached (M.handlers self.now.model) self.now }
         ensures refused { IfErr result (λ fault. fault ≡ Fault.Memory) }
     {
         self.engine.records_below(alloc, t)
@@ -81,8 +85,8 @@ impl<'m, M: EventModel> Sequential<'m, M> {
 
     /// Executes the pending event of least key; false where none is pending, which changes nothing.
     ///
-    /// [`Fault::Memory`]: memory was refused. [`Fault::Exhausted`]: the process's send number would pass 2^63. After
-    /// either all is as it was, and the step may be tried again.
+    /// [`Fault::Exhausted`]: the process's send number would pass 2^63. [`Fault::Memory`]: it would not, and memory was
+    /// refused. After either all is as it was, and the step may be tried again.
     pub fn step(&mut self) -> Result<bool, Fault>
         ensures model { self.new.model ≡ self.old.model }
         ensures config { self.new.config ≡ self.old.config }
@@ -91,34 +95,40 @@ impl<'m, M: EventModel> Sequential<'m, M> {
         ensures steps { let sim = simulation_of (M.handlers self.old.model) self.old.config in (n : ℕ) → IsAfter sim n self.old → IfOk result (λ more. IsAfter sim (suc n) self.new) }
         ensures kept { IfErr result (λ fault. self.new ≡ self.old) }
         ensures faults { IfErr result (λ fault. (fault ≡ Fault.Memory) ⊎ (fault ≡ Fault.Exhausted)) }
-        ensures exhausted { let sim = simulation_of (M.handlers self.old.model) self.old.config in (n : ℕ) → IsAfter sim n self.old → IfErr result (λ fault. fault ≡ Fault.Exhausted → (p : ℕ) × (MAX_COUNT < (after sim p (events_of p (after_steps sim (suc n)).executed)).number)) }
+        ensures reached { IsReached (M.handlers self.old.model) self.old }
+        ensures counted { let sim = simulation_of (M.handlers self.old.model) self.old.config in (n : ℕ) → IsAfter sim n self.old → IfOk result (λ more. IsCounted sim (suc n)) }
+        ensures refused { let sim = simulation_of (M.handlers self.old.model) self.old.config in (n : ℕ) → IsAfter sim n self.old → IfErr result (IsStepRefusal sim n) }
     {
         self.engine.step()
     }
 
     /// Executes events until none is pending, and answers the records of the whole run.
     ///
-    /// [`Fault::Memory`], [`Fault::Exhausted`] as of [`Sequential::step`]: the steps made before stand, and the run may be
-    /// gone on with.
+    /// [`Fault::Exhausted`]: the next step would let a send number pass 2^63. [`Fault::Memory`]: it would not, and memory was
+    /// refused. After either the steps made before stand, and the run may be gone on with.
     pub fn run(&mut self, alloc: Global) -> Result<Vec<Record>, Fault>
         ensures model { self.new.model ≡ self.old.model }
         ensures config { self.new.config ≡ self.old.config }
         ensures whole { let sim = simulation_of (M.handlers self.old.model) self.old.config in IfOk result (λ v. v.items ≡ seq_records sim self.old.config.end) }
         ensures nothing_left { IfOk result (λ v. self.new.pending ≡ []) }
         ensures steps { let sim = simulation_of (M.handlers self.old.model) self.old.config in (n : ℕ) → IsAfter sim n self.old → (k : ℕ) × IsAfter sim (k + n) self.new }
+        ensures reached { IsReached (M.handlers self.old.model) self.old }
+        ensures counted { IfOk result (λ v. IsCountedWhole (simulation_of (M.handlers self.old.model) self.old.config)) }
         ensures faults { IfErr result (λ fault. (fault ≡ Fault.Memory) ⊎ (fault ≡ Fault.Exhausted)) }
+        ensures refused { let sim = simulation_of (M.handlers self.old.model) self.old.config in (n : ℕ) → IsAfter sim n self.old → IfErr result (λ fault. (k : ℕ) × IsAfter sim (k + n) self.new × IsStepRefusal sim (k + n) fault) }
     {
         self.engine.run(alloc)
     }
 
     /// The final value of each process, in rising order of processes.
     ///
-    /// [`Fault::NotLawful`]: an event is pending still. [`Fault::Memory`]: memory was refused.
+    /// [`Fault::NotLawful`]: an event is pending still. [`Fault::Memory`]: none is, and memory was refused.
     pub fn finals(&self, alloc: Global) -> Result<Vec<u64>, Fault>
         ensures values { let sim = simulation_of (M.handlers self.now.model) self.now.config in IfOk result (λ v. v.items ≡ seq_finals sim) }
         ensures nothing_left { IfOk result (λ v. self.now.pending ≡ []) }
-        ensures faults { IfErr result (λ fault. (fault ≡ Fault.Memory) ⊎ (fault ≡ Fault.NotLawful)) }
-        ensures not_lawful { IfErr result (λ fault. fault ≡ Fault.NotLawful → 0 < length self.now.pending) }
+        ensures reached { IsReached (M.handlers self.now.model) self.now }
+        ensures not_lawful { 0 < length self.now.pending → result ≡ Err Fault.NotLawful }
+        ensures refused { self.now.pending ≡ [] → IfErr result (λ fault. fault ≡ Fault.Memory) }
     {
         self.engine.finals(alloc)
     }

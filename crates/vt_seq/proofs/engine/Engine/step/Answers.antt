@@ -6,17 +6,18 @@ use Rattle.vt_key.specs.declared.limits.TheConstants.{MAX_COUNT}
 use base.Stored.{Coded-set}
 use Rattle.vt_model.specs.declared.rows.Record.{Record}
 use Rattle.vt_model.specs.declared.sending.Sent.{Sent}
-use Rattle.vt_model.specs.Simulation.{simulation_of, Triple, after}
+use Rattle.vt_model.specs.Simulation.{simulation_of, Triple}
 use Rattle.vt_model.specs.Sequential.{after_steps, events_of, weight}
 use Rattle.vt_model.specs.Histories.{Among}
 use Rattle.vt_model.proofs.LawLemmas.{lawful_of, after_state}
 use Rattle.vt_model.proofs.EndLemmas.{no_step}
 use Rattle.vt_model.specs.Process.{triple_at, IsProcessStream}
+use Rattle.vt_seq.specs.Limits.{IsStepRefusal}
 use Rattle.vt_seq.specs.StandsFor.{StandsFor, StandsAt}
 use Rattle.vt_seq.specs.Letters.{HeldEvents}
 use Rattle.vt_seq.specs.Queue.{IsWithinRun}
 use Rattle.vt_model.specs.declared.process.Process.{Process}
-use Rattle.vt_seq.proofs.StepLemmas.{stands_step, either_way, taken_next, falls, among-at, at-among, nothing_left, set_same, in_err, set_all, first_there, none_there, numbers_below_next, next_triple, if_err}
+use Rattle.vt_seq.proofs.StepLemmas.{stands_step, either_way, taken_next, falls, counted_next, among-at, at-among, nothing_left, set_same, in_err, set_all, first_there, none_there, numbers_below_next, next_triple, if_err}
 use Rattle.vt_seq.proofs.engine.Engine.step.Goals as goal
 
 pub returns-in_default-clause-steps : goal.returns-in_default-clause-steps
@@ -124,17 +125,16 @@ returns-in_err-advance-clause-refused g c n st =
     let there : length processes ≡ sim.lps = search (rules, c.args.self.now.all_there) in
     let taken = at-among (IsWithinRun sim.lps sim.end) items c.args.self.now.within_run e (subst (λ (d : Sent _). Among d items) first (among-at items 0 e some)) in
     let after_is = next_triple sim lawful n e items processes c.args.self.now.records.items p st taken.known some first at in
-    if_err (λ fault. (fault ≡ Memory) ⊎ ((fault ≡ Exhausted) × (r : ℕ) × (MAX_COUNT < (after sim r (events_of r (after_steps sim (suc n)).executed)).number)))
-    c.from_residual.result c.in_err-advance.field-0.0 c.from_residual.ensures.1
+    if_err (IsStepRefusal sim n) c.from_residual.result c.in_err-advance.field-0.0 c.from_residual.ensures.1
     (elim c.in_err-advance.ensures.refused [
-      | inl h ↦ inl h
-      | inr h ↦ inr (h.0, e.dest, subst (λ (t : Triple _). MAX_COUNT < t.number) after_is h.1)
+      | inl h ↦ inl (h.0, (e.dest, taken.known, subst (λ (t : Triple _). MAX_COUNT < t.number) after_is h.1))
+      | inr h ↦ inr (h.0, counted_next sim lawful n e items processes c.args.self.now.records.items p st there c.args.self.now.numbered taken.known some first at h.1)
     ])
 
 pub returns-in_err-advance-clause-faults : goal.returns-in_err-advance-clause-faults
 returns-in_err-advance-clause-faults g c =
     if_err (λ fault. (fault ≡ Memory) ⊎ (fault ≡ Exhausted)) c.from_residual.result c.in_err-advance.field-0.0 c.from_residual.ensures.1
-    (elim c.in_err-advance.ensures.refused [ inl h ↦ inl h | inr h ↦ inr h.0 ])
+    (elim c.in_err-advance.ensures.refused [ inl h ↦ inr h.0 | inr h ↦ inl h.0 ])
 
 pub invariant_of-self : goal.invariant_of-self
 invariant_of-self g c =

@@ -1,12 +1,13 @@
-use Rattle.std.proofs.Common.{rules, ◌≡◌, ℕ, suc, ◌<◌, ◌≤◌, inl, inr, length, IfOk, IfErr, true, sym, ◌∙◌, subst, arith}
+use Rattle.std.proofs.Common.{rules, ◌≡◌, ℕ, suc, ◌≤◌, length, IfOk, IfErr, true, ap, subst, arith}
 use Rattle.std.proofs.Math.Logic.{∥∥₁_elim}
 use Rattle.std.proofs.Props.{props}
-use Rattle.vt_key.specs.declared.fault.Fault.TheVariants.{Memory, Exhausted}
-use Rattle.vt_key.specs.declared.limits.TheConstants.{MAX_COUNT}
-use Rattle.vt_model.specs.Simulation.{simulation_of, after}
-use Rattle.vt_model.specs.Sequential.{after_steps, events_of}
-use Rattle.vt_seq.specs.Progress.{Progress, IsAfter}
-use Rattle.vt_seq.proofs.ProgressLemmas.{seen, are_rising, rising-tested, stands-after, after-stands, if_ok-map, if_err-map}
+use Rattle.vt_model.specs.Simulation.{simulation_of}
+use Rattle.vt_model.specs.declared.settings.Config.{Config}
+use Rattle.vt_model.proofs.LawLemmas.{lawful_of}
+use Rattle.vt_seq.specs.Limits.{IsCounted, IsStepRefusal}
+use Rattle.vt_seq.specs.Progress.{Progress, IsAfter, IsReached}
+use Rattle.vt_seq.proofs.ProgressLemmas.{seen-reached, seen, are_rising, rising-tested, stands-after, after-stands, if_ok-map}
+use Rattle.vt_seq.proofs.StepLemmas.{AreCounted, counted_at}
 use Rattle.vt_seq.proofs.run.Sequential.step.Goals as goal
 
 pub returns-clause-steps : goal.returns-clause-steps
@@ -22,12 +23,32 @@ returns-clause-steps g c =
     (λ n is. if_ok-map _ _ c.step.result (c.step.ensures.steps n (after-stands sim e.model.now e.config n e.pending.events e.processes.items e.records.items rises is))
     (λ more st. stands-after sim f.model.now f.config (suc n) f.pending.events f.processes.items f.records.items there st))
 
-pub returns-clause-exhausted : goal.returns-clause-exhausted
-returns-clause-exhausted g c =
+pub returns-clause-refused : goal.returns-clause-refused
+returns-clause-refused g c =
     let e = c.self.inside.engine in
     let sim = simulation_of (g.M.Model.handlers e.model.now) e.config in
     let rises : are_rising e.pending.events ≡ true = ∥∥₁_elim e.stands (Prim.hlevel props) (λ x. rising-tested e.pending.events x.1.rising) in
-    subst (λ (v : Progress _ _ _). (n : ℕ) → IsAfter (simulation_of (g.M.Model.handlers v.model) v.config) n v → IfErr c.step.result (λ fault. fault ≡ Exhausted → (p : ℕ) × (MAX_COUNT < (after (simulation_of (g.M.Model.handlers v.model) v.config) p (events_of p (after_steps (simulation_of (g.M.Model.handlers v.model) v.config) (suc n)).executed)).number)))
+    subst (λ (v : Progress _ _ _). (n : ℕ) → IsAfter (simulation_of (g.M.Model.handlers v.model) v.config) n v → IfErr c.step.result (IsStepRefusal (simulation_of (g.M.Model.handlers v.model) v.config) n))
     c.self.view_is
-    (λ n is. if_err-map _ _ c.step.result (c.step.ensures.refused n (after-stands sim e.model.now e.config n e.pending.events e.processes.items e.records.items rises is))
-    (λ fault why spent. elim why [ inl memory ↦ absurd (let w : Memory ≡ Exhausted = sym memory ∙ spent in cc) | inr h ↦ (h.1, h.2) ]))
+    (λ n is. c.step.ensures.refused n (after-stands sim e.model.now e.config n e.pending.events e.processes.items e.records.items rises is))
+
+pub returns-clause-counted : goal.returns-clause-counted
+returns-clause-counted g c =
+    let e = c.self.inside.engine in
+    let sim = simulation_of (g.M.Model.handlers e.model.now) e.config in
+    let rises : are_rising e.pending.events ≡ true = ∥∥₁_elim e.stands (Prim.hlevel props) (λ x. rising-tested e.pending.events x.1.rising) in
+    let f = c.step.new.self in
+    let there : length f.processes.items ≡ sim.lps = search (rules, arith, f.all_there, c.step.ensures.config) in
+    let numbered : AreCounted sim.lps f.processes.items = subst (λ (lps : ℕ). AreCounted lps f.processes.items) (ap (λ (d : Config). d.lps) c.step.ensures.config) f.numbered in
+    let lawful = lawful_of (g.M.Model.handlers e.model.now) e.config (g.met.M.Model.start_within e.model.now) (g.met.M.Model.forward_within e.model.now) in
+    subst (λ (v : Progress _ _ _). (n : ℕ) → IsAfter (simulation_of (g.M.Model.handlers v.model) v.config) n v → IfOk c.step.result (λ more. IsCounted (simulation_of (g.M.Model.handlers v.model) v.config) (suc n)))
+    c.self.view_is
+    (λ n is. if_ok-map _ _ c.step.result (c.step.ensures.steps n (after-stands sim e.model.now e.config n e.pending.events e.processes.items e.records.items rises is))
+    (λ more st. counted_at sim lawful (suc n) f.pending.events f.processes.items f.records.items st there numbered))
+
+pub returns-clause-reached : goal.returns-clause-reached
+returns-clause-reached g c =
+    let e = c.self.inside.engine in
+    let there : e.config.lps ≤ length e.processes.items = search (rules, arith, e.all_there) in
+    subst (λ (v : Progress _ _ _). IsReached (g.M.Model.handlers v.model) v) c.self.view_is
+    (seen-reached (g.M.Model.handlers e.model.now) e.model.now e.config e.pending.events e.processes.items e.records.items there e.stands)
