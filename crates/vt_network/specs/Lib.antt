@@ -1,0 +1,4 @@
+pub mod Options
+pub mod Queue
+pub mod Network
+pub mod NetworkLaws

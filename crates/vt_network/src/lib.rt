@@ -1,0 +1,8 @@
+//! Packets in a network of routers on a ring with chords, each router with one finite first-in-first-out buffer.
+#![tactic(auto)]
+
+mod network;
+mod queue;
+
+pub use network::{DELIVERED, DROPPED, MAX_TICKS, Network, NetworkEvent, Router};
+pub use queue::{Packet, Queue, ROOM};

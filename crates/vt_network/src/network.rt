@@ -1,0 +1,314 @@
+//! The network and its routers.
+
+ghost use Rattle.std.specs.Prelude.{◌≡◌, ◌+◌, ◌<◌, ◌≤◌, [], length, None, IfOk, IfErr};
+ghost use Rattle.std.specs.Option.{IsSome};
+ghost use Rattle.vt_key.specs.Faults.{option_named};
+ghost use Rattle.vt_key.specs.declared.limits.TheConstants.{MAX_PROCESSES};
+ghost use Rattle.vt_model.specs.declared.limits.TheConstants.{MAX_SENDS, MAX_RECORDS};
+ghost use Rattle.vt_model.specs.Sends.{with_requests};
+ghost use Rattle.vt_network.specs.Options.{first_bad_option};
+
+use crate::queue::{BLANK, Packet, Queue, ROOM};
+use vt_key::{Fault, MAX_PROCESSES, Time};
+use vt_model::{Bits, Draws, Model as EventModel, Out};
+
+/// The kind of a record of a packet that has arrived, by how long it was on its way.
+pub const DELIVERED: u32 = 1;
+
+/// The kind of a record of a packet that found a full buffer, by who had made it.
+pub const DROPPED: u32 = 2;
+
+/// The most ticks that an option may be.
+pub const MAX_TICKS: u32 = 1_000_000;
+
+/// What happens at a router.
+#[derive(Debug, Clone, Copy, PartialEq, Eq)]
+pub enum NetworkEvent {
+    /// The host at this router makes a packet.
+    Generate,
+    /// A packet comes in.
+    Arrive(Packet),
+    /// The first packet of the buffer has been served.
+    Served,
+}
+
+/// The state of a router. Its counts are modulo 2^64.
+#[derive(Debug, Clone, Copy, PartialEq, Eq)]
+pub struct Router {
+    /// The packets that wait, and the one that is served, which is the first.
+    pub queue: Queue,
+    /// How many packets its host has made.
+    pub made: u64,
+    /// How many packets have reached its host.
+    pub delivered: u64,
+    /// How many packets found its buffer full.
+    pub dropped: u64,
+}
+
+/// Routers on a ring with chords. Router `p` has links to `p + 1`, `p - 1`, `p + columns` and `p - columns`, modulo their
+/// number.
+///
+/// Each router has a host, which makes packets for routers drawn at random, with a drawn time of 1 to `gap` ticks between two. A
+/// packet comes into its own router one tick after it was made. A router that isn't its destination puts it behind the others
+/// into its buffer of [`ROOM`] packets, or drops it where the buffer is full. It works `service` ticks on the first packet of the
+/// buffer, and sends it on over the longest link that doesn't lead too far; the way takes `link` ticks.
+///
+/// A packet that has reached its destination is recorded under kind [`DELIVERED`] by the ticks since it was made, one that is
+/// dropped under kind [`DROPPED`] by the router that made it. The final value of a router is how many packets it has dropped.
+#[derive(Debug, Clone, Copy, PartialEq, Eq)]
+pub struct Network {
+    /// The length of a chord.
+    columns: u32,
+    /// The longest time between two packets of a host.
+    gap: u32,
+    /// The ticks that a router works on a packet.
+    service: u32,
+    /// The ticks that a packet needs on a link.
+    link: u32,
+    ghost some_gap: { 1 ≤ gap },
+    ghost some_service: { 1 ≤ service },
+    ghost some_link: { 1 ≤ link },
+}
+
+impl Network {
+    ghost use Rattle.vt_network.specs.Network.{step, next_hop, one_more, made_sends, arrived, arrived_kept, arrived_sends, arrived_records, gone_on, gone_kept, gone_sends};
+
+    /// The network whose chords lead `columns` (1 to 65,536) routers on, with up to `gap` ticks between two packets of a host,
+    /// `service` ticks of work for a packet and `link` ticks on a link (each 1 to 1,000,000).
+    ///
+    /// [`Fault::BadOption`] names the first that is out of its range: `columns`, `gap`, `service` or `link`.
+    pub fn new(columns: u32, gap: u32, service: u32, link: u32) -> Result<Network, Fault>
+        ensures good { IfOk result (λ m. first_bad_option columns gap service link ≡ None) }
+        ensures same { IfOk result (λ m. (m.columns ≡ columns) × (m.gap ≡ gap) × (m.service ≡ service) × (m.link ≡ link)) }
+        ensures bad { IfErr result (λ fault. IsSome (first_bad_option columns gap service link)) }
+        ensures named { IfErr result (λ fault. option_named fault ≡ first_bad_option columns gap service link) }
+    {
+        if columns < 1 || columns > MAX_PROCESSES {
+            return Err(Fault::BadOption("columns"));
+        }
+        if gap < 1 || gap > MAX_TICKS {
+            return Err(Fault::BadOption("gap"));
+        }
+        if service < 1 || service > MAX_TICKS {
+            return Err(Fault::BadOption("service"));
+        }
+        if link < 1 || link > MAX_TICKS {
+            return Err(Fault::BadOption("link"));
+        }
+        Ok(Network {
+            columns,
+            gap,
+            service,
+            link,
+        })
+    }
+
+    // The next router on the way from router `lp` to `dest`.
+    fn next_hop(&self, lp: u32, dest: u32, lps: u32) -> u32
+        requires known { lp < lps }
+        requires few { lps ≤ MAX_PROCESSES }
+        ensures { result ≡ next_hop self.now lps lp dest }
+    {
+        let ahead = (dest % lps + lps - lp) % lps;
+        if ahead <= lps / 2 {
+            (lp + self.step(ahead)) % lps
+        } else {
+            (lp + lps - self.step(lps - ahead)) % lps
+        }
+    }
+
+    // The longest link that doesn't lead too far.
+    fn step(&self, left: u32) -> u32
+        ensures { result ≡ step self.now left }
+    {
+        if left < self.columns { 1 } else { self.columns }
+    }
+
+    #[tactic(auto, using(vt_model::proofs::RequestLemmas::sent_after))]
+    // The host makes a packet.
+    fn generate(
+        &self,
+        lp: u32,
+        now: Time,
+        gap: u64,
+        dest: u32,
+        router: &mut Router,
+        out: &mut Out<NetworkEvent>,
+    )
+        requires known { lp < out.old.lps }
+        requires later { 0 < gap }
+        requires room { out.old.number + 1 < out.old.first + MAX_SENDS }
+        ensures router { router.new ≡ record router.old { made = one_more router.old.made } }
+        ensures out { out.new ≡ with_requests out.old (made_sends lp now gap dest) [] }
+    {
+        router.made = router.made.wrapping_add(1);
+        out.send(lp, gap, NetworkEvent::Generate);
+        out.send(
+            lp,
+            1,
+            NetworkEvent::Arrive(Packet {
+                source: lp,
+                dest,
+                born: now,
+            }),
+        );
+    }
+
+    #[tactic(auto, using(vt_model::proofs::RequestLemmas::no_requests))]
+    // A packet comes in.
+    fn arrive(
+        &self,
+        lp: u32,
+        now: Time,
+        packet: Packet,
+        router: &mut Router,
+        out: &mut Out<NetworkEvent>,
+    ) -> Option<Packet>
+        requires known { lp < out.old.lps }
+        requires room { out.old.number < out.old.first + MAX_SENDS }
+        requires emit_room { length out.old.records < MAX_RECORDS }
+        ensures kept { result ≡ arrived_kept lp packet router.old }
+        ensures router { router.new ≡ arrived lp packet router.old }
+        ensures out { out.new ≡ with_requests out.old (arrived_sends self.now lp packet router.old) (arrived_records lp now packet router.old) }
+    {
+        if packet.dest == lp {
+            router.delivered = router.delivered.wrapping_add(1);
+            out.emit(DELIVERED, now.wrapping_sub(packet.born));
+            return None;
+        }
+        if router.queue.len == ROOM {
+            router.dropped = router.dropped.wrapping_add(1);
+            out.emit(DROPPED, u64::from(packet.source));
+            return None;
+        }
+        if router.queue.len == 0 {
+            out.send(lp, u64::from(self.service), NetworkEvent::Served);
+        }
+        Some(router.queue.push(packet))
+    }
+
+    #[tactic(auto, using(vt_model::proofs::RequestLemmas::no_requests, vt_model::proofs::RequestLemmas::sent_after))]
+    // The first packet goes on.
+    fn serve(&self, lp: u32, router: &mut Router, out: &mut Out<NetworkEvent>) -> Option<Packet>
+        requires known { lp < out.old.lps }
+        requires few { out.old.lps ≤ MAX_PROCESSES }
+        requires room { out.old.number + 1 < out.old.first + MAX_SENDS }
+        ensures kept { result ≡ gone_kept router.old }
+        ensures router { router.new ≡ gone_on router.old }
+        ensures out { out.new ≡ with_requests out.old (gone_sends self.now out.old.lps lp router.old) [] }
+    {
+        if router.queue.len == 0 {
+            return None;
+        }
+        let packet = router.queue.pop();
+        let next = self.next_hop(lp, packet.dest, out.lps());
+        out.send(next, u64::from(self.link), NetworkEvent::Arrive(packet));
+        if router.queue.len != 0 {
+            out.send(lp, u64::from(self.service), NetworkEvent::Served);
+        }
+        Some(packet)
+    }
+}
+
+impl EventModel for Network {
+    type State = Router;
+
+    type Payload = NetworkEvent;
+
+    type Kept = Option<Packet>;
+
+    ghost use Rattle.std.proofs.Common.{lit<, lit≤};
+    ghost use Rattle.vt_network.specs.Network.{network_handlers, IsRouter};
+    ghost use Rattle.vt_network.specs.NetworkLaws.{start_within, forward_within, start_state, forward_state, undoes};
+
+    ghost handlers = { network_handlers };
+
+    ghost IsState = { λ m s. IsRouter s };
+
+    fn start(&self, lp: u32, draws: &mut Draws<'_>, out: &mut Out<NetworkEvent>) -> Router {
+        let first = 1 + draws.below(u64::from(self.gap));
+        out.send(lp, first, NetworkEvent::Generate);
+        Router {
+            queue: Queue {
+                items: [BLANK; ROOM],
+                head: 0,
+                len: 0,
+            },
+            made: 0,
+            delivered: 0,
+            dropped: 0,
+        }
+    }
+
+    fn forward(
+        &self,
+        lp: u32,
+        now: Time,
+        payload: NetworkEvent,
+        state: &mut Router,
+        _bits: &mut Bits,
+        draws: &mut Draws<'_>,
+        out: &mut Out<NetworkEvent>,
+    ) -> Option<Packet> {
+        match payload {
+            NetworkEvent::Generate => {
+                let gap = 1 + draws.below(u64::from(self.gap));
+                let dest = draws.below(u64::from(out.lps())) as u32;
+                self.generate(lp, now, gap, dest, state, out);
+                None
+            }
+            NetworkEvent::Arrive(packet) => self.arrive(lp, now, packet, state, out),
+            NetworkEvent::Served => self.serve(lp, state, out),
+        }
+    }
+
+    fn reverse(
+        &self,
+        lp: u32,
+        _now: Time,
+        payload: NetworkEvent,
+        state: &mut Router,
+        _bits: Bits,
+        kept: Option<Packet>,
+    ) {
+        match payload {
+            NetworkEvent::Generate => state.made = state.made.wrapping_sub(1),
+            NetworkEvent::Arrive(packet) => {
+                if packet.dest == lp {
+                    state.delivered = state.delivered.wrapping_sub(1);
+                } else if let Some(before) = kept {
+                    state.queue.unpush(before);
+                } else {
+                    state.dropped = state.dropped.wrapping_sub(1);
+                }
+            }
+            NetworkEvent::Served => {
+                if kept.is_some() {
+                    state.queue.unpop();
+                }
+            }
+        }
+    }
+
+    fn finish(&self, _lp: u32, state: &Router) -> u64 {
+        state.dropped
+    }
+
+    ghost start_within = { start_within };
+
+    ghost forward_within = { forward_within };
+
+    ghost start_state = { start_state };
+
+    ghost forward_state = { forward_state };
+
+    ghost undoes = { undoes };
+
+    ghost payload_size = { lit< tt };
+
+    ghost payload_align = { (lit≤ tt, lit≤ tt) };
+
+    ghost kept_size = { lit< tt };
+
+    ghost kept_align = { (lit≤ tt, lit≤ tt) };
+}

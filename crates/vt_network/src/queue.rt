@@ -1,0 +1,79 @@
+//! A finite FIFO buffer of packets.
+
+ghost use Rattle.std.specs.Prelude.{◌≡◌, ◌<◌};
+
+/// How many packets there is room for.
+pub const ROOM: usize = 8;
+
+/// A packet.
+#[derive(Debug, Clone, Copy, PartialEq, Eq)]
+pub struct Packet {
+    /// The router that made it.
+    pub source: u32,
+    /// The router that it goes to.
+    pub dest: u32,
+    /// When it was made.
+    pub born: u64,
+}
+
+/// No packet.
+pub const BLANK: Packet = Packet {
+    source: 0,
+    dest: 0,
+    born: 0,
+};
+
+/// A queue of up to [`ROOM`] packets.
+#[derive(Debug, Clone, Copy, PartialEq, Eq)]
+pub struct Queue {
+    /// The packets lie from `head` on, round the end. The other places have packets that were here before.
+    pub items: [Packet; ROOM],
+    /// Where the first packet is.
+    pub head: usize,
+    /// How many packets there are.
+    pub len: usize,
+}
+
+impl Queue {
+    ghost use Rattle.vt_network.specs.Queue.{overwritten, pushed, unpushed, first, popped, unpopped};
+
+    /// Puts a packet behind the others, and answers what stood in its place.
+    pub fn push(&mut self, item: Packet) -> Packet
+        ensures queue { self.new ≡ pushed self.old item }
+        ensures before { result ≡ overwritten self.old }
+    {
+        let place = self.head.wrapping_add(self.len) % ROOM;
+        let before = self.items[place];
+        self.items[place] = item;
+        self.len = self.len.wrapping_add(1);
+        before
+    }
+
+    /// Undoes `push`.
+    pub fn unpush(&mut self, before: Packet)
+        ensures { self.new ≡ unpushed self.old before }
+    {
+        self.len = self.len.wrapping_sub(1);
+        self.items[self.head.wrapping_add(self.len) % ROOM] = before;
+    }
+
+    /// Takes the first packet out. There must be one. It stays in its place.
+    pub fn pop(&mut self) -> Packet
+        requires { 0 < self.old.len }
+        ensures queue { self.new ≡ popped self.old }
+        ensures item { result ≡ first self.old }
+    {
+        let item = self.items[self.head % ROOM];
+        self.head = (self.head % ROOM + 1) % ROOM;
+        self.len -= 1;
+        item
+    }
+
+    /// Undoes `pop`.
+    pub fn unpop(&mut self)
+        ensures { self.new ≡ unpopped self.old }
+    {
+        self.head = (self.head % ROOM + (ROOM - 1)) % ROOM;
+        self.len = self.len.wrapping_add(1);
+    }
+}
