@@ -22,6 +22,7 @@ use simulation::simulate;
 use std::alloc::Global;
 use std::convert::AsStr;
 use std::io::{Read, Write};
+use std::sync::Wait;
 use std::thread::Threads;
 use vt_command::{Request, read_request};
 use vt_key::Fault;
@@ -29,7 +30,7 @@ pub use vt_text::print_records;
 use vt_text::write_bytes;
 
 /// Does what the words ask for.
-fn answer<H: Threads + Sync, S: AsStr, R: Read, O: Write>(
+fn answer<H: Threads + Wait + Sync, S: AsStr, R: Read, O: Write>(
     rt: &H,
     alloc: Global,
     words: &[S],
@@ -71,7 +72,7 @@ fn answer<H: Threads + Sync, S: AsStr, R: Read, O: Write>(
 /// - 9, `out` failed: a beginning of the text was written, and the last of it was not.
 ///
 /// The handle is used for the threads of such a run alone. The reader is read where the words ask for a replay, to its end, and else not.
-pub fn program<H: Threads + Sync, S: AsStr, R: Read, O: Write, E: Write>(
+pub fn program<H: Threads + Wait + Sync, S: AsStr, R: Read, O: Write, E: Write>(
     rt: &H,
     alloc: Global,
     words: &[S],

@@ -6,6 +6,7 @@ ghost use Rattle.vt_program.specs.Runs.{run_text, text_below, text_of_run, text_
 
 use std::alloc::Global;
 use std::io::Write;
+use std::sync::Wait;
 use std::thread::Threads;
 use vt_command::{ModelName, Options, Synch};
 use vt_key::Fault;
@@ -31,7 +32,7 @@ fn print_run<M: EventModel, O: Write>(
 
 /// Simulates a model by Time Warp, in a thread for each worker, and writes the records of the run. Where the run stops, those
 /// that were committed are written before the refusal is answered.
-fn print_work<H: Threads + Sync, M: EventModel + Sync, O: Write>(
+fn print_work<H: Threads + Wait + Sync, M: EventModel + Sync, O: Write>(
     rt: &H,
     alloc: Global,
     model: &M,
@@ -55,7 +56,7 @@ where
 }
 
 /// Simulates a model in the way that the options ask for, and writes the records of the run.
-fn print_model<H: Threads + Sync, M: EventModel + Sync, O: Write>(
+fn print_model<H: Threads + Wait + Sync, M: EventModel + Sync, O: Write>(
     rt: &H,
     alloc: Global,
     model: &M,
@@ -83,7 +84,7 @@ where
 /// [`Fault::Busy`], where the records couldn't be read, the records that were committed were written: those below some time.
 ///
 /// Both: [`Fault::Output`]: the writer failed, and a beginning of the text was written.
-pub fn simulate<H: Threads + Sync, O: Write>(
+pub fn simulate<H: Threads + Wait + Sync, O: Write>(
     rt: &H,
     alloc: Global,
     options: &Options,

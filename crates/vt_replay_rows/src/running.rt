@@ -3,6 +3,7 @@
 use std::alloc::Global;
 use std::io::{self, Error, ErrorKind, Read, Write};
 use std::process::Abort;
+use std::sync::Wait;
 use std::test::Fail;
 use std::thread::Threads;
 use vt_program::program;
@@ -68,7 +69,7 @@ fn writer_with_room(alloc: Global, room: usize) -> Narrow {
 
 /// Runs the program on the words of a line and on what a reader gives, with so much room for its output.
 pub(crate) fn run_within<R: Read>(
-    rt: &(impl Abort + AllocGlobal + Threads + Sync),
+    rt: &(impl Abort + AllocGlobal + Threads + Wait + Sync),
     line: &str,
     reader: &mut R,
     room: usize,
@@ -87,7 +88,7 @@ pub(crate) fn run_within<R: Read>(
 
 /// Asserts what the program does on the words of a line and on what a reader gives.
 pub(crate) fn expect<R: Read>(
-    rt: &(impl Abort + AllocGlobal + Threads + Sync),
+    rt: &(impl Abort + AllocGlobal + Threads + Wait + Sync),
     line: &str,
     reader: &mut R,
     status: u8,

@@ -2,6 +2,7 @@
 
 use std::io::{self, Error, ErrorKind, Write};
 use std::process::Abort;
+use std::sync::Wait;
 use std::test::Fail;
 use std::thread::Threads;
 use vt_key::Fault;
@@ -46,7 +47,7 @@ pub(crate) struct Outcome {
 
 /// Runs the program on the words of a line, with so much room for its output and for its refusals.
 pub(crate) fn run_within(
-    rt: &(impl Abort + AllocGlobal + Threads + Sync),
+    rt: &(impl Abort + AllocGlobal + Threads + Wait + Sync),
     line: &str,
     room: usize,
     err_room: usize,
@@ -84,7 +85,7 @@ pub(crate) fn run_within(
 
 /// Asserts what the program does on the words of a line.
 pub(crate) fn expect(
-    rt: &(impl Abort + AllocGlobal + Threads + Sync),
+    rt: &(impl Abort + AllocGlobal + Threads + Wait + Sync),
     line: &str,
     status: u8,
     out: &str,

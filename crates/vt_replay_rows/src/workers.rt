@@ -2,6 +2,7 @@
 
 use crate::runs::{SIX_LINES, expect, run_within};
 use std::process::Abort;
+use std::sync::Wait;
 use std::test::Fail;
 use std::thread::Threads;
 
@@ -13,7 +14,7 @@ const FOUR_LINES: &str = "1 0 1 1\n2 1 1 2\n3 1 1 513\n4 0 1 258\n";
 
 /// Asserts that a run in threads prints the same as a sequential one, with one, two and three workers.
 fn expect_same(
-    rt: &(impl Abort + AllocGlobal + Threads + Sync),
+    rt: &(impl Abort + AllocGlobal + Threads + Wait + Sync),
     options: &str,
     out: &str,
 ) -> Result<(), Fail> {

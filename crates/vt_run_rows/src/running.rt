@@ -3,6 +3,7 @@
 use std::alloc::AllocGlobal;
 use std::process::Abort;
 use std::rt;
+use std::sync::Wait;
 use std::thread::Threads;
 use vt_model::{Config, Model as EventModel, Record};
 use vt_models::Hop;
@@ -39,7 +40,7 @@ pub fn all_records() -> [Record; 6] {
 }
 
 /// The run goes to its end and has these records.
-pub fn gives<R: Abort + AllocGlobal + Threads + Sync, M: EventModel + Sync, G: Gate + Sync>(
+pub fn gives<R: Abort + AllocGlobal + Threads + Wait + Sync, M: EventModel + Sync, G: Gate + Sync>(
     rt: &R,
     model: &M,
     config: Config,
@@ -57,7 +58,7 @@ where
 }
 
 /// The run goes to its end and has these records, on one worker, two and three.
-pub fn gives_on_few<R: Abort + AllocGlobal + Threads + Sync, M: EventModel + Sync>(
+pub fn gives_on_few<R: Abort + AllocGlobal + Threads + Wait + Sync, M: EventModel + Sync>(
     rt: &R,
     model: &M,
     lps: u32,
@@ -75,7 +76,7 @@ where
 }
 
 /// The run has the records of the sequential simulator.
-pub fn agrees<R: Abort + AllocGlobal + Threads + Sync, M: EventModel + Sync>(
+pub fn agrees<R: Abort + AllocGlobal + Threads + Wait + Sync, M: EventModel + Sync>(
     rt: &R,
     model: &M,
     config: Config,

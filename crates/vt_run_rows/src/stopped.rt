@@ -4,13 +4,14 @@ use crate::running::{all_records, two_hops};
 use std::alloc::AllocGlobal;
 use std::process::Abort;
 use std::rt::{self, HostRuntime};
+use std::sync::Wait;
 use std::thread::Threads;
 use vt_key::Fault;
 use vt_model::{Config, Record};
 use vt_station::{Open, Stopped, run_workers};
 
 // The run of two tokens with two hops.
-fn run<R: Abort + AllocGlobal + Threads + Sync>(
+fn run<R: Abort + AllocGlobal + Threads + Wait + Sync>(
     rt: &R,
     workers: u32,
     turns: u64,

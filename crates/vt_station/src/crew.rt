@@ -1,6 +1,6 @@
 //! A thread for each worker, and what comes of their work.
 
-ghost use Rattle.std.specs.Prelude.{◌≡◌, ◌<◌, ◌⊎◌, [], true, length, Some, IfOk, IfErr, IfSome, MatchResult};
+ghost use Rattle.std.specs.Prelude.{◌≡◌, ◌<◌, ◌⊎◌, [], true, length, None, Some, IfOk, IfErr, IfSome, MatchResult};
 ghost use Rattle.vt_key.specs.Times.{Time as TimeValue};
 ghost use Rattle.vt_model.specs.Simulation.{simulation_of};
 ghost use Rattle.vt_model.specs.Sequential.{seq_records};
@@ -11,6 +11,7 @@ ghost use Rattle.vt_station.specs.Making.{IsNew, AreNew};
 ghost use Rattle.vt_station.specs.Turns.{IsLasting};
 ghost use Rattle.vt_station.specs.Crew.{IsSameJob, IsSameWork, AllAt, IsClosedAt, IsStop};
 
+use crate::bell::{Bells, Start};
 use crate::driver::{Driver, Outcome};
 use crate::gate::Gate;
 use crate::place::Place;
@@ -18,6 +19,7 @@ use crate::station::Station;
 use crate::worker::{NotMade, Worker};
 use std::alloc::Global;
 use std::marker::Model;
+use std::sync::Wait;
 use std::thread;
 use std::thread::Threads;
 use vt_key::Fault;
@@ -70,12 +72,17 @@ impl<'a, M: EventModel> Model for Job<'a, M> {
 
 impl<'a, M: EventModel> Job<'a, M> {
     /// Makes the kernel and all turns of the worker.
-    fn run<G: Gate>(&mut self, alloc: Global, gate: &G, max_turns: u64)
+    fn work<R: Wait, G: Gate>(
+        &mut self,
+        rt: &R,
+        alloc: Global,
+        bells: &Bells,
+        gate: &G,
+        max_turns: u64,
+    )
+        requires begins { self.old.outcome ≡ None }
         ensures same { IsSameJob self.old self.new }
     {
-        if self.outcome.is_some() {
-            return;
-        }
         let Some(place) = self.place.take() else {
             return;
         };
@@ -89,14 +96,42 @@ impl<'a, M: EventModel> Job<'a, M> {
         );
         match made {
             Ok(worker) => {
-                let mut driver = Driver::new(alloc, worker);
-                self.outcome = Some(driver.run(gate, max_turns));
+                let mut driver = Driver::new(alloc, worker, bells);
+                self.outcome = Some(driver.run(rt, gate, max_turns));
                 self.place = Some(driver.leave());
             }
             Err(NotMade { fault, place }) => {
                 self.outcome = Some(Outcome::Refused(fault));
                 self.place = Some(place);
             }
+        }
+    }
+}
+
+impl<'a, M: EventModel> Job<'a, M> {
+    /// All of the worker's work, once all workers have begun. The others are told how it ends.
+    fn run<R: Wait, G: Gate>(
+        &mut self,
+        rt: &R,
+        alloc: Global,
+        bells: &Bells,
+        gate: &G,
+        max_turns: u64,
+    )
+        ensures same { IsSameJob self.old self.new }
+    {
+        if self.outcome.is_some() {
+            return;
+        }
+        match bells.begin(rt) {
+            Start::Whole => self.work(rt, alloc, bells, gate, max_turns),
+            Start::Short => self.outcome = Some(Outcome::Refused(Fault::Memory)),
+            Start::Over => self.outcome = Some(Outcome::Spent),
+        }
+        match self.outcome {
+            Some(Outcome::Closed) => bells.ring_others(self.worker),
+            Some(Outcome::Ended) => {}
+            _ => bells.stop(self.worker),
         }
     }
 }
@@ -240,9 +275,10 @@ fn answer_of<M: EventModel>(
 }
 
 /// All work is done, each worker's in a thread of its own.
-fn work_all<R: Threads + Sync, M: EventModel + Sync, G: Gate + Sync>(
+fn work_all<R: Threads + Wait + Sync, M: EventModel + Sync, G: Gate + Sync>(
     rt: &R,
     alloc: Global,
+    bells: &Bells,
     gate: &G,
     max_turns: u64,
     jobs: &mut [Job<'_, M>],
@@ -260,7 +296,7 @@ where
         threads,
         &|_, job: &mut Job<'_, M>|
             ensures { IsSameJob job.entry.now job.exit.now }
-        { job.run(alloc, gate, max_turns) },
+        { job.run(rt, alloc, bells, gate, max_turns) },
     );
 }
 
@@ -273,7 +309,7 @@ where
 ///
 /// [`Stopped`]: memory was refused, a count would pass 2^63, or a worker made all its turns before the end of the run. Its records are
 /// those below some time, a beginning of all.
-pub fn run_workers<R: Threads + Sync, M: EventModel + Sync, G: Gate + Sync>(
+pub fn run_workers<R: Threads + Wait + Sync, M: EventModel + Sync, G: Gate + Sync>(
     rt: &R,
     alloc: Global,
     config: Config,
@@ -296,6 +332,10 @@ where
         Ok(jobs) => jobs,
         Err(fault) => return Err(stop_with(alloc, fault, Err(fault))),
     };
-    work_all(rt, alloc, gate, max_turns, jobs.as_mut_slice());
+    let bells = match Bells::new(alloc, config.workers) {
+        Ok(bells) => bells,
+        Err(fault) => return Err(stop_with(alloc, fault, Err(fault))),
+    };
+    work_all(rt, alloc, &bells, gate, max_turns, jobs.as_mut_slice());
     answer_of(alloc, model, config, jobs)
 }

@@ -4,30 +4,39 @@ ghost use Rattle.std.specs.Prelude.{◌≡◌, ◌≤◌, IfErr, IfSome};
 ghost use Rattle.vt_station.specs.Told.{place_table, place_view};
 ghost use Rattle.vt_station.specs.Turns.{IsLasting, HasEnded};
 
+use crate::bell::Bells;
 use crate::gate::Gate;
+use crate::pace::Pace;
 use crate::place::Place;
 use crate::worker::Worker;
 use std::alloc::Global;
+use std::hint::spin_loop;
+use std::sync::Wait;
 use std::thread::yield_now;
+use vt_board::Report;
 use vt_key::{Fault, Time};
 use vt_model::Model as EventModel;
 
-/// The most events that a worker executes in one turn.
-const MOST_EXECUTIONS: u32 = 16;
+/// How often in a row a worker tries again at once where a cell was claimed by another place, before it gives its processor away.
+const MOST_SPINS: u32 = 32;
 
-/// How many turns in a row without agreement all workers together execute ahead as if nothing were.
-const PATIENCE: u32 = 128;
+/// How many pauses it makes before each such try.
+const PAUSES: u32 = 20;
 
-/// How many of them each worker has at least.
-const LEAST_PATIENCE: u32 = 4;
+/// How often at most a worker looks at its bell before it sleeps.
+const MOST_LOOKS: u32 = 2_000;
 
-/// How often at most a worker gives the processor away in one turn.
-const MOST_RESTS: u32 = 256;
+/// How often at least.
+const LEAST_LOOKS: u32 = 32;
+
+/// How many turns a worker makes once another one has left before the end of the run: enough to close a book that all have
+/// handed in to.
+const LAST_TURNS: u32 = 8;
 
 /// How the work of a worker ended.
 #[derive(Clone, Copy)]
 pub(crate) enum Outcome {
-    /// All its turns were made.
+    /// All its turns were made, or another worker has left before the end of the run.
     Spent,
     /// It closed the book.
     Closed,
@@ -45,24 +54,49 @@ pub(crate) struct Driver<'a, M: EventModel> {
     touched: Vec<u32>,
     // The floor of the last hand-in that was done.
     handed: Time,
-    // How many turns in a row got neither a cut nor a report done, as far as it is counted: others lag behind.
-    waited: u32,
-    // Whether mail has come from another worker: what comes may undo what was executed ahead.
-    disturbed: bool,
-    ghost counted: { waited ≤ 128 },
+    pace: Pace,
+    bells: &'a Bells,
+    // How often the own bell was rung before the turn.
+    heard: u64,
+    // How often mail had been put into the inbox before the last fetch that was done.
+    fetched: u64,
+    // How often the round had moved on before the last cut or report that was done or not lawful.
+    asked: Option<u64>,
+    // Whether the worker has cut and not reported since.
+    has_cut: bool,
+    // Whether in this turn a cell was claimed by another place.
+    busy: bool,
+    // Whether in this turn there was nothing to go on with.
+    idle: bool,
+    // How often in a row it tried again at once.
+    spins: u32,
+    // How often it looks at its bell before it sleeps: the more often the sooner it was rung lately.
+    looks: u32,
+    // How many turns were made since another worker has left.
+    last_turns: u32,
 }
 
 impl<'a, M: EventModel> Driver<'a, M> {
     /// A worker before its first turn.
-    pub(crate) fn new(alloc: Global, worker: Worker<'a, M>) -> Driver<'a, M>
+    pub(crate) fn new(alloc: Global, worker: Worker<'a, M>, bells: &'a Bells) -> Driver<'a, M>
         ensures { result.worker ≡ worker.entry }
     {
+        let pace = Pace::new(worker.config().workers);
         Driver {
             worker,
             touched: Vec::new(alloc),
             handed: 0,
-            waited: 0,
-            disturbed: false,
+            pace,
+            bells,
+            heard: 0,
+            fetched: 0,
+            asked: None,
+            has_cut: false,
+            busy: false,
+            idle: false,
+            spins: 0,
+            looks: MOST_LOOKS,
+            last_turns: 0,
         }
     }
 
@@ -85,16 +119,19 @@ impl<'a, M: EventModel> Driver<'a, M> {
         Ok(())
     }
 
-    /// Undoes and cancels at each process that letters reached.
+    /// Undoes and cancels at each process that letters reached. The letters that this takes back are counted.
     fn settle_touched(&mut self)
         ensures same { self.new.worker.table ≡ self.old.worker.table }
     {
+        let before = self.worker.kernel().outbox_len();
         for i in 0..self.touched.len() {
             if let Some(lp) = self.touched.get(i) {
                 self.worker.settle(*lp);
             }
         }
         self.touched.clear();
+        let after = self.worker.kernel().outbox_len();
+        self.pace.undo(after.saturating_sub(before));
     }
 
     /// Takes all mail that has arrived to its processes, the last first.
@@ -130,24 +167,12 @@ impl<'a, M: EventModel> Driver<'a, M> {
         Ok(())
     }
 
-    /// How many turns in a row without agreement the worker executes ahead as if nothing were.
-    fn patience(&self) -> u32
-        ensures { result ≤ 128 }
-    {
-        (PATIENCE / self.worker.config().workers).max(LEAST_PATIENCE)
-    }
-
-    /// Whether the worker executes ahead although others lag behind: not for long, or nothing that they send has ever reached it.
-    fn is_patient(&self) -> bool {
-        !self.disturbed || self.waited < self.patience()
-    }
-
-    /// How many events a turn may execute: few where others lag behind for long, so that it won't have to undo many.
+    /// How many events the turn may execute: none once another worker has left.
     fn allowed(&self) -> u32 {
-        if self.is_patient() {
-            MOST_EXECUTIONS
+        if self.last_turns > 0 {
+            0
         } else {
-            1
+            self.pace.allowed()
         }
     }
 
@@ -178,38 +203,90 @@ impl<'a, M: EventModel> Driver<'a, M> {
             if self.worker.kernel().outbox_len() == 0 {
                 break;
             }
-            pass_over(self.worker.post(v))?;
+            let answer = self.worker.post(v);
+            if self.is_done(answer)? {
+                self.bells.post(v);
+            }
         }
         Ok(())
     }
 
-    /// Joins the round of global virtual time: one cut, or where that isn't lawful one report. It tells whether one was done.
+    /// Whether a call was done. Only what no later turn mends is handed on, and what another place has claimed is noted.
+    fn is_done(&mut self, answer: Result<(), Fault>) -> Result<bool, Fault>
+        ensures same { self.new.worker ≡ self.old.worker }
+        ensures lasting { IfErr result IsLasting }
+    {
+        if let Err(Fault::Busy) = answer {
+            self.busy = true;
+        }
+        pass_over(answer)
+    }
+
+    /// Joins the round of global virtual time: one cut, or where that isn't lawful one report. It tells whether one was done. After
+    /// either, and where neither was lawful, none is until the round has moved on.
     fn agree(&mut self) -> Result<bool, Fault>
         ensures same { self.new.worker.table ≡ self.old.worker.table }
         ensures lasting { IfErr result IsLasting }
     {
+        let moves = self.bells.moves();
+        if self.asked == Some(moves) {
+            return Ok(false);
+        }
+        let answer = if self.has_cut {
+            self.report()
+        } else {
+            self.cut()
+        };
+        if answer != Err(Fault::Busy) {
+            self.asked = Some(moves);
+        }
+        self.is_done(answer)
+    }
+
+    /// One cut, or where it isn't lawful one report.
+    fn cut(&mut self) -> Result<(), Fault>
+        ensures same { self.new.worker.table ≡ self.old.worker.table }
+    {
         match self.worker.cut() {
-            Err(Fault::NotLawful) => match self.worker.report() {
-                Ok(_) => Ok(true),
-                Err(fault) => pass_over(Err(fault)),
-            },
-            answer => pass_over(answer),
+            Ok(()) => {
+                self.has_cut = true;
+                self.pace.adapt();
+                self.bells.cut(self.worker.number());
+                Ok(())
+            }
+            Err(Fault::NotLawful) => self.report(),
+            refused => refused,
         }
     }
 
-    /// Hands in where the floor has risen since the last hand-in: else there is nothing that the book doesn't have.
-    fn commit_risen(&mut self) -> Result<(), Fault>
+    /// One report.
+    fn report(&mut self) -> Result<(), Fault>
+        ensures same { self.new.worker.table ≡ self.old.worker.table }
+    {
+        match self.worker.report()? {
+            Report::Waiting => {}
+            Report::Again | Report::Announced(_) => self.bells.move_on(self.worker.number()),
+        }
+        self.has_cut = false;
+        Ok(())
+    }
+
+    /// Hands in where the floor has risen since the last hand-in: else there is nothing that the book doesn't have. It tells whether
+    /// it was done.
+    fn commit_risen(&mut self) -> Result<bool, Fault>
         ensures same { self.new.worker.table ≡ self.old.worker.table }
         ensures lasting { IfErr result IsLasting }
     {
         let floor = self.worker.kernel().floor();
         if floor == self.handed {
-            return Ok(());
+            return Ok(false);
         }
-        if pass_over(self.worker.commit())? {
+        let answer = self.worker.commit();
+        let done = self.is_done(answer)?;
+        if done {
             self.handed = floor;
         }
-        Ok(())
+        Ok(done)
     }
 
     /// Closes the book, where the worker knows that the end of the run was announced: before that it isn't lawful. It tells
@@ -224,7 +301,10 @@ impl<'a, M: EventModel> Driver<'a, M> {
         match self.worker.close() {
             Ok(()) => Some(Outcome::Closed),
             Err(Fault::Closed) => Some(Outcome::Ended),
-            Err(_) => None,
+            Err(fault) => {
+                self.busy = self.busy || fault == Fault::Busy;
+                None
+            }
         }
     }
 }
@@ -252,86 +332,107 @@ impl<'a, M: EventModel> Driver<'a, M> {
         self.settle_touched();
         self.home_all()?;
         self.settle_touched();
+        let before = self.worker.kernel().outbox_len();
         let executed = self.execute_some(gate, turn)?;
+        let after = self.worker.kernel().outbox_len();
+        self.pace.make(after.saturating_sub(before));
         self.post_all()?;
         Ok(executed > 0)
     }
 
-    /// The mail in the worker's inbox has arrived, and whether there is any that is not accepted yet.
-    fn fetch(&mut self) -> Result<bool, Fault>
+    /// The mail in the worker's inbox has arrived, where any was put there since the last fetch.
+    fn fetch(&mut self) -> Result<(), Fault>
         ensures same { self.new.worker.table ≡ self.old.worker.table }
         ensures lasting { IfErr result IsLasting }
     {
-        if self.worker.kernel().arrived_len() == 0 {
-            pass_over(self.worker.fetch())?;
-        }
-        let some = self.worker.kernel().arrived_len() > 0;
-        self.disturbed = self.disturbed || some;
-        Ok(some)
-    }
-
-    /// Gives the processor away until mail comes, or a cut or a report is done, but not for ever.
-    fn rest(&mut self) -> Result<(), Fault>
-        ensures same { self.new.worker.table ≡ self.old.worker.table }
-        ensures lasting { IfErr result IsLasting }
-    {
-        for _ in 0..MOST_RESTS {
-            yield_now();
-            if self.agree()? {
-                self.waited = 0;
-                break;
-            }
-            if self.fetch()? {
-                break;
-            }
-        }
-        Ok(())
-    }
-
-    /// One cut or report, for which a worker waits that has nothing to execute or has waited for many turns.
-    fn join_round(&mut self, executed: bool) -> Result<(), Fault>
-        ensures same { self.new.worker.table ≡ self.old.worker.table }
-        ensures lasting { IfErr result IsLasting }
-    {
-        if self.agree()? {
-            self.waited = 0;
+        let mail = self.bells.mail(self.worker.number());
+        if mail == self.fetched || self.worker.kernel().arrived_len() > 0 {
             return Ok(());
         }
-        if !executed || !self.is_patient() {
-            return self.rest();
-        }
-        if self.waited < PATIENCE {
-            self.waited += 1;
+        let answer = self.worker.fetch();
+        if self.is_done(answer)? {
+            self.fetched = mail;
+            self.pace.disturb();
         }
         Ok(())
     }
 
-    /// One turn. It gives the processor away where it executed nothing, and while neither a cut nor a report gets done.
+    /// One turn but its close.
     fn turn<G: Gate>(&mut self, gate: &G, turn: u64) -> Result<(), Fault>
         ensures same { self.new.worker.table ≡ self.old.worker.table }
         ensures lasting { IfErr result IsLasting }
     {
+        self.heard = self.bells.heard(self.worker.number());
+        self.busy = false;
         let executed = self.work(gate, turn)?;
-        self.join_round(executed)?;
-        self.commit_risen()?;
-        if !executed {
-            yield_now();
-        }
+        let agreed = self.agree()?;
+        self.pace.count_turn(agreed, executed);
+        let committed = self.commit_risen()?;
+        let goes_on = !self.pace.is_held() && (executed || self.worker.kernel().outbox_len() > 0);
+        self.idle = !(agreed || committed || goes_on);
         Ok(())
     }
 
+    /// Where there was nothing to go on with: tries again soon where that may do, else waits until the bell is rung.
+    fn rest<R: Wait>(&mut self, rt: &R)
+        ensures same { self.new.worker ≡ self.old.worker }
+    {
+        if !self.idle {
+            self.spins = 0;
+        } else if self.busy && self.spins < MOST_SPINS {
+            self.spins += 1;
+            for _ in 0..PAUSES {
+                spin_loop();
+            }
+        } else if self.busy || self.worker.kernel().arrived_len() > 0 || self.bells.is_stopped() {
+            self.spins = 0;
+            yield_now();
+        } else {
+            self.spins = 0;
+            self.wait(rt);
+        }
+    }
+
+    /// Waits until the bell is rung, as it may have been since the turn began.
+    fn wait<R: Wait>(&mut self, rt: &R)
+        ensures same { self.new.worker ≡ self.old.worker }
+    {
+        let number = self.worker.number();
+        let slept = self.bells.wait(rt, number, self.heard, self.looks);
+        self.looks = if slept {
+            (self.looks / 2).max(LEAST_LOOKS)
+        } else {
+            self.looks.saturating_mul(2).min(MOST_LOOKS)
+        };
+    }
+
+    /// Whether another turn may do something: once another worker has left before the end of the run, only a few more may.
+    fn goes_on(&mut self) -> bool
+        ensures same { self.new.worker ≡ self.old.worker }
+    {
+        if !self.bells.is_stopped() {
+            return true;
+        }
+        self.last_turns = self.last_turns.saturating_add(1);
+        self.last_turns <= LAST_TURNS
+    }
+
     /// Turn after turn, until the book is closed, a call is refused for good, or all turns are made.
-    pub(crate) fn run<G: Gate>(&mut self, gate: &G, max_turns: u64) -> Outcome
+    pub(crate) fn run<R: Wait, G: Gate>(&mut self, rt: &R, gate: &G, max_turns: u64) -> Outcome
         ensures same { self.new.worker.table ≡ self.old.worker.table }
         ensures ended { HasEnded self.new.worker.view result }
     {
         for turn in 0..max_turns {
+            if !self.goes_on() {
+                break;
+            }
             if let Err(fault) = self.turn(gate, turn + 1) {
                 return Outcome::Refused(fault);
             }
             if let Some(outcome) = self.close() {
                 return outcome;
             }
+            self.rest(rt);
         }
         Outcome::Spent
     }

@@ -1,6 +1,7 @@
 //! A Time Warp world that threads may share: inboxes, board and book in the cells of one table, and a place for each worker.
 #![tactic(auto)]
 
+mod bell;
 mod calls;
 mod committing;
 mod crew;
@@ -8,6 +9,7 @@ mod cutting;
 mod driver;
 mod gate;
 mod making;
+mod pace;
 mod place;
 mod posting;
 mod rule;

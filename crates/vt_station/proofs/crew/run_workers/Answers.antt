@@ -12,6 +12,9 @@ returns-in-Err-clause-begun g c = (opening_time, c.stop_with.ensures.1 ∙ none-
 pub returns-in-Err-jobs_at-clause-begun : goal.returns-in-Err-jobs_at-clause-begun
 returns-in-Err-jobs_at-clause-begun g c = (opening_time, c.stop_with-in-Err-jobs_at.ensures.1 ∙ none-at-first (simulation_of (g.M.Model.handlers c.args.model.now) c.args.config))
 
+pub returns-in-Err-new-clause-begun : goal.returns-in-Err-new-clause-begun
+returns-in-Err-new-clause-begun g c = (opening_time, c.stop_with-in-Err-new.ensures.1 ∙ none-at-first (simulation_of (g.M.Model.handlers c.args.model.now) c.args.config))
+
 pub answer_of-requires-clause-told : goal.answer_of-requires-clause-told
 answer_of-requires-clause-told g c κs within =
     let worked = c.work_all.ensures in
