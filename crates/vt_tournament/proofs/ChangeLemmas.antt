@@ -107,7 +107,7 @@ pub record IsChanged (ranks : List (Option Rank)) (number at : ℕ) (nodes : Lis
   pub entry : Option Rank
   pub path : IsAbove at (place ranks number)
   pub high : at ≤ last_place (length ranks)
-  pub full : length nodes ≡ last_place (length ranks) + 3
+  pub full : length nodes ≡ last_place (length ranks) + 1
   pub before : (k : ℕ) → k < at → IsWinner (slice_set ranks number entry) k (node nodes k)
   pub won : (k : ℕ) → at ≤ k → k ≤ last_place (length ranks) → IsWinner ranks k (node nodes k)
 
@@ -117,15 +117,15 @@ ended ranks number nodes c = record { full = c.full; won = λ k h. c.won k (omeg
 
 module _ (ranks : List (Option Rank)) (number : ℕ) (nodes : List Node) (few : length ranks ≤ 2 ^ 31) (known : number < length ranks) where
   -- the place that is written has its winner, and all others stay
-  written : (p : ℕ) (w : Node) (entry : Option Rank) → IsAbove p (place ranks number) → length nodes ≡ last_place (length ranks) + 3 → p ≤ last_place (length ranks) → IsWinner ranks p w → ((k : ℕ) → k < p → IsWinner (slice_set ranks number entry) k (node nodes k)) → ((k : ℕ) → p < k → k ≤ last_place (length ranks) → IsWinner ranks k (node nodes k)) → IsChanged ranks number p (slice_set nodes (p + 2) w)
+  written : (p : ℕ) (w : Node) (entry : Option Rank) → IsAbove p (place ranks number) → length nodes ≡ last_place (length ranks) + 1 → p ≤ last_place (length ranks) → IsWinner ranks p w → ((k : ℕ) → k < p → IsWinner (slice_set ranks number entry) k (node nodes k)) → ((k : ℕ) → p < k → k ≤ last_place (length ranks) → IsWinner ranks k (node nodes k)) → IsChanged ranks number p (slice_set nodes p w)
   written p w entry path full high here before after = record {
     entry = entry;
     path = path;
     high = high;
-    full = length-set nodes (p + 2) w ∙ full;
+    full = length-set nodes p w ∙ full;
     before = λ k l. subst (IsWinner (slice_set ranks number entry) k) (sym (node-set_other nodes p k w (λ e. omega (arith, e, l)))) (before k l);
     won = λ k l h. elim (cases_order k p) [
-      | inl e ↦ subst (λ (n : ℕ). IsWinner ranks n (node (slice_set nodes (p + 2) w) n)) (sym e) (subst (IsWinner ranks p) (sym (node-set_same nodes p w (omega (arith, high, full)))) here)
+      | inl e ↦ subst (λ (n : ℕ). IsWinner ranks n (node (slice_set nodes p w) n)) (sym e) (subst (IsWinner ranks p) (sym (node-set_same nodes p w (omega (arith, high, full)))) here)
       | inr m ↦ elim m [
         | inl x ↦ absurd (omega (arith, x, l))
         | inr x ↦ subst (IsWinner ranks k) (sym (node-set_other nodes p k w (λ e. omega (arith, e, x)))) (after k x h)
@@ -134,43 +134,43 @@ module _ (ranks : List (Option Rank)) (number : ℕ) (nodes : List Node) (few : 
   }
 
   -- the contestant's own place
-  pub begun : WasTournamentOf number ranks nodes → IsChanged ranks number (place ranks number) (slice_set nodes (place ranks number + 2) (node_of (contestant ranks number)))
+  pub begun : WasTournamentOf number ranks nodes → IsChanged ranks number (place ranks number) (slice_set nodes (place ranks number) (node_of (contestant ranks number)))
   begun was =
       let kept_count : length (slice_set ranks number was.entry) ≡ length ranks = length-set ranks number was.entry in
       let had : (k : ℕ) → k ≤ last_place (length ranks) → IsWinner (slice_set ranks number was.entry) k (node nodes k) = λ k h. was.was.tree.won k (omega (arith, kept_count, h)) in
-      written (place ranks number) (node_of (contestant ranks number)) was.entry (above-self (place ranks number)) (was.was.tree.full ∙ ap (λ (n : ℕ). last_place n + 3) kept_count) (omega (arith, known)) (winner-own_place ranks number few known)
+      written (place ranks number) (node_of (contestant ranks number)) was.entry (above-self (place ranks number)) (was.was.tree.full ∙ ap (λ (n : ℕ). last_place n + 1) kept_count) (omega (arith, known)) (winner-own_place ranks number few known)
       (λ k l. had k (omega (arith, known, l)))
       (λ k l h. elsewhere ranks number was.entry known k (node nodes k) (λ path. omega (arith, l, above-low k (place ranks number) path)) (had k h))
 
   module _ (at : ℕ) (c : IsChanged ranks number at nodes) (more : 1 ≤ at) where
-    next_path : IsAbove ((at - 1) / 4) (place ranks number)
+    next_path : IsAbove ((at - 1) / 2) (place ranks number)
     next_path = above-next at (place ranks number) c.path
 
-    next_inner : (at - 1) / 4 < inner_places (length ranks)
+    next_inner : (at - 1) / 2 < inner_places (length ranks)
     next_inner = let l : at ≤ place ranks number = above-low at (place ranks number) c.path in omega (arith, l, known)
 
     -- all places after the next one have their winners
-    pub after_next : (k : ℕ) → (at - 1) / 4 < k → k ≤ last_place (length ranks) → IsWinner ranks k (node nodes k)
+    pub after_next : (k : ℕ) → (at - 1) / 2 < k → k ≤ last_place (length ranks) → IsWinner ranks k (node nodes k)
     after_next k low high = elim (order k at) [
       | inl l ↦ elsewhere ranks number c.entry known k (node nodes k) (λ path. between k at (place ranks number) path c.path low l) (c.before k l)
       | inr l ↦ c.won k l high
     ]
 
-    pub below_next : (k : ℕ) → IsBelow k ((at - 1) / 4) → IsWinner ranks k (node nodes k)
+    pub below_next : (k : ℕ) → IsBelow k ((at - 1) / 2) → IsWinner ranks k (node nodes k)
     below_next k h = after_next k (omega (arith, h.0)) (omega (arith, h.1, next_inner))
 
-    module _ (w : Node) (best : IsBest ranks nodes ((at - 1) / 4) w) where
-      there : IsWinner ranks ((at - 1) / 4) w
-      there = winner-best ranks nodes ((at - 1) / 4) w next_inner below_next best
+    module _ (w : Node) (best : IsBest ranks nodes ((at - 1) / 2) w) where
+      there : IsWinner ranks ((at - 1) / 2) w
+      there = winner-best ranks nodes ((at - 1) / 2) w next_inner below_next best
 
-      pub gone_on : IsChanged ranks number ((at - 1) / 4) (slice_set nodes ((at - 1) / 4 + 2) w)
+      pub gone_on : IsChanged ranks number ((at - 1) / 2) (slice_set nodes ((at - 1) / 2) w)
       gone_on =
-          written ((at - 1) / 4) w c.entry next_path c.full (omega (arith, next_inner)) there (λ k l. c.before k (omega (arith, l, more))) after_next
+          written ((at - 1) / 2) w c.entry next_path c.full (omega (arith, next_inner)) there (λ k l. c.before k (omega (arith, l, more))) after_next
 
       -- where another one wins as before, all above stays
-      pub stopped : (w.number ≡ number → ⊥) → w.number ≡ (node nodes ((at - 1) / 4)).number → AreWinners ranks nodes
+      pub stopped : (w.number ≡ number → ⊥) → w.number ≡ (node nodes ((at - 1) / 2)).number → AreWinners ranks nodes
       stopped another as_before =
-          let p : ℕ = (at - 1) / 4 in
+          let p : ℕ = (at - 1) / 2 in
           let had_won : IsWinner (slice_set ranks number c.entry) p (node nodes p) = c.before p (omega (arith, more)) in
           let differs : (node nodes p).number ≡ number → ⊥ = λ e. another (as_before ∙ e) in
           let is : w ≡ node nodes p = there.fits ∙ ap (λ (n : ℕ). node_of (contestant ranks n)) as_before ∙ sym (fits-set ranks number c.entry known (node nodes p) differs had_won.fits) in

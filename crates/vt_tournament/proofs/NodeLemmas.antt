@@ -24,7 +24,7 @@ lesser None i (Some y) j e h r = absurd (omega (arith, h, r))
 lesser None i None j e h r = absurd (omega (arith, h))
 
 -- so the times decide where they differ
-pub by_time : (a b : Contestant) → (first_time a.rank ≡ first_time b.rank → ⊥) → first_time a.rank < 2 ^ 64 → first_time b.rank < 2 ^ 64 → nat_lt (first_time a.rank) (first_time b.rank) ≡ is_ahead a b
+by_time : (a b : Contestant) → (first_time a.rank ≡ first_time b.rank → ⊥) → first_time a.rank < 2 ^ 64 → first_time b.rank < 2 ^ 64 → nat_lt (first_time a.rank) (first_time b.rank) ≡ is_ahead a b
 by_time a b differ low high = elim (cases_order (first_time a.rank) (first_time b.rank)) [
   | inl e ↦ absurd (differ e)
   | inr h ↦ elim h [
@@ -34,7 +34,7 @@ by_time a b differ low high = elim (cases_order (first_time a.rank) (first_time 
 ]
 
 -- and then the sources
-pub by_source : (a b : Contestant) → first_time a.rank ≡ first_time b.rank → (first_source a.rank ≡ first_source b.rank → ⊥) → first_source a.rank < 2 ^ 32 → first_source b.rank < 2 ^ 32 → nat_lt (first_source a.rank) (first_source b.rank) ≡ is_ahead a b
+by_source : (a b : Contestant) → first_time a.rank ≡ first_time b.rank → (first_source a.rank ≡ first_source b.rank → ⊥) → first_source a.rank < 2 ^ 32 → first_source b.rank < 2 ^ 32 → nat_lt (first_source a.rank) (first_source b.rank) ≡ is_ahead a b
 by_source a b same differ low high = elim (cases_order (first_source a.rank) (first_source b.rank)) [
   | inl e ↦ absurd (differ e)
   | inr h ↦ elim h [
@@ -42,6 +42,41 @@ by_source a b same differ low high = elim (cases_order (first_source a.rank) (fi
     | inr l ↦ le-ltb (first_source a.rank) (first_source b.rank) (omega (arith, l)) ∙ sym (not_behind-ahead b a (lesser b.rank b.number a.rank a.number (sym same) l low))
   ]
 ]
+
+-- so the beginnings decide, but where they are the same
+pub by_beginning : (a b : Contestant) → (first_time a.rank ≡ first_time b.rank → first_source a.rank ≡ first_source b.rank → is_ahead a b ≡ false) → first_time a.rank < 2 ^ 64 → first_time b.rank < 2 ^ 64 → first_source a.rank < 2 ^ 32 → first_source b.rank < 2 ^ 32 → (nat_lt (first_time a.rank) (first_time b.rank) || (nat_eq (first_time a.rank) (first_time b.rank) && nat_lt (first_source a.rank) (first_source b.rank))) ≡ is_ahead a b
+by_beginning a b tie early late low high = elim (tested (nat_eq ta tb)) [
+  | inl y ↦
+      let e : ta ≡ tb = eqb-true ta tb y in
+      ap (λ (t : Bool). t || (nat_eq ta tb && nat_lt sa sb)) (le-ltb ta tb (omega (arith, e)))
+      ∙ ap (λ (t : Bool). t && nat_lt sa sb) y
+      ∙ elim (tested (nat_eq sa sb)) [
+        | inl z ↦ let same : sa ≡ sb = eqb-true sa sb z in le-ltb sa sb (omega (arith, same)) ∙ sym (tie e same)
+        | inr z ↦ by_source a b e (apart_by sa sb z) low high
+      ]
+  | inr y ↦ elim (tested (nat_lt ta tb)) [
+    | inl z ↦ ap (λ (t : Bool). t || (nat_eq ta tb && nat_lt sa sb)) z ∙ sym z ∙ by_time a b (apart_by ta tb y) early late
+    | inr z ↦
+        ap (λ (t : Bool). t || (nat_eq ta tb && nat_lt sa sb)) z
+        ∙ ap (λ (t : Bool). t && nat_lt sa sb) y
+        ∙ sym z
+        ∙ by_time a b (apart_by ta tb y) early late
+  ]
+] where
+  ta : ℕ
+  ta = first_time a.rank
+
+  tb : ℕ
+  tb = first_time b.rank
+
+  sa : ℕ
+  sa = first_source a.rank
+
+  sb : ℕ
+  sb = first_source b.rank
+
+  apart_by : (x y : ℕ) → nat_eq x y ≡ false → x ≡ y → ⊥
+  apart_by x y h e = absurd (let w : true ≡ false = sym (eq-eqb x y e) ∙ h in cc)
 
 -- ---- nobody
 

@@ -1,5 +1,5 @@
--- The winner at a place of the tree: of nobody, of the four below it, and at the first place.
-use Rattle.std.proofs.Common.{◌≡◌, ℕ, zero, suc, ◌+◌, ◌-◌, ◌*◌, ◌/◌, ◌^◌, ◌<◌, ◌≤◌, ◌⊎◌, inl, inr, true, false, List, [], ◌∷◌, length, slice_index_or, Option, Some, None, IfNone, slice_get, slice_set, replicate, refl, sym, subst, ap, ◌∙◌, arith}
+-- The winner at a place of the tree: of nobody, of the two below it, and at the first place.
+use Rattle.std.proofs.Common.{◌≡◌, ℕ, zero, suc, ◌+◌, ◌-◌, ◌/◌, ◌^◌, ◌<◌, ◌≤◌, ◌⊎◌, inl, inr, true, false, List, [], ◌∷◌, length, slice_index_or, Option, Some, None, IfNone, slice_get, slice_set, replicate, refl, sym, subst, ap, ◌∙◌, arith}
 use Rattle.std.specs.Option.{is_some}
 use Rattle.std.proofs.lemmas.List.{get_or-set_same, get_or-set_other, get_or_default, length-replicate}
 use Rattle.std.proofs.lemmas.Bool.{cases_order}
@@ -7,7 +7,7 @@ use Rattle.std.proofs.lemmas.Option.{slice_get-get_or, slice_get_past}
 use Rattle.vt_key.specs.declared.order.Rank.{Rank}
 use Rattle.vt_key.specs.Order.{RankBefore}
 use Rattle.vt_tournament.specs.declared.node.Node.{Node}
-use Rattle.vt_tournament.specs.Contest.{is_ahead, is_ahead_by, winner_of, contestant, nobodys_number, number_of, node_of, Fits, IsAheadOfTwo, inner_places, last_place, place, node, IsBelow, IsAbove, IsWinner, IsBest, AreWinners}
+use Rattle.vt_tournament.specs.Contest.{is_ahead, is_ahead_by, winner_of, contestant, nobodys_number, number_of, node_of, Fits, inner_places, last_place, place, node, IsBelow, beside, IsAbove, IsWinner, IsBest, AreWinners}
 use Rattle.vt_tournament.specs.Least.{IsLeast}
 use Rattle.vt_tournament.proofs.AheadLemmas.{tested, NotBehind, winner-first, winner-second, not_behind-self, not_behind-ahead, not_behind-transitive, not_behind-rank, behind-none}
 use Rattle.vt_tournament.proofs.NodeLemmas.{nobodys_rank, node-own, number-one, somebody, ranked-known}
@@ -24,8 +24,8 @@ nobody_there zero i = refl
 nobody_there (suc n) zero = refl
 nobody_there (suc n) (suc i) = nobody_there n i
 
-node-replicate : (n : ℕ) (w : Node) (k : ℕ) → k + 2 < n → node (replicate n w) k ≡ w
-node-replicate n w k l = there n (k + 2) l where
+node-replicate : (n : ℕ) (w : Node) (k : ℕ) → k < n → node (replicate n w) k ≡ w
+node-replicate n w k l = there n k l where
   there : (m j : ℕ) → j < m → slice_index_or (replicate m w) j (record { time = 0; source = 0; number = 0 }) ≡ w
   there zero j less = absurd (omega (arith, less))
   there (suc m) zero less = refl
@@ -39,28 +39,28 @@ winner-nobody ranks few none k = record {
   least = λ i rank is path. absurd (let w : None ≡ Some rank = sym (none i) ∙ is in cc);
 }
 
-pub nobodys_tree : (count : ℕ) → count ≤ 2 ^ 31 → AreWinners (replicate count None) (replicate (last_place count + 3) nobodys_node)
+pub nobodys_tree : (count : ℕ) → count ≤ 2 ^ 31 → AreWinners (replicate count None) (replicate (last_place count + 1) nobodys_node)
 nobodys_tree count few =
     let ranks : List (Option Rank) = replicate count None in
     let e : length ranks ≡ count = length-replicate count None in
     record {
-      full = length-replicate (last_place count + 3) nobodys_node ∙ ap (λ (n : ℕ). last_place n + 3) (sym e);
+      full = length-replicate (last_place count + 1) nobodys_node ∙ ap (λ (n : ℕ). last_place n + 1) (sym e);
       won = λ k l.
-          subst (IsWinner ranks k) (sym (node-replicate (last_place count + 3) nobodys_node k (omega (arith, e, l))))
+          subst (IsWinner ranks k) (sym (node-replicate (last_place count + 1) nobodys_node k (omega (arith, e, l))))
           (winner-nobody ranks (omega (arith, few, e)) (nobody_there count) k);
     }
 
 -- ---- one place
 
 -- what was read is what stands at the place
-pub read : (nodes : List Node) (k : ℕ) (x : Node) → k + 2 < length nodes → x ≡ slice_index_or nodes (k + 2) x → x ≡ node nodes k
-read nodes k x l h = h ∙ get_or_default nodes (k + 2) x (record { time = 0; source = 0; number = 0 }) l
+pub read : (nodes : List Node) (k : ℕ) (x : Node) → k < length nodes → x ≡ slice_index_or nodes k x → x ≡ node nodes k
+read nodes k x l h = h ∙ get_or_default nodes k x (record { time = 0; source = 0; number = 0 }) l
 
-pub node-set_same : (nodes : List Node) (k : ℕ) (w : Node) → k + 2 < length nodes → node (slice_set nodes (k + 2) w) k ≡ w
-node-set_same nodes k w l = get_or-set_same nodes (k + 2) w (record { time = 0; source = 0; number = 0 }) l
+pub node-set_same : (nodes : List Node) (k : ℕ) (w : Node) → k < length nodes → node (slice_set nodes k w) k ≡ w
+node-set_same nodes k w l = get_or-set_same nodes k w (record { time = 0; source = 0; number = 0 }) l
 
-pub node-set_other : (nodes : List Node) (p k : ℕ) (w : Node) → (k ≡ p → ⊥) → node (slice_set nodes (p + 2) w) k ≡ node nodes k
-node-set_other nodes p k w other = get_or-set_other nodes (p + 2) (k + 2) w (record { time = 0; source = 0; number = 0 }) (λ e. other (omega (arith, e)))
+pub node-set_other : (nodes : List Node) (p k : ℕ) (w : Node) → (k ≡ p → ⊥) → node (slice_set nodes p w) k ≡ node nodes k
+node-set_other nodes p k w other = get_or-set_other nodes p k w (record { time = 0; source = 0; number = 0 }) other
 
 -- a contestant's own node is the winner's at its place
 pub winner-own_place : (ranks : List (Option Rank)) (number : ℕ) → length ranks ≤ 2 ^ 31 → number < length ranks → IsWinner ranks (place ranks number) (node_of (contestant ranks number))
@@ -98,7 +98,13 @@ own-nobody ranks number entry w few known won is nobodys = had (slice_index_or r
       let its : w.number ≡ number = ap (λ (x : Node). x.number) is ∙ ap (λ (r : Option Rank). number_of r number) e in
       absurd (omega (arith, few, known, its, nobodys))
 
--- ---- the four below a place
+-- ---- the two below a place
+
+-- a node is one of two, and neither of these is ahead
+record IsAheadOfTwo (ranks : List (Option Rank)) (a b w : Node) : Type 0 where
+  one : (w ≡ a) ⊎ (w ≡ b)
+  first : NotBehind (contestant ranks w.number) (contestant ranks a.number)
+  second : NotBehind (contestant ranks w.number) (contestant ranks b.number)
 
 -- who wins of two nodes is one of them, and neither is ahead
 of_two : (ranks : List (Option Rank)) (a b w : Node) → Fits ranks a → Fits ranks b → w ≡ node_of (winner_of (contestant ranks a.number) (contestant ranks b.number)) → IsAheadOfTwo ranks a b w
@@ -111,65 +117,27 @@ of_two ranks a b w fits other_fits is = elim (tested (is_ahead (contestant ranks
       subst (IsAheadOfTwo ranks a b) (sym e) (record { one = inl refl; first = not_behind-self (contestant ranks a.number); second = y })
 ]
 
--- who is ahead of two nodes that fit, fits
-pub fits-two : (ranks : List (Option Rank)) (a b w : Node) → Fits ranks a → Fits ranks b → IsAheadOfTwo ranks a b w → Fits ranks w
-fits-two ranks a b w fits other_fits ahead = elim ahead.one [
-  | inl e ↦ subst (Fits ranks) (sym e) fits
-  | inr e ↦ subst (Fits ranks) (sym e) other_fits
+-- one of the two places below another
+which : (k at : ℕ) → 1 ≤ at → IsBelow k ((at - 1) / 2) → (k ≡ at) ⊎ (k ≡ beside at)
+which k at more h = elim (cases_order k at) [
+  | inl e ↦ inl e
+  | inr m ↦ inr (elim m [ inl x ↦ omega (arith, x, more, h.0, h.1) | inr x ↦ omega (arith, x, more, h.0, h.1) ])
 ]
 
--- one of the four places below a place
-which : (k at : ℕ) → IsBelow k at → (k ≡ 4 * at + 1) ⊎ ((k ≡ 4 * at + 2) ⊎ ((k ≡ 4 * at + 3) ⊎ (k ≡ 4 * at + 4)))
-which k at h = elim (cases_order k (4 * at + 2)) [
-  | inl e ↦ inr (inl e)
-  | inr m ↦ elim m [
-    | inl x ↦ inl (omega (arith, x, h.0))
-    | inr x ↦ elim (cases_order k (4 * at + 3)) [
-      | inl e ↦ inr (inr (inl e))
-      | inr n ↦ elim n [
-        | inl y ↦ absurd (omega (arith, x, y))
-        | inr y ↦ inr (inr (inr (omega (arith, y, h.1))))
-      ]
-    ]
-  ]
-]
+pub below-own : (at : ℕ) → 1 ≤ at → IsBelow at ((at - 1) / 2)
+below-own at more = (omega (arith, more), omega (arith, more))
 
--- who wins of those that are ahead of two and two is the best of the four
-pub of_four : (ranks : List (Option Rank)) (nodes : List Node) (at : ℕ) (early late w : Node) → ((k : ℕ) → IsBelow k at → Fits ranks (node nodes k)) → IsAheadOfTwo ranks (node nodes (4 * at + 1)) (node nodes (4 * at + 2)) early → IsAheadOfTwo ranks (node nodes (4 * at + 3)) (node nodes (4 * at + 4)) late → w ≡ node_of (winner_of (contestant ranks early.number) (contestant ranks late.number)) → IsBest ranks nodes at w
-of_four ranks nodes at early late w fit of_early of_late is =
-    let a : Node = node nodes (4 * at + 1) in
-    let b : Node = node nodes (4 * at + 2) in
-    let c : Node = node nodes (4 * at + 3) in
-    let d : Node = node nodes (4 * at + 4) in
-    let early_fits : Fits ranks early = fits-two ranks a b early (fit (4 * at + 1) (omega arith, omega arith)) (fit (4 * at + 2) (omega arith, omega arith)) of_early in
-    let late_fits : Fits ranks late = fits-two ranks c d late (fit (4 * at + 3) (omega arith, omega arith)) (fit (4 * at + 4) (omega arith, omega arith)) of_late in
-    let of_both : IsAheadOfTwo ranks early late w = of_two ranks early late w early_fits late_fits is in
-    let over_early : (x : Node) → NotBehind (contestant ranks early.number) (contestant ranks x.number) → NotBehind (contestant ranks w.number) (contestant ranks x.number) =
-    λ x h. not_behind-transitive (contestant ranks w.number) (contestant ranks early.number) (contestant ranks x.number) of_both.first h in
-    let over_late : (x : Node) → NotBehind (contestant ranks late.number) (contestant ranks x.number) → NotBehind (contestant ranks w.number) (contestant ranks x.number) =
-    λ x h. not_behind-transitive (contestant ranks w.number) (contestant ranks late.number) (contestant ranks x.number) of_both.second h in
+pub below-beside : (at : ℕ) → 1 ≤ at → IsBelow (beside at) ((at - 1) / 2)
+below-beside at more = (omega (arith, more), omega (arith, more))
+
+-- who wins of a place and the one beside it is the best of those below the same one
+pub of_both : (ranks : List (Option Rank)) (nodes : List Node) (at : ℕ) (w : Node) → 1 ≤ at → Fits ranks (node nodes at) → Fits ranks (node nodes (beside at)) → w ≡ node_of (winner_of (contestant ranks (node nodes at).number) (contestant ranks (node nodes (beside at)).number)) → IsBest ranks nodes ((at - 1) / 2) w
+of_both ranks nodes at w more fits other_fits is =
+    let of : IsAheadOfTwo ranks (node nodes at) (node nodes (beside at)) w = of_two ranks (node nodes at) (node nodes (beside at)) w fits other_fits is in
     let over : ℕ → Type 0 = λ k. NotBehind (contestant ranks w.number) (contestant ranks (node nodes k).number) in
     record {
-      one = elim of_both.one [
-        | inl e ↦ elim of_early.one [
-          | inl x ↦ (4 * at + 1, ((omega arith, omega arith), e ∙ x))
-          | inr x ↦ (4 * at + 2, ((omega arith, omega arith), e ∙ x))
-        ]
-        | inr e ↦ elim of_late.one [
-          | inl x ↦ (4 * at + 3, ((omega arith, omega arith), e ∙ x))
-          | inr x ↦ (4 * at + 4, ((omega arith, omega arith), e ∙ x))
-        ]
-      ];
-      least = λ k h. elim (which k at h) [
-        | inl e ↦ subst over (sym e) (over_early a of_early.first)
-        | inr m ↦ elim m [
-          | inl e ↦ subst over (sym e) (over_early b of_early.second)
-          | inr n ↦ elim n [
-            | inl e ↦ subst over (sym e) (over_late c of_late.first)
-            | inr e ↦ subst over (sym e) (over_late d of_late.second)
-          ]
-        ]
-      ];
+      one = elim of.one [ inl e ↦ (at, (below-own at more, e)) | inr e ↦ (beside at, (below-beside at more, e)) ];
+      least = λ k h. elim (which k at more h) [ inl e ↦ subst over (sym e) of.first | inr e ↦ subst over (sym e) of.second ];
     }
 
 -- the best of the winners below a place is the winner there
@@ -188,7 +156,7 @@ winner-best ranks nodes at w high below best =
       ];
     } where
       right_above : (k : ℕ) → IsBelow k at → IsAbove at k
-      right_above k h = (1, let e : (k - 1) / 4 ≡ at = omega (arith, h.0, h.1) in e)
+      right_above k h = (1, let e : (k - 1) / 2 ≡ at = omega (arith, h.0, h.1) in e)
 
 -- ---- the first place
 

@@ -1,5 +1,5 @@
 -- Contestants, who of two is ahead, and the tree of winners.
-use Rattle.std.specs.Prelude.{◌≡◌, ℕ, zero, suc, ◌+◌, ◌-◌, ◌*◌, ◌/◌, ◌^◌, ◌<◌, ◌≤◌, ◌⊎◌, Bool, true, false, not, ◌||◌, ◌&&◌, nat_lt, if◌then◌else◌, List, length, Option, Some, None, slice_index_or, slice_set}
+use Rattle.std.specs.Prelude.{◌≡◌, ℕ, zero, suc, ◌+◌, ◌-◌, ◌*◌, ◌/◌, ◌%◌, ◌^◌, ◌<◌, ◌≤◌, Bool, true, false, not, ◌||◌, ◌&&◌, nat_lt, if◌then◌else◌, List, length, Option, Some, None, slice_index_or, slice_set}
 use Rattle.vt_key.specs.declared.order.Rank.{Rank}
 use Rattle.vt_key.specs.Order.{rank_before}
 use Rattle.vt_key.specs.Times.{Time}
@@ -56,28 +56,32 @@ Fits ranks w = w ≡ node_of (contestant ranks w.number)
 
 -- how many places of the tree stand above those of so many contestants
 abbrev pub inner_places : ℕ → ℕ
-inner_places count = (count + 1) / 3
+inner_places count = count - 1
 
--- the last place of so many contestants' tree: below each inner place are four, and the first is below none
+-- the last place of so many contestants' tree: below each inner place are two, and the first is below none
 abbrev pub last_place : ℕ → ℕ
-last_place count = 4 * inner_places count
+last_place count = 2 * inner_places count
 
 -- the place of a contestant: these come after the inner places, in the order of their numbers
 abbrev pub place : List (Option Rank) → ℕ → ℕ
 place ranks number = inner_places (length ranks) + number
 
--- the node at a place, which stands two further in the list
+-- the node at a place
 abbrev pub node : List Node → ℕ → Node
-node nodes k = slice_index_or nodes (k + 2) (record { time = 0; source = 0; number = 0 })
+node nodes k = slice_index_or nodes k (record { time = 0; source = 0; number = 0 })
 
 -- one place is right below another
 abbrev pub IsBelow : ℕ → ℕ → Type 0
-IsBelow k above = (4 * above + 1 ≤ k) × (k ≤ 4 * above + 4)
+IsBelow k above = (2 * above + 1 ≤ k) × (k ≤ 2 * above + 2)
+
+-- the other one of the two places below the same one
+abbrev pub beside : ℕ → ℕ
+beside k = k - 1 + 2 * (k % 2)
 
 -- the place so many levels above another; the first place stands for all that would be above it
 abbrev pub raised : ℕ → ℕ → ℕ
 raised zero k = k
-raised (suc levels) k = raised levels ((k - 1) / 4)
+raised (suc levels) k = raised levels ((k - 1) / 2)
 
 -- one place is another, or above it
 abbrev pub IsAbove : ℕ → ℕ → Type 0
@@ -90,20 +94,14 @@ pub record IsWinner (ranks : List (Option Rank)) (k : ℕ) (w : Node) : Type 0 w
   pub placed : w.number < length ranks → IsAbove k (place ranks w.number)
   pub least : (i : ℕ) (rank : Rank) → slice_index_or ranks i None ≡ Some rank → IsAbove k (place ranks i) → is_ahead (contestant ranks i) (contestant ranks w.number) ≡ false
 
--- a node is one of two, and neither of these is ahead
-pub record IsAheadOfTwo (ranks : List (Option Rank)) (a b w : Node) : Type 0 where
-  pub one : (w ≡ a) ⊎ (w ≡ b)
-  pub first : is_ahead (contestant ranks a.number) (contestant ranks w.number) ≡ false
-  pub second : is_ahead (contestant ranks b.number) (contestant ranks w.number) ≡ false
-
--- a node is one of the four below a place, and none of these is ahead
+-- a node is one of the two below a place, and neither of these is ahead
 pub record IsBest (ranks : List (Option Rank)) (nodes : List Node) (at : ℕ) (w : Node) : Type 0 where
   pub one : (k : ℕ) × (IsBelow k at × (w ≡ node nodes k))
   pub least : (k : ℕ) → IsBelow k at → is_ahead (contestant ranks (node nodes k).number) (contestant ranks w.number) ≡ false
 
 -- each place has the winner's node
 pub record AreWinners (ranks : List (Option Rank)) (nodes : List Node) : Type 0 where
-  pub full : length nodes ≡ last_place (length ranks) + 3
+  pub full : length nodes ≡ last_place (length ranks) + 1
   pub won : (k : ℕ) → k ≤ last_place (length ranks) → IsWinner ranks k (node nodes k)
 
 -- nodes are a tournament of contestants with these entries

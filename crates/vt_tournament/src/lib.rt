@@ -3,7 +3,7 @@
 //! change it is decided anew at a cost that grows with the logarithm of their number. It takes memory only when it is made.
 //!
 //! This is the winner tree of replacement selection (Knuth, The Art of Computer Programming, volume 3, section 5.4.1), with
-//! four places below each inner one.
+//! two places below each inner one.
 #![tactic(auto)]
 
 mod contestants;

@@ -47,24 +47,18 @@ impl Node {
         self.number != NOBODY
     }
 
-    /// Whether this one is ahead of the other: by rank, and with equal ranks by number. Nobody comes last.
-    pub(crate) fn is_ahead<C: Contestants>(&self, other: &Node, contestants: &C) -> bool
+    /// Whether this one is ahead of the other: by rank, and with equal ranks by number. Nobody comes last. Whole ranks are
+    /// seldom asked for, so that branch is foretold rightly; the others would not be, and are reckoned.
+    pub(crate) fn is_ahead<C: Contestants>(self, other: Node, contestants: &C) -> bool
         requires few { length (C.entries contestants.now) ≤ 2 ^ 31 }
-        requires fits { self.now ≡ node_of (contestant (C.entries contestants.now) self.now.number) }
-        requires other_fits { other.now ≡ node_of (contestant (C.entries contestants.now) other.now.number) }
-        ensures { result ≡ is_ahead (contestant (C.entries contestants.now) self.now.number) (contestant (C.entries contestants.now) other.now.number) }
+        requires fits { self ≡ node_of (contestant (C.entries contestants.now) self.number) }
+        requires other_fits { other ≡ node_of (contestant (C.entries contestants.now) other.number) }
+        ensures { result ≡ is_ahead (contestant (C.entries contestants.now) self.number) (contestant (C.entries contestants.now) other.number) }
     {
-        if self.time != other.time {
-            self.time < other.time
-        } else if self.source != other.source {
-            self.source < other.source
-        } else if !self.takes_part() {
-            false
-        } else if !other.takes_part() {
-            true
-        } else {
-            is_ahead(contestants, self.number, other.number)
+        if self.time == other.time && self.source == other.source && self.number != other.number {
+            return is_ahead(contestants, self.number, other.number);
         }
+        (self.time < other.time) | ((self.time == other.time) & (self.source < other.source))
     }
 
     /// The one of the two that is ahead.
@@ -74,7 +68,7 @@ impl Node {
         requires other_fits { other ≡ node_of (contestant (C.entries contestants.now) other.number) }
         ensures { result ≡ node_of (winner_of (contestant (C.entries contestants.now) self.number) (contestant (C.entries contestants.now) other.number)) }
     {
-        if other.is_ahead(&self, contestants) {
+        if other.is_ahead(self, contestants) {
             other
         } else {
             self

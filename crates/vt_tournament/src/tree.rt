@@ -1,9 +1,9 @@
 //! The tree of winners.
 
-ghost use Rattle.std.specs.Prelude.{◌≡◌, true, ℕ, ◌+◌, ◌*◌, ◌<◌, ◌≤◌, ◌^◌, List, length, replicate, slice_get, Option, Some, None, IfOk, IfErr, IfSome, IfNone};
+ghost use Rattle.std.specs.Prelude.{◌≡◌, true, ℕ, ◌+◌, ◌*◌, ◌/◌, ◌-◌, ◌<◌, ◌≤◌, ◌^◌, List, length, replicate, slice_get, Option, Some, None, IfOk, IfErr, IfSome, IfNone};
 ghost use Rattle.vt_key.specs.declared.fault.Fault.TheVariants.{Memory};
 ghost use Rattle.vt_key.specs.declared.order.Rank.{Rank};
-ghost use Rattle.vt_tournament.specs.Contest.{contestant, node_of, inner_places, node, IsBelow, Fits, IsAheadOfTwo, IsBest, AreWinners, IsTournamentOf, WasTournamentOf};
+ghost use Rattle.vt_tournament.specs.Contest.{contestant, node_of, inner_places, node, IsBelow, beside, Fits, IsBest, AreWinners, IsTournamentOf, WasTournamentOf};
 ghost use Rattle.vt_tournament.specs.Least.{IsLeast};
 
 use crate::contestants::Contestants;
@@ -11,10 +11,6 @@ use crate::node::Node;
 use std::alloc::Global;
 use std::marker::Model;
 use vt_key::{Fault, Rank};
-
-/// The node of a place stands this much further in the list: large blocks of the C library begin 16 bytes past a line of the
-/// cache, so that the four nodes below one, 16 bytes each, share a line.
-const SHIFT: usize = 2;
 
 /// A tournament of contestants that are numbered from 0. It keeps who won where, and the beginning of each winner's rank: the
 /// ranks themselves are the contestants' own ([`Contestants`]), so a contract speaks of all entries that it is a tournament of
@@ -32,7 +28,7 @@ impl Model for Tournament {
 
     ghost view = { λ t. t.nodes.items };
 
-    ghost invariant = { λ t. 2 < length t.nodes.items };
+    ghost invariant = { λ t. 0 < length t.nodes.items };
 }
 
 impl Tournament {
@@ -70,7 +66,7 @@ impl Tournament {
         ensures nobody { (entries : List (Option Rank)) → IsTournamentOf entries self.now → IfNone result ((i : ℕ) (rank : Rank) → slice_get entries i ≡ Some (Some rank) → ⊥) }
         ensures least { (entries : List (Option Rank)) → IsTournamentOf entries self.now → IfSome result (IsLeast entries) }
     {
-        let first = self.nodes[SHIFT];
+        let first = self.nodes[0];
         if first.takes_part() {
             Some(first.number)
         } else {
@@ -80,21 +76,22 @@ impl Tournament {
 }
 
 /// How many places of the tree stand above those of so many contestants. The places are numbered from the first one, 0, where
-/// the least of all stands, and below place k are the four from 4 k + 1.
+/// the least of all stands, and below place k are 2 k + 1 and 2 k + 2.
 fn inner_places(count: usize) -> usize
-    requires few { count ≤ 2 ^ 31 }
+    requires some { 1 ≤ count }
     ensures { result ≡ inner_places count }
 {
-    (count + 1) / 3
+    count - 1
 }
 
 /// The nodes of so many contestants of whom nobody takes part: in each, nobody won.
 fn nodes_of_nobody(alloc: Global, count: u32) -> Result<Vec<Node>, Fault>
+    requires some { 1 ≤ count }
     requires few { count ≤ 2 ^ 31 }
     ensures tree { IfOk result (λ nodes. AreWinners (replicate count None) nodes.items) }
     ensures refused { IfErr result (λ fault. fault ≡ Memory) }
 {
-    let places = 4 * inner_places(count as usize) + 1 + SHIFT;
+    let places = 2 * inner_places(count as usize) + 1;
     let mut nodes = Vec::with_capacity(alloc, places).map_err(|_| Fault::Memory)?;
     for _ in 0..places {
         nodes.push(Node::new(0, &None)).map_err(|_| Fault::Memory)?;
@@ -102,31 +99,30 @@ fn nodes_of_nobody(alloc: Global, count: u32) -> Result<Vec<Node>, Fault>
     Ok(nodes)
 }
 
-/// Of a place and the next one, that of the node that is ahead. It is reckoned: a branch would be foretold wrongly half the time.
-fn ahead_of_two<C: Contestants>(nodes: &[Node], contestants: &C, at: usize) -> usize
-    requires few { length (C.entries contestants.now) ≤ 2 ^ 31 }
-    requires there { at + 3 < length nodes.now }
-    requires fits { Fits (C.entries contestants.now) (node nodes.now at) }
-    requires next_fits { Fits (C.entries contestants.now) (node nodes.now (at + 1)) }
-    ensures near { result ≤ at + 1 }
-    ensures best { IsAheadOfTwo (C.entries contestants.now) (node nodes.now at) (node nodes.now (at + 1)) (node nodes.now result) }
+/// The other one of the two places below the same one. It is reckoned: a branch would be foretold wrongly half the time.
+fn beside(at: usize) -> usize
+    requires below { 1 ≤ at }
+    requires small { at < 2 ^ 63 }
+    ensures { result ≡ beside at }
 {
-    at + nodes[at + 1 + SHIFT].is_ahead(&nodes[at + SHIFT], contestants) as usize
+    at - 1 + 2 * (at % 2)
 }
 
-/// The one that is ahead of the four below a place.
-fn best_below<C: Contestants>(nodes: &[Node], contestants: &C, at: usize) -> Node
+/// The one that is ahead of the two below a place, of which one is known: its place, and who won there.
+fn best_below<C: Contestants>(nodes: &[Node], contestants: &C, at: usize, winner: Node) -> Node
     requires few { length (C.entries contestants.now) ≤ 2 ^ 31 }
-    requires there { 4 * at + 6 < length nodes.now }
-    requires fit { (k : ℕ) → IsBelow k at → Fits (C.entries contestants.now) (node nodes.now k) }
-    ensures { IsBest (C.entries contestants.now) nodes.now at result }
+    requires below { 1 ≤ at }
+    requires small { at < 2 ^ 63 }
+    requires there { beside at < length nodes.now }
+    requires known { winner ≡ node nodes.now at }
+    requires fit { (k : ℕ) → IsBelow k ((at - 1) / 2) → Fits (C.entries contestants.now) (node nodes.now k) }
+    ensures { IsBest (C.entries contestants.now) nodes.now ((at - 1) / 2) result }
 {
-    let early = ahead_of_two(nodes, contestants, 4 * at + 1);
-    let late = ahead_of_two(nodes, contestants, 4 * at + 3);
-    nodes[early + SHIFT].winner(nodes[late + SHIFT], contestants)
+    winner.winner(nodes[beside(at)], contestants)
 }
 
-/// Decides the places above a contestant again, whose entry alone was changed and has this node now.
+/// Decides the places above a contestant again, whose entry alone was changed and has this node now. Who won is carried up:
+/// where it had to be read from where it was just written, each place would wait for the one below.
 fn decide_above<C: Contestants>(contestants: &C, nodes: &mut [Node], number: u32, node: Node)
     requires known { number < length (C.entries contestants.now) }
     requires few { length (C.entries contestants.now) ≤ 2 ^ 31 }
@@ -135,14 +131,15 @@ fn decide_above<C: Contestants>(contestants: &C, nodes: &mut [Node], number: u32
     ensures decided { AreWinners (C.entries contestants.now) nodes.new }
 {
     let mut at = inner_places(contestants.count()) + number as usize;
-    nodes[at + SHIFT] = node;
+    let mut winner = node;
+    nodes[at] = winner;
     while at > 0 {
-        at = (at - 1) / 4;
-        let winner = best_below(nodes, contestants, at);
+        winner = best_below(nodes, contestants, at, winner);
+        at = (at - 1) / 2;
         // Where another one wins as before, all above stays.
-        if winner.number != number && winner.number == nodes[at + SHIFT].number {
+        if winner.number != number && winner.number == nodes[at].number {
             return;
         }
-        nodes[at + SHIFT] = winner;
+        nodes[at] = winner;
     }
 }
