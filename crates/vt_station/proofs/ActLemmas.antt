@@ -1,12 +1,14 @@
--- The steps at a cell, by what they do to a part and to it.
-use Rattle.std.proofs.Common.{◌≡◌, ℕ, ◌%◌, ◌<◌, ◌≤◌, inl, inr, true, false, cond, not, ◌||◌, List, [], ◌∷◌, ◌++◌, sym, ◌∙◌, ap, subst, nat_eq, Some, Ok, slice_get}
+-- The steps at a cell, by what they do to a part and to it, and a fetch of nothing.
+use Rattle.std.proofs.Common.{◌≡◌, ℕ, ◌+◌, ◌%◌, ◌<◌, ◌≤◌, inl, inr, true, false, cond, not, ◌||◌, List, [], ◌∷◌, ◌++◌, refl, sym, ◌∙◌, ap, subst, arith, nat_eq, Some, Ok, slice_get}
 use Rattle.std.specs.List.{list_any}
 use Rattle.std.proofs.Math.Nat.{mod-lt}
 use Rattle.std.proofs.lemmas.Bool.Decides.{eqb_tells}
 use Rattle.vt_key.specs.declared.letter.Letter.{Letter}
 use Rattle.vt_key.specs.declared.letter.Mail.{Mail}
 use Rattle.vt_key.specs.declared.fault.Fault.TheVariants.{NotLawful, Closed}
-use Rattle.vt_model.specs.Simulation.{Simulation}
+use Rattle.vt_model.specs.declared.settings.Config.{Config}
+use Rattle.vt_model.specs.Handler.{Handlers}
+use Rattle.vt_model.specs.Simulation.{Simulation, simulation_of}
 use Rattle.vt_steps.specs.declared.step.Step.TheVariants.{Send, Fetch, Cut, Report, Commit, Close}
 use Rattle.vt_steps.specs.declared.step.Reply.TheVariants.{Done}
 use Rattle.vt_steps.specs.Letters.{is_empty}
@@ -17,6 +19,8 @@ use Rattle.vt_steps.specs.BookSteps.{may_commit, with_rows, may_close, closed_bo
 use Rattle.vt_steps.specs.Next.{may_send}
 use Rattle.vt_steps.specs.Cells.{in_inbox, on_board, in_book, Acted, left_alone, act_cut, act_report, act}
 use Rattle.vt_steps.proofs.Tests.{both_pass}
+use Rattle.vt_kernel.specs.Held.{HeldWorker, StandsFor}
+use Rattle.vt_station.specs.Calls.{Acts}
 
 module _ {S P : Type 0} (sim : Simulation S P) where
   pub act-send : (w v : ℕ) (part : Part P) (mails : List (Mail P)) → may_send sim w v part ≡ true →
@@ -68,3 +72,31 @@ module _ {S P : Type 0} (sim : Simulation S P) where
 
   pub sent-known : (w v : ℕ) (part : Part P) → 1 ≤ sim.workers → may_send sim w v part ≡ true → v < sim.workers
   sent-known w v part some may = any-for v part.outbox some (both_pass (not (nat_eq w v)) (list_any (is_for sim v) part.outbox) may).1
+
+-- ---- a fetch of nothing
+
+module _ {P : Type 0} where
+  none-there : (mails : List (Mail P)) → is_empty mails ≡ true → mails ≡ []
+  none-there [] e = refl
+  none-there (mail ∷ mails) e = absurd (let h : false ≡ true = e in cc)
+
+  -- it leaves a part as it is
+  fetched-same : (part : Part P) → part.arrived ≡ [] → part_after_fetch [] part ≡ part
+  unfolding part_after_fetch
+  fetched-same part none =
+      let white : part.got.white + 0 ≡ part.got.white = omega arith in
+      let red : part.got.red + 0 ≡ part.got.red = omega arith in
+      λ i. record part { arrived = sym none i; got = record { white = white i; red = red i } }
+
+-- and a kernel
+pub fetches-nothing : {S P K : Type 0} (handlers : Handlers S P K) (config : Config) (w : ℕ) (k : HeldWorker S P K) → is_empty k.arrived ≡ true → Acts handlers config (Fetch w) Done k (in_inbox []) k (in_inbox [])
+fetches-nothing handlers config w k empty = record {
+  acts = λ part s.
+      (let none : part.arrived ≡ [] = s.arrived ∙ none-there k.arrived empty in (
+        part_after_fetch [] part,
+        act-fetch (simulation_of handlers config) w part [] (ap is_empty none),
+        subst (StandsFor handlers k) (sym (fetched-same part none)) s,
+      ));
+  worker = refl;
+  config_is = refl;
+}

@@ -6,7 +6,7 @@ use Rattle.vt_key.specs.declared.letter.Mail.{Mail}
 use Rattle.vt_steps.specs.World.{Book, World}
 use Rattle.vt_steps.specs.Cells.{CellName, inbox_of, board_cell, book_cell, Cell, in_inbox, on_board, in_book, content}
 use Rattle.vt_station.specs.Hands.{Hand, empty_hand, holding}
-use Rattle.vt_station.specs.Slots.{cell_count, cell_at}
+use Rattle.vt_station.specs.Slots.{cell_count, word_at, cell_at}
 
 -- ---- hands
 
@@ -58,6 +58,10 @@ book-name workers k more =
     let test : nat_lt k workers ≡ false = grind (arith, nat_tests) in
     let same : nat_eq k workers ≡ false = grind (arith, nat_tests) in
     ap (λ b. cond b (inbox_of k) (cond (nat_eq k workers) board_cell book_cell)) test ∙ ap (λ b. cond b board_cell book_cell) same
+
+-- two cells have two words
+pub words-apart : (j k : ℕ) → j ≢ k → word_at j ≢ word_at k
+words-apart j k apart same = apart (omega arith)
 
 -- two cells have two names
 pub names-apart : (workers k j : ℕ) → k < cell_count workers → j < cell_count workers → j ≢ k → cell_at workers j ≡ cell_at workers k → ⊥

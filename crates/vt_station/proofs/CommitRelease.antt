@@ -15,27 +15,27 @@ use Rattle.vt_steps.specs.Marked.{Made, made_done, Leads}
 use Rattle.vt_steps.proofs.LocalLeads.{leads}
 use Rattle.vt_kernel.specs.Held.{HeldWorker, StandsFor}
 use Rattle.vt_station.specs.declared.view.View.{View}
-use Rattle.vt_station.specs.Slots.{cell_count, cell_at}
+use Rattle.vt_station.specs.Slots.{cell_count, word_at, home_word, cell_at}
 use Rattle.vt_station.specs.Kept.{Sat, Kept}
 use Rattle.vt_station.specs.Calls.{Reaches, Visited, Holding, ShowsFloor}
 use Rattle.vt_station.specs.Commits.{CommitsTo, Commits}
 use Rattle.vt_station.proofs.CallLemmas.{WithHand}
 use Rattle.vt_station.proofs.Keeps.{releases}
-use Rattle.vt_station.proofs.Releases.{steps-lead}
+use Rattle.vt_station.proofs.Releases.{steps-lead, home-not_claimed, home-not_empty}
 
 module _ {S P K : Type 0} (handlers : Handlers S P K) (config : Config) where
   -- after local steps and a commit
   pub leaves-committed : IsLawful (simulation_of handlers config) → (slots id k : ℕ) (m : Sat P) (worker : ℕ) (seen : Time) (found now : Cell P) (lent : HeldWorker S P K) → k < cell_count config.workers
       → worker ≡ m.0.worker → cell_at config.workers k ≡ book_cell → Holding config m k found now → CommitsTo handlers config worker lent found now → ShowsFloor config.end seen now → Reaches handlers config m.0 lent
-      → Allows (Kept (simulation_of handlers config) config) slots id m k (λ _. 0) (λ _. (λ (n : ℕ) (after : Sat P). (after.1 ≡ []) × Commits handlers config m.0 worker lent seen after.0) 0)
+      → Allows (Kept (simulation_of handlers config) config) slots id m (word_at k) (λ _. home_word) (λ _. (λ (n : ℕ) (after : Sat P). (after.1 ≡ []) × Commits handlers config m.0 worker lent seen after.0) home_word)
   leaves-committed lawful slots id k m worker seen found now lent near whose at h does sees way =
       let sim = simulation_of handlers config in
       let left = part_after_commit way.part in
       let own : List Made = made_done way.steps ++ record { step = Commit worker; reply = Done } ∷ [] in
       let goes : Leads sim m.0.worker (cell_at sim.workers k) m.0.part found (way.steps ++ Commit worker ∷ []) left now own =
       leads sim m.0.worker (cell_at sim.workers k) way.steps (Commit worker) m.0.part way.part left found now Done (steps-lead sim m.0.worker way.steps m.0.part way.part way.led) whose (sym at) (does way.part way.stands) in
-      releases sim config lawful slots id k m found h.slot (way.steps ++ Commit worker ∷ []) left own seen
-      (λ (n : ℕ) (after : Sat P). (after.1 ≡ []) × Commits handlers config m.0 worker lent seen after.0) near h.carried h.hand h.right
+      releases sim config lawful slots id k home_word m found h.slot (way.steps ++ Commit worker ∷ []) left own seen
+      (λ (n : ℕ) (after : Sat P). (after.1 ≡ []) × Commits handlers config m.0 worker lent seen after.0) near home-not_claimed (λ e _. home-not_empty e) h.carried h.hand h.right
       (subst (λ (c : Cell P). Leads sim m.0.worker (cell_at sim.workers k) m.0.part found (way.steps ++ Commit worker ∷ []) left c own) (sym h.now_is) goes)
       (inr (subst (λ (c : Cell P). ShowsFloor sim.end seen c) (sym h.now_is) sees))
       (λ n. (

@@ -45,7 +45,8 @@ none-mail (suc n) zero less = refl
 none-mail (suc n) (suc k) less = none-mail n k (omega arith)
 
 module _ {S P : Type 0} (sim : Simulation S P) where
-  opening-inbox : (k : ℕ) → k < sim.workers → content (opening_world sim 0) (inbox_of k) ≡ Some (in_inbox [])
+  -- an inbox is empty
+  pub opening-inbox : (k : ℕ) → k < sim.workers → content (opening_world sim 0) (inbox_of k) ≡ Some (in_inbox [])
   unfolding opening_world
   opening-inbox k less = ap (option_map in_inbox) (none-mail sim.workers k less)
 

@@ -1,5 +1,5 @@
 -- The release after each call, in the words of its contract.
-use Rattle.std.proofs.Common.{◌≡◌, ◌⊎◌, inl, inr, ℕ, ◌%◌, ◌/◌, ◌<◌, cond, List, [], ◌∷◌, ◌++◌, refl, sym, ◌∙◌, ap, subst, le_refl, nat_eq, Option, Some, None, Ok}
+use Rattle.std.proofs.Common.{◌≡◌, ◌≢◌, ◌⊎◌, inl, inr, ℕ, ◌%◌, ◌/◌, ◌<◌, arith, cond, List, [], ◌∷◌, ◌++◌, refl, sym, ◌∙◌, ap, subst, le_refl, nat_eq, Option, Some, None, Ok}
 use Rattle.std.proofs.lemmas.List.{append-nil}
 use Rattle.std.proofs.lemmas.Bool.Decides.{eqb_tells}
 use Rattle.atomic_table.specs.Table.{Allows}
@@ -14,17 +14,17 @@ use Rattle.vt_steps.specs.declared.step.Reply.{Reply}
 use Rattle.vt_steps.specs.declared.step.Reply.TheVariants.{Done}
 use Rattle.vt_steps.specs.World.{Part}
 use Rattle.vt_steps.specs.PartSteps.{execute, undo, cancel, home, accept}
-use Rattle.vt_steps.specs.Cells.{book_cell, Cell, worker_of, cell_of, acted_locally, act}
+use Rattle.vt_steps.specs.Cells.{book_cell, Cell, in_inbox, worker_of, cell_of, acted_locally, act}
 use Rattle.vt_steps.specs.Laws.{IsAny}
 use Rattle.vt_steps.specs.Marked.{Made, made_done, LeadsLocally, LeadLocally, Leads}
 use Rattle.vt_steps.proofs.Changes.{chain_has}
 use Rattle.vt_steps.proofs.LocalLeads.{leads, leads-nowhere}
 use Rattle.vt_kernel.specs.Held.{HeldWorker}
 use Rattle.vt_kernel.specs.Local.{local_step, local_steps}
-use Rattle.vt_station.specs.Slots.{cell_count, cell_at, held_in}
-use Rattle.vt_station.specs.Kept.{Sat, Kept}
+use Rattle.vt_station.specs.Slots.{cell_count, word_at, empty_word, claimed_word, home_word, cell_at, held_in}
+use Rattle.vt_station.specs.Kept.{Sat, Kept, Rests}
 use Rattle.vt_station.specs.Calls.{seen_or, Unvisited, Closes, Reaches, Visited, Acts, Holding, ShowsFloor, MaySee}
-use Rattle.vt_station.proofs.Keeps.{releases}
+use Rattle.vt_station.proofs.Keeps.{releases, Looked, looks}
 
 -- ---- local steps of a kernel as local steps of a worker
 
@@ -68,6 +68,16 @@ module _ {S P : Type 0} (sim : Simulation S P) (w : ℕ) where
 
 -- ---- releases
 
+-- what the words say are three things
+pub home-not_claimed : home_word ≢ claimed_word
+home-not_claimed e = absurd (omega arith)
+
+pub empty-not_claimed : empty_word ≢ claimed_word
+empty-not_claimed e = absurd (omega arith)
+
+pub home-not_empty : {X : Type 0} → home_word ≡ empty_word → X
+home-not_empty e = absurd (omega arith)
+
 pub may-see : {P : Type 0} (end t : Time) (seen : Option Time) (cell : Cell P) → MaySee end seen cell → TimeAtMost (seen_or t seen) t ⊎ ShowsFloor end (seen_or t seen) cell
 may-see end t None cell h = inl (le_refl t)
 may-see end t (Some now) cell h = inr h
@@ -75,12 +85,12 @@ may-see end t (Some now) cell h = inr h
 module _ {S P K : Type 0} (handlers : Handlers S P K) (config : Config) (lawful : IsLawful (simulation_of handlers config)) where
   -- without a step, and with the cell as it was
   pub leaves-unvisited : (slots id k : ℕ) (m : Sat P) (seen : Option Time) (found : Cell P) → k < cell_count config.workers → Holding config m k found found → MaySee config.end seen found
-      → Allows (Kept (simulation_of handlers config) config) slots id m k (λ _. 0) (λ _. (λ (n : ℕ) (after : Sat P). (after.1 ≡ []) × Unvisited m.0 (seen_or m.0.seen seen) after.0) 0)
+      → Allows (Kept (simulation_of handlers config) config) slots id m (word_at k) (λ _. home_word) (λ _. (λ (n : ℕ) (after : Sat P). (after.1 ≡ []) × Unvisited m.0 (seen_or m.0.seen seen) after.0) home_word)
   leaves-unvisited slots id k m seen found near h sees =
       let sim = simulation_of handlers config in
       let same : Leads sim m.0.worker (cell_at sim.workers k) m.0.part found [] m.0.part (held_in h.slot) [] =
       subst (λ (c : Cell P). Leads sim m.0.worker (cell_at sim.workers k) m.0.part found [] m.0.part c []) (sym h.now_is) (leads-nowhere sim m.0.worker (cell_at sim.workers k) m.0.part found) in
-      releases sim config lawful slots id k m found h.slot [] m.0.part [] (seen_or m.0.seen seen) (λ (n : ℕ) (after : Sat P). (after.1 ≡ []) × Unvisited m.0 (seen_or m.0.seen seen) after.0) near h.carried h.hand h.right same
+      releases sim config lawful slots id k home_word m found h.slot [] m.0.part [] (seen_or m.0.seen seen) (λ (n : ℕ) (after : Sat P). (after.1 ≡ []) × Unvisited m.0 (seen_or m.0.seen seen) after.0) near home-not_claimed (λ e _. home-not_empty e) h.carried h.hand h.right same
       (subst (λ (c : Cell P). TimeAtMost (seen_or m.0.seen seen) m.0.seen ⊎ ShowsFloor sim.end (seen_or m.0.seen seen) c) (sym h.now_is) (may-see config.end m.0.seen seen found sees))
       (λ n. (
         refl,
@@ -92,17 +102,18 @@ module _ {S P K : Type 0} (handlers : Handlers S P K) (config : Config) (lawful 
       ))
 
   -- after local steps and one step at the cell
-  pub leaves-visited : (slots id k : ℕ) (m : Sat P) (found now : Cell P) (before left : HeldWorker S P K) (step : Step) (reply : Reply) → k < cell_count config.workers
+  pub leaves-visited : (slots id k x : ℕ) (m : Sat P) (found now : Cell P) (before left : HeldWorker S P K) (step : Step) (reply : Reply) → k < cell_count config.workers
+      → x ≢ claimed_word → (x ≡ empty_word → now ≡ in_inbox [])
       → IsAny (worker_of (simulation_of handlers config) step) m.0.worker → IsAny (cell_of step) (cell_at config.workers k)
       → Holding config m k found now → Acts handlers config step reply before found left now → Reaches handlers config m.0 before
-      → Allows (Kept (simulation_of handlers config) config) slots id m k (λ _. 0) (λ _. (λ (n : ℕ) (after : Sat P). (after.1 ≡ []) × Visited handlers config m.0 before step reply left m.0.seen after.0) 0)
-  leaves-visited slots id k m found now before left step reply near whose at h does way =
+      → Allows (Kept (simulation_of handlers config) config) slots id m (word_at k) (λ _. x) (λ _. (λ (n : ℕ) (after : Sat P). (after.1 ≡ []) × Visited handlers config m.0 before step reply left m.0.seen after.0) x)
+  leaves-visited slots id k x m found now before left step reply near home empty whose at h does way =
       let sim = simulation_of handlers config in
       let a = does.acts way.part way.stands in
       let goes : Leads sim m.0.worker (cell_at sim.workers k) m.0.part found (way.steps ++ step ∷ []) a.0 now (made_done way.steps ++ record { step = step; reply = reply } ∷ []) =
       leads sim m.0.worker (cell_at sim.workers k) way.steps step m.0.part way.part a.0 found now reply (steps-lead sim m.0.worker way.steps m.0.part way.part way.led) whose at a.1 in
-      releases sim config lawful slots id k m found h.slot (way.steps ++ step ∷ []) a.0 (made_done way.steps ++ record { step = step; reply = reply } ∷ []) m.0.seen
-      (λ (n : ℕ) (after : Sat P). (after.1 ≡ []) × Visited handlers config m.0 before step reply left m.0.seen after.0) near h.carried h.hand h.right
+      releases sim config lawful slots id k x m found h.slot (way.steps ++ step ∷ []) a.0 (made_done way.steps ++ record { step = step; reply = reply } ∷ []) m.0.seen
+      (λ (n : ℕ) (after : Sat P). (after.1 ≡ []) × Visited handlers config m.0 before step reply left m.0.seen after.0) near home (λ e _. h.now_is ∙ empty e) h.carried h.hand h.right
       (subst (λ (c : Cell P). Leads sim m.0.worker (cell_at sim.workers k) m.0.part found (way.steps ++ step ∷ []) a.0 c (made_done way.steps ++ record { step = step; reply = reply } ∷ [])) (sym h.now_is) goes)
       (inl (le_refl m.0.seen))
       (λ n. (
@@ -115,16 +126,36 @@ module _ {S P K : Type 0} (handlers : Handlers S P K) (config : Config) (lawful 
         },
       ))
 
+  -- at a load that finds an inbox empty, after local steps and one step that finds it so and leaves it so
+  pub leaves-looked : (slots id k : ℕ) (m : Sat P) (before left : HeldWorker S P K) (step : Step) (reply : Reply) → k < config.workers → Rests m
+      → IsAny (worker_of (simulation_of handlers config) step) m.0.worker → IsAny (cell_of step) (cell_at config.workers k)
+      → Acts handlers config step reply before (in_inbox []) left (in_inbox []) → Reaches handlers config m.0 before
+      → Allows (Kept (simulation_of handlers config) config) slots id m (word_at k) (λ n. n) (Looked m (λ after. (after.1 ≡ []) × Visited handlers config m.0 before step reply left m.0.seen after.0))
+  leaves-looked slots id k m before left step reply near rests whose at does way =
+      let sim = simulation_of handlers config in
+      let a = does.acts way.part way.stands in
+      looks sim config lawful slots id k m (way.steps ++ step ∷ []) a.0 (made_done way.steps ++ record { step = step; reply = reply } ∷ [])
+      (λ after. (after.1 ≡ []) × Visited handlers config m.0 before step reply left m.0.seen after.0) near rests
+      (leads sim m.0.worker (cell_at sim.workers k) way.steps step m.0.part way.part a.0 (in_inbox []) (in_inbox []) reply (steps-lead sim m.0.worker way.steps m.0.part way.part way.led) whose at a.1) (
+        refl,
+        record {
+          visits = record { steps = way.steps; part = way.part; led = way.led; stood = way.stands; mine = refl; stands = a.2; worker = does.worker; config_is = does.config_is };
+          same = record { worker = refl; made = refl; waiting = refl };
+          floor = refl;
+          rests = refl;
+        },
+      )
+
   -- after a close
   pub leaves-closed : (slots id k : ℕ) (m : Sat P) (seen : Time) (found now : Cell P) → k < cell_count config.workers → cell_at config.workers k ≡ book_cell → Holding config m k found now
       → ((part : Part P) → act (simulation_of handlers config) Close part found ≡ record { part = part; cell = now; answer = Ok Done }) → ShowsFloor config.end seen now
-      → Allows (Kept (simulation_of handlers config) config) slots id m k (λ _. 0) (λ _. (λ (n : ℕ) (after : Sat P). (after.1 ≡ []) × Closes m.0 seen after.0) 0)
+      → Allows (Kept (simulation_of handlers config) config) slots id m (word_at k) (λ _. home_word) (λ _. (λ (n : ℕ) (after : Sat P). (after.1 ≡ []) × Closes m.0 seen after.0) home_word)
   leaves-closed slots id k m seen found now near at h does sees =
       let sim = simulation_of handlers config in
       let own : List Made = record { step = Close; reply = Done } ∷ [] in
       let goes : Leads sim m.0.worker (cell_at sim.workers k) m.0.part found (Close ∷ []) m.0.part now own =
       leads sim m.0.worker (cell_at sim.workers k) [] Close m.0.part m.0.part m.0.part found now Done refl tt (sym at) (does m.0.part) in
-      releases sim config lawful slots id k m found h.slot (Close ∷ []) m.0.part own seen (λ (n : ℕ) (after : Sat P). (after.1 ≡ []) × Closes m.0 seen after.0) near h.carried h.hand h.right
+      releases sim config lawful slots id k home_word m found h.slot (Close ∷ []) m.0.part own seen (λ (n : ℕ) (after : Sat P). (after.1 ≡ []) × Closes m.0 seen after.0) near home-not_claimed (λ e _. home-not_empty e) h.carried h.hand h.right
       (subst (λ (c : Cell P). Leads sim m.0.worker (cell_at sim.workers k) m.0.part found (Close ∷ []) m.0.part c own) (sym h.now_is) goes)
       (inr (subst (λ (c : Cell P). ShowsFloor sim.end seen c) (sym h.now_is) sees))
       (λ n. (refl, record { same = record { worker = refl; made = refl; waiting = refl }; part = refl; mine = refl; floor = refl; rests = refl }))

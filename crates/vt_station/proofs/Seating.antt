@@ -12,7 +12,7 @@ use Rattle.atomic_table.proofs.Lists.{at_set, set_else, at_snoc, at_longer}
 use Rattle.vt_model.specs.declared.settings.Config.{Config}
 use Rattle.vt_model.specs.Simulation.{Simulation}
 use Rattle.vt_steps.specs.World.{opening_part, opening_world}
-use Rattle.vt_steps.specs.Cells.{Cell, content}
+use Rattle.vt_steps.specs.Cells.{inbox_of, Cell, in_inbox, content}
 use Rattle.vt_steps.specs.Marked.{Marked, Each, own_steps}
 use Rattle.vt_steps.specs.Next.{run}
 use Rattle.vt_steps.proofs.MarkedRuns.{each-weaker, own-others}
@@ -21,7 +21,7 @@ use Rattle.vt_steps.proofs.Places.{get-map_range}
 use Rattle.vt_station.specs.declared.slot.Slot.{Slot}
 use Rattle.vt_station.specs.declared.view.View.{View}
 use Rattle.vt_station.specs.Hands.{empty_hand, holding}
-use Rattle.vt_station.specs.Slots.{cell_count, cell_at, held_in, IsSlotOf}
+use Rattle.vt_station.specs.Slots.{cell_count, word_at, cell_at, held_in, IsSlotOf}
 use Rattle.vt_station.specs.Kept.{Standing, IsClaimed, Makes, Sits, Kept, first_view, left_view, next_view, first_or}
 use Rattle.vt_station.proofs.Cells.{not-empty}
 
@@ -90,9 +90,9 @@ module _ {S P : Type 0} (sim : Simulation S P) (config : Config) where
     right = r.right;
     count = (let a = r.count in omega (arith, length-append (set s.views id (left_view v)) (next_view v ∷ []), length-set s.views id (left_view v)));
     maker_there = (let a = r.maker_there in omega arith);
-    free = λ k l z. (let f = r.free k l z in record { slot = f.slot; home = f.home; cell = f.cell; right = f.right });
-    taken = λ k l nz.
-        (let u = r.taken k l nz in
+    free = λ k l nz. (let f = r.free k l nz in record { slot = f.slot; home = f.home; cell = f.cell; right = f.right });
+    taken = λ k l z.
+        (let u = r.taken k l z in
         dite (ℕ_discrete u.seat id)
         (λ e. record {
           seat = id;
@@ -102,6 +102,7 @@ module _ {S P : Type 0} (sim : Simulation S P) (config : Config) where
           hand = ap (λ (x : View P). x.hand) (some-injective v u.view (sym at ∙ (ap (get_elem? s.views) (sym e) ∙ u.there))) ∙ u.hand;
         })
         (λ ne. record { seat = u.seat; view = u.view; cell = u.cell; there = at_longer (set s.views id (left_view v)) _ u.seat u.view (set_else s.views id u.seat (left_view v) ne ∙ u.there); hand = u.hand }));
+    empty = r.empty;
     each = λ j u e. ⊎_elim
         (λ (there : get_elem? (set s.views id (left_view v)) j ≡ some u). ⊎_elim
         (λ (x : (j ≡ id) × (left_view v ≡ u)). subst (λ (z : ℕ × View P). Sits sim (parted s id v) r.log (r.made + 1) r.maker z.0 z.1) (λ i. (sym x.0 i, x.1 i)) maker_sits)
@@ -203,13 +204,14 @@ module _ {S P : Type 0} (sim : Simulation S P) (config : Config) where
 
   -- ---- the first place
 
-  -- all words are 0, and the slots hold what the cells of the opening world hold
-  pub starts : (words : List ℕ) (slots : List (Slot P)) → 0 < sim.workers → length words ≡ cell_count sim.workers → length slots ≡ cell_count sim.workers
-      → ((k : ℕ) → k < cell_count sim.workers → get_or words k 0 ≡ 0)
+  -- all words are 0, and the slots hold what the cells of the opening world hold, whose inboxes are empty
+  pub starts : (words : List ℕ) (slots : List (Slot P)) → 0 < sim.workers → length words ≡ word_at (cell_count sim.workers) → length slots ≡ cell_count sim.workers
+      → ((k : ℕ) → get_or words k 0 ≡ 0)
+      → ((k : ℕ) → k < sim.workers → content (opening_world sim 0) (inbox_of k) ≡ Some (in_inbox []))
       → ((k : ℕ) → k < cell_count sim.workers → (slot : Slot P) × (get_elem? (map some slots) k ≡ some (some slot)) × (content (opening_world sim 0) (cell_at sim.workers k) ≡ Some (held_in slot)) × IsSlotOf config k slot)
       → Kept sim config (tabled words slots (first_view sim))
   unfolding run own_steps
-  starts words slots some_worker wide deep blank_words full = record {
+  starts words slots some_worker wide deep blank_words empty full = record {
     log = [];
     made = 1;
     maker = 0;
@@ -220,8 +222,9 @@ module _ {S P : Type 0} (sim : Simulation S P) (config : Config) where
     right = tt;
     count = refl;
     maker_there = omega arith;
-    free = λ k l z. (let f = full k l in record { slot = f.0; home = f.1; cell = f.2; right = f.3 });
-    taken = λ k l nz. absurd (nz (blank_words k l));
+    free = λ k l nz. (let f = full k l in record { slot = f.0; home = f.1; cell = f.2; right = f.3 });
+    taken = λ k l z. absurd (let zero_word = blank_words (word_at k) in omega arith);
+    empty = λ k l z. empty k l;
     each = λ j v e. (let x = only j v e in subst (λ (z : ℕ × View P). Sits sim (tabled words slots (first_view sim)) [] 1 0 z.0 z.1) (λ i. (sym x.0 i, x.1 i)) first_sits);
     apart = λ i j a b e f _. (only i a e).0 ∙ sym (only j b f).0;
     alone = λ i j a b k c d e f _ _. (only i a e).0 ∙ sym (only j b f).0;

@@ -9,12 +9,12 @@ use Rattle.vt_key.specs.Times.{TimeAtMost, opening_time}
 use Rattle.vt_model.specs.declared.settings.Config.{Config}
 use Rattle.vt_model.specs.Simulation.{Simulation}
 use Rattle.vt_steps.specs.World.{Part, book_floor, opening_part}
-use Rattle.vt_steps.specs.Cells.{Cell, content}
+use Rattle.vt_steps.specs.Cells.{inbox_of, Cell, in_inbox, content}
 use Rattle.vt_steps.specs.Marked.{Marked, answered, Each, IsMarkedRight, own_steps_of, shown}
 use Rattle.vt_station.specs.declared.slot.Slot.{Slot}
 use Rattle.vt_station.specs.declared.view.View.{View}
 use Rattle.vt_station.specs.Hands.{empty_hand, holding}
-use Rattle.vt_station.specs.Slots.{cell_count, cell_at, held_in, IsSlotOf}
+use Rattle.vt_station.specs.Slots.{cell_count, word_at, empty_word, claimed_word, cell_at, held_in, IsSlotOf}
 
 -- the words, the slots and the views of a station's table
 abbrev pub Standing : Type 0 → Type 0
@@ -33,10 +33,10 @@ pub record IsHeld {P : Type 0} (s : Standing P) (k : ℕ) : Type 0 where
   pub hand : view.hand ≡ holding k cell
 
 module _ {S P : Type 0} (sim : Simulation S P) where
-  -- cell k is claimed by a place, which found this in it: its word is not 0, its slot is not at home, and the shown world has it
+  -- cell k is claimed by a place, which found this in it: its word says so, its slot is not at home, and the shown world has it
   pub record IsClaimed (s : Standing P) (log : List Marked) (k : ℕ) (cell : Cell P) : Type 0 where
     pub near : k < cell_count sim.workers
-    pub word : slice_index s.words k ≢ 0
+    pub word : slice_index s.words (word_at k) ≡ claimed_word
     pub away : get_elem? s.homes k ≡ some none
     pub shows : content (shown sim log) (cell_at sim.workers k) ≡ Some cell
 
@@ -71,7 +71,7 @@ module _ {S P : Type 0} (sim : Simulation S P) where
       pub log : List Marked
       pub made : ℕ
       pub maker : ℕ
-      pub wide : length s.words ≡ cell_count sim.workers
+      pub wide : length s.words ≡ word_at (cell_count sim.workers)
       pub deep : length s.homes ≡ cell_count sim.workers
       pub most : made ≤ sim.workers
       -- a worker without a place has made no step, and each step is marked with the worker that it is about
@@ -79,9 +79,11 @@ module _ {S P : Type 0} (sim : Simulation S P) where
       pub right : Each (IsMarkedRight sim) log
       pub count : length s.views ≡ made
       pub maker_there : maker < made
-      -- a cell whose word is 0 is at home, and any other is held by one seat
-      pub free : (k : ℕ) → k < cell_count sim.workers → slice_index s.words k ≡ 0 → IsAtHome s log k
-      pub taken : (k : ℕ) → k < cell_count sim.workers → slice_index s.words k ≢ 0 → IsHeld s k
+      -- a cell whose word says that it is claimed is held by one seat, and any other is at home
+      pub free : (k : ℕ) → k < cell_count sim.workers → slice_index s.words (word_at k) ≢ claimed_word → IsAtHome s log k
+      pub taken : (k : ℕ) → k < cell_count sim.workers → slice_index s.words (word_at k) ≡ claimed_word → IsHeld s k
+      -- and an inbox whose word says that it is empty is
+      pub empty : (k : ℕ) → k < sim.workers → slice_index s.words (word_at k) ≡ empty_word → content (shown sim log) (inbox_of k) ≡ Some (in_inbox [])
       pub each : (j : ℕ) (v : View P) → get_elem? s.views j ≡ some v → Sits s log made maker j v
       -- no two seats are of one worker, and none hold one cell
       pub apart : (i j : ℕ) (v w : View P) → get_elem? s.views i ≡ some v → get_elem? s.views j ≡ some w → v.worker ≡ w.worker → i ≡ j

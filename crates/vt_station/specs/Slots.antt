@@ -1,5 +1,5 @@
 -- The cells of a station: which cell of a world each is, and what its slot holds.
-use Rattle.std.specs.Prelude.{◌≡◌, ℕ, ◌+◌, nat_lt, nat_eq, if◌then◌else◌}
+use Rattle.std.specs.Prelude.{◌≡◌, ℕ, ◌+◌, ◌*◌, nat_lt, nat_eq, if◌then◌else◌}
 use Rattle.vt_model.specs.declared.settings.Config.{Config}
 use Rattle.vt_steps.specs.Cells.{CellName, inbox_of, board_cell, book_cell, Cell, in_inbox, on_board, in_book}
 use Rattle.vt_kernel.specs.Held.{AllOwnMail}
@@ -9,6 +9,21 @@ use Rattle.vt_station.specs.declared.slot.Slot.TheVariants.{Inbox, Board, Book}
 -- how many cells a station of so many workers has: an inbox for each, the board, and the book
 abbrev pub cell_count : ℕ → ℕ
 cell_count workers = workers + 2
+
+-- the word of cell k. The words between are never read: so each that is used lies alone in two lines of the cache
+abbrev pub word_at : ℕ → ℕ
+word_at k = 16 * k
+
+-- what the word of a cell says: nobody has claimed it, and an inbox is empty; a place has claimed it; nobody has claimed it, and it
+-- may hold anything
+abbrev pub empty_word : ℕ
+empty_word = 0
+
+abbrev pub claimed_word : ℕ
+claimed_word = 1
+
+abbrev pub home_word : ℕ
+home_word = 2
 
 -- cell k: first the inboxes by worker, then the board, then the book
 abbrev pub cell_at : ℕ → ℕ → CellName

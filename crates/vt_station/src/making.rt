@@ -10,7 +10,7 @@ ghost use Rattle.vt_station.specs.Making.{AreSlots, IsMaker, Opens, AreNew};
 use crate::place::{Place, place_of};
 use crate::rule::{About, Law};
 use crate::slot::Slot;
-use crate::station::{Seat, Station};
+use crate::station::{Seat, Station, words_of};
 use crate::view::View;
 use atomic_table::{Refused, Split, Table};
 use std::alloc::{AllocError, Global};
@@ -57,7 +57,7 @@ fn lay<M: EventModel>(
 {
     let workers = config.workers as usize;
     let slots = slots_for::<M>(alloc, config)?;
-    let words = Vec::from_elem(alloc, 0u64, workers + 2)?;
+    let words = Vec::from_elem(alloc, 0u64, words_of(workers + 2))?;
     let about = About {
         model: Snapshot::of(model),
         config,

@@ -15,14 +15,14 @@ pub struct Place<P> {
     pub(crate) worker: u32,
     ghost rests: { Rests seat.me },
     ghost own: { seat.me.0.worker ≡ worker },
-    ghost known: { cell_count worker < seat.table_id.words },
+    ghost known: { cell_count worker < seat.table_id.slots },
 }
 
 /// The place with this seat.
 pub(crate) fn place_of<P>(seat: Seat<Slot<P>, View<P>>, worker: u32) -> Place<P>
     requires rests { Rests seat.me }
     requires own { seat.me.0.worker ≡ worker }
-    requires known { cell_count worker < seat.table_id.words }
+    requires known { cell_count worker < seat.table_id.slots }
     ensures seat { result.seat ≡ seat }
     ensures worker { result.worker ≡ worker }
 {

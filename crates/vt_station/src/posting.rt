@@ -112,7 +112,28 @@ impl<M: EventModel> Station<M> {
         }
     }
 
-    /// The fetch of a worker, at its inbox.
+    /// Whether a worker finds its inbox empty, which is its fetch then.
+    fn finds_nothing(&self, seat: &mut Seat<M>, kernel: &Kernel<M>, worker: u32) -> bool
+        requires table { seat.old.table_id ≡ self.now.table.shared.table_id }
+        requires rests { Rests seat.old.me }
+        requires worker { seat.old.me.0.worker ≡ worker }
+        requires known { worker < self.now.workers }
+        requires accepted { is_empty kernel.now.arrived ≡ true }
+        requires kernel { let key = self.now.table.shared.key in Reaches (M.handlers key.model.value) key.config seat.old.me.0 kernel.now }
+        ensures same { (seat.new.table_id ≡ seat.old.table_id) × (seat.new.id ≡ seat.old.id) × Rests seat.new.me }
+        ensures done { let key = self.now.table.shared.key in result ≡ true → Visited (M.handlers key.model.value) key.config seat.old.me.0 kernel.now (step.Fetch worker) reply.Done kernel.now seat.old.me.0.seen seat.new.me.0 }
+        ensures not { result ≡ false → seat.new.me ≡ seat.old.me }
+    {
+        let visit = Visit {
+            step: Step::Fetch(worker),
+            reply: Reply::Done,
+            before: Snapshot::of(kernel),
+            left: Snapshot::of(kernel),
+        };
+        self.finds_empty(seat, worker as usize, &visit)
+    }
+
+    /// The fetch of a worker, at its inbox, which it claims only where there is something in it.
     pub(crate) fn fetch_at(
         &self,
         seat: &mut Seat<M>,
@@ -133,6 +154,9 @@ impl<M: EventModel> Station<M> {
         if kernel.arrived_len() > 0 {
             return Err(Fault::NotLawful);
         }
+        if self.finds_nothing(seat, kernel, worker) {
+            return Ok(());
+        }
         if !self.claim(seat, worker as usize) {
             return Err(Fault::Busy);
         }
@@ -145,7 +169,7 @@ impl<M: EventModel> Station<M> {
                     before,
                     left: Snapshot::of(kernel),
                 };
-                self.release_visit(seat, worker as usize, &visit);
+                self.release_emptied(seat, worker as usize, &visit);
                 Ok(())
             }
             Err(fault) => {

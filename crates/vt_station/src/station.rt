@@ -1,15 +1,15 @@
 //! The station and its places.
 
-ghost use Rattle.std.specs.Prelude.{◌≡◌, ◌<◌, ◌==◌, true, false, Ok};
-ghost use prog.Atomic.{either};
+ghost use Rattle.std.specs.Prelude.{◌≡◌, ◌<◌, ◌≤◌, [], true, false, Ok};
 ghost use Rattle.atomic_table.specs.Table.{Allows};
 ghost use Rattle.vt_model.specs.Simulation.{simulation_of};
 ghost use Rattle.vt_steps.specs.declared.step.Step.TheVariants.{Close};
 ghost use Rattle.vt_steps.specs.declared.step.Reply.TheVariants.{Done};
 ghost use Rattle.vt_steps.specs.World.{Part};
-ghost use Rattle.vt_steps.specs.Cells.{Cell, worker_of, cell_of, book_cell, act};
+ghost use Rattle.vt_steps.specs.Cells.{Cell, in_inbox, worker_of, cell_of, book_cell, act};
 ghost use Rattle.vt_steps.specs.Laws.{IsAny};
-ghost use Rattle.vt_station.specs.Slots.{cell_count, cell_at};
+ghost use Rattle.vt_key.specs.declared.limits.TheConstants.{MAX_WORKERS};
+ghost use Rattle.vt_station.specs.Slots.{cell_count, word_at, claimed_word, cell_at};
 ghost use Rattle.vt_station.specs.Kept.{Kept, Rests};
 ghost use Rattle.vt_station.specs.Commits.{CommitsTo, Commits};
 ghost use Rattle.vt_station.specs.Calls.{Took, Holding, Acts, MaySee, Reaches, Visited, Unvisited, Closes, ShowsFloor, seen_or};
@@ -45,7 +45,7 @@ pub(crate) type Seat<M> = atomic_table::Seat<
 pub struct Station<M: EventModel> {
     pub(crate) table: Table<Slot<M::Payload>, View<M::Payload>, About<M>, Law<M>, Global>,
     pub(crate) workers: usize,
-    ghost words: { table.shared.table_id.words ≡ cell_count workers },
+    ghost words: { table.shared.table_id.words ≡ word_at (cell_count workers) },
     ghost slots: { table.shared.table_id.slots ≡ cell_count workers },
     ghost counted: { table.shared.key.config.workers ≡ workers },
 }
@@ -67,36 +67,76 @@ pub(crate) struct Lent<M: EventModel> {
     pub(crate) seen: Time,
 }
 
-/// A compare-exchange of 0 for 1. `_told` is for the caller's pick of the aim alone.
-fn exchange<M: EventModel, J: Aim<M::Payload>, T>(
+/// How many words apart the words of two neighbouring cells lie: two lines of the cache, since two are fetched together.
+const STRIDE: usize = 16;
+
+/// The word of an inbox that is empty and that nobody has claimed.
+const EMPTY: u64 = 0;
+
+/// The word of a cell that a place has claimed.
+const CLAIMED: u64 = 1;
+
+/// The word of a cell that nobody has claimed.
+const HOME: u64 = 2;
+
+/// Where the word of a cell lies, and how many words so many cells have.
+pub(crate) fn words_of(cells: usize) -> usize
+    requires few { cells ≤ cell_count MAX_WORKERS }
+    ensures { result ≡ word_at cells }
+{
+    STRIDE * cells
+}
+
+/// A swap for the word of a claimed cell. `_told` is for the caller's pick of the aim alone.
+fn swap<M: EventModel, J: Aim<M::Payload>, T>(
     shelf: &Shelf<M>,
     seat: &mut Seat<M>,
     cell: usize,
     _told: &T,
 ) -> u64
     requires table { seat.old.table_id ≡ shelf.now.table_id }
-    requires near { cell < shelf.now.table_id.words }
-    requires allowed { Allows (Kept (simulation_of (M.handlers shelf.now.key.model.value) shelf.now.key.config) shelf.now.key.config) shelf.now.table_id.slots seat.old.id seat.old.me cell (λ n. either (n == 0) 1 n) J.after }
+    requires few { cell < cell_count MAX_WORKERS }
+    requires near { word_at cell < shelf.now.table_id.words }
+    requires allowed { Allows (Kept (simulation_of (M.handlers shelf.now.key.model.value) shelf.now.key.config) shelf.now.key.config) shelf.now.table_id.slots seat.old.id seat.old.me (word_at cell) (λ _. claimed_word) J.after }
     ensures same { (seat.new.table_id ≡ seat.old.table_id) × (seat.new.id ≡ seat.old.id) }
     ensures told { J.after result seat.new.me }
 {
-    shelf.compare_exchange::<Tell<J>>(seat, cell, 0, 1)
+    shelf.swap::<Tell<J>>(seat, words_of(cell), CLAIMED)
 }
 
-/// A store of 0. `_told` is for the caller's pick of the aim alone.
+/// A store. `_told` is for the caller's pick of the aim alone.
 fn store<M: EventModel, J: Aim<M::Payload>, T>(
     shelf: &Shelf<M>,
     seat: &mut Seat<M>,
     cell: usize,
+    word: u64,
     _told: &T,
 )
     requires table { seat.old.table_id ≡ shelf.now.table_id }
-    requires near { cell < shelf.now.table_id.words }
-    requires allowed { Allows (Kept (simulation_of (M.handlers shelf.now.key.model.value) shelf.now.key.config) shelf.now.key.config) shelf.now.table_id.slots seat.old.id seat.old.me cell (λ _. 0) (λ _. J.after 0) }
+    requires few { cell < cell_count MAX_WORKERS }
+    requires near { word_at cell < shelf.now.table_id.words }
+    requires allowed { Allows (Kept (simulation_of (M.handlers shelf.now.key.model.value) shelf.now.key.config) shelf.now.key.config) shelf.now.table_id.slots seat.old.id seat.old.me (word_at cell) (λ _. word) (λ _. J.after word) }
     ensures same { (seat.new.table_id ≡ seat.old.table_id) × (seat.new.id ≡ seat.old.id) }
-    ensures told { J.after 0 seat.new.me }
+    ensures told { J.after word seat.new.me }
 {
-    shelf.store::<Tell<J>>(seat, cell, 0);
+    shelf.store::<Tell<J>>(seat, words_of(cell), word);
+}
+
+/// A load. `_told` is for the caller's pick of the aim alone.
+fn load<M: EventModel, J: Aim<M::Payload>, T>(
+    shelf: &Shelf<M>,
+    seat: &mut Seat<M>,
+    cell: usize,
+    _told: &T,
+) -> u64
+    requires table { seat.old.table_id ≡ shelf.now.table_id }
+    requires few { cell < cell_count MAX_WORKERS }
+    requires near { word_at cell < shelf.now.table_id.words }
+    requires allowed { Allows (Kept (simulation_of (M.handlers shelf.now.key.model.value) shelf.now.key.config) shelf.now.key.config) shelf.now.table_id.slots seat.old.id seat.old.me (word_at cell) (λ n. n) J.after }
+    ensures same { (seat.new.table_id ≡ seat.old.table_id) × (seat.new.id ≡ seat.old.id) }
+    ensures told { J.after result seat.new.me }
+{
+    shelf.load::<Tell<J>>(seat, words_of(cell))
 }
 
 impl<M: EventModel> Station<M> {
@@ -109,7 +149,23 @@ impl<M: EventModel> Station<M> {
         ensures claimed { let key = self.now.table.shared.key in result ≡ true → Took (simulation_of (M.handlers key.model.value) key.config) key.config seat.old.me cell seat.new.me }
         ensures busy { result ≡ false → (seat.new.me ≡ seat.old.me) × (1 < self.now.workers) }
     {
-        exchange::<M, Brand, ()>(&self.table.shared, seat, cell, &()) == 0
+        swap::<M, Brand, ()>(&self.table.shared, seat, cell, &()) != CLAIMED
+    }
+
+    /// Looks at a worker's inbox, and tells whether it is empty, by one load. Where it is, the worker's steps that find it empty
+    /// stand behind all others.
+    pub(crate) fn finds_empty(&self, seat: &mut Seat<M>, cell: usize, visit: &Visit<M>) -> bool
+        requires table { seat.old.table_id ≡ self.now.table.shared.table_id }
+        requires near { cell < self.now.workers }
+        requires rests { Rests seat.old.me }
+        requires marks { let key = self.now.table.shared.key in IsAny (worker_of (simulation_of (M.handlers key.model.value) key.config) visit.now.step) seat.old.me.0.worker × IsAny (cell_of visit.now.step) (cell_at key.config.workers cell) }
+        requires acts { let key = self.now.table.shared.key in Acts (M.handlers key.model.value) key.config visit.now.step visit.now.reply visit.now.before.value (in_inbox []) visit.now.left.value (in_inbox []) }
+        requires kernel { let key = self.now.table.shared.key in Reaches (M.handlers key.model.value) key.config seat.old.me.0 visit.now.before.value }
+        ensures same { (seat.new.table_id ≡ seat.old.table_id) × (seat.new.id ≡ seat.old.id) × Rests seat.new.me }
+        ensures done { let key = self.now.table.shared.key in result ≡ true → Visited (M.handlers key.model.value) key.config seat.old.me.0 visit.now.before.value visit.now.step visit.now.reply visit.now.left.value seat.old.me.0.seen seat.new.me.0 }
+        ensures not { result ≡ false → seat.new.me ≡ seat.old.me }
+    {
+        load::<M, Brand, Visit<M>>(&self.table.shared, seat, cell, visit) == EMPTY
     }
 
     /// Gives a cell back after a step: the worker's steps stand behind all others.
@@ -123,7 +179,21 @@ impl<M: EventModel> Station<M> {
         ensures same { (seat.new.table_id ≡ seat.old.table_id) × (seat.new.id ≡ seat.old.id) × Rests seat.new.me }
         ensures done { let key = self.now.table.shared.key in Visited (M.handlers key.model.value) key.config seat.old.me.0 visit.now.before.value visit.now.step visit.now.reply visit.now.left.value seat.old.me.0.seen seat.new.me.0 }
     {
-        store::<M, Brand, Visit<M>>(&self.table.shared, seat, cell, visit);
+        store::<M, Brand, Visit<M>>(&self.table.shared, seat, cell, HOME, visit);
+    }
+
+    /// Gives an inbox back empty after a step: the worker's steps stand behind all others.
+    pub(crate) fn release_emptied(&self, seat: &mut Seat<M>, cell: usize, visit: &Visit<M>)
+        requires table { seat.old.table_id ≡ self.now.table.shared.table_id }
+        requires near { cell < self.now.workers }
+        requires marks { let key = self.now.table.shared.key in IsAny (worker_of (simulation_of (M.handlers key.model.value) key.config) visit.now.step) seat.old.me.0.worker × IsAny (cell_of visit.now.step) (cell_at key.config.workers cell) }
+        requires held { let key = self.now.table.shared.key in (found : Cell _) × Holding key.config seat.old.me cell found (in_inbox [])
+            × Acts (M.handlers key.model.value) key.config visit.now.step visit.now.reply visit.now.before.value found visit.now.left.value (in_inbox []) }
+        requires kernel { let key = self.now.table.shared.key in Reaches (M.handlers key.model.value) key.config seat.old.me.0 visit.now.before.value }
+        ensures same { (seat.new.table_id ≡ seat.old.table_id) × (seat.new.id ≡ seat.old.id) × Rests seat.new.me }
+        ensures done { let key = self.now.table.shared.key in Visited (M.handlers key.model.value) key.config seat.old.me.0 visit.now.before.value visit.now.step visit.now.reply visit.now.left.value seat.old.me.0.seen seat.new.me.0 }
+    {
+        store::<M, Brand, Visit<M>>(&self.table.shared, seat, cell, EMPTY, visit);
     }
 
     /// Gives a cell back as it was; a floor of the book may have been shown.
@@ -134,7 +204,7 @@ impl<M: EventModel> Station<M> {
         ensures same { (seat.new.table_id ≡ seat.old.table_id) × (seat.new.id ≡ seat.old.id) × Rests seat.new.me }
         ensures stays { Unvisited seat.old.me.0 (seen_or seat.old.me.0.seen seen) seat.new.me.0 }
     {
-        store::<M, Brand, Option<Time>>(&self.table.shared, seat, cell, &seen);
+        store::<M, Brand, Option<Time>>(&self.table.shared, seat, cell, HOME, &seen);
     }
 
     /// Gives the cell of the book back after a commit: the worker's steps stand behind all others, and its part is without what was
@@ -150,7 +220,7 @@ impl<M: EventModel> Station<M> {
         ensures same { (seat.new.table_id ≡ seat.old.table_id) × (seat.new.id ≡ seat.old.id) × Rests seat.new.me }
         ensures done { let key = self.now.table.shared.key in Commits (M.handlers key.model.value) key.config seat.old.me.0 lent.now.worker lent.now.kernel.value lent.now.seen seat.new.me.0 }
     {
-        store::<M, Brand, Lent<M>>(&self.table.shared, seat, cell, lent);
+        store::<M, Brand, Lent<M>>(&self.table.shared, seat, cell, HOME, lent);
     }
 
     /// Gives the cell of the book back closed.
@@ -163,6 +233,6 @@ impl<M: EventModel> Station<M> {
         ensures same { (seat.new.table_id ≡ seat.old.table_id) × (seat.new.id ≡ seat.old.id) × Rests seat.new.me }
         ensures done { Closes seat.old.me.0 seen seat.new.me.0 }
     {
-        store::<M, Brand, Time>(&self.table.shared, seat, cell, &seen);
+        store::<M, Brand, Time>(&self.table.shared, seat, cell, HOME, &seen);
     }
 }

@@ -4,6 +4,19 @@ use Rattle.vt_station.specs.Slots.{cell_count}
 use Rattle.vt_station.proofs.CommitRelease.{leaves-committed}
 use Rattle.vt_station.proofs.station.Station.release_commit.Goals as goal
 
+pub store-requires-clause-few : goal.store-requires-clause-few
+store-requires-clause-few g c =
+    let counted = c.args.self.now.counted in
+    let few = c.args.self.now.table.shared.key.config.few_workers in
+    let near = c.requires.near in
+    omega arith
+
+pub store-requires-clause-near : goal.store-requires-clause-near
+store-requires-clause-near g c =
+    let words = c.args.self.now.words in
+    let near = c.requires.near in
+    omega arith
+
 pub store-requires-clause-allowed : goal.store-requires-clause-allowed
 store-requires-clause-allowed g c κs within =
     let key = c.args.self.now.table.shared.key in
