@@ -1,7 +1,9 @@
 //! What a command line asks for.
 
-ghost use Rattle.std.specs.Prelude.{◌≡◌, [], ℕ, List, IfOk, IfErr, map};
+ghost use Rattle.std.specs.Prelude.{◌≡◌, ◌⊎◌, [], ℕ, List, IfOk, IfErr, map};
+ghost use Rattle.clap.specs.Values.{kind_of};
 ghost use Rattle.clap.specs.Words.{HasKind, Text, fault_of, subcommand_of, subcommand_rows_of};
+ghost use Rattle.vt_key.specs.Faults.{fault_number};
 ghost use Rattle.vt_command.specs.Line.{twarp_app};
 ghost use Rattle.vt_command.specs.Requests.{IsRefusedBy};
 ghost use Rattle.vt_command.specs.Asked.{IsAsked};
@@ -26,10 +28,11 @@ pub enum Request {
     Help(String),
 }
 
-/// What matches of the command line ask for.
+/// What matches of the command line ask for. A refusal is never for memory.
 fn request_of(matches: &ArgMatches) -> Result<Request, Fault>
     ensures ok { (words : List Text) → fault_of twarp_app words ≡ [] → subcommand_rows_of matches.now ≡ subcommand_of twarp_app words → IfOk result (IsAsked words) }
     ensures err { (words : List Text) → fault_of twarp_app words ≡ [] → subcommand_rows_of matches.now ≡ subcommand_of twarp_app words → IfErr result (IsRefusedBy words) }
+    ensures named { IfErr result (λ fault. fault_number fault ≡ 7) }
 {
     let Some((name, inner)) = matches.subcommand() else {
         return Err(Fault::BadOption("command-line"));
@@ -45,10 +48,12 @@ fn request_of(matches: &ArgMatches) -> Result<Request, Fault>
     }
 }
 
-/// What a refused command line asks for, which may be help.
+/// What a refused command line asks for, which may be help. Memory is refused only where the parser was refused it, or the text of
+/// the help.
 fn request_after(alloc: Global, error: Error) -> Result<Request, Fault>
     ensures ok { (words : List Text) → HasKind (fault_of twarp_app words) error → IfOk result (IsAsked words) }
     ensures err { (words : List Text) → HasKind (fault_of twarp_app words) error → IfErr result (IsRefusedBy words) }
+    ensures memory { IfErr result (λ fault. fault ≡ Fault.Memory → (kind_of error ≡ ErrorKind.OutOfMemory) ⊎ (kind_of error ≡ ErrorKind.DisplayHelp)) }
 {
     match error.kind() {
         ErrorKind::OutOfMemory => Err(Fault::Memory),
