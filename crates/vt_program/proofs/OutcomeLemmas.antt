@@ -21,18 +21,18 @@ use Rattle.vt_command.specs.declared.choices.Synch.TheVariants.{Sequential, Opti
 use Rattle.vt_command.specs.Line.{twarp_app, subcommand_in, given_in}
 use Rattle.vt_command.specs.Table.{if_between, number_in}
 use Rattle.vt_command.specs.Requests.{AskHelp, AskRun, AskReplay, IsRefusedAs}
-use Rattle.vt_program.specs.Runs.{text_of_run, text_of_run_below, StopsRun, StopsWork, StopsBy}
+use Rattle.vt_program.specs.Runs.{text_of_run, text_of_run_below, PassesInRunOf, StopsRun, StopsWork, StopsBy}
 use Rattle.vt_program.specs.Replays.{GivesSteps, EndsReplay}
 use Rattle.vt_program.specs.Outcomes.{IsDone, EndsBy, AskWithBadLine}
 
 module _ (words : List Text) (o : Options) (input old new : Option (List ℕ)) (asked : AskRun words o) where
   -- a sequential run that was refused ends the program so
-  sequential_ends : o.synch ≡ Sequential → (fault : Fault) → StopsRun old new (text_of_run o) fault → EndsBy fault words input old new
+  sequential_ends : o.synch ≡ Sequential → (fault : Fault) → StopsRun (PassesInRunOf o) old new (text_of_run o) fault → EndsBy fault words input old new
   sequential_ends is Memory h = inl h
   sequential_ends is NotLawful h = h
   sequential_ends is Busy h = absurd h
   sequential_ends is Closed h = h
-  sequential_ends is Exhausted h = inl (record { options = o; asked = asked; sequential = is; kept = h })
+  sequential_ends is Exhausted h = inl (record { options = o; asked = asked; sequential = is; passes = h.0; kept = h.1 })
   sequential_ends is TurnsSpent h = absurd h
   sequential_ends is (BadOption name) h = absurd h
   sequential_ends is (BadStep line) h = absurd h
@@ -50,18 +50,18 @@ module _ (words : List Text) (o : Options) (input old new : Option (List ℕ)) (
   work_ends is (BadStep line) h = absurd h
   work_ends is Output h = inr (inl (record { options = o; asked = asked; begun = h }))
 
-  by_synch : (fault : Fault) (synch : Synch) → o.synch ≡ synch → StopsBy synch (text_of_run_below o) (text_of_run o) old new fault → EndsBy fault words input old new
+  by_synch : (fault : Fault) (synch : Synch) → o.synch ≡ synch → StopsBy synch (PassesInRunOf o) (text_of_run_below o) (text_of_run o) old new fault → EndsBy fault words input old new
   by_synch fault Sequential is h = sequential_ends is fault h
   by_synch fault Optimistic is h = work_ends is fault h
 
   -- a run that was refused ends the program so
-  pub run_ends : (fault : Fault) → StopsBy o.synch (text_of_run_below o) (text_of_run o) old new fault → EndsBy fault words input old new
+  pub run_ends : (fault : Fault) → StopsBy o.synch (PassesInRunOf o) (text_of_run_below o) (text_of_run o) old new fault → EndsBy fault words input old new
   run_ends fault h = by_synch fault o.synch refl h
 
 -- and so does a replay
 pub replay_ends : (words : List Text) (o : ReplayOptions) (input old new : Option (List ℕ)) (fault : Fault) → AskReplay words o → EndsReplay o input old new fault → EndsBy fault words input old new
 replay_ends words o input old new Memory asked (inl kept) = inl kept
-replay_ends words o input old new Memory asked (inr begun) = inr (inr (record { options = o; asked = asked; begun = begun }))
+replay_ends words o input old new Memory asked (inr lines) = inr (inr (record { options = o; asked = asked; written = lines }))
 replay_ends words o input old new NotLawful asked h = h
 replay_ends words o input old new Busy asked h = absurd h
 replay_ends words o input old new Closed asked h = h
@@ -172,7 +172,7 @@ module _ (words : List Text) (input : Option (List ℕ)) (bad : AskWithBadLine w
   pub bad_nothing_written : (old new : Option (List ℕ)) (fault : Fault) → EndsBy fault words input old new → Keeps old new
   bad_nothing_written old new Memory (inl h) = h
   bad_nothing_written old new Memory (inr (inl b)) = absurd (run_or_replay words b.asked.run.subcommand bad.asked.replay.subcommand)
-  bad_nothing_written old new Memory (inr (inr b)) = absurd (not_read b.options b.begun.steps b.asked b.begun.given)
+  bad_nothing_written old new Memory (inr (inr b)) = absurd (not_read b.options b.written.steps b.asked b.written.given)
   bad_nothing_written old new NotLawful h = absurd h
   bad_nothing_written old new Busy b = absurd (run_or_replay words b.asked.run.subcommand bad.asked.replay.subcommand)
   bad_nothing_written old new Closed h = absurd h

@@ -28,7 +28,7 @@ use Rattle.vt_step_text.specs.declared.reading.NumberedStep.{NumberedStep}
 use Rattle.vt_step_text.specs.Replies.{Answered, replies_text, shown_text, state_text}
 use Rattle.vt_step_text.specs.Replays.{steps_taken}
 use Rattle.vt_step_text.proofs.ReplayLemmas.{rightly_answered}
-use Rattle.vt_program.specs.Replays.{AreReplies, IsReplayText, Writes, Begins, StopsReplay}
+use Rattle.vt_program.specs.Replays.{AreReplies, IsReplayText, IsRepliesText, Writes, Begins, StopsReplay}
 use Rattle.vt_program.specs.Replying.{PutsReplies, StopsReplies, shown_of}
 
 -- ---- what the world shows
@@ -99,13 +99,13 @@ module _ {S P : Type 0} (sim : Simulation S P) (serial : ℕ) (steps : List Numb
   right : (replies : List Answered) (end : World P) → AreReplies sim (opening_world sim serial) steps replies end → IsReplayText sim serial steps (replies_text replies ++ state_of sim.end end)
   right replies end h = record {
     output = record { replies = replies; end = end; answered = h.answered; output = refl };
-    spent = h.spent;
+    exact = h.exact;
   }
 
   -- no world was made
-  pub opening_stops : (out : Option (List ℕ)) (fault : Fault) → IsOpeningRefusal sim serial fault → StopsReplay (IsReplayText sim serial steps) (PassesAtStart sim serial) out out fault
-  opening_stops out fault (inl h) = subst (λ (f : Fault). StopsReplay (IsReplayText sim serial steps) (PassesAtStart sim serial) out out f) (sym h.0) (h.1, Keeps-refl out)
-  opening_stops out fault (inr h) = subst (λ (f : Fault). StopsReplay (IsReplayText sim serial steps) (PassesAtStart sim serial) out out f) (sym h.0) (inl (Keeps-refl out))
+  pub opening_stops : (out : Option (List ℕ)) (fault : Fault) → IsOpeningRefusal sim serial fault → StopsReplay (IsReplayText sim serial steps) (IsRepliesText sim serial steps) (PassesAtStart sim serial) out out fault
+  opening_stops out fault (inl h) = subst (λ (f : Fault). StopsReplay (IsReplayText sim serial steps) (IsRepliesText sim serial steps) (PassesAtStart sim serial) out out f) (sym h.0) (h.1, Keeps-refl out)
+  opening_stops out fault (inr h) = subst (λ (f : Fault). StopsReplay (IsReplayText sim serial steps) (IsRepliesText sim serial steps) (PassesAtStart sim serial) out out f) (sym h.0) (inl (Keeps-refl out))
 
   -- the lines of the answers were written in part
   pub replies_begun : (old new : Option (List ℕ)) (none : List ℕ) → none ≡ [] → StopsReplies sim (opening_world sim serial) steps old new none → Begins (IsReplayText sim serial steps) old new
@@ -115,12 +115,15 @@ module _ {S P : Type 0} (sim : Simulation S P) (serial : ℕ) (steps : List Numb
     begun = of_longer old new (replies_text h.replies) (state_of sim.end h.end) (subst (λ (x : List ℕ). AppendsBeginning old new (x ++ replies_text h.replies)) e h.begun);
   }
 
-  pub output_stops : (old new : Option (List ℕ)) (fault : Fault) → fault ≡ Output → Begins (IsReplayText sim serial steps) old new → StopsReplay (IsReplayText sim serial steps) (PassesAtStart sim serial) old new fault
-  output_stops old new fault e h = subst (λ (f : Fault). StopsReplay (IsReplayText sim serial steps) (PassesAtStart sim serial) old new f) (sym e) h
+  pub output_stops : (old new : Option (List ℕ)) (fault : Fault) → fault ≡ Output → Begins (IsReplayText sim serial steps) old new → StopsReplay (IsReplayText sim serial steps) (IsRepliesText sim serial steps) (PassesAtStart sim serial) old new fault
+  output_stops old new fault e h = subst (λ (f : Fault). StopsReplay (IsReplayText sim serial steps) (IsRepliesText sim serial steps) (PassesAtStart sim serial) old new f) (sym e) h
 
-  pub show_stops : (old new : Option (List ℕ)) (fault : Fault) → (fault ≡ Memory) ⊎ (fault ≡ Output) → Begins (IsReplayText sim serial steps) old new → StopsReplay (IsReplayText sim serial steps) (PassesAtStart sim serial) old new fault
-  show_stops old new fault (inl e) h = subst (λ (f : Fault). StopsReplay (IsReplayText sim serial steps) (PassesAtStart sim serial) old new f) (sym e) (inr h)
-  show_stops old new fault (inr e) h = output_stops old new fault e h
+  -- what the world shows could not be copied, or the writer failed
+  pub show_stops : (old now new : Option (List ℕ)) (held : List ℕ) (fault : Fault) → ((fault ≡ Memory) × Appends now new held) ⊎ (fault ≡ Output) → Begins (IsReplayText sim serial steps) old new
+      → (Appends now new held → Writes (IsRepliesText sim serial steps) old new) → StopsReplay (IsReplayText sim serial steps) (IsRepliesText sim serial steps) (PassesAtStart sim serial) old new fault
+  show_stops old now new held fault (inl h) begun lines =
+      subst (λ (f : Fault). StopsReplay (IsReplayText sim serial steps) (IsRepliesText sim serial steps) (PassesAtStart sim serial) old new f) (sym h.0) (inr (lines h.1))
+  show_stops old now new held fault (inr e) begun lines = output_stops old new fault e begun
 
 module _ {M S P K : Type 0} (meaning : M → Handlers S P K) (m : M) (config : Config) (serial : ℕ) (steps : List NumberedStep) (first : HeldWorld M S P K) (model : first.model ≡ m) (same : first.config ≡ config) where
   abbrev own : Simulation S P
@@ -160,6 +163,14 @@ module _ {M S P K : Type 0} (meaning : M → Handlers S P K) (m : M) (config : C
           right = right own serial steps put.replies put.end put.are;
           written = written old now new (held ++ shown) (replies_text put.replies ++ shown) (pushed old now held (replies_text put.replies) shown lines) (subst (λ (x : List ℕ). Appends now new (held ++ x)) shown_at_end h);
         }
+
+    -- the lines of the answers were written, and nothing else
+    pub lines_written : (new : Option (List ℕ)) → Appends now new held → Writes (IsRepliesText own serial steps) old new
+    lines_written new h = record {
+      text = replies_text put.replies;
+      right = record { replies = put.replies; end = put.end; are = put.are; lines = refl };
+      written = written old now new held (replies_text put.replies) lines h;
+    }
 
     -- a beginning of it was written
     pub replay_begun : (new : Option (List ℕ)) → AppendsBeginning now new (held ++ shown_of (meaning final.model) final) → Begins (IsReplayText own serial steps) old new

@@ -1,24 +1,30 @@
 -- What steps are answered, one after the other, and the lines of the answers.
-use Rattle.std.proofs.Common.{◌≡◌, ℕ, ◌+◌, ◌<◌, Bool, true, false, List, [], ◌∷◌, ◌++◌, length, take, drop, get_or, Option, Result, Ok, Err, IfErr, ap, sym, subst, ◌∙◌, refl, inl, inr, append_assoc, append-nil, take-append-drop}
+use Rattle.std.proofs.Common.{◌≡◌, ℕ, ◌+◌, ◌<◌, ◌⊎◌, ◌/◌, ◌%◌, Bool, true, false, List, [], ◌∷◌, ◌++◌, length, take, drop, get_or, Option, Some, None, slice_get, Result, Ok, Err, ap, sym, subst, ◌∙◌, refl, inl, inr, append_assoc, append-nil, arith, take-append-drop}
 use Rattle.std.specs.Prelude.{IsTrue, if◌then◌else◌}
 use Rattle.std.proofs.lemmas.List.{take_more}
 use Rattle.std.proofs.lemmas.Grind.{flat_map-append}
 use Rattle.vt_key.specs.declared.fault.Fault.{Fault}
+use Rattle.vt_key.specs.declared.fault.Fault.TheVariants.{Exhausted}
+use Rattle.vt_key.specs.declared.limits.TheConstants.{MAX_COUNT}
 use Rattle.vt_model.specs.declared.settings.Config.{Config}
 use Rattle.vt_model.specs.Handler.{Handlers}
 use Rattle.vt_model.specs.Simulation.{Simulation, simulation_of}
 use Rattle.vt_steps.specs.declared.step.Step.{Step}
+use Rattle.vt_steps.specs.declared.step.Step.TheVariants.{Execute, Undo, Cancel, Home, Send, Fetch, Accept, Cut, Report, Commit, Close}
+use Rattle.vt_steps.specs.Letters.{count_of}
+use Rattle.vt_lp.specs.Guards.{number_of}
+use Rattle.vt_program.proofs.RunLemmas.{either}
 use Rattle.vt_steps.specs.declared.step.Reply.{Reply}
 use Rattle.vt_steps.specs.World.{World}
 use Rattle.vt_steps.specs.Next.{next}
 use Rattle.vt_steps.specs.StandsFor.{StandsFor}
 use Rattle.vt_steps.proofs.Refusals.{refusals}
 use Rattle.vt_world.specs.Held.{HeldWorld, world_memory, StandsForWorld}
-use Rattle.vt_world.specs.Calls.{IsStepOf, IsSpent}
+use Rattle.vt_world.specs.Calls.{IsStepOf, IsSpent, PassesLimit}
 use Rattle.vt_step_text.specs.declared.reading.NumberedStep.{NumberedStep}
 use Rattle.vt_step_text.specs.Replies.{Answered, reply_text, replies_text}
 use Rattle.vt_step_text.specs.Replays.{is_no_step, world_after, AreAnswered}
-use Rattle.vt_program.specs.Replays.{AreSpent, AreReplies}
+use Rattle.vt_program.specs.Replays.{IsExact, AreExact, AreReplies}
 use Rattle.vt_program.specs.Replying.{PutsReplies, StopsReplies}
 use Rattle.vt_text.specs.Writing.{AppendsAllButHeld, AppendsBeginning}
 use Rattle.vt_text.proofs.TextLemmas.{put_on, put_fails, of_longer}
@@ -28,10 +34,45 @@ use Rattle.std.proofs.KnownBytes.{Appends-nil}
 abbrev pub answered : ℕ → Result Reply Fault → Answered
 answered line answer = record { line = line; answer = answer }
 
+-- ---- whether a counter would pass its limit
+
+abbrev Decided : Type 0 → Type 0
+Decided A = A ⊎ (A → ⊥)
+
+past_or_within : (n : ℕ) → Decided (MAX_COUNT < n)
+past_or_within n = elim (either MAX_COUNT n) [ inl past ↦ inl past | inr within ↦ inr (λ past. absurd (omega (arith, past, within))) ]
+
+one_or_none : {A B : Type 0} → Decided A → Decided B → Decided (A ⊎ B)
+one_or_none (inl a) b = inl (inl a)
+one_or_none (inr n) (inl b) = inl (inr b)
+one_or_none (inr n) (inr m) = inr (λ h. elim h [ inl a ↦ n a | inr b ↦ m b ])
+
+-- of what may be there
+of_found : {X : Type 0} (Q : X → Type 0) → ((x : X) → Decided (Q x)) → (o : Option X) → Decided ((x : X) × (o ≡ Some x) × Q x)
+of_found Q decide None = inr (λ h. let e : None ≡ Some h.0 = h.1 in absurd cc)
+of_found Q decide (Some x) = elim (decide x) [
+  | inl q ↦ inl (x, refl, q)
+  | inr n ↦ inr (λ h. let e : Some x ≡ Some h.0 = h.1 in let at : x ≡ h.0 = cc in n (subst Q (sym at) h.2))
+]
+
+passes_or_not : {S P : Type 0} (sim : Simulation S P) (step : Step) (after : World P) → Decided (PassesLimit sim step after)
+passes_or_not sim (Execute p) after =
+    of_found _ (λ part. one_or_none (past_or_within part.serial) (of_found _ (λ process. past_or_within (number_of sim p process)) (slice_get part.processes (p / sim.workers)))) (slice_get after.parts (p % sim.workers))
+passes_or_not sim (Send w v) after = of_found _ (λ part. past_or_within (count_of part.sent part.colour)) (slice_get after.parts w)
+passes_or_not sim (Fetch w) after = of_found _ (λ part. one_or_none (past_or_within part.got.white) (past_or_within part.got.red)) (slice_get after.parts w)
+passes_or_not sim (Cut w) after = past_or_within after.board.rounds
+passes_or_not sim (Undo p) after = inr (λ h. h)
+passes_or_not sim (Cancel p stamp) after = inr (λ h. h)
+passes_or_not sim (Home w) after = inr (λ h. h)
+passes_or_not sim (Accept w i) after = inr (λ h. h)
+passes_or_not sim (Report w) after = inr (λ h. h)
+passes_or_not sim (Commit w) after = inr (λ h. h)
+passes_or_not sim Close after = inr (λ h. h)
+
 module _ {S P : Type 0} (sim : Simulation S P) where
   -- no step
   pub no_replies : (world : World P) → AreReplies sim world [] [] world
-  no_replies world = record { answered = refl; spent = tt }
+  no_replies world = record { answered = refl; exact = tt }
 
   answered-append : (world mid end : World P) (xs ys : List NumberedStep) (rs qs : List Answered) → AreAnswered sim world xs rs mid → AreAnswered sim mid ys qs end → AreAnswered sim world (xs ++ ys) (rs ++ qs) end
   answered-append world mid end [] ys [] qs h k = subst (λ (w : World P). AreAnswered sim w ys qs end) h k
@@ -39,23 +80,22 @@ module _ {S P : Type 0} (sim : Simulation S P) where
   answered-append world mid end (x ∷ xs) ys [] qs h k = absurd h
   answered-append world mid end (x ∷ xs) ys (r ∷ rs) qs h k = (h.0, answered-append (world_after sim world x.step r.answer) mid end xs ys rs qs h.1 k)
 
-  spent-append : (world mid : World P) (xs ys : List NumberedStep) (rs qs : List Answered) → AreAnswered sim world xs rs mid → AreSpent sim world xs rs → AreSpent sim mid ys qs → AreSpent sim world (xs ++ ys) (rs ++ qs)
-  spent-append world mid [] ys [] qs h s k = subst (λ (w : World P). AreSpent sim w ys qs) h k
-  spent-append world mid [] ys (r ∷ rs) qs h s k = absurd h
-  spent-append world mid (x ∷ xs) ys [] qs h s k = absurd h
-  spent-append world mid (x ∷ xs) ys (r ∷ rs) qs h s k = (s.0, spent-append (world_after sim world x.step r.answer) mid xs ys rs qs h.1 s.1 k)
+  exact-append : (world mid : World P) (xs ys : List NumberedStep) (rs qs : List Answered) → AreAnswered sim world xs rs mid → AreExact sim world xs rs → AreExact sim mid ys qs → AreExact sim world (xs ++ ys) (rs ++ qs)
+  exact-append world mid [] ys [] qs h s k = subst (λ (w : World P). AreExact sim w ys qs) h k
+  exact-append world mid [] ys (r ∷ rs) qs h s k = absurd h
+  exact-append world mid (x ∷ xs) ys [] qs h s k = absurd h
+  exact-append world mid (x ∷ xs) ys (r ∷ rs) qs h s k = (s.0, exact-append (world_after sim world x.step r.answer) mid xs ys rs qs h.1 s.1 k)
 
   -- some steps and then more
   pub more_replies : (world mid end : World P) (xs ys : List NumberedStep) (rs qs : List Answered) → AreReplies sim world xs rs mid → AreReplies sim mid ys qs end → AreReplies sim world (xs ++ ys) (rs ++ qs) end
   more_replies world mid end xs ys rs qs h k = record {
     answered = answered-append world mid end xs ys rs qs h.answered k.answered;
-    spent = spent-append world mid xs ys rs qs h.answered h.spent k.spent;
+    exact = exact-append world mid xs ys rs qs h.answered h.exact k.exact;
   }
 
-  -- an answer by definition never stands for no step
-  always_step : (world : World P) (step : Step) (answer : Result Reply Fault) → (next sim world step).answer ≡ answer → IsTrue (is_no_step answer) → IfErr answer (λ fault. IsSpent sim step world fault)
-  always_step world step (Ok reply) e t = tt
-  always_step world step (Err fault) e t =
+  -- a refusal by definition never stands for no step
+  lawless : (world : World P) (step : Step) (fault : Fault) → (next sim world step).answer ≡ Err fault → IsExact sim world step (Err fault)
+  lawless world step fault e t =
       elim ((refusals sim world step).other fault e) [
         | inl p ↦ (let f : is_no_step (Err fault) ≡ false = ap (λ (x : Fault). is_no_step (Err x)) p in absurd cc)
         | inr p ↦ (let f : is_no_step (Err fault) ≡ false = ap (λ (x : Fault). is_no_step (Err x)) p in absurd cc)
@@ -67,18 +107,33 @@ module _ {S P : Type 0} (sim : Simulation S P) where
     pub end : World P
     pub are : AreReplies sim world steps replies end
 
-  -- any steps have some: those by definition
+  -- each step has one: that by definition, or where a counter would pass its limit a refusal
+  pub record HasAnswer (world : World P) (step : Step) : Type 0 where
+    pub answer : Result Reply Fault
+    pub may : IsTrue (is_no_step answer) ⊎ (answer ≡ (next sim world step).answer)
+    pub exact : IsExact sim world step answer
+
+  has_answer : (world : World P) (step : Step) → HasAnswer world step
+  has_answer world step = go (next sim world step).answer refl where
+    go : (answer : Result Reply Fault) → (next sim world step).answer ≡ answer → HasAnswer world step
+    go (Err fault) e = record { answer = Err fault; may = inr (sym e); exact = lawless world step fault e }
+    go (Ok reply) e = elim (passes_or_not sim step (next sim world step).world) [
+      | inl passes ↦ record { answer = Err Exhausted; may = inl refl; exact = λ _. (reply, e, inl (refl, passes)) }
+      | inr within ↦ record { answer = Ok reply; may = inr (sym e); exact = within }
+    ]
+
+  -- so any steps have some
   pub have_replies : (world : World P) (steps : List NumberedStep) → HaveReplies world steps
   have_replies world [] = record { replies = []; end = world; are = no_replies world }
   have_replies world (step ∷ steps) =
-      let answer = (next sim world step.step).answer in
-      let rest = have_replies (world_after sim world step.step answer) steps in
+      let first = has_answer world step.step in
+      let rest = have_replies (world_after sim world step.step first.answer) steps in
       record {
-        replies = answered step.line answer ∷ rest.replies;
+        replies = answered step.line first.answer ∷ rest.replies;
         end = rest.end;
         are = record {
-          answered = (record { line = refl; answer = inr refl }, rest.are.answered);
-          spent = (always_step world step.step answer refl, rest.are.spent);
+          answered = (record { line = refl; answer = first.may }, rest.are.answered);
+          exact = (first.exact, rest.are.exact);
         };
       }
 
@@ -112,7 +167,7 @@ module _ {M S P K : Type 0} (handlers : Handlers S P K) (step : NumberedStep) (o
   replies (Ok reply) is world h =
       let goes = is.done world h in
       record {
-        are = record { answered = (record { line = refl; answer = inr (sym goes.0) }, refl); spent = ((λ _. tt), tt) };
+        are = record { answered = (record { line = refl; answer = inr (sym goes.0) }, refl); exact = (is.within world h, tt) };
         stands = goes.1;
       }
   replies (Err fault) is world h =
@@ -121,11 +176,11 @@ module _ {M S P K : Type 0} (handlers : Handlers S P K) (step : NumberedStep) (o
       let kept : StandsFor sim (world_memory handlers new) world = subst (λ (v : HeldWorld M S P K). StandsFor sim (world_memory handlers v) world) (sym is.unchanged) h in
       elim (is.refused world h) [
         | inl e ↦ record {
-          are = record { answered = (record { line = refl; answer = inr (sym e) }, refl); spent = (always_step sim world step.step (Err fault) e, tt) };
+          are = record { answered = (record { line = refl; answer = inr (sym e) }, refl); exact = (lawless sim world step.step fault e, tt) };
           stands = subst (λ (w : World P). StandsFor sim (world_memory handlers new) w) (sym (after_refused sim (is_no_step (Err fault)) world after ((refusals sim world step.step).keeps fault e))) kept;
         }
         | inr spent ↦ record {
-          are = record { answered = (record { line = refl; answer = inl (is_spent sim world step.step fault spent) }, refl); spent = ((λ _. spent), tt) };
+          are = record { answered = (record { line = refl; answer = inl (is_spent sim world step.step fault spent) }, refl); exact = ((λ _. spent), tt) };
           stands = subst (λ (w : World P). StandsFor sim (world_memory handlers new) w) (sym (after_no_step sim (is_no_step (Err fault)) world after (is_spent sim world step.step fault spent))) kept;
         }
       ]

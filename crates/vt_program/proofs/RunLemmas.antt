@@ -1,6 +1,7 @@
 -- What a run in threads writes that stops: what comes before a time begins the text of the whole run.
-use Rattle.std.proofs.Common.{◌≡◌, ◌∙◌, ◌++◌, ◌<◌, ◌≤◌, ◌⊎◌, ℕ, true, false, refl, List, [], Option, inl, inr, sym, ap, subst, map, nat_lt, append-nil, arith}
+use Rattle.std.proofs.Common.{◌≡◌, ◌∙◌, ◌++◌, ◌<◌, ◌≤◌, ◌⊎◌, ℕ, suc, true, false, refl, List, [], Option, inl, inr, sym, ap, subst, map, nat_lt, append-nil, arith}
 use Rattle.std.specs.Io.KnownBytes.{Appends}
+use Rattle.std.proofs.KnownBytes.{Keeps-refl}
 use Rattle.std.proofs.lemmas.Bool.{ltb-true, ltb-false}
 use Rattle.std.proofs.lemmas.List.Concat.{flat_map-append}
 use Rattle.vt_key.specs.Times.{Time}
@@ -17,13 +18,14 @@ use Rattle.vt_model.specs.Sequential.{opening, weight, after_steps, whole_run, r
 use Rattle.vt_model.proofs.RowLemmas.{all_before}
 use Rattle.vt_model.proofs.RunLemmas.{known_sent, lists_of, reached}
 use Rattle.vt_steps.proofs.SequentialRows.{seq_records-begin}
+use Rattle.vt_seq.specs.Limits.{IsStepRefusal}
 use Rattle.vt_station.specs.Crew.{IsStop}
 use Rattle.vt_text.specs.Records.{record_text, records_text}
 use Rattle.vt_text.specs.Writing.{AppendsBeginning}
 use Rattle.vt_text.proofs.TextLemmas.{of_longer}
-use Rattle.vt_program.specs.Runs.{text_below, run_text, WritesBelow, StopsWork}
+use Rattle.vt_program.specs.Runs.{text_below, run_text, PassesInRun, WritesBelow, StopsRun, StopsWork}
 
-either : (a b : ℕ) → (a < b) ⊎ (b ≤ a)
+pub either : (a b : ℕ) → (a < b) ⊎ (b ≤ a)
 either a b = elim (nat_lt a b) as (λ t. nat_lt a b ≡ t → (a < b) ⊎ (b ≤ a)) [ true ↦ λ e. inl (ltb-true a b e) | false ↦ λ e. inr (ltb-false a b e) ] refl
 
 module _ {S P : Type 0} (sim : Simulation S P) (lawful : IsLawful sim) where
@@ -89,3 +91,9 @@ module _ {S P K : Type 0} (handlers : Handlers S P K) (config : Config) (lawful 
 -- where the writer failed, a beginning of the text was written
 pub output_begun : (below : Time → List ℕ) (whole : List ℕ) (old new : Option (List ℕ)) (fault : Fault) → fault ≡ Output → AppendsBeginning old new whole → StopsWork below whole old new fault
 output_begun below whole old new fault is h = subst (StopsWork below whole old new) (sym is) h
+
+-- a sequential run was refused and nothing was written
+pub run_stops : {S P K : Type 0} (handlers : Handlers S P K) (config : Config) (n : ℕ) (out : Option (List ℕ)) (text : List ℕ) (fault : Fault)
+    → IsStepRefusal (simulation_of handlers config) n fault → StopsRun (PassesInRun handlers config) out out text fault
+run_stops handlers config n out text fault (inl h) = subst (StopsRun (PassesInRun handlers config) out out text) (sym h.0) ((suc n, h.1), Keeps-refl out)
+run_stops handlers config n out text fault (inr h) = subst (StopsRun (PassesInRun handlers config) out out text) (sym h.0) (Keeps-refl out)

@@ -9,9 +9,9 @@ use Rattle.vt_command.specs.declared.choices.Options.{Options}
 use Rattle.vt_command.specs.declared.choices.ReplayOptions.{ReplayOptions}
 use Rattle.vt_command.specs.declared.choices.Synch.TheVariants.{Sequential, Optimistic}
 use Rattle.vt_command.specs.Requests.{AskHelp, AskRun, AskReplay, IsRefusedAs}
-use Rattle.vt_program.specs.Runs.{text_of_run, text_of_run_below, WritesBelow}
+use Rattle.vt_program.specs.Runs.{text_of_run, text_of_run_below, WritesBelow, PassesInRunOf}
 use Rattle.vt_step_text.specs.StepText.{steps_of}
-use Rattle.vt_program.specs.Replays.{Replays, BeginsReplay, StopsUnopened, StopsAtBadLine}
+use Rattle.vt_program.specs.Replays.{Replays, BeginsReplay, WritesReplies, StopsUnopened, StopsAtBadLine}
 
 -- the words ask for help, and a text was written
 pub record WritesHelp (words : List Text) (old new : Option (List ℕ)) : Type 0 where
@@ -37,6 +37,12 @@ pub record BeginsHelp (words : List Text) (old new : Option (List ℕ)) : Type 0
   pub text : List ℕ
   pub begun : AppendsBeginning old new text
 
+-- the words ask for a replay, and the lines of the answers to the steps that the reader gave were written
+pub record WritesLines (words : List Text) (remaining old new : Option (List ℕ)) : Type 0 where
+  pub options : ReplayOptions
+  pub asked : AskReplay words options
+  pub written : WritesReplies options remaining old new
+
 -- the words ask for a run, and a beginning of its text was written
 pub record BeginsRun (words : List Text) (old new : Option (List ℕ)) : Type 0 where
   pub options : Options
@@ -49,11 +55,12 @@ pub record BeginsOutput (words : List Text) (remaining old new : Option (List �
   pub asked : AskReplay words options
   pub begun : BeginsReplay options remaining old new
 
--- the words ask for a sequential run, and nothing was written
+-- the words ask for a sequential run, some step of which would take a send number past its limit, and nothing was written
 pub record StopsEarly (words : List Text) (old new : Option (List ℕ)) : Type 0 where
   pub options : Options
   pub asked : AskRun words options
   pub sequential : options.synch ≡ Sequential
+  pub passes : PassesInRunOf options
   pub kept : Keeps old new
 
 -- the words ask for a run in threads, and its text below some time was written
@@ -92,9 +99,9 @@ abbrev pub IsDone : List Text → Option (List ℕ) → Option (List ℕ) → Op
 IsDone words remaining old new = WritesHelp words old new ⊎ WritesRun words old new ⊎ WritesReplay words remaining old new
 
 -- what was done where it ended with a refusal. Where memory was refused nothing was written, or what a run in threads had
--- committed, or a replay's output begun
+-- committed, or the lines of all answers of a replay
 abbrev pub EndsBy : Fault → List Text → Option (List ℕ) → Option (List ℕ) → Option (List ℕ) → Type 0
-EndsBy Memory words remaining old new = Keeps old new ⊎ StopsPartWay words old new ⊎ BeginsOutput words remaining old new
+EndsBy Memory words remaining old new = Keeps old new ⊎ StopsPartWay words old new ⊎ WritesLines words remaining old new
 EndsBy Busy words remaining old new = StopsPartWay words old new
 EndsBy Exhausted words remaining old new = StopsEarly words old new ⊎ StopsPartWay words old new ⊎ StopsReplayEarly words remaining old new
 EndsBy TurnsSpent words remaining old new = StopsPartWay words old new

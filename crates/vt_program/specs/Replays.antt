@@ -1,5 +1,5 @@
 -- The output of a replay, how much of it a replay writes that is refused, and the input of which it is made.
-use Rattle.std.specs.Prelude.{◌≡◌, ◌≤◌, ◌⊎◌, ⊤, ℕ, IsTrue, List, ◌∷◌, length, Option, IfSome, Ok, Err, IfErr, codes}
+use Rattle.std.specs.Prelude.{◌≡◌, ◌≤◌, ◌⊎◌, ⊤, ℕ, IsTrue, List, ◌∷◌, length, Option, IfSome, Result, Ok, Err, codes}
 use Rattle.std.specs.Io.KnownBytes.{Appends, Keeps}
 use Rattle.vt_key.specs.declared.fault.Fault.{Fault}
 use Rattle.vt_key.specs.declared.fault.Fault.TheVariants.{Memory, Exhausted, BadOption, BadStep, Output}
@@ -9,14 +9,17 @@ use Rattle.vt_model.specs.Simulation.{Simulation, simulation_of}
 use Rattle.vt_models.specs.Hop.{hop_handlers}
 use Rattle.vt_models.specs.Phold.{phold_handlers}
 use Rattle.vt_models.specs.Stations.{stations_handlers}
+use Rattle.vt_steps.specs.declared.step.Step.{Step}
+use Rattle.vt_steps.specs.declared.step.Reply.{Reply}
+use Rattle.vt_steps.specs.Next.{next}
 use Rattle.vt_steps.specs.World.{World, opening_world}
-use Rattle.vt_world.specs.Calls.{IsSpent}
+use Rattle.vt_world.specs.Calls.{IsSpent, PassesLimit}
 use Rattle.vt_world.specs.Answers.{PassesAtStart}
 use Rattle.vt_text.specs.Writing.{AppendsBeginning}
 use Rattle.vt_step_text.specs.declared.limits.TheConstants.{MAX_INPUT}
 use Rattle.vt_step_text.specs.declared.reading.NumberedStep.{NumberedStep}
 use Rattle.vt_step_text.specs.StepText.{steps_of}
-use Rattle.vt_step_text.specs.Replies.{Answered}
+use Rattle.vt_step_text.specs.Replies.{Answered, replies_text}
 use Rattle.vt_step_text.specs.Replays.{is_no_step, world_after, AreAnswered, IsOutput}
 use Rattle.vt_command.specs.declared.choices.ReplayOptions.{ReplayOptions}
 use Rattle.vt_command.specs.declared.choices.ModelName.{ModelName}
@@ -25,22 +28,34 @@ use Rattle.vt_command.specs.declared.choices.ModelName.TheVariants.{Hop, Phold, 
 -- ---- the output
 
 module _ {S P : Type 0} (sim : Simulation S P) where
-  -- an answer that stands for no step is one of a lawful step that can't be done in its world, for that very reason
-  abbrev pub AreSpent : World P → List NumberedStep → List Answered → Type 0
-  AreSpent world (step ∷ steps) (reply ∷ replies) =
-      (IsTrue (is_no_step reply.answer) → IfErr reply.answer (λ fault. IsSpent sim step.step world fault))
-      × AreSpent (world_after sim world step.step reply.answer) steps replies
-  AreSpent world _ _ = ⊤
+  -- what an answer says of counters and memory: a step that is done takes no counter past its limit; an answer that stands for
+  -- no step is one of a lawful step that can't be done in its world, for that very reason
+  abbrev pub IsExact : World P → Step → Result Reply Fault → Type 0
+  IsExact world step (Ok reply) = PassesLimit sim step (next sim world step).world → ⊥
+  IsExact world step (Err fault) = IsTrue (is_no_step (Err fault)) → IsSpent sim step world fault
+
+  -- so each answer says: it is `refused 5` exactly where the step is lawful and would take a counter past its limit
+  abbrev pub AreExact : World P → List NumberedStep → List Answered → Type 0
+  AreExact world (step ∷ steps) (reply ∷ replies) =
+      IsExact world step.step reply.answer × AreExact (world_after sim world step.step reply.answer) steps replies
+  AreExact world _ _ = ⊤
 
   -- the steps of lines are answered so by a kernel that does each step that it can, from one world on to another
   pub record AreReplies (world : World P) (steps : List NumberedStep) (replies : List Answered) (end : World P) : Type 0 where
     pub answered : AreAnswered sim world steps replies end
-    pub spent : AreSpent world steps replies
+    pub exact : AreExact world steps replies
 
   -- a text may be the output of a replay of these steps from the opening world with these first serials
   pub record IsReplayText (serial : ℕ) (steps : List NumberedStep) (text : List ℕ) : Type 0 where
     pub output : IsOutput sim serial steps text
-    pub spent : AreSpent (opening_world sim serial) steps output.replies
+    pub exact : AreExact (opening_world sim serial) steps output.replies
+
+  -- a text may be the lines of the answers in such an output, without what the world shows
+  pub record IsRepliesText (serial : ℕ) (steps : List NumberedStep) (text : List ℕ) : Type 0 where
+    pub replies : List Answered
+    pub end : World P
+    pub are : AreReplies (opening_world sim serial) steps replies end
+    pub lines : text ≡ replies_text replies
 
 -- a text may be the output of a replay of a model
 abbrev pub IsReplayOf : {S P K : Type 0} → Handlers S P K → Config → ℕ → List NumberedStep → List ℕ → Type 0
@@ -54,6 +69,19 @@ IsReplayOfModel Stations o steps text = IsReplayOf (stations_handlers o.stations
 -- a text may be the output of the replay of these steps that options ask for
 abbrev pub IsReplay : ReplayOptions → List NumberedStep → List ℕ → Type 0
 IsReplay o steps text = IsReplayOfModel o.model o steps text
+
+-- and the lines of its answers
+abbrev pub AreRepliesOf : {S P K : Type 0} → Handlers S P K → Config → ℕ → List NumberedStep → List ℕ → Type 0
+AreRepliesOf handlers config serial steps text = IsRepliesText (simulation_of handlers config) serial steps text
+
+abbrev pub AreRepliesOfModel : ModelName → ReplayOptions → List NumberedStep → List ℕ → Type 0
+AreRepliesOfModel Hop o steps text = AreRepliesOf (hop_handlers o.hop) o.config o.serial steps text
+AreRepliesOfModel Phold o steps text = AreRepliesOf (phold_handlers o.phold) o.config o.serial steps text
+AreRepliesOfModel Stations o steps text = AreRepliesOf (stations_handlers o.stations) o.config o.serial steps text
+
+-- a text may be the lines of the answers in the replay of these steps that options ask for
+abbrev pub AreRepliesOfReplay : ReplayOptions → List NumberedStep → List ℕ → Type 0
+AreRepliesOfReplay o steps text = AreRepliesOfModel o.model o steps text
 
 -- the starts of the model that options name would make more events than serials are left
 abbrev pub PassesAtStartOfModel : ModelName → ReplayOptions → Type 0
@@ -78,12 +106,13 @@ pub record Begins (IsRight : List ℕ → Type 0) (old new : Option (List ℕ)) 
   pub right : IsRight text
   pub begun : AppendsBeginning old new text
 
--- what a replay of steps wrote that was refused: nothing, where its world could not be made; else a beginning
-abbrev pub StopsReplay : (List ℕ → Type 0) → Type 0 → Option (List ℕ) → Option (List ℕ) → Fault → Type 0
-StopsReplay IsRight OpensLate old new Memory = Keeps old new ⊎ Begins IsRight old new
-StopsReplay IsRight OpensLate old new Exhausted = OpensLate × Keeps old new
-StopsReplay IsRight OpensLate old new Output = Begins IsRight old new
-StopsReplay IsRight OpensLate old new _ = ⊥
+-- what a replay of steps wrote that was refused. Memory: nothing, where its world could not be made, or the lines of all
+-- answers, where what the world shows could not be copied. Where the writer failed, a beginning
+abbrev pub StopsReplay : (List ℕ → Type 0) → (List ℕ → Type 0) → Type 0 → Option (List ℕ) → Option (List ℕ) → Fault → Type 0
+StopsReplay IsRight AreReplies OpensLate old new Memory = Keeps old new ⊎ Writes AreReplies old new
+StopsReplay IsRight AreReplies OpensLate old new Exhausted = OpensLate × Keeps old new
+StopsReplay IsRight AreReplies OpensLate old new Output = Begins IsRight old new
+StopsReplay IsRight AreReplies OpensLate old new _ = ⊥
 
 -- ---- the input
 
@@ -125,6 +154,12 @@ pub record BeginsReplay (o : ReplayOptions) (remaining old new : Option (List �
   pub given : GivesSteps o.config remaining steps
   pub output : Begins (IsReplay o steps) old new
 
+-- the reader gave a step text, and the lines of the answers of its steps were written, and nothing of what the world shows
+pub record WritesReplies (o : ReplayOptions) (remaining old new : Option (List ℕ)) : Type 0 where
+  pub steps : List NumberedStep
+  pub given : GivesSteps o.config remaining steps
+  pub lines : Writes (AreRepliesOfReplay o steps) old new
+
 -- the reader gave a step text, the starts would make too many events, and nothing was written
 pub record StopsUnopened (o : ReplayOptions) (remaining old new : Option (List ℕ)) : Type 0 where
   pub steps : List NumberedStep
@@ -139,7 +174,7 @@ pub record StopsAtBadLine (o : ReplayOptions) (remaining : Option (List ℕ)) (l
 
 -- what a replay did that ended with a refusal
 abbrev pub EndsReplay : ReplayOptions → Option (List ℕ) → Option (List ℕ) → Option (List ℕ) → Fault → Type 0
-EndsReplay o remaining old new Memory = Keeps old new ⊎ BeginsReplay o remaining old new
+EndsReplay o remaining old new Memory = Keeps old new ⊎ WritesReplies o remaining old new
 EndsReplay o remaining old new Exhausted = StopsUnopened o remaining old new
 EndsReplay o remaining old new (BadOption name) = (name.now ≡ codes "input") × Keeps old new
 EndsReplay o remaining old new (BadStep line) = StopsAtBadLine o remaining line old new

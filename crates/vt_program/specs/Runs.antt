@@ -11,6 +11,7 @@ use Rattle.vt_model.specs.Sequential.{seq_records}
 use Rattle.vt_models.specs.Hop.{hop_handlers}
 use Rattle.vt_models.specs.Phold.{phold_handlers}
 use Rattle.vt_models.specs.Stations.{stations_handlers}
+use Rattle.vt_seq.specs.Limits.{PassesLimit}
 use Rattle.vt_text.specs.Records.{records_text}
 use Rattle.vt_text.specs.Writing.{AppendsBeginning}
 use Rattle.vt_command.specs.declared.choices.Options.{Options}
@@ -47,6 +48,19 @@ text_of_model_below Stations o time = text_below (stations_handlers o.stations) 
 abbrev pub text_of_run_below : Options → Time → List ℕ
 text_of_run_below o time = text_of_model_below o.model o time
 
+-- some step of a model's sequential run would take a send number past its limit
+abbrev pub PassesInRun : {S P K : Type 0} → Handlers S P K → Config → Type 0
+PassesInRun handlers config = (n : ℕ) × PassesLimit (simulation_of handlers config) n
+
+abbrev pub PassesInRunOfModel : ModelName → Options → Type 0
+PassesInRunOfModel Hop o = PassesInRun (hop_handlers o.hop) o.config
+PassesInRunOfModel Phold o = PassesInRun (phold_handlers o.phold) o.config
+PassesInRunOfModel Stations o = PassesInRun (stations_handlers o.stations) o.config
+
+-- some step of the run that options ask for would
+abbrev pub PassesInRunOf : Options → Type 0
+PassesInRunOf o = PassesInRunOfModel o.model o
+
 -- the text below some time was written, which is a beginning of the whole
 pub record WritesBelow (below : Time → List ℕ) (whole : List ℕ) (old new : Option (List ℕ)) : Type 0 where
   pub time : Time
@@ -54,12 +68,13 @@ pub record WritesBelow (below : Time → List ℕ) (whole : List ℕ) (old new :
   pub rest : List ℕ
   pub begins : whole ≡ below time ++ rest
 
--- what a sequential run that was refused wrote of its text: nothing, or where the writer failed a beginning
-abbrev pub StopsRun : Option (List ℕ) → Option (List ℕ) → List ℕ → Fault → Type 0
-StopsRun old new text Memory = Keeps old new
-StopsRun old new text Exhausted = Keeps old new
-StopsRun old new text Output = AppendsBeginning old new text
-StopsRun old new text _ = ⊥
+-- what a sequential run that was refused wrote of its text: nothing, or where the writer failed a beginning. A counter is spent
+-- only where the run would pass its limit
+abbrev pub StopsRun : Type 0 → Option (List ℕ) → Option (List ℕ) → List ℕ → Fault → Type 0
+StopsRun Passes old new text Memory = Keeps old new
+StopsRun Passes old new text Exhausted = Passes × Keeps old new
+StopsRun Passes old new text Output = AppendsBeginning old new text
+StopsRun Passes old new text _ = ⊥
 
 -- what a run in threads that was refused wrote of its text: what comes before some time, or where the writer failed a beginning
 abbrev pub StopsWork : (Time → List ℕ) → List ℕ → Option (List ℕ) → Option (List ℕ) → Fault → Type 0
@@ -71,6 +86,6 @@ StopsWork below whole old new Output = AppendsBeginning old new whole
 StopsWork below whole old new _ = ⊥
 
 -- what a run that was refused wrote of its text, by the way in which it keeps the order of events
-abbrev pub StopsBy : Synch → (Time → List ℕ) → List ℕ → Option (List ℕ) → Option (List ℕ) → Fault → Type 0
-StopsBy Sequential below whole old new fault = StopsRun old new whole fault
-StopsBy Optimistic below whole old new fault = StopsWork below whole old new fault
+abbrev pub StopsBy : Synch → Type 0 → (Time → List ℕ) → List ℕ → Option (List ℕ) → Option (List ℕ) → Fault → Type 0
+StopsBy Sequential Passes below whole old new fault = StopsRun Passes old new whole fault
+StopsBy Optimistic Passes below whole old new fault = StopsWork below whole old new fault

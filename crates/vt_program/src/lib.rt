@@ -57,7 +57,7 @@ fn answer<H: Threads + Wait + Sync, S: AsStr, R: Read, O: Write>(
 /// `twarp: refused N TEXT` on `err`, or a beginning of it where `err` fails, and depends on N alone: 2 for 7, 3 for 8, and 1
 /// for the others.
 ///
-/// - 1, memory was refused: nothing was written to `out`, or of a replay a beginning of the output, or of a run in threads the
+/// - 1, memory was refused: nothing was written to `out`, or of a replay the lines of all answers, or of a run in threads the
 ///   lines of the records that were committed, which are those below some time. A step of a replay that memory is refused to is
 ///   answered so, and ends nothing.
 /// - 3, the committed records of a run in threads couldn't be read: the lines of those below some time were written to `out`.

@@ -8,7 +8,7 @@ ghost use Rattle.vt_model.specs.Simulation.{simulation_of};
 ghost use Rattle.vt_text.specs.Writing.{AppendsBeginning};
 ghost use Rattle.vt_world.specs.Held.{StandsForWorld};
 ghost use Rattle.vt_world.specs.Answers.{PassesAtStart};
-ghost use Rattle.vt_program.specs.Replays.{GivesSteps, RefusesInput, IsReplayOf, IsReplay, OpensTooLate, Writes, StopsReplay, Replays, EndsReplay};
+ghost use Rattle.vt_program.specs.Replays.{GivesSteps, RefusesInput, IsReplayOf, AreRepliesOf, IsReplay, AreRepliesOfReplay, OpensTooLate, Writes, StopsReplay, Replays, EndsReplay};
 ghost use Rattle.vt_program.specs.Replying.{PutsReplies, StopsReplies, shown_of};
 
 use std::alloc::Global;
@@ -58,7 +58,7 @@ fn put_replies<M: EventModel, O: Write>(
 
 /// Writes what is gathered, and then what the world shows.
 ///
-/// [`Fault::Memory`]: the records couldn't be copied; what was gathered was written. [`Fault::Output`]: the writer failed.
+/// [`Fault::Memory`]: the records couldn't be copied; just what was gathered was written. [`Fault::Output`]: the writer failed.
 fn show<M: EventModel, O: Write>(
     alloc: Global,
     world: &World<'_, M>,
@@ -67,7 +67,7 @@ fn show<M: EventModel, O: Write>(
 ) -> Result<(), Fault>
     ensures ok { OnOk result (Appends (O.contents out.old) (O.contents out.new) (text.old ++ shown_of (M.handlers world.now.model) world.now)) }
     ensures err { OnErr result (AppendsBeginning (O.contents out.old) (O.contents out.new) (text.old ++ shown_of (M.handlers world.now.model) world.now)) }
-    ensures fault { IfErr result (λ fault. (fault ≡ Fault.Memory) ⊎ (fault ≡ Fault.Output)) }
+    ensures fault { IfErr result (λ fault. ((fault ≡ Fault.Memory) × Appends (O.contents out.old) (O.contents out.new) text.old) ⊎ (fault ≡ Fault.Output)) }
 {
     text.flush(out)?;
     let records = world.records(alloc)?;
@@ -93,7 +93,7 @@ fn print_replay<M: EventModel, O: Write>(
 ) -> Result<(), Fault>
     requires counted { serial ≤ MAX_COUNT }
     ensures ok { OnOk result (Writes (IsReplayOf (M.handlers model.now) config serial steps.now) (O.contents out.old) (O.contents out.new)) }
-    ensures err { IfErr result (StopsReplay (IsReplayOf (M.handlers model.now) config serial steps.now) (PassesAtStart (simulation_of (M.handlers model.now) config) serial) (O.contents out.old) (O.contents out.new)) }
+    ensures err { IfErr result (StopsReplay (IsReplayOf (M.handlers model.now) config serial steps.now) (AreRepliesOf (M.handlers model.now) config serial steps.now) (PassesAtStart (simulation_of (M.handlers model.now) config) serial) (O.contents out.old) (O.contents out.new)) }
 {
     let mut world = World::with_serial(alloc, model, config, serial)?;
     let mut text = TextBuffer::new();
@@ -110,7 +110,7 @@ fn print_steps<O: Write>(
 ) -> Result<(), Fault>
     requires counted { options.now.serial ≤ MAX_COUNT }
     ensures ok { OnOk result (Writes (IsReplay options.now steps.now) (O.contents out.old) (O.contents out.new)) }
-    ensures err { IfErr result (StopsReplay (IsReplay options.now steps.now) (OpensTooLate options.now) (O.contents out.old) (O.contents out.new)) }
+    ensures err { IfErr result (StopsReplay (IsReplay options.now steps.now) (AreRepliesOfReplay options.now steps.now) (OpensTooLate options.now) (O.contents out.old) (O.contents out.new)) }
 {
     let config = options.config;
     let serial = options.serial;
@@ -126,8 +126,8 @@ fn print_steps<O: Write>(
 ///
 /// [`Fault::BadOption`] with `input`: a read failed, or the text is too long. [`Fault::BadStep`]: the first bad line of the
 /// text. [`Fault::Exhausted`]: the starts would make more events than serials are left. After these three nothing was
-/// written. [`Fault::Memory`]: memory was refused to something else than a step, and [`Fault::Output`]: the writer failed; a
-/// beginning of the output was written.
+/// written. [`Fault::Memory`]: memory was refused to something else than a step: nothing was written, or the lines of all
+/// answers and nothing of what the world shows. [`Fault::Output`]: the writer failed, and a beginning of the output was written.
 pub(crate) fn run_replay<R: Read, O: Write>(
     alloc: Global,
     options: &ReplayOptions,

@@ -2,7 +2,7 @@
 
 ghost use Rattle.std.specs.Prelude.{OnOk, IfErr};
 ghost use Rattle.std.specs.Io.KnownBytes.{Appends};
-ghost use Rattle.vt_program.specs.Runs.{run_text, text_below, text_of_run, text_of_run_below, StopsRun, StopsWork, StopsBy};
+ghost use Rattle.vt_program.specs.Runs.{run_text, text_below, text_of_run, text_of_run_below, PassesInRun, PassesInRunOf, StopsRun, StopsWork, StopsBy};
 
 use std::alloc::Global;
 use std::io::Write;
@@ -23,7 +23,7 @@ fn print_run<M: EventModel, O: Write>(
     out: &mut O,
 ) -> Result<(), Fault>
     ensures ok { OnOk result (Appends (O.contents out.old) (O.contents out.new) (run_text (M.handlers model.now) config)) }
-    ensures err { IfErr result (StopsRun (O.contents out.old) (O.contents out.new) (run_text (M.handlers model.now) config)) }
+    ensures err { IfErr result (StopsRun (PassesInRun (M.handlers model.now) config) (O.contents out.old) (O.contents out.new) (run_text (M.handlers model.now) config)) }
 {
     let mut run = Sequential::new(alloc, model, config)?;
     let records = run.run(alloc)?;
@@ -67,7 +67,7 @@ where
     M::State: Send,
     M::Kept: Send,
     ensures ok { OnOk result (Appends (O.contents out.old) (O.contents out.new) (run_text (M.handlers model.now) options.now.config)) }
-    ensures err { IfErr result (StopsBy options.now.synch (text_below (M.handlers model.now) options.now.config) (run_text (M.handlers model.now) options.now.config) (O.contents out.old) (O.contents out.new)) }
+    ensures err { IfErr result (StopsBy options.now.synch (PassesInRun (M.handlers model.now) options.now.config) (text_below (M.handlers model.now) options.now.config) (run_text (M.handlers model.now) options.now.config) (O.contents out.old) (O.contents out.new)) }
 {
     match options.synch {
         Synch::Sequential => print_run(alloc, model, options.config, out),
@@ -77,8 +77,8 @@ where
 
 /// Simulates the model that the options name, and writes the records of the run.
 ///
-/// A sequential run: [`Fault::Memory`]: memory was refused, and nothing was written. [`Fault::Exhausted`]: a send number would
-/// pass 2^63, and nothing was written.
+/// A sequential run: [`Fault::Memory`]: memory was refused, and nothing was written. [`Fault::Exhausted`]: some step of the run
+/// would take a send number past 2^63, and nothing was written.
 ///
 /// A run in threads: after these two, after [`Fault::TurnsSpent`], where a worker made all its turns before the end, and after
 /// [`Fault::Busy`], where the records couldn't be read, the records that were committed were written: those below some time.
@@ -91,7 +91,7 @@ pub fn simulate<H: Threads + Wait + Sync, O: Write>(
     out: &mut O,
 ) -> Result<(), Fault>
     ensures ok { OnOk result (Appends (O.contents out.old) (O.contents out.new) (text_of_run options.now)) }
-    ensures err { IfErr result (StopsBy options.now.synch (text_of_run_below options.now) (text_of_run options.now) (O.contents out.old) (O.contents out.new)) }
+    ensures err { IfErr result (StopsBy options.now.synch (PassesInRunOf options.now) (text_of_run_below options.now) (text_of_run options.now) (O.contents out.old) (O.contents out.new)) }
 {
     match options.model {
         ModelName::Hop => print_model(rt, alloc, &options.hop, options, out),

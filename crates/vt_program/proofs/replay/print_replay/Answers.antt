@@ -3,8 +3,8 @@ use Rattle.vt_model.proofs.LawLemmas.{lawful_of}
 use Rattle.vt_model.specs.Simulation.{simulation_of}
 use Rattle.vt_seq.proofs.StepLemmas.{if_err}
 use Rattle.vt_world.specs.Answers.{PassesAtStart}
-use Rattle.vt_program.specs.Replays.{IsReplayText, Writes, Begins, StopsReplay}
-use Rattle.vt_program.proofs.ReplayLemmas.{both, of_given, opened, output_stops, replay_begun, replay_written, replies_begun, show_stops}
+use Rattle.vt_program.specs.Replays.{IsReplayText, IsRepliesText, Writes, Begins, StopsReplay}
+use Rattle.vt_program.proofs.ReplayLemmas.{both, of_given, opened, output_stops, lines_written, replay_begun, replay_written, replies_begun, show_stops}
 use Rattle.vt_program.proofs.replay.print_replay.Goals as goal
 
 pub returns-in_err-put_replies-clause-err : goal.returns-in_err-put_replies-clause-err
@@ -17,7 +17,7 @@ returns-in_err-put_replies-clause-err g c =
     let own = simulation_of (H first.model) first.config in
     let from = opened H a.model.now a.config a.serial a.steps.now first made.0 made.1 c.in_ok-world.ensures.opening in
     let begun = replies_begun own a.serial a.steps.now _ _ c.new-text.result c.new-text.ensures (c.in_err-put_replies.ensures.err _ from) in
-    if_err (StopsReplay (IsReplayText sim a.serial a.steps.now) (PassesAtStart sim a.serial) _ _) c.from_residual-in_err-put_replies.result c.in_err-put_replies.field-0.0 c.from_residual-in_err-put_replies.ensures.1
+    if_err (StopsReplay (IsReplayText sim a.serial a.steps.now) (IsRepliesText sim a.serial a.steps.now) (PassesAtStart sim a.serial) _ _) c.from_residual-in_err-put_replies.result c.in_err-put_replies.field-0.0 c.from_residual-in_err-put_replies.ensures.1
     (output_stops sim a.serial a.steps.now _ _ c.in_err-put_replies.field-0.0 c.in_err-put_replies.ensures.fault
     (of_given H a.model.now a.config a.serial a.steps.now first made.0 made.1 (λ s. Begins (IsReplayText s a.serial a.steps.now) (g.O.Write.contents a.out.now) (g.O.Write.contents c.put_replies.new.out)) begun))
 
@@ -48,7 +48,9 @@ returns-clause-err g c =
     let put = c.in_ok-put_replies.ensures.ok _ from in
     let lawful = lawful_of (H first.model) first.config (g.met.M.Model.start_within first.model) (g.met.M.Model.forward_within first.model) in
     both c.show.result
-    (λ fault is h. show_stops sim a.serial a.steps.now _ _ fault is
+    (λ fault is h. show_stops sim a.serial a.steps.now _ _ _ _ fault is
     (of_given H a.model.now a.config a.serial a.steps.now first made.0 made.1 (λ s. Begins (IsReplayText s a.serial a.steps.now) (g.O.Write.contents a.out.now) (g.O.Write.contents c.show.new.out))
-    (replay_begun H a.model.now a.config a.serial a.steps.now first made.0 made.1 lawful c.put_replies.new.world same.0 same.1 _ _ c.new-text.result c.put_replies.new.text c.new-text.ensures put _ h)))
+    (replay_begun H a.model.now a.config a.serial a.steps.now first made.0 made.1 lawful c.put_replies.new.world same.0 same.1 _ _ c.new-text.result c.put_replies.new.text c.new-text.ensures put _ h))
+    (λ all. of_given H a.model.now a.config a.serial a.steps.now first made.0 made.1 (λ s. Writes (IsRepliesText s a.serial a.steps.now) (g.O.Write.contents a.out.now) (g.O.Write.contents c.show.new.out))
+    (lines_written H a.model.now a.config a.serial a.steps.now first made.0 made.1 lawful c.put_replies.new.world same.0 same.1 _ _ c.new-text.result c.put_replies.new.text c.new-text.ensures put _ all)))
     c.show.ensures.fault c.show.ensures.err
