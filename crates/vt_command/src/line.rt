@@ -39,9 +39,15 @@ static REPLAY_OPTIONS: [OptionText; 16] = [
     SERIAL,
 ];
 
-/// The options in short.
-const OPTIONS_IN_SHORT: &str = "\
-Options, with their ranges and defaults (twarp run --help and twarp replay --help say what they are):
+/// How the program is called: it needs a command.
+const USAGE: &str = "twarp <COMMAND>";
+
+/// What a first run is, where the guide is, and the options in short.
+const IN_SHORT: &str = "\
+A first run: twarp run (six records of two processes). README.md tells more, docs/MODEL_GUIDE.md
+how to write a model of your own.
+
+Options with ranges and defaults (twarp run --help and twarp replay --help say what they are):
   every model  --model hop|phold|stations [hop]  --workers 1..64 [1]  --lps 1..65536 [2]
                --end 1..4611686018427387904 [10]  --seed 0..18446744073709551615 [0]
   hop          --hops 0..1000000 [2]  --stride 0..65535 [1]  --delay 1..1000000 [2]
@@ -55,8 +61,7 @@ const RUN_ABOUT: &str =
     "Simulates a model, and prints its records, a line for each: TIME PROCESS KIND VALUE";
 
 const REPLAY_ABOUT: &str =
-    "Reads the steps of a Time Warp run from standard input, a line for each, \
-    and prints what each is answered, and what the run shows after the last";
+    "Reads the steps of a Time Warp run, a line for each, and prints what they are answered";
 
 /// An option with a value.
 fn option<'a>(alloc: Global, text: &OptionText) -> Arg<'a>
@@ -97,7 +102,8 @@ pub(crate) fn twarp_command<'a>(alloc: Global) -> Result<Command<'a>, AllocError
     let replay = command_of(alloc, "replay", REPLAY_ABOUT, &REPLAY_OPTIONS)?;
     let twarp = Command::new(alloc, "twarp")
         .about("Simulates processes that send each other events in virtual time")
-        .after_help(OPTIONS_IN_SHORT)
+        .override_usage(USAGE)
+        .after_help(IN_SHORT)
         .subcommand(run)?;
     Ok(twarp.subcommand(replay)?)
 }

@@ -28,7 +28,7 @@ pub(crate) const SYNCH: OptionText = OptionText {
     name: "synch",
     value: "N",
     heading: GENERAL,
-    help: "1: one thread that always executes the earliest event; 3: Time Warp, a thread for each worker [default: 1]",
+    help: "1: one thread, in order; 3: Time Warp, a thread for each worker [default: 1]",
 };
 
 pub(crate) const WORKERS: OptionText = OptionText {
@@ -56,7 +56,7 @@ pub(crate) const END: OptionText = OptionText {
     name: "end",
     value: "N",
     heading: GENERAL,
-    help: "End of virtual time in ticks, 1 to 4611686018427387904: only events before it happen [default: 10]",
+    help: "Only events before this tick happen, 1 to 4611686018427387904 [default: 10]",
 };
 
 pub(crate) const SEED: OptionText = OptionText {
@@ -98,7 +98,7 @@ pub(crate) const REMOTE: OptionText = OptionText {
     name: "remote",
     value: "N",
     heading: PHOLD,
-    help: "Chance in percent that an event goes to a process drawn at random, 0 to 100 [default: 0]",
+    help: "Percent of events to a process drawn at random, 0 to 100 [default: 0]",
 };
 
 pub(crate) const LOOKAHEAD: OptionText = OptionText {
@@ -112,7 +112,7 @@ pub(crate) const SPAN: OptionText = OptionText {
     name: "span",
     value: "N",
     heading: PHOLD,
-    help: "The ticks drawn on top of the lookahead are below this, 1 to 1000000 [default: 1]",
+    help: "Ticks drawn on top of the lookahead, below this: 1 to 1000000 [default: 1]",
 };
 
 pub(crate) const JOBS: OptionText = OptionText {
@@ -126,7 +126,7 @@ pub(crate) const SERVICE: OptionText = OptionText {
     name: "service",
     value: "N",
     heading: STATIONS,
-    help: "Longest service of a job in ticks, drawn from 1 up to this, 1 to 1000000 [default: 1]",
+    help: "Longest service of a job in ticks, drawn from 1 on, 1 to 1000000 [default: 1]",
 };
 
 pub(crate) const TRAVEL: OptionText = OptionText {
@@ -140,12 +140,12 @@ pub(crate) const TURNS: OptionText = OptionText {
     name: "turns",
     value: "N",
     heading: GENERAL,
-    help: "Turns of a worker before the run is given up, 1 to 9223372036854775808; not used with --synch 1 [default: 10000000]",
+    help: "A worker's turns (--synch 3), 1 to 9223372036854775808 [default: 10000000]",
 };
 
 pub(crate) const SERIAL: OptionText = OptionText {
     name: "serial",
     value: "N",
     heading: GENERAL,
-    help: "Serial of the first event that each worker makes, 0 to 9223372036854775808 [default: 0]",
+    help: "First serial of each worker's events, 0 to 9223372036854775808 [default: 0]",
 };

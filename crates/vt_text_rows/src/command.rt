@@ -145,7 +145,7 @@ fn fault_of(
 
 /// The options of a line, where it is one of a run.
 fn options_of(alloc: Global, words: &[&str]) -> Option<Options> {
-    match read_request(alloc, words) {
+    match asked(alloc, words) {
         Ok(Request::Run(options)) => Some(options),
         _ => None,
     }
@@ -153,15 +153,20 @@ fn options_of(alloc: Global, words: &[&str]) -> Option<Options> {
 
 /// The options of a line, where it is one of a replay.
 fn replay_options_of(alloc: Global, words: &[&str]) -> Option<ReplayOptions> {
-    match read_request(alloc, words) {
+    match asked(alloc, words) {
         Ok(Request::Replay(options)) => Some(options),
         _ => None,
     }
 }
 
+/// What the words ask for. It says nothing more: an example looks at the answer.
+fn asked(alloc: Global, words: &[&str]) -> Result<Request, Fault> {
+    read_request(alloc, words)
+}
+
 /// The text of a help request.
 fn help_of(alloc: Global, words: &[&str]) -> String {
-    match read_request(alloc, words) {
+    match asked(alloc, words) {
         Ok(Request::Help(text)) => text,
         _ => String::new(alloc),
     }
@@ -416,4 +421,26 @@ fn help_shows_every_option(rt: HostRuntime) -> Result<(), Fail> {
         );
     }
     Ok(())
+}
+
+#[test]
+fn help_fits_a_terminal(rt: HostRuntime) {
+    for words in [
+        &["twarp", "help"][..],
+        &["twarp", "help", "run"],
+        &["twarp", "help", "replay"],
+    ] {
+        let text = help_of(rt.alloc(), words);
+        for line in text.lines() {
+            assert!(rt; line.len() <= 100, "{line}");
+        }
+    }
+    let short = help_of(rt.alloc(), &["twarp", "--help"]);
+    for part in [
+        "Usage: twarp <COMMAND>\n",
+        "A first run: twarp run ",
+        "docs/MODEL_GUIDE.md",
+    ] {
+        assert!(rt; short.contains(part), "{part}");
+    }
 }
