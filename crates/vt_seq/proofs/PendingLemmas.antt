@@ -145,7 +145,7 @@ module _ {P : Type 0} where
   among_all (e ∷ es) ds f (inr m) = among_all es (inserted e ds) f (inr (inserted_into e ds f m))
 
   -- put into its queue, a letter's event stands in its place among all
-  pub put_in : (x : Letter P) (qs : List (List (Letter P))) (p : ℕ) (d : List (Letter P)) → p < length qs
+  put_in : (x : Letter P) (qs : List (List (Letter P))) (p : ℕ) (d : List (Letter P)) → p < length qs
       → ((f : Sent P) → Among f (in_order qs) → f.key ≡ x.event.rank.key → ⊥)
       → in_order (slice_set qs p (insert_letter x (slice_index_or qs p d))) ≡ inserted (event_of x) (in_order qs)
   put_in x qs p d l apart =
@@ -172,7 +172,7 @@ module _ {P : Type 0} where
         | false ↦ λ n. elim n [ inl at ↦ inr (inl at) | inr o ↦ elim (among_put x ls m o) [ inl at ↦ inl at | inr u ↦ inr (inr u) ] ]
       ] a
 
-  pub queue_put : (p : ℕ) (x : Letter P) (q : List (Letter P)) → IsQueueOf p q → IsPlain x → x.event.dest ≡ p → IsRising (insert_letter x q) → IsQueueOf p (insert_letter x q)
+  queue_put : (p : ℕ) (x : Letter P) (q : List (Letter P)) → IsQueueOf p q → IsPlain x → x.event.dest ≡ p → IsRising (insert_letter x q) → IsQueueOf p (insert_letter x q)
   queue_put p x q h plain own rising = record {
     rising = rising;
     plain = λ l m. elim (among_put x q l m) [ inl at ↦ subst IsPlain (sym at) plain | inr a ↦ h.plain l a ];
@@ -235,6 +235,27 @@ module _ {P : Type 0} where
 
   pub queues_set : (qs : List (List (Letter P))) (nodes later : List Node) (p : ℕ) (q : List (Letter P)) → AreQueues qs nodes → IsQueueOf p q → IsTournamentOf (map front_rank (slice_set qs p q)) later → AreQueues (slice_set qs p q) later
   queues_set qs nodes later p q h new decided = record { fronts_are = decided; queues_are = set_there IsQueueOf qs p q new h.queues_are }
+
+  -- a letter was put into one queue: what that queue is then, and what the events are
+  module _ (x : Letter P) (qs : List (List (Letter P))) (p : ℕ) (now later : List (Letter P)) (inside : p < length qs) (is : now ≡ slice_index_or qs p now) (put : later ≡ insert_letter x now) where
+    pub queue_later : (nodes : List Node) → AreQueues qs nodes → IsPlain x → x.event.dest ≡ p → IsRising later → IsQueueOf p later
+    queue_later nodes h plain own rising = subst (IsQueueOf p) (sym put) (queue_put p x now (subst (IsQueueOf p) (sym is) (h.queues_are p now inside)) plain own (subst IsRising put rising))
+
+    pub events_later : (events : List (Sent P)) → in_order qs ≡ events → ((d : Sent P) → Among d events → d.key ≡ x.event.rank.key → ⊥) → in_order (slice_set qs p later) ≡ inserted (event_of x) events
+    events_later events e new =
+        ap (λ (q : List (Letter P)). in_order (slice_set qs p q)) (put ∙ ap (insert_letter x) is)
+        ∙ put_in x qs p now inside (λ f m. new f (subst (Among f) e m))
+        ∙ ap (inserted (event_of x)) e
+
+  -- where a queue that was changed has the front that it had, so has each
+  fronts_same : (qs : List (List (Letter P))) (p : ℕ) (q d : List (Letter P)) → front_rank q ≡ front_rank (slice_index_or qs p d) → map front_rank (slice_set qs p q) ≡ map front_rank qs
+  fronts_same [] p q d e = refl
+  fronts_same (r ∷ qs) zero q d e = ap (λ (o : Option Rank). o ∷ map front_rank qs) e
+  fronts_same (r ∷ qs) (suc p) q d e = ap (λ (os : List (Option Rank)). front_rank r ∷ os) (fronts_same qs p q d e)
+
+  -- and the tournament stays
+  pub queues_kept : (qs : List (List (Letter P))) (nodes : List Node) (p : ℕ) (q d : List (Letter P)) → AreQueues qs nodes → IsQueueOf p q → front_rank q ≡ front_rank (slice_index_or qs p d) → AreQueues (slice_set qs p q) nodes
+  queues_kept qs nodes p q d h new e = queues_set qs nodes nodes p q h new (subst (λ (os : List (Option Rank)). IsTournamentOf os nodes) (sym (fronts_same qs p q d e)) h.fronts_are)
 
   -- where one queue was changed, its front is an entry as before
   pub front_among : (qs : List (List (Letter P))) (p : ℕ) (q : List (Letter P)) → p < length qs → p < length (map front_rank (slice_set qs p q))

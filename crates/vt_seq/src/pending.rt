@@ -1,9 +1,10 @@
 //! The events that are pending: a queue for each process, and a tournament over the queues' fronts.
 
-ghost use Rattle.std.specs.Prelude.{◌≡◌, ◌<◌, ◌≤◌, ◌^◌, [], length, drop, map, slice_get, IfOk, IfErr, IfSome, IfNone};
+ghost use Rattle.std.specs.Prelude.{◌≡◌, ◌<◌, ◌≤◌, ◌^◌, [], false, length, drop, map, slice_get, IfOk, IfErr, IfSome, IfNone};
 ghost use Rattle.vt_key.specs.declared.fault.Fault.TheVariants.{Memory};
 ghost use Rattle.vt_model.specs.declared.sending.Sent.{Sent};
 ghost use Rattle.vt_model.specs.Histories.{Among};
+ghost use Rattle.vt_pending.specs.Letters.{insert_letter};
 ghost use Rattle.vt_seq.specs.Queue.{inserted, all_inserted};
 ghost use Rattle.vt_seq.specs.Letters.{event_of, front_rank, AreNew, IsPlain};
 
@@ -123,8 +124,15 @@ impl<P: Copy> PendingEvents<P> {
         ensures processes { self.new.processes ≡ self.old.processes }
         ensures events { self.new.events ≡ inserted (event_of letter) self.old.events }
     {
-        let dest = letter.get().event.dest;
-        self.queues[dest as usize].insert(letter);
+        let brought = letter.get();
+        let dest = brought.event.dest;
+        let queue = &mut self.queues[dest as usize];
+        let leads = comes_first(brought, queue);
+        queue.insert(letter);
+        // Behind another front it changes no entry of the tournament.
+        if !leads {
+            return;
+        }
         let fronts = Fronts {
             queues: self.queues.as_slice(),
         };
@@ -189,6 +197,16 @@ fn front_rank<P: Copy>(queue: &Pending<P>) -> Option<Rank>
 {
     let letter = queue.least()?;
     Some(letter.event.rank)
+}
+
+/// Whether a letter comes before all those of a queue. Where it doesn't, the queue keeps its front when it is inserted.
+fn comes_first<P: Copy>(letter: &Letter<P>, queue: &Pending<P>) -> bool
+    ensures { result ≡ false → front_rank (insert_letter letter.now queue.now) ≡ front_rank queue.now }
+{
+    match queue.least() {
+        Some(front) => letter.event.rank.is_before(&front.event.rank),
+        None => true,
+    }
 }
 
 /// The event that a letter brings.
