@@ -1,0 +1,111 @@
+//! A call that may be refused for memory: what its subject tells before and after, and the same call again.
+
+use std::alloc::Global;
+use std::io;
+use vt_key::Fault;
+use vt_model::{Record, Row};
+
+/// What a subject tells of itself, as numbers. The places that it doesn't need stay 0.
+pub(crate) type Told = [u64; 16];
+
+/// What stands in the place of a number that isn't there.
+pub(crate) const NONE: u64 = u64::MAX;
+
+/// Something whose calls may take memory.
+pub(crate) trait Subject {
+    /// Its calls.
+    type Call: Copy;
+
+    /// The name of a call.
+    fn name(call: Self::Call) -> &'static str;
+
+    /// All that its readers tell. A reader that is refused for memory is asked once more.
+    fn told(&mut self, alloc: Global) -> Told;
+
+    /// Makes a call.
+    fn make(&mut self, alloc: Global, call: Self::Call) -> Result<(), Fault>;
+}
+
+/// Makes a call, and makes it again where it was refused for memory. A line tells of each time what came of it.
+pub(crate) fn try_call<S: Subject>(
+    rt: &HostRuntime,
+    subject: &mut S,
+    call: S::Call,
+) -> io::Result<()> {
+    let before = subject.told(rt.alloc());
+    let mut answer = subject.make(rt.alloc(), call);
+    if answer == Err(Fault::Memory) {
+        let is_kept = subject.told(rt.alloc()) == before;
+        tell_refused(rt, S::name(call), is_kept)?;
+        answer = subject.make(rt.alloc(), call);
+    }
+    tell_answer(rt, S::name(call), answer)
+}
+
+/// Makes these calls, one after the other.
+pub(crate) fn try_calls<S: Subject>(
+    rt: &HostRuntime,
+    subject: &mut S,
+    calls: &[S::Call],
+) -> io::Result<()> {
+    for call in calls {
+        try_call(rt, subject, *call)?;
+    }
+    Ok(())
+}
+
+/// Tells that a call was refused for memory, and whether all was as before.
+pub(crate) fn tell_refused(rt: &HostRuntime, name: &str, is_kept: bool) -> io::Result<()> {
+    if is_kept {
+        println!(rt; "{name} refused and kept")
+    } else {
+        println!(rt; "{name} refused and CHANGED")
+    }
+}
+
+/// Tells what a call was answered.
+pub(crate) fn tell_answer(
+    rt: &HostRuntime,
+    name: &str,
+    answer: Result<(), Fault>,
+) -> io::Result<()> {
+    match answer {
+        Ok(()) => println!(rt; "{name} ok"),
+        Err(fault) => println!(rt; "{name} refused {}", fault.number()),
+    }
+}
+
+/// A number for a list of records: other records have another one, but by chance.
+pub(crate) fn sum_of_records(records: &[Record]) -> u64 {
+    let mut sum = 1u64;
+    for record in records {
+        sum = mixed(sum, record.time);
+        sum = mixed(sum, record.lp as u64);
+        sum = mixed(sum, record.value);
+    }
+    sum
+}
+
+/// A number for a list of rows.
+pub(crate) fn sum_of_rows(rows: &[Row]) -> u64 {
+    let mut sum = 1u64;
+    for row in rows {
+        sum = mixed(sum, row.key.time);
+        sum = mixed(sum, row.rec.value);
+    }
+    sum
+}
+
+/// A sum, and what it becomes by one number more.
+pub(crate) fn mixed(sum: u64, number: u64) -> u64 {
+    sum.wrapping_mul(0x9e3779b97f4a7c15).wrapping_add(number)
+}
+
+/// The answer of a call that gives a list: this many items are wanted.
+pub(crate) fn counted(found: usize, wanted: usize) -> Result<(), Fault> {
+    if found == wanted {
+        Ok(())
+    } else {
+        Err(Fault::NotLawful)
+    }
+}
