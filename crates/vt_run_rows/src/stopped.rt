@@ -55,3 +55,15 @@ fn two_workers_commit_a_beginning_in_few_turns(rt: HostRuntime) {
         }
     }
 }
+
+#[test]
+fn many_workers_stop_once_one_has_left(rt: HostRuntime) {
+    match run(&rt, 64, 3) {
+        Ok(records) => assert!(rt; records.as_slice() == &all_records()[..]),
+        Err(stopped) => {
+            assert!(rt; stopped.fault == Fault::TurnsSpent);
+            let count = stopped.records.len();
+            assert!(rt; all_records().get(..count) == Some(stopped.records.as_slice()));
+        }
+    }
+}

@@ -1,14 +1,15 @@
 -- The work of a crew of workers.
-use Rattle.std.specs.Prelude.{◌≡◌, ◌⊎◌, ℕ, ◌<◌, List, length, All, Option, Some, None, slice_get}
+use Rattle.std.specs.Prelude.{◌≡◌, ◌⊎◌, ℕ, ◌<◌, List, [], ◌∷◌, length, All, Option, Some, None, slice_get}
 use Rattle.atomic_table.specs.Seated.{TableId}
 use Rattle.vt_key.specs.declared.fault.Fault.{Fault}
-use Rattle.vt_key.specs.declared.fault.Fault.TheVariants.{Busy, TurnsSpent}
+use Rattle.vt_key.specs.declared.fault.Fault.TheVariants.{Memory, Busy, TurnsSpent}
 use Rattle.vt_model.specs.declared.settings.Config.{Config}
+use Rattle.vt_model.specs.declared.rows.Record.{Record}
 use Rattle.vt_model.specs.Handler.{Handlers}
 use Rattle.vt_model.specs.Simulation.{Simulation, simulation_of}
 use Rattle.vt_station.specs.declared.place.Place.{Place}
 use Rattle.vt_station.specs.declared.driver.Outcome.{Outcome}
-use Rattle.vt_station.specs.declared.driver.Outcome.TheVariants.{Closed}
+use Rattle.vt_station.specs.declared.driver.Outcome.TheVariants.{Closed, Refused}
 use Rattle.vt_station.specs.Told.{place_table, place_view}
 use Rattle.vt_station.specs.Making.{IsNew}
 use Rattle.vt_station.specs.Turns.{IsLasting, HasEnded}
@@ -48,6 +49,24 @@ pub record IsSameJob {M P : Type 0} (i j : AtJob M P) : Type 0 where
 -- the worker of job i closed the book
 abbrev pub IsClosedAt : {M P : Type 0} → List (AtJob M P) → ℕ → Type 0
 IsClosedAt {M} {P} jobs i = (job : AtJob M P) × (slice_get jobs i ≡ Some job) × (job.outcome ≡ Some Closed)
+
+-- no worker closed the book
+abbrev pub NoneClosed : {M P : Type 0} → List (AtJob M P) → Type 0
+NoneClosed jobs = All (λ j. j.outcome ≡ Some Closed → ⊥) jobs
+
+-- the fault that ended the work of one, or this one
+abbrev pub fault_or : Option Outcome → Fault → Fault
+fault_or (Some (Refused fault)) other = fault
+fault_or outcome other = other
+
+-- the fault that ended the work of the first worker that had one, else that all turns were made
+abbrev pub first_fault : {M P : Type 0} → List (AtJob M P) → Fault
+first_fault [] = TurnsSpent
+first_fault (job ∷ jobs) = fault_or job.outcome (first_fault jobs)
+
+-- what a run that stopped is told by: where no worker closed the book that fault; or the records were refused, and there are none
+abbrev pub IsToldBy : {M P : Type 0} → List (AtJob M P) → Fault → List Record → Type 0
+IsToldBy jobs fault records = (NoneClosed jobs × (fault ≡ first_fault jobs)) ⊎ (((fault ≡ Memory) ⊎ (fault ≡ Busy)) × (records ≡ []))
 
 -- the work of workers for this model and this config
 abbrev pub AllAt : {M P : Type 0} → M → Config → List (AtJob M P) → Type 0

@@ -1,5 +1,5 @@
 -- How the work of a worker ends.
-use Rattle.std.specs.Prelude.{◌≡◌, ◌⊎◌, true, map}
+use Rattle.std.specs.Prelude.{◌≡◌, ◌⊎◌, Bool, true, false, map, Result, Ok, Err, MatchResult}
 use Rattle.vt_key.specs.declared.fault.Fault.{Fault}
 use Rattle.vt_key.specs.declared.fault.Fault.TheVariants.{Memory, Exhausted}
 use Rattle.vt_steps.specs.Marked.{answered, has_closed}
@@ -10,6 +10,10 @@ use Rattle.vt_station.specs.declared.driver.Outcome.TheVariants.{Closed, Refused
 -- a fault that no later turn mends
 abbrev pub IsLasting : Fault → Type 0
 IsLasting fault = (fault ≡ Memory) ⊎ (fault ≡ Exhausted)
+
+-- what a driver makes of an answer: it was done, or refused with a fault that ends the work, or with one that is passed over
+abbrev pub IsPassedOver : {X : Type 0} → Result X Fault → Result Bool Fault → Type 0
+IsPassedOver answer result = MatchResult answer (λ _. result ≡ Ok true) (λ fault. (IsLasting fault × (result ≡ Err fault)) ⊎ ((IsLasting fault → ⊥) × (result ≡ Ok false)))
 
 -- what a place knows of how its worker's work ended: where it closed the book, that is one of its own steps
 abbrev pub HasEnded : {P : Type 0} → View P → Outcome → Type 0

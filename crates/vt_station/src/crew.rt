@@ -1,6 +1,6 @@
 //! A thread for each worker, and what comes of their work.
 
-ghost use Rattle.std.specs.Prelude.{◌≡◌, ◌<◌, ◌⊎◌, [], true, length, None, Some, IfOk, IfErr, IfSome, MatchResult};
+ghost use Rattle.std.specs.Prelude.{◌≡◌, ◌<◌, ◌⊎◌, [], true, false, length, None, Some, IfOk, IfErr, IfSome, IfNone, MatchResult};
 ghost use Rattle.vt_key.specs.Times.{Time as TimeValue};
 ghost use Rattle.vt_model.specs.Simulation.{simulation_of};
 ghost use Rattle.vt_model.specs.Sequential.{seq_records};
@@ -9,7 +9,7 @@ ghost use Rattle.vt_station.specs.declared.driver.Outcome.TheVariants.{Closed};
 ghost use Rattle.vt_station.specs.Told.{station_model, station_config, station_table};
 ghost use Rattle.vt_station.specs.Making.{IsNew, AreNew};
 ghost use Rattle.vt_station.specs.Turns.{IsLasting};
-ghost use Rattle.vt_station.specs.Crew.{IsSameJob, IsSameWork, AllAt, IsClosedAt, IsStop};
+ghost use Rattle.vt_station.specs.Crew.{IsSameJob, IsSameWork, AllAt, IsClosedAt, NoneClosed, first_fault, IsToldBy, IsStop};
 
 use crate::bell::{Bells, Start};
 use crate::driver::{Driver, Outcome};
@@ -28,7 +28,8 @@ use vt_model::{Config, Model as EventModel, Record};
 /// A run that ended before its end: why, and the records that were committed, a beginning of all.
 #[derive(Drop)]
 pub struct Stopped {
-    /// [`Fault::Memory`] or [`Fault::Exhausted`] where a worker had it, of the least such worker; else [`Fault::TurnsSpent`].
+    /// [`Fault::Memory`] or [`Fault::Exhausted`] where a worker had it, of the least such worker; else [`Fault::TurnsSpent`]. A worker
+    /// that began and waited in vain for a thread that wasn't started has had [`Fault::Memory`].
     pub fault: Fault,
     /// The records that the book showed in the end.
     pub records: Vec<Record>,
@@ -213,7 +214,8 @@ fn stop_with(alloc: Global, fault: Fault, records: Result<Vec<Record>, Fault>) -
 
 /// Whether work ended with the closing of the book.
 fn has_closed_book(outcome: Option<Outcome>) -> bool
-    ensures { result ≡ true → outcome ≡ Some Closed }
+    ensures closed { result ≡ true → outcome ≡ Some Closed }
+    ensures open { result ≡ false → outcome ≡ Some Closed → ⊥ }
 {
     match outcome {
         Some(Outcome::Closed) => true,
@@ -223,7 +225,8 @@ fn has_closed_book(outcome: Option<Outcome>) -> bool
 
 /// The first job whose worker closed the book.
 fn closer_of<M: EventModel>(jobs: &[Job<'_, M>]) -> Option<usize>
-    ensures { IfSome result (IsClosedAt jobs.now) }
+    ensures some { IfSome result (IsClosedAt jobs.now) }
+    ensures none { IfNone result (NoneClosed jobs.now) }
 {
     for i in 0..jobs.len() {
         let Some(job) = jobs.get(i) else {
@@ -238,7 +241,8 @@ fn closer_of<M: EventModel>(jobs: &[Job<'_, M>]) -> Option<usize>
 
 /// Why the run stopped: the fault of the first worker that had one, else all turns were made.
 fn fault_of<M: EventModel>(jobs: &[Job<'_, M>]) -> Fault
-    ensures { IsLasting result ⊎ (result ≡ TurnsSpent) }
+    ensures first { result ≡ first_fault jobs.now }
+    ensures stop { IsLasting result ⊎ (result ≡ TurnsSpent) }
 {
     for job in jobs {
         if let Some(Outcome::Refused(fault)) = job.outcome {
@@ -258,6 +262,7 @@ fn answer_of<M: EventModel>(
 ) -> Result<Vec<Record>, Stopped>
     requires told { AllAt model.now config jobs.items }
     requires some { 0 < length jobs.items }
+    ensures told { IfErr result (λ stopped. IsToldBy jobs.entry.items stopped.fault stopped.records.items) }
     ensures whole { IfOk result (λ v. v.items ≡ seq_records (simulation_of (M.handlers model.now) config) config.end) }
     ensures begun { IfErr result (λ stopped. (t : TimeValue) × (stopped.records.items ≡ seq_records (simulation_of (M.handlers model.now) config) t)) }
     ensures fault { IfErr result (λ stopped. IsStop stopped.fault) }
@@ -305,10 +310,11 @@ where
 ///
 /// A worker makes at most `max_turns` turns. In each it takes its mail in, undoes what that overtakes, executes at most sixteen events,
 /// the least first, sends what they sent, joins the round of global virtual time and commits. `gate` is told before each execution,
-/// in the worker's thread. All threads are joined before the answer; nothing promises that there is one.
+/// in the worker's thread. A worker that can't go on sleeps until another one lets it. Once a worker has left before the end of the run,
+/// the others leave within a few turns. All threads are joined before the answer; nothing promises that there is one.
 ///
-/// [`Stopped`]: memory was refused, a count would pass 2^63, or a worker made all its turns before the end of the run. Its records are
-/// those below some time, a beginning of all.
+/// [`Stopped`]: memory was refused, or the machine didn't start a thread for each worker; a count would pass 2^63; or a worker made all
+/// its turns before the end of the run. Its records are those below some time, a beginning of all.
 pub fn run_workers<R: Threads + Wait + Sync, M: EventModel + Sync, G: Gate + Sync>(
     rt: &R,
     alloc: Global,

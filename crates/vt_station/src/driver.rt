@@ -2,7 +2,7 @@
 
 ghost use Rattle.std.specs.Prelude.{◌≡◌, ◌≤◌, IfErr, IfSome};
 ghost use Rattle.vt_station.specs.Told.{place_table, place_view};
-ghost use Rattle.vt_station.specs.Turns.{IsLasting, HasEnded};
+ghost use Rattle.vt_station.specs.Turns.{IsLasting, IsPassedOver, HasEnded};
 
 use crate::bell::Bells;
 use crate::gate::Gate;
@@ -214,6 +214,7 @@ impl<'a, M: EventModel> Driver<'a, M> {
     /// Whether a call was done. Only what no later turn mends is handed on, and what another place has claimed is noted.
     fn is_done(&mut self, answer: Result<(), Fault>) -> Result<bool, Fault>
         ensures same { self.new.worker ≡ self.old.worker }
+        ensures passed { IsPassedOver answer result }
         ensures lasting { IfErr result IsLasting }
     {
         if let Err(Fault::Busy) = answer {
@@ -311,6 +312,7 @@ impl<'a, M: EventModel> Driver<'a, M> {
 
 /// Whether a call was done. Only what no later turn mends is handed on.
 fn pass_over(answer: Result<(), Fault>) -> Result<bool, Fault>
+    ensures passed { IsPassedOver answer result }
     ensures lasting { IfErr result IsLasting }
 {
     match answer {
