@@ -1,8 +1,9 @@
 -- A worker's processes after they committed, and the rows of what they commit.
-use Rattle.std.proofs.Common.{◌≡◌, ◌∙◌, ◌⊎◌, inl, inr, ℕ, Bool, suc, ◌+◌, ◌*◌, ◌<◌, ◌≤◌, List, [], ◌∷◌, ◌++◌, map, take, drop, length, slice_index_or, refl, sym, ap, subst, arith, Some, None, slice_get, slice_set}
+use Rattle.std.proofs.Common.{◌≡◌, ◌≢◌, ◌∙◌, ◌⊎◌, inl, inr, below_more, ℕ, Bool, zero, suc, ◌+◌, ◌-◌, ◌*◌, ◌<◌, ◌≤◌, List, [], ◌∷◌, ◌++◌, map, take, drop, length, slice_index_or, refl, sym, ap, subst, arith, Some, None, slice_get, slice_set}
 use Rattle.std.specs.List.{prefix_len}
-use Rattle.std.proofs.lemmas.List.{append-nil, append_assoc, take_more, length-take}
-use Rattle.std.proofs.lemmas.Option.{get_or_from_slice_get, slice_get_within, slice_get_cases}
+use Rattle.std.proofs.lemmas.Bool.{cases_lt}
+use Rattle.std.proofs.lemmas.List.{append-nil, append_assoc, take_more, length-take, length-set, get_or-set_same, get_or-set_other}
+use Rattle.std.proofs.lemmas.Option.{get_or_from_slice_get, slice_get_within, slice_get_cases, slice_get-get_or}
 use Rattle.vt_lp.specs.Ripe.{rows_of_ripe}
 use Rattle.vt_lp.proofs.RipeLemmas.{rows-ripe}
 use Rattle.vt_key.specs.Times.{Time}
@@ -22,7 +23,6 @@ use Rattle.vt_lp.specs.Held.{HeldProcess, process_memory, remembered, StandsFor 
 use Rattle.vt_kernel.specs.Held.{HeldWorker, StandsFor, AreProcesses, TellsLeast, IsWorkerInside, AreMarked, entries_of, unready_of, ready_of}
 use Rattle.vt_kernel.specs.Guards.{IsForgotten, HasForgotten}
 use Rattle.vt_kernel.proofs.PartLemmas.{stands_along}
-use Rattle.vt_kernel.proofs.SettlingLemmas.{put-there}
 use Rattle.vt_kernel.proofs.ProcessLemmas.{get-map_of, stands-at, process-at}
 
 module _ {S P K : Type 0} (floor : Time) where
@@ -73,21 +73,6 @@ module _ {S P K : Type 0} (floor : Time) where
     waiting = refl;
   }
 
-  pub none-forgotten : (processes : List (HeldProcess S P K)) (place : ℕ) → place < length processes
-      → ((q : HeldProcess S P K) → slice_get processes place ≡ Some q → q.past ≡ []) → HasForgotten floor place processes processes
-  none-forgotten processes place less none = go (slice_get_cases processes place).1
-    where
-      go : ((q : HeldProcess S P K) × (place < length processes) × (slice_get processes place ≡ Some q) × (slice_index_or processes place q ≡ q)) ⊎ ((length processes ≤ place) × (slice_get processes place ≡ None))
-          → HasForgotten floor place processes processes
-      go (inl found) =
-          let q = found.0 in
-          record {
-            process = q;
-            forgotten = λ d. subst (λ x. IsForgotten floor x q) (sym (get_or_from_slice_get processes place q d found.2)) (unforgotten q (none q found.2));
-            others = sym (put-there processes place q found.2);
-          }
-      go (inr beyond) = (let no = beyond.0 in absurd (omega (arith, no, less)))
-
   -- of the processes one is changed
   pub one-forgotten : (processes : List (HeldProcess S P K)) (place : ℕ) (q new : HeldProcess S P K) → slice_get processes place ≡ Some q → IsForgotten floor q new
       → HasForgotten floor place processes (slice_set processes place new)
@@ -96,6 +81,46 @@ module _ {S P K : Type 0} (floor : Time) where
     forgotten = λ d. subst (λ x. IsForgotten floor x new) (sym (get_or_from_slice_get processes place q d at)) h;
     others = refl;
   }
+
+  -- the first ones have forgotten, and the others are as they were
+  pub record HaveForgotten (from : ℕ) (old now : List (HeldProcess S P K)) : Type 0 where
+    pub count : length now ≡ length old
+    pub within : from ≤ length old
+    pub forgotten : (k : ℕ) (d : HeldProcess S P K) → k < from → IsForgotten floor (slice_index_or old k d) (slice_index_or now k d)
+    pub left : (k : ℕ) (d : HeldProcess S P K) → from ≤ k → slice_index_or now k d ≡ slice_index_or old k d
+
+  -- some more, which have no past event, have nothing to forget
+  pub forgotten-skip : (from to : ℕ) (old now : List (HeldProcess S P K)) → HaveForgotten from old now → from ≤ to → to ≤ length old
+      → ((k : ℕ) (q : HeldProcess S P K) → from ≤ k → k < to → slice_get now k ≡ Some q → q.past ≡ []) → HaveForgotten to old now
+  forgotten-skip from to old now h later within none = record {
+    count = h.count;
+    within = within;
+    forgotten = λ k d less. go k d less (cases_lt k from);
+    left = λ k d more. h.left k d (omega (arith, later, more));
+  }
+    where
+      go : (k : ℕ) (d : HeldProcess S P K) → k < to → ((k < from) ⊎ (from ≤ k)) → IsForgotten floor (slice_index_or old k d) (slice_index_or now k d)
+      go k d less (inl before) = h.forgotten k d before
+      go k d less (inr after) =
+          let q : HeldProcess S P K = slice_index_or now k d in
+          let there : slice_get now k ≡ Some q = slice_get-get_or now k d (let count = h.count in omega (arith, count, less, within)) in
+          subst (λ x. IsForgotten floor x q) (h.left k d after) (unforgotten q (none k q after less there))
+
+  -- and the next one has
+  pub forgotten-more : (place : ℕ) (old now new : List (HeldProcess S P K)) → HaveForgotten place old now → place < length old → HasForgotten floor place now new → HaveForgotten (place + 1) old new
+  forgotten-more place old now new h less f =
+      let q = f.process in
+      let count = h.count in
+      record {
+        count = ap length f.others ∙ length-set now place q ∙ count;
+        within = omega (arith, less);
+        forgotten = λ k d before. subst (λ (ps : List (HeldProcess S P K)). IsForgotten floor (slice_index_or old k d) (slice_index_or ps k d)) (sym f.others)
+            (below_more (λ (n : ℕ). IsForgotten floor (slice_index_or old n d) (slice_index_or (slice_set now place q) n d)) place
+            (λ n below. let other : n ≢ place = omega arith in subst (IsForgotten floor (slice_index_or old n d)) (sym (get_or-set_other now place n q d other)) (h.forgotten n d below))
+            (subst (IsForgotten floor (slice_index_or old place d)) (sym (get_or-set_same now place q d (omega (arith, count, less)))) (subst (λ (x : HeldProcess S P K). IsForgotten floor x q) (h.left place d (omega arith)) (f.forgotten d)))
+            k before);
+        left = λ k d more. let other : k ≢ place = omega arith in ap (λ (ps : List (HeldProcess S P K)). slice_index_or ps k d) f.others ∙ get_or-set_other now place k q d other ∙ h.left k d (omega arith);
+      }
 
   pub stand-forgotten : (handlers : Handlers S P K) (config : Config) (w base : ℕ) (xs ys : List (HeldProcess S P K)) (processes : List (LogicalProcess P))
       → AllForgotten xs ys → AreProcesses config w base xs
@@ -227,18 +252,36 @@ module _ {S P K : Type 0} (handlers : Handlers S P K) where
       ∙ sym (rows-more sim held.worker held.floor 0 (take place part.processes) p)
       ∙ ap (rows_of_processes sim held.worker held.floor 0) (sym longer)
 
-  -- a process without past events has no row
-  pub rows-skip : (held : HeldWorker S P K) (part : Part P) (place : ℕ) (rows : List Row) → StandsFor handlers held part →
-      AreProcesses held.config held.worker 0 held.processes → place < length held.processes →
-      ((q : HeldProcess S P K) → slice_get held.processes place ≡ Some q → q.past ≡ []) →
-      rows ≡ rows_of_processes (simulation_of handlers held.config) held.worker held.floor 0 (take place part.processes) →
-      rows ≡ rows_of_processes (simulation_of handlers held.config) held.worker held.floor 0 (take (place + 1) part.processes)
-  rows-skip held part place rows s are less none so_far = go (slice_get_cases held.processes place).1
+  -- processes without past events have no row
+  rows-skip : (held : HeldWorker S P K) (part : Part P) (from more : ℕ) (rows : List Row) → StandsFor handlers held part →
+      AreProcesses held.config held.worker 0 held.processes → from + more ≤ length held.processes →
+      ((k : ℕ) (q : HeldProcess S P K) → from ≤ k → k < from + more → slice_get held.processes k ≡ Some q → q.past ≡ []) →
+      rows ≡ rows_of_processes (simulation_of handlers held.config) held.worker held.floor 0 (take from part.processes) →
+      rows ≡ rows_of_processes (simulation_of handlers held.config) held.worker held.floor 0 (take (from + more) part.processes)
+  rows-skip held part from zero rows s are within none so_far =
+      let same : from ≡ from + 0 = omega arith in
+      subst (λ n. rows ≡ rows_of_processes (simulation_of handlers held.config) held.worker held.floor 0 (take n part.processes)) same so_far
+  rows-skip held part from (suc more) rows s are within none so_far =
+      let same : (from + more) + 1 ≡ from + suc more = omega arith in
+      let before = rows-skip held part from more rows s are (omega arith) (λ k q later less at. none k q later (omega arith) at) so_far in
+      subst (λ n. rows ≡ rows_of_processes (simulation_of handlers held.config) held.worker held.floor 0 (take n part.processes)) same (go (slice_get_cases held.processes (from + more)).1 before)
     where
-      go : ((q : HeldProcess S P K) × (place < length held.processes) × (slice_get held.processes place ≡ Some q) × (slice_index_or held.processes place q ≡ q)) ⊎ ((length held.processes ≤ place) × (slice_get held.processes place ≡ None))
-          → rows ≡ rows_of_processes (simulation_of handlers held.config) held.worker held.floor 0 (take (place + 1) part.processes)
-      go (inl found) =
+      go : ((q : HeldProcess S P K) × (from + more < length held.processes) × (slice_get held.processes (from + more) ≡ Some q) × (slice_index_or held.processes (from + more) q ≡ q)) ⊎ ((length held.processes ≤ from + more) × (slice_get held.processes (from + more) ≡ None))
+          → rows ≡ rows_of_processes (simulation_of handlers held.config) held.worker held.floor 0 (take (from + more) part.processes)
+          → rows ≡ rows_of_processes (simulation_of handlers held.config) held.worker held.floor 0 (take ((from + more) + 1) part.processes)
+      go (inl found) before =
           let q = found.0 in
-          rows-next held part place q rows rows s are found.2 so_far
-          (λ h stands. sym (append-nil rows) ∙ ap (λ (more : List Row). rows ++ more) (sym (rows-ripe handlers held.floor q h stands ∙ ap (rows_of_ripe held.floor) (none q found.2))))
-      go (inr beyond) = (let no = beyond.0 in absurd (omega (arith, no, less)))
+          rows-next held part (from + more) q rows rows s are found.2 before
+          (λ h stands. sym (append-nil rows) ∙ ap (λ (others : List Row). rows ++ others) (sym (rows-ripe handlers held.floor q h stands ∙ ap (rows_of_ripe held.floor) (none (from + more) q (omega arith) (omega arith) found.2))))
+      go (inr beyond) before = (let past = beyond.0 in absurd (omega (arith, past, within)))
+
+  -- nor have those up to a place
+  pub rows-passed : (held : HeldWorker S P K) (part : Part P) (from to : ℕ) (rows : List Row) → StandsFor handlers held part →
+      AreProcesses held.config held.worker 0 held.processes → from ≤ to → to ≤ length held.processes →
+      ((k : ℕ) (q : HeldProcess S P K) → from ≤ k → k < to → slice_get held.processes k ≡ Some q → q.past ≡ []) →
+      rows ≡ rows_of_processes (simulation_of handlers held.config) held.worker held.floor 0 (take from part.processes) →
+      rows ≡ rows_of_processes (simulation_of handlers held.config) held.worker held.floor 0 (take to part.processes)
+  rows-passed held part from to rows s are later within none so_far =
+      let there : from + (to - from) ≡ to = omega (arith, later) in
+      subst (λ n. rows ≡ rows_of_processes (simulation_of handlers held.config) held.worker held.floor 0 (take n part.processes)) there
+      (rows-skip held part from (to - from) rows s are (omega (arith, there, within)) (λ k q after before at. none k q after (omega (arith, there, before)) at) so_far)

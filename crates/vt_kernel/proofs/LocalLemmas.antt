@@ -22,7 +22,7 @@ use Rattle.vt_steps.specs.PartSteps.{at_process}
 use Rattle.vt_steps.specs.StandsFor.{ProcessMemory, StandForProcesses}
 use Rattle.vt_lp.specs.Held.{HeldProcess, process_memory, AllWithinRun, StandsFor as ProcessStandsFor}
 use Rattle.vt_lp.specs.Guards.{IsDone as ProcessIsDone}
-use Rattle.vt_kernel.specs.Held.{HeldWorker, IsWorkerInside, StandsFor, AreProcesses, AreMarked, TellsLeast, ready_of, unready_of, entries_of}
+use Rattle.vt_kernel.specs.Held.{HeldWorker, IsWorkerInside, StandsFor, AreProcesses, has_past, TellsLeast, ready_of, unready_of, entries_of}
 use Rattle.vt_kernel.specs.Local.{at_own}
 use Rattle.vt_kernel.specs.Guards.{IsDone}
 use Rattle.vt_kernel.proofs.ProcessLemmas.{process-at, processes-changed, marked-changed, place-known, place-unknown, get-past}
@@ -69,7 +69,7 @@ module _ {S P K : Type 0} {config : Config} {w : ℕ} {processes : List (HeldPro
   -- a process that has changed and has entered the tournaments again, with what was made by it
   pub inside-changed : (place : ℕ) (q new : HeldProcess S P K) (letters : List (Letter P)) (next : ℕ) (now : List (HeldProcess S P K)) (new_ready new_unready : List Node) (new_marked : List Bool)
       → slice_get processes place ≡ Some q → new.lp ≡ q.lp → new.config ≡ q.config → now ≡ slice_set processes place new
-      → IsTournamentOf (entries_of ready_of now) new_ready → IsTournamentOf (entries_of unready_of now) new_unready → new_marked ≡ slice_set marked place true
+      → IsTournamentOf (entries_of ready_of now) new_ready → IsTournamentOf (entries_of unready_of now) new_unready → ((held : HeldProcess S P K) → slice_get now place ≡ Some held → new_marked ≡ slice_set marked place (has_past held))
       → ((held : HeldProcess S P K) → slice_get now place ≡ Some held → TellsLeast held) → AllWithinRun config letters → next ≤ MAX_COUNT
       → IsWorkerInside config w (slice_set processes place new) letters arrived sent got next new_ready new_unready new_marked
   inside-changed place q new letters next now new_ready new_unready new_marked at same_lp same_config is ready_now unready_now marks told within few =
@@ -87,7 +87,7 @@ module _ {S P K : Type 0} {config : Config} {w : ℕ} {processes : List (HeldPro
         ready_entered = subst (λ ps. IsTournamentOf (entries_of ready_of ps) new_ready) is ready_now;
         unready_entered = subst (λ ps. IsTournamentOf (entries_of unready_of ps) new_unready) is unready_now;
         least_told = all-changed TellsLeast processes place new h.least_told (told new there);
-        past_marked = subst (λ bs. AreMarked bs (slice_set processes place new)) (sym marks) (marked-changed marked processes place new h.past_marked);
+        past_marked = marked-changed marked new_marked processes place new h.past_marked (marks new there);
       }
 
 -- as many processes stand for as there are

@@ -1,5 +1,5 @@
 -- The starts of a worker's processes: how many there are, and what they send.
-use Rattle.std.proofs.Common.{◌≡◌, ◌∙◌, ℕ, zero, suc, ◌+◌, ◌-◌, ◌*◌, ◌/◌, ◌%◌, ◌<◌, ◌≤◌, List, [], ◌∷◌, ◌++◌, map, replicate, length, slice_index_or, refl, sym, ap, subst, arith, Option, Some, None, true, false, slice_get, max, Result, Ok, Err}
+use Rattle.std.proofs.Common.{◌≡◌, ◌∙◌, ℕ, zero, suc, ◌+◌, ◌-◌, ◌*◌, ◌/◌, ◌%◌, ◌<◌, ◌≤◌, List, [], ◌∷◌, ◌++◌, map, replicate, length, slice_index_or, refl, sym, ap, subst, arith, Option, Some, None, not, false, slice_get, max, Result, Ok, Err}
 use Rattle.std.specs.Result.{IfOk}
 use Rattle.std.specs.List.{All, flat_map, range_with_len}
 use Rattle.std.proofs.lemmas.List.{append-nil, append_assoc, length-append}
@@ -14,12 +14,13 @@ use Rattle.vt_model.specs.declared.settings.Config.{Config}
 use Rattle.vt_model.specs.Handler.{Handlers, StartResult}
 use Rattle.vt_model.specs.Histories.{AreNumbered}
 use Rattle.vt_model.specs.Simulation.{Simulation, simulation_of, start_of}
-use Rattle.vt_steps.specs.Letters.{stamped, least_time}
+use Rattle.vt_steps.specs.Letters.{stamped, least_time, is_empty}
 use Rattle.vt_steps.specs.World.{process_at, process_count, start_sends}
-use Rattle.vt_steps.specs.StandsFor.{StandsForProcess, StandForProcesses}
-use Rattle.vt_lp.specs.Held.{HeldProcess, process_memory, StandsFor as ProcessStandsFor, opening_process}
+use Rattle.vt_steps.specs.StandsFor.{StandsForProcess, StandForProcesses, entry_of}
+use Rattle.vt_lp.specs.declared.entry.PastEvent.{PastEvent}
+use Rattle.vt_lp.specs.Held.{HeldProcess, process_memory, remembered, StandsFor as ProcessStandsFor, opening_process}
 use Rattle.vt_lp.specs.Guards.{ready_rank, lesser_rank}
-use Rattle.vt_kernel.specs.Held.{AreProcesses, TellsLeast, entries_of, ready_of, earliest_of, unready_of, other_rank, rank_time}
+use Rattle.vt_kernel.specs.Held.{AreProcesses, AreMarked, has_past, TellsLeast, entries_of, ready_of, earliest_of, unready_of, other_rank, rank_time}
 
 -- ---- lists
 
@@ -191,6 +192,18 @@ module _ {S P K : Type 0} where
     pub unready-opening : (xs : List (HeldProcess S P K)) → All IsOpening xs → entries_of unready_of xs ≡ entries_of (λ (x : HeldProcess S P K). no_rank) xs
     unready-opening xs all = entries-opening unready_of unready-none xs all
 
+    past-none : (held : HeldProcess S P K) → IsOpening held → has_past held ≡ false
+    past-none held s = go held.past s.past
+      where
+        go : (es : List (PastEvent P K)) → opening_process.past ≡ map entry_of (map (remembered handlers held.lp) es) → not (is_empty es) ≡ false
+        go [] e = refl
+        go (e ∷ es) is = absurd (let h : [] ≡ entry_of (remembered handlers held.lp e) ∷ map entry_of (map (remembered handlers held.lp) es) = is in cc)
+
+    -- and none is marked
+    pub marked-opening : (xs : List (HeldProcess S P K)) → All IsOpening xs → AreMarked (replicate (length xs) false) xs
+    marked-opening [] all = refl
+    marked-opening (x ∷ xs) all = (λ j. sym (past-none x (All-head IsOpening x xs all)) j ∷ marked-opening xs (All-tail IsOpening x xs all) j)
+
     stand-all : (config : Config) (w base : ℕ) (xs : List (HeldProcess S P K)) → AreProcesses config w base xs → All IsOpening xs →
         StandForProcesses (simulation_of handlers config) w base (map (process_memory handlers) xs) (replicate (length xs) opening_process)
     stand-all config w base [] are all = tt
@@ -209,9 +222,3 @@ module _ {S P K : Type 0} where
 pub if_ok : {V E : Type 0} {A B : V → Type 0} (r : Result V E) → ((v : V) → A v → B v) → IfOk r A → IfOk r B
 if_ok (Ok v) f h = f v h
 if_ok (Err e) f h = tt
-
--- of marks that are all true none is false
-pub all-marked : (n place : ℕ) → slice_get (replicate n true) place ≡ Some false → ⊥
-all-marked zero place at = absurd (let no : None ≡ Some false = at in cc)
-all-marked (suc n) zero at = absurd (let no : Some true ≡ Some false = at in cc)
-all-marked (suc n) (suc place) at = all-marked n place at

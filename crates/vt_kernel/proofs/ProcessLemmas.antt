@@ -1,5 +1,7 @@
 -- The processes of a worker: one looked up, one changed; and the steps at one process as steps of the part.
-use Rattle.std.proofs.Common.{◌≡◌, ◌≢◌, ◌⊎◌, inl, inr, ℕ, Bool, true, false, zero, suc, ◌+◌, ◌-◌, ◌*◌, ◌/◌, ◌%◌, ◌<◌, ◌≤◌, List, [], ◌∷◌, ◌++◌, map, length, refl, sym, ◌∙◌, ap, subst, arith, Option, Some, None, slice_get, slice_set}
+use Rattle.std.proofs.Common.{◌≡◌, ◌≢◌, ◌⊎◌, inl, inr, ℕ, Bool, true, false, not, IsFalse, ◌↔◌, zero, suc, ◌+◌, ◌-◌, ◌*◌, ◌/◌, ◌%◌, ◌<◌, ◌≤◌, List, [], ◌∷◌, ◌++◌, map, length, refl, sym, ◌∙◌, ap, subst, arith, Option, Some, None, slice_get, slice_set}
+use Rattle.std.proofs.lemmas.List.{length-map}
+use Rattle.std.proofs.lemmas.Option.{slice_get_within}
 use Rattle.std.proofs.Math.Nat.{le-div_iff_mul-le, div-add-mod', suc-mul, mod-lt}
 use Rattle.vt_key.specs.declared.order.Rank.{Rank}
 use Rattle.vt_key.specs.declared.letter.Letter.{Letter}
@@ -11,8 +13,9 @@ use Rattle.vt_steps.specs.ProcessSteps.{ProcessEffect}
 use Rattle.vt_steps.specs.PartSteps.{with_effect}
 use Rattle.vt_steps.specs.StandsFor.{ProcessMemory, StandsForProcess, StandForProcesses}
 use Rattle.vt_lp.specs.Held.{HeldProcess, process_memory}
-use Rattle.vt_steps.proofs.Places.{get-put_other}
-use Rattle.vt_kernel.specs.Held.{HeldWorker, StandsFor, AreProcesses, AreMarked, entries_of}
+use Rattle.vt_lp.specs.declared.entry.PastEvent.{PastEvent}
+use Rattle.vt_steps.specs.Letters.{is_empty}
+use Rattle.vt_kernel.specs.Held.{HeldWorker, StandsFor, AreProcesses, AreMarked, has_past, entries_of}
 
 -- ---- lists
 
@@ -25,22 +28,6 @@ pub get-map_of : {X Y : Type 0} (f : X → Y) (xs : List X) (i : ℕ) (x : X) �
 get-map_of f [] i x at = absurd (let h : None ≡ Some x = at in cc)
 get-map_of f (y ∷ ys) zero x at = let h : Some y ≡ Some x = at in let same : y ≡ x = cc in ap (λ z. Some (f z)) same
 get-map_of f (y ∷ ys) (suc i) x at = get-map_of f ys i x at
-
-same-or-not : (a b : ℕ) → (a ≡ b) ⊎ (a ≢ b)
-same-or-not zero zero = inl refl
-same-or-not zero (suc b) = inr (λ e. omega (arith, e))
-same-or-not (suc a) zero = inr (λ e. omega (arith, e))
-same-or-not (suc a) (suc b) = either-suc (same-or-not a b)
-  where
-    either-suc : (a ≡ b) ⊎ (a ≢ b) → (suc a ≡ suc b) ⊎ (suc a ≢ suc b)
-    either-suc (inl e) = inl (ap suc e)
-    either-suc (inr n) = inr (λ e. n (omega (arith, e)))
-
--- what is read where something was put is that
-pub put-tells : {X : Type 0} (xs : List X) (i : ℕ) (x y : X) → slice_get (slice_set xs i x) i ≡ Some y → x ≡ y
-put-tells [] i x y at = absurd (let no : None ≡ Some y = at in cc)
-put-tells (z ∷ zs) zero x y at = (let same : Some x ≡ Some y = at in cc)
-put-tells (z ∷ zs) (suc i) x y at = put-tells zs i x y at
 
 -- ---- the processes of a worker
 
@@ -115,25 +102,34 @@ module _ {S P K : Type 0} where
   entered-at entry [] place q at = absurd (let h : None ≡ Some q = at in cc)
   entered-at entry (x ∷ xs) place q at = get-map_of entry (x ∷ xs) place q at
 
-  -- a process that has changed is marked
-  pub marked-changed : (marked : List Bool) (held : List (HeldProcess S P K)) (place : ℕ) (q : HeldProcess S P K) → AreMarked marked held → AreMarked (slice_set marked place true) (slice_set held place q)
-  marked-changed [] held place q h k x at there = absurd (let no : None ≡ Some false = at in cc)
-  marked-changed (b ∷ bs) [] place q h k x at there = absurd (let no : None ≡ Some x = there in cc)
-  marked-changed (b ∷ bs) (y ∷ ys) zero q h zero x at there = absurd (let no : Some true ≡ Some false = at in cc)
-  marked-changed (b ∷ bs) (y ∷ ys) zero q h (suc k) x at there = h (suc k) x at there
-  marked-changed (b ∷ bs) (y ∷ ys) (suc place) q h zero x at there = h zero x at there
-  marked-changed (b ∷ bs) (y ∷ ys) (suc place) q h (suc k) x at there = marked-changed bs ys place q (λ j z. h (suc j) z) k x at there
-
-  -- and so is one that has forgotten, where its mark tells of its past still
-  pub marked-forgotten : (marked new : List Bool) (held : List (HeldProcess S P K)) (place : ℕ) (q : HeldProcess S P K) → AreMarked marked held
-      → ((k : ℕ) → k ≢ place → slice_get new k ≡ slice_get marked k) → (slice_get new place ≡ Some false → q.past ≡ []) → AreMarked new (slice_set held place q)
-  marked-forgotten marked new held place q h others own k x at there = go (same-or-not k place)
+  -- a process that is not marked has no past event
+  pub unmarked-past : (marked : List Bool) (held : List (HeldProcess S P K)) (place : ℕ) (q : HeldProcess S P K) → AreMarked marked held
+      → (slice_get marked place ≡ Some true → ⊥) → slice_get held place ≡ Some q → q.past ≡ []
+  unmarked-past marked held place q h off at = go q.past (λ e. off (ap (λ bs. slice_get bs place) h ∙ get-map_of has_past held place q at ∙ ap Some e))
     where
-      go : (k ≡ place) ⊎ (k ≢ place) → x.past ≡ []
-      go (inl e) =
-          let same : q ≡ x = put-tells held place q x (ap (slice_get (slice_set held place q)) (sym e) ∙ there) in
-          ap (λ (y : HeldProcess S P K). y.past) (sym same) ∙ own (ap (slice_get new) (sym e) ∙ at)
-      go (inr other) = h k x (sym (others k other) ∙ at) (sym (get-put_other held place k q other) ∙ there)
+      go : (es : List (PastEvent P K)) → (not (is_empty es) ≡ true → ⊥) → es ≡ []
+      go [] never = refl
+      go (e ∷ es) never = absurd (never refl)
+
+  -- only a process is marked
+  pub marked-within : (marked : List Bool) (held : List (HeldProcess S P K)) (place : ℕ) (b : Bool) → AreMarked marked held → slice_get marked place ≡ Some b → place < length held
+  marked-within marked held place b h at =
+      let less = slice_get_within (map has_past held) place b (ap (λ bs. slice_get bs place) (sym h) ∙ at) in
+      let long = length-map held has_past in
+      omega (arith, less, long)
+
+  -- of marked processes one is changed, and its mark with it
+  pub marked-changed : (marked new : List Bool) (held : List (HeldProcess S P K)) (place : ℕ) (q : HeldProcess S P K) → AreMarked marked held → new ≡ slice_set marked place (has_past q) → AreMarked new (slice_set held place q)
+  marked-changed marked new held place q h is = is ∙ ap (λ bs. slice_set bs place (has_past q)) h ∙ sym (map-put has_past held place q)
+
+-- whether a process has a past event, as it tells
+pub past-told : {S P K : Type 0} (q : HeldProcess S P K) (b : Bool) → (IsFalse b ↔ (q.past ≡ [])) → b ≡ has_past q
+past-told q b told = go q.past b told
+  where
+    go : {X : Type 0} (es : List X) (b : Bool) → (IsFalse b ↔ (es ≡ [])) → b ≡ not (is_empty es)
+    go [] b told = told.1 refl
+    go (e ∷ es) true told = refl
+    go (e ∷ es) false told = absurd (let gone : e ∷ es ≡ [] = told.0 refl in cc)
 
 -- the worker stands for the part after a step at the process of a place, once the process stands for the one after it
 pub stands-after : {S P K : Type 0} (handlers : Handlers S P K) (held : HeldWorker S P K) (part : Part P) (place : ℕ) (q : HeldProcess S P K) (effect : ProcessEffect P)

@@ -1,5 +1,5 @@
 -- What a worker keeps in memory, and which parts of a world it stands for.
-use Rattle.std.specs.Prelude.{◌≡◌, ℕ, Bool, false, nat_eq, if◌then◌else◌, ◌+◌, ◌-◌, ◌*◌, ◌/◌, ◌%◌, ◌<◌, ◌≤◌, List, [], ◌∷◌, ◌++◌, map, length, All, Option, Some, None, slice_get}
+use Rattle.std.specs.Prelude.{◌≡◌, ℕ, Bool, not, nat_eq, if◌then◌else◌, ◌+◌, ◌-◌, ◌*◌, ◌/◌, ◌%◌, ◌<◌, ◌≤◌, List, [], ◌∷◌, ◌++◌, map, length, All, Option, Some, None, slice_get}
 use Rattle.vt_key.specs.Times.{Time}
 use Rattle.vt_key.specs.declared.limits.TheConstants.{MAX_COUNT}
 use Rattle.vt_key.specs.declared.order.Rank.{Rank}
@@ -10,7 +10,7 @@ use Rattle.vt_key.specs.declared.letter.Colour.{Colour}
 use Rattle.vt_model.specs.declared.settings.Config.{Config}
 use Rattle.vt_model.specs.Handler.{Handlers}
 use Rattle.vt_model.specs.Simulation.{simulation_of}
-use Rattle.vt_steps.specs.Letters.{Counts, least_time}
+use Rattle.vt_steps.specs.Letters.{Counts, least_time, is_empty}
 use Rattle.vt_steps.specs.World.{Part}
 use Rattle.vt_steps.specs.StandsFor.{PartMemory, StandsForPart}
 use Rattle.vt_lp.specs.Held.{HeldProcess, process_memory, AllWithinRun, IsWithinRun}
@@ -113,9 +113,13 @@ module _ {S P K : Type 0} where
   entries_of entry (held ∷ rest) = map entry (held ∷ rest)
 
 module _ {S P K : Type 0} where
-  -- a process whose mark is false has no past event
+  -- a process has a past event
+  abbrev pub has_past : HeldProcess S P K → Bool
+  has_past held = not (is_empty held.past)
+
+  -- those processes are marked that have one
   abbrev pub AreMarked : List Bool → List (HeldProcess S P K) → Type 0
-  AreMarked marked processes = (place : ℕ) (held : HeldProcess S P K) → slice_get marked place ≡ Some false → slice_get processes place ≡ Some held → held.past ≡ []
+  AreMarked marked processes = marked ≡ map has_past processes
 
 -- both counts are within their limit
 pub record AreCounted (counts : Counts) : Type 0 where

@@ -1,6 +1,6 @@
 //! What a worker commits.
 
-ghost use Rattle.std.specs.Prelude.{◌≡◌, ◌≢◌, ◌↔◌, ℕ, ◌<◌, ◌≤◌, ◌^◌, Some, false, length, slice_get, slice_index_or, IsTrue, IfOk, IfErr};
+ghost use Rattle.std.specs.Prelude.{◌≡◌, ℕ, ◌<◌, ◌≤◌, ◌^◌, length, slice_index_or, IfOk, IfErr};
 ghost use Rattle.vt_key.specs.declared.fault.Fault.TheVariants.{Memory};
 ghost use Rattle.vt_model.specs.Handler.{Handlers};
 ghost use Rattle.vt_model.specs.Simulation.{simulation_of};
@@ -11,10 +11,11 @@ ghost use Rattle.vt_kernel.specs.Held.{StandsFor, AreMarked, entries_of, ready_o
 ghost use Rattle.vt_kernel.specs.Guards.{IsForgotten, HasForgotten};
 
 use crate::kernel::Kernel;
-use crate::local::{enter, mark};
+use crate::local::enter;
 use std::alloc::Global;
 use vt_key::{Fault, Time};
 use vt_lp::{Lp, Spare};
+use vt_marks::Marks;
 use vt_model::{Model as EventModel, Row};
 use vt_tournament::Tournament;
 
@@ -27,11 +28,10 @@ impl<M: EventModel> Kernel<M> {
         ensures refused { IfErr result (λ fault. fault ≡ Memory) }
     {
         let mut rows = Vec::new(alloc);
-        for place in 0..self.processes.len() {
-            if is_unmarked(&self.marked, place) {
-                continue;
-            }
+        let mut from = 0;
+        while let Some(place) = self.marked.first_from(from) {
             self.processes[place].ripe(self.floor, &mut rows)?;
+            from = place + 1;
         }
         Ok(rows)
     }
@@ -52,43 +52,38 @@ impl<M: EventModel> Kernel<M> {
     }
 }
 
-/// Whether the mark of a process says that it has no past event.
-fn is_unmarked(marked: &[bool], place: usize) -> bool
-    ensures { IsTrue result ↔ (slice_get marked.now place ≡ Some false) }
-{
-    place < marked.len() && !marked[place]
-}
-
-/// Each process forgets its past events before the floor, and enters the tournaments anew.
+/// Each process that has past events forgets those before the floor, and enters the tournaments anew where there was one.
 fn forget_before<M: EventModel>(
     processes: &mut Vec<Lp<M>>,
     ready: &mut Tournament,
     unready: &mut Tournament,
-    marked: &mut Vec<bool>,
+    marked: &mut Marks,
     spare: &mut Spare<M::Payload, M::Kept>,
     floor: Time,
 )
     requires few { length processes.old.items < 2 ^ 32 }
     requires entered { IsTournamentOf (entries_of ready_of processes.old.items) ready.old }
     requires unready { IsTournamentOf (entries_of unready_of processes.old.items) unready.old }
-    requires marked { AreMarked marked.old.items processes.old.items }
+    requires marked { AreMarked marked.old processes.old.items }
     ensures count { length processes.new.items ≡ length processes.old.items }
     ensures forgotten { (k : ℕ) (d : _) → k < length processes.old.items → IsForgotten floor (slice_index_or processes.old.items k d) (slice_index_or processes.new.items k d) }
     ensures entered { IsTournamentOf (entries_of ready_of processes.new.items) ready.new }
     ensures unready { IsTournamentOf (entries_of unready_of processes.new.items) unready.new }
-    ensures marked { AreMarked marked.new.items processes.new.items }
+    ensures marked { AreMarked marked.new processes.new.items }
 {
-    for place in 0..processes.len() {
+    let mut from = 0;
+    while let Some(place) = marked.first_from(from) {
         forget_at(processes, ready, unready, marked, spare, place, floor);
+        from = place + 1;
     }
 }
 
-/// The process at a place forgets its past events before the floor. Where its mark says that it has none, it isn't looked at.
+/// The process at a place forgets its past events before the floor, and enters the tournaments anew where there was one.
 fn forget_at<M: EventModel>(
     processes: &mut Vec<Lp<M>>,
     ready: &mut Tournament,
     unready: &mut Tournament,
-    marked: &mut Vec<bool>,
+    marked: &mut Marks,
     spare: &mut Spare<M::Payload, M::Kept>,
     place: usize,
     floor: Time,
@@ -97,38 +92,11 @@ fn forget_at<M: EventModel>(
     requires small { place < 2 ^ 32 }
     requires entered { IsTournamentOf (entries_of ready_of processes.old.items) ready.old }
     requires unready { IsTournamentOf (entries_of unready_of processes.old.items) unready.old }
-    requires marked { AreMarked marked.old.items processes.old.items }
+    requires marked { AreMarked marked.old processes.old.items }
     ensures forgotten { HasForgotten floor place processes.old.items processes.new.items }
     ensures entered { IsTournamentOf (entries_of ready_of processes.new.items) ready.new }
     ensures unready { IsTournamentOf (entries_of unready_of processes.new.items) unready.new }
-    ensures marked { AreMarked marked.new.items processes.new.items }
-{
-    if is_unmarked(marked, place) {
-        return;
-    }
-    forget_marked(processes, ready, unready, marked, spare, place, floor);
-    let has_past = processes[place].has_past();
-    mark(marked, place, has_past);
-}
-
-/// The process at a place forgets its past events before the floor, and enters the tournaments anew where there was one.
-fn forget_marked<M: EventModel>(
-    processes: &mut Vec<Lp<M>>,
-    ready: &mut Tournament,
-    unready: &mut Tournament,
-    marked: &mut Vec<bool>,
-    spare: &mut Spare<M::Payload, M::Kept>,
-    place: usize,
-    floor: Time,
-)
-    requires there { place < length processes.old.items }
-    requires small { place < 2 ^ 32 }
-    requires entered { IsTournamentOf (entries_of ready_of processes.old.items) ready.old }
-    requires unready { IsTournamentOf (entries_of unready_of processes.old.items) unready.old }
-    ensures forgotten { HasForgotten floor place processes.old.items processes.new.items }
-    ensures entered { IsTournamentOf (entries_of ready_of processes.new.items) ready.new }
-    ensures unready { IsTournamentOf (entries_of unready_of processes.new.items) unready.new }
-    ensures others { (k : ℕ) → k ≢ place → slice_get marked.new.items k ≡ slice_get marked.old.items k }
+    ensures marked { AreMarked marked.new processes.new.items }
 {
     if processes[place].fossil_into(floor, spare) {
         enter(ready, unready, marked, processes, place);

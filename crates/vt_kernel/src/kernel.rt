@@ -8,6 +8,7 @@ use std::marker::Model;
 use vt_key::{Colour, Letter, Mail, Time};
 use vt_list::List;
 use vt_lp::{Lp, Spare};
+use vt_marks::Marks;
 use vt_model::{Config, Model as EventModel};
 use vt_tournament::Tournament;
 
@@ -32,8 +33,8 @@ pub struct Kernel<M: EventModel> {
     pub(crate) ready: Tournament,
     // The least rank of what is pending or waits at each process, where that isn't an event that may be executed.
     pub(crate) unready: Tournament,
-    // Who of the processes may have past events: one whose mark is false has none.
-    pub(crate) marked: Vec<bool>,
+    // Which of the processes have past events.
+    pub(crate) marked: Marks,
     // Memory of committed events, for the next ones.
     pub(crate) spare: Spare<M::Payload, M::Kept>,
 }
@@ -57,7 +58,7 @@ impl<M: EventModel> Model for Kernel<M> {
       serial = k.serial;
     } };
 
-    ghost invariant = { λ k. IsWorkerInside k.config k.worker k.processes.items k.outbox k.arrived.items k.sent k.got k.serial k.ready k.unready k.marked.items };
+    ghost invariant = { λ k. IsWorkerInside k.config k.worker k.processes.items k.outbox k.arrived.items k.sent k.got k.serial k.ready k.unready k.marked };
 }
 
 impl<M: EventModel> Kernel<M> {

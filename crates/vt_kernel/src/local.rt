@@ -1,13 +1,13 @@
 //! Local steps at one process: Execute, Undo and Cancel.
 
-ghost use Rattle.std.specs.Prelude.{◌≡◌, ◌^◌, ◌%◌, ◌/◌, ◌<◌, ◌≤◌, IfSome, IfNone, IfOk, IfErr, None, true, length, slice_get, slice_set, Some};
+ghost use Rattle.std.specs.Prelude.{◌≡◌, ◌^◌, ◌%◌, ◌/◌, ◌<◌, ◌≤◌, IfSome, IfNone, IfOk, IfErr, None, length, slice_get, slice_set, Some};
 ghost use Rattle.vt_key.specs.declared.fault.Fault.TheVariants.{NotLawful};
 ghost use Rattle.vt_model.specs.Handler.{Handlers};
 ghost use Rattle.vt_model.specs.Simulation.{simulation_of};
 ghost use Rattle.vt_steps.specs.World.{Part};
 ghost use Rattle.vt_steps.specs.declared.step.Step.TheVariants as step;
 ghost use Rattle.vt_tournament.specs.Contest.{IsTournamentOf, WasTournamentOf};
-ghost use Rattle.vt_kernel.specs.Held.{StandsFor, entries_of, ready_of, unready_of, other_rank, TellsLeast};
+ghost use Rattle.vt_kernel.specs.Held.{StandsFor, entries_of, ready_of, unready_of, other_rank, has_past, TellsLeast};
 ghost use Rattle.vt_kernel.specs.Local.{local_step};
 ghost use Rattle.vt_kernel.specs.Guards.{IsDone, AreWithinLimits, IsExecuteRefusal};
 
@@ -16,6 +16,7 @@ use crate::kernel::Kernel;
 use std::alloc::Global;
 use vt_key::{Fault, Rank, Stamp};
 use vt_lp::Lp;
+use vt_marks::Marks;
 use vt_model::{Config, Model as EventModel};
 use vt_tournament::Tournament;
 
@@ -115,12 +116,12 @@ pub(crate) fn place_of(config: Config, worker: u32, lp: u32) -> Option<usize>
     Some((lp / config.workers) as usize)
 }
 
-/// Enters the process at `place`, the only one that may have changed, into the tournaments again, and marks it: it may have
+/// Enters the process at `place`, the only one that may have changed, into the tournaments again, and marks it where it has
 /// past events.
 pub(crate) fn enter<M: EventModel>(
     ready: &mut Tournament,
     unready: &mut Tournament,
-    marked: &mut Vec<bool>,
+    marked: &mut Marks,
     processes: &[Lp<M>],
     place: usize,
 )
@@ -130,7 +131,7 @@ pub(crate) fn enter<M: EventModel>(
     requires in_unready { WasTournamentOf place (entries_of unready_of processes.now) unready.old }
     ensures ready { IsTournamentOf (entries_of ready_of processes.now) ready.new }
     ensures unready { IsTournamentOf (entries_of unready_of processes.now) unready.new }
-    ensures marked { marked.new.items ≡ slice_set marked.old.items place true }
+    ensures marked { (held : _) → slice_get processes.now place ≡ Some held → marked.new ≡ slice_set marked.old place (has_past held) }
     ensures told { (held : _) → slice_get processes.now place ≡ Some held → TellsLeast held }
 {
     let process = &processes[place];
@@ -142,16 +143,7 @@ pub(crate) fn enter<M: EventModel>(
     enter_ready(ready, processes, number, own, who_is_ready);
     let who_is_not = Teller(|other| unready_at(processes, other));
     enter_unready(unready, processes, number, rank, who_is_not);
-    mark(marked, place, true);
-}
-
-/// Writes the mark of a process, where it has one.
-pub(crate) fn mark(marked: &mut Vec<bool>, place: usize, value: bool)
-    ensures { marked.new.items ≡ slice_set marked.old.items place value }
-{
-    if place < marked.len() {
-        marked[place] = value;
-    }
+    marked.set(place, process.has_past());
 }
 
 /// The least rank, unless it is that of the event that is ready.

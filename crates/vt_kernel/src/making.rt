@@ -1,6 +1,6 @@
 //! How a worker is made.
 
-ghost use Rattle.std.specs.Prelude.{◌≡◌, ◌+◌, ◌<◌, ◌≤◌, ◌⊎◌, ◌↔◌, ◌^◌, [], length, map, max, replicate, true, All, None, IsTrue, IfOk, IfErr};
+ghost use Rattle.std.specs.Prelude.{◌≡◌, ◌+◌, ◌<◌, ◌≤◌, ◌⊎◌, ◌↔◌, ◌^◌, [], length, map, max, All, None, IsTrue, IfOk, IfErr};
 ghost use Rattle.vt_key.specs.declared.fault.Fault.TheVariants.{Memory, Exhausted};
 ghost use Rattle.vt_key.specs.declared.letter.Sign.TheVariants.{Plus};
 ghost use Rattle.vt_key.specs.declared.limits.TheConstants.{MAX_COUNT};
@@ -18,6 +18,7 @@ use std::alloc::Global;
 use vt_key::{Colour, Fault, Letter, MAX_COUNT};
 use vt_list::List;
 use vt_lp::{Lp, Spare};
+use vt_marks::Marks;
 use vt_model::{Config, Model as EventModel, Out, Process};
 use vt_tournament::Tournament;
 
@@ -80,7 +81,9 @@ fn open<M: EventModel>(
     let processes = start_all(alloc, model, config, w, &mut serial, &mut outbox)?;
     let ready = tournament(alloc, &processes)?;
     let unready = tournament(alloc, &processes)?;
-    let marked = all_marked(alloc, processes.len())?;
+    let Ok(marked) = Marks::new(alloc, processes.len()) else {
+        return Err(Fault::Memory);
+    };
     Ok(Kernel {
         config,
         worker: w,
@@ -141,18 +144,6 @@ fn tournament<M: EventModel>(alloc: Global, processes: &[Lp<M>]) -> Result<Tourn
     let count = processes.len();
     let contestants = at_least_one(count);
     Tournament::new(alloc, contestants as u32)
-}
-
-/// As many marks, none of which is false.
-fn all_marked(alloc: Global, count: usize) -> Result<Vec<bool>, Fault>
-    ensures marked { IfOk result (λ v. v.items ≡ replicate count true) }
-    ensures refused { IfErr result (λ fault. fault ≡ Memory) }
-{
-    let mut marked = Vec::with_capacity(alloc, count).map_err(|_| Fault::Memory)?;
-    for _ in 0..count {
-        marked.push(true).map_err(|_| Fault::Memory)?;
-    }
-    Ok(marked)
 }
 
 /// The number, or 1 in the place of 0: a tournament has one contestant at least.

@@ -1,35 +1,85 @@
-use Rattle.std.proofs.Common.{rules, ◌≡◌, ◌∙◌, ◌<◌, length, List, Some, false, slice_get, slice_index_or, ap, sym, subst, arith}
-use Rattle.std.proofs.lemmas.List.{length-set, get_or-set_same}
-use Rattle.vt_steps.proofs.Places.{get-put_other}
+use Rattle.std.proofs.Common.{◌∙◌, List, slice_get, ap, sym, subst}
+use Rattle.vt_tournament.specs.Contest.{IsTournamentOf}
+use Rattle.vt_steps.proofs.Places.{get-put_same}
 use Rattle.vt_lp.specs.Held.{HeldProcess}
-use Rattle.vt_kernel.specs.Held.{AreMarked}
-use Rattle.vt_kernel.proofs.CommitLemmas.{none-forgotten}
-use Rattle.vt_kernel.proofs.ProcessLemmas.{put-tells, marked-forgotten}
+use Rattle.vt_kernel.specs.Held.{AreMarked, entries_of, ready_of, unready_of}
+use Rattle.vt_kernel.proofs.EnteringLemmas.{in-changed, was-entered}
+use Rattle.vt_kernel.proofs.CommitLemmas.{one-forgotten}
+use Rattle.vt_kernel.proofs.LocalLemmas.{index-get, written-same}
+use Rattle.vt_kernel.proofs.ProcessLemmas.{marked-changed}
 use Rattle.vt_kernel.proofs.committing.forget_at.Goals as goal
 
-pub returns-then-is_unmarked-clause-forgotten : goal.returns-then-is_unmarked-clause-forgotten
-returns-then-is_unmarked-clause-forgotten g c =
-    let told : slice_get c.args.marked.now.items c.args.place ≡ Some false = search rules in
-    none-forgotten c.args.floor c.args.processes.now.items c.args.place c.requires.there (λ q at. c.requires.marked c.args.place q told at)
-
-pub index-requires : goal.index-requires
-index-requires g c =
-    let f = c.forget_marked.ensures.forgotten in
-    let there = c.requires.there in
-    let size : length c.forget_marked.new.processes.items ≡ length c.args.processes.now.items = ap length f.others ∙ length-set c.args.processes.now.items c.args.place f.process in
-    let less : c.args.place < length c.forget_marked.new.processes.items = omega (arith, there, size) in
-    search (rules, less)
-
-pub returns-clause-marked : goal.returns-clause-marked
-returns-clause-marked g c =
+pub enter-requires-clause-there : goal.enter-requires-clause-there
+enter-requires-clause-there g c κs within =
     let old = c.args.processes.now.items in
-    let place = c.args.place in
-    let f = c.forget_marked.ensures.forgotten in
-    let q : HeldProcess _ _ _ = f.process in
-    let now : HeldProcess _ _ _ = c.index.result.now in
-    let same : now ≡ q = c.index.ensures ∙ ap (λ (ps : List (HeldProcess _ _ _)). slice_index_or ps place now) f.others ∙ get_or-set_same old place q now c.requires.there in
-    let has = c.has_past-has_past.result in
-    subst (λ (ps : List (HeldProcess _ _ _)). AreMarked c.mark.new.marked.items ps) (sym f.others)
-    (marked-forgotten c.args.marked.now.items c.mark.new.marked.items old place q c.requires.marked
-    (λ k other. ap (λ bs. slice_get bs k) c.mark.ensures ∙ get-put_other c.forget_marked.new.marked.items place k has other ∙ c.forget_marked.ensures.others k other)
-    (λ at. ap (λ (p : HeldProcess _ _ _). p.past) (sym same) ∙ c.has_past-has_past.ensures.0 (put-tells c.forget_marked.new.marked.items place has false (ap (λ bs. slice_get bs place) (sym c.mark.ensures) ∙ at))))
+    let was : HeldProcess _ _ _ = c.index_mut.result.now in
+    let at = index-get old c.args.place was c.requires.there (sym c.index_mut.ensures.value) in
+    in-changed old c.deref.result.now c.args.place was c.fossil_into.new.self at c.deref.ensures.value
+
+pub enter-requires-clause-in_ready : goal.enter-requires-clause-in_ready
+enter-requires-clause-in_ready g c κs within =
+    let old = c.args.processes.now.items in
+    let was : HeldProcess _ _ _ = c.index_mut.result.now in
+    let at = index-get old c.args.place was c.requires.there (sym c.index_mut.ensures.value) in
+    was-entered ready_of old c.deref.result.now c.args.place was c.fossil_into.new.self c.args.ready.now at c.deref.ensures.value c.requires.entered
+
+pub enter-requires-clause-in_unready : goal.enter-requires-clause-in_unready
+enter-requires-clause-in_unready g c κs within =
+    let old = c.args.processes.now.items in
+    let was : HeldProcess _ _ _ = c.index_mut.result.now in
+    let at = index-get old c.args.place was c.requires.there (sym c.index_mut.ensures.value) in
+    was-entered unready_of old c.deref.result.now c.args.place was c.fossil_into.new.self c.args.unready.now at c.deref.ensures.value c.requires.unready
+
+pub returns-then-fossil_into-clause-forgotten : goal.returns-then-fossil_into-clause-forgotten
+returns-then-fossil_into-clause-forgotten g c =
+    let old = c.args.processes.now.items in
+    let was : HeldProcess _ _ _ = c.index_mut.result.now in
+    let at = index-get old c.args.place was c.requires.there (sym c.index_mut.ensures.value) in
+    let f = c.fossil_into.ensures in
+    one-forgotten c.args.floor old c.args.place was c.fossil_into.new.self at (record { committed = f.committed; lp = f.same.0; config = f.same.1; pending = f.same.3; waiting = f.same.4 })
+
+pub returns-else-fossil_into-clause-forgotten : goal.returns-else-fossil_into-clause-forgotten
+returns-else-fossil_into-clause-forgotten g c =
+    let old = c.args.processes.now.items in
+    let was : HeldProcess _ _ _ = c.index_mut.result.now in
+    let at = index-get old c.args.place was c.requires.there (sym c.index_mut.ensures.value) in
+    let f = c.fossil_into.ensures in
+    one-forgotten c.args.floor old c.args.place was c.fossil_into.new.self at (record { committed = f.committed; lp = f.same.0; config = f.same.1; pending = f.same.3; waiting = f.same.4 })
+
+pub returns-then-fossil_into-clause-entered : goal.returns-then-fossil_into-clause-entered
+returns-then-fossil_into-clause-entered g c = subst (λ (ps : List (HeldProcess _ _ _)). IsTournamentOf (entries_of ready_of ps) c.enter.new.ready) c.deref.ensures.value c.enter.ensures.ready
+
+pub returns-then-fossil_into-clause-unready : goal.returns-then-fossil_into-clause-unready
+returns-then-fossil_into-clause-unready g c = subst (λ (ps : List (HeldProcess _ _ _)). IsTournamentOf (entries_of unready_of ps) c.enter.new.unready) c.deref.ensures.value c.enter.ensures.unready
+
+pub returns-else-fossil_into-clause-entered : goal.returns-else-fossil_into-clause-entered
+returns-else-fossil_into-clause-entered g c =
+    let old = c.args.processes.now.items in
+    let was : HeldProcess _ _ _ = c.index_mut.result.now in
+    let at = index-get old c.args.place was c.requires.there (sym c.index_mut.ensures.value) in
+    let same = written-same old c.args.place was c.fossil_into.new.self at (c.fossil_into.ensures.unchanged c.if-fossil_into.false) in
+    subst (λ (ps : List (HeldProcess _ _ _)). IsTournamentOf (entries_of ready_of ps) c.args.ready.now) (sym same) c.requires.entered
+
+pub returns-else-fossil_into-clause-unready : goal.returns-else-fossil_into-clause-unready
+returns-else-fossil_into-clause-unready g c =
+    let old = c.args.processes.now.items in
+    let was : HeldProcess _ _ _ = c.index_mut.result.now in
+    let at = index-get old c.args.place was c.requires.there (sym c.index_mut.ensures.value) in
+    let same = written-same old c.args.place was c.fossil_into.new.self at (c.fossil_into.ensures.unchanged c.if-fossil_into.false) in
+    subst (λ (ps : List (HeldProcess _ _ _)). IsTournamentOf (entries_of unready_of ps) c.args.unready.now) (sym same) c.requires.unready
+
+pub returns-then-fossil_into-clause-marked : goal.returns-then-fossil_into-clause-marked
+returns-then-fossil_into-clause-marked g c =
+    let old = c.args.processes.now.items in
+    let was : HeldProcess _ _ _ = c.index_mut.result.now in
+    let at = index-get old c.args.place was c.requires.there (sym c.index_mut.ensures.value) in
+    let there = ap (λ (ps : List (HeldProcess _ _ _)). slice_get ps c.args.place) c.deref.ensures.value ∙ get-put_same old c.args.place was c.fossil_into.new.self at in
+    marked-changed c.args.marked.now c.enter.new.marked old c.args.place c.fossil_into.new.self c.requires.marked (c.enter.ensures.marked c.fossil_into.new.self there)
+
+pub returns-else-fossil_into-clause-marked : goal.returns-else-fossil_into-clause-marked
+returns-else-fossil_into-clause-marked g c =
+    let old = c.args.processes.now.items in
+    let was : HeldProcess _ _ _ = c.index_mut.result.now in
+    let at = index-get old c.args.place was c.requires.there (sym c.index_mut.ensures.value) in
+    let same = written-same old c.args.place was c.fossil_into.new.self at (c.fossil_into.ensures.unchanged c.if-fossil_into.false) in
+    subst (λ (ps : List (HeldProcess _ _ _)). AreMarked c.args.marked.now ps) (sym same) c.requires.marked

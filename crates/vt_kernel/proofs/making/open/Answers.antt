@@ -1,4 +1,4 @@
-use Rattle.std.proofs.Common.{◌≡◌, ◌∙◌, ◌≤◌, ◌+◌, ◌-◌, List, Option, None, length, slice_get, refl, sym, ap, subst, arith}
+use Rattle.std.proofs.Common.{◌≡◌, ◌∙◌, ◌≤◌, ◌+◌, ◌-◌, List, Option, None, length, replicate, rules, false, refl, sym, ap, subst, arith}
 use Rattle.std.proofs.lemmas.List.Elements.{All-nil}
 use Rattle.std.proofs.Math.Nat.{div-le_self}
 use Rattle.vt_key.specs.declared.limits.TheConstants.{MAX_COUNT}
@@ -6,8 +6,8 @@ use Rattle.vt_key.specs.declared.order.Rank.{Rank}
 use Rattle.vt_steps.specs.Letters.{Counts}
 use Rattle.vt_tournament.specs.Contest.{IsTournamentOf}
 use Rattle.vt_lp.specs.Held.{HeldProcess}
-use Rattle.vt_kernel.specs.Held.{AllOwnMail, IsOwnMail, AreCounted, entries_of}
-use Rattle.vt_kernel.proofs.MakeLemmas.{ready-opening, unready-opening, tells-opening, stand-opening, all-marked}
+use Rattle.vt_kernel.specs.Held.{AllOwnMail, IsOwnMail, AreCounted, AreMarked, entries_of}
+use Rattle.vt_kernel.proofs.MakeLemmas.{ready-opening, unready-opening, tells-opening, stand-opening, marked-opening}
 use Rattle.vt_kernel.proofs.making.open.Goals as goal
 
 none_counted : (counts : Counts) → counts ≡ record { white = 0; red = 0 } → AreCounted counts
@@ -41,16 +41,16 @@ invariant_of-result g c =
       all_there = made.count;
       own_processes = made.processes;
       sendable = made.within;
-      own_mail = subst (AllOwnMail config c.args.w) (sym c.new.ensures.items) (All-nil (IsOwnMail config c.args.w));
-      few_sent = none_counted c.new-2.result c.new-2.ensures;
-      few_got = none_counted c.new-3.result c.new-3.ensures;
+      own_mail = subst (AllOwnMail config c.args.w) (sym c.new-2.ensures.items) (All-nil (IsOwnMail config c.args.w));
+      few_sent = none_counted c.new-3.result c.new-3.ensures;
+      few_got = none_counted c.new-4.result c.new-4.ensures;
       few_made = few;
       ready_entered = subst (λ (es : List (Option Rank)). IsTournamentOf es c.in_ok-ready.ready)
           (ap (λ (xs : List (HeldProcess _ _ _)). entries_of (λ (x : HeldProcess _ _ _). None) xs) c.deref.ensures.value ∙ sym (ready-opening handlers items made.started)) c.in_ok-ready.ensures.nobody;
       unready_entered = subst (λ (es : List (Option Rank)). IsTournamentOf es c.in_ok-unready.unready)
           (ap (λ (xs : List (HeldProcess _ _ _)). entries_of (λ (x : HeldProcess _ _ _). None) xs) c.deref-2.ensures.value ∙ sym (unready-opening handlers items made.started)) c.in_ok-unready.ensures.nobody;
       least_told = tells-opening handlers items made.started;
-      past_marked = λ place held at there. absurd (all-marked _ place (ap (λ bs. slice_get bs place) (sym c.in_ok-marked.ensures.marked) ∙ at));
+      past_marked = c.in-Ok.ensures ∙ subst (λ n. AreMarked (replicate n false) items) (sym (search rules)) (marked-opening handlers items made.started);
     }
 
 pub returns-clause-opening : goal.returns-clause-opening
@@ -61,10 +61,10 @@ returns-clause-opening g c =
     record {
       processes = stand-opening handlers c.args.config c.args.w _ items made.processes made.started made.count;
       outbox = sym made.outbox;
-      arrived = sym c.new.ensures.items;
+      arrived = sym c.new-2.ensures.items;
       colour = refl;
-      sent = sym c.new-2.ensures;
-      got = sym c.new-3.ensures;
+      sent = sym c.new-3.ensures;
+      got = sym c.new-4.ensures;
       red_minimum = refl;
       floor = refl;
       serial = sym made.serial;

@@ -201,7 +201,7 @@ invariant_of-self g c =
     let new = c.deliver.new.process in
     let rest = removed-all (IsOwnMail i.config i.worker) i.arrived.items c.args.i c.self.invariant.own_mail in
     inside-arrived c.remove.new.self.items i.got (subst (λ (ms : List (Mail _)). AllOwnMail i.config i.worker ms) (sym c.remove.ensures.items) rest) c.self.invariant.few_got
-    (inside-changed c.self.invariant place old new i.outbox i.serial c.deref-2.result.now c.enter.new.ready c.enter.new.unready c.enter.new.marked.items at c.deliver.ensures.same.0 c.deliver.ensures.same.1 c.deref-2.ensures.value
+    (inside-changed c.self.invariant place old new i.outbox i.serial c.deref-2.result.now c.enter.new.ready c.enter.new.unready c.enter.new.marked at c.deliver.ensures.same.0 c.deliver.ensures.same.1 c.deref-2.ensures.value
     c.enter.ensures.ready c.enter.ensures.unready c.enter.ensures.marked c.enter.ensures.told
     c.self.invariant.sendable c.self.invariant.few_made)
 

@@ -30,7 +30,7 @@ invariant_of-self g c =
     let own = c.in-Some.ensures.own in
     let less = place-within c.self.invariant c.args.lp c.in-Some.place i.config.some_worker own.0 own.1 own.2 in
     let at = index-get i.processes.items c.in-Some.place c.index_mut.result.now less (sym c.index_mut.ensures.value) in
-    subst (λ (ps : List (HeldProcess _ _ _)). IsWorkerInside i.config i.worker ps i.outbox i.arrived.items i.sent i.got i.serial i.ready i.unready i.marked.items)
+    subst (λ (ps : List (HeldProcess _ _ _)). IsWorkerInside i.config i.worker ps i.outbox i.arrived.items i.sent i.got i.serial i.ready i.unready i.marked)
     (sym (written-same i.processes.items c.in-Some.place c.index_mut.result.now c.cancel.new.self at c.in-Err.ensures.kept.1)) c.self.invariant
 
 pub returns-in-Err-clause-refused : goal.returns-in-Err-clause-refused
@@ -80,7 +80,7 @@ invariant_of-self-2 g c =
     let new = c.cancel.new.self in
     let at = index-get i.processes.items c.in-Some.place old less (sym c.index_mut.ensures.value) in
     let same = c.in_default-cancel.ensures.same in
-    inside-changed c.self.invariant c.in-Some.place old new i.outbox i.serial c.deref.result.now c.enter.new.ready c.enter.new.unready c.enter.new.marked.items at same.0 same.1 c.deref.ensures.value
+    inside-changed c.self.invariant c.in-Some.place old new i.outbox i.serial c.deref.result.now c.enter.new.ready c.enter.new.unready c.enter.new.marked at same.0 same.1 c.deref.ensures.value
     c.enter.ensures.ready c.enter.ensures.unready c.enter.ensures.marked c.enter.ensures.told c.self.invariant.sendable c.self.invariant.few_made
 
 pub returns-clause-done : goal.returns-clause-done

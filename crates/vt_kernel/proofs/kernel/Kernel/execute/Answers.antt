@@ -72,7 +72,7 @@ invariant_of-self g c =
     let same = c.execute_reusing-result.ensures.same in
     let within = subst (λ (k : Config). AllWithinRun k i.outbox → AllWithinRun k c.execute_reusing-result.new.outbox) f.1 c.execute_reusing-result.ensures.within in
     let few : c.execute_reusing-result.new.serial ≤ MAX_COUNT = either-way c.execute_reusing-result.result (λ _ counted. counted.1) (λ _ kept. subst (λ n. n ≤ MAX_COUNT) (sym kept.1) c.self.invariant.few_made) c.execute_reusing-result.ensures.counted c.execute_reusing-result.ensures.kept in
-    inside-changed c.self.invariant c.in-Some.place old new c.execute_reusing-result.new.outbox c.execute_reusing-result.new.serial c.deref.result.now c.enter.new.ready c.enter.new.unready c.enter.new.marked.items at same.0 same.1 c.deref.ensures.value
+    inside-changed c.self.invariant c.in-Some.place old new c.execute_reusing-result.new.outbox c.execute_reusing-result.new.serial c.deref.result.now c.enter.new.ready c.enter.new.unready c.enter.new.marked at same.0 same.1 c.deref.ensures.value
     c.enter.ensures.ready c.enter.ensures.unready c.enter.ensures.marked c.enter.ensures.told (within c.self.invariant.sendable) few
 
 pub returns-clause-done : goal.returns-clause-done

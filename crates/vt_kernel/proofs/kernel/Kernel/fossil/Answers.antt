@@ -14,7 +14,7 @@ forget_before-requires g c =
 pub invariant_of-self : goal.invariant_of-self
 invariant_of-self g c =
     let f = c.forget_before.ensures in
-    inside-commit c.self.inside.floor c.forget_before.new.processes.items c.forget_before.new.ready c.forget_before.new.unready c.forget_before.new.marked.items f.count f.forgotten f.entered f.unready f.marked c.self.invariant
+    inside-commit c.self.inside.floor c.forget_before.new.processes.items c.forget_before.new.ready c.forget_before.new.unready c.forget_before.new.marked f.count f.forgotten f.entered f.unready f.marked c.self.invariant
 
 pub returns-clause-stands : goal.returns-clause-stands
 returns-clause-stands g c handlers part s =

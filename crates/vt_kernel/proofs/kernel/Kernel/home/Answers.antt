@@ -147,7 +147,7 @@ invariant_of-self-2 g c =
     let who = process-at i.config i.worker 0 place i.processes.items old c.self.invariant.own_processes at in
     let new = c.deliver.new.process in
     let within = without-all (IsWithinRun i.config.lps i.config.end) (λ (l : Letter _). nat_eq (l.event.dest % i.config.workers) i.worker) i.outbox c.self.invariant.sendable in
-    inside-changed c.self.invariant place old new c.remove_first.new.self i.serial c.deref.result.now c.enter.new.ready c.enter.new.unready c.enter.new.marked.items at c.deliver.ensures.same.0 c.deliver.ensures.same.1 c.deref.ensures.value
+    inside-changed c.self.invariant place old new c.remove_first.new.self i.serial c.deref.result.now c.enter.new.ready c.enter.new.unready c.enter.new.marked at c.deliver.ensures.same.0 c.deliver.ensures.same.1 c.deref.ensures.value
     c.enter.ensures.ready c.enter.ensures.unready c.enter.ensures.marked c.enter.ensures.told
     (subst (λ (ls : List (Letter _)). AllWithinRun i.config ls) (sym c.remove_first.ensures.others) within) c.self.invariant.few_made
 

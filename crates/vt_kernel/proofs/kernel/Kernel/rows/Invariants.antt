@@ -1,4 +1,4 @@
-use Rattle.std.proofs.Common.{◌≡◌, take}
+use Rattle.std.proofs.Common.{◌≡◌, ◌≤◌, ◌-◌, length, take}
 use Rattle.vt_model.specs.Handler.{Handlers}
 use Rattle.vt_model.specs.Simulation.{simulation_of}
 use Rattle.vt_steps.specs.World.{Part}
@@ -7,5 +7,11 @@ use Rattle.vt_kernel.specs.Held.{StandsFor}
 use Rattle.vt_kernel.proofs.kernel.Kernel.rows.Given as goal
 
 abbrev pub invariant-loop-place : goal.invariant-loop-place
-invariant-loop-place g l = (handlers : Handlers _ _ _) (part : Part _) → StandsFor handlers l.fn.self part
-    → l.rows.items ≡ rows_of_processes (simulation_of handlers l.fn.self.config) l.fn.self.worker l.fn.self.floor 0 (take l.place part.processes)
+invariant-loop-place g l = record {
+  within : l.from ≤ length l.fn.self.processes;
+  rows : (handlers : Handlers _ _ _) (part : Part _) → StandsFor handlers l.fn.self part
+      → l.rows.items ≡ rows_of_processes (simulation_of handlers l.fn.self.config) l.fn.self.worker l.fn.self.floor 0 (take l.from part.processes);
+}
+
+abbrev pub decreases-loop-place : goal.decreases-loop-place
+decreases-loop-place g l = length l.fn.self.processes - l.from

@@ -66,7 +66,7 @@ invariant_of-self g c =
     let f = process-at i.config i.worker 0 c.in-Some.place i.processes.items old c.self.invariant.own_processes at in
     let same = c.undo-result.ensures.same in
     let within = subst (λ (k : Config). AllWithinRun k i.outbox → AllWithinRun k c.undo-result.new.outbox) f.1 c.undo-result.ensures.within in
-    inside-changed c.self.invariant c.in-Some.place old new c.undo-result.new.outbox i.serial c.deref.result.now c.enter.new.ready c.enter.new.unready c.enter.new.marked.items at same.0 same.1 c.deref.ensures.value
+    inside-changed c.self.invariant c.in-Some.place old new c.undo-result.new.outbox i.serial c.deref.result.now c.enter.new.ready c.enter.new.unready c.enter.new.marked at same.0 same.1 c.deref.ensures.value
     c.enter.ensures.ready c.enter.ensures.unready c.enter.ensures.marked c.enter.ensures.told (within c.self.invariant.sendable) c.self.invariant.few_made
 
 pub returns-clause-done : goal.returns-clause-done

@@ -1,0 +1,60 @@
+//! The marks.
+
+ghost use Rattle.std.specs.Prelude.{◌≡◌, ℕ, ◌<◌, ◌≤◌, false, replicate, slice_get, slice_set, Some, true, IfSome, IfNone, IfOk};
+
+use crate::bits::{first_of_sums, write};
+use std::alloc::{AllocError, Global};
+use std::marker::Model;
+
+/// Marks of places, which are numbered from 0. Contracts see the list of them. No call takes memory but the first one.
+///
+/// A place has a bit, and a word of 64 bits has one that tells whether a place is marked there. So the places that are not
+/// marked cost next to nothing where those that are get visited.
+#[derive(Drop)]
+pub struct Marks {
+    count: usize,
+    words: Vec<u64>,
+    sums: Vec<u64>,
+}
+
+impl Model for Marks {
+    ghost use Rattle.std.specs.Prelude.{List, Bool};
+    ghost use Rattle.vt_marks.specs.Bits.{marks_of, AreKept};
+
+    ghost Value = { List Bool };
+
+    ghost view = { λ m. marks_of m.count m.words.items };
+
+    ghost invariant = { λ m. AreKept m.count m.words.items m.sums.items };
+}
+
+impl Marks {
+    /// So many places, of which none is marked.
+    pub fn new(alloc: Global, count: usize) -> Result<Marks, AllocError>
+        ensures { IfOk result (λ marks. marks ≡ replicate count false) }
+    {
+        let words = vec![in alloc; 0; count.div_ceil(64)]?;
+        let sums = vec![in alloc; 0; words.len().div_ceil(64)]?;
+        Ok(Marks { count, words, sums })
+    }
+
+    /// Marks a place, or takes its mark away. Where there is no such place, nothing is done.
+    pub fn set(&mut self, place: usize, value: bool)
+        ensures { self.new ≡ slice_set self.old place value }
+    {
+        if place >= self.count {
+            return;
+        }
+        let word = write(&mut self.words, place, value);
+        write(&mut self.sums, place / 64, word != 0);
+    }
+
+    /// The first marked place from one on; None where there is none.
+    pub fn first_from(&self, place: usize) -> Option<usize>
+        ensures marked { IfSome result (λ first. (place ≤ first) × (slice_get self.now first ≡ Some true)) }
+        ensures first { IfSome result (λ first. (other : ℕ) → place ≤ other → other < first → slice_get self.now other ≡ Some true → ⊥) }
+        ensures nowhere { IfNone result ((other : ℕ) → place ≤ other → slice_get self.now other ≡ Some true → ⊥) }
+    {
+        first_of_sums(&self.words, &self.sums, place)
+    }
+}
