@@ -1,5 +1,5 @@
 -- A letter that comes: what the process keeps to, and the step of each process that it stands for.
-use Rattle.std.proofs.Common.{◌≡◌, ◌||◌, ◌⊎◌, inl, inr, Bool, true, false, if◌then◌else◌, ℕ, List, [], ◌∷◌, Some, None, map, refl, sym, subst, ◌∙◌, ap}
+use Rattle.std.proofs.Common.{◌≡◌, ◌||◌, ◌⊎◌, inl, inr, Bool, true, false, if◌then◌else◌, ℕ, List, [], ◌∷◌, Some, None, Result, Ok, Err, IfOk, IfErr, map, refl, sym, subst, ◌∙◌, ap}
 use Rattle.std.specs.Prelude.{All}
 use Rattle.std.specs.List.{list_any}
 use Rattle.std.proofs.lemmas.List.Elements.{All-nil, All-cons, All-head, All-tail}
@@ -21,6 +21,21 @@ use Rattle.vt_lp.specs.declared.entry.PastEvent.{PastEvent}
 use Rattle.vt_lp.specs.Held.{HeldProcess, StandsFor, remembered, IsOwnLetter, IsNotPending, IsProcessInside}
 use Rattle.vt_lp.specs.Guards.{IsDone, holds_letter}
 use Rattle.vt_lp.proofs.RisingLemmas.{insert-same}
+
+-- ---- what a queue answers
+
+-- what holds after either answer
+pub either : {A E : Type 0} {Q R : A → Type 0} {S : E → Type 0} {T : Type 0} (result : Result A E) → ((a : A) → Q a → R a → T) → ((e : E) → S e → T) → IfOk result Q → IfOk result R → IfErr result S → T
+either (Ok a) done refused q r s = done a q r
+either (Err e) done refused q r s = refused e s
+
+pub ok-is : {A E : Type 0} {T : Type 0} (result : Result A E) (a : A) → result ≡ Ok a → IfOk result (λ _. T) → T
+ok-is (Ok b) a is t = t
+ok-is (Err e) a is t = absurd (let h : Err e ≡ Ok a = is in cc)
+
+pub err-is : {A E : Type 0} {T : Type 0} (result : Result A E) (e : E) → result ≡ Err e → IfErr result (λ _. T) → T
+err-is (Ok a) e is t = absurd (let h : Ok a ≡ Err e = is in cc)
+err-is (Err d) e is t = t
 
 -- ---- what the process keeps to
 

@@ -49,14 +49,15 @@ impl<M: EventModel> Lp<M> {
         ensures same { (self.new.lp ≡ self.old.lp) × (self.new.config ≡ self.old.config) × (self.new.triple ≡ self.old.triple) × (self.new.past ≡ self.old.past) }
     {
         let Letter { event, sign } = *letter.get();
-        if self.holds(sign, event.rank) {
-            return Err((Fault::NotLawful, letter));
+        let put = match sign {
+            Sign::Plus if has_executed(&self.past, event.rank) => Err(letter),
+            Sign::Plus => self.pending.insert_new(letter),
+            Sign::Minus => self.waiting.insert_new(letter),
+        };
+        match put {
+            Ok(()) => Ok(()),
+            Err(letter) => Err((Fault::NotLawful, letter)),
         }
-        match sign {
-            Sign::Plus => self.pending.insert(letter),
-            Sign::Minus => self.waiting.insert(letter),
-        }
-        Ok(())
     }
 
     /// The waiting anti-message and the pending message of this stamp annihilate each other: of each queue the first of this

@@ -1,25 +1,66 @@
-use Rattle.std.proofs.Common.{◌≡◌, ◌∙◌, [], true, false, ap, sym, subst}
+use Rattle.std.proofs.Common.{◌≡◌, ◌∙◌, ◌||◌, Bool, [], true, false, List, Ok, Err, ap, refl, sym, subst}
+use Rattle.std.specs.List.{list_any}
+use Rattle.vt_key.specs.Order.{rank_same}
 use Rattle.vt_key.specs.declared.letter.Letter.{Letter}
 use Rattle.vt_key.specs.declared.letter.Sign.{Sign}
 use Rattle.vt_key.specs.declared.letter.Sign.TheVariants.{Plus, Minus}
 use Rattle.vt_key.specs.Times.{TimeBefore}
 use Rattle.vt_model.specs.Process.{triple_at}
+use Rattle.vt_steps.specs.Letters.{has_rank}
 use Rattle.vt_steps.specs.ProcessSteps.{accept_process}
-use Rattle.vt_lp.specs.Held.{HeldProcess, StandsFor}
+use Rattle.vt_lp.specs.declared.entry.PastEvent.{PastEvent}
+use Rattle.vt_lp.specs.Held.{HeldProcess, StandsFor, IsProcessInside}
 use Rattle.vt_lp.specs.Guards.{IsDone, holds_letter}
-use Rattle.vt_lp.proofs.AcceptLemmas.{accept-none, accepts-message, accepts-anti_message, inside-message, inside-anti_message}
-use Rattle.vt_lp.proofs.lp.Lp.accept.Goals.{in-Plus, in-Minus}
+use Rattle.vt_lp.proofs.AcceptLemmas.{either, ok-is, err-is, accept-none, accepts-message, accepts-anti_message, inside-message, inside-anti_message}
+use Rattle.vt_lp.proofs.lp.Lp.accept.Goals.{in-Plus, in-Plus-2, in-Minus}
 use Rattle.vt_lp.proofs.lp.Lp.accept.Goals as goal
 
-pub returns-then-holds-clause-refused : goal.returns-then-holds-clause-refused
-returns-then-holds-clause-refused g c handlers h s =
-    let held = c.args.self.now in
-    let there : holds_letter held.pending held.waiting held.past c.args.letter.sign c.args.letter.event.rank ≡ true =
-    ap (λ (l : Letter _). holds_letter held.pending held.waiting held.past l.sign l.event.rank) (sym c.get.ensures) ∙ sym c.holds.ensures ∙ c.if-holds.true in
-    accept-none handlers held h c.args.letter there s
+-- in either of two
+in-first : (a b : Bool) → a ≡ true → (a || b) ≡ true
+in-first a b is = ap (λ t. t || b) is
 
-pub returns-clause-done : goal.returns-clause-done
-returns-clause-done g c handlers h s =
+in-second : (a b : Bool) → b ≡ true → (a || b) ≡ true
+in-second true b is = refl
+in-second false b is = is
+
+in-none : (a b : Bool) → a ≡ false → b ≡ false → (a || b) ≡ false
+in-none a b first second = ap (λ t. t || b) first ∙ second
+
+pub invariant_of-self : goal.invariant_of-self
+invariant_of-self g c =
+    let inside = c.self.inside in
+    let x = c.args.letter in
+    let own : c.get.result.now ≡ x = c.get.ensures in
+    let sign : x.sign ≡ Plus = ap (λ (l : Letter _). l.sign) (sym own) ∙ c.in-Plus-2.is in
+    let dest = c.requires.dest ∙ ap (λ (v : HeldProcess _ _ _). v.lp) (sym c.self.view_is) in
+    let soon = subst (λ (v : HeldProcess _ _ _). TimeBefore x.event.rank.key.time v.config.end) (sym c.self.view_is) c.requires.soon in
+    let executed : Letter _ → Bool = λ l. list_any (λ (e : PastEvent _ _). rank_same e.letter.event.rank l.event.rank) inside.past in
+    let not_past : executed x ≡ false = ap executed (sym own) ∙ sym c.has_executed.ensures ∙ c.if-has_executed.false in
+    let put = c.insert_new-put in
+    let new = put.new.self in
+    either put.result
+    (λ a letters none. inside-message inside.config inside.lp inside.process.number inside.process.stream inside.past inside.pending inside.waiting new x letters
+    (record { dest = dest; soon = soon; signed = sign }) (in-none (list_any (has_rank x.event.rank) inside.pending) (executed x) none not_past) c.self.invariant)
+    (λ e kept. subst (λ (ls : List (Letter _)). IsProcessInside inside.config inside.lp inside.process.number inside.process.stream inside.past ls inside.waiting) (sym kept.1) c.self.invariant)
+    put.ensures.letters put.ensures.new put.ensures.unchanged
+
+pub invariant_of-self-in-Minus : goal.invariant_of-self-in-Minus
+invariant_of-self-in-Minus g c =
+    let inside = c.self.inside in
+    let x = c.args.letter in
+    let sign : x.sign ≡ Minus = ap (λ (l : Letter _). l.sign) (sym c.get.ensures) ∙ c.in-Minus.is in
+    let dest = c.requires.dest ∙ ap (λ (v : HeldProcess _ _ _). v.lp) (sym c.self.view_is) in
+    let soon = subst (λ (v : HeldProcess _ _ _). TimeBefore x.event.rank.key.time v.config.end) (sym c.self.view_is) c.requires.soon in
+    let put = c.insert_new-put-in-Minus in
+    let new = put.new.self in
+    either put.result
+    (λ a letters none. inside-anti_message inside.config inside.lp inside.process.number inside.process.stream inside.past inside.pending inside.waiting new x letters
+    (record { dest = dest; soon = soon; signed = sign }) c.self.invariant)
+    (λ e kept. subst (λ (ls : List (Letter _)). IsProcessInside inside.config inside.lp inside.process.number inside.process.stream inside.past inside.pending ls) (sym kept.1) c.self.invariant)
+    put.ensures.letters put.ensures.new put.ensures.unchanged
+
+pub returns-in-Ok-clause-done : goal.returns-in-Ok-clause-done
+returns-in-Ok-clause-done g c handlers h s =
     let inside = c.self.inside in
     let held : HeldProcess _ _ _ = record {
       lp = inside.lp;
@@ -29,39 +70,59 @@ returns-clause-done g c handlers h s =
       pending = inside.pending;
       waiting = inside.waiting;
     } in
-    let never : holds_letter held.pending held.waiting held.past c.args.letter.sign c.args.letter.event.rank ≡ false =
-    ap (λ (v : HeldProcess _ _ _). holds_letter v.pending v.waiting v.past c.args.letter.sign c.args.letter.event.rank) c.self.view_is
-    ∙ ap (λ (l : Letter _). holds_letter c.args.self.now.pending c.args.self.now.waiting c.args.self.now.past l.sign l.event.rank) (sym c.get.ensures) ∙ sym c.holds.ensures ∙ c.if-holds.false in
     let stands = subst (λ (v : HeldProcess _ _ _). StandsFor handlers v h) (sym c.self.view_is) s in
+    let x = c.args.letter in
+    let own : c.get.result.now ≡ x = c.get.ensures in
+    let executed : Letter _ → Bool = λ l. list_any (λ (e : PastEvent _ _). rank_same e.letter.event.rank l.event.rank) inside.past in
+    let is_held = λ (sign : Sign). holds_letter inside.pending inside.waiting inside.past sign x.event.rank in
     elim c.match-sign.branch [
-      | in-Plus w ↦
-          let sign : c.args.letter.sign ≡ Plus = ap (λ (l : Letter _). l.sign) (sym c.get.ensures) ∙ w.in-Plus.is in
-          subst (λ (v : HeldProcess _ _ _). IsDone handlers v (accept_process c.args.letter h) [] [] 0 0) (sym w.self-is)
-          (accepts-message handlers held h c.args.letter w.insert.new.self sign w.insert.ensures.letters never stands)
+      | in-Plus w ↦ absurd (let wrong : Err x ≡ Ok c.in-Ok.field-0 = sym w.put-is ∙ c.in-Ok.is in cc)
+      | in-Plus-2 w ↦
+          let sign : x.sign ≡ Plus = ap (λ (l : Letter _). l.sign) (sym own) ∙ w.in-Plus-2.is in
+          let is = sym w.put-is ∙ c.in-Ok.is in
+          let letters = ok-is w.insert_new-put.result c.in-Ok.field-0 is w.insert_new-put.ensures.letters in
+          let none = ok-is w.insert_new-put.result c.in-Ok.field-0 is w.insert_new-put.ensures.new in
+          let not_past : executed x ≡ false = ap executed (sym own) ∙ sym w.has_executed.ensures ∙ w.if-has_executed.false in
+          let never : is_held x.sign ≡ false = ap is_held sign ∙ in-none (list_any (has_rank x.event.rank) inside.pending) (executed x) none not_past in
+          subst (λ (v : HeldProcess _ _ _). IsDone handlers v (accept_process x h) [] [] 0 0) (sym w.self-is)
+          (accepts-message handlers held h x w.insert_new-put.new.self sign letters never stands)
       | in-Minus w ↦
-          let sign : c.args.letter.sign ≡ Minus = ap (λ (l : Letter _). l.sign) (sym c.get.ensures) ∙ w.in-Minus.is in
-          subst (λ (v : HeldProcess _ _ _). IsDone handlers v (accept_process c.args.letter h) [] [] 0 0) (sym w.self-is)
-          (accepts-anti_message handlers held h c.args.letter w.insert-in-Minus.new.self sign w.insert-in-Minus.ensures.letters never stands)
+          let sign : x.sign ≡ Minus = ap (λ (l : Letter _). l.sign) (sym own) ∙ w.in-Minus.is in
+          let is = sym w.put-is ∙ c.in-Ok.is in
+          let letters = ok-is w.insert_new-put-in-Minus.result c.in-Ok.field-0 is w.insert_new-put-in-Minus.ensures.letters in
+          let never : is_held x.sign ≡ false = ap is_held sign ∙ ok-is w.insert_new-put-in-Minus.result c.in-Ok.field-0 is w.insert_new-put-in-Minus.ensures.new in
+          subst (λ (v : HeldProcess _ _ _). IsDone handlers v (accept_process x h) [] [] 0 0) (sym w.self-is)
+          (accepts-anti_message handlers held h x w.insert_new-put-in-Minus.new.self sign letters never stands)
     ]
 
-pub invariant_of-self : goal.invariant_of-self
-invariant_of-self g c =
+pub returns-in-Err-clause-refused : goal.returns-in-Err-clause-refused
+returns-in-Err-clause-refused g c handlers h s =
     let inside = c.self.inside in
-    let sign : c.args.letter.sign ≡ Plus = ap (λ (l : Letter _). l.sign) (sym c.get.ensures) ∙ c.in-Plus.is in
-    let never : holds_letter inside.pending inside.waiting inside.past Plus c.args.letter.event.rank ≡ false =
-    ap (λ (s : Sign). holds_letter inside.pending inside.waiting inside.past s c.args.letter.event.rank) (sym sign)
-    ∙ ap (λ (v : HeldProcess _ _ _). holds_letter v.pending v.waiting v.past c.args.letter.sign c.args.letter.event.rank) c.self.view_is
-    ∙ ap (λ (l : Letter _). holds_letter c.args.self.now.pending c.args.self.now.waiting c.args.self.now.past l.sign l.event.rank) (sym c.get.ensures) ∙ sym c.holds.ensures ∙ c.if-holds.false in
-    let dest = c.requires.dest ∙ ap (λ (v : HeldProcess _ _ _). v.lp) (sym c.self.view_is) in
-    let soon = subst (λ (v : HeldProcess _ _ _). TimeBefore c.args.letter.event.rank.key.time v.config.end) (sym c.self.view_is) c.requires.soon in
-    inside-message inside.config inside.lp inside.process.number inside.process.stream inside.past inside.pending inside.waiting c.insert.new.self c.args.letter c.insert.ensures.letters
-    (record { dest = dest; soon = soon; signed = sign }) never c.self.invariant
-
-pub invariant_of-self-in-Minus : goal.invariant_of-self-in-Minus
-invariant_of-self-in-Minus g c =
-    let inside = c.self.inside in
-    let sign : c.args.letter.sign ≡ Minus = ap (λ (l : Letter _). l.sign) (sym c.get.ensures) ∙ c.in-Minus.is in
-    let dest = c.requires.dest ∙ ap (λ (v : HeldProcess _ _ _). v.lp) (sym c.self.view_is) in
-    let soon = subst (λ (v : HeldProcess _ _ _). TimeBefore c.args.letter.event.rank.key.time v.config.end) (sym c.self.view_is) c.requires.soon in
-    inside-anti_message inside.config inside.lp inside.process.number inside.process.stream inside.past inside.pending inside.waiting c.insert-in-Minus.new.self c.args.letter
-    c.insert-in-Minus.ensures.letters (record { dest = dest; soon = soon; signed = sign }) c.self.invariant
+    let held : HeldProcess _ _ _ = record {
+      lp = inside.lp;
+      config = inside.config;
+      triple = triple_at inside.process.state inside.process.number inside.process.stream;
+      past = inside.past;
+      pending = inside.pending;
+      waiting = inside.waiting;
+    } in
+    let stands = subst (λ (v : HeldProcess _ _ _). StandsFor handlers v h) (sym c.self.view_is) s in
+    let x = c.args.letter in
+    let own : c.get.result.now ≡ x = c.get.ensures in
+    let executed : Letter _ → Bool = λ l. list_any (λ (e : PastEvent _ _). rank_same e.letter.event.rank l.event.rank) inside.past in
+    let is_held = λ (sign : Sign). holds_letter inside.pending inside.waiting inside.past sign x.event.rank in
+    let pending = list_any (has_rank x.event.rank) inside.pending in
+    elim c.match-sign.branch [
+      | in-Plus w ↦
+          let sign : x.sign ≡ Plus = ap (λ (l : Letter _). l.sign) (sym own) ∙ w.in-Plus.is in
+          let past : executed x ≡ true = ap executed (sym own) ∙ sym w.has_executed.ensures ∙ w.if-has_executed.true in
+          accept-none handlers held h x (ap is_held sign ∙ in-second pending (executed x) past) stands
+      | in-Plus-2 w ↦
+          let sign : x.sign ≡ Plus = ap (λ (l : Letter _). l.sign) (sym own) ∙ w.in-Plus-2.is in
+          let there = err-is w.insert_new-put.result c.in-Err.letter (sym w.put-is ∙ c.in-Err.is) w.insert_new-put.ensures.held in
+          accept-none handlers held h x (ap is_held sign ∙ in-first pending (executed x) there) stands
+      | in-Minus w ↦
+          let sign : x.sign ≡ Minus = ap (λ (l : Letter _). l.sign) (sym own) ∙ w.in-Minus.is in
+          let there = err-is w.insert_new-put-in-Minus.result c.in-Err.letter (sym w.put-is ∙ c.in-Err.is) w.insert_new-put-in-Minus.ensures.held in
+          accept-none handlers held h x (ap is_held sign ∙ there) stands
+    ]
