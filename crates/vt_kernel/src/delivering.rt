@@ -1,6 +1,6 @@
 //! Letters that reach a process of the worker: those of its own outbox, and those of the mail that has arrived.
 
-ghost use Rattle.std.specs.Prelude.{◌≡◌, ◌%◌, ◌<◌, ◌≤◌, ◌⊎◌, IfOk, IfErr, None, [], false, nat_eq};
+ghost use Rattle.std.specs.Prelude.{◌≡◌, ◌%◌, ◌<◌, ◌≤◌, ◌⊎◌, IfOk, IfErr, None, true, false};
 ghost use Rattle.std.specs.Option.{is_none};
 ghost use Rattle.vt_key.specs.Times.{TimeBefore};
 ghost use Rattle.vt_key.specs.declared.fault.Fault.TheVariants.{NotLawful, Memory};
@@ -19,7 +19,7 @@ use crate::kernel::Kernel;
 use crate::local::enter;
 use std::alloc::Global;
 use vt_key::{Fault, Letter};
-use vt_list::{Parcel, Predicate};
+use vt_list::Predicate;
 use vt_lp::Lp;
 use vt_model::{Config, Model as EventModel};
 
@@ -37,18 +37,17 @@ impl<M: EventModel> Kernel<M> {
             config: self.config,
             worker: self.worker,
         };
-        let Some(letter) = self.outbox.find(&own) else {
+        let mut others = self.outbox.split_off_first(&own);
+        let Some(letter) = others.pop_front() else {
             return Err(Fault::NotLawful);
         };
-        let Letter { event, sign } = *letter;
-        let place = (event.dest / self.config.workers) as usize;
-        if self.processes[place].holds(sign, event.rank) {
-            return Err(Fault::NotLawful);
+        let place = (letter.get().event.dest / self.config.workers) as usize;
+        if let Err((fault, letter)) = self.processes[place].accept(letter) {
+            others.push_front(letter);
+            self.outbox.append(&mut others);
+            return Err(fault);
         }
-        let Some(letter) = self.outbox.remove_first(&own) else {
-            return Err(Fault::NotLawful);
-        };
-        deliver(&mut self.processes[place], letter);
+        self.outbox.append(&mut others);
         enter(
             &mut self.ready,
             &mut self.unready,
@@ -75,14 +74,14 @@ impl<M: EventModel> Kernel<M> {
         };
         let letter = mail.letter;
         let place = (letter.event.dest / self.config.workers) as usize;
-        if self.processes[place].holds(letter.sign, letter.event.rank) {
-            return Err(Fault::NotLawful);
-        }
-        let Ok(parcel) = Parcel::new(alloc, letter) else {
-            return Err(Fault::Memory);
+        let Ok(parcel) = self.spare.letter(alloc, letter) else {
+            return Err(unmade(&self.processes[place], letter));
         };
+        if let Err((fault, parcel)) = self.processes[place].accept(parcel) {
+            self.spare.keep_letter(parcel);
+            return Err(fault);
+        }
         self.arrived.remove(i);
-        deliver(&mut self.processes[place], parcel);
         enter(
             &mut self.ready,
             &mut self.unready,
@@ -94,15 +93,15 @@ impl<M: EventModel> Kernel<M> {
     }
 }
 
-/// A letter reaches its process, which does not hold it already.
-pub(crate) fn deliver<M: EventModel>(process: &mut Lp<M>, letter: Parcel<Letter<M::Payload>>)
-    requires dest { letter.event.dest ≡ process.old.lp }
-    requires soon { TimeBefore letter.event.rank.key.time process.old.config.end }
-    requires new { holds_letter process.old.pending process.old.waiting process.old.past letter.sign letter.event.rank ≡ false }
-    ensures done { (handlers : Handlers _ _ _) (h : LogicalProcess _) → ProcessStandsFor handlers process.old h → ProcessIsDone handlers process.new (accept_process letter h) [] [] 0 0 }
-    ensures same { (process.new.lp ≡ process.old.lp) × (process.new.config ≡ process.old.config) }
+/// Why a letter isn't accepted for which there is no memory: a process that holds it already wouldn't take it anyway.
+fn unmade<M: EventModel>(process: &Lp<M>, letter: Letter<M::Payload>) -> Fault
+    ensures held { holds_letter process.now.pending process.now.waiting process.now.past letter.sign letter.event.rank ≡ true → result ≡ NotLawful }
+    ensures new { holds_letter process.now.pending process.now.waiting process.now.past letter.sign letter.event.rank ≡ false → result ≡ Memory }
 {
-    let _ = process.accept(letter);
+    if process.holds(letter.sign, letter.event.rank) {
+        return Fault::NotLawful;
+    }
+    Fault::Memory
 }
 
 // Passes a letter for a process of this worker.

@@ -7,10 +7,12 @@ use std::alloc::Global;
 use vt_key::Letter;
 use vt_list::{List, Parcel, Stack};
 
-/// Nodes of committed past events and of their letters, to be written anew. What stands in them means nothing.
+/// Nodes of committed past events and of letters that are needed no more, to be written anew. What stands in them means
+/// nothing.
 ///
-/// An event needs a node, and one for each message and each anti-message: as many as a committed one leaves. So who commits now
-/// and then takes little memory anew, and writes where it wrote before. All that is kept is given back when the value is dropped.
+/// An event needs a node, and one for each message and each anti-message: as many as a committed one leaves. A letter that comes
+/// from another worker needs a node, and one that was sent leaves it. So who commits now and then takes little memory anew, and
+/// writes where it wrote before. All that is kept is given back when the value is dropped.
 #[derive(Drop)]
 pub struct Spare<P: Copy, K: Copy> {
     message: Option<Parcel<Letter<P>>>,
@@ -52,7 +54,7 @@ impl<P: Copy, K: Copy> Spare<P, K> {
     }
 
     /// The letter in a node that was kept, or in a new one. Where memory is refused, it is handed back.
-    pub(crate) fn letter(
+    pub fn letter(
         &mut self,
         alloc: Global,
         letter: Letter<P>,
@@ -145,8 +147,8 @@ impl<P: Copy, K: Copy> Spare<P, K> {
         }
     }
 
-    // Keeps the node of a letter.
-    fn keep_letter(&mut self, letter: Parcel<Letter<P>>) {
+    /// Keeps the node of a letter.
+    pub fn keep_letter(&mut self, letter: Parcel<Letter<P>>) {
         if self.message.is_none() {
             self.message = Some(letter);
         } else if self.anti_message.is_none() {
