@@ -19,6 +19,7 @@ use crate::times::earlier;
 use std::mem;
 use vt_key::{Colour, Fault, Letter, Mail, Time};
 use vt_list::List;
+use vt_lp::Spare;
 use vt_model::{Config, Model as EventModel};
 
 impl<M: EventModel> Kernel<M> {
@@ -44,7 +45,14 @@ impl<M: EventModel> Kernel<M> {
         }
         let room = self.sent.room(self.colour);
         let count = make_room(&self.outbox, self.config, v, room, mail)?;
-        let least = move_letters(&mut self.outbox, self.config, v, self.colour, mail);
+        let least = move_letters(
+            &mut self.outbox,
+            &mut self.spare,
+            self.config,
+            v,
+            self.colour,
+            mail,
+        );
         self.sent.raise(self.colour, count);
         self.red_minimum = earlier(self.red_minimum, least);
         Ok(())
@@ -99,9 +107,10 @@ pub(crate) fn count_for<P: Copy>(
 }
 
 /// Moves the letters for processes of worker `v` from the outbox to the back of `mail`, and tells their least time; of none
-/// it is the end of the run. There must be room.
-fn move_letters<P: Copy>(
+/// it is the end of the run. There must be room. Their nodes are kept for other letters.
+fn move_letters<P: Copy, K: Copy>(
     outbox: &mut List<Letter<P>>,
+    spare: &mut Spare<P, K>,
     config: Config,
     v: u32,
     colour: Colour,
@@ -115,8 +124,9 @@ fn move_letters<P: Copy>(
     let mut letters = mem::replace(outbox, List::new(*mail.allocator()));
     let mut least = config.end;
     while let Some(parcel) = letters.pop_front() {
-        if config.owner(parcel.get().event.dest) == v {
-            let letter = parcel.into_value();
+        let letter = *parcel.get();
+        if config.owner(letter.event.dest) == v {
+            spare.keep_letter(parcel);
             least = earlier(least, letter.event.rank.key.time);
             let _ = mail.push(Mail { letter, colour });
         } else {
