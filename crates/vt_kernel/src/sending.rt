@@ -1,6 +1,8 @@
 //! The mail that leaves for another worker.
 
-ghost use Rattle.std.specs.Prelude.{◌≡◌, ◌+◌, ◌<◌, ◌≤◌, ◌⊎◌, ◌++◌, true, not, length, map, filter, vec_len, IfOk, IfErr, IfSome, IfNone};
+ghost use Rattle.std.specs.Prelude.{◌≡◌, ◌%◌, ◌+◌, ◌<◌, ◌≤◌, ◌⊎◌, ◌++◌, true, not, length, map, filter, vec_len, IfOk, IfErr, IfSome, IfNone};
+ghost use Rattle.std.specs.List.{find};
+ghost use Rattle.std.specs.Option.{option_map};
 ghost use Rattle.std.specs.Vec.{vec_capacity};
 ghost use Rattle.vt_key.specs.Times.{earlier};
 ghost use Rattle.vt_key.specs.declared.fault.Fault.TheVariants.{Memory, NotLawful, Exhausted};
@@ -18,7 +20,7 @@ use crate::kernel::Kernel;
 use crate::times::earlier;
 use std::mem;
 use vt_key::{Colour, Fault, Letter, Mail, Time};
-use vt_list::List;
+use vt_list::{List, Predicate};
 use vt_lp::Spare;
 use vt_model::{Config, Model as EventModel};
 
@@ -56,6 +58,21 @@ impl<M: EventModel> Kernel<M> {
         self.sent.raise(self.colour, count);
         self.red_minimum = earlier(self.red_minimum, least);
         Ok(())
+    }
+
+    /// The worker that the first letter of the outbox for a process of another worker is for: there are letters to send to it.
+    /// None where all letters of the outbox are for processes of this worker.
+    pub fn next_receiver(&self) -> Option<u32>
+        ensures { result ≡ option_map (λ letter. letter.event.dest % self.now.config.workers) (find (λ letter. not (is_for_worker self.now.config self.now.worker letter)) self.now.outbox) }
+    {
+        let others = IsForAnother {
+            config: self.config,
+            worker: self.worker,
+        };
+        let Some(letter) = self.outbox.find(&others) else {
+            return None;
+        };
+        Some(self.config.owner(letter.event.dest))
     }
 }
 
@@ -134,4 +151,21 @@ fn move_letters<P: Copy, K: Copy>(
         }
     }
     least
+}
+
+// Passes a letter for a process of another worker than this one.
+#[derive(Drop)]
+struct IsForAnother {
+    config: Config,
+    worker: u32,
+}
+
+impl<P> Predicate<Letter<P>> for IsForAnother {
+    ghost use Rattle.std.specs.Prelude.{nat_eq, not, ◌%◌};
+
+    ghost passes = { λ t letter. not (nat_eq (letter.event.dest % t.config.workers) t.worker) };
+
+    fn test(&self, letter: &Letter<P>) -> bool {
+        self.config.owner(letter.event.dest) != self.worker
+    }
 }
