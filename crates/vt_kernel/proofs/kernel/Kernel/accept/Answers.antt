@@ -123,7 +123,7 @@ invariant_of-self-in-Err g c =
     let less = place-within c.self.invariant letter.event.dest place i.config.some_worker refl own.own own.within.known in
     let old = c.index_mut.result.now in
     let at = index-get i.processes.items place old less (sym c.index_mut.ensures.value) in
-    subst (λ (ps : List (HeldProcess _ _ _)). IsWorkerInside i.config i.worker ps i.outbox i.arrived.items i.sent i.got i.serial i.ready i.unready i.marked.items)
+    subst (λ (ps : List (HeldProcess _ _ _)). IsWorkerInside i.config i.worker ps i.outbox i.arrived.items i.sent i.got i.serial i.ready i.unready i.marked)
     (sym (written-same i.processes.items place old c.accept.new.self at c.in-Err.ensures.kept.2)) c.self.invariant
 
 pub returns-in-Err-clause-refused : goal.returns-in-Err-clause-refused
