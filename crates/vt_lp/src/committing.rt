@@ -67,6 +67,7 @@ impl<M: EventModel> Lp<M> {
     pub fn fossil_into(&mut self, floor: Time, spare: &mut Spare<M::Payload, M::Kept>) -> bool
         ensures committed { (handlers : Handlers _ _ _) (h : LogicalProcess _) → StandsFor handlers self.old h → StandsFor handlers self.new (process_after_commit floor h) }
         ensures same { (self.new.lp ≡ self.old.lp) × (self.new.config ≡ self.old.config) × (self.new.triple ≡ self.old.triple) × (self.new.pending ≡ self.old.pending) × (self.new.waiting ≡ self.old.waiting) }
+        ensures past { self.new.past ≡ unripe_events floor self.old.past }
         ensures unchanged { IsFalse result → self.new ≡ self.old }
     {
         drop_ripe(&mut self.past, spare, floor)
