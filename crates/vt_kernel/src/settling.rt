@@ -1,6 +1,6 @@
 //! Undo and Cancel at one process, as often as one is lawful.
 
-ghost use Rattle.std.specs.Prelude.{◌≡◌};
+ghost use Rattle.std.specs.Prelude.{◌≡◌, IsFalse};
 ghost use Rattle.vt_model.specs.Simulation.{simulation_of};
 ghost use Rattle.vt_steps.specs.World.{LogicalProcess, Part};
 ghost use Rattle.vt_lp.specs.Held.{StandsFor as ProcessStandsFor, AllWithinRun};
@@ -25,34 +25,40 @@ impl<M: EventModel> Kernel<M> {
         let Some(place) = place_of(self.config, self.worker, lp) else {
             return;
         };
-        settle_process(&mut self.processes[place], model, &mut self.outbox);
-        enter(
-            &mut self.ready,
-            &mut self.unready,
-            &mut self.marked,
-            &self.processes,
-            place,
-        );
+        if settle_process(&mut self.processes[place], model, &mut self.outbox) {
+            enter(
+                &mut self.ready,
+                &mut self.unready,
+                &mut self.marked,
+                &self.processes,
+                place,
+            );
+        }
     }
 }
 
-/// Undoes and cancels at one process until neither is lawful. What goes out goes to the back of the outbox.
+/// Undoes and cancels at one process until neither is lawful. What goes out goes to the back of the outbox. It tells whether
+/// anything was undone or cancelled: else all is as it was.
 fn settle_process<M: EventModel>(
     process: &mut Lp<M>,
     model: &M,
     outbox: &mut List<Letter<M::Payload>>,
-)
+) -> bool
     ensures settled { (h : LogicalProcess _) → ProcessStandsFor (M.handlers model.now) process.old h → IsSettledTo (M.handlers model.now) h process.new outbox.old outbox.new }
     ensures within { AllWithinRun process.old.config outbox.old → AllWithinRun process.old.config outbox.new }
     ensures same { (process.new.lp ≡ process.old.lp) × (process.new.config ≡ process.old.config) }
+    ensures unchanged { IsFalse result → (process.new ≡ process.old) × (outbox.new ≡ outbox.old) }
 {
+    let mut changed = false;
     loop {
         if process.undo(model, outbox).is_ok() {
+            changed = true;
             continue;
         }
         let Some(stamp) = process.cancellable() else {
-            return;
+            return changed;
         };
         let _ = process.cancel(stamp);
+        changed = true;
     }
 }

@@ -1,57 +1,67 @@
-use Rattle.std.proofs.Common.{◌∙◌, refl, sym, subst}
+use Rattle.std.proofs.Common.{◌≡◌, ◌∙◌, true, false, refl, sym, subst}
 use Rattle.vt_model.specs.declared.settings.Config.{Config}
 use Rattle.vt_lp.specs.Held.{AllWithinRun}
 use Rattle.vt_lp.specs.Guards.{can_annihilate}
 use Rattle.vt_kernel.proofs.SettlingLemmas.{led-start, led-undone, led-cancelled, led-same, settled-now, in-ok, in-err, kept-err, cannot-err}
 use Rattle.vt_kernel.proofs.settling.settle_process.Goals as goal
 
-pub loop-process-init : goal.loop-process-init
-loop-process-init g c = record {
+pub loop-changed-init : goal.loop-changed-init
+loop-changed-init g c = record {
   led = λ h s. led-start (g.M.Model.handlers c.args.model.now) h c.args.process.now c.args.outbox.now s;
   within = λ w. w;
   lp = refl;
   config = refl;
+  unchanged = λ _. (refl, refl);
 }
 
-pub loop-process-preserved-then-is_ok : goal.loop-process-preserved-then-is_ok
-loop-process-preserved-then-is_ok g c =
+pub loop-changed-preserved-then-is_ok : goal.loop-changed-preserved-then-is_ok
+loop-changed-preserved-then-is_ok g c =
     let handlers = g.M.Model.handlers c.args.model.now in
-    let inv = c.loop-process.invariant in
+    let inv = c.loop-changed.invariant in
     let ok = sym c.is_ok.ensures.value ∙ c.if-is_ok.true in
     let same = c.undo.ensures.same in
     record {
       led = λ h s.
           (let so_far = inv.led h s in
-          led-undone handlers h c.loop-process.process c.undo.new.self c.args.outbox.now c.loop-process.outbox c.undo.new.outbox so_far same.0
+          led-undone handlers h c.loop-changed.process c.undo.new.self c.args.outbox.now c.loop-changed.outbox c.undo.new.outbox so_far same.0
           (in-ok c.undo.result ok (c.undo.ensures.done so_far.effect.process so_far.stands)));
-      within = λ w. subst (λ (k : Config). AllWithinRun k c.loop-process.outbox → AllWithinRun k c.undo.new.outbox) inv.config c.undo.ensures.within (inv.within w);
+      within = λ w. subst (λ (k : Config). AllWithinRun k c.loop-changed.outbox → AllWithinRun k c.undo.new.outbox) inv.config c.undo.ensures.within (inv.within w);
       lp = same.0 ∙ inv.lp;
       config = same.1 ∙ inv.config;
+      unchanged = λ still. absurd (let e : true ≡ false = still in cc);
     }
 
 pub returns-in_default-clause-settled : goal.returns-in_default-clause-settled
 returns-in_default-clause-settled g c h s =
     let handlers = g.M.Model.handlers c.args.model.now in
-    let so_far = c.loop-process.invariant.led h s in
+    let so_far = c.loop-changed.invariant.led h s in
     let err = sym c.is_ok.ensures.value ∙ c.if-is_ok.false in
-    let kept = kept-err c.undo.result c.undo.new.self c.loop-process.process c.undo.new.outbox c.loop-process.outbox err c.undo.ensures.kept in
-    settled-now handlers h c.loop-process.process c.undo.new.self c.args.outbox.now c.loop-process.outbox c.undo.new.outbox so_far kept.0 kept.1
+    let kept = kept-err c.undo.result c.undo.new.self c.loop-changed.process c.undo.new.outbox c.loop-changed.outbox err c.undo.ensures.kept in
+    settled-now handlers h c.loop-changed.process c.undo.new.self c.args.outbox.now c.loop-changed.outbox c.undo.new.outbox so_far kept.0 kept.1
     (in-err c.undo.result err (c.undo.ensures.refused so_far.effect.process so_far.stands)) c.in_default.ensures.none
 
-pub loop-process-preserved : goal.loop-process-preserved
-loop-process-preserved g c =
-    let handlers = g.M.Model.handlers c.args.model.now in
-    let inv = c.loop-process.invariant in
+pub returns-in_default-clause-unchanged : goal.returns-in_default-clause-unchanged
+returns-in_default-clause-unchanged g c still =
     let err = sym c.is_ok.ensures.value ∙ c.if-is_ok.false in
-    let kept = kept-err c.undo.result c.undo.new.self c.loop-process.process c.undo.new.outbox c.loop-process.outbox err c.undo.ensures.kept in
+    let kept = kept-err c.undo.result c.undo.new.self c.loop-changed.process c.undo.new.outbox c.loop-changed.outbox err c.undo.ensures.kept in
+    let before = c.loop-changed.invariant.unchanged still in
+    (kept.0 ∙ before.0, kept.1 ∙ before.1)
+
+pub loop-changed-preserved : goal.loop-changed-preserved
+loop-changed-preserved g c =
+    let handlers = g.M.Model.handlers c.args.model.now in
+    let inv = c.loop-changed.invariant in
+    let err = sym c.is_ok.ensures.value ∙ c.if-is_ok.false in
+    let kept = kept-err c.undo.result c.undo.new.self c.loop-changed.process c.undo.new.outbox c.loop-changed.outbox err c.undo.ensures.kept in
     let ok = cannot-err c.cancel.result (can_annihilate c.in-Some.stamp c.undo.new.self.pending c.undo.new.self.waiting) c.cancel.ensures.unlawful c.in-Some.ensures.lawful in
     let same = c.cancel.ensures.same in
     record {
       led = λ h s.
-          (let so_far = led-same handlers h c.loop-process.process c.undo.new.self c.args.outbox.now c.loop-process.outbox c.undo.new.outbox (inv.led h s) kept.0 kept.1 in
+          (let so_far = led-same handlers h c.loop-changed.process c.undo.new.self c.args.outbox.now c.loop-changed.outbox c.undo.new.outbox (inv.led h s) kept.0 kept.1 in
           led-cancelled handlers c.in-Some.stamp h c.undo.new.self c.cancel.new.self c.args.outbox.now c.undo.new.outbox so_far same.0
           (in-ok c.cancel.result ok (c.cancel.ensures.done handlers so_far.effect.process so_far.stands)));
-      within = λ w. subst (λ (k : Config). AllWithinRun k c.loop-process.outbox → AllWithinRun k c.undo.new.outbox) inv.config c.undo.ensures.within (inv.within w);
+      within = λ w. subst (λ (k : Config). AllWithinRun k c.loop-changed.outbox → AllWithinRun k c.undo.new.outbox) inv.config c.undo.ensures.within (inv.within w);
       lp = same.0 ∙ c.undo.ensures.same.0 ∙ inv.lp;
       config = same.1 ∙ c.undo.ensures.same.1 ∙ inv.config;
+      unchanged = λ still. absurd (let e : true ≡ false = still in cc);
     }

@@ -1,13 +1,14 @@
-use Rattle.std.proofs.Common.{rules, slice_set, sym, subst}
+use Rattle.std.proofs.Common.{rules, List, slice_set, sym, subst}
 use Rattle.vt_model.specs.declared.settings.Config.{Config}
 use Rattle.vt_model.specs.Simulation.{simulation_of}
 use Rattle.vt_steps.specs.World.{Part}
-use Rattle.vt_lp.specs.Held.{AllWithinRun}
-use Rattle.vt_kernel.specs.Held.{HeldWorker, StandsFor, ready_of, unready_of}
+use Rattle.vt_key.specs.declared.letter.Letter.{Letter}
+use Rattle.vt_lp.specs.Held.{HeldProcess, AllWithinRun}
+use Rattle.vt_kernel.specs.Held.{HeldWorker, IsWorkerInside, StandsFor, ready_of, unready_of}
 use Rattle.vt_kernel.specs.Guards.{SettlesTo}
 use Rattle.vt_kernel.proofs.ProcessLemmas.{process-at}
 use Rattle.vt_kernel.proofs.EnteringLemmas.{in-changed, was-entered}
-use Rattle.vt_kernel.proofs.LocalLemmas.{worker_view, index-get, place-within, inside-changed}
+use Rattle.vt_kernel.proofs.LocalLemmas.{worker_view, index-get, place-within, written-same, inside-changed}
 use Rattle.vt_kernel.proofs.SettledWorker.{unknown-settled, settled-worker}
 use Rattle.vt_kernel.proofs.kernel.Kernel.settle.Goals as goal
 
@@ -56,8 +57,8 @@ returns-in_default-clause-settles g c part s =
       s,
     )
 
-pub invariant_of-self : goal.invariant_of-self
-invariant_of-self g c =
+pub invariant_of-self-then-settle_process : goal.invariant_of-self-then-settle_process
+invariant_of-self-then-settle_process g c =
     let i = c.self.inside in
     let own = c.in-Some.ensures.own in
     let less = place-within c.self.invariant c.args.lp c.in-Some.place i.config.some_worker own.0 own.1 own.2 in
@@ -70,8 +71,37 @@ invariant_of-self g c =
     inside-changed c.self.invariant c.in-Some.place old new c.settle_process.new.outbox i.serial c.deref.result.now c.enter.new.ready c.enter.new.unready c.enter.new.marked at same.0 same.1 c.deref.ensures.value
     c.enter.ensures.ready c.enter.ensures.unready c.enter.ensures.marked c.enter.ensures.told (within c.self.invariant.sendable) c.self.invariant.few_made
 
-pub returns-clause-settles : goal.returns-clause-settles
-returns-clause-settles g c part s =
+pub returns-then-settle_process-clause-settles : goal.returns-then-settle_process-clause-settles
+returns-then-settle_process-clause-settles g c part s =
+    let i = c.self.inside in
+    let handlers = g.M.Model.handlers c.args.model.now in
+    let held = worker_view i.worker i.config i.processes.items i.outbox i.arrived.items i.colour i.sent i.got i.red_minimum i.floor i.serial in
+    let own = c.in-Some.ensures.own in
+    let less = place-within c.self.invariant c.args.lp c.in-Some.place i.config.some_worker own.0 own.1 own.2 in
+    let old = c.index_mut.result.now in
+    let new = c.settle_process.new.process in
+    let at = index-get i.processes.items c.in-Some.place old less (sym c.index_mut.ensures.value) in
+    let same = c.settle_process.ensures.same in
+    let h = subst (λ (v : HeldWorker _ _ _). StandsFor handlers v part) (sym c.self.view_is) s in
+    let done = settled-worker handlers held c.self.invariant.own_processes part h c.args.lp c.in-Some.place old new c.settle_process.new.outbox own.0 own.1 at same.0 same.1 c.settle_process.ensures.settled in
+    subst (λ (v : HeldWorker _ _ _). (after : Part _) × SettlesTo (simulation_of handlers v.config) v.worker c.args.lp part after
+    × StandsFor handlers (worker_view i.worker i.config (slice_set i.processes.items c.in-Some.place new) c.settle_process.new.outbox i.arrived.items i.colour i.sent i.got i.red_minimum i.floor i.serial) after)
+    c.self.view_is done
+
+pub invariant_of-self-else-settle_process : goal.invariant_of-self-else-settle_process
+invariant_of-self-else-settle_process g c =
+    let i = c.self.inside in
+    let own = c.in-Some.ensures.own in
+    let less = place-within c.self.invariant c.args.lp c.in-Some.place i.config.some_worker own.0 own.1 own.2 in
+    let old = c.index_mut.result.now in
+    let at = index-get i.processes.items c.in-Some.place old less (sym c.index_mut.ensures.value) in
+    let kept = c.settle_process.ensures.unchanged c.if-settle_process.false in
+    subst (λ (ps : List (HeldProcess _ _ _)). IsWorkerInside i.config i.worker ps c.settle_process.new.outbox i.arrived.items i.sent i.got i.serial i.ready i.unready i.marked)
+    (sym (written-same i.processes.items c.in-Some.place old c.settle_process.new.process at kept.0))
+    (subst (λ (ls : List (Letter _)). IsWorkerInside i.config i.worker i.processes.items ls i.arrived.items i.sent i.got i.serial i.ready i.unready i.marked) (sym kept.1) c.self.invariant)
+
+pub returns-else-settle_process-clause-settles : goal.returns-else-settle_process-clause-settles
+returns-else-settle_process-clause-settles g c part s =
     let i = c.self.inside in
     let handlers = g.M.Model.handlers c.args.model.now in
     let held = worker_view i.worker i.config i.processes.items i.outbox i.arrived.items i.colour i.sent i.got i.red_minimum i.floor i.serial in
