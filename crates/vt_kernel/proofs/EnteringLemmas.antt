@@ -1,13 +1,20 @@
 -- A process that enters a tournament: it was a tournament of the same entries but that of this process.
-use Rattle.std.proofs.Common.{◌≡◌, ◌∙◌, ℕ, ◌<◌, List, [], ◌∷◌, ◌++◌, length, refl, sym, ap, subst, arith, Option, Some, None, slice_get, slice_set, slice_index_or, max, IfSome, IfNone}
+use Rattle.std.proofs.Common.{◌≡◌, ◌∙◌, ◌⊎◌, inl, inr, Bool, true, false, if◌then◌else◌, ℕ, ◌<◌, List, [], ◌∷◌, ◌++◌, length, refl, sym, ap, subst, arith, Option, Some, None, slice_get, slice_set, slice_index_or, max, IfSome, IfNone}
 use Rattle.std.proofs.lemmas.List.{length-map, length-set}
 use Rattle.std.proofs.lemmas.Option.{slice_get_within, get_or_from_slice_get}
 use Rattle.vt_key.specs.declared.order.Rank.{Rank}
 use Rattle.vt_tournament.specs.declared.node.Node.{Node}
 use Rattle.vt_tournament.specs.Contest.{IsTournamentOf, WasTournamentOf}
 use Rattle.vt_lp.specs.Held.{HeldProcess}
+use Rattle.vt_lp.specs.Guards.{ready_rank, lesser_rank, may_come_after}
+use Rattle.vt_lp.specs.Ripe.{is_ripe, unripe_events}
+use Rattle.vt_lp.specs.declared.entry.PastEvent.{PastEvent}
+use Rattle.vt_key.specs.Order.{rank_before}
+use Rattle.vt_key.specs.Times.{Time}
+use Rattle.vt_key.specs.declared.letter.Letter.{Letter}
+use Rattle.std.specs.List.{last_or}
 use Rattle.vt_steps.specs.Letters.{least_time}
-use Rattle.vt_kernel.specs.Held.{entries_of, earliest_of, rank_time, TellsLeast}
+use Rattle.vt_kernel.specs.Held.{entries_of, ready_of, unready_of, other_rank, earliest_of, rank_time, TellsLeast}
 use Rattle.vt_kernel.proofs.ProcessLemmas.{entered-changed, entered-at}
 use Rattle.vt_kernel.proofs.SettlingLemmas.{put-put, put-there}
 
@@ -52,3 +59,62 @@ pub tells-least : {S P K : Type 0} (q : HeldProcess S P K) (least : Option Rank)
     → IfNone least ((q.pending ≡ []) × (q.waiting ≡ [])) → TellsLeast q
 tells-least q None is some none = ap (rank_time q.config.end) (sym is) ∙ (λ j. least_time q.config.end (sym none.0 j ++ sym none.1 j))
 tells-least q (Some rank) is some none = ap (rank_time q.config.end) (sym is) ∙ some
+
+-- ---- a process that forgets past events
+
+-- what is left of past events ends as they did, where anything is
+last-unripe : {P K : Type 0} (floor : Time) (es : List (PastEvent P K)) → (unripe_events floor es ≡ []) ⊎ (last_or None (unripe_events floor es) ≡ last_or None es)
+last-unripe floor [] = inl refl
+last-unripe {P} {K} floor (e ∷ es) = go (is_ripe floor e) es (last-unripe floor es)
+  where
+    go : (b : Bool) (es : List (PastEvent P K)) → (unripe_events floor es ≡ []) ⊎ (last_or None (unripe_events floor es) ≡ last_or None es)
+        → ((if b then unripe_events floor es else e ∷ es) ≡ []) ⊎ (last_or None (if b then unripe_events floor es else e ∷ es) ≡ last_or None (e ∷ es))
+    go false es h = inr refl
+    go true es (inl gone) = inl gone
+    go true [] (inr same) = inl refl
+    go true (x ∷ xs) (inr same) = inr same
+
+-- who is ready has an entry, and who isn't but has a letter has the other one
+may-of : {P : Type 0} (b : Bool) (rank : Rank) (l : Letter P) (w : Option (Letter P)) → other_rank (if b then Some rank else None) (lesser_rank (Some l) w) ≡ None → b ≡ true
+may-of true rank l w e = refl
+may-of false rank l None e = absurd (let k : Some l.event.rank ≡ None = e in cc)
+may-of false rank l (Some x) e = go (rank_before x.event.rank l.event.rank) e
+  where
+    go : (b : Bool) → (if b then Some x.event.rank else Some l.event.rank) ≡ None → false ≡ true
+    go true e = absurd (let k : Some x.event.rank ≡ None = e in cc)
+    go false e = absurd (let k : Some l.event.rank ≡ None = e in cc)
+
+module _ {S P K : Type 0} where
+  -- of one that isn't unready no rank rests on past events that are forgotten
+  pub ready-kept : (floor : Time) (old new : HeldProcess S P K) → new.pending ≡ old.pending → new.past ≡ unripe_events floor old.past → unready_of old ≡ None → ready_of new ≡ ready_of old
+  ready-kept floor old new same is none = (λ j. ready_rank (same j) (is j)) ∙ go old.pending none
+    where
+      go : (ls : List (Letter P)) → other_rank (ready_rank ls old.past) (lesser_rank (slice_get ls 0) (slice_get old.waiting 0)) ≡ None → ready_rank ls (unripe_events floor old.past) ≡ ready_rank ls old.past
+      go [] none = refl
+      go (l ∷ ls) none =
+          let may = may-of (may_come_after (last_or None old.past) l.event.rank) l.event.rank l (slice_get old.waiting 0) none in
+          elim (last-unripe floor old.past) [
+            | inl gone ↦
+                ap (λ (es : List (PastEvent P K)). if may_come_after (last_or None es) l.event.rank then Some l.event.rank else None) gone
+                ∙ sym (ap (λ (b : Bool). if b then Some l.event.rank else None) may)
+            | inr last ↦ ap (λ (o : Option (PastEvent P K)). if may_come_after o l.event.rank then Some l.event.rank else None) last
+          ]
+
+  pub unready-kept : (floor : Time) (old new : HeldProcess S P K) → new.pending ≡ old.pending → new.waiting ≡ old.waiting → new.past ≡ unripe_events floor old.past → unready_of old ≡ None → unready_of new ≡ unready_of old
+  unready-kept floor old new same waits is none = (λ j. other_rank (ready-kept floor old new same is none j) (lesser_rank (slice_get (same j) 0) (slice_get (waits j) 0)))
+
+  -- where nobody is unready, a process isn't
+  pub nobody-unready : (processes : List (HeldProcess S P K)) (place : ℕ) (q : HeldProcess S P K) → ((i : ℕ) (rank : Rank) → slice_get (entries_of unready_of processes) i ≡ Some (Some rank) → ⊥)
+      → slice_get processes place ≡ Some q → unready_of q ≡ None
+  nobody-unready processes place q nobody at = go (unready_of q) (entered-at unready_of processes place q at)
+    where
+      go : (o : Option Rank) → slice_get (entries_of unready_of processes) place ≡ Some o → o ≡ None
+      go None there = refl
+      go (Some rank) there = absurd (nobody place rank there)
+
+  -- a process whose entry stays as it was
+  pub entry-kept : (entry : HeldProcess S P K → Option Rank) (processes : List (HeldProcess S P K)) (place : ℕ) (q new : HeldProcess S P K) (nodes : List Node) → slice_get processes place ≡ Some q → entry new ≡ entry q
+      → IsTournamentOf (entries_of entry processes) nodes → IsTournamentOf (entries_of entry (slice_set processes place new)) nodes
+  entry-kept entry processes place q new nodes at same of =
+      subst (λ es. IsTournamentOf es nodes)
+      (sym (entered-changed entry processes place new (slice_get_within processes place q at) ∙ ap (slice_set (entries_of entry processes) place) same ∙ entered-same entry processes place q at)) of

@@ -52,7 +52,7 @@ impl<M: EventModel> Kernel<M> {
     }
 }
 
-/// Each process that has past events forgets those before the floor, and enters the tournaments anew where there was one.
+/// Each process that has past events forgets those before the floor.
 fn forget_before<M: EventModel>(
     processes: &mut Vec<Lp<M>>,
     ready: &mut Tournament,
@@ -78,7 +78,8 @@ fn forget_before<M: EventModel>(
     }
 }
 
-/// The process at a place forgets its past events before the floor, and enters the tournaments anew where there was one.
+/// The process at a place forgets its past events before the floor, and enters the tournaments anew where that may change its
+/// ranks.
 fn forget_at<M: EventModel>(
     processes: &mut Vec<Lp<M>>,
     ready: &mut Tournament,
@@ -99,6 +100,10 @@ fn forget_at<M: EventModel>(
     ensures marked { AreMarked marked.new processes.new.items }
 {
     if processes[place].fossil_into(floor, spare) {
-        enter(ready, unready, marked, processes, place);
+        // Where nobody is unready, each least pending event comes after the last past one, so no rank rests on a past event.
+        match unready.winner() {
+            Some(_) => enter(ready, unready, marked, processes, place),
+            None => marked.set(place, processes[place].has_past()),
+        }
     }
 }
