@@ -3,5 +3,7 @@ pub mod Firsts
 mod Lending
 mod Links
 mod Owning
+mod Paths
+mod Rows
 mod Splits
 mod Walk

@@ -86,7 +86,7 @@ module _ {X : Type 0} where
   with_next-snoc z (c ∷ d ∷ bs) b = ap (λ l. c ∷ l) (with_next-snoc z (d ∷ bs) b)
 
   -- writing a link moves no node
-  first-with_next : (y z : Option Ptr) (bs : List (NodeAt X)) → first_or y (with_next z bs) ≡ first_or y bs
+  pub first-with_next : (y z : Option Ptr) (bs : List (NodeAt X)) → first_or y (with_next z bs) ≡ first_or y bs
   first-with_next y z [] = refl
   first-with_next y z (b ∷ []) = refl
   first-with_next y z (b ∷ c ∷ bs) = refl
@@ -96,7 +96,7 @@ module _ {X : Type 0} where
   last-with_next a z (b ∷ []) = refl
   last-with_next a z (b ∷ c ∷ bs) = last-with_next (Some b.0) z (c ∷ bs)
 
-  first-with_prev : (y a : Option Ptr) (bs : List (NodeAt X)) → first_or y (with_prev a bs) ≡ first_or y bs
+  pub first-with_prev : (y a : Option Ptr) (bs : List (NodeAt X)) → first_or y (with_prev a bs) ≡ first_or y bs
   first-with_prev y a [] = refl
   first-with_prev y a (b ∷ bs) = refl
 
@@ -118,12 +118,12 @@ module _ {X : Type 0} where
   items-append bs cs = map-append (λ b. b.1.item) bs cs
 
   -- after a link is written, all nodes lead on and back as before, but for that link
-  on-with_next : (y z : Option Ptr) (bs : List (NodeAt X)) → LeadOn bs y → LeadOn (with_next z bs) z
+  pub on-with_next : (y z : Option Ptr) (bs : List (NodeAt X)) → LeadOn bs y → LeadOn (with_next z bs) z
   on-with_next y z [] on = tt
   on-with_next y z (b ∷ []) on = (refl, tt)
   on-with_next y z (b ∷ c ∷ bs) on = (on.0 ∙ sym (first-with_next z z (c ∷ bs)), on-with_next y z (c ∷ bs) on.1)
 
-  on-with_prev : (a z : Option Ptr) (bs : List (NodeAt X)) → LeadOn bs z → LeadOn (with_prev a bs) z
+  pub on-with_prev : (a z : Option Ptr) (bs : List (NodeAt X)) → LeadOn bs z → LeadOn (with_prev a bs) z
   on-with_prev a z [] on = tt
   on-with_prev a z (b ∷ bs) on = on
 
@@ -139,7 +139,7 @@ module _ {X : Type 0} where
   -- ---- joining and parting
 
   -- links of nodes that are joined, and of both parts of nodes that are parted
-  on-append : (z : Option Ptr) (bs cs : List (NodeAt X)) → LeadOn bs (first_or z cs) → LeadOn cs z → LeadOn (bs ++ cs) z
+  pub on-append : (z : Option Ptr) (bs cs : List (NodeAt X)) → LeadOn bs (first_or z cs) → LeadOn cs z → LeadOn (bs ++ cs) z
   on-append z [] cs on more = more
   on-append z (b ∷ bs) cs on more = (on.0 ∙ sym (first-append z bs cs), on-append z bs cs on.1 more)
 

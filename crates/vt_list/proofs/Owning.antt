@@ -88,10 +88,11 @@ module _ {M : Type 1} {𝓤 : Ura M} (𝓛 : Logic 𝓤) (R : RattleType) where
         let later = seen bs index (omega arith) in
         (later.0, later.1, later.2, via 𝓤 _ (snd∗ 𝓤 (sem 𝓛 (Seen b)) (sem 𝓛 (Lent bs))) later.3)
 
-    -- and one to all but the first
-    pub seen-rest : (bs : List (Ptr × R.Denot)) → ent 𝓤 (sem 𝓛 (Lent bs)) (sem 𝓛 (Lent (dropped 1 bs)))
-    seen-rest [] = id⊢ 𝓤 _
-    seen-rest (b ∷ bs) = snd∗ 𝓤 (sem 𝓛 (Seen b)) (sem 𝓛 (Lent bs))
+    -- and one to all but the first n
+    pub seen-drop : (n : ℕ) (bs : List (Ptr × R.Denot)) → ent 𝓤 (sem 𝓛 (Lent bs)) (sem 𝓛 (Lent (dropped n bs)))
+    seen-drop zero bs = id⊢ 𝓤 _
+    seen-drop (suc n) [] = id⊢ 𝓤 _
+    seen-drop (suc n) (b ∷ bs) = via 𝓤 _ (snd∗ 𝓤 (sem 𝓛 (Seen b)) (sem 𝓛 (Lent bs))) (seen-drop n bs)
 
     -- and one to the first n
     pub seen-take : (n : ℕ) (bs : List (Ptr × R.Denot)) → ent 𝓤 (sem 𝓛 (Lent bs)) (sem 𝓛 (Lent (take n bs)))

@@ -1,4 +1,4 @@
--- Nodes that are linked both ways. These words are for the proof that the links are right, and no public clause has them.
+-- Nodes that are linked, both ways or one way. These words are for the proof that the links are right, and no public clause has them.
 use Rattle.std.specs.Prelude.{◌≡◌, List, [], ◌∷◌, ◌++◌, map, Option, Some, None}
 use denote.RawPtr.{Ptr}
 use Rattle.vt_list.specs.declared.node.Node.{Node}
@@ -60,3 +60,15 @@ module _ {X : Type 0} where
     pub chain : IsChain head tail (passed ++ ahead)
     pub last_is : last ≡ last_or None passed
     pub next_is : next ≡ first_or None ahead
+
+  -- the nodes lead on one way from head to last, and the last one to `next`, where what follows begins
+  pub record IsBeginning (head last next : Option Ptr) (bs : List (NodeAt X)) : Type 0 where
+    pub head_is : head ≡ first_or next bs
+    pub last_is : last ≡ last_or None bs
+    pub on : LeadOn bs next
+
+  -- the nodes of a trail, of which some were passed and the others are ahead
+  pub record IsPath (head last next : Option Ptr) (passed ahead : List (NodeAt X)) : Type 0 where
+    pub begun : IsBeginning head last next passed
+    pub next_is : next ≡ first_or None ahead
+    pub on : LeadOn ahead None

@@ -1,6 +1,6 @@
 //! Blocks of memory that are owned, apart from the pointers that lead to them.
 
-ghost use Rattle.std.specs.Prelude.{◌≡◌, ℕ, ◌-◌, ◌<◌, List, [], ◌∷◌, ◌++◌, take, drop, length, slice_index_or};
+ghost use Rattle.std.specs.Prelude.{◌≡◌, ℕ, ◌<◌, List, [], ◌∷◌, ◌++◌, take, drop, length, slice_index_or};
 ghost use denote.RawPtr.{Ptr};
 ghost use Rattle.vt_list.specs.Blocks.{blocks_owned, blocks_lent, places, contents, place_at};
 ghost use Rattle.vt_list.specs.Place.{IsSomewhere};
@@ -65,16 +65,18 @@ impl<N> Blocks<N> {
         unsafe { &*at }
     }
 
-    /// All but the first, for as long as the blocks are lent.
+    /// All but the first `count`, for as long as the blocks are lent.
     pub(crate) fn rest(&self) -> &Blocks<N>
-        ensures { result.now.owned ≡ drop 1 self.now.owned }
+        ghost count: { ℕ }
+        ensures { result.now.owned ≡ drop count self.now.owned }
     {
         self
     }
 
-    /// All but the last, for as long as the blocks are lent.
+    /// The first `count`, for as long as the blocks are lent.
     pub(crate) fn front(&self) -> &Blocks<N>
-        ensures { result.now.owned ≡ take (length self.now.owned - 1) self.now.owned }
+        ghost count: { ℕ }
+        ensures { result.now.owned ≡ take count self.now.owned }
     {
         self
     }

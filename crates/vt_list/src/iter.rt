@@ -1,13 +1,17 @@
 //! Going over the items of a list.
 
-ghost use Rattle.std.specs.Prelude.{◌≡◌, length, reverse};
+ghost use Rattle.std.specs.Prelude.{◌≡◌, find, length, reverse, slice_get};
 ghost use Rattle.std.specs.Iterator.{at_most};
+ghost use Rattle.std.specs.Option.{option_copied};
 ghost use Rattle.std_collections.specs.Map.Iter.{TakesFirst, deref};
 
 use crate::blocks::Blocks;
 use crate::chain::Chain;
 use crate::link::Link;
 use crate::node::Node;
+use crate::predicate::Predicate;
+use crate::row::Row;
+use crate::trail::Trail;
 use std::marker::Model;
 
 /// Goes over the items of a list from the front. A clause sees the items that are left.
@@ -36,6 +40,37 @@ impl<'a, T> Iter<'a, T> {
             next: chain.head,
             left: &chain.nodes,
         }
+    }
+
+    pub(crate) fn along(trail: &'a Trail<T>) -> Iter<'a, T>
+        ensures { result ≡ trail.now }
+    {
+        Iter {
+            next: trail.head,
+            left: &trail.nodes,
+        }
+    }
+
+    /// The next item. It stays among those that are left.
+    pub fn peek(&self) -> Option<&'a T>
+        ensures { option_copied result ≡ slice_get self.now 0 }
+    {
+        let Some(at) = self.next.place() else {
+            return None;
+        };
+        Some(&self.left.get(at).item)
+    }
+
+    /// The first of the items left that passes the test.
+    pub fn first_passing<P: Predicate<T>>(self, test: &P) -> Option<&'a T>
+        ensures { option_copied result ≡ find (P.passes test.now) self.entry }
+    {
+        for item in self {
+            if test.test(item) {
+                return Some(item);
+            }
+        }
+        None
     }
 }
 
@@ -97,5 +132,54 @@ impl<'a, T> Iterator for IterBack<'a, T> {
         self.next = node.prev;
         self.left = self.left.front();
         Some(&node.item)
+    }
+}
+
+/// Goes over the lists of a row, each as an iterator over its items. A clause sees the lists that are left.
+#[derive(Drop)]
+pub struct IterLines<'a, T> {
+    next: Link,
+    left: &'a Blocks<Node<T>>,
+}
+
+impl<'a, T> Model for IterLines<'a, T> {
+    ghost use Rattle.std.specs.Prelude.{◌≡◌, List, None, map};
+    ghost use Rattle.vt_list.specs.Linked.{first_or, items};
+    ghost use Rattle.vt_list.specs.Lines.{lines_of, StandInRow};
+
+    ghost Value = { List (List T) };
+
+    ghost view = { λ i. map items (lines_of i.left.now.owned) };
+
+    ghost invariant = { λ i. (i.next ≡ first_or None i.left.now.owned) × StandInRow (lines_of i.left.now.owned) };
+}
+
+impl<'a, T> IterLines<'a, T> {
+    pub(crate) fn over(row: &'a Row<T>) -> IterLines<'a, T>
+        ensures { result ≡ row.now }
+    {
+        IterLines {
+            next: row.head,
+            left: &row.nodes,
+        }
+    }
+}
+
+impl<'a, T> Iterator for IterLines<'a, T> {
+    type Item = Iter<'a, T>;
+
+    ghost next_gives = { TakesFirst (λ line. line) };
+
+    ghost remaining = { λ s. at_most (length s) };
+
+    fn next(&mut self) -> Option<Iter<'a, T>> {
+        let at = self.next.place()?;
+        let line = Iter {
+            next: self.next,
+            left: self.left.front(),
+        };
+        self.next = self.left.get(at).prev;
+        self.left = self.left.rest();
+        Some(line)
     }
 }

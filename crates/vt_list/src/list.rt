@@ -200,12 +200,7 @@ impl<T> List<T> {
     pub fn find<P: Predicate<T>>(&self, test: &P) -> Option<&T>
         ensures { option_copied result ≡ find (P.passes test.now) self.now }
     {
-        for item in self.iter() {
-            if test.test(item) {
-                return Some(item);
-            }
-        }
-        None
+        self.iter().first_passing(test)
     }
 
     /// The last item that passes the test. It walks there from the back.
@@ -237,7 +232,7 @@ impl<T: Drop + Ranked> List<T> {
 
 // Passes what has a greater rank.
 #[derive(Drop)]
-struct RankedAfter(Rank);
+pub(crate) struct RankedAfter(pub(crate) Rank);
 
 impl<T: Ranked> Predicate<T> for RankedAfter {
     ghost use Rattle.vt_key.specs.Order.{rank_before};

@@ -6,9 +6,9 @@ use std::test::*;
 use vt_key::{Event, Key, Rank, Ranked, Stamp};
 
 // A number that counts its own drops.
-struct Counted {
-    number: u32,
-    drops: Rc<Cell<u32>>,
+pub(crate) struct Counted {
+    pub(crate) number: u32,
+    pub(crate) drops: Rc<Cell<u32>>,
 }
 
 impl Drop for Counted {
@@ -20,7 +20,7 @@ impl Drop for Counted {
 }
 
 // Passes one number.
-struct Is(u32);
+pub(crate) struct Is(pub(crate) u32);
 
 impl Predicate<u32> for Is {
     ghost use Rattle.std.specs.Prelude.{◌==◌};
@@ -45,14 +45,14 @@ impl Predicate<u32> for Below {
     }
 }
 
-fn parcel<T: Drop>(rt: &HostRuntime, item: T) -> Result<Parcel<T>, Fail> {
+pub(crate) fn parcel<T: Drop>(rt: &HostRuntime, item: T) -> Result<Parcel<T>, Fail> {
     match Parcel::new(rt.alloc(), item) {
         Ok(parcel) => Ok(parcel),
         Err(_item) => Err(Fail::from(AllocError)),
     }
 }
 
-fn numbers(rt: &HostRuntime, from: u32, to: u32) -> Result<List<u32>, Fail> {
+pub(crate) fn numbers(rt: &HostRuntime, from: u32, to: u32) -> Result<List<u32>, Fail> {
     let mut list = List::new(rt.alloc());
     for number in from..to {
         list.push_back(parcel(rt, number)?);
@@ -65,7 +65,7 @@ fn is_made_of(list: &List<u32>, wanted: &[u32]) -> bool {
     wanted.iter().all(|want| items.next() == Some(want)) && items.next().is_none()
 }
 
-fn event(time: u64, serial: u64, payload: u32) -> Event<u32> {
+pub(crate) fn event(time: u64, serial: u64, payload: u32) -> Event<u32> {
     let key = Key {
         time,
         source: 0,

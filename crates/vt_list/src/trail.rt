@@ -1,6 +1,6 @@
 //! Nodes that are linked one way.
 
-ghost use Rattle.std.specs.Prelude.{◌≡◌, [], ◌∷◌, slice_get, MatchOption};
+ghost use Rattle.std.specs.Prelude.{◌≡◌, ◌↔◌, [], ◌∷◌, slice_get, MatchOption, IsTrue};
 ghost use Rattle.std.specs.Option.{option_copied};
 
 use crate::blocks::Blocks;
@@ -15,8 +15,8 @@ use std::mem::replace;
 ///
 /// It is not `Drop`, so code that loses a node is refused.
 pub(crate) struct Trail<T> {
-    head: Link,
-    nodes: Blocks<Node<T>>,
+    pub(crate) head: Link,
+    pub(crate) nodes: Blocks<Node<T>>,
 }
 
 impl<T> Model for Trail<T> {
@@ -47,6 +47,13 @@ impl<T> Trail<T> {
     {
         let Trail { head: _, nodes } = self;
         nodes.end();
+    }
+
+    /// Whether there is no node.
+    pub(crate) fn is_empty(&self) -> bool
+        ensures { IsTrue result ↔ (self.now ≡ []) }
+    {
+        self.head.is_none()
     }
 
     /// Takes all nodes out.

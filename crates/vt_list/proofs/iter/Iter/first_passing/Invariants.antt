@@ -1,5 +1,5 @@
 use Rattle.std.proofs.Common.{◌≡◌, find}
-use Rattle.vt_list.proofs.list.List.find.Given as goal
+use Rattle.vt_list.proofs.iter.Iter.first_passing.Given as goal
 
 abbrev pub invariant-loop-item : goal.invariant-loop-item
 invariant-loop-item g l =

@@ -1,0 +1,29 @@
+use Rattle.std.proofs.Common.{find, ap, sym, ◌∙◌}
+use Rattle.std.specs.Option.{option_map}
+use Rattle.vt_list.specs.First.{without_first}
+use Rattle.vt_list.proofs.Firsts.{taken-first}
+use Rattle.vt_list.proofs.line.Line.remove_first.Goals as goal
+
+pub returns-in_err-node-clause-item : goal.returns-in_err-node-clause-item
+returns-in_err-node-clause-item g c =
+    let test = g.P.Predicate.passes c.args.test.now in let parts = c.part_at_first-before in let off = c.split_first-found in
+    let found = taken-first test (λ n. n.value.item) c.take.result parts.result.0 parts.result.1 off.result.1 off.result.0 parts.ensures.before parts.ensures.from off.ensures in
+    c.from_residual.ensures ∙ ap (option_map (λ n. n.value.item)) (sym c.in_err-node.was) ∙ found.0 ∙ ap (find test) (c.take.ensures.0 ∙ c.self.view_is)
+
+pub returns-in_err-node-clause-others : goal.returns-in_err-node-clause-others
+returns-in_err-node-clause-others g c =
+    let test = g.P.Predicate.passes c.args.test.now in let parts = c.part_at_first-before in let off = c.split_first-found in
+    let found = taken-first test (λ n. n.value.item) c.take.result parts.result.0 parts.result.1 off.result.1 off.result.0 parts.ensures.before parts.ensures.from off.ensures in
+    c.put.ensures ∙ c.join.ensures ∙ found.1 ∙ ap (without_first test) (c.take.ensures.0 ∙ c.self.view_is)
+
+pub returns-clause-item : goal.returns-clause-item
+returns-clause-item g c =
+    let test = g.P.Predicate.passes c.args.test.now in let parts = c.part_at_first-before in let off = c.split_first-found in
+    let found = taken-first test (λ n. n.value.item) c.take.result parts.result.0 parts.result.1 off.result.1 off.result.0 parts.ensures.before parts.ensures.from off.ensures in
+    ap (option_map (λ n. n.value.item)) (sym c.in_ok-node.was) ∙ found.0 ∙ ap (find test) (c.take.ensures.0 ∙ c.self.view_is)
+
+pub returns-clause-others : goal.returns-clause-others
+returns-clause-others g c =
+    let test = g.P.Predicate.passes c.args.test.now in let parts = c.part_at_first-before in let off = c.split_first-found in
+    let found = taken-first test (λ n. n.value.item) c.take.result parts.result.0 parts.result.1 off.result.1 off.result.0 parts.ensures.before parts.ensures.from off.ensures in
+    c.put.ensures ∙ c.join.ensures ∙ found.1 ∙ ap (without_first test) (c.take.ensures.0 ∙ c.self.view_is)

@@ -1,0 +1,139 @@
+//! Lists that are linked one way.
+
+ghost use Rattle.std.specs.Prelude.{◌≡◌, ◌↔◌, [], ◌∷◌, slice_get, find, MatchOption, IsTrue};
+ghost use Rattle.std.specs.Option.{option_copied};
+ghost use Rattle.vt_list.specs.First.{without_first};
+ghost use Rattle.vt_list.specs.Ordered.{insert_ordered};
+
+use crate::iter::Iter;
+use crate::list::RankedAfter;
+use crate::parcel::Parcel;
+use crate::path::part_at_first;
+use crate::predicate::Predicate;
+use crate::trail::Trail;
+use std::alloc::Global;
+use std::marker::Model;
+use vt_key::Ranked;
+
+/// A list of items that is linked one way, in one word. A clause sees the list of the items.
+///
+/// Its parcels are those of a [`List`](crate::List). A walk reads one link of each node that it passes, and a call writes
+/// two nodes at most: the one that is put in or taken out, and the one before it.
+///
+/// No call of it takes memory. When it is dropped it drops each item once and frees each node, in a loop and not by
+/// recursion.
+pub struct Line<T> {
+    pub(crate) alloc: Global,
+    pub(crate) trail: Trail<T>,
+}
+
+impl<T> Model for Line<T> {
+    ghost use Rattle.std.specs.Prelude.{List};
+
+    ghost Value = { List T };
+
+    ghost view = { λ l. l.trail };
+}
+
+impl<T: Drop> Drop for Line<T> {
+    fn drop(mut self) {
+        while let Some(parcel) = self.pop_front() {
+            drop(parcel);
+        }
+        let Line { alloc: _, trail } = self;
+        trail.end();
+    }
+}
+
+impl<T: Drop> Line<T> {
+    /// An empty list.
+    pub fn new(alloc: Global) -> Line<T>
+        ensures { result ≡ [] }
+    {
+        Line {
+            alloc,
+            trail: Trail::new(),
+        }
+    }
+
+    /// The nodes.
+    pub(crate) fn into_trail(self) -> Trail<T>
+        ensures { result ≡ self }
+    {
+        let Line { alloc: _, trail } = self;
+        trail
+    }
+
+    /// Puts the item before all others. It writes the item's node alone.
+    pub fn push_front(&mut self, parcel: Parcel<T>)
+        ensures { self.new ≡ parcel ∷ self.old }
+    {
+        let trail = self.trail.take();
+        self.trail.put(trail.with_first(parcel.into_node()));
+    }
+
+    /// Takes out the first item. It reads that item's node alone.
+    pub fn pop_front(&mut self) -> Option<Parcel<T>>
+        ensures { MatchOption result ((self.old ≡ []) × (self.new ≡ [])) (λ p. self.old ≡ p ∷ self.new) }
+    {
+        let (first, others) = self.trail.take().split_first(self.alloc);
+        self.trail.put(others);
+        let node = first?;
+        Some(Parcel { node })
+    }
+
+    /// Takes out the first item that passes the test. It walks there from the front.
+    pub fn remove_first<P: Predicate<T>>(&mut self, test: &P) -> Option<Parcel<T>>
+        ensures item { result ≡ find (P.passes test.now) self.old }
+        ensures others { self.new ≡ without_first (P.passes test.now) self.old }
+    {
+        let (before, from) = part_at_first(self.trail.take(), test);
+        let (found, after) = from.split_first(self.alloc);
+        self.trail.put(before.join(after));
+        let node = found?;
+        Some(Parcel { node })
+    }
+}
+
+impl<T> Line<T> {
+    /// Whether there is no item.
+    pub fn is_empty(&self) -> bool
+        ensures { IsTrue result ↔ (self.now ≡ []) }
+    {
+        self.trail.is_empty()
+    }
+
+    /// The first item.
+    pub fn front(&self) -> Option<&T>
+        ensures { option_copied result ≡ slice_get self.now 0 }
+    {
+        self.trail.first()
+    }
+
+    /// Goes over the items from the front.
+    pub fn iter(&self) -> Iter<'_, T>
+        ensures { result ≡ self.now }
+    {
+        Iter::along(&self.trail)
+    }
+
+    /// The first item that passes the test.
+    pub fn find<P: Predicate<T>>(&self, test: &P) -> Option<&T>
+        ensures { option_copied result ≡ find (P.passes test.now) self.now }
+    {
+        self.iter().first_passing(test)
+    }
+}
+
+impl<T: Drop + Ranked> Line<T> {
+    /// Puts the item before the first one of greater rank, or behind all where there is none. It walks there from the
+    /// front.
+    pub fn insert_ordered(&mut self, parcel: Parcel<T>)
+        ensures { self.new ≡ insert_ordered T.rank_of parcel self.old }
+    {
+        let later = RankedAfter(parcel.get().rank());
+        let (before, after) = part_at_first(self.trail.take(), &later);
+        self.trail
+            .put(before.join(after.with_first(parcel.into_node())));
+    }
+}

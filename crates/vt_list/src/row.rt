@@ -1,0 +1,126 @@
+//! Trails that stand in a row.
+
+ghost use Rattle.std.specs.Prelude.{◌≡◌, ◌≢◌, ◌↔◌, [], ◌∷◌, MatchOption, IfNone, IfSome, IsTrue};
+ghost use Rattle.std.specs.Option.{option_copied};
+ghost use Rattle.vt_list.specs.Lines.{first_item};
+
+use crate::blocks::Blocks;
+use crate::link::Link;
+use crate::node::{Node, set_first_prev};
+use crate::trail::Trail;
+use std::marker::Model;
+use std::mem::replace;
+
+/// Trails that stand in a row, none of them empty, with where the first node of the first one lies. A clause sees the list
+/// of the lists of their items.
+///
+/// A trail has no use for the links back of its nodes. So that of its first node leads to the first node of the next trail.
+///
+/// It is not `Drop`, so code that loses a node is refused.
+pub(crate) struct Row<T> {
+    pub(crate) head: Link,
+    pub(crate) nodes: Blocks<Node<T>>,
+}
+
+impl<T> Model for Row<T> {
+    ghost use Rattle.std.specs.Prelude.{◌≡◌, List, None, map};
+    ghost use Rattle.vt_list.specs.Linked.{first_or, items};
+    ghost use Rattle.vt_list.specs.Lines.{lines_of, StandInRow};
+
+    ghost Value = { List (List T) };
+
+    ghost view = { λ r. map items (lines_of r.nodes.owned) };
+
+    ghost invariant = { λ r. (r.head ≡ first_or None r.nodes.owned) × StandInRow (lines_of r.nodes.owned) };
+}
+
+impl<T> Row<T> {
+    /// No trail.
+    pub(crate) fn new() -> Row<T>
+        ensures { result ≡ [] }
+    {
+        Row {
+            head: Link::none(),
+            nodes: Blocks::none(),
+        }
+    }
+
+    /// Lets go of no trail.
+    pub(crate) fn end(self)
+        requires { self ≡ [] }
+    {
+        let Row { head: _, nodes } = self;
+        nodes.end();
+    }
+
+    /// Whether there is no trail.
+    pub(crate) fn is_empty(&self) -> bool
+        ensures { IsTrue result ↔ (self.now ≡ []) }
+    {
+        self.head.is_none()
+    }
+
+    /// Takes all trails out.
+    pub(crate) fn take(&mut self) -> Row<T>
+        ensures { (result ≡ self.old) × (self.new ≡ []) }
+    {
+        replace(self, Row::new())
+    }
+
+    /// Puts trails in where there are none.
+    pub(crate) fn put(&mut self, row: Row<T>)
+        requires { self.old ≡ [] }
+        ensures { self.new ≡ row }
+    {
+        replace(self, row).end();
+    }
+
+    /// The first item of the first trail.
+    pub(crate) fn first(&self) -> Option<&T>
+        ensures item { option_copied result ≡ first_item self.now }
+        ensures some { IfNone result (self.now ≡ []) }
+    {
+        let Some(head) = self.head.place() else {
+            return None;
+        };
+        Some(&self.nodes.get(head).item)
+    }
+
+    /// The first trail, and the others. Its first node is read, and no node is written.
+    pub(crate) fn split_first(self) -> (Option<Trail<T>>, Row<T>)
+        ensures parts { MatchOption result.0 ((self ≡ []) × (result.1 ≡ [])) (λ trail. self ≡ trail ∷ result.1) }
+        ensures filled { IfSome result.0 (λ trail. trail ≢ []) }
+    {
+        let Row { head, nodes } = self;
+        let Some(at) = head.place() else {
+            return (None, Row { head, nodes });
+        };
+        let next = nodes.get(at).prev;
+        let (line, others) = nodes.split();
+        let first = Trail { head, nodes: line };
+        let rest = Row {
+            head: next,
+            nodes: others,
+        };
+        (Some(first), rest)
+    }
+
+    /// The trail, and the others behind it. Its first node alone is written.
+    pub(crate) fn with_first(self, trail: Trail<T>) -> Row<T>
+        requires { trail ≢ [] }
+        ensures { result ≡ trail ∷ self }
+    {
+        let Row { head, nodes } = self;
+        let Trail {
+            head: first,
+            nodes: line,
+        } = trail;
+        let Some(at) = first.place() else {
+            unreachable!();
+        };
+        Row {
+            head: first,
+            nodes: set_first_prev(line, at, head).append(nodes),
+        }
+    }
+}
