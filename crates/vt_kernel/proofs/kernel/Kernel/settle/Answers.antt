@@ -57,8 +57,8 @@ returns-in_default-clause-settles g c part s =
       s,
     )
 
-pub invariant_of-self-then-settle_process : goal.invariant_of-self-then-settle_process
-invariant_of-self-then-settle_process g c =
+pub invariant_of-self : goal.invariant_of-self-then-settle_process
+invariant_of-self g c =
     let i = c.self.inside in
     let own = c.in-Some.ensures.own in
     let less = place-within c.self.invariant c.args.lp c.in-Some.place i.config.some_worker own.0 own.1 own.2 in
