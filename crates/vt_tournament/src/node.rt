@@ -48,7 +48,7 @@ impl Node {
     }
 
     /// Whether this one is ahead of the other: by rank, and with equal ranks by number. Nobody comes last. Whole ranks are
-    /// seldom asked for, so that branch is foretold rightly; the others would not be, and are reckoned.
+    /// asked for where two begin alike, which is seldom.
     pub(crate) fn is_ahead<C: Contestants>(self, other: Node, contestants: &C) -> bool
         requires few { length (C.entries contestants.now) ≤ 2 ^ 31 }
         requires fits { self ≡ node_of (contestant (C.entries contestants.now) self.number) }
