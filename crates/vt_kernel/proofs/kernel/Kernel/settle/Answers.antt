@@ -57,7 +57,7 @@ returns-in_default-clause-settles g c part s =
       s,
     )
 
-pub invariant_of-self : goal.invariant_of-self-then-settle_process
+pub invariant_of-self : goal.invariant_of-self
 invariant_of-self g c =
     let i = c.self.inside in
     let own = c.in-Some.ensures.own in
