@@ -383,7 +383,18 @@ fn other_lines_are_no_command_lines(rt: HostRuntime) -> Result<(), Fail> {
     Ok(())
 }
 
-/// Asserts that these options stand in the help of a subcommand, and in that of the program in short.
+/// The first line of a text that has this part, or nothing.
+fn line_with<'a>(text: &'a str, part: &str) -> &'a str {
+    for line in text.split('\n') {
+        if line.contains(part) {
+            return line;
+        }
+    }
+    ""
+}
+
+/// Asserts that these options stand in the help of a subcommand, each with its own range and default, and in that of the program in
+/// short.
 fn expect_help(
     rt: &(impl Abort + AllocGlobal),
     subcommand: &str,
@@ -396,12 +407,13 @@ fn expect_help(
         let [least, most] = range.ends;
         let in_short = format!(in alloc; "--{} {least}..{most} [{}]", range.name, range.default)?;
         assert!(rt; short.contains(in_short.as_str()), "{in_short}");
+        let option = format!(in alloc; "--{} <N> ", range.name)?;
+        let line = line_with(long.as_str(), option.as_str());
         for part in [
-            format!(in alloc; "--{} <N>", range.name)?,
-            format!(in alloc; "{least} to {most}")?,
+            format!(in alloc; " {least} to {most}")?,
             format!(in alloc; "[default: {}]", range.default)?,
         ] {
-            assert!(rt; long.contains(part.as_str()), "{subcommand} {part}");
+            assert!(rt; line.contains(part.as_str()), "{subcommand} {option} {part}");
         }
     }
     assert!(rt; help_of(alloc, &["twarp", "help", subcommand]).as_str() == long.as_str());

@@ -64,6 +64,32 @@ fn no_round_follows_the_last_one_that_can_be_counted(rt: HostRuntime) {
 }
 
 #[test]
+fn no_round_is_opened_where_all_are_counted(rt: HostRuntime) {
+    let mut board = Board::with_rounds(2, 10, MAX_COUNT);
+    cuts(&rt, &mut board, 0, Err(Fault::Exhausted));
+    cuts(&rt, &mut board, 1, Err(Fault::Exhausted));
+    cuts(&rt, &mut board, 2, Err(Fault::NotLawful));
+    reports(&rt, &mut board, 0, (0, 0, 10), NOT_LAWFUL);
+    announces(&rt, &board, 0);
+}
+
+#[test]
+fn nobody_reports_in_a_second_round_before_all_have_cut(rt: HostRuntime) {
+    let mut board = Board::new(2, 10);
+    cuts(&rt, &mut board, 0, Ok(0));
+    cuts(&rt, &mut board, 1, Ok(0));
+    reports(&rt, &mut board, 0, (0, 0, 3), Ok(Report::Waiting));
+    reports(&rt, &mut board, 1, (0, 0, 5), Ok(Report::Announced(3)));
+    cuts(&rt, &mut board, 0, Ok(3));
+    // Worker 1 has cut in the first round alone.
+    reports(&rt, &mut board, 1, (0, 0, 5), NOT_LAWFUL);
+    reports(&rt, &mut board, 0, (0, 0, 4), NOT_LAWFUL);
+    cuts(&rt, &mut board, 1, Ok(3));
+    reports(&rt, &mut board, 1, (0, 0, 5), Ok(Report::Waiting));
+    reports(&rt, &mut board, 0, (0, 0, 4), Ok(Report::Announced(4)));
+}
+
+#[test]
 fn sums_do_not_wrap_at_64_bits(rt: HostRuntime) {
     let mut board = Board::new(2, 10);
     cuts(&rt, &mut board, 0, Ok(0));

@@ -120,6 +120,23 @@ fn hostile_hand_ins_are_refused(rt: HostRuntime) {
 }
 
 #[test]
+fn rows_come_in_any_order_from_the_hand_in_floor_on(rt: HostRuntime) {
+    let mut book = Book::new(rt.alloc(), 1, 10);
+    let [early, middle, late] = [row(1, 0, 0), row(3, 0, 1), row(3, 0, 2)];
+    hands(&rt, &mut book, 0, &[], 1, Ok(()));
+    // Unsorted, and one at the floor up to which the worker has handed in.
+    hands(&rt, &mut book, 0, &[late, early, middle], 4, Ok(()));
+    shows(&rt, &book, &[early, middle, late]);
+    // The same rows once more are below that floor now; nothing at all, at the same floor, is lawful.
+    let again = &[late, early, middle];
+    hands(&rt, &mut book, 0, again, 4, Err(Fault::NotLawful));
+    hands(&rt, &mut book, 0, again, 5, Err(Fault::NotLawful));
+    hands(&rt, &mut book, 0, &[], 4, Ok(()));
+    has_floor(&rt, &book, 4);
+    shows(&rt, &book, &[early, middle, late]);
+}
+
+#[test]
 fn batches_are_refused_as_rows_are(rt: HostRuntime) {
     let mut book = Book::new(rt.alloc(), 2, 10);
     let [early, middle, late] = [row(1, 0, 0), row(4, 0, 1), row(9, 0, 2)];
