@@ -79,7 +79,7 @@ pub(crate) fn straggler() -> (&'static str, &'static str) {
     (STRAGGLER, STRAGGLER_REPLIES)
 }
 
-pub(crate) static CASES: [Case; 21] = [
+pub(crate) static CASES: [Case; 23] = [
     Case {
         name: "a straggler at equal time",
         options: "--hops 1 --delay 1 --workers 2",
@@ -549,6 +549,60 @@ execute 0
 announced 0
 floor 0
 least 1
+records 0
+",
+    },
+    Case {
+        name: "the last serial but one",
+        options: "--lps 1 --hops 2 --stride 0 --delay 1 --serial 9223372036854775806",
+        begins: 0,
+        steps: "\
+home 0
+execute 0
+home 0
+execute 0
+",
+        replies: "\
+1 ok
+2 ok
+3 ok
+4 refused 5
+",
+        shown: "\
+announced 0
+floor 0
+least 2
+records 0
+",
+    },
+    Case {
+        name: "the last serial but one of two workers",
+        options: "--hops 2 --stride 0 --delay 1 --workers 2 --serial 9223372036854775806",
+        begins: 0,
+        steps: "\
+home 0
+home 1
+execute 0
+execute 1
+home 0
+home 1
+execute 0
+execute 1
+",
+        replies: "\
+1 ok
+2 ok
+3 ok
+4 ok
+5 ok
+6 ok
+7 refused 5
+8 refused 5
+",
+        shown: "\
+announced 0
+floor 0
+least 2
 records 0
 ",
     },

@@ -2,8 +2,11 @@
 
 use crate::cases::straggler;
 use crate::running::{Failing, expect, run_within};
-use std::io::Read;
+use std::io::{ErrorKind, Read};
+use std::process::Abort;
+use std::sync::Wait;
 use std::test::Fail;
+use std::thread::Threads;
 
 const TWO_WORKERS: &str = "twarp replay --hops 1 --delay 1 --workers 2";
 
@@ -91,50 +94,54 @@ fn faults_come_in_their_order(rt: HostRuntime) -> Result<(), Fail> {
     expect(&rt, no_letter, &mut b"".as_slice(), 0, output, b"")
 }
 
+// A replay whose reader gives so many pieces and then fails.
+fn fails_to_read(
+    rt: &(impl Abort + AllocGlobal + Threads + Wait + Sync),
+    piece: usize,
+    reads: usize,
+    kind: ErrorKind,
+) -> Result<(), Fail> {
+    let mut reader = Failing {
+        rest: straggler().0.as_bytes(),
+        piece,
+        reads,
+        kind,
+    };
+    let refusal = b"twarp: refused 7 bad option input\n";
+    expect(rt, TWO_WORKERS, &mut reader, 2, b"", refusal)
+}
+
 #[test]
 fn a_failed_read_is_refused_before_anything_is_run(rt: HostRuntime) -> Result<(), Fail> {
-    let rest = straggler().0.as_bytes();
-    let pieces = rest.len().div_ceil(10);
-    let refusal = b"twarp: refused 7 bad option input\n";
-    for reads in 0..=pieces {
-        expect(
-            &rt,
-            TWO_WORKERS,
-            &mut Failing { rest, reads },
-            2,
-            b"",
-            refusal,
-        )?;
+    let whole = straggler().0.len();
+    for piece in [1, 10] {
+        let pieces = whole.div_ceil(piece);
+        for kind in [
+            ErrorKind::Interrupted,
+            ErrorKind::UnexpectedEof,
+            ErrorKind::BrokenPipe,
+        ] {
+            for reads in 0..=pieces {
+                fails_to_read(&rt, piece, reads, kind)?;
+            }
+        }
     }
-    let reads = pieces.saturating_add(1);
-    let outcome = run_within(&rt, TWO_WORKERS, &mut Failing { rest, reads }, 1_000)?;
-    assert_eq!(rt; outcome.status, 0);
-    assert!(rt; outcome.out.starts_with(straggler().1.as_bytes()));
     Ok(())
 }
 
 #[test]
-fn a_failed_write_leaves_a_beginning(rt: HostRuntime) -> Result<(), Fail> {
-    let text = straggler().0.as_bytes();
-    let mut expected = Vec::new(rt.alloc());
-    expected.extend_from_slice(straggler().1.as_bytes())?;
-    expected.extend_from_slice(
-        b"announced 10\nfloor 10\nleast 10\nrecords 4\n1 0 1 1\n2 1 1 1\n2 1 1 258\n3 0 1 258\n",
-    )?;
-    for room in 0..expected.len() {
-        let outcome = run_within(&rt, TWO_WORKERS, &mut &*text, room)?;
-        assert_eq!(rt; outcome.status, 1, "{room}");
-        assert!(rt;
-            outcome.out.as_slice() == &expected.as_slice()[..room],
-            "{room}"
-        );
-        assert!(rt;
-            outcome.err.as_slice() == b"twarp: refused 9 output\n".as_slice(),
-            "{room}"
-        );
+fn a_reader_is_read_to_its_end(rt: HostRuntime) -> Result<(), Fail> {
+    for piece in [1, 10] {
+        let mut reader = Failing {
+            rest: straggler().0.as_bytes(),
+            piece,
+            reads: straggler().0.len().div_ceil(piece).saturating_add(1),
+            kind: ErrorKind::BrokenPipe,
+        };
+        let outcome = run_within(&rt, TWO_WORKERS, &mut reader, 1_000)?;
+        assert_eq!(rt; outcome.status, 0);
+        assert!(rt; outcome.out.starts_with(straggler().1.as_bytes()));
     }
-    let whole = run_within(&rt, TWO_WORKERS, &mut &*text, expected.len())?;
-    assert!(rt; whole.status == 0 && whole.out.as_slice() == expected.as_slice());
     Ok(())
 }
 

@@ -8,20 +8,22 @@ use std::test::Fail;
 use std::thread::Threads;
 use vt_program::program;
 
-/// A reader that gives so many pieces of a text, each of at most ten bytes, and then fails.
+/// A reader that gives so many pieces of a text, each of at most so many bytes, and then fails.
 #[derive(Drop)]
 pub(crate) struct Failing {
     pub(crate) rest: &'static [u8],
+    pub(crate) piece: usize,
     pub(crate) reads: usize,
+    pub(crate) kind: ErrorKind,
 }
 
 impl Read for Failing {
     fn read(&mut self, buf: &mut [u8]) -> io::Result<usize> {
         if self.reads == 0 {
-            return Err(Error::from(ErrorKind::Interrupted));
+            return Err(Error::from(self.kind));
         }
         self.reads -= 1;
-        let count = buf.len().min(self.rest.len()).min(10);
+        let count = buf.len().min(self.rest.len()).min(self.piece);
         let (piece, rest) = self.rest.split_at(count);
         buf[..count].copy_from_slice(piece);
         self.rest = rest;
@@ -29,19 +31,35 @@ impl Read for Failing {
     }
 }
 
-/// A writer that has room for so many bytes and then fails.
+/// What a writer answers that takes no more.
+#[derive(Debug, Clone, Copy)]
+pub(crate) enum Full {
+    Fails,
+    TakesNothing,
+    IsInterrupted,
+}
+
+/// A writer with room for so many bytes in so many calls, of which each takes at most so many.
 #[derive(Drop)]
-struct Narrow {
-    taken: Vec<u8>,
-    room: usize,
+pub(crate) struct Narrow {
+    pub(crate) taken: Vec<u8>,
+    pub(crate) room: usize,
+    pub(crate) most: usize,
+    pub(crate) calls: usize,
+    pub(crate) full: Full,
 }
 
 impl Write for Narrow {
     fn write(&mut self, buf: &[u8]) -> io::Result<usize> {
-        let count = self.room.min(buf.len());
-        if count == 0 {
-            return Err(Error::from(ErrorKind::StorageFull));
+        let count = self.room.min(self.most).min(buf.len());
+        if count == 0 || self.calls == 0 {
+            return match self.full {
+                Full::Fails => Err(Error::from(ErrorKind::StorageFull)),
+                Full::TakesNothing => Ok(0),
+                Full::IsInterrupted => Err(Error::from(ErrorKind::Interrupted)),
+            };
         }
+        self.calls -= 1;
         self.room -= count;
         self.taken.extend_from_slice(&buf[..count])?;
         Ok(count)
@@ -60,11 +78,33 @@ pub(crate) struct Outcome {
     pub(crate) err: Vec<u8>,
 }
 
-fn writer_with_room(alloc: Global, room: usize) -> Narrow {
+/// A writer that takes all that it is given, as long as there is room.
+pub(crate) fn writer_with_room(alloc: Global, room: usize) -> Narrow {
     Narrow {
         taken: Vec::new(alloc),
         room,
+        most: usize::MAX,
+        calls: usize::MAX,
+        full: Full::Fails,
     }
+}
+
+/// Runs the program on the words of a line and on what a reader gives, with these writers.
+pub(crate) fn run_into<R: Read>(
+    rt: &(impl Abort + AllocGlobal + Threads + Wait + Sync),
+    line: &str,
+    reader: &mut R,
+    out: Narrow,
+    err: Narrow,
+) -> Result<Outcome, Fail> {
+    let words: Vec<&str> = line.split_ascii_whitespace().collect(rt.alloc())?;
+    let (mut out, mut err) = (out, err);
+    let status = program(rt, rt.alloc(), words.as_slice(), reader, &mut out, &mut err);
+    Ok(Outcome {
+        status,
+        out: out.taken,
+        err: err.taken,
+    })
 }
 
 /// Runs the program on the words of a line and on what a reader gives, with so much room for its output.
@@ -74,16 +114,9 @@ pub(crate) fn run_within<R: Read>(
     reader: &mut R,
     room: usize,
 ) -> Result<Outcome, Fail> {
-    let alloc = rt.alloc();
-    let words: Vec<&str> = line.split_ascii_whitespace().collect(alloc)?;
-    let mut out = writer_with_room(alloc, room);
-    let mut err = writer_with_room(alloc, 1_000);
-    let status = program(rt, alloc, words.as_slice(), reader, &mut out, &mut err);
-    Ok(Outcome {
-        status,
-        out: out.taken,
-        err: err.taken,
-    })
+    let out = writer_with_room(rt.alloc(), room);
+    let err = writer_with_room(rt.alloc(), 1_000);
+    run_into(rt, line, reader, out, err)
 }
 
 /// Asserts what the program does on the words of a line and on what a reader gives.

@@ -327,40 +327,6 @@ fn helps(rt: HostRuntime) -> Result<(), Fail> {
 }
 
 #[test]
-fn a_full_writer_leaves_a_beginning(rt: HostRuntime) -> Result<(), Fail> {
-    let text = SIX_LINES.as_bytes();
-    assert_eq!(rt; text.len(), 61);
-    for room in 0..61 {
-        let outcome = run_within(&rt, "twarp run", room, 100)?;
-        assert_eq!(rt; outcome.status, 1, "{room}");
-        assert!(rt;
-            outcome.out.len() == room && text.starts_with(outcome.out.as_slice()),
-            "{room}"
-        );
-        assert!(rt;
-            outcome.err.as_slice() == b"twarp: refused 9 output\n".as_slice(),
-            "{room}"
-        );
-    }
-    assert_eq!(rt; run_within(&rt, "twarp run", 61, 0)?.status, 0);
-    Ok(())
-}
-
-#[test]
-fn a_refusal_that_cannot_be_told_keeps_its_status(rt: HostRuntime) -> Result<(), Fail> {
-    for room in [0, 5, 31] {
-        let outcome = run_within(&rt, "twarp run --lps 0", 100, room)?;
-        assert_eq!(rt; outcome.status, 2, "{room}");
-        assert!(rt;
-            outcome.out.is_empty() && outcome.err.len() == room,
-            "{room}"
-        );
-        assert!(rt; b"twarp: refused 7 bad option lps\n".starts_with(outcome.err.as_slice()));
-    }
-    Ok(())
-}
-
-#[test]
 fn faults_are_told_in_the_words_of_their_type(rt: HostRuntime) -> Result<(), Fail> {
     let faults = [
         (Fault::Memory, 1),
