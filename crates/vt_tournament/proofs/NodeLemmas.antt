@@ -1,12 +1,12 @@
 -- What two nodes say of who is ahead.
-use Rattle.std.proofs.Common.{◌≡◌, ℕ, ◌^◌, ◌<◌, ◌≤◌, ◌⊎◌, inl, inr, Bool, true, false, not, ◌||◌, ◌&&◌, nat_eq, nat_lt, List, length, slice_index_or, Option, Some, None, refl, sym, ap, ◌∙◌, arith}
+use Rattle.std.proofs.Common.{◌≡◌, ℕ, ◌^◌, ◌/◌, ◌%◌, ◌<◌, ◌≤◌, ◌⊎◌, inl, inr, Bool, true, false, not, ◌||◌, ◌&&◌, nat_eq, nat_lt, if◌then◌else◌, List, length, slice_index_or, Option, Some, None, refl, sym, ap, ◌∙◌, arith}
 use Rattle.std.proofs.lemmas.Bool.{cases_order, lt-ltb, le-ltb, eq-eqb, eqb-true}
 use Rattle.std.proofs.lemmas.List.{get_or_past}
 use Rattle.vt_key.specs.declared.order.Rank.{Rank}
 use Rattle.vt_key.specs.Order.{rank_before}
 use Rattle.vt_key.proofs.OrderLemmas.{before-rank_before}
 use Rattle.vt_tournament.specs.declared.node.Node.{Node}
-use Rattle.vt_tournament.specs.Contest.{Contestant, contestant, is_ahead, is_ahead_by, first_time, first_source, nobodys_number, number_of, node_of}
+use Rattle.vt_tournament.specs.Contest.{Contestant, contestant, is_ahead, is_ahead_by, first_time, first_source, nobodys_number, number_of, node_of, packed, unpacked}
 use Rattle.vt_tournament.proofs.AheadLemmas.{tested, not_behind-ahead}
 
 -- whose time is earlier is ahead
@@ -23,60 +23,50 @@ lesser (Some x) i None j e h r = refl
 lesser None i (Some y) j e h r = absurd (omega (arith, h, r))
 lesser None i None j e h r = absurd (omega (arith, h))
 
--- so the times decide where they differ
-by_time : (a b : Contestant) → (first_time a.rank ≡ first_time b.rank → ⊥) → first_time a.rank < 2 ^ 64 → first_time b.rank < 2 ^ 64 → nat_lt (first_time a.rank) (first_time b.rank) ≡ is_ahead a b
-by_time a b differ low high = elim (cases_order (first_time a.rank) (first_time b.rank)) [
-  | inl e ↦ absurd (differ e)
-  | inr h ↦ elim h [
-    | inl l ↦ lt-ltb (first_time a.rank) (first_time b.rank) l ∙ sym (earlier a.rank a.number b.rank b.number l high)
-    | inr l ↦ le-ltb (first_time a.rank) (first_time b.rank) (omega (arith, l)) ∙ sym (not_behind-ahead b a (earlier b.rank b.number a.rank a.number l low))
-  ]
-]
-
--- and then the sources
-by_source : (a b : Contestant) → first_time a.rank ≡ first_time b.rank → (first_source a.rank ≡ first_source b.rank → ⊥) → first_source a.rank < 2 ^ 32 → first_source b.rank < 2 ^ 32 → nat_lt (first_source a.rank) (first_source b.rank) ≡ is_ahead a b
-by_source a b same differ low high = elim (cases_order (first_source a.rank) (first_source b.rank)) [
-  | inl e ↦ absurd (differ e)
-  | inr h ↦ elim h [
-    | inl l ↦ lt-ltb (first_source a.rank) (first_source b.rank) l ∙ sym (lesser a.rank a.number b.rank b.number same l high)
-    | inr l ↦ le-ltb (first_source a.rank) (first_source b.rank) (omega (arith, l)) ∙ sym (not_behind-ahead b a (lesser b.rank b.number a.rank a.number (sym same) l low))
-  ]
-]
-
--- so the beginnings decide, but where they are the same
-pub by_beginning : (a b : Contestant) → (first_time a.rank ≡ first_time b.rank → first_source a.rank ≡ first_source b.rank → is_ahead a b ≡ false) → first_time a.rank < 2 ^ 64 → first_time b.rank < 2 ^ 64 → first_source a.rank < 2 ^ 32 → first_source b.rank < 2 ^ 32 → (nat_lt (first_time a.rank) (first_time b.rank) || (nat_eq (first_time a.rank) (first_time b.rank) && nat_lt (first_source a.rank) (first_source b.rank))) ≡ is_ahead a b
-by_beginning a b tie early late low high = elim (tested (nat_eq ta tb)) [
-  | inl y ↦
-      let e : ta ≡ tb = eqb-true ta tb y in
-      ap (λ (t : Bool). t || (nat_eq ta tb && nat_lt sa sb)) (le-ltb ta tb (omega (arith, e)))
-      ∙ ap (λ (t : Bool). t && nat_lt sa sb) y
-      ∙ elim (tested (nat_eq sa sb)) [
-        | inl z ↦ let same : sa ≡ sb = eqb-true sa sb z in le-ltb sa sb (omega (arith, same)) ∙ sym (tie e same)
-        | inr z ↦ by_source a b e (apart_by sa sb z) low high
+-- so the packed nodes of two contestants decide, where they have one number if they begin alike
+pub by_packed : (a b : Contestant) (x y : Node) → x.time ≡ first_time a.rank → y.time ≡ first_time b.rank → x.source ≡ first_source a.rank → y.source ≡ first_source b.rank → (x.time ≡ y.time → x.source ≡ y.source → (x.number ≡ y.number) × (is_ahead a b ≡ false)) → x.time < 2 ^ 64 → y.time < 2 ^ 64 → x.source < 2 ^ 32 → y.source < 2 ^ 32 → x.number < 2 ^ 32 → y.number < 2 ^ 32 → nat_lt (packed x) (packed y) ≡ is_ahead a b
+by_packed a b x y at other_at from other_from alike early late low high few other_few =
+    elim (cases_order x.time y.time) [
+      | inl e ↦
+          let same : first_time a.rank ≡ first_time b.rank = sym at ∙ e ∙ other_at in
+          elim (cases_order x.source y.source) [
+            | inl f ↦ le-ltb (packed x) (packed y) (omega (arith, e, f, (alike e f).0)) ∙ sym (alike e f).1
+            | inr h ↦ elim h [
+              | inl l ↦ lt-ltb (packed x) (packed y) (omega (arith, e, l, few, other_few)) ∙ sym (lesser a.rank a.number b.rank b.number same (omega (arith, l, from, other_from)) (omega (arith, high, other_from)))
+              | inr l ↦
+                  le-ltb (packed x) (packed y) (omega (arith, e, l, few, other_few))
+                  ∙ sym (not_behind-ahead b a (lesser b.rank b.number a.rank a.number (sym same) (omega (arith, l, from, other_from)) (omega (arith, low, from))))
+            ]
+          ]
+      | inr h ↦ elim h [
+        | inl l ↦
+            lt-ltb (packed x) (packed y) (omega (arith, l, few, other_few, low, high))
+            ∙ sym (earlier a.rank a.number b.rank b.number (omega (arith, l, at, other_at)) (omega (arith, late, other_at)))
+        | inr l ↦
+            le-ltb (packed x) (packed y) (omega (arith, l, few, other_few, low, high))
+            ∙ sym (not_behind-ahead b a (earlier b.rank b.number a.rank a.number (omega (arith, l, at, other_at)) (omega (arith, early, at))))
       ]
-  | inr y ↦ elim (tested (nat_lt ta tb)) [
-    | inl z ↦ ap (λ (t : Bool). t || (nat_eq ta tb && nat_lt sa sb)) z ∙ sym z ∙ by_time a b (apart_by ta tb y) early late
-    | inr z ↦
-        ap (λ (t : Bool). t || (nat_eq ta tb && nat_lt sa sb)) z
-        ∙ ap (λ (t : Bool). t && nat_lt sa sb) y
-        ∙ sym z
-        ∙ by_time a b (apart_by ta tb y) early late
-  ]
-] where
-  ta : ℕ
-  ta = first_time a.rank
+    ]
 
-  tb : ℕ
-  tb = first_time b.rank
+-- what was packed is unpacked
+repacked : (n : Node) → n.source < 2 ^ 32 → n.number < 2 ^ 32 → unpacked (packed n) ≡ n
+repacked n low few =
+    let at : packed n / 2 ^ 64 ≡ n.time = omega (arith, low, few) in
+    let from : packed n / 2 ^ 32 % 2 ^ 32 ≡ n.source = omega (arith, low, few) in
+    let number : packed n % 2 ^ 32 ≡ n.number = omega (arith, low, few) in
+    λ k. record { time = at k; source = from k; number = number k }
 
-  sa : ℕ
-  sa = first_source a.rank
+-- and who is chosen of two by these numbers
+pub chosen : (a b : Node) → a.source < 2 ^ 32 → a.number < 2 ^ 32 → b.source < 2 ^ 32 → b.number < 2 ^ 32 → unpacked (if nat_lt (packed b) (packed a) then packed b else packed a) ≡ (if nat_lt (packed b) (packed a) then b else a)
+chosen a b low few other_low other_few = one (nat_lt (packed b) (packed a)) where
+  one : (t : Bool) → unpacked (if t then packed b else packed a) ≡ (if t then b else a)
+  one true = repacked b other_low other_few
+  one false = repacked a low few
 
-  sb : ℕ
-  sb = first_source b.rank
-
-  apart_by : (x y : ℕ) → nat_eq x y ≡ false → x ≡ y → ⊥
-  apart_by x y h e = absurd (let w : true ≡ false = sym (eq-eqb x y e) ∙ h in cc)
+-- the node of who wins is chosen as its contestant is
+pub node-chosen : (t : Bool) (a b : Contestant) (x y : Node) → x ≡ node_of a → y ≡ node_of b → (if t then y else x) ≡ node_of (if t then b else a)
+node-chosen true a b x y own others = others
+node-chosen false a b x y own others = own
 
 -- ---- nobody
 

@@ -50,6 +50,13 @@ number_of None n = nobodys_number
 abbrev pub node_of : Contestant → Node
 node_of c = record { time = first_time c.rank; source = first_source c.rank; number = number_of c.rank c.number }
 
+-- the fields of a node in one number, and the node with the fields in a number
+abbrev pub packed : Node → ℕ
+packed n = n.time * 2 ^ 64 + n.source * 2 ^ 32 + n.number
+
+abbrev pub unpacked : ℕ → Node
+unpacked p = record { time = p / 2 ^ 64; source = p / 2 ^ 32 % 2 ^ 32; number = p % 2 ^ 32 }
+
 -- a node says what the rank of its contestant begins with; there is no entry of nobody's number, so nobody has no rank
 abbrev pub Fits : List (Option Rank) → Node → Type 0
 Fits ranks w = w ≡ node_of (contestant ranks w.number)

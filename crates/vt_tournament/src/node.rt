@@ -1,7 +1,7 @@
 //! A node of the tree, and who of two is ahead.
 
-ghost use Rattle.std.specs.Prelude.{◌≡◌, ◌<◌, ◌≤◌, ◌^◌, true, not, nat_eq, length};
-ghost use Rattle.vt_tournament.specs.Contest.{is_ahead, winner_of, contestant, nobodys_number, node_of};
+ghost use Rattle.std.specs.Prelude.{◌≡◌, ◌≤◌, ◌^◌, not, nat_eq, nat_lt, if◌then◌else◌, length};
+ghost use Rattle.vt_tournament.specs.Contest.{is_ahead, winner_of, contestant, nobodys_number, node_of, packed, unpacked};
 
 use crate::contestants::Contestants;
 use vt_key::{Rank, Time};
@@ -47,33 +47,59 @@ impl Node {
         self.number != NOBODY
     }
 
-    /// Whether this one is ahead of the other: by rank, and with equal ranks by number. Nobody comes last. Whole ranks are
-    /// asked for where two begin alike, which is seldom.
-    pub(crate) fn is_ahead<C: Contestants>(self, other: Node, contestants: &C) -> bool
-        requires few { length (C.entries contestants.now) ≤ 2 ^ 31 }
-        requires fits { self ≡ node_of (contestant (C.entries contestants.now) self.number) }
-        requires other_fits { other ≡ node_of (contestant (C.entries contestants.now) other.number) }
-        ensures { result ≡ is_ahead (contestant (C.entries contestants.now) self.number) (contestant (C.entries contestants.now) other.number) }
+    /// The fields in one number: nodes in the order of these numbers are in the order of their fields.
+    fn packed(self) -> u128
+        ensures { result ≡ packed self }
     {
-        if self.time == other.time && self.source == other.source && self.number != other.number {
-            return is_ahead(contestants, self.number, other.number);
-        }
-        (self.time < other.time) | ((self.time == other.time) & (self.source < other.source))
+        self.time as u128 * 0x1_0000_0000_0000_0000
+            + self.source as u128 * 0x1_0000_0000
+            + self.number as u128
     }
 
-    /// The one of the two that is ahead.
+    /// The node with the fields in such a number.
+    fn unpacked(fields: u128) -> Node
+        ensures { result ≡ unpacked fields }
+    {
+        Node {
+            time: (fields / 0x1_0000_0000_0000_0000) as u64,
+            source: (fields / 0x1_0000_0000 % 0x1_0000_0000) as u32,
+            number: (fields % 0x1_0000_0000) as u32,
+        }
+    }
+
+    /// The one of the two whose fields come first. One number is chosen of two, for which a processor has an instruction: of a
+    /// choice between three fields a compiler makes branches, which are foretold wrongly half the time.
+    fn earlier(self, other: Node) -> Node
+        ensures { result ≡ (if nat_lt (packed other) (packed self) then other else self) }
+    {
+        let own = self.packed();
+        let others = other.packed();
+        Node::unpacked(lesser(own, others))
+    }
+
+    /// The one of the two that is ahead: by rank, and with equal ranks by number. Nobody comes last. Whole ranks are asked for
+    /// where two begin alike, which is seldom.
     pub(crate) fn winner<C: Contestants>(self, other: Node, contestants: &C) -> Node
         requires few { length (C.entries contestants.now) ≤ 2 ^ 31 }
         requires fits { self ≡ node_of (contestant (C.entries contestants.now) self.number) }
         requires other_fits { other ≡ node_of (contestant (C.entries contestants.now) other.number) }
         ensures { result ≡ node_of (winner_of (contestant (C.entries contestants.now) self.number) (contestant (C.entries contestants.now) other.number)) }
     {
-        if other.is_ahead(self, contestants) {
-            other
-        } else {
-            self
+        if self.time == other.time && self.source == other.source && self.number != other.number {
+            if is_ahead(contestants, other.number, self.number) {
+                return other;
+            }
+            return self;
         }
+        self.earlier(other)
     }
+}
+
+/// The lesser of two numbers.
+fn lesser(number: u128, other: u128) -> u128
+    ensures { result ≡ (if nat_lt other number then other else number) }
+{
+    if other < number { other } else { number }
 }
 
 /// Whether the first contestant is ahead of the second, by their whole ranks.
