@@ -224,6 +224,9 @@ impl Bells {
 
     /// A worker has begun, and waits until all have.
     pub(crate) fn begin<R: Wait>(&self, rt: &R) -> Start {
+        if self.is_stopped() {
+            return Start::Over;
+        }
         let all = self.bells.len() as u64;
         if self.begun.raise().wrapping_add(1) >= all {
             self.begun.value.wake_all();
