@@ -1,5 +1,6 @@
 //! Keys, settings, flags, random words, and what a handler is handed.
 
+use std::process::Abort;
 use std::rt::{self, HostRuntime};
 use vt_key::{Colour, Event, Fault, Key, Letter, Rank, Ranked, Sign, Stamp};
 use vt_model::stream::LpStream;
@@ -52,22 +53,21 @@ fn letters_have_the_rank_of_their_event(rt: HostRuntime) {
     assert_eq!(rt; Colour::Red.other(), Colour::White);
 }
 
+fn has_number(rt: &impl Abort, fault: Fault, number: u32) {
+    assert_eq!(rt; fault.number(), number);
+}
+
 #[test]
 fn faults_have_their_numbers(rt: HostRuntime) {
-    let faults = [
-        (Fault::Memory, 1),
-        (Fault::NotLawful, 2),
-        (Fault::Busy, 3),
-        (Fault::Closed, 4),
-        (Fault::Exhausted, 5),
-        (Fault::TurnsSpent, 6),
-        (Fault::BadOption("lps"), 7),
-        (Fault::BadStep(3), 8),
-        (Fault::Output, 9),
-    ];
-    for (fault, number) in faults {
-        assert_eq!(rt; fault.number(), number);
-    }
+    has_number(&rt, Fault::Memory, 1);
+    has_number(&rt, Fault::NotLawful, 2);
+    has_number(&rt, Fault::Busy, 3);
+    has_number(&rt, Fault::Closed, 4);
+    has_number(&rt, Fault::Exhausted, 5);
+    has_number(&rt, Fault::TurnsSpent, 6);
+    has_number(&rt, Fault::BadOption("lps"), 7);
+    has_number(&rt, Fault::BadStep(3), 8);
+    has_number(&rt, Fault::Output, 9);
 }
 
 #[test]
