@@ -1,4 +1,9 @@
+mod Filters
 mod Finding
 mod Holding
+mod Kept
 mod Placing
 mod Rising
+mod Rows
+mod Searching
+mod Words

@@ -10,7 +10,7 @@ use Rattle.vt_pending.specs.Letters.{letter_rank, some_has_rank, insert_letter}
 use Rattle.vt_pending.proofs.Holding.{is_reached}
 
 -- of two ranks one alone is before the other
-not-back : (a b : Rank) → RankBefore a b → rank_before b a ≡ false
+pub not-back : (a b : Rank) → RankBefore a b → rank_before b a ≡ false
 not-back a b h = elim (rank_before b a) as (λ t. rank_before b a ≡ t → t ≡ false) [
   | true ↦ λ is. absurd (rank-irreflexive a (rank-transitive a b a h (rank_before-true b a is)))
   | false ↦ λ is. refl

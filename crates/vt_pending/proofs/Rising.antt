@@ -21,7 +21,7 @@ after a b late other = elim (rank-total a b) [
 
 module _ {P : Type 0} where
   -- what is after a rank is after each rank before it
-  AllAfter-before : (a b : Rank) (ls : List (Letter P)) → RankBefore a b → AllAfter b ls → AllAfter a ls
+  pub AllAfter-before : (a b : Rank) (ls : List (Letter P)) → RankBefore a b → AllAfter b ls → AllAfter a ls
   AllAfter-before a b [] h all = tt
   AllAfter-before a b (l ∷ ls) h all = (rank-transitive a b (letter_rank l) h all.0, AllAfter-before a b ls h all.1)
 

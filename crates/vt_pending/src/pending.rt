@@ -1,33 +1,44 @@
 //! The queue.
 
-ghost use Rattle.std.specs.Prelude.{◌≡◌, ◌-◌, ◌%◌, ◌^◌, ◌↔◌, [], ◌∷◌, false, length, find, slice_get, MatchOption, IfOk, IfErr, IfNone, IsNone, IsTrue, true};
+ghost use Rattle.std.specs.Prelude.{◌≡◌, ℕ, ◌<◌, ◌-◌, ◌%◌, ◌^◌, ◌↔◌, [], ◌∷◌, false, length, find, slice_get, MatchOption, IfOk, IfErr, IfNone, IsBitSet, IsNone, IsTrue, true};
 ghost use Rattle.std.specs.List.{list_any};
 ghost use Rattle.std.specs.Option.{option_copied};
-ghost use Rattle.vt_pending.specs.Letters.{has_stamp, holds_rank, some_has_rank, first_of_stamp, insert_letter, without_stamp, IsRising};
+ghost use Rattle.vt_pending.specs.Letters.{has_stamp, holds_rank, first_of_stamp, insert_letter, without_stamp, IsRising};
+ghost use Rattle.vt_pending.specs.Buckets.{in_bucket};
 
+use crate::buckets::{bucket, find_in, find_least, has_rank, put_back, put_list, take_marked};
+use crate::mask::Mask;
 use std::alloc::Global;
 use std::marker::Model;
 use vt_key::{Letter, Rank, Stamp};
-use vt_list::{List, Parcel, Predicate};
+use vt_list::{Lines, Parcel, Predicate};
 
 /// Letters in strictly rising rank. A clause sees the list of them.
+///
+/// They lie in 64 lists, by their times modulo 64, each in rising rank. The lists that aren't empty stand in a row, in the
+/// order of their first letters, so that the least letter of all is the first one of the first list.
 ///
 /// No call takes memory.
 #[derive(Drop)]
 pub struct Pending<P: Copy> {
-    letters: List<Letter<P>>,
+    alloc: Global,
+    // Which lists aren't empty.
+    mask: Mask,
+    lists: Lines<Letter<P>>,
+    // How many letters there are, modulo 2^64.
+    count: usize,
 }
 
 impl<P: Copy> Model for Pending<P> {
-    ghost use Rattle.std.specs.Prelude.{List as Letters};
+    ghost use Rattle.std.specs.Prelude.{List as Letters, length, ◌≡◌, ◌%◌, ◌^◌};
     ghost use Rattle.vt_key.specs.declared.letter.Letter.{Letter};
-    ghost use Rattle.vt_pending.specs.Letters.{IsRising};
+    ghost use Rattle.vt_pending.specs.Buckets.{letters_of, Buckets};
 
     ghost Value = { Letters (Letter P) };
 
-    ghost view = { λ q. q.letters };
+    ghost view = { λ q. letters_of q.lists };
 
-    ghost invariant = { λ q. IsRising q.letters };
+    ghost invariant = { λ q. Buckets q.mask.bits q.lists (letters_of q.lists) × (q.count ≡ length (letters_of q.lists) % 2 ^ 64) };
 }
 
 impl<P: Copy> Pending<P> {
@@ -36,7 +47,10 @@ impl<P: Copy> Pending<P> {
         ensures { result ≡ [] }
     {
         Pending {
-            letters: List::new(alloc),
+            alloc,
+            mask: Mask::new(),
+            lists: Lines::new(alloc),
+            count: 0,
         }
     }
 
@@ -44,22 +58,29 @@ impl<P: Copy> Pending<P> {
     pub fn len(&self) -> usize
         ensures { result ≡ length self.now % 2 ^ 64 }
     {
-        self.letters.len()
+        self.count
     }
 
     /// Whether there is no letter.
     pub fn is_empty(&self) -> bool
         ensures { IsTrue result ↔ (self.now ≡ []) }
     {
-        self.letters.is_empty()
+        self.lists.is_empty()
     }
 
-    /// Whether a letter of this rank is there. Letters stand in rising rank, so of those from the front the first that isn't
-    /// before the rank has it, or none has.
+    /// The times modulo 64 at which letters are there: bit b is set where some letter has time b modulo 64.
+    pub fn mask(&self) -> u64
+        ensures { (b : ℕ) → b < 64 → IsBitSet result b ↔ IsTrue (list_any (in_bucket b) self.now) }
+    {
+        self.mask.bits
+    }
+
+    /// Whether a letter of this rank is there. It can only be in the list of its time. Letters stand there in rising rank, so
+    /// of those from the front the first that isn't before the rank has it, or none has.
     pub fn holds(&self, rank: Rank) -> bool
         ensures { result ≡ holds_rank rank self.now }
     {
-        has_rank(self.letters.find(&NotBefore(rank)), rank)
+        self.is_held(rank)
     }
 
     /// Puts a letter in its place: before the first one of greater rank, or last. No letter of its rank may be there,
@@ -69,11 +90,16 @@ impl<P: Copy> Pending<P> {
         ensures letters { self.new ≡ insert_letter letter self.old }
         ensures rising { IsRising self.new }
     {
-        self.letters.insert_ordered(letter);
+        let number = bucket(letter.get().event.rank);
+        let mut list = take_marked(self.mask, &mut self.lists, number, self.alloc);
+        list.insert_ordered(letter);
+        put_list(&mut self.lists, list);
+        self.mask = self.mask.with(number);
+        self.count = self.count.wrapping_add(1);
     }
 
     /// Puts a letter in its place, unless one of its rank is there: what [`Pending::holds`] tells and [`Pending::insert`]
-    /// does, in one walk.
+    /// does.
     ///
     /// An error says that one of its rank is there. The letter is handed back, and all is as it was.
     pub fn insert_new(&mut self, letter: Parcel<Letter<P>>) -> Result<(), Parcel<Letter<P>>>
@@ -83,14 +109,10 @@ impl<P: Copy> Pending<P> {
         ensures unchanged { IfErr result (λ back. (back ≡ letter) × (self.new ≡ self.old)) }
         ensures rising { IsRising self.new }
     {
-        let rank = letter.get().event.rank;
-        let mut later = self.letters.split_off_first(&NotBefore(rank));
-        if has_rank(later.front(), rank) {
-            self.letters.append(&mut later);
+        if self.is_held(letter.get().event.rank) {
             return Err(letter);
         }
-        self.letters.push_back(letter);
-        self.letters.append(&mut later);
+        self.insert(letter);
         Ok(())
     }
 
@@ -99,7 +121,7 @@ impl<P: Copy> Pending<P> {
         ensures letter { option_copied result ≡ slice_get self.now 0 }
         ensures rising { IsRising self.now }
     {
-        self.letters.front()
+        self.lists.front()
     }
 
     /// Takes out the letter of least rank.
@@ -107,21 +129,26 @@ impl<P: Copy> Pending<P> {
         ensures letters { MatchOption result ((self.old ≡ []) × (self.new ≡ [])) (λ letter. self.old ≡ letter ∷ self.new) }
         ensures rising { IsRising self.new }
     {
-        self.letters.pop_front()
+        let mut list = self.lists.pop_line()?;
+        let letter = list.pop_front()?;
+        let number = bucket(letter.get().event.rank);
+        self.mask = put_back(self.mask, &mut self.lists, number, list);
+        self.count = self.count.wrapping_sub(1);
+        Some(letter)
     }
 
     /// The letter of least rank among those that pass the test.
     pub fn find<T: Predicate<Letter<P>>>(&self, test: &T) -> Option<&Letter<P>>
         ensures { option_copied result ≡ find (T.passes test.now) self.now }
     {
-        self.letters.find(test)
+        find_least(self.lists.iter(), test)
     }
 
     /// The letter of least rank among those of this stamp.
     pub fn find_stamp(&self, stamp: Stamp) -> Option<&Letter<P>>
         ensures { option_copied result ≡ first_of_stamp stamp self.now }
     {
-        self.letters.find(&HasStamp(stamp))
+        self.find(&HasStamp(stamp))
     }
 
     /// Takes out the letter of least rank among those of this stamp. Where there is none, the queue stays as it is.
@@ -132,17 +159,25 @@ impl<P: Copy> Pending<P> {
         ensures unchanged { IfNone result (self.new ≡ self.old) }
         ensures rising { IsRising self.new }
     {
-        self.letters.remove_first(&HasStamp(stamp))
+        let number = bucket(self.find_stamp(stamp)?.event.rank);
+        let mut list = take_marked(self.mask, &mut self.lists, number, self.alloc);
+        let letter = list.remove_first(&HasStamp(stamp))?;
+        self.mask = put_back(self.mask, &mut self.lists, number, list);
+        self.count = self.count.wrapping_sub(1);
+        Some(letter)
     }
-}
 
-/// Whether there is a letter, and it has this rank.
-fn has_rank<P: Copy>(letter: Option<&Letter<P>>, rank: Rank) -> bool
-    ensures { result ≡ some_has_rank rank (option_copied letter.entry) }
-{
-    match letter {
-        Some(letter) => letter.event.rank.is_same(&rank),
-        None => false,
+    // What `holds` tells, and that the ranks rise.
+    fn is_held(&self, rank: Rank) -> bool
+        ensures held { result ≡ holds_rank rank self.now }
+        ensures rising { IsRising self.now }
+    {
+        let number = bucket(rank);
+        if !self.mask.has(number) {
+            return false;
+        }
+        let found = find_in(self.lists.iter(), number, &NotBefore(rank));
+        has_rank(found, rank)
     }
 }
 

@@ -146,3 +146,53 @@ fn of_those_that_pass_the_least_rank_is_found(rt: HostRuntime) -> Result<(), Fai
     }
     Ok(())
 }
+
+// The times at which the letters of a queue come out.
+fn come_out(rt: &HostRuntime, queue: &mut Pending<u64>, times: &[u64]) {
+    for time in times {
+        let least = queue.take_least().map(|p| p.into_value().event.rank.key.time);
+        assert_eq!(rt; least, Some(*time));
+    }
+}
+
+#[test]
+fn letters_of_five_times_come_out_in_order(rt: HostRuntime) -> Result<(), Fail> {
+    let mut queue = Pending::new(rt.alloc());
+    for time in [127, 64, 0, 63, 65] {
+        let rank = rank((time, 0, 0), (0, time));
+        assert!(rt; put(&mut queue, letter(&rt, rank)?));
+    }
+    assert_eq!(rt; queue.mask(), 0x8000_0000_0000_0003);
+    come_out(&rt, &mut queue, &[0, 63, 64, 65, 127]);
+    assert_eq!(rt; queue.mask(), 0);
+    assert!(rt; queue.is_empty());
+    Ok(())
+}
+
+#[test]
+fn of_one_stamp_in_two_lists_the_least_rank_is_taken(rt: HostRuntime) -> Result<(), Fail> {
+    let late = rank((64, 0, 1), (0, 7));
+    let early = rank((1, 0, 0), (0, 7));
+    let mut queue = Pending::new(rt.alloc());
+    for rank in [late, early] {
+        assert!(rt; put(&mut queue, letter(&rt, rank)?));
+    }
+    assert_eq!(rt; queue.mask(), 3);
+    assert_eq!(rt; taken(queue.take_stamp(late.stamp)), Some(early));
+    assert_eq!(rt; taken(queue.take_stamp(late.stamp)), Some(late));
+    assert_eq!(rt; taken(queue.take_stamp(late.stamp)), None);
+    assert_eq!(rt; queue.mask(), 0);
+    Ok(())
+}
+
+#[test]
+fn times_far_apart_share_a_list(rt: HostRuntime) -> Result<(), Fail> {
+    let mut queue = Pending::new(rt.alloc());
+    for time in [4_611_686_018_427_387_903, 63] {
+        let rank = rank((time, 0, 0), (0, 7));
+        assert!(rt; put(&mut queue, letter(&rt, rank)?));
+    }
+    assert_eq!(rt; queue.mask(), 1 << 63);
+    come_out(&rt, &mut queue, &[63, 4_611_686_018_427_387_903]);
+    Ok(())
+}

@@ -1,0 +1,173 @@
+-- Lists in a row by their first letters: what list is where, one is taken out, and one is put in its place.
+use Rattle.std.proofs.Common.{Bool, true, false, not, if◌then◌else◌, ◌≡◌, ◌↔◌, refl, sym, ap, ◌∙◌, subst, arith}
+use Rattle.std.specs.Prelude.{ℕ, nat_eq, List, [], ◌∷◌, length, filter, slice_get}
+use Rattle.std.proofs.lemmas.Bool.{eqb-true, eq-eqb}
+use Rattle.vt_key.specs.Order.{RankBefore, rank_before}
+use Rattle.vt_key.specs.declared.order.Rank.{Rank}
+use Rattle.vt_key.specs.declared.letter.Letter.{Letter}
+use Rattle.vt_key.proofs.OrderLemmas.{before-rank_before}
+use Rattle.vt_list.specs.Lines.{first_item}
+use Rattle.vt_pending.specs.Letters.{letter_rank, insert_letter, AllAfter, IsRising}
+use Rattle.vt_pending.specs.Buckets.{bucket_of, in_bucket, not_in_bucket, some_in_bucket, list_at, without_list, both_before, put_list, put_some, merged, letters_of, IsRow}
+use Rattle.vt_pending.proofs.Placing.{not-back}
+use Rattle.vt_pending.proofs.Filters.{filter-swap, filter-within, AllAfter-filter, IsRising-filter, insert-first}
+
+-- equal numbers
+pub same-number : (a b : ℕ) → nat_eq a b ≡ true → a ≡ b
+same-number a b e = eqb-true a b e
+
+pub number-same : (a : ℕ) → nat_eq a a ≡ true
+number-same a = eq-eqb a a refl
+
+module _ {P : Type 0} where
+  -- the number of a letter's list
+  abbrev pub own : Letter P → ℕ
+  own letter = bucket_of (letter_rank letter)
+
+  pub in-own : (x : Letter P) → in_bucket (own x) x ≡ true
+  in-own x = number-same (own x)
+
+  -- what is in one list isn't in another
+  apart : (b : ℕ) (x : Letter P) → in_bucket b x ≡ false → (y : Letter P) → in_bucket b y ≡ true → not_in_bucket (own x) y ≡ true
+  apart b x other y here =
+      elim (in_bucket (own x) y) as (λ c. in_bucket (own x) y ≡ c → not c ≡ true) [
+        | true ↦ λ e.
+            let at : own y ≡ own x = same-number (own y) (own x) e in
+            let wrong : true ≡ false = sym (ap (λ n. nat_eq n b) (sym at) ∙ here) ∙ other in
+            absurd (let h : true ≡ false = wrong in cc)
+        | false ↦ λ e. refl
+      ] refl
+
+  apart-back : (b : ℕ) (x : Letter P) → in_bucket b x ≡ false → (y : Letter P) → in_bucket (own x) y ≡ true → not_in_bucket b y ≡ true
+  apart-back b x other y here =
+      elim (in_bucket b y) as (λ c. in_bucket b y ≡ c → not c ≡ true) [
+        | true ↦ λ e.
+            let at : own y ≡ own x = same-number (own y) (own x) here in
+            let wrong : true ≡ false = sym (ap (λ n. nat_eq n b) (sym at) ∙ e) ∙ other in
+            absurd (let h : true ≡ false = wrong in cc)
+        | false ↦ λ e. refl
+      ] refl
+
+  -- ---- what is where
+
+  -- there is no list where there is no letter
+  pub row-empty : (lists : List (List (Letter P))) (letters : List (Letter P)) → IsRow lists letters → (lists ≡ []) ↔ (letters ≡ [])
+  row-empty [] [] row = ((λ e. refl), (λ e. refl))
+  row-empty [] (x ∷ xs) row = absurd row
+  row-empty (list ∷ lists) [] row = absurd row
+  row-empty (list ∷ lists) (x ∷ xs) row = ((λ e. absurd (omega (arith, ap length e))), (λ e. absurd (omega (arith, ap length e))))
+
+  -- the first letter of all is the first one of the first list
+  pub row-first : (lists : List (List (Letter P))) (letters : List (Letter P)) → IsRow lists letters → first_item lists ≡ slice_get letters 0
+  row-first [] [] row = refl
+  row-first [] (x ∷ xs) row = absurd row
+  row-first (list ∷ lists) [] row = absurd row
+  row-first (list ∷ lists) (x ∷ xs) row = ap (λ l. slice_get l 0) row.0
+
+  -- list b has the letters that belong there
+  pub row-list : (b : ℕ) (lists : List (List (Letter P))) (letters : List (Letter P)) → IsRow lists letters → list_at b lists ≡ filter (in_bucket b) letters
+  row-list b [] [] row = refl
+  row-list b [] (x ∷ xs) row = absurd row
+  row-list b (list ∷ lists) [] row = absurd row
+  row-list b (list ∷ lists) (x ∷ xs) row =
+      ap (λ l. if some_in_bucket b (slice_get l 0) then l else list_at b lists) row.0
+      ∙ elim (in_bucket b x) as (λ c. in_bucket b x ≡ c → (if c then x ∷ filter (in_bucket (own x)) xs else list_at b lists) ≡ (if c then x ∷ filter (in_bucket b) xs else filter (in_bucket b) xs)) [
+        | true ↦ λ e. ap (λ n. x ∷ filter (in_bucket n) xs) (same-number (own x) b e)
+        | false ↦ λ e. row-list b lists (filter (not_in_bucket (own x)) xs) row.1 ∙ filter-within (in_bucket b) (not_in_bucket (own x)) (apart b x e) xs
+      ] refl
+
+  -- without list b there are the letters that belong elsewhere
+  pub row-without : (b : ℕ) (lists : List (List (Letter P))) (letters : List (Letter P)) → IsRow lists letters → IsRow (without_list b lists) (filter (not_in_bucket b) letters)
+  row-without b [] [] row = tt
+  row-without b [] (x ∷ xs) row = absurd row
+  row-without b (list ∷ lists) [] row = absurd row
+  row-without b (list ∷ lists) (x ∷ xs) row =
+      subst (λ l. IsRow (if some_in_bucket b (slice_get l 0) then lists else l ∷ without_list b lists) (filter (not_in_bucket b) (x ∷ xs))) (sym row.0)
+      (elim (in_bucket b x) as (λ c. in_bucket b x ≡ c → IsRow (if c then lists else (x ∷ filter (in_bucket (own x)) xs) ∷ without_list b lists) (if not c then x ∷ filter (not_in_bucket b) xs else filter (not_in_bucket b) xs)) [
+        | true ↦ λ e. subst (λ n. IsRow lists (filter (not_in_bucket n) xs)) (same-number (own x) b e) row.1
+        | false ↦ λ e. (
+          ap (λ l. x ∷ l) (sym (filter-within (in_bucket (own x)) (not_in_bucket b) (apart-back b x e) xs)),
+          subst (IsRow (without_list b lists)) (filter-swap (not_in_bucket b) (not_in_bucket (own x)) xs) (row-without b lists (filter (not_in_bucket (own x)) xs) row.1),
+        )
+      ] refl)
+
+  -- ---- a list is put in its place
+
+  -- behind the first list, where its first letter is before all of it
+  put-behind : (x : Letter P) (xs list : List (Letter P)) (lists : List (List (Letter P))) → AllAfter (letter_rank x) list → put_some list ((x ∷ xs) ∷ lists) ≡ (x ∷ xs) ∷ put_some list lists
+  put-behind x xs [] lists all = refl
+  put-behind x xs (y ∷ ys) lists all =
+      ap (λ b. if b then (x ∷ xs) ∷ put_list (y ∷ ys) lists else (y ∷ ys) ∷ (x ∷ xs) ∷ lists) (before-rank_before (letter_rank x) (letter_rank y) all.0)
+
+  -- before all lists, where its first letter is before all of them
+  put-before : (x : Letter P) (xs : List (Letter P)) (lists : List (List (Letter P))) (letters : List (Letter P)) → IsRow lists letters → AllAfter (letter_rank x) letters → put_list (x ∷ xs) lists ≡ (x ∷ xs) ∷ lists
+  put-before x xs [] [] row all = refl
+  put-before x xs [] (y ∷ ys) row all = absurd row
+  put-before x xs (list ∷ lists) [] row all = absurd row
+  put-before x xs (list ∷ lists) (y ∷ ys) row all =
+      subst (λ l. put_list (x ∷ xs) (l ∷ lists) ≡ (x ∷ xs) ∷ l ∷ lists) (sym row.0)
+      (let rest : List (Letter P) = y ∷ filter (in_bucket (own y)) ys in
+      ap (λ b. if b then rest ∷ put_list (x ∷ xs) lists else (x ∷ xs) ∷ rest ∷ lists) (not-back (letter_rank x) (letter_rank y) all.0))
+
+  -- list b goes where it belongs among the others
+  pub row-put : (b : ℕ) (lists : List (List (Letter P))) (letters : List (Letter P)) → IsRising letters → IsRow lists (filter (not_in_bucket b) letters) → IsRow (put_some (filter (in_bucket b) letters) lists) letters
+  row-put b [] [] rises row = tt
+  row-put b (list ∷ lists) [] rises row = absurd row
+  row-put b [] (x ∷ xs) rises row =
+      elim (in_bucket b x) as (λ c. in_bucket b x ≡ c → IsRow [] (if not c then x ∷ filter (not_in_bucket b) xs else filter (not_in_bucket b) xs)
+      → IsRow (put_some (if c then x ∷ filter (in_bucket b) xs else filter (in_bucket b) xs) []) (x ∷ xs)) [
+        | true ↦ λ e r. (
+          ap (λ n. x ∷ filter (in_bucket n) xs) (sym (same-number (own x) b e)),
+          subst (λ n. IsRow [] (filter (not_in_bucket n) xs)) (sym (same-number (own x) b e)) r,
+        )
+        | false ↦ λ e r. absurd r
+      ] refl row
+  row-put b (list ∷ lists) (x ∷ xs) rises row =
+      elim (in_bucket b x) as (λ c. in_bucket b x ≡ c → IsRow (list ∷ lists) (if not c then x ∷ filter (not_in_bucket b) xs else filter (not_in_bucket b) xs)
+      → IsRow (put_some (if c then x ∷ filter (in_bucket b) xs else filter (in_bucket b) xs) (list ∷ lists)) (x ∷ xs)) [
+        | true ↦ λ e r.
+            let all : AllAfter (letter_rank x) (filter (not_in_bucket b) xs) = AllAfter-filter (letter_rank x) (not_in_bucket b) xs rises.0 in
+            subst (λ ls. IsRow ls (x ∷ xs)) (sym (put-before x (filter (in_bucket b) xs) (list ∷ lists) (filter (not_in_bucket b) xs) r all)) (
+              ap (λ n. x ∷ filter (in_bucket n) xs) (sym (same-number (own x) b e)),
+              subst (λ n. IsRow (list ∷ lists) (filter (not_in_bucket n) xs)) (sym (same-number (own x) b e)) r,
+            )
+        | false ↦ λ e r.
+            let ours : List (Letter P) = filter (in_bucket (own x)) (filter (not_in_bucket b) xs) in
+            let others : List (Letter P) = filter (not_in_bucket (own x)) xs in
+            let all : AllAfter (letter_rank x) (filter (in_bucket b) xs) = AllAfter-filter (letter_rank x) (in_bucket b) xs rises.0 in
+            let place : put_some (filter (in_bucket b) xs) (list ∷ lists) ≡ (x ∷ ours) ∷ put_some (filter (in_bucket b) xs) lists =
+            ap (λ l. put_some (filter (in_bucket b) xs) (l ∷ lists)) r.0 ∙ put-behind x ours (filter (in_bucket b) xs) lists all in
+            let rest : IsRow lists (filter (not_in_bucket b) others) = subst (IsRow lists) (filter-swap (not_in_bucket (own x)) (not_in_bucket b) xs) r.1 in
+            let more : IsRow (put_some (filter (in_bucket b) others) lists) others = row-put b lists others (IsRising-filter (not_in_bucket (own x)) xs rises.1) rest in
+            subst (λ ls. IsRow ls (x ∷ xs)) (sym place) (
+              ap (λ l. x ∷ l) (filter-within (in_bucket (own x)) (not_in_bucket b) (apart-back b x e) xs),
+              subst (λ l. IsRow (put_some l lists) others) (filter-within (in_bucket b) (not_in_bucket (own x)) (apart b x e) xs) more,
+            )
+      ] refl row
+
+  -- ---- the letters of a row
+
+  merged-first : (x : Letter P) (ys zs : List (Letter P)) → AllAfter (letter_rank x) ys → merged ys (x ∷ zs) ≡ x ∷ merged ys zs
+  merged-first x [] zs all = refl
+  merged-first x (y ∷ ys) zs all =
+      ap (insert_letter y) (merged-first x ys zs all.1)
+      ∙ ap (λ b. if b then y ∷ x ∷ merged ys zs else x ∷ insert_letter y (merged ys zs)) (not-back (letter_rank x) (letter_rank y) all.0)
+
+  merged-parts : (b : ℕ) (xs : List (Letter P)) → IsRising xs → merged (filter (in_bucket b) xs) (filter (not_in_bucket b) xs) ≡ xs
+  merged-parts b [] rises = refl
+  merged-parts b (x ∷ xs) rises =
+      let ours : List (Letter P) = filter (in_bucket b) xs in let others : List (Letter P) = filter (not_in_bucket b) xs in
+      elim (in_bucket b x) as (λ c. merged (if c then x ∷ ours else ours) (if not c then x ∷ others else others) ≡ x ∷ xs) [
+        | true ↦ ap (insert_letter x) (merged-parts b xs rises.1) ∙ insert-first x xs rises.0
+        | false ↦ merged-first x ours others (AllAfter-filter (letter_rank x) (in_bucket b) xs rises.0) ∙ ap (λ l. x ∷ l) (merged-parts b xs rises.1)
+      ]
+
+  -- they are those that it is a row of
+  pub row-letters : (lists : List (List (Letter P))) (letters : List (Letter P)) → IsRising letters → IsRow lists letters → letters_of lists ≡ letters
+  row-letters [] [] rises row = refl
+  row-letters [] (x ∷ xs) rises row = absurd row
+  row-letters (list ∷ lists) [] rises row = absurd row
+  row-letters (list ∷ lists) (x ∷ xs) rises row =
+      let ours : List (Letter P) = filter (in_bucket (own x)) xs in let others : List (Letter P) = filter (not_in_bucket (own x)) xs in
+      (λ i. merged (row.0 i) (row-letters lists others (IsRising-filter (not_in_bucket (own x)) xs rises.1) row.1 i))
+      ∙ ap (insert_letter x) (merged-parts (own x) xs rises.1) ∙ insert-first x xs rises.0

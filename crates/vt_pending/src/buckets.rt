@@ -1,0 +1,170 @@
+//! Letters in a row of lists, by their times modulo 64.
+
+ghost use Rattle.std.specs.Prelude.{◌≡◌, ◌≢◌, ℕ, ◌<◌, ◌↔◌, [], find, slice_get, IsBitSet};
+ghost use Rattle.std.specs.Option.{option_copied};
+ghost use Rattle.vt_pending.specs.Letters.{some_has_rank};
+ghost use Rattle.vt_pending.specs.Buckets.{bucket_of, some_in_bucket, both_before, lesser, least_of, list_at, without_list, put_list, put_some};
+
+use crate::mask::Mask;
+use std::alloc::Global;
+use vt_key::{Letter, Rank};
+use vt_list::{IterLines, Line, Lines, Predicate};
+
+/// The number of the list where letters of this rank are.
+pub(crate) fn bucket(rank: Rank) -> u32
+    ensures value { result ≡ bucket_of rank }
+    ensures within { result < 64 }
+{
+    (rank.key.time % 64) as u32
+}
+
+/// Whether there is a letter, and it has this rank.
+pub(crate) fn has_rank<P: Copy>(letter: Option<&Letter<P>>, rank: Rank) -> bool
+    ensures { result ≡ some_has_rank rank (option_copied letter.entry) }
+{
+    match letter {
+        Some(letter) => letter.event.rank.is_same(&rank),
+        None => false,
+    }
+}
+
+/// Whether there is a letter, and it belongs into this list.
+fn is_in<P: Copy>(letter: Option<&Letter<P>>, number: u32) -> bool
+    ensures { result ≡ some_in_bucket number (option_copied letter.entry) }
+{
+    let Some(letter) = letter else {
+        return false;
+    };
+    bucket(letter.event.rank) == number
+}
+
+/// Whether there are two letters, and the first is before the second.
+fn is_before<P: Copy>(letter: Option<&Letter<P>>, other: Option<&Letter<P>>) -> bool
+    ensures { result ≡ both_before (option_copied letter.entry) (option_copied other.entry) }
+{
+    match (letter, other) {
+        (Some(letter), Some(other)) => letter.event.rank.is_before(&other.event.rank),
+        _ => false,
+    }
+}
+
+/// Takes a list out of the row: an empty one, where it isn't there.
+pub(crate) fn take_list<P: Copy>(
+    lists: &mut Lines<Letter<P>>,
+    number: u32,
+    alloc: Global,
+) -> Line<Letter<P>>
+    ensures list { result ≡ list_at number lists.old }
+    ensures others { lists.new ≡ without_list number lists.old }
+{
+    let Some(list) = lists.pop_line() else {
+        return Line::new(alloc);
+    };
+    if is_in(list.front(), number) {
+        return list;
+    }
+    let found = take_list(lists, number, alloc);
+    lists.push_line(list);
+    found
+}
+
+/// Puts a list into the row, behind those whose first letters are before its first one.
+pub(crate) fn put_list<P: Copy>(lists: &mut Lines<Letter<P>>, list: Line<Letter<P>>)
+    requires { list ≢ [] }
+    ensures { lists.new ≡ put_list list lists.old }
+{
+    if !is_before(lists.front(), list.front()) {
+        lists.push_line(list);
+        return;
+    }
+    if let Some(first) = lists.pop_line() {
+        put_list(lists, list);
+        lists.push_line(first);
+    }
+}
+
+/// Takes a list out of the row: an empty one, where the mask says that it isn't there.
+pub(crate) fn take_marked<P: Copy>(
+    mask: Mask,
+    lists: &mut Lines<Letter<P>>,
+    number: u32,
+    alloc: Global,
+) -> Line<Letter<P>>
+    requires within { number < 64 }
+    requires marked { (IsBitSet mask.bits number → ⊥) → list_at number lists.old ≡ [] }
+    ensures list { result ≡ list_at number lists.old }
+    ensures others { lists.new ≡ without_list number lists.old }
+{
+    if !mask.has(number) {
+        return Line::new(alloc);
+    }
+    take_list(lists, number, alloc)
+}
+
+/// Puts back what is left of a list, and answers the mask then.
+pub(crate) fn put_back<P: Copy>(
+    mask: Mask,
+    lists: &mut Lines<Letter<P>>,
+    number: u32,
+    list: Line<Letter<P>>,
+) -> Mask
+    requires within { number < 64 }
+    requires marked { IsBitSet mask.bits number }
+    ensures lists { lists.new ≡ put_some list lists.old }
+    ensures bit { IsBitSet result.bits number ↔ (list ≢ []) }
+    ensures others { (c : ℕ) → c ≢ number → IsBitSet result.bits c ↔ IsBitSet mask.bits c }
+{
+    if list.is_empty() {
+        return mask.without(number);
+    }
+    put_list(lists, list);
+    mask
+}
+
+/// The first letter of a list that passes the test.
+pub(crate) fn find_in<'a, P: Copy, T: Predicate<Letter<P>>>(
+    lists: IterLines<'a, Letter<P>>,
+    number: u32,
+    test: &T,
+) -> Option<&'a Letter<P>>
+    ensures { option_copied result ≡ find (T.passes test.now) (list_at number lists.entry) }
+{
+    for list in lists {
+        if is_in(list.peek(), number) {
+            return list.first_passing(test);
+        }
+    }
+    None
+}
+
+/// The letter of least rank among the first ones of each list that pass the test.
+pub(crate) fn find_least<'a, P: Copy, T: Predicate<Letter<P>>>(
+    mut lists: IterLines<'a, Letter<P>>,
+    test: &T,
+) -> Option<&'a Letter<P>>
+    ensures { option_copied result ≡ least_of (T.passes test.now) lists.entry }
+{
+    let list = lists.next()?;
+    let found = list.first_passing(test);
+    earlier(found, find_least(lists, test))
+}
+
+/// The letter of lesser rank, of those that are there.
+fn earlier<'a, P: Copy>(
+    letter: Option<&'a Letter<P>>,
+    other: Option<&'a Letter<P>>,
+) -> Option<&'a Letter<P>>
+    ensures { option_copied result ≡ lesser (option_copied letter.entry) (option_copied other.entry) }
+{
+    match (letter, other) {
+        (Some(first), Some(second)) => {
+            if second.event.rank.is_before(&first.event.rank) {
+                Some(second)
+            } else {
+                Some(first)
+            }
+        }
+        (None, found) => found,
+        (found, None) => found,
+    }
+}
