@@ -194,19 +194,20 @@ impl<'a, M: EventModel> Driver<'a, M> {
         Ok(most)
     }
 
-    /// Sends to each worker that there are letters for.
+    /// Sends to each worker that there are letters for, until all are sent or an inbox is claimed by another place.
     fn post_all(&mut self) -> Result<(), Fault>
         ensures same { self.new.worker.table ≡ self.old.worker.table }
         ensures lasting { IfErr result IsLasting }
     {
-        for v in 0..self.worker.config().workers {
-            if self.worker.kernel().outbox_len() == 0 {
+        for _ in 0..self.worker.config().workers {
+            let Some(v) = self.worker.kernel().next_receiver() else {
+                break;
+            };
+            let answer = self.worker.post(v);
+            if !self.is_done(answer)? {
                 break;
             }
-            let answer = self.worker.post(v);
-            if self.is_done(answer)? {
-                self.bells.post(v);
-            }
+            self.bells.post(v);
         }
         Ok(())
     }
