@@ -24,10 +24,10 @@ const MOST_SPINS: u32 = 32;
 const PAUSES: u32 = 20;
 
 /// How often at most a worker looks at its bell before it sleeps.
-const MOST_LOOKS: u32 = 2_000;
+const MOST_LOOKS: u32 = 8_000;
 
 /// How often at least.
-const LEAST_LOOKS: u32 = 32;
+const LEAST_LOOKS: u32 = 1_000;
 
 /// How many turns a worker makes once another one has left before the end of the run: enough to close a book that all have
 /// handed in to.

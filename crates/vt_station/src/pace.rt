@@ -8,14 +8,20 @@ const MOST_EXECUTIONS: u32 = 16;
 /// How many turns in a row without agreement all workers together execute ahead as if nothing were, where nothing was undone.
 const LONG_PATIENCE: u32 = 128;
 
-/// The same where something was undone.
+/// The same where the worker's bound is low.
 const PATIENCE: u32 = 16;
+
+/// From this bound on a worker has the long patience.
+const HIGH_BOUND: u32 = 8;
 
 /// How many of them each worker has at least.
 const LEAST_PATIENCE: u32 = 4;
 
 /// One in so many letters that are taken back is too many.
 const TOO_MANY: u64 = 4;
+
+/// One in so many is few.
+const FEW: u64 = 8;
 
 /// How far a worker goes ahead: the less the more of what it has sent is taken back.
 #[derive(Drop)]
@@ -65,7 +71,7 @@ impl Pace {
         if self.workers > 1 && (self.made > 0 || self.undone > 0) {
             if self.undone.saturating_mul(TOO_MANY) > self.made {
                 self.most = (self.most / 2).max(1);
-            } else if self.undone == 0 {
+            } else if self.undone.saturating_mul(FEW) <= self.made {
                 self.most = self.most.saturating_add(1).min(MOST_EXECUTIONS);
             }
         }
@@ -83,7 +89,7 @@ impl Pace {
     }
 
     fn patience(&self) -> u32 {
-        let all = if self.most == MOST_EXECUTIONS {
+        let all = if self.most >= HIGH_BOUND {
             LONG_PATIENCE
         } else {
             PATIENCE
