@@ -413,7 +413,10 @@ fn expect_help(
             format!(in alloc; " {least} to {most}")?,
             format!(in alloc; "[default: {}]", range.default)?,
         ] {
-            assert!(rt; line.contains(part.as_str()), "{subcommand} {option} {part}");
+            assert!(rt;
+                line.contains(part.as_str()),
+                "{subcommand} {option} {part}"
+            );
         }
     }
     assert!(rt; help_of(alloc, &["twarp", "help", subcommand]).as_str() == long.as_str());
