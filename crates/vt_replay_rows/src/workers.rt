@@ -9,9 +9,6 @@ use std::thread::Threads;
 /// What is told of a run whose turns don't reach its end.
 const TURNS_SPENT: &str = "twarp: refused 6 turns spent\n";
 
-/// A run of 48,000 records.
-const LONG: &str = "twarp run --model phold --lps 4 --end 12001";
-
 /// What two turns of a single worker commit of the default run.
 const FOUR_LINES: &str = "1 0 1 1\n2 1 1 2\n3 1 1 513\n4 0 1 258\n";
 
@@ -90,41 +87,6 @@ fn turns_that_are_spent_leave_a_beginning(rt: HostRuntime) -> Result<(), Fail> {
             );
             assert!(rt; outcome.err.as_slice() == TURNS_SPENT.as_bytes(), "{turns}");
         }
-    }
-    Ok(())
-}
-
-/// Asserts that a run on so many workers, which can't end within its turns, prints a beginning of the sequential run's records,
-/// some of them, and that its turns are spent.
-fn expect_some(
-    rt: &(impl Abort + AllocGlobal + Threads + Wait + Sync),
-    workers: usize,
-    whole: &[u8],
-) -> Result<(), Fail> {
-    let line = format!(in rt.alloc(); "{LONG} --synch 3 --turns 500 --workers {workers}")?;
-    let outcome = run_within(rt, line.as_str(), 1_000_000, 100)?;
-    let out = outcome.out.as_slice();
-    assert_eq!(rt; outcome.status, 1, "{workers}");
-    assert!(rt;
-        outcome.err.as_slice() == TURNS_SPENT.as_bytes(),
-        "{workers}"
-    );
-    assert!(rt;
-        out.ends_with(b"\n") && out.len() < whole.len(),
-        "{workers}"
-    );
-    assert!(rt; whole.starts_with(out), "{workers}");
-    Ok(())
-}
-
-/// A worker executes at most 16 events a turn, and each process has an event in every tick.
-#[test]
-fn stopped_workers_print_what_was_committed(rt: HostRuntime) -> Result<(), Fail> {
-    let line = format!(in rt.alloc(); "{LONG} --synch 1")?;
-    let whole = run_within(&rt, line.as_str(), 1_000_000, 100)?;
-    assert_eq!(rt; whole.status, 0);
-    for workers in 1..5 {
-        expect_some(&rt, workers, whole.out.as_slice())?;
     }
     Ok(())
 }
