@@ -26,8 +26,8 @@ fn print_run<M: EventModel, O: Write>(
     ensures err { IfErr result (StopsRun (PassesInRun (M.handlers model.now) config) (O.contents out.old) (O.contents out.new) (run_text (M.handlers model.now) config)) }
 {
     let mut run = Sequential::new(alloc, model, config)?;
-    let records = run.run(alloc)?;
-    print_records(out, records.as_slice())
+    run.complete()?;
+    print_records(out, run.records())
 }
 
 /// Simulates a model by Time Warp, in a thread for each worker, and writes the records of the run. Where the run stops, those

@@ -128,6 +128,24 @@ impl<'m, M: EventModel> Engine<'m, M> {
         Ok(true)
     }
 
+    /// Executes events until none is pending: then the records are those of the whole run.
+    ///
+    /// [`Fault::Exhausted`]: the next step would let a send number pass 2^63. [`Fault::Memory`]: it would not, and memory was
+    /// refused. After either the steps made before stand, and the run may be gone on with.
+    pub(crate) fn complete(&mut self) -> Result<(), Fault>
+        ensures model { self.new.model.now ≡ self.old.model.now }
+        ensures config { self.new.config ≡ self.old.config }
+        ensures whole { IfOk result (λ _. self.new.records.items ≡ seq_records (simulation_of (M.handlers self.old.model.now) self.old.config) self.old.config.end) }
+        ensures faults { IfErr result (λ fault. (fault ≡ Memory) ⊎ (fault ≡ Exhausted)) }
+        ensures nothing_left { IfOk result (λ _. self.new.pending.events ≡ []) }
+        ensures counted { IfOk result (λ _. IsCountedWhole (simulation_of (M.handlers self.old.model.now) self.old.config)) }
+        ensures stands { let sim = simulation_of (M.handlers self.old.model.now) self.old.config in (n : ℕ) → StandsAt sim n self.old.pending.events self.old.processes.items self.old.records.items → (k : ℕ) × StandsAt sim (k + n) self.new.pending.events self.new.processes.items self.new.records.items }
+        ensures refused { let sim = simulation_of (M.handlers self.old.model.now) self.old.config in (n : ℕ) → StandsAt sim n self.old.pending.events self.old.processes.items self.old.records.items → IfErr result (λ fault. (k : ℕ) × StandsAt sim (k + n) self.new.pending.events self.new.processes.items self.new.records.items × IsStepRefusal sim (k + n) fault) }
+    {
+        while self.step()? {}
+        Ok(())
+    }
+
     /// Executes events until none is pending, and answers the records of the whole run.
     ///
     /// [`Fault::Exhausted`]: the next step would let a send number pass 2^63. [`Fault::Memory`]: it would not, and memory was
@@ -142,11 +160,11 @@ impl<'m, M: EventModel> Engine<'m, M> {
         ensures stands { let sim = simulation_of (M.handlers self.old.model.now) self.old.config in (n : ℕ) → StandsAt sim n self.old.pending.events self.old.processes.items self.old.records.items → (k : ℕ) × StandsAt sim (k + n) self.new.pending.events self.new.processes.items self.new.records.items }
         ensures refused { let sim = simulation_of (M.handlers self.old.model.now) self.old.config in (n : ℕ) → StandsAt sim n self.old.pending.events self.old.processes.items self.old.records.items → IfErr result (λ fault. (k : ℕ) × StandsAt sim (k + n) self.new.pending.events self.new.processes.items self.new.records.items × IsStepRefusal sim (k + n) fault) }
     {
-        while self.step()? {}
-        let mut all = Vec::new(alloc);
-        all.extend_from_slice(&self.records)
-            .map_err(|_| Fault::Memory)?;
-        Ok(all)
+        self.complete()?;
+        let Ok(records) = Vec::from_slice(alloc, &self.records) else {
+            return Err(Fault::Memory);
+        };
+        Ok(records)
     }
 
     /// The final value of each process, in rising order of processes.

@@ -102,6 +102,32 @@ impl<'m, M: EventModel> Sequential<'m, M> {
         self.engine.step()
     }
 
+    /// Executes events until none is pending: then [`Sequential::records`] are those of the whole run.
+    ///
+    /// [`Fault::Exhausted`]: the next step would let a send number pass 2^63. [`Fault::Memory`]: it would not, and memory was
+    /// refused. After either the steps made before stand, and the run may be gone on with.
+    pub fn complete(&mut self) -> Result<(), Fault>
+        ensures model { self.new.model ≡ self.old.model }
+        ensures config { self.new.config ≡ self.old.config }
+        ensures whole { let sim = simulation_of (M.handlers self.old.model) self.old.config in IfOk result (λ _. self.new.records ≡ seq_records sim self.old.config.end) }
+        ensures nothing_left { IfOk result (λ _. self.new.pending ≡ []) }
+        ensures steps { let sim = simulation_of (M.handlers self.old.model) self.old.config in (n : ℕ) → IsAfter sim n self.old → (k : ℕ) × IsAfter sim (k + n) self.new }
+        ensures reached { IsReached (M.handlers self.old.model) self.old }
+        ensures counted { IfOk result (λ _. IsCountedWhole (simulation_of (M.handlers self.old.model) self.old.config)) }
+        ensures faults { IfErr result (λ fault. (fault ≡ Fault.Memory) ⊎ (fault ≡ Fault.Exhausted)) }
+        ensures refused { let sim = simulation_of (M.handlers self.old.model) self.old.config in (n : ℕ) → IsAfter sim n self.old → IfErr result (λ fault. (k : ℕ) × IsAfter sim (k + n) self.new × IsStepRefusal sim (k + n) fault) }
+    {
+        self.engine.complete()
+    }
+
+    /// The records of the events executed so far, in the order of their rows.
+    pub fn records(&self) -> &[Record]
+        ensures records { result.now ≡ self.now.records }
+        ensures reached { IsReached (M.handlers self.now.model) self.now }
+    {
+        &self.engine.records
+    }
+
     /// Executes events until none is pending, and answers the records of the whole run.
     ///
     /// [`Fault::Exhausted`]: the next step would let a send number pass 2^63. [`Fault::Memory`]: it would not, and memory was

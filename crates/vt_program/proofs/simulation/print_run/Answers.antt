@@ -7,8 +7,8 @@ use Rattle.vt_program.specs.Runs.{run_text, PassesInRun, StopsRun}
 use Rattle.vt_program.proofs.RunLemmas.{run_stops}
 use Rattle.vt_program.proofs.simulation.print_run.Goals as goal
 
-pub returns-in_err-records-clause-err : goal.returns-in_err-records-clause-err
-returns-in_err-records-clause-err g c =
+pub returns-in_err-complete-clause-err : goal.returns-in_err-complete-clause-err
+returns-in_err-complete-clause-err g c =
     let H = g.M.Model.handlers in
     let model = c.args.model.now in
     let config = c.args.config in
@@ -17,7 +17,7 @@ returns-in_err-records-clause-err g c =
     let own : Simulation _ _ = simulation_of (H first.model) first.config in
     let same : own ≡ sim = λ j. simulation_of (H (c.in_ok-run.ensures.model j)) (c.in_ok-run.ensures.config j) in
     let opening : IsAfter own 0 first = subst (λ (s : Simulation _ _). IsAfter s 0 first) (sym same) c.in_ok-run.ensures.opening in
-    let fault = c.in_err-records.field-0.0 in
-    let refused = c.in_err-records.ensures.refused 0 opening in
-    if_err (StopsRun (PassesInRun (H model) config) _ _ (run_text (H model) config)) c.from_residual-in_err-records.result fault c.from_residual-in_err-records.ensures.1
+    let fault = c.in_err-complete.field-0.0 in
+    let refused = c.in_err-complete.ensures.refused 0 opening in
+    if_err (StopsRun (PassesInRun (H model) config) _ _ (run_text (H model) config)) c.from_residual-in_err-complete.result fault c.from_residual-in_err-complete.ensures.1
     (run_stops (H model) config (refused.0 + 0) _ (run_text (H model) config) fault (subst (λ (s : Simulation _ _). IsStepRefusal s (refused.0 + 0) fault) same refused.2))

@@ -2,7 +2,7 @@ use Rattle.std.proofs.Common.{◌≡◌, ℕ, ◌+◌}
 use Rattle.vt_model.specs.Simulation.{simulation_of}
 use Rattle.vt_model.specs.Sequential.{weight}
 use Rattle.vt_seq.specs.StandsFor.{StandsAt}
-use Rattle.vt_seq.proofs.engine.Engine.run.Given as goal
+use Rattle.vt_seq.proofs.engine.Engine.complete.Given as goal
 
 abbrev pub invariant-loop : goal.invariant-loop
 invariant-loop g l = record {
