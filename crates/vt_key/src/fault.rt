@@ -5,17 +5,17 @@ ghost use Rattle.vt_key.specs.Faults.{fault_number};
 
 use thiserror::Error;
 
-/// Why a call was refused. After a refusal of 1 to 5 the callee and all that was lent to it are as they were, save where
-/// a call says otherwise.
+/// Why a call was refused. A call that answers fault 1 to 5 leaves its receiver and its arguments unchanged, unless its own
+/// comment says otherwise.
 #[derive(Debug, Clone, Copy, PartialEq, Eq, Error)]
 pub enum Fault {
-    /// 1: memory was refused, or the machine started no thread.
+    /// 1: the machine refused memory, or refused to start a thread.
     #[error("memory")]
     Memory,
-    /// 2: the call's own rule isn't met.
+    /// 2: the call isn't allowed in the present state. Its comment says when it is.
     #[error("not lawful")]
     NotLawful,
-    /// 3: the cell was found claimed by somebody else.
+    /// 3: another worker has claimed the cell at this moment.
     #[error("busy")]
     Busy,
     /// 4: the book of committed records is closed.
@@ -27,13 +27,13 @@ pub enum Fault {
     /// 6: a worker used all its turns.
     #[error("turns spent")]
     TurnsSpent,
-    /// 7: an option, by its name without dashes, or the input, is refused.
+    /// 7: a bad option, by its name without dashes; `command-line` for a bad command line, `input` for a bad input.
     #[error("bad option {0}")]
     BadOption(&'static str),
-    /// 8: a line of a step text, counted from 1, is refused.
+    /// 8: a bad line of a step text, by its number from 1.
     #[error("bad step at line {0}")]
     BadStep(u64),
-    /// 9: a write failed, or took nothing.
+    /// 9: a write failed, or took no byte.
     #[error("output")]
     Output,
 }

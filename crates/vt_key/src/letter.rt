@@ -9,7 +9,7 @@ use crate::Rank;
 /// An event for a logical process.
 #[derive(Debug, Clone, Copy)]
 pub struct Event<P> {
-    /// Its place in virtual time, and which making of it this is.
+    /// Its key in virtual time, with the stamp of its making.
     pub rank: Rank,
     /// The logical process that receives it.
     pub dest: u32,
@@ -26,8 +26,8 @@ pub enum Sign {
     Minus,
 }
 
-/// A message or an anti-message, which equals its message in all but the sign. The two annihilate, whichever came first
-/// (Jefferson, Virtual Time, 1985).
+/// A message or an anti-message. An anti-message equals its message in all but the sign. The two annihilate each other,
+/// whichever arrives first (Jefferson, Virtual Time, 1985).
 #[derive(Debug, Clone, Copy)]
 pub struct Letter<P> {
     /// The event that is brought or taken back.
@@ -36,8 +36,8 @@ pub struct Letter<P> {
     pub sign: Sign,
 }
 
-/// The colour of a worker and of the mail that it sends. Two colours tell the mail sent before a cut from that sent after
-/// it (Mattern, Efficient Algorithms for Distributed Snapshots and Global Virtual Time Approximation, 1993).
+/// The colour of a worker and of the mail that it sends. Mail sent before a cut has another colour than mail sent after it
+/// (Mattern, Efficient Algorithms for Distributed Snapshots and Global Virtual Time Approximation, 1993).
 #[derive(Debug, Clone, Copy, PartialEq, Eq)]
 pub enum Colour {
     /// The colour of all workers at first.
@@ -67,12 +67,12 @@ pub struct Mail<P> {
     pub colour: Colour,
 }
 
-/// What has a place in the order of queues.
+/// A value with a rank, by which queues are ordered.
 pub trait Ranked {
     /// The rank of a value.
     ghost rank_of: { Self → Rank };
 
-    /// Its rank.
+    /// The rank of this value.
     fn rank(&self) -> Rank
         ensures { result ≡ rank_of self.now };
 }

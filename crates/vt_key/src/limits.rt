@@ -11,5 +11,5 @@ pub const MAX_WORKERS: u32 = 64;
 /// The latest end of a run, in ticks: 2^62.
 pub const MAX_END: Time = 1 << 62;
 
-/// The most that a counter holds, be it of sends, serials, mail or rounds: 2^63.
+/// The largest value of a counter, of sends, serials, mail or rounds: 2^63.
 pub const MAX_COUNT: u64 = 1 << 63;

@@ -5,8 +5,8 @@ ghost use Rattle.vt_key.specs.Order.{KeyBefore, StampBefore, RankBefore, key_bef
 
 use crate::Time;
 
-/// What an event is called in virtual time. Keys compare field by field: time, then source, then number, so that events
-/// of one time have an order that no schedule changes.
+/// The name of an event in virtual time. Keys compare field by field: time, then source, then number. So events of one time
+/// have an order that doesn't depend on the schedule.
 ///
 /// `number` is part of the sender's state and is rolled back with it, so an event that is sent again may have the key of
 /// a cancelled one: a [`Stamp`] tells the two apart.
@@ -33,19 +33,19 @@ impl Key {
     }
 }
 
-/// Which making of an event it is: the worker that made it, and how many that worker had made before. Serials never go
-/// back, so no two events ever made have one stamp.
+/// Identifies one making of an event: the worker that made it, and that worker's serial. Serials never go back, so no two
+/// events ever made have the same stamp.
 #[derive(Debug, Clone, Copy, PartialEq, Eq, PartialOrd, Ord, Hash)]
 pub struct Stamp {
     /// The worker that made the event.
     pub worker: u32,
-    /// How many events that worker had made before it, counted from its first serial.
+    /// The worker's serial when it made the event. It rises by one with each event.
     pub serial: u64,
 }
 
 impl Stamp {
     #[tactic(auto, unfolding(crate::specs::Order::stamp_same))]
-    /// Whether the two are one stamp.
+    /// Whether the two stamps are equal.
     pub fn is_same(&self, other: &Stamp) -> bool
         ensures { result ≡ stamp_same self.now other.now }
     {
@@ -53,12 +53,12 @@ impl Stamp {
     }
 }
 
-/// The order of queues: by key, and among events of one key by stamp.
+/// What queues are ordered by: the key, and for equal keys the stamp.
 #[derive(Debug, Clone, Copy, PartialEq, Eq, PartialOrd, Ord, Hash)]
 pub struct Rank {
-    /// What the event is called in virtual time.
+    /// The event's name in virtual time.
     pub key: Key,
-    /// Which making of it this is.
+    /// Which making of the event this is.
     pub stamp: Stamp,
 }
 
@@ -72,7 +72,7 @@ impl Rank {
     }
 
     #[tactic(auto, unfolding(crate::specs::Order::rank_same, crate::specs::Order::key_same, crate::specs::Order::stamp_same))]
-    /// Whether the two are one rank.
+    /// Whether the two ranks are equal.
     pub fn is_same(&self, other: &Rank) -> bool
         ensures { result ≡ rank_same self.now other.now }
     {
@@ -80,8 +80,8 @@ impl Rank {
     }
 }
 
-/// The orders of keys, stamps and ranks are strict and total: nothing is before itself, what is before something is
-/// before all that follows it, and of two that differ one is before the other.
+/// The orders of keys, stamps and ranks are strict and total: no value is before itself, the order is transitive, and of
+/// two different values one is before the other.
 pub fn orders_are_total()
     ensures keys { IsStrictTotal KeyBefore }
     ensures stamps { IsStrictTotal StampBefore }

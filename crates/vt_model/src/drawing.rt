@@ -7,7 +7,7 @@ ghost use Rattle.vt_model.specs.Handler.{IsUndrawn};
 use crate::MAX_DRAWS;
 use vt_stream::LpStream;
 
-/// What a handler draws its random words from: at most [`MAX_DRAWS`] of them.
+/// The source of a handler's random words: at most [`MAX_DRAWS`] of them.
 ///
 /// They are the next words of the stream of the handler's own process. No other process draws from it, so what a process
 /// draws depends on the seed, on the process and on how many words it drew before, and on nothing that others do. The

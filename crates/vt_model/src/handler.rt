@@ -33,7 +33,8 @@ pub trait Model {
     /// What each handler gives, as a function of what it is handed.
     ghost handlers: { Self → Handlers Self.State Self.Payload Self.Kept };
 
-    /// The states that a process can be in: in the laws below, numbers have no bounds of their own. No handler requires it.
+    /// The states that a process can be in. Numbers are unbounded in the laws below, so this states their bounds. No
+    /// handler requires it.
     ghost IsState: { Self → Self.State → Type 0 };
 
     /// Makes the state of process `lp` at time 0 and sends its first events, which are received at time 1 or later. It makes
@@ -94,7 +95,7 @@ pub trait Model {
     )
         ensures { state.new ≡ (handlers self.now).reverse lp now payload state.old bits kept };
 
-    /// The final value of process `lp`, whose last state this is: no event is pending any more.
+    /// The final value of process `lp`, made of its last state when no event is pending any more.
     fn finish(&self, lp: u32, state: &Self::State) -> u64
         ensures { result ≡ (handlers self.now).finish lp state.now };
 

@@ -95,8 +95,8 @@ impl<M: EventModel> Process<M> {
         }
     }
 
-    /// Executes an event as [`Process::execute`] does, into an out that the caller has: one that [`Out::new`] gave for the
-    /// event's receiver and time and for the process's send number, and that nothing was put into since.
+    /// Executes an event as [`Process::execute`] does, into an `out` of the caller. It must be as [`Out::new`] gives it for
+    /// the event's receiver and time and for the process's send number, with nothing put into it since.
     pub fn execute_into(
         &mut self,
         model: &M,

@@ -2,7 +2,7 @@
 
 use vt_key::{Key, Time};
 
-/// What a model tells of an event: the output of a simulation is a list of records.
+/// One entry of a simulation's output, made by a model while it executes an event.
 #[derive(Debug, Clone, Copy, Default, PartialEq, Eq, PartialOrd, Ord)]
 pub struct Record {
     /// When the event was received, in ticks.

@@ -25,7 +25,7 @@ impl<P: Copy> MadeWith<Sent<P>> for Sent<P> {
     }
 }
 
-/// Where a handler puts what it sends and what it records: at most [`MAX_SENDS`] sends and [`MAX_RECORDS`] records.
+/// Collects what a handler sends and records: at most [`MAX_SENDS`] sends and [`MAX_RECORDS`] records.
 ///
 /// Each send takes the next send number of its process. One that would be received at the end of the run or later takes its
 /// number and isn't sent, so the numbers of a process don't depend on the end. What an event sent and recorded is taken back
@@ -68,7 +68,7 @@ impl<P: Copy> Out<P> {
     ghost use Rattle.vt_model.specs.Sends.{with_requests};
     ghost use Rattle.vt_model.specs.Handler.{IsFresh};
 
-    /// The out of a handler of process `lp` at time `now`, whose next send number is `number`. For simulators: `lp` is
+    /// The `out` of a handler of process `lp` at time `now`, whose next send number is `number`. For simulators: `lp` is
     /// below `config.lps`, `now` below `config.end`, and `number` at most 2^63.
     pub fn new(config: Config, lp: u32, now: Time, number: u64) -> Self
         requires known { lp < config.lps }
@@ -118,10 +118,10 @@ impl<P: Copy> Out<P> {
     }
 
     #[tactic(auto, using(crate::proofs::SendLemmas::sent_one, crate::proofs::SendLemmas::sent_none))]
-    /// Sends `payload` to process `dest`, to be received `delay` ticks from now; in a start, at time `delay`. It takes the
-    /// next send number, and where it would be received at the end of the run or later it isn't sent. `dest` is below
-    /// [`Out::lps`] and may be the handler's own process, `delay` is at least 1 and may be as large as it likes, and there
-    /// must be room ([`Out::room`]).
+    /// Sends `payload` to process `dest`, to be received `delay` ticks from now; in a start, at time `delay`. A send takes
+    /// the next send number. If it would be received at the end of the run or later, it isn't sent. `dest` is below
+    /// [`Out::lps`] and may be the handler's own process. `delay` is at least 1, without an upper limit. There must be room
+    /// ([`Out::room`]).
     pub fn send(&mut self, dest: u32, delay: u64, payload: P)
         requires known { dest < self.old.lps }
         requires later { 1 ≤ delay }

@@ -54,7 +54,7 @@ impl Config {
         })
     }
 
-    /// The worker that owns logical process `p`: processes are dealt out in turn.
+    /// The worker that owns logical process `p`: `p` modulo the number of workers.
     pub fn owner(&self, p: u32) -> u32
         ensures value { result ≡ p % self.now.workers }
         ensures known { result < self.now.workers }

@@ -1,4 +1,4 @@
-//! What holds of the sequential run of every model, so that nobody has to trust its definition.
+//! Theorems on the sequential run of every model: it ends, its rows rise, and it is the only history.
 
 ghost use Rattle.std.specs.Prelude.{◌≡◌, ◌<◌, ◌≤◌, ℕ, suc, List, [], length};
 ghost use Rattle.vt_key.specs.Times.{Time};
@@ -15,8 +15,8 @@ pub fn models_are_lawful<M: Model>(model: &M, config: Config)
     ensures { IsLawful (simulation_of (M.handlers model.now) config) }
 {}
 
-/// The sequential run ends: each step lowers the weight of what is pending, so after as many steps as the weight at the
-/// opening nothing is.
+/// The sequential run ends. Each step lowers the weight of the pending events, so after as many steps as the weight at the
+/// opening no event is pending.
 pub fn run_ends<M: Model>(model: &M, config: Config)
     ensures falls { let sim = simulation_of (M.handlers model.now) config in (n : ℕ) → 0 < length (after_steps sim n).pending → weight sim (after_steps sim (suc n)).pending < weight sim (after_steps sim n).pending }
     ensures ends { let sim = simulation_of (M.handlers model.now) config in (after_steps sim (weight sim (opening sim).pending)).pending ≡ [] }
@@ -33,8 +33,8 @@ pub fn rows_rise<M: Model>(model: &M, config: Config)
     ensures before { (t : Time) → AreRowsRising (seq_rows (simulation_of (M.handlers model.now) config) t) }
 {}
 
-/// There is one history: whoever has, for each process and below a time, exactly the events that the processes send to it
-/// in the order of keys, has the events of the sequential run.
+/// There is only one history. Take for each process, below some time, exactly the events that the processes send to it, in
+/// the order of keys: these are the events of the sequential run.
 pub fn one_history<M: Model>(model: &M, config: Config)
     ensures { let sim = simulation_of (M.handlers model.now) config in (below : Time) (lists : ℕ → List (Sent M.Payload)) → IsHistory sim below lists
         → (t : Time) → t ≤ below → (p : ℕ) → p < config.lps → events_before t (lists p) ≡ seq_events sim p t }

@@ -20,7 +20,7 @@ pub const MAX_LOOKAHEAD: u32 = 1_000_000;
 /// The longest span of drawn delays, in ticks.
 pub const MAX_SPAN: u32 = 1_000_000;
 
-// The sides of the coin by which an event goes to a drawn process.
+// All events, in percent.
 const PERCENT: u64 = 100;
 
 // The flag of an event whose successor goes to a drawn process.

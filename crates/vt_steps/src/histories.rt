@@ -1,6 +1,6 @@
-//! What holds after any list of steps of copies, ranks and histories: the first half of why an optimistic run may be trusted.
-//! "After any steps" means: of any simulation that meets the laws, in the world that any list of the eleven steps, refused
-//! ones among them, makes of its opening world, whatever the first serials are.
+//! Theorems on copies, ranks and histories: the first half of why an optimistic run is right. "After any steps" means: for
+//! any simulation that meets the laws and any first serials, in the world that any list of the eleven steps, refused ones
+//! included, makes of the opening world.
 
 ghost use Rattle.std.specs.Prelude.{ℕ, ◌≡◌, List, Some, Ok, slice_get};
 ghost use Rattle.std.specs.List.{find};
@@ -17,25 +17,25 @@ ghost use Rattle.vt_steps.specs.PartSteps.{is_for};
 ghost use Rattle.vt_steps.specs.Next.{next, reached};
 ghost use Rattle.vt_steps.specs.Claims.{AreCopiesRight, IsProcess, DoRanksRise, AreHistoriesRight};
 
-/// After any steps, each stamp has its copies. A stamp that is live, since a start sent it or what sent it is executed, has
-/// one message or executed event, and no anti-message. Any other stamp that was made has a message or executed event and an
-/// anti-message, or neither; and one that wasn't made has none.
+/// A stamp is live if a start sent its event, or if the event that sent it is executed. After any steps, a live stamp has
+/// one message or executed event, and no anti-message. A stamp that was made and isn't live has one of each, or neither. A
+/// stamp that wasn't made has none.
 ///
-/// No law of the simulation is needed for it, and no order in which letters are delivered.
+/// It holds without the laws of the simulation, and in any order of delivery.
 pub fn copies_are_right<S, P>()
     ghost sim: { Simulation S P }
     ensures { (serial : ℕ) (steps : List Step) (stamp : Stamp) → AreCopiesRight sim serial (reached sim serial steps) stamp }
 {}
 
-/// After any steps, the ranks of what each process has executed rise strictly, what it committed before what it did not.
+/// After any steps, the ranks of what each process has executed rise strictly, the committed events first.
 pub fn ranks_rise<S, P>()
     ghost sim: { Simulation S P }
     requires { IsLawful sim }
     ensures { (serial : ℕ) (steps : List Step) (p : ℕ) (process : LogicalProcess P) → IsProcess sim (reached sim serial steps) p process → DoRanksRise process }
 {}
 
-/// After any steps, wherever the world is quiet below a time, since no event and no anti-message before it is unprocessed or
-/// travelling, each process has executed before it what the sequential run executes there, in the same order.
+/// Let the world be quiet below a time: no event and no anti-message before it is unprocessed or travelling. Then, after
+/// any steps, each process has executed before that time exactly what the sequential run executes there, in the same order.
 pub fn histories_are_right<S, P>()
     ghost sim: { Simulation S P }
     requires { IsLawful sim }

@@ -1,4 +1,4 @@
-//! What the steps keep, whatever the world is.
+//! What the steps keep in every world, whether steps lead to it or not.
 
 ghost use Rattle.std.specs.Prelude.{ℕ, IsTrue};
 ghost use Rattle.vt_key.specs.declared.letter.Event.{Event};
@@ -22,15 +22,15 @@ pub fn local_steps_change_one_part<S, P>()
     ensures { (world : World P) (step : Step) → IsTrue (is_local step) → ChangesOnePart sim world step }
 {}
 
-/// A report is answered that others are awaited, that a new pass begins, or with the new announced time, which changes in
-/// that case alone. Every other step that isn't refused is answered as done.
+/// A report is answered `Waiting`, `Again`, or with the new announced time, which changes in that case alone. Every other
+/// step that isn't refused is answered `Done`.
 pub fn reports_are_answered<S, P>()
     ghost sim: { Simulation S P }
     ensures { (world : World P) (step : Step) → IsReplyRight sim world step }
 {}
 
-/// A message and its anti-message annihilate each other, whichever came first: a process to which both came and that
-/// cancels them is what it was (Jefferson, Virtual Time, 1985).
+/// A message and its anti-message annihilate each other, whichever came first: a process that receives both and cancels
+/// them is as it was before (Jefferson, Virtual Time, 1985).
 pub fn letters_annihilate<S, P>()
     ghost event: { Event P }
     ensures { (process : LogicalProcess P) → IsFreeOf event.rank.stamp process → Annihilate event process }
@@ -44,7 +44,7 @@ pub fn letters_are_kept<S, P>()
     ensures { (world : World P) → AreLettersRight sim world }
 {}
 
-/// No step makes or loses mail: of each colour, what is sent by it is got or travels.
+/// No step makes or loses mail: of each colour, the mail that was sent is the mail that was got and the mail that travels.
 pub fn mail_is_kept<S, P>()
     ghost sim: { Simulation S P }
     ensures { (world : World P) (step : Step) → IsMailKept world (next sim world step).world }

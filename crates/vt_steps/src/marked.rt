@@ -1,5 +1,5 @@
-//! What holds of runs whose steps are marked with the workers that make them: what a worker's own steps do whatever the others
-//! did before, and what it can tell from them.
+//! Theorems on lists of steps that are marked with the workers that make them: what a worker's own steps do, whatever the
+//! others did, and what it can conclude from their answers.
 
 ghost use Rattle.std.specs.Prelude.{ℕ, ◌≡◌, ◌<◌, ◌++◌, [], ◌∷◌, List, Some, None, Ok, true, false, slice_get};
 ghost use Rattle.vt_key.specs.Times.{TimeAtMost, TimeBefore};
@@ -37,8 +37,8 @@ pub fn cuts_are_refused_after_a_cut<S, P>()
     ensures { (w : ℕ) (marks : List Marked) → Each (IsMarkedRight sim) marks → w < sim.workers → cut_board sim.end w (shown sim marks).board ≡ None → has_cut_since false (own_steps_of sim w marks) ≡ true }
 {}
 
-/// Where a worker's close was done the book is closed. Where the book is closed, each worker's floor is the end of the run; and
-/// where it may not be closed, its floor is below the end.
+/// Once a worker's close was done, the book is closed. If the book is closed, each worker's floor is the end of the run. If
+/// the book may not be closed, the book's floor is below the end.
 pub fn closes_are_known<S, P>()
     ghost sim: { Simulation S P }
     requires { IsLawful sim }

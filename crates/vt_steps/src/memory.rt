@@ -1,4 +1,4 @@
-//! What a value in memory, which keeps no committed history, can be known to stand for.
+//! Which process or world of the definitions a value in memory stands for, although it keeps no committed history.
 
 ghost use Rattle.std.specs.Prelude.{◌≡◌, ℕ, List, [], ◌∷◌, ◌++◌, map, Result};
 ghost use Rattle.vt_key.specs.declared.fault.Fault.{Fault};
@@ -8,15 +8,15 @@ ghost use Rattle.vt_steps.specs.declared.step.Reply.{Reply};
 ghost use Rattle.vt_steps.specs.World.{Entry, LogicalProcess, triple_after};
 ghost use Rattle.vt_steps.specs.StandsFor.{Remembered, ProcessMemory, WorldMemory, entry_of, fired_at, IsRemembered, StandsForProcess, GoesOn, RunsTo, StandsForReached};
 
-/// Where a value says that its process stands is where the process stands after all its events, committed or not.
+/// The state, send number and place that a value holds are those of its process after all its events, committed or not.
 pub fn memory_is_where_the_history_leads<S, P>()
     ghost sim: { Simulation S P }
     ensures { (p : ℕ) (memory : ProcessMemory S P) (process : LogicalProcess P) → StandsForProcess sim p memory process →
         triple_after sim p (process.done ++ process.past) ≡ memory.triple }
 {}
 
-/// An event that is rightly remembered lengthens the past: a value that stood for a process then stands for the process
-/// with that event as its last past entry.
+/// A value that stands for a process, and remembers one more executed event rightly, stands for the process with that event
+/// as its last past entry.
 pub fn memory_goes_on<S, P>()
     ghost sim: { Simulation S P }
     ensures { (p : ℕ) (memory : ProcessMemory S P) (process : LogicalProcess P) (e : Remembered S P) → StandsForProcess sim p memory process →
@@ -25,8 +25,7 @@ pub fn memory_goes_on<S, P>()
         (record process { past = process.past ++ entry_of e ∷ [] }) }
 {}
 
-/// The way back of the last past event leads to where the process stood before it: a value that goes back stands for the
-/// process without that entry.
+/// A value that goes back over its last past event stands for the process without that entry.
 pub fn memory_goes_back<S, P>()
     ghost sim: { Simulation S P }
     ensures { (p : ℕ) (memory : ProcessMemory S P) (process : LogicalProcess P) (past : List (Remembered S P)) (e : Remembered S P) →
@@ -43,7 +42,7 @@ pub fn memory_forgets_what_is_committed<S, P>()
         (record process { done = process.done ++ map entry_of first; past = map entry_of rest }) }
 {}
 
-/// A value that stands for a reached world and goes on by a step, or by a list of steps, stands for a reached world again.
+/// A value that stands for a reached world and makes a step, or a list of steps, stands for a reached world again.
 pub fn values_stay_reached<S, P>()
     ghost sim: { Simulation S P }
     ensures step { (serial : ℕ) (step : Step) (answer : Result Reply Fault) (old new : WorldMemory S P) → GoesOn sim step answer old new →

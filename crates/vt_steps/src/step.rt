@@ -32,7 +32,7 @@ pub enum Step {
     Close,
 }
 
-/// What a step answers that was done.
+/// The answer to a step that was done.
 #[derive(Debug, Clone, Copy, PartialEq, Eq)]
 pub enum Reply {
     /// The step was done.

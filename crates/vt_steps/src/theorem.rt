@@ -1,6 +1,6 @@
-//! What holds after any list of steps of times, floors and the book: the second half of why an optimistic run may be trusted.
-//! "After any steps" means: of any simulation that meets the laws, in the world that any list of the eleven steps, refused
-//! ones among them, makes of its opening world, whatever the first serials are.
+//! Theorems on times, floors and the book: the second half of why an optimistic run is right. "After any steps" means: for
+//! any simulation that meets the laws and any first serials, in the world that any list of the eleven steps, refused ones
+//! included, makes of the opening world.
 
 ghost use Rattle.std.specs.Prelude.{ℕ, ◌≡◌, IsTrue, List};
 ghost use Rattle.vt_model.specs.Simulation.{Simulation};
@@ -23,9 +23,9 @@ pub fn floors_are_right<S, P>()
         NothingFalls sim (reached sim serial steps) (run sim (reached sim serial steps) more) }
 {}
 
-/// After any steps, the book's records are exactly the sequential run's records below the book's floor, in the order in which
-/// that run makes them, each once. Among all rows of the book, those that it doesn't show yet too, each key and index stands
-/// once.
+/// After any steps, the book's records are exactly the sequential run's records below the book's floor, in the order in
+/// which that run makes them, each once. No two rows of the book have the same key and index; this includes rows that it
+/// doesn't show yet.
 pub fn records_are_right<S, P>()
     ghost sim: { Simulation S P }
     requires { IsLawful sim }

@@ -11,18 +11,18 @@ use rand_core::SeedableRng;
 use rand_core::utils::NextWord;
 use std::marker::Model;
 
-// The words of a window: half of those that `rand_chacha` computes at once, since every process has a window.
+// How many words a stream keeps: half of what `rand_chacha` computes at once, since every process keeps as many.
 const WINDOW: usize = 32;
 
 /// The stream of random words of one logical process. Contracts see its key, its process and the place of the next word.
 ///
-/// It keeps the words around its place: to draw one of them, to go back and to seek computes nothing.
+/// It keeps the words around its place, so drawing one of them, going back and seeking compute nothing.
 #[derive(Drop)]
 pub struct LpStream {
     seed: u64,
     lp: u32,
-    // The words from place `first` on, of which `len` are known: none at first, and then all. What each draw reads stands
-    // together, behind them.
+    // The words from place `first` on; `len` of them are known, none at first and then all. The fields that each draw reads
+    // stand together behind them.
     words: [u32; WINDOW],
     first: u64,
     len: u64,
