@@ -12,7 +12,7 @@ use crate::worker_set::WorkerSet;
 use std::marker::Model;
 use vt_key::{Fault, MAX_COUNT, Time};
 
-/// What a report comes to.
+/// The outcome of a report.
 #[derive(Debug, Clone, Copy, PartialEq, Eq)]
 pub enum Report {
     /// The report was taken, and others are awaited in this pass.
@@ -66,7 +66,7 @@ impl Board {
         Board::with_rounds(workers, end, 0)
     }
 
-    /// The same board with so many rounds behind it, at most 2^63.
+    /// A board as [`Board::new`] makes it, with `rounds` rounds already counted, at most 2^63.
     pub fn with_rounds(workers: u32, end: Time, rounds: u64) -> Board
         requires some_worker { 1 ≤ workers }
         requires few_workers { workers ≤ MAX_WORKERS }
@@ -88,8 +88,8 @@ impl Board {
         }
     }
 
-    /// The announced time, in ticks, at most the end of the run. Where the workers of a run report what they have and have
-    /// sent, nothing that is still to be executed or that travels between them is before it.
+    /// The announced time, in ticks, at most the end of the run. If the workers report what they have and have sent,
+    /// nothing unprocessed or travelling is before it.
     pub fn announced(&self) -> Time
         ensures announced { result ≡ self.now.board.announced }
         ensures in_time { TimeAtMost result self.now.end }
@@ -98,7 +98,7 @@ impl Board {
     }
 
     #[tactic(auto, unfolding(vt_steps::specs::BoardSteps::with_open_round))]
-    /// Worker `w` cuts in the open round; where none is open a new one begins. The answer is the announced time.
+    /// Worker `w` cuts in the open round, or opens a new one if none is open. The answer is the announced time.
     ///
     /// [`Fault::NotLawful`]: `w` is no worker, or it has cut in the open round. [`Fault::Exhausted`]: one more round would be
     /// more than 2^63. A refused cut changes nothing.
@@ -128,8 +128,8 @@ impl Board {
     }
 
     #[tactic(auto, unfolding(vt_steps::specs::BoardSteps::with_report, vt_steps::specs::BoardSteps::board_after_report, vt_steps::specs::BoardSteps::report_reply))]
-    /// Worker `w` reports: how much mail of the old colour it has ever sent and got, and the least time, in ticks, of all that
-    /// it has and of all that it sent since its cut. The last report closes the pass.
+    /// Worker `w` reports how much mail of the old colour it has ever sent and got, and the least time, in ticks, of all
+    /// that it has and of all that it sent since its cut. The last report closes the pass.
     ///
     /// [`Fault::NotLawful`]: `w` is no worker, no round is open, somebody hasn't cut, `w` has reported in this pass, or the
     /// value is below the announced time or above the end of the run. A refused report changes nothing.

@@ -1,4 +1,4 @@
-//! What a whole pass comes to, whatever the order of its reports.
+//! The outcome of a whole pass, in any order of its reports.
 
 ghost use Rattle.vt_board.specs.Passes.{ArePassesClosedBySums};
 

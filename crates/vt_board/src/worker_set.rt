@@ -7,7 +7,7 @@ ghost use Rattle.vt_steps.specs.BoardSteps.{all_set, is_clear};
 use std::marker::Model;
 use vt_key::MAX_WORKERS;
 
-/// Some of the workers of a run. Contracts see a flag for each worker.
+/// A set of workers of a run. Contracts see a flag for each worker.
 #[derive(Drop)]
 pub(crate) struct WorkerSet {
     workers: usize,
@@ -26,7 +26,7 @@ impl Model for WorkerSet {
 }
 
 impl WorkerSet {
-    /// None of so many workers.
+    /// The empty set, in a run of `workers` workers.
     pub(crate) fn none_of(workers: u32) -> WorkerSet
         requires { workers ≤ MAX_WORKERS }
         ensures { result ≡ replicate workers false }
@@ -51,7 +51,7 @@ impl WorkerSet {
         self.knows(w) && !self.flags[w as usize]
     }
 
-    /// Whether all workers are in the set.
+    /// Whether all workers of the run are in the set.
     pub(crate) fn is_full(&self) -> bool
         ensures { result ≡ all_set self.now }
     {

@@ -1,4 +1,4 @@
-//! Rows that are handed in together, made ready before.
+//! Rows that are prepared to be handed in together.
 
 ghost use Rattle.std.specs.Prelude.{◌≡◌, ◌++◌, length, IfOk, IfErr, MatchOption};
 ghost use Rattle.std.specs.List.{list_all};
@@ -15,7 +15,8 @@ use vt_model::Row;
 
 /// Rows that a worker is going to hand in. Contracts see them in the order in which they were given.
 ///
-/// When it is made its rows are copied and put in order, so handing it in moves them alone. It may go to another thread.
+/// The rows are copied and sorted when the batch is made, so that a hand-in only moves them. A batch may go to another
+/// thread.
 #[derive(Drop)]
 pub struct Batch {
     rows: History,
@@ -36,7 +37,7 @@ impl Model for Batch {
 }
 
 impl Batch {
-    /// These rows, in any order.
+    /// A batch of these rows, which may come in any order.
     ///
     /// [`Fault::Memory`]: memory was refused.
     pub fn new(alloc: Global, rows: &[Row]) -> Result<Batch, Fault>
@@ -58,7 +59,7 @@ impl Batch {
         self.count
     }
 
-    /// Whether all rows have times from one time on and below another.
+    /// Whether the times of all rows are at least `from` and below `to`.
     pub(crate) fn are_within(&self, from: Time, to: Time) -> bool
         ensures { result ≡ list_all (is_within from to) self.now }
     {
@@ -68,14 +69,14 @@ impl Batch {
         }
     }
 
-    /// What was handed in, and these rows last.
+    /// The history with these rows appended.
     pub(crate) fn after(&self, history: &History) -> History
         ensures { result.rows ≡ history.now.rows ++ self.now }
     {
         history.and(&self.rows)
     }
 
-    /// The run of the rows; None where there is none.
+    /// The rows as a sorted run; None if there is no row.
     pub(crate) fn into_run(self) -> Option<Run>
         ensures { IsRunOf self result }
     {

@@ -50,8 +50,7 @@ impl Model for Book {
 }
 
 impl Book {
-    /// The book of a run with so many workers, up to 64, and this end: nothing was handed in, and it is open. It takes no
-    /// memory.
+    /// An open book without rows, for a run of `workers` workers, up to 64, that ends at `end`. It takes no memory.
     pub fn new(alloc: Global, workers: u32, end: Time) -> Book
         requires { workers ≤ MAX_WORKERS }
         ensures end { result.end ≡ end }
@@ -67,8 +66,8 @@ impl Book {
         }
     }
 
-    /// Takes what a worker hands in: rows, in any order, and the floor up to which it has handed in with them. From then on
-    /// that is the worker's floor, and the rows are in the book.
+    /// Takes the rows, in any order, that a worker hands in, and the floor below which these are its last rows. From then
+    /// on the rows are in the book, and the floor is the worker's.
     ///
     /// [`Fault::Closed`]: the book is closed. [`Fault::NotLawful`]: there is no such worker, the floor is below the worker's
     /// or after the end of the run, or a row's time isn't from the worker's floor on and below the new one.
@@ -90,8 +89,8 @@ impl Book {
         self.take(worker, batch, floor)
     }
 
-    /// Takes what a worker hands in, as [`Book::hand`] does, of rows that were made ready before. No row is copied or sorted:
-    /// memory is asked for at most twice, for records that will be shown and for one more batch. A batch that is refused is gone.
+    /// Takes a prepared batch, as [`Book::hand`] takes rows. No row is copied or sorted. Memory is asked for at most twice:
+    /// for records that will be shown, and for one more batch. A batch that is refused is dropped.
     pub fn hand_batch(&mut self, worker: u32, batch: Batch, floor: Time) -> Result<(), Fault>
         ensures refused { IfSome (refusal_of_hand self.old worker batch floor) (λ fault. result ≡ Err fault) }
         ensures taken { refusal_of_hand self.old worker batch floor ≡ None → MatchResult result
@@ -141,7 +140,7 @@ impl Book {
         handed_in <= floor && floor <= self.end && are_within(rows, handed_in, floor)
     }
 
-    /// The same of rows that were made ready.
+    /// The same for a prepared batch.
     fn may_hand_batch(&self, worker: u32, batch: &Batch, floor: Time) -> bool
         ensures { result ≡ may_hand self.now worker batch.now floor }
     {
@@ -196,7 +195,7 @@ impl Book {
     }
 }
 
-/// Whether all rows have times from one time on and below another.
+/// Whether the times of all rows are at least `from` and below `to`.
 fn are_within(rows: &[Row], from: Time, to: Time) -> bool
     ensures { result ≡ list_all (is_within from to) rows.now }
 {
@@ -204,7 +203,7 @@ fn are_within(rows: &[Row], from: Time, to: Time) -> bool
         .all(|row| from <= row.key.time && row.key.time < to)
 }
 
-/// Makes room for the records of all rows that wait and of so many more.
+/// Makes room for the records of all waiting rows and of `more` others.
 ///
 /// [`Fault::Memory`]: memory was refused.
 fn make_room(shown: &mut Vec<Record>, waiting: &Waiting, more: usize) -> Result<(), Fault>
@@ -217,7 +216,7 @@ fn make_room(shown: &mut Vec<Record>, waiting: &Waiting, more: usize) -> Result<
     shown.reserve(all).map_err(|_| Fault::Memory)
 }
 
-/// Takes out the rows that wait and are before a time, and shows their records, in the order of the rows.
+/// Moves the waiting rows before a time to the shown records, in the order of the rows.
 fn show_before(waiting: &mut Waiting, shown: &mut Vec<Record>, time: Time)
     requires { vec_len shown.old + length waiting.old ≤ vec_capacity shown.old }
     ensures shown { shown.new.items ≡ shown.old.items ++ records_of (rows_in_order (rows_before time waiting.old)) }

@@ -28,7 +28,7 @@ impl Model for Floors {
 }
 
 impl Floors {
-    /// The floors of so many workers, which have handed in nothing.
+    /// The floors of `workers` workers that have handed in nothing: each is 0.
     pub(crate) fn new(workers: u32) -> Floors
         requires { workers ≤ MAX_WORKERS }
         ensures { result ≡ replicate workers opening_time }
@@ -39,7 +39,7 @@ impl Floors {
         }
     }
 
-    /// The floor of a worker; None where there is no such worker.
+    /// The floor of a worker; None if there is no such worker.
     pub(crate) fn get(&self, worker: u32) -> Option<Time>
         ensures { result ≡ slice_get self.now worker }
     {
@@ -56,7 +56,7 @@ impl Floors {
         self.floors[worker as usize] = floor;
     }
 
-    /// The least floor, or the end of the run where there is no worker.
+    /// The least floor, or the end of the run if there is no worker.
     pub(crate) fn least(&self, end: Time) -> Time
         ensures { result ≡ least_floor end self.now }
     {

@@ -7,8 +7,8 @@ ghost use base.Fml.{ftrue};
 use std::marker::Model;
 use vt_model::Row;
 
-/// The rows that were handed in, in the order in which they were. Contracts alone see them: a value takes no space, so rows
-/// may be kept in another order, and not all that was handed in need be kept.
+/// The rows that were handed in, in their order. Contracts alone see them: a value takes no space. So the book may keep
+/// rows in another order, and may drop some.
 #[derive(Drop)]
 pub(crate) struct History {
     pub(crate) ghost rows: { List RowValue },
@@ -22,21 +22,21 @@ impl Model for History {
 unsafe impl Send for History {}
 
 impl History {
-    /// Nothing was handed in.
+    /// The history in which nothing was handed in.
     pub(crate) fn new() -> History
         ensures { result.rows ≡ [] }
     {
         History {}
     }
 
-    /// The same and these rows, which are handed in last.
+    /// This history with these rows appended.
     pub(crate) fn with(&self, rows: &[Row]) -> History
         ensures { result.rows ≡ self.now.rows ++ rows.now }
     {
         History {}
     }
 
-    /// The same and those of another, which are handed in last.
+    /// This history with another one appended.
     pub(crate) fn and(&self, later: &History) -> History
         ensures { result.rows ≡ self.now.rows ++ later.now.rows }
     {

@@ -13,8 +13,8 @@ use std::cmp::Reverse;
 use vt_key::{Fault, Time};
 use vt_model::Row;
 
-/// Some rows, at least one: the first in order, and the others so that the next in order is last. A run is the greater, the
-/// earlier its first row is.
+/// At least one row, sorted: the first row, and the others with the next one last. Runs compare in reverse by their first
+/// rows: the run with the earliest row is the greatest.
 #[derive(PartialEq, Eq, PartialOrd, Ord, Drop)]
 pub(crate) struct Run {
     pub(crate) first: Reverse<Row>,
@@ -22,7 +22,7 @@ pub(crate) struct Run {
 }
 
 impl Run {
-    /// The first row in order, and the run of the others, if there are any.
+    /// The first row, and the run of the others, if there are any.
     pub(crate) fn split(self) -> (Row, Option<Run>)
         requires { IsRun self }
         ensures { (result.0 ≡ self.first.0) × MatchOption result.1
@@ -36,7 +36,7 @@ impl Run {
         (first.0, Some(Run { first: next, rest }))
     }
 
-    /// Whether all rows have times from one time on and below another. It reads the first and the last row in order alone.
+    /// Whether the times of all rows are at least `from` and below `to`. It reads the first row and the last one alone.
     pub(crate) fn is_within(&self, from: Time, to: Time) -> bool
         requires { IsRun self.now }
         ensures { result ≡ list_all (is_within from to) (rows_of self.now) }
@@ -45,7 +45,7 @@ impl Run {
         from <= least && most < to
     }
 
-    /// The time of the first row in order, and that of the last.
+    /// The time of the first row, and that of the last.
     fn span(&self) -> (Time, Time)
         ensures { (result.0 ≡ self.now.first.0.key.time) × (result.1 ≡ (get_or self.now.rest.items 0 self.now.first).0.key.time) }
     {
@@ -54,7 +54,7 @@ impl Run {
     }
 }
 
-/// The run of these rows; None where there is none.
+/// These rows as a sorted run; None if there is no row.
 ///
 /// [`Fault::Memory`]: memory was refused.
 pub(crate) fn run_of(alloc: Global, rows: &[Row]) -> Result<Option<Run>, Fault>
@@ -68,7 +68,7 @@ pub(crate) fn run_of(alloc: Global, rows: &[Row]) -> Result<Option<Run>, Fault>
     Ok(Some(Run { first, rest }))
 }
 
-/// These rows, the last in order first.
+/// These rows in falling order.
 ///
 /// [`Fault::Memory`]: memory was refused.
 fn falling(alloc: Global, rows: &[Row]) -> Result<Vec<Reverse<Row>>, Fault>
@@ -83,7 +83,7 @@ fn falling(alloc: Global, rows: &[Row]) -> Result<Vec<Reverse<Row>>, Fault>
     Ok(falling)
 }
 
-/// These rows, each so that what is before is greater.
+/// These rows, each wrapped so that its order is reversed.
 fn wrapped(alloc: Global, rows: &[Row]) -> Result<Vec<Reverse<Row>>, AllocError>
     ensures { IfOk result (λ v. v.items ≡ map (λ r. record { 0 = r }) rows.now) }
 {

@@ -3,7 +3,7 @@
 ghost use Rattle.std.specs.Prelude.{◌≡◌, ◌≢◌, ℕ, ◌*◌, ◌/◌, ◌<◌, ◌≤◌, ◌^◌, length, slice_set, true, false, IfSome, IfNone};
 ghost use Rattle.vt_marks.specs.Bits.{is_one, is_set, AreSums};
 
-/// The word with a bit, which is below 64, set or cleared.
+/// The word with bit `bit`, which is below 64, set or cleared.
 fn with_bit(word: u64, bit: u32, value: bool) -> u64
     requires { bit < 64 }
     ensures own { is_one result bit ≡ value }
@@ -13,7 +13,7 @@ fn with_bit(word: u64, bit: u32, value: bool) -> u64
     if value { word | one } else { word & !one }
 }
 
-/// The first bit of a word that is set, from one on, which is below 64.
+/// The first set bit of a word at or after bit `from`, which is below 64.
 pub(crate) fn first_one(word: u64, from: u32) -> Option<u32>
     requires { from < 64 }
     ensures set { IfSome result (λ bit. (from ≤ bit) × (bit < 64) × (is_one word bit ≡ true)) }
@@ -27,7 +27,7 @@ pub(crate) fn first_one(word: u64, from: u32) -> Option<u32>
     Some(rest.trailing_zeros())
 }
 
-/// Sets or clears the bit of a place. Tells its word as it then is.
+/// Sets or clears the bit of a place, and returns the word that holds it afterwards.
 pub(crate) fn write(words: &mut [u64], place: usize, value: bool) -> u64
     requires { place / 64 < length words.old }
     ensures word { words.new ≡ slice_set words.old (place / 64) result }
@@ -39,7 +39,7 @@ pub(crate) fn write(words: &mut [u64], place: usize, value: bool) -> u64
     word
 }
 
-/// The first place, from one on, whose bit is set.
+/// The first place at or after `from` whose bit is set.
 pub(crate) fn first_set(words: &[u64], from: usize) -> Option<usize>
     requires { length words.now ≤ 2 ^ 58 }
     ensures set { IfSome result (λ place. (from ≤ place) × (is_set words.now place ≡ true)) }
@@ -56,7 +56,7 @@ pub(crate) fn first_set(words: &[u64], from: usize) -> Option<usize>
     None
 }
 
-/// The same where sums tell which words have a bit that is set: the other words aren't looked at.
+/// The same, where `sums` says which words have a set bit: the other words aren't read.
 pub(crate) fn first_of_sums(words: &[u64], sums: &[u64], from: usize) -> Option<usize>
     requires few { length words.now ≤ 2 ^ 58 }
     requires few_sums { length sums.now ≤ 2 ^ 58 }

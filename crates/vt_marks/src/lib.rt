@@ -1,4 +1,4 @@
-//! Marks: which of some places are marked. Those that are can be visited in rising order without a look at the others.
+//! A set of marked places, which can be visited in rising order without a look at the unmarked ones.
 #![tactic(auto)]
 
 mod bits;

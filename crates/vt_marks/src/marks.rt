@@ -6,10 +6,11 @@ use crate::bits::{first_of_sums, write};
 use std::alloc::{AllocError, Global};
 use std::marker::Model;
 
-/// Marks of places, which are numbered from 0. Contracts see the list of them. No call takes memory but the first one.
+/// Marks of places, which are numbered from 0. Contracts see a list with a flag for each place. Only [`Marks::new`] takes
+/// memory.
 ///
-/// A place has a bit, and a word of 64 bits has one that tells whether a place is marked there. So the places that are not
-/// marked cost next to nothing where those that are get visited.
+/// A place is a bit. A second level has a bit for each word of 64 places, set if one of them is marked. So a visit of the
+/// marked places skips the others quickly.
 #[derive(Drop)]
 pub struct Marks {
     count: usize,
@@ -29,7 +30,7 @@ impl Model for Marks {
 }
 
 impl Marks {
-    /// So many places, of which none is marked.
+    /// `count` places, none of them marked. An error means that memory was refused.
     pub fn new(alloc: Global, count: usize) -> Result<Marks, AllocError>
         ensures { IfOk result (λ marks. marks ≡ replicate count false) }
     {
@@ -38,7 +39,7 @@ impl Marks {
         Ok(Marks { count, words, sums })
     }
 
-    /// Marks a place, or takes its mark away. Where there is no such place, nothing is done.
+    /// Marks a place, or takes its mark away. Does nothing if there is no such place.
     pub fn set(&mut self, place: usize, value: bool)
         ensures { self.new ≡ slice_set self.old place value }
     {
@@ -49,7 +50,7 @@ impl Marks {
         write(&mut self.sums, place / 64, word != 0);
     }
 
-    /// The first marked place from one on; None where there is none.
+    /// The first marked place at or after `place`; None if there is none.
     pub fn first_from(&self, place: usize) -> Option<usize>
         ensures marked { IfSome result (λ first. (place ≤ first) × (slice_get self.now first ≡ Some true)) }
         ensures first { IfSome result (λ first. (other : ℕ) → place ≤ other → other < first → slice_get self.now other ≡ Some true → ⊥) }

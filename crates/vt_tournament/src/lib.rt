@@ -1,9 +1,9 @@
-//! A tournament: of many contestants, each with a rank or none, it tells the one of least rank. Their ranks stay with them:
-//! it keeps who won where, and asks a contestant for its rank where that changed, or where two ranks begin alike. After a
-//! change it is decided anew at a cost that grows with the logarithm of their number. It takes memory only when it is made.
+//! A tournament finds the contestant of least rank among many. It keeps the winner at each node of a tree. The ranks stay
+//! with the contestants, which are asked for them after a change and in ties. A change costs time that grows with the
+//! logarithm of the number of contestants. Only the making of a tournament takes memory.
 //!
 //! This is the winner tree of replacement selection (Knuth, The Art of Computer Programming, volume 3, section 5.4.1), with
-//! two places below each inner one.
+//! two children of each inner node.
 #![tactic(auto)]
 
 mod contestants;

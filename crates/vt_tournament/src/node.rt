@@ -1,4 +1,4 @@
-//! A node of the tree, and who of two is ahead.
+//! A node of the tree, and the better of two nodes.
 
 ghost use Rattle.std.specs.Prelude.{◌≡◌, ◌≤◌, ◌^◌, not, nat_eq, nat_lt, if◌then◌else◌, length};
 ghost use Rattle.vt_tournament.specs.Contest.{is_ahead, winner_of, contestant, nobodys_number, node_of, packed, unpacked};
@@ -6,14 +6,14 @@ ghost use Rattle.vt_tournament.specs.Contest.{is_ahead, winner_of, contestant, n
 use crate::contestants::Contestants;
 use vt_key::{Rank, Time};
 
-/// No time is later: where who takes no part stands.
+/// The time of a node that has no winner. No time is later.
 const LATEST: Time = Time::MAX;
 
-/// The number in a node of nobody. There are at most 2^31 contestants, so it is no contestant's.
+/// The number of a node that has no winner. There are at most 2^31 contestants, so no contestant has it.
 const NOBODY: u32 = u32::MAX;
 
-/// A node: who won there, and the beginning of its rank, which mostly decides between two. It is small, since deciding a
-/// tournament reads and writes many. Where nobody takes part it is the one node of nobody, so no entry has to tell that.
+/// A node: the number of its winner and the first part of the winner's rank, which mostly decides between two nodes. It is
+/// small, since each change reads and writes many. All nodes without a winner are equal.
 #[derive(Clone, Copy)]
 pub(crate) struct Node {
     pub(crate) time: Time,
@@ -22,7 +22,7 @@ pub(crate) struct Node {
 }
 
 impl Node {
-    /// The node of a contestant; of one that takes no part, that of nobody.
+    /// The leaf of a contestant. Without a rank the contestant takes no part, and the leaf has no winner.
     pub(crate) fn new(number: u32, rank: &Option<Rank>) -> Node
         ensures { result ≡ node_of (record { rank = rank.now; number = number }) }
     {
@@ -40,14 +40,14 @@ impl Node {
         }
     }
 
-    /// Whether somebody won there who takes part.
+    /// Whether the node has a winner.
     pub(crate) fn takes_part(&self) -> bool
         ensures { result ≡ not (nat_eq self.now.number nobodys_number) }
     {
         self.number != NOBODY
     }
 
-    /// The fields in one number: nodes in the order of these numbers are in the order of their fields.
+    /// The fields in one number. The order of these numbers is the order of the fields.
     fn packed(self) -> u128
         ensures { result ≡ packed self }
     {
@@ -56,7 +56,7 @@ impl Node {
             + self.number as u128
     }
 
-    /// The node with the fields in such a number.
+    /// The node whose fields are packed into this number.
     fn unpacked(fields: u128) -> Node
         ensures { result ≡ unpacked fields }
     {
@@ -67,8 +67,8 @@ impl Node {
         }
     }
 
-    /// The one of the two whose fields come first. One number is chosen of two, for which a processor has an instruction: of a
-    /// choice between three fields a compiler makes branches, which are foretold wrongly half the time.
+    /// The node whose fields come first, without a branch. The lesser of two numbers takes one instruction; comparing three
+    /// fields takes branches, half of which would be mispredicted.
     fn earlier(self, other: Node) -> Node
         ensures { result ≡ (if nat_lt (packed other) (packed self) then other else self) }
     {
@@ -77,8 +77,8 @@ impl Node {
         Node::unpacked(lesser(own, others))
     }
 
-    /// The one of the two that is ahead: by rank, and with equal ranks by number. Nobody comes last. Whole ranks are asked for
-    /// where two begin alike, which is seldom.
+    /// The better of two nodes: the lesser rank wins, and between equal ranks the lesser number. A node without a winner
+    /// loses. Whole ranks are asked for only if the first parts are equal, which is rare.
     pub(crate) fn winner<C: Contestants>(self, other: Node, contestants: &C) -> Node
         requires few { length (C.entries contestants.now) ≤ 2 ^ 31 }
         requires fits { self ≡ node_of (contestant (C.entries contestants.now) self.number) }

@@ -12,9 +12,9 @@ use std::alloc::Global;
 use std::marker::Model;
 use vt_key::{Fault, Rank};
 
-/// A tournament of contestants that are numbered from 0. It keeps who won where, and the beginning of each winner's rank: the
-/// ranks themselves are the contestants' own ([`Contestants`]), so a contract speaks of all entries that it is a tournament of
-/// (`IsTournamentOf`).
+/// A tournament of contestants that are numbered from 0. It keeps the winner of each node and the first part of the
+/// winner's rank. The ranks belong to the contestants ([`Contestants`]), so a contract says of which entries this is a
+/// tournament (`IsTournamentOf`).
 #[derive(Drop)]
 pub struct Tournament {
     nodes: Vec<Node>,
@@ -45,15 +45,15 @@ impl Tournament {
         Ok(Tournament { nodes })
     }
 
-    /// Decides anew where contestant `number` has entered, has another rank or takes no part any more. It was a tournament of
-    /// the same entries but this one (`WasTournamentOf`).
+    /// Updates the tournament after a change of the entry of contestant `number`: it entered, left or has another rank.
+    /// Before, this must have been a tournament of the same entries but this one (`WasTournamentOf`).
     pub fn set<C: Contestants>(&mut self, number: u32, contestants: &C)
         requires known { number < length (C.entries contestants.now) }
         requires was { WasTournamentOf number (C.entries contestants.now) self.old }
         ensures { IsTournamentOf (C.entries contestants.now) self.new }
     {
         let rank = contestants.rank(number);
-        // Where nobody takes part, no place but the first is read.
+        // If nobody takes part, nothing changes, and only the root is read.
         if rank.is_none() && self.winner().is_none() {
             return;
         }
@@ -61,7 +61,7 @@ impl Tournament {
         decide_above(contestants, self.nodes.as_mut_slice(), number, node);
     }
 
-    /// The contestant of least rank, and of those with equal ranks the one of least number; None where nobody takes part.
+    /// The contestant of least rank, and among equal ranks the one of least number; None if nobody takes part.
     pub fn winner(&self) -> Option<u32>
         ensures nobody { (entries : List (Option Rank)) → IsTournamentOf entries self.now → IfNone result ((i : ℕ) (rank : Rank) → slice_get entries i ≡ Some (Some rank) → ⊥) }
         ensures least { (entries : List (Option Rank)) → IsTournamentOf entries self.now → IfSome result (IsLeast entries) }
@@ -75,8 +75,8 @@ impl Tournament {
     }
 }
 
-/// How many places of the tree stand above those of so many contestants. The places are numbered from the first one, 0, where
-/// the least of all stands, and below place k are 2 k + 1 and 2 k + 2.
+/// How many inner nodes a tree of `count` contestants has. Node 0 is the root, and the children of node k are 2 k + 1 and 2
+/// k + 2.
 fn inner_places(count: usize) -> usize
     requires some { 1 ≤ count }
     ensures { result ≡ inner_places count }
@@ -84,7 +84,7 @@ fn inner_places(count: usize) -> usize
     count - 1
 }
 
-/// The nodes of so many contestants of whom nobody takes part: in each, nobody won.
+/// The nodes of a tree for `count` contestants, of whom nobody takes part.
 fn nodes_of_nobody(alloc: Global, count: u32) -> Result<Vec<Node>, Fault>
     requires some { 1 ≤ count }
     requires few { count ≤ 2 ^ 31 }
@@ -99,7 +99,7 @@ fn nodes_of_nobody(alloc: Global, count: u32) -> Result<Vec<Node>, Fault>
     Ok(nodes)
 }
 
-/// The other one of the two places below the same one. It is reckoned: a branch would be foretold wrongly half the time.
+/// The sibling of a node. It is computed without a branch, since half of all branches here would be mispredicted.
 fn beside(at: usize) -> usize
     requires below { 1 ≤ at }
     requires small { at < 2 ^ 63 }
@@ -108,7 +108,7 @@ fn beside(at: usize) -> usize
     at - 1 + 2 * (at % 2)
 }
 
-/// The one that is ahead of the two below a place, of which one is known: its place, and who won there.
+/// The better of node `at` and its sibling; `winner` is the content of node `at`.
 fn best_below<C: Contestants>(nodes: &[Node], contestants: &C, at: usize, winner: Node) -> Node
     requires few { length (C.entries contestants.now) ≤ 2 ^ 31 }
     requires below { 1 ≤ at }
@@ -121,8 +121,8 @@ fn best_below<C: Contestants>(nodes: &[Node], contestants: &C, at: usize, winner
     winner.winner(nodes[beside(at)], contestants)
 }
 
-/// Decides the places above a contestant again, whose entry alone was changed and has this node now. Who won is carried up:
-/// where it had to be read from where it was just written, each place would wait for the one below.
+/// Updates the nodes above a contestant whose entry alone was changed; `node` is its new leaf. The winner is carried up: if
+/// each level read what the level below has just written, it would wait for it.
 fn decide_above<C: Contestants>(contestants: &C, nodes: &mut [Node], number: u32, node: Node)
     requires known { number < length (C.entries contestants.now) }
     requires few { length (C.entries contestants.now) ≤ 2 ^ 31 }
@@ -136,7 +136,7 @@ fn decide_above<C: Contestants>(contestants: &C, nodes: &mut [Node], number: u32
     while at > 0 {
         winner = best_below(nodes, contestants, at, winner);
         at = (at - 1) / 2;
-        // Where another one wins as before, all above stays.
+        // If another contestant wins here as before, nothing above changes.
         if winner.number != number && winner.number == nodes[at].number {
             return;
         }
