@@ -18,7 +18,7 @@ use vt_key::Fault;
 use vt_model::Model as EventModel;
 
 impl<M: EventModel> Kernel<M> {
-    /// Whether [`Kernel::letters_for`] worker `v` would be done, memory aside. It takes no memory and changes nothing.
+    /// Whether [`Kernel::letters_for`] worker `v` would succeed if there is memory. It takes no memory and changes nothing.
     ///
     /// [`Fault::NotLawful`]: `v` is this worker, or the outbox holds no letter for a process of `v`. [`Fault::Exhausted`]: the
     /// count of mail sent would pass 2^63.

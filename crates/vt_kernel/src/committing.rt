@@ -36,7 +36,7 @@ impl<M: EventModel> Kernel<M> {
         Ok(rows)
     }
 
-    /// The past events before the worker's floor are committed: they are forgotten. It takes no memory.
+    /// Forgets the past events before the worker's floor, which are committed. It takes no memory.
     pub fn fossil(&mut self)
         ensures stands { (handlers : Handlers _ _ _) (part : Part _) → StandsFor handlers self.old part → StandsFor handlers self.new (part_after_commit part) }
         ensures others { self.new ≡ record self.old { processes = self.new.processes } }
@@ -52,7 +52,7 @@ impl<M: EventModel> Kernel<M> {
     }
 }
 
-/// Each process that has past events forgets those before the floor.
+/// Lets each process that has past events forget those before the floor.
 fn forget_before<M: EventModel>(
     processes: &mut Vec<Lp<M>>,
     ready: &mut Tournament,
@@ -78,8 +78,8 @@ fn forget_before<M: EventModel>(
     }
 }
 
-/// The process at a place forgets its past events before the floor, and enters the tournaments anew where that may change its
-/// ranks.
+/// Lets the process at a place forget its past events before the floor, and updates the tournaments if its ranks may have
+/// changed.
 fn forget_at<M: EventModel>(
     processes: &mut Vec<Lp<M>>,
     ready: &mut Tournament,
@@ -100,7 +100,8 @@ fn forget_at<M: EventModel>(
     ensures marked { AreMarked marked.new processes.new.items }
 {
     if processes[place].fossil_into(floor, spare) {
-        // Where nobody is unready, each least pending event comes after the last past one, so no rank rests on a past event.
+        // If no process is unready, each least pending event comes after the last past one, so no rank depends on a past
+        // event.
         match unready.winner() {
             Some(_) => enter(ready, unready, marked, processes, place),
             None => marked.set(place, processes[place].has_past()),

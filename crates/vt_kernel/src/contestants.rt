@@ -15,13 +15,13 @@ use vt_lp::Lp;
 use vt_model::Model as EventModel;
 use vt_tournament::{Contestants, Tournament};
 
-/// What tells the rank of a process: a closure, since calls of a process rest on it that a model's payloads are `Send`, and an
-/// `impl` of a trait can't.
+/// Something that gives the ranks of processes. It is a closure, since the calls of a process need the model's payloads to
+/// be `Send`, which an `impl` of a trait can't ask for.
 pub(crate) trait Tells {
-    /// It may be asked for the process of this place.
+    /// The places for which it may be asked.
     ghost may: { Self → ℕ → Type 0 };
 
-    /// It tells this of the process of this place.
+    /// The rank that it gives for a place.
     ghost gives: { Self → ℕ → Option RankValue → Type 0 };
 
     fn tell(&self, place: u32) -> Option<Rank>
@@ -29,7 +29,7 @@ pub(crate) trait Tells {
         ensures { gives self.now place result };
 }
 
-/// A closure that tells the rank of a process.
+/// A closure that gives the ranks of processes.
 #[derive(Drop)]
 pub(crate) struct Teller<F>(pub(crate) F);
 
@@ -43,7 +43,8 @@ impl<F: Fn(u32) -> Option<Rank>> Tells for Teller<F> {
     }
 }
 
-/// The processes as contestants of who is ready. The rank of one is at hand, and those of the others are told.
+/// The processes as contestants of the tournament of ready ones. The rank of one is at hand; those of the others are asked
+/// for.
 #[derive(Drop)]
 struct Ready<'a, M: EventModel, T: Tells> {
     processes: &'a [Lp<M>],
@@ -75,8 +76,7 @@ impl<'a, M: EventModel, T: Tells> Contestants for Ready<'a, M, T> {
     }
 }
 
-/// Enters the process of a place, the only one that may have changed, into the tournament of who is ready, where it has this
-/// rank.
+/// Updates the tournament of ready processes at a place, the only one that may have changed; its rank is now this.
 pub(crate) fn enter_ready<M: EventModel, T: Tells + Drop>(
     tournament: &mut Tournament,
     processes: &[Lp<M>],
@@ -98,14 +98,15 @@ pub(crate) fn enter_ready<M: EventModel, T: Tells + Drop>(
     tournament.set(place, &contestants);
 }
 
-/// The rank of the event that the process of a place may execute; None where there is none, and where no process is.
+/// The rank of the event that the process at a place may execute; None if there is no such event or no such process.
 pub(crate) fn ready_at<M: EventModel>(processes: &[Lp<M>], place: u32) -> Option<Rank>
     ensures { result ≡ slice_index_or (entries_of ready_of processes.now) place None }
 {
     processes.get(place as usize)?.ready()
 }
 
-/// The processes as contestants of who is not ready. The rank of one is at hand, and those of the others are told.
+/// The processes as contestants of the tournament of unready ones. The rank of one is at hand; those of the others are
+/// asked for.
 #[derive(Drop)]
 struct Unready<'a, M: EventModel, T: Tells> {
     processes: &'a [Lp<M>],
@@ -137,8 +138,7 @@ impl<'a, M: EventModel, T: Tells> Contestants for Unready<'a, M, T> {
     }
 }
 
-/// Enters the process of a place, the only one that may have changed, into the tournament of who is not ready, where it has
-/// this rank.
+/// Updates the tournament of unready processes at a place, the only one that may have changed; its rank is now this.
 pub(crate) fn enter_unready<M: EventModel, T: Tells + Drop>(
     tournament: &mut Tournament,
     processes: &[Lp<M>],
@@ -160,7 +160,8 @@ pub(crate) fn enter_unready<M: EventModel, T: Tells + Drop>(
     tournament.set(place, &contestants);
 }
 
-/// The least rank of what is pending or waits at the process of a place, unless it is that of the event that it may execute.
+/// The least rank of the letters that are pending or wait at the process at a place; None if that is the event that it may
+/// execute.
 pub(crate) fn unready_at<M: EventModel>(processes: &[Lp<M>], place: u32) -> Option<Rank>
     ensures { result ≡ slice_index_or (entries_of unready_of processes.now) place None }
 {

@@ -9,7 +9,7 @@ ghost use Rattle.vt_steps.specs.Letters.{count_of, raised, count_colour};
 use std::marker::Model;
 use vt_key::{Colour, MAX_COUNT, Mail};
 
-/// How much mail there was of each colour.
+/// A count of mail for each colour.
 #[derive(Drop)]
 pub(crate) struct Counts {
     white: u64,
@@ -25,14 +25,14 @@ impl Model for Counts {
 }
 
 impl Counts {
-    /// None of either colour.
+    /// Zero of each colour.
     pub(crate) fn new() -> Counts
         ensures { result ≡ record { white = 0; red = 0 } }
     {
         Counts { white: 0, red: 0 }
     }
 
-    /// How much there was of this colour.
+    /// The count of this colour.
     pub(crate) fn of(&self, colour: Colour) -> u64
         ensures { result ≡ count_of self.now colour }
     {
@@ -42,7 +42,7 @@ impl Counts {
         }
     }
 
-    /// How much of this mail has each colour.
+    /// How many of these letters have each colour.
     pub(crate) fn of_mail<P>(mails: &[Mail<P>]) -> Counts
         ensures white { result.white ≡ count_colour White mails.now }
         ensures red { result.red ≡ count_colour Red mails.now }
@@ -58,7 +58,7 @@ impl Counts {
         Counts { white, red }
     }
 
-    /// Both together; None where a count would pass 2^63.
+    /// The sums by colour; None if one would pass 2^63.
     pub(crate) fn plus(&self, more: &Counts) -> Option<Counts>
         ensures sum { IfSome result (λ c. c ≡ record { white = self.now.white + more.now.white; red = self.now.red + more.now.red }) }
         ensures counted { IfSome result (λ c. AreCounted c) }
@@ -77,7 +77,7 @@ impl Counts {
         MAX_COUNT - self.of(colour)
     }
 
-    /// So much more of this colour is counted.
+    /// Raises the count of this colour by `more`.
     pub(crate) fn raise(&mut self, colour: Colour, more: u64)
         requires few { count_of self.old colour + more ≤ MAX_COUNT }
         ensures { self.new ≡ raised self.old colour more }
@@ -89,7 +89,7 @@ impl Counts {
     }
 }
 
-/// The sum of two counts; None where it would pass 2^63.
+/// The sum of two counts; None if it would pass 2^63.
 fn checked_sum(count: u64, more: u64) -> Option<u64>
     ensures sum { IfSome result (λ n. (n ≡ count + more) × (n ≤ MAX_COUNT)) }
     ensures passed { IfNone result (MAX_COUNT < count + more) }

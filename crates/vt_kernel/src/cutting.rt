@@ -18,7 +18,8 @@ use vt_list::List;
 use vt_model::Model as EventModel;
 
 impl<M: EventModel> Kernel<M> {
-    /// The worker's part of a cut: it takes the other colour, has sent nothing in it, and may commit below the announced time.
+    /// The worker's part of a cut: it changes its colour, has sent nothing in the new one, and may commit below the
+    /// announced time.
     pub fn turn(&mut self, announced: Time)
         ensures turned { self.new ≡ record self.old { colour = other_colour self.old.colour; red_minimum = self.old.config.end; floor = announced } }
         ensures stands { (handlers : Handlers _ _ _) (part : Part _) → StandsFor handlers self.old part → StandsFor handlers self.new (part_after_cut self.old.config.end announced part) }
@@ -28,7 +29,7 @@ impl<M: EventModel> Kernel<M> {
         self.floor = announced;
     }
 
-    /// The worker may commit below this time.
+    /// Sets the time below which the worker may commit.
     pub fn set_floor(&mut self, floor: Time)
         ensures set { self.new ≡ record self.old { floor = floor } }
         ensures stands { (handlers : Handlers _ _ _) (part : Part _) → StandsFor handlers self.old part → StandsFor handlers self.new (record part { floor = floor }) }
@@ -36,8 +37,8 @@ impl<M: EventModel> Kernel<M> {
         self.floor = floor;
     }
 
-    /// What the worker reports: how much mail it sent and how much it got of the colour that it has left, and the lesser of its
-    /// red minimum and the least time of the letters that it has.
+    /// What the worker reports: how much mail of the old colour it sent, how much of it it got, and the lesser of its red
+    /// minimum and the least time of the letters that it has.
     pub fn report_values(&self) -> (u64, u64, Time)
         ensures sent { result.0 ≡ count_of self.now.sent (other_colour self.now.colour) }
         ensures got { result.1 ≡ count_of self.now.got (other_colour self.now.colour) }
@@ -60,7 +61,8 @@ impl<M: EventModel> Kernel<M> {
         earlier(earlier(unsent, arrived), self.least_of_processes())
     }
 
-    /// The least time of what is pending or waits at a process of this worker; the end of the run where nothing does.
+    /// The least time of the letters that are pending or wait at this worker's processes; the end of the run if there are
+    /// none.
     fn least_of_processes(&self) -> Time
         ensures { result ≡ least_time self.now.config.end (flat_map (λ process. process.pending ++ process.waiting) self.now.processes) }
     {
@@ -69,7 +71,8 @@ impl<M: EventModel> Kernel<M> {
         earlier(ready, unready)
     }
 
-    /// The least time of what is pending or waits at the process at this place; of none the end of the run.
+    /// The least time of the letters that are pending or wait at the process at a place; the end of the run if there are
+    /// none.
     fn least_at(&self, place: Option<u32>) -> Time
         requires { IfSome place (λ place. place < length self.now.processes) }
         ensures some { IfSome place (λ place. (held : HeldProcess _ _ _) × (slice_get self.now.processes place ≡ Some held) × (result ≡ least_time self.now.config.end (held.pending ++ held.waiting))) }
@@ -82,7 +85,7 @@ impl<M: EventModel> Kernel<M> {
     }
 }
 
-/// The least time of these letters; of none it is the end of the run.
+/// The least time of these letters; the end of the run if there are none.
 fn least_of_letters<P: Copy>(letters: &List<Letter<P>>, end: Time) -> Time
     ensures { result ≡ least_time end letters.now }
 {
@@ -93,7 +96,7 @@ fn least_of_letters<P: Copy>(letters: &List<Letter<P>>, end: Time) -> Time
     least
 }
 
-/// The least time of this mail, in ticks; of none it is the end of the run.
+/// The least time of this mail, in ticks; the end of the run if there is none.
 pub fn least_of_mail<P: Copy>(mails: &[Mail<P>], end: Time) -> Time
     ensures { result ≡ least_time end (map (λ mail. mail.letter) mails.now) }
 {

@@ -93,7 +93,7 @@ impl<M: EventModel> Kernel<M> {
     }
 }
 
-/// Why a letter isn't accepted for which there is no memory: a process that holds it already wouldn't take it anyway.
+/// The fault of a letter for which memory was refused: not lawful if its process holds it already, else memory.
 fn unmade<M: EventModel>(process: &Lp<M>, letter: Letter<M::Payload>) -> Fault
     ensures held { holds_letter process.now.pending process.now.waiting process.now.past letter.sign letter.event.rank ≡ true → result ≡ NotLawful }
     ensures new { holds_letter process.now.pending process.now.waiting process.now.past letter.sign letter.event.rank ≡ false → result ≡ Memory }
@@ -104,7 +104,7 @@ fn unmade<M: EventModel>(process: &Lp<M>, letter: Letter<M::Payload>) -> Fault
     Fault::Memory
 }
 
-// Passes a letter for a process of this worker.
+// A test that lets the letters for this worker's processes pass.
 #[derive(Drop)]
 pub(crate) struct IsFor {
     pub(crate) config: Config,

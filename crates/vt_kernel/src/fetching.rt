@@ -17,7 +17,8 @@ use vt_key::{Fault, Mail};
 use vt_model::Model as EventModel;
 
 impl<M: EventModel> Kernel<M> {
-    /// The worker's part of a fetch: this mail, which was in its inbox, has arrived, and is counted by colour. It takes no memory.
+    /// The worker's part of a fetch: it takes this mail of its inbox as arrived, and counts it by colour. It takes no
+    /// memory.
     ///
     /// [`Fault::NotLawful`]: something that arrived before is not accepted yet. [`Fault::Exhausted`]: a count of mail got would
     /// pass 2^63. After either all is as it was, and the mail is handed back.
@@ -39,9 +40,9 @@ impl<M: EventModel> Kernel<M> {
         }
     }
 
-    /// The same of the mail in an inbox, which is empty afterwards and keeps room: it has the worker's emptied list in exchange.
+    /// The same for an inbox, by exchange: the inbox gets the worker's emptied list, so that it keeps its room.
     ///
-    /// [`Fault`]: as [`Kernel::take_in`] tells; after each the mail is where it was, too.
+    /// [`Fault`]: as of [`Kernel::take_in`]; the mail in the inbox is unchanged then, too.
     pub fn exchange_mail(&mut self, mail: &mut Vec<Mail<M::Payload>>) -> Result<(), Fault>
         requires own { AllOwnMail self.old.config self.old.worker mail.old.items }
         ensures taken { IfOk result (λ _. self.new ≡ record self.old { arrived = mail.old.items; got = raised (raised self.old.got White (count_colour White mail.old.items)) Red (count_colour Red mail.old.items) }) }

@@ -29,13 +29,13 @@ pub struct Kernel<M: EventModel> {
     pub(crate) red_minimum: Time,
     pub(crate) floor: Time,
     pub(crate) serial: u64,
-    // Who of the processes may execute, by the rank of its least pending event.
+    // The processes that may execute, by the ranks of their least pending events.
     pub(crate) ready: Tournament,
-    // The least rank of what is pending or waits at each process, where that isn't an event that may be executed.
+    // The processes by the least rank of their letters, unless that is the event that a process may execute.
     pub(crate) unready: Tournament,
-    // Which of the processes have past events.
+    // The processes that have past events.
     pub(crate) marked: Marks,
-    // Memory of committed events, for the next ones.
+    // The memory of committed events, for the next ones.
     pub(crate) spare: Spare<M::Payload, M::Kept>,
 }
 
@@ -90,7 +90,7 @@ impl<M: EventModel> Kernel<M> {
         self.colour
     }
 
-    /// The least time of all that the worker sent since it took its colour; the end of the run where it sent nothing.
+    /// The least time of all that the worker sent since its last cut; the end of the run if it sent nothing.
     pub fn red_minimum(&self) -> Time
         ensures { result ≡ self.now.red_minimum }
     {

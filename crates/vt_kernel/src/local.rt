@@ -105,7 +105,7 @@ impl<M: EventModel> Kernel<M> {
     }
 }
 
-/// Where process `lp` stands among those of the worker; None where it is no process of this worker.
+/// The place of process `lp` among the worker's processes; None if it isn't one of them.
 pub(crate) fn place_of(config: Config, worker: u32, lp: u32) -> Option<usize>
     ensures own { IfSome result (λ place. (place ≡ lp / config.workers) × (lp % config.workers ≡ worker) × (lp < config.lps)) }
     ensures other { IfNone result (lp % config.workers ≡ worker → config.lps ≤ lp) }
@@ -116,8 +116,7 @@ pub(crate) fn place_of(config: Config, worker: u32, lp: u32) -> Option<usize>
     Some((lp / config.workers) as usize)
 }
 
-/// Enters the process at `place`, the only one that may have changed, into the tournaments again, and marks it where it has
-/// past events.
+/// Updates the tournaments and the marks for the process at `place`, the only one that may have changed.
 pub(crate) fn enter<M: EventModel>(
     ready: &mut Tournament,
     unready: &mut Tournament,
@@ -146,7 +145,7 @@ pub(crate) fn enter<M: EventModel>(
     marked.set(place, process.has_past());
 }
 
-/// The least rank, unless it is that of the event that is ready.
+/// The least rank, or None if it is that of the ready event.
 pub(crate) fn other_than(ready: Option<Rank>, least: Option<Rank>) -> Option<Rank>
     ensures { result ≡ other_rank ready least }
 {

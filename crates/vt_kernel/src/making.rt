@@ -22,7 +22,7 @@ use vt_marks::Marks;
 use vt_model::{Config, Model as EventModel, Out, Process};
 use vt_tournament::Tournament;
 
-/// More than the starts of a worker send, whatever the model.
+/// More events than the starts of a worker send, whatever the model.
 const MORE_THAN_STARTED: u64 = 1 << 20;
 
 impl<M: EventModel> Kernel<M> {
@@ -146,15 +146,15 @@ fn tournament<M: EventModel>(alloc: Global, processes: &[Lp<M>]) -> Result<Tourn
     Tournament::new(alloc, contestants as u32)
 }
 
-/// The number, or 1 in the place of 0: a tournament has one contestant at least.
+/// The number, or 1 in place of 0: a tournament needs a contestant.
 pub(crate) fn at_least_one(n: usize) -> usize
     ensures { result ≡ max n 1 }
 {
     if n == 0 { 1 } else { n }
 }
 
-/// Whether the serial of worker `w`, which is below `config.workers`, stays within 2^63 at its starts, where it is `serial`
-/// before them, at most 2^63. It takes no memory: the starts are run, and nothing of them is kept.
+/// Whether the serial of worker `w`, which is below `config.workers`, stays within 2^63 at its starts; before them it is
+/// `serial`, at most 2^63. It takes no memory: it runs the starts and keeps nothing of them.
 pub fn starts_fit<M: EventModel>(model: &M, config: Config, w: u32, serial: u64) -> bool
     requires known { w < config.workers }
     requires counted { serial ≤ MAX_COUNT }
@@ -176,7 +176,7 @@ pub fn starts_fit<M: EventModel>(model: &M, config: Config, w: u32, serial: u64)
     true
 }
 
-/// How much the start of process `p` sends below the end.
+/// How many events the start of process `p` sends below the end.
 fn count_started<M: EventModel>(model: &M, config: Config, p: u32) -> u64
     requires known { p < config.lps }
     ensures { result ≡ length ((simulation_of (M.handlers model.now) config).start p).sends }

@@ -25,9 +25,8 @@ use vt_lp::Spare;
 use vt_model::{Config, Model as EventModel};
 
 impl<M: EventModel> Kernel<M> {
-    /// The worker's part of a send to worker `v`: the letters of the outbox for processes of `v` become mail of the worker's
-    /// colour behind `mail`, in their order. They are counted, and the red minimum falls to the least of their times where that
-    /// is less.
+    /// The worker's part of a send to worker `v`: it moves the letters of the outbox for processes of `v` to the back of
+    /// `mail`, in their order and in its colour. It counts them, and lowers the red minimum to the least of their times.
     ///
     /// [`Fault::NotLawful`]: `v` is this worker, or the outbox holds no letter for a process of `v`. [`Fault::Exhausted`]: the
     /// count of mail sent would pass 2^63. [`Fault::Memory`]: memory was refused. After each the worker and `mail` are as they
@@ -60,8 +59,8 @@ impl<M: EventModel> Kernel<M> {
         Ok(())
     }
 
-    /// The worker that the first letter of the outbox for a process of another worker is for: there are letters to send to it.
-    /// None where all letters of the outbox are for processes of this worker.
+    /// The worker for which the first letter of the outbox is that leaves this worker. None if all letters of the outbox
+    /// are for processes of this worker.
     pub fn next_receiver(&self) -> Option<u32>
         ensures { result ≡ option_map (λ letter. letter.event.dest % self.now.config.workers) (find (λ letter. not (is_for_worker self.now.config self.now.worker letter)) self.now.outbox) }
     {
@@ -76,7 +75,7 @@ impl<M: EventModel> Kernel<M> {
     }
 }
 
-/// Makes room in `mail` for the letters of an outbox that are for processes of worker `v`, and tells how many they are.
+/// Makes room in `mail` for the letters of an outbox that are for processes of worker `v`, and answers how many there are.
 fn make_room<P: Copy>(
     outbox: &List<Letter<P>>,
     config: Config,
@@ -101,7 +100,7 @@ fn make_room<P: Copy>(
     Ok(count)
 }
 
-/// How many letters of an outbox are for processes of worker `v`; None where they are more than `most`.
+/// How many letters of an outbox are for processes of worker `v`; None if there are more than `most`.
 pub(crate) fn count_for<P: Copy>(
     outbox: &List<Letter<P>>,
     config: Config,
@@ -123,8 +122,8 @@ pub(crate) fn count_for<P: Copy>(
     Some(count)
 }
 
-/// Moves the letters for processes of worker `v` from the outbox to the back of `mail`, and tells their least time; of none
-/// it is the end of the run. There must be room. Their nodes are kept for other letters.
+/// Moves the letters for processes of worker `v` from the outbox to the back of `mail`, and answers their least time, or
+/// the end of the run if there are none. There must be room. The nodes are kept for other letters.
 fn move_letters<P: Copy, K: Copy>(
     outbox: &mut List<Letter<P>>,
     spare: &mut Spare<P, K>,
@@ -153,7 +152,7 @@ fn move_letters<P: Copy, K: Copy>(
     least
 }
 
-// Passes a letter for a process of another worker than this one.
+// A test that lets the letters for other workers' processes pass.
 #[derive(Drop)]
 struct IsForAnother {
     config: Config,

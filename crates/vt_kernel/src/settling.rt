@@ -16,8 +16,8 @@ use vt_lp::Lp;
 use vt_model::Model as EventModel;
 
 impl<M: EventModel> Kernel<M> {
-    /// Undoes and cancels at process `lp` until neither is lawful there. At a process that is none of the worker's neither is,
-    /// and all stays as it was. It takes no memory.
+    /// Undoes and cancels at process `lp` until neither is lawful there. If the process isn't this worker's, nothing
+    /// changes. It takes no memory.
     pub fn settle(&mut self, model: &M, lp: u32)
         ensures settles { (part : Part _) → StandsFor (M.handlers model.now) self.old part → (new : Part _) × SettlesTo (simulation_of (M.handlers model.now) self.old.config) self.old.worker lp part new × StandsFor (M.handlers model.now) self.new new }
         ensures same { (self.new.worker ≡ self.old.worker) × (self.new.config ≡ self.old.config) }
@@ -37,8 +37,8 @@ impl<M: EventModel> Kernel<M> {
     }
 }
 
-/// Undoes and cancels at one process until neither is lawful. What goes out goes to the back of the outbox. It tells whether
-/// anything was undone or cancelled: else all is as it was.
+/// Undoes and cancels at one process until neither is lawful. Anti-messages go to the back of the outbox. It answers
+/// whether anything was undone or cancelled; if not, nothing changes.
 fn settle_process<M: EventModel>(
     process: &mut Lp<M>,
     model: &M,

@@ -1,4 +1,4 @@
-//! Where the letters are going that the worker holds itself: what a driver needs to settle the processes that it touches.
+//! The receivers of the letters that a worker holds. A driver needs them to settle the processes that it touches.
 
 ghost use Rattle.std.specs.Prelude.{◌≡◌, slice_get};
 ghost use Rattle.std.specs.Option.{option_map};
@@ -20,7 +20,8 @@ impl<M: EventModel> Kernel<M> {
         Some(mail.letter.event.dest)
     }
 
-    /// The process that [`Kernel::home`] would take a letter to; None where the outbox has no letter for a process of this worker.
+    /// The process to which [`Kernel::home`] would take a letter; None if the outbox has no letter for a process of this
+    /// worker.
     pub fn home_for(&self) -> Option<u32>
         ensures { result ≡ option_map (λ letter. letter.event.dest) (find (is_for_worker self.now.config self.now.worker) self.now.outbox) }
     {

@@ -37,8 +37,8 @@ impl<M: EventModel> Lp<M> {
         Ok(events)
     }
 
-    /// The rows of the past events before the floor go behind the others, in the order of their execution: those that
-    /// [`Lp::fossil`] will commit.
+    /// Appends the rows of the past events before the floor, in the order of their execution. [`Lp::fossil`] will commit
+    /// these.
     ///
     /// [`Fault::Memory`]: memory was refused, and the rows are as they were.
     pub fn ripe(&self, floor: Time, rows: &mut Vec<Row>) -> Result<(), Fault>
@@ -53,7 +53,7 @@ impl<M: EventModel> Lp<M> {
         appended
     }
 
-    /// The past events before the floor are committed: they are forgotten. It takes no memory.
+    /// Forgets the past events before the floor, which are committed. It takes no memory.
     pub fn fossil(&mut self, floor: Time)
         ensures committed { (handlers : Handlers _ _ _) (h : LogicalProcess _) → StandsFor handlers self.old h → StandsFor handlers self.new (process_after_commit floor h) }
         ensures same { (self.new.lp ≡ self.old.lp) × (self.new.config ≡ self.old.config) × (self.new.triple ≡ self.old.triple) × (self.new.pending ≡ self.old.pending) × (self.new.waiting ≡ self.old.waiting) }
@@ -62,8 +62,8 @@ impl<M: EventModel> Lp<M> {
         let _ = self.fossil_into(floor, &mut spare);
     }
 
-    /// [`Lp::fossil`], where the memory of the committed events is kept, for [`Lp::execute_reusing`]. It tells whether there was
-    /// one: else all is as it was.
+    /// Like [`Lp::fossil`], and keeps the memory of the forgotten events for [`Lp::execute_reusing`]. It answers whether
+    /// there was an event to forget; if not, nothing changes.
     pub fn fossil_into(&mut self, floor: Time, spare: &mut Spare<M::Payload, M::Kept>) -> bool
         ensures committed { (handlers : Handlers _ _ _) (h : LogicalProcess _) → StandsFor handlers self.old h → StandsFor handlers self.new (process_after_commit floor h) }
         ensures same { (self.new.lp ≡ self.old.lp) × (self.new.config ≡ self.old.config) × (self.new.triple ≡ self.old.triple) × (self.new.pending ≡ self.old.pending) × (self.new.waiting ≡ self.old.waiting) }
@@ -74,7 +74,7 @@ impl<M: EventModel> Lp<M> {
     }
 }
 
-/// Drops the first past events, as many as are before the floor, and keeps their memory. It tells whether there was one.
+/// Drops the first past events, as many as are before the floor, and keeps their memory. It answers whether there was one.
 fn drop_ripe<P: Copy, K: Copy>(past: &mut Past<P, K>, spare: &mut Spare<P, K>, floor: Time) -> bool
     ensures unripe { past.new ≡ unripe_events floor past.old }
     ensures unchanged { IsFalse result → past.new ≡ past.old }
@@ -92,7 +92,8 @@ fn drop_ripe<P: Copy, K: Copy>(past: &mut Past<P, K>, spare: &mut Spare<P, K>, f
     some
 }
 
-/// Appends the rows of the first past events, as many as are before the floor. Refused memory, some may have been appended.
+/// Appends the rows of the first past events, as many as are before the floor. If memory is refused, some may have been
+/// appended.
 fn append_ripe<P: Copy, K: Copy>(
     past: &List<PastEvent<P, K>>,
     floor: Time,
@@ -111,7 +112,7 @@ fn append_ripe<P: Copy, K: Copy>(
     Ok(())
 }
 
-/// Appends the rows of an event's records. Refused memory, some may have been appended.
+/// Appends the rows of an event's records. If memory is refused, some may have been appended.
 fn append_rows(
     key: Key,
     records: &ArrayVec<Record, MAX_RECORDS>,

@@ -73,8 +73,7 @@ impl<M: EventModel> Lp<M> {
         self.execute_reusing(alloc, model, serial, outbox, &mut Spare::new(alloc))
     }
 
-    /// [`Lp::execute`], where memory of committed events is written anew, and other memory is taken only where there is no more
-    /// of it.
+    /// Like [`Lp::execute`], in the memory of committed events as long as there is some of it, and then in new memory.
     pub fn execute_reusing(
         &mut self,
         alloc: Global,
@@ -139,8 +138,8 @@ fn ready_event<P: Copy, K: Copy>(pending: &Pending<P>, past: &Past<P, K>) -> Opt
     Some(least.event)
 }
 
-/// Executes an event at its receiver, and makes the messages of what it sends and the anti-messages that it leaves. Refused,
-/// the process is as it was.
+/// Executes an event at its receiver, and makes the messages of what it sends and the anti-messages that it leaves. If it
+/// is refused, the process is unchanged.
 ///
 /// [`Fault::Exhausted`]: the send number or the serial would pass 2^63. [`Fault::Memory`]: memory was refused.
 fn advance<M: EventModel>(
@@ -228,7 +227,8 @@ fn both_letters<P: Copy, K: Copy>(
     Ok((messages, anti_messages))
 }
 
-/// The least pending event becomes the last past one, with what it left. Refused, both lists are as they were.
+/// Moves the least pending event, with what it left, behind the last past one. If this is refused, both lists are
+/// unchanged.
 ///
 /// [`Fault::Memory`]: memory was refused.
 fn keep<P: Copy, K: Copy>(

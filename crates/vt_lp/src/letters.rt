@@ -21,8 +21,8 @@ use vt_model::Model as EventModel;
 use vt_pending::Pending;
 
 impl<M: EventModel> Lp<M> {
-    /// Whether a letter of this sign and rank is held: a message among the pending and the past, an anti-message among the
-    /// waiting.
+    /// Whether the process holds a letter of this sign and rank: a message among the pending and past ones, an anti-message
+    /// among the waiting ones.
     pub fn holds(&self, sign: Sign, rank: Rank) -> bool
         ensures { result ≡ holds_letter self.now.pending self.now.waiting self.now.past sign rank }
     {
@@ -32,7 +32,7 @@ impl<M: EventModel> Lp<M> {
         }
     }
 
-    /// A letter for this process comes: a message is pending from now on, an anti-message waits.
+    /// A letter for this process comes: from now on a message is pending, and an anti-message waits.
     ///
     /// [`Fault::NotLawful`]: a letter of its sign and rank is held already. The letter is handed back, and all is as it was.
     pub fn accept(
@@ -81,8 +81,8 @@ impl<M: EventModel> Lp<M> {
         Ok(())
     }
 
-    /// A stamp by which a waiting anti-message and a pending message annihilate each other: [`Lp::cancel`] of it is lawful. None
-    /// where it is of no stamp.
+    /// A stamp by which a waiting anti-message and a pending message annihilate each other, so that [`Lp::cancel`] is
+    /// lawful. None if there is no such stamp.
     pub fn cancellable(&self) -> Option<Stamp>
         ensures lawful { IfSome result (λ stamp. can_annihilate stamp self.now.pending self.now.waiting ≡ true) }
         ensures none { IfNone result ((stamp : Stamp) → can_annihilate stamp self.now.pending self.now.waiting ≡ false) }
@@ -108,7 +108,7 @@ fn annihilate<P: Copy>(stamp: Stamp, pending: &Pending<P>, waiting: &Pending<P>)
     }
 }
 
-// Passes a letter by whose stamp a waiting and a pending letter annihilate each other.
+// A test that lets the letters pass by whose stamp a waiting and a pending letter annihilate each other.
 #[derive(Drop)]
 struct Annihilates<'a, P: Copy> {
     pending: &'a Pending<P>,
@@ -125,7 +125,7 @@ impl<'a, P: Copy> Predicate<Letter<P>> for Annihilates<'a, P> {
     }
 }
 
-// Passes a past event that isn't after this rank.
+// A test that lets the past events pass that aren't after this rank.
 #[derive(Drop)]
 struct NotAfter(Rank);
 
@@ -150,8 +150,8 @@ fn ends_before<P: Copy, K: Copy>(past: &Past<P, K>, rank: Rank) -> bool
     }
 }
 
-/// Whether a past event has this rank. Past events stand in rising rank, so of those from the back the first that isn't after
-/// the rank has it, or none has.
+/// Whether a past event has this rank. The ranks of past events rise, so this is decided by the first one, from the back,
+/// that isn't after the rank.
 fn has_executed<P: Copy, K: Copy>(past: &Past<P, K>, rank: Rank) -> bool
     requires { IsRisingPast past.now }
     ensures { result ≡ list_any (λ e. rank_same e.letter.event.rank rank) past.now }

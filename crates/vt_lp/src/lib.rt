@@ -1,7 +1,7 @@
 //! One logical process with rollback: it executes its pending events ahead of the others, and undoes in place, by reverse
 //! computation, what a straggler or an anti-message overtakes (Jefferson, Virtual Time, 1985).
 //!
-//! To undo, to cancel, to take a letter in and to forget what is committed take no memory: what an undo will need was made when
+//! Undoing, cancelling, taking a letter in and forgetting committed events take no memory: what an undo needs was made when
 //! its event was executed.
 #![tactic(auto)]
 

@@ -11,16 +11,16 @@ use vt_key::{Letter, Rank, Time};
 use vt_model::{Config, Model as EventModel, Process};
 use vt_pending::Pending;
 
-/// A logical process with rollback: where it stands, its past events with what undoes them, its pending messages, and the
-/// anti-messages that wait for theirs.
+/// A logical process with rollback: its state, send number and place, its past events with what undoes them, its pending
+/// messages, and the anti-messages that wait for their messages.
 ///
 /// Contracts see these (`HeldProcess`). Committed events are not kept, so a contract speaks of every process of a world that
 /// the value stands for (`StandsFor`): one with the same past, pending and waiting, whose committed events lead to where the
 /// past begins.
 #[derive(Drop)]
 pub struct Lp<M: EventModel> {
-    // First, since the random words that it keeps are many: what every event reads stands together behind them, in few
-    // lines of the cache.
+    // First, since it holds many random words: the fields that every event reads stand together behind them, in few cache
+    // lines.
     pub(crate) process: Process<M>,
     pub(crate) past: Past<M::Payload, M::Kept>,
     pub(crate) pending: Pending<M::Payload>,

@@ -46,7 +46,7 @@ pub(crate) fn letters<P: Copy, K: Copy>(
     Ok(letters)
 }
 
-/// Whether these sends leave the serial at most 2^63.
+/// Whether the serial stays within 2^63 after these sends.
 pub(crate) fn is_counted<P>(serial: u64, sends: &[Sent<P>]) -> bool
     ensures { IsTrue result ↔ (serial + length sends.now ≤ MAX_COUNT) }
 {

@@ -12,7 +12,7 @@ use vt_list::{List, Parcel};
 
 /// Past events, in the order of their execution. A clause sees the list of them.
 ///
-/// The rank of the last one is kept beside them: what may be executed next is told by it, and reads no event.
+/// The rank of the last one is kept beside them, so that it takes no read of an event to decide what may be executed next.
 #[derive(Drop)]
 pub(crate) struct Past<P: Copy, K: Copy> {
     events: List<PastEvent<P, K>>,
@@ -32,7 +32,7 @@ impl<P: Copy, K: Copy> Model for Past<P, K> {
 }
 
 impl<P: Copy, K: Copy> Past<P, K> {
-    /// No event.
+    /// No past events.
     pub(crate) fn new(alloc: Global) -> Past<P, K>
         ensures { result ≡ [] }
     {

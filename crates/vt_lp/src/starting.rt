@@ -19,8 +19,8 @@ use vt_model::{Config, Model as EventModel, Out, Process};
 use vt_pending::Pending;
 
 impl<M: EventModel> Lp<M> {
-    /// Process `lp` after its start. What the start sends below the end goes to the back of the outbox, with stamps of the
-    /// process's worker from `serial` on, and `serial` is the next one afterwards.
+    /// Process `lp` after its start. What the start sends below the end goes to the back of the outbox. It has stamps of
+    /// the process's worker from `serial` on, and `serial` is the next one afterwards.
     ///
     /// [`Fault::NotLawful`]: there is no such process, `lp` is not below `config.lps`. [`Fault::Exhausted`]: the serial would
     /// pass 2^63. [`Fault::Memory`]: memory was refused. After each the outbox and the serial are as they were.

@@ -24,8 +24,8 @@ impl<M: EventModel> Lp<M> {
     /// back, the event is pending again, and the anti-messages of what it sent, made when it was executed, go to the back of
     /// the outbox. It takes no memory.
     ///
-    /// [`Fault::NotLawful`]: there is no past event, or no letter forces the last one's undo: no pending one is before it, and
-    /// every waiting one is after it. All is as it was then.
+    /// [`Fault::NotLawful`]: there is no past event, or no letter forces the last one's undo: no pending one is before it,
+    /// and every waiting one is after it. Then nothing changes.
     pub fn undo(&mut self, model: &M, outbox: &mut List<Letter<M::Payload>>) -> Result<(), Fault>
         ensures done { (h : LogicalProcess _) → StandsFor (M.handlers model.now) self.old h → IfOk result (λ _. IsDone (M.handlers model.now) self.new (undo_process h) outbox.old outbox.new 0 0) }
         ensures refused { (h : LogicalProcess _) → StandsFor (M.handlers model.now) self.old h → IfErr result (λ fault. undo_process h ≡ None) }
@@ -62,8 +62,8 @@ impl<M: EventModel> Lp<M> {
     }
 }
 
-/// Whether there is a past event and a letter forces the undo of the last one. Letters lie in rising rank, so it looks at the
-/// least ones alone.
+/// Whether there is a past event and a letter forces the undo of the last one. Only the least letters are looked at, since
+/// letters lie in rising rank.
 fn must_undo_last<P: Copy, K: Copy>(
     pending: &Pending<P>,
     waiting: &Pending<P>,

@@ -1,4 +1,4 @@
-//! The theorem about all lists of steps, of the hop model.
+//! The theorems on all lists of steps, for the hop model.
 
 ghost use Rattle.std.specs.Prelude.{ℕ, List};
 ghost use Rattle.vt_model.specs.Simulation.{simulation_of};

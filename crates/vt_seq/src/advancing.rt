@@ -17,8 +17,8 @@ use vt_list::List;
 use vt_model::stream::LpStream;
 use vt_model::{Config, Draws, Model as EventModel, Out, Process, Record, Sent, Undo};
 
-/// Executes the first of the pending events at its receiver: its sends join those that are left, and its records the
-/// others. Refused, all is as it was.
+/// Executes the first pending event at its receiver. Its sends join the pending events, and its records the others. If it
+/// is refused, nothing changes.
 pub(crate) fn advance<M: EventModel>(
     process: &mut Process<M>,
     model: &M,
@@ -91,8 +91,8 @@ pub(crate) fn start_process<M: EventModel>(
     })
 }
 
-/// Makes room for what an event sent and recorded: letters for the sends after the first, whose letter is the event's own,
-/// and places for the records. None where memory is refused.
+/// Makes room for what an event sent and recorded: a letter for each send after the first, which reuses the event's own
+/// letter, and places for the records. None if memory is refused.
 fn make_room<P: Copy>(
     pending: &PendingEvents<P>,
     records: &mut Vec<Record>,

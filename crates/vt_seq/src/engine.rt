@@ -16,8 +16,8 @@ use std::alloc::Global;
 use vt_key::{Fault, Time};
 use vt_model::{Config, Model as EventModel, Process, Record};
 
-/// The fields of a sequential run. Clauses say by `StandsAt sim n` that they are the run's state after `n` steps, and the
-/// type keeps that they are its state after some.
+/// The fields of a sequential run. Clauses say by `StandsAt sim n` that they are the run's state after `n` steps. The type
+/// keeps that there is such an `n`.
 #[derive(Drop)]
 pub(crate) struct Engine<'m, M: EventModel> {
     pub(crate) model: &'m M,

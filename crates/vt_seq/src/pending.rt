@@ -43,7 +43,7 @@ impl<P: Copy> Model for PendingEvents<P> {
 }
 
 impl<P: Copy> PendingEvents<P> {
-    /// No event, with a queue for each of so many processes.
+    /// No events, and a queue for each of `processes` processes.
     ///
     /// [`Fault::Memory`]: memory was refused.
     pub(crate) fn new(alloc: Global, processes: u32) -> Result<PendingEvents<P>, Fault>
@@ -95,8 +95,8 @@ impl<P: Copy> PendingEvents<P> {
         first
     }
 
-    /// Puts what the first event sent in its place. Its letter's block takes the first of the sends, and `others` bring
-    /// those after it; it takes no memory. An event must be pending.
+    /// Replaces the first event by what it sent. The first send reuses its letter, and `others` bring the rest. It takes no
+    /// memory. An event must be pending.
     pub(crate) fn replace_first(&mut self, sends: &[Sent<P>], others: List<Letter<P>>)
         requires some { 0 < length self.old.events }
         requires others { map event_of others ≡ drop 1 sends.now }
@@ -129,7 +129,7 @@ impl<P: Copy> PendingEvents<P> {
         let queue = &mut self.queues[dest as usize];
         let leads = comes_first(brought, queue);
         queue.insert(letter);
-        // Behind another front it changes no entry of the tournament.
+        // If it isn't the front of its queue, no entry of the tournament changes.
         if !leads {
             return;
         }
@@ -199,7 +199,7 @@ fn front_rank<P: Copy>(queue: &Pending<P>) -> Option<Rank>
     Some(letter.event.rank)
 }
 
-/// Whether a letter comes before all those of a queue. Where it doesn't, the queue keeps its front when it is inserted.
+/// Whether a letter comes before all those of a queue. If not, the queue keeps its front when the letter is inserted.
 fn comes_first<P: Copy>(letter: &Letter<P>, queue: &Pending<P>) -> bool
     ensures { result ≡ false → front_rank (insert_letter letter.now queue.now) ≡ front_rank queue.now }
 {
@@ -220,7 +220,7 @@ fn event_of<P: Copy>(letter: &Letter<P>) -> Sent<P>
     }
 }
 
-/// The letter that brings an event, which is made once: so its stamp is the first.
+/// The letter that brings an event. An event is made only once here, so its stamp is the first.
 fn letter_of<P: Copy>(event: Sent<P>) -> Letter<P>
     ensures event { event_of result ≡ event }
     ensures plain { IsPlain result }
