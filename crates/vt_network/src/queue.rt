@@ -16,7 +16,7 @@ pub struct Packet {
     pub born: u64,
 }
 
-/// No packet.
+/// The value of a place that has held no packet.
 pub const BLANK: Packet = Packet {
     source: 0,
     dest: 0,
@@ -26,9 +26,9 @@ pub const BLANK: Packet = Packet {
 /// A queue of up to [`ROOM`] packets.
 #[derive(Debug, Clone, Copy, PartialEq, Eq)]
 pub struct Queue {
-    /// The packets lie from `head` on, round the end. The other places have packets that were here before.
+    /// The packets stand from `head` on, cyclically. The other places keep old packets.
     pub items: [Packet; ROOM],
-    /// Where the first packet is.
+    /// The place of the first packet.
     pub head: usize,
     /// How many packets there are.
     pub len: usize,
@@ -37,7 +37,7 @@ pub struct Queue {
 impl Queue {
     ghost use Rattle.vt_network.specs.Queue.{overwritten, pushed, unpushed, first, popped, unpopped};
 
-    /// Puts a packet behind the others, and answers what stood in its place.
+    /// Puts a packet behind the others, and answers what was in its place before.
     pub fn push(&mut self, item: Packet) -> Packet
         ensures queue { self.new ≡ pushed self.old item }
         ensures before { result ≡ overwritten self.old }
@@ -57,7 +57,7 @@ impl Queue {
         self.items[self.head.wrapping_add(self.len) % ROOM] = before;
     }
 
-    /// Takes the first packet out. There must be one. It stays in its place.
+    /// Takes the first packet out, of which there must be one. Its place keeps the old value.
     pub fn pop(&mut self) -> Packet
         requires { 0 < self.old.len }
         ensures queue { self.new ≡ popped self.old }

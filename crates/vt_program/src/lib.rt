@@ -51,11 +51,10 @@ fn answer<H: Threads + Wait + Sync, S: AsStr, R: Read, O: Write>(
 /// The whole program: does what the words ask for, and answers the status with which it ends. The first word is the
 /// program's name.
 ///
-/// Status 0: the words ask for help, and it was written to `out`; or they ask for a run, and a line for each of its records
-/// was written to `out`; or they ask for a replay, and a line for what each step of the text that `reader` gives was answered
-/// was written to `out`, and then what the world shows; and nothing else was written. Any other status comes with one line
-/// `twarp: refused N TEXT` on `err`, or a beginning of it where `err` fails, and depends on N alone: 2 for 7, 3 for 8, and 1
-/// for the others.
+/// Status 0: what the words ask for was written to `out`, whole, and nothing else. This is the help; or a line for each
+/// record of a run; or, for a replay of the step text that `reader` gives, a line for each step's answer and then what the
+/// world shows. Any other status comes with one line `twarp: refused N TEXT` on `err`, or a beginning of it if `err` fails.
+/// The status depends on N alone: 2 for 7, 3 for 8, and 1 for the others.
 ///
 /// - 1, memory was refused: nothing was written to `out`, or of a replay the lines of all answers, or of a run in threads the
 ///   lines of the records that were committed, which are those below some time. A step of a replay that memory is refused to is
@@ -71,7 +70,8 @@ fn answer<H: Threads + Wait + Sync, S: AsStr, R: Read, O: Write>(
 /// - 8, the step text has a bad line: nothing was run, nothing was written to `out`, and the line names the first bad one.
 /// - 9, `out` failed: a beginning of the text was written, and the last of it was not.
 ///
-/// The handle is used for the threads of such a run alone. The reader is read where the words ask for a replay, to its end, and else not.
+/// The handle is used for the threads of a run on workers alone. The reader is read to its end for a replay, and not
+/// otherwise.
 pub fn program<H: Threads + Wait + Sync, S: AsStr, R: Read, O: Write, E: Write>(
     rt: &H,
     alloc: Global,

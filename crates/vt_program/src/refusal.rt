@@ -1,4 +1,4 @@
-//! How a refusal is told.
+//! The line of a refusal, and its status.
 
 ghost use Rattle.std.specs.Prelude.{◌≡◌, ◌≤◌, ◌+◌, ◌++◌, length, OnOk, OnErr, codes};
 ghost use Rattle.std.specs.Fmt.{decimal};
@@ -13,7 +13,7 @@ use std::io::Write;
 use vt_key::Fault;
 use vt_text::TextBuffer;
 
-/// What is said of a fault, up to what it carries.
+/// The text of a fault, up to what the fault carries.
 fn fault_text(fault: Fault) -> &'static str
     ensures value { result.now ≡ fixed_text fault }
     ensures short { length result.now ≤ 20 }
@@ -90,7 +90,7 @@ pub fn tell_refusal<E: Write>(err: &mut E, fault: Fault) -> u8
     ensures status { result ≡ status_of fault }
     ensures told { TellsRefusal fault (E.contents err.old) (E.contents err.new) }
 {
-    // That the line can't be told is no other refusal.
+    // If the line can't be written, that is no refusal of its own.
     let _ = print_refusal(err, fault);
     status(fault)
 }

@@ -1,4 +1,4 @@
-//! What a place does at its station.
+//! The calls of a place at its station.
 
 ghost use Rattle.std.specs.Prelude.{◌≡◌, ◌<◌, true, IfOk, IfErr, MatchResult};
 ghost use Rattle.vt_key.specs.Times.{Time as TimeValue};
@@ -20,13 +20,13 @@ use vt_key::Fault;
 use vt_model::{Model as EventModel, Record};
 
 impl<M: EventModel> Station<M> {
-    /// The letters of a worker for the processes of worker `v` go into the inbox of `v`. The kernel is the place's: it was made for its
-    /// worker with the station's model and config, and since its last visit only local calls changed it. The same holds of
-    /// the kernel that every other call is lent.
+    /// Sends the kernel's letters for processes of worker `v` to the inbox of `v`. The kernel must be the place's own: made
+    /// for its worker with the station's model and config, and changed since the last visit by local calls alone. This
+    /// holds for every call that is lent a kernel.
     ///
     /// [`Fault::NotLawful`]: `v` is this worker, or the kernel has no letter for a process of `v`. [`Fault::Exhausted`]: the count of
     /// mail sent would pass 2^63. [`Fault::Busy`]: another place had claimed the inbox. [`Fault::Memory`]: memory was refused.
-    /// They are found in this order, and after each of them the place and the kernel are as they were.
+    /// Faults are tested in this order, and after each of them the place and the kernel are as they were.
     pub fn post(
         &self,
         place: &mut Place<M::Payload>,
@@ -45,7 +45,7 @@ impl<M: EventModel> Station<M> {
         self.post_at(&mut place.seat, kernel, place.worker, v)
     }
 
-    /// The mail in the worker's inbox has arrived at its kernel, and the inbox is empty. It takes no memory.
+    /// Moves the mail of the worker's inbox to its kernel, as arrived. It takes no memory.
     ///
     /// [`Fault::NotLawful`]: something that arrived before is not accepted yet. [`Fault::Busy`]: another place had claimed the inbox.
     /// [`Fault::Exhausted`]: a count of mail got would pass 2^63. After each of them the place and the kernel are as they were.
@@ -124,7 +124,7 @@ impl<M: EventModel> Station<M> {
         self.commit_at(alloc, &mut place.seat, kernel, place.worker)
     }
 
-    /// The book is closed, where its floor is the end of the run: no row will follow. It takes no memory.
+    /// Closes the book, whose floor must be the end of the run: no row will follow. It takes no memory.
     ///
     /// [`Fault::Busy`]: another place had claimed the book. [`Fault::Closed`]: the book is closed. [`Fault::NotLawful`]: its floor isn't
     /// the end of the run. After each of them the place is as it was.
@@ -138,7 +138,8 @@ impl<M: EventModel> Station<M> {
         self.close_at(&mut place.seat)
     }
 
-    /// The records that the book shows: exactly the sequential run's before a floor that is not below any that this place was shown.
+    /// The records that the book shows: exactly the sequential run's below some floor, which is at least each floor that
+    /// this place was shown.
     ///
     /// [`Fault::Busy`]: another place had claimed the book. [`Fault::Memory`]: memory was refused. After either the place is as it
     /// was.

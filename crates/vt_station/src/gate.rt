@@ -1,8 +1,8 @@
-//! What is told before each execution.
+//! A hook that is called before each execution.
 
-/// Is told of each event that a worker is about to execute, in the worker's own thread. A test may hold a worker there.
+/// Called for each event that a worker is about to execute, in the worker's own thread. A test may hold a worker there.
 ///
-/// The run waits for it, and nothing that it does changes a record.
+/// The worker waits until the call returns, and no call changes a record.
 pub trait Gate {
     /// Worker `worker` is about to execute an event in its turn `turn`, the first of which is 1.
     fn before_execute(&self, worker: u32, turn: u64);

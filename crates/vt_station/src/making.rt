@@ -20,7 +20,7 @@ use vt_book::Book;
 use vt_key::Fault;
 use vt_model::{Config, Model as EventModel};
 
-/// The seat that makes the others makes the next one.
+/// How a seat is split: the maker's seat stays, and the seat of the next worker is new.
 pub(crate) struct Next;
 
 impl<P> Split<View<P>> for Next {
@@ -69,7 +69,7 @@ fn lay<M: EventModel>(
 }
 
 impl<M: EventModel> Station<M> {
-    /// The seat that makes the others makes the next one.
+    /// Makes the seat of the next worker out of the maker's.
     fn seat_next(&self, maker: &mut Seat<M>) -> Seat<M>
         requires table { maker.old.table_id ≡ self.now.table.shared.table_id }
         requires maker { let key = self.now.table.shared.key in (i : ℕ) × (i < key.config.workers) × IsMaker (simulation_of (M.handlers key.model.value) key.config) i maker.old.me }

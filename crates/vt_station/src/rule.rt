@@ -7,14 +7,14 @@ use std::marker::{Brand, PhantomData};
 use std::snapshot::Snapshot;
 use vt_model::{Config, Model as EventModel};
 
-/// What a station is told once: the model and the config. The model is there for contracts alone.
+/// The fixed data of a station: the model and the config. Contracts alone see the model.
 #[derive(Drop)]
 pub(crate) struct About<M> {
     pub(crate) model: Snapshot<M>,
     pub(crate) config: Config,
 }
 
-/// There is a list of marked steps that gives what the cells and the places show.
+/// The invariant of a station: there is a list of marked steps whose run gives what the cells and the places show.
 pub(crate) struct Law<M> {
     model: PhantomData<M>,
 }
@@ -28,7 +28,7 @@ impl<M: EventModel> TableRule<Slot<M::Payload>, View<M::Payload>, About<M>> for 
     ghost first = { λ key. first_view (simulation_of (M.handlers key.model.value) key.config) };
 }
 
-/// What the caller of a step wants of the number that is found and of the seat after it.
+/// What a caller wants to know after an atomic step: of the word that it found, and of the seat as it then is.
 pub(crate) trait Aim<P> {
     ghost use Rattle.std.specs.Prelude.{ℕ};
     ghost use Rattle.vt_station.specs.Kept.{Sat};
@@ -40,7 +40,7 @@ impl<P> Aim<P> for Brand {
     ghost after = { λ _ _. Unit {0} };
 }
 
-/// A step tells what its caller wants of it.
+/// The outcome of an atomic step is what its caller's aim asks for.
 pub(crate) struct Tell<J> {
     aim: PhantomData<J>,
 }

@@ -50,7 +50,7 @@ pub struct Station<M: EventModel> {
     ghost counted: { table.shared.key.config.workers ≡ workers },
 }
 
-/// A step with its reply, and the kernel as it was lent and as the call leaves it.
+/// A step with its reply, and the kernel before the call and after it.
 #[derive(Drop)]
 pub(crate) struct Visit<M: EventModel> {
     pub(crate) step: Step,
@@ -59,7 +59,7 @@ pub(crate) struct Visit<M: EventModel> {
     pub(crate) left: Snapshot<Kernel<M>>,
 }
 
-/// A commit of a worker, with the kernel as it was lent, and the floor of the book as the commit left it.
+/// A commit of a worker, with the kernel before the call, and the floor of the book after the commit.
 #[derive(Drop)]
 pub(crate) struct Lent<M: EventModel> {
     pub(crate) worker: u32,
@@ -67,7 +67,7 @@ pub(crate) struct Lent<M: EventModel> {
     pub(crate) seen: Time,
 }
 
-/// How many words apart the words of two neighbouring cells lie: two lines of the cache, since two are fetched together.
+/// The distance between the words of two neighbouring cells: two cache lines, since processors fetch lines in pairs.
 const STRIDE: usize = 16;
 
 /// The word of an inbox that is empty and that nobody has claimed.
@@ -79,7 +79,7 @@ const CLAIMED: u64 = 1;
 /// The word of a cell that nobody has claimed.
 const HOME: u64 = 2;
 
-/// Where the word of a cell lies, and how many words so many cells have.
+/// The place of the word of cell `cells`; also the number of words that `cells` cells take.
 pub(crate) fn words_of(cells: usize) -> usize
     requires few { cells ≤ cell_count MAX_WORKERS }
     ensures { result ≡ word_at cells }
@@ -87,7 +87,7 @@ pub(crate) fn words_of(cells: usize) -> usize
     STRIDE * cells
 }
 
-/// A swap for the word of a claimed cell. `_told` is for the caller's pick of the aim alone.
+/// Swaps the word of a claimed cell in. `_told` only fixes the type of the aim.
 fn swap<M: EventModel, J: Aim<M::Payload>, T>(
     shelf: &Shelf<M>,
     seat: &mut Seat<M>,
@@ -104,7 +104,7 @@ fn swap<M: EventModel, J: Aim<M::Payload>, T>(
     shelf.swap::<Tell<J>>(seat, words_of(cell), CLAIMED)
 }
 
-/// A store. `_told` is for the caller's pick of the aim alone.
+/// Stores a word. `_told` only fixes the type of the aim.
 fn store<M: EventModel, J: Aim<M::Payload>, T>(
     shelf: &Shelf<M>,
     seat: &mut Seat<M>,
@@ -122,7 +122,7 @@ fn store<M: EventModel, J: Aim<M::Payload>, T>(
     shelf.store::<Tell<J>>(seat, words_of(cell), word);
 }
 
-/// A load. `_told` is for the caller's pick of the aim alone.
+/// Loads a word. `_told` only fixes the type of the aim.
 fn load<M: EventModel, J: Aim<M::Payload>, T>(
     shelf: &Shelf<M>,
     seat: &mut Seat<M>,
@@ -152,8 +152,8 @@ impl<M: EventModel> Station<M> {
         swap::<M, Brand, ()>(&self.table.shared, seat, cell, &()) != CLAIMED
     }
 
-    /// Looks at a worker's inbox, and tells whether it is empty, by one load. Where it is, the worker's steps that find it empty
-    /// stand behind all others.
+    /// Looks at a worker's inbox by one load, and answers whether it is empty. If it is, the worker's steps that find it
+    /// empty are put behind all others in the list of steps.
     pub(crate) fn finds_empty(&self, seat: &mut Seat<M>, cell: usize, visit: &Visit<M>) -> bool
         requires table { seat.old.table_id ≡ self.now.table.shared.table_id }
         requires near { cell < self.now.workers }
@@ -168,7 +168,7 @@ impl<M: EventModel> Station<M> {
         load::<M, Brand, Visit<M>>(&self.table.shared, seat, cell, visit) == EMPTY
     }
 
-    /// Gives a cell back after a step: the worker's steps stand behind all others.
+    /// Gives a cell back after a step. The worker's steps are put behind all others in the list of steps.
     pub(crate) fn release_visit(&self, seat: &mut Seat<M>, cell: usize, visit: &Visit<M>)
         requires table { seat.old.table_id ≡ self.now.table.shared.table_id }
         requires near { cell < cell_count self.now.workers }
@@ -182,7 +182,7 @@ impl<M: EventModel> Station<M> {
         store::<M, Brand, Visit<M>>(&self.table.shared, seat, cell, HOME, visit);
     }
 
-    /// Gives an inbox back empty after a step: the worker's steps stand behind all others.
+    /// Gives an inbox back empty after a step. The worker's steps are put behind all others in the list of steps.
     pub(crate) fn release_emptied(&self, seat: &mut Seat<M>, cell: usize, visit: &Visit<M>)
         requires table { seat.old.table_id ≡ self.now.table.shared.table_id }
         requires near { cell < self.now.workers }
@@ -196,7 +196,7 @@ impl<M: EventModel> Station<M> {
         store::<M, Brand, Visit<M>>(&self.table.shared, seat, cell, EMPTY, visit);
     }
 
-    /// Gives a cell back as it was; a floor of the book may have been shown.
+    /// Gives a cell back unchanged; a floor of the book may have been shown.
     pub(crate) fn release_unchanged(&self, seat: &mut Seat<M>, cell: usize, seen: Option<Time>)
         requires table { seat.old.table_id ≡ self.now.table.shared.table_id }
         requires near { cell < cell_count self.now.workers }
@@ -207,8 +207,8 @@ impl<M: EventModel> Station<M> {
         store::<M, Brand, Option<Time>>(&self.table.shared, seat, cell, HOME, &seen);
     }
 
-    /// Gives the cell of the book back after a commit: the worker's steps stand behind all others, and its part is without what was
-    /// committed, which its kernel still keeps.
+    /// Gives the cell of the book back after a commit. The worker's steps are put behind all others in the list of steps,
+    /// and what was committed leaves its part; its kernel still keeps it.
     pub(crate) fn release_commit(&self, seat: &mut Seat<M>, cell: usize, lent: &Lent<M>)
         requires table { seat.old.table_id ≡ self.now.table.shared.table_id }
         requires near { cell < cell_count self.now.workers }

@@ -12,14 +12,14 @@ use std::marker::{Model, PhantomData};
 /// What a place knows, for contracts alone: no value of it is ever made.
 pub(crate) struct View<P> {
     marker: PhantomData<P>,
-    // Whose place it is, and the part of that worker as its last visit left it.
+    // The worker whose place it is, and that worker's part after its last visit.
     pub(crate) ghost worker: { ℕ },
     pub(crate) ghost part: { Part P },
-    // The worker's steps, and what each was answered.
+    // The worker's steps, with the reply to each.
     pub(crate) ghost mine: { List Made },
     // A floor of the book that was shown to this place.
     pub(crate) ghost seen: { Time },
-    // The cell that it has claimed, and what that held then.
+    // The cell that it has claimed, and what the cell held then.
     pub(crate) ghost hand: { Hand P },
     // For the place that makes the others: how many there are, and the parts of those still to be made.
     pub(crate) ghost made: { ℕ },

@@ -27,7 +27,7 @@ use vt_model::{Config, Model as EventModel, Record};
 
 /// A worker with its place at a station, by which it acts there.
 ///
-/// What the kernel stands for is reached by local steps from what the place left at its last visit.
+/// The kernel is reached by local steps from what the place left at its last visit.
 #[derive(Drop)]
 pub struct Worker<'a, M: EventModel> {
     alloc: Global,
@@ -102,7 +102,7 @@ impl<'a, M: EventModel> Worker<'a, M> {
         }
     }
 
-    /// The place of the worker, whose kernel is no longer wanted.
+    /// Gives up the worker's kernel and returns its place.
     pub fn leave(self) -> Place<M::Payload>
         ensures table { place_table result ≡ self.entry.table }
         ensures view { place_view result ≡ self.entry.view }

@@ -37,7 +37,7 @@ fn push_time(text: &mut TextBuffer, time: Time)
     text.push_number(time);
 }
 
-/// Adds what a step was answered.
+/// Adds the answer to a step.
 fn push_answer(text: &mut TextBuffer, answer: &Result<Reply, Fault>)
     requires room { length text.old + ANSWER_LEN ≤ TEXT_ROOM }
     ensures text { text.new ≡ text.old ++ answer_text answer.now }
@@ -58,7 +58,7 @@ fn push_answer(text: &mut TextBuffer, answer: &Result<Reply, Fault>)
     }
 }
 
-/// Adds the line of a reply.
+/// Adds the line of a reply: the number of its line, and the answer.
 fn push_reply(text: &mut TextBuffer, line: u64, answer: &Result<Reply, Fault>)
     requires room { length text.old + REPLY_LEN ≤ TEXT_ROOM }
     ensures text { text.new ≡ text.old ++ reply_text line answer.now }
@@ -97,7 +97,7 @@ fn push_shown(text: &mut TextBuffer, announced: Time, floor: Time, least: Time, 
     text.push_bytes(b"\n");
 }
 
-/// Makes room for so many bytes: where there is none, what is gathered is written.
+/// Makes room for `count` bytes. If there is none, the buffer is written first.
 fn make_room<W: Write>(text: &mut TextBuffer, writer: &mut W, count: usize) -> Result<(), Fault>
     requires { count ≤ TEXT_ROOM }
     ensures room { OnOk result (length text.new + count ≤ TEXT_ROOM) }
@@ -112,9 +112,9 @@ fn make_room<W: Write>(text: &mut TextBuffer, writer: &mut W, count: usize) -> R
     }
 }
 
-/// Adds the line of a reply to what is gathered, which is written first where there is no room for the line.
+/// Adds the line of a reply to the buffer, which is written first if there is no room for the line.
 ///
-/// [`Fault::Output`] where the writer failed: then a beginning of what was gathered was written.
+/// [`Fault::Output`]: the writer failed, after a beginning of the buffer was written.
 pub fn put_reply<W: Write>(
     text: &mut TextBuffer,
     writer: &mut W,
@@ -130,7 +130,7 @@ pub fn put_reply<W: Write>(
     Ok(())
 }
 
-/// Adds the lines of records to what is gathered, which is written as often as there is no room for a line.
+/// Adds the lines of records to the buffer, which is written whenever there is no room for a line.
 fn put_records<W: Write>(
     text: &mut TextBuffer,
     writer: &mut W,
@@ -147,10 +147,10 @@ fn put_records<W: Write>(
     Ok(())
 }
 
-/// Adds what the world shows at the end of a replay to what is gathered, which is written as often as there is no room: the
+/// Adds what the world shows at the end of a replay to the buffer, which is written whenever there is no room: the
 /// announced time, the floor of the book, the least time, how many records the book shows, and a line for each of them.
 ///
-/// [`Fault::Output`] where the writer failed: then a beginning of what was gathered and of these lines was written.
+/// [`Fault::Output`]: the writer failed, after a beginning of the buffer and of these lines was written.
 pub fn put_state<W: Write>(
     text: &mut TextBuffer,
     writer: &mut W,

@@ -8,7 +8,7 @@ use vt_key::Stamp;
 use vt_steps::Step;
 use vt_text::read_number;
 
-/// The number that a word is, where it is one and below a limit.
+/// The number that a word stands for; None if it is no number or not below the limit.
 fn number_below(word: &[u8], limit: u32) -> Option<u32>
     ensures { result ≡ number_below limit word.now }
 {

@@ -1,4 +1,4 @@
-//! What holds of every run of the model.
+//! A law that holds of every run of the model.
 
 ghost use Rattle.std.specs.Prelude.{◌≡◌, ◌+◌, ◌*◌, ℕ};
 ghost use Rattle.vt_model.specs.Simulation.{simulation_of};

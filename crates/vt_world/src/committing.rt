@@ -27,7 +27,7 @@ impl<'m, M: EventModel> World<'m, M> {
         Ok(Reply::Done)
     }
 
-    /// The book is closed, where its floor is the end of the run.
+    /// Closes the book, whose floor must be the end of the run.
     pub(crate) fn close(&mut self) -> Result<Reply, Fault>
         ensures { IsStepOf (M.handlers self.old.model) step.Close self.old self.new result }
     {

@@ -1,4 +1,4 @@
-//! What a world tells once its book is closed: the final values.
+//! The final values of a world whose book is closed.
 
 ghost use Rattle.std.specs.Prelude.{◌≡◌, ◌<◌, IsTrue, false, Err, IfOk, IfErr};
 ghost use Rattle.vt_key.specs.declared.fault.Fault.TheVariants.{Memory, NotLawful};

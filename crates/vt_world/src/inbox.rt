@@ -1,4 +1,4 @@
-//! What travels to one worker.
+//! The mail that travels to one worker.
 
 ghost use Rattle.std.specs.Prelude.{◌≡◌, []};
 
@@ -6,7 +6,7 @@ use std::alloc::Global;
 use std::marker::Model;
 use vt_key::Mail;
 
-/// The mail that was sent to one worker and that it has not fetched, in the order of its coming.
+/// The mail that was sent to one worker and that it hasn't fetched, in the order of its arrival.
 #[derive(Drop)]
 pub(crate) struct Inbox<P: Copy> {
     pub(crate) mail: Vec<Mail<P>>,

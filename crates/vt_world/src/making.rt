@@ -117,7 +117,7 @@ fn open_workers<M: EventModel>(
     Ok(kernels)
 }
 
-/// So many inboxes without mail.
+/// `count` inboxes without mail.
 fn open_inboxes<P: Copy>(alloc: Global, count: u32) -> Result<Vec<Inbox<P>>, Fault>
     ensures empty { IfOk result (λ v. v.items ≡ replicate count []) }
     ensures refused { IfErr result (λ fault. fault ≡ Memory) }

@@ -1,4 +1,4 @@
-//! What a world tells of what is still to be done, and of what its processes did.
+//! What a world still has to do, and what its processes did.
 
 ghost use Rattle.std.specs.Prelude.{◌≡◌, ℕ, ◌<◌, ◌≤◌, ◌⊎◌, List, map, All, Some, IfOk, IfErr, OnOk};
 ghost use Rattle.std.specs.List.{flat_map};
@@ -39,8 +39,8 @@ impl<'m, M: EventModel> World<'m, M> {
     /// The past events of process `lp`, which are executed and not committed, in the order of their execution. They are the
     /// last ones of all that the process has executed.
     ///
-    /// Below any time that nothing unprocessed or travelling is before, the process has executed what the sequential run
-    /// executes there, in the same order: so below [`World::least`] the past events are the last ones of the sequential run.
+    /// Nothing before [`World::least`] is unprocessed or travelling. So the process has executed below it exactly what the
+    /// sequential run executes there, in the same order, and its past events below it are the last of these.
     ///
     /// [`Fault::NotLawful`]: there is no such process. [`Fault::Memory`]: there is, and memory was refused.
     pub fn past(&self, alloc: Global, lp: u32) -> Result<Vec<Event<M::Payload>>, Fault>

@@ -26,7 +26,7 @@ pub struct Stop {
 }
 
 impl<'m, M: EventModel> World<'m, M> {
-    /// Does one step, and tells what it is answered. Once the book is closed it stays as it is: each commit and each close is
+    /// Does one step, and gives its reply. Once the book is closed, it stays as it is, and each commit and each close is
     /// refused as [`Fault::Closed`].
     ///
     /// [`Fault::NotLawful`]: the step isn't lawful in this world. [`Fault::Closed`]: it is a commit or a close, and the book is
@@ -55,7 +55,7 @@ impl<'m, M: EventModel> World<'m, M> {
     }
 
     /// Does steps one after the other. A step that isn't lawful, or that the closed book refuses, changes nothing, and the
-    /// next one follows; the answer is how many were refused so. Once the book is closed it stays as it is.
+    /// next one follows. The answer is how many were refused so. Once the book is closed it stays as it is.
     ///
     /// [`Stop`]: a lawful step couldn't be done, since memory was refused or a counter would pass 2^63. The world is then that
     /// after the steps before it.
@@ -79,7 +79,8 @@ impl<'m, M: EventModel> World<'m, M> {
         Ok(refused)
     }
 
-    /// Does one step of a list, and tells how many refusals it adds: one where it isn't lawful, or the closed book refuses it.
+    /// Does one step of a list, and answers how many refusals it adds: one if it isn't lawful or the closed book refuses
+    /// it, else none.
     fn advance(&mut self, alloc: Global, step: &Step) -> Result<u64, Fault>
         ensures goes { IfOk result (λ more. IsAnsweredBy (M.handlers self.old.model) step.now self.old self.new more) }
         ensures spent { (world : _) → StandsForWorld (M.handlers self.old.model) self.old world → IfErr result (λ fault. IsSpent (simulation_of (M.handlers self.old.model) self.old.config) step.now world fault) }
@@ -96,7 +97,7 @@ impl<'m, M: EventModel> World<'m, M> {
     }
 }
 
-/// The refusal that a fault is in a list of steps; the fault itself where the list stops at it.
+/// One refusal, for a fault that a list of steps passes over; else the fault, at which the list stops.
 fn passed_over(fault: Fault) -> Result<u64, Fault>
     ensures passed { IfOk result (λ more. (more ≡ 1) × ((fault ≡ NotLawful) ⊎ (fault ≡ Closed))) }
     ensures stopped { IfErr result (λ why. (why ≡ fault) × (fault ≡ NotLawful → ⊥) × (fault ≡ Closed → ⊥)) }

@@ -56,7 +56,7 @@ impl<'m, M: EventModel> Model for World<'m, M> {
 }
 
 impl<'m, M: EventModel> World<'m, M> {
-    /// The announced time, in ticks: no event and no anti-message before it is unprocessed or travelling, and none will be.
+    /// The announced time, in ticks. No event or anti-message before it is unprocessed or travelling, now or later.
     pub fn announced(&self) -> Time
         ensures value { result ≡ self.now.board.announced }
         ensures least { TimeAtMost result (least_held self.now) }
@@ -64,8 +64,8 @@ impl<'m, M: EventModel> World<'m, M> {
         self.board.announced()
     }
 
-    /// The floor of the book, in ticks: what is committed before it is shown. It is at most the announced time. Once the book
-    /// is closed it is the end of the run.
+    /// The floor of the book, in ticks: the records below it are shown. It is at most the announced time. Once the book is
+    /// closed it is the end of the run.
     pub fn floor(&self) -> Time
         ensures value { result ≡ floor_held self.now }
         ensures announced { TimeAtMost result self.now.board.announced }
