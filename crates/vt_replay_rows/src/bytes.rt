@@ -38,7 +38,7 @@ fn run_case(
     run_into(rt, case.line, &mut &*case.input, out, err)
 }
 
-// With room for so many bytes just these are written, and the failed write is told.
+// If there is room for some bytes only, just these are written, and the failed write is answered.
 fn writes_a_beginning(
     rt: &(impl Abort + AllocGlobal + Threads + Wait + Sync),
     case: &Written<'_>,

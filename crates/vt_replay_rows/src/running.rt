@@ -8,7 +8,7 @@ use std::test::Fail;
 use std::thread::Threads;
 use vt_program::program;
 
-/// A reader that gives so many pieces of a text, each of at most so many bytes, and then fails.
+/// A reader that gives a number of pieces of a text, each of limited length, and then fails.
 #[derive(Drop)]
 pub(crate) struct Failing {
     pub(crate) rest: &'static [u8],
@@ -39,7 +39,7 @@ pub(crate) enum Full {
     IsInterrupted,
 }
 
-/// A writer with room for so many bytes in so many calls, of which each takes at most so many.
+/// A writer that takes a number of bytes in a number of calls, and at most a given number in each.
 #[derive(Drop)]
 pub(crate) struct Narrow {
     pub(crate) taken: Vec<u8>,

@@ -12,7 +12,7 @@ use vt_program::{program, tell_refusal};
 pub(crate) const SIX_LINES: &str =
     "1 0 1 1\n2 1 1 2\n3 1 1 513\n4 0 1 258\n5 0 1 66049\n6 1 1 131330\n";
 
-/// A writer that has room for so many bytes and then fails, and counts its calls.
+/// A writer that has room for a number of bytes and then fails, and counts its calls.
 #[derive(Drop)]
 struct Narrow {
     taken: Vec<u8>,

@@ -6,7 +6,7 @@ use std::sync::Wait;
 use std::test::Fail;
 use std::thread::Threads;
 
-/// What is told of a run whose turns don't reach its end.
+/// The line of a run whose turns don't reach its end.
 const TURNS_SPENT: &str = "twarp: refused 6 turns spent\n";
 
 /// What two turns of a single worker commit of the default run.

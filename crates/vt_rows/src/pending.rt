@@ -33,7 +33,7 @@ fn letter(rt: &HostRuntime, rank: Rank) -> Result<Parcel<Letter<u64>>, Fail> {
     }
 }
 
-// What a caller does who doesn't know whether the rank is new: it asks first.
+// A caller that doesn't know whether the rank is new asks first.
 fn put(queue: &mut Pending<u64>, letter: Parcel<Letter<u64>>) -> bool {
     let is_new = !queue.holds(letter.get().event.rank);
     if is_new {

@@ -1,4 +1,4 @@
-//! What a gate is told.
+//! The calls of a gate.
 
 use crate::running::{all_records, gives, two_hops};
 use std::rt::{self, HostRuntime};

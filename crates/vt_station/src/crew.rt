@@ -25,7 +25,7 @@ use std::thread::Threads;
 use vt_key::Fault;
 use vt_model::{Config, Model as EventModel, Record};
 
-/// A run that ended before its end: why, and the records that were committed, a beginning of all.
+/// A run that stopped before its end: why, and the records that were committed, a beginning of all.
 #[derive(Drop)]
 pub struct Stopped {
     /// [`Fault::Memory`] or [`Fault::Exhausted`] where a worker had it, of the least such worker; else [`Fault::TurnsSpent`]. A worker
@@ -110,7 +110,7 @@ impl<'a, M: EventModel> Job<'a, M> {
 }
 
 impl<'a, M: EventModel> Job<'a, M> {
-    /// All of the worker's work, once all workers have begun. The others are told how it ends.
+    /// All of the worker's work, once all workers have begun. It lets the others know how it ends.
     fn run<R: Wait, G: Gate>(
         &mut self,
         rt: &R,
@@ -252,7 +252,7 @@ fn fault_of<M: EventModel>(jobs: &[Job<'_, M>]) -> Fault
     Fault::TurnsSpent
 }
 
-/// What comes of the work of all: the records of the whole run where a worker closed the book, else those that the first
+/// The result of all workers' work: the records of the whole run where a worker closed the book, else those that the first
 /// worker's place shows.
 fn answer_of<M: EventModel>(
     alloc: Global,
@@ -279,7 +279,7 @@ fn answer_of<M: EventModel>(
     Err(stop_with(alloc, fault, records))
 }
 
-/// All work is done, each worker's in a thread of its own.
+/// Does all workers' work, each worker's in a thread of its own.
 fn work_all<R: Threads + Wait + Sync, M: EventModel + Sync, G: Gate + Sync>(
     rt: &R,
     alloc: Global,
@@ -309,7 +309,7 @@ where
 /// run, in the order of the sequential run.
 ///
 /// A worker makes at most `max_turns` turns. In each it takes its mail in, undoes what that overtakes, executes at most sixteen events,
-/// the least first, sends what they sent, joins the round of global virtual time and commits. `gate` is told before each execution,
+/// the least first, sends what they sent, joins the round of global virtual time and commits. `gate` is called before each execution,
 /// in the worker's thread. A worker that can't go on sleeps until another one lets it. Once a worker has left before the end of the run,
 /// the others leave within a few turns. All threads are joined before the answer; nothing promises that there is one.
 ///

@@ -28,7 +28,7 @@ fn is_passed_over(line: &[u8]) -> bool
     }
 }
 
-/// The steps of a step text, of a run with so many logical processes and workers.
+/// The steps of a step text, of a run with `lps` logical processes and `workers` workers.
 pub fn read_steps(
     alloc: Global,
     text: &[u8],

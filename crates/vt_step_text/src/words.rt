@@ -95,7 +95,7 @@ fn step_with_three(
     Some(Step::Cancel(process, Stamp { worker, serial }))
 }
 
-/// The step that a line says, of a run with so many logical processes and workers.
+/// The step that a line says, of a run with `lps` logical processes and `workers` workers; None if it says none.
 pub(crate) fn step_of_line(line: &[u8], lps: u32, workers: u32) -> Option<Step>
     ensures { result ≡ step_said lps workers (words_of line.now) }
 {

@@ -82,7 +82,7 @@ impl TextBuffer {
         }
     }
 
-    /// Whether so many bytes more can be pushed.
+    /// Whether `count` more bytes can be pushed.
     pub fn has_room(&self, count: usize) -> bool
         ensures { IsTrue result ↔ (length self.now + count ≤ TEXT_ROOM) }
     {

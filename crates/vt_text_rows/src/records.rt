@@ -55,7 +55,7 @@ impl Write for Scripted {
     }
 }
 
-/// A writer that has room for so many bytes and then fails, and counts its calls.
+/// A writer that has room for a number of bytes and then fails, and counts its calls.
 #[derive(Drop)]
 struct Narrow {
     taken: Vec<u8>,

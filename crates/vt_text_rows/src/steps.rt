@@ -243,7 +243,7 @@ fn the_longest_input_is_read(rt: HostRuntime) -> Result<(), Fail> {
     Ok(())
 }
 
-/// A reader that gives so many pieces of a text and then fails.
+/// A reader that gives a number of pieces of a text and then fails.
 #[derive(Drop)]
 struct Failing {
     rest: &'static [u8],
@@ -278,7 +278,7 @@ fn a_failed_read_refuses_the_input(rt: HostRuntime) -> Result<(), Fail> {
     Ok(())
 }
 
-/// A writer that has room for so many bytes and then fails, and counts its calls.
+/// A writer that has room for a number of bytes and then fails, and counts its calls.
 #[derive(Drop)]
 struct Narrow {
     taken: Vec<u8>,

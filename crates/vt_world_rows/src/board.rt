@@ -59,7 +59,7 @@ fn no_round_follows_the_last_one_that_can_be_counted(rt: HostRuntime) {
     reports(&rt, &mut board, 1, (0, 0, 10), Ok(Report::Announced(10)));
     cuts(&rt, &mut board, 0, Err(Fault::Exhausted));
     cuts(&rt, &mut board, 0, Err(Fault::Exhausted));
-    // Who is no worker is told so first.
+    // A number that is no worker is refused first.
     cuts(&rt, &mut board, 2, Err(Fault::NotLawful));
 }
 
