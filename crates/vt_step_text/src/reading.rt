@@ -29,6 +29,8 @@ fn is_passed_over(line: &[u8]) -> bool
 }
 
 /// The steps of a step text, of a run with `lps` logical processes and `workers` workers.
+///
+/// [`Fault::BadStep`] names the first bad line. [`Fault::Memory`]: memory was refused.
 pub fn read_steps(
     alloc: Global,
     text: &[u8],
