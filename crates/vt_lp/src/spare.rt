@@ -10,10 +10,9 @@ use vt_list::{List, Parcel, Stack};
 /// Nodes of committed past events and of letters that are no longer needed, kept to be written again. Nothing depends on
 /// their old contents.
 ///
-/// An executed event needs a node for itself and one for each message and anti-message, as many as a committed event
-/// leaves. A letter from another worker needs a node, and a letter that was sent leaves one. So a worker that commits
-/// regularly takes little new memory, and writes to memory that it has written before. All nodes are freed when the value
-/// is dropped.
+/// An event needs a node, and one for each message and each anti-message: as many as a committed one leaves. A letter that comes
+/// from another worker needs a node, and one that was sent leaves it. So who commits now and then takes little memory anew, and
+/// writes where it wrote before. All that is kept is given back when the value is dropped.
 #[derive(Drop)]
 pub struct Spare<P: Copy, K: Copy> {
     message: Option<Parcel<Letter<P>>>,
