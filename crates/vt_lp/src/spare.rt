@@ -1,4 +1,4 @@
-//! Nodes that processes no longer need, kept for their next letters and events.
+//! Memory of what processes need no more, kept for what they make next.
 
 ghost use Rattle.std.specs.Prelude.{◌≡◌, IfOk, IfErr};
 
@@ -7,8 +7,8 @@ use std::alloc::Global;
 use vt_key::Letter;
 use vt_list::{List, Parcel, Stack};
 
-/// Nodes of committed past events and of letters that are no longer needed, kept to be written again. Nothing depends on
-/// their old contents.
+/// Nodes of committed past events and of letters that are needed no more, to be written anew. What stands in them means
+/// nothing.
 ///
 /// An event needs a node, and one for each message and each anti-message: as many as a committed one leaves. A letter that comes
 /// from another worker needs a node, and one that was sent leaves it. So who commits now and then takes little memory anew, and
@@ -18,14 +18,14 @@ pub struct Spare<P: Copy, K: Copy> {
     message: Option<Parcel<Letter<P>>>,
     anti_message: Option<Parcel<Letter<P>>>,
     event: Option<Parcel<PastEvent<P, K>>>,
-    // A mix of what was read ahead. It is stored so that the reads are made; nothing depends on it.
+    // What was read ahead, which means nothing.
     seen: u64,
     letters: Stack<Letter<P>>,
     events: Stack<PastEvent<P, K>>,
 }
 
 impl<P: Copy, K: Copy> Spare<P, K> {
-    /// An empty store.
+    /// No memory.
     pub fn new(alloc: Global) -> Spare<P, K> {
         Spare {
             message: None,
@@ -37,7 +37,8 @@ impl<P: Copy, K: Copy> Spare<P, K> {
         }
     }
 
-    /// Reads the nodes that will be written next. So their cache lines are fetched together, and not one after the other.
+    /// Reads the nodes that will be written next, so that they are on their way from memory together, and not each when it is
+    /// written.
     pub(crate) fn read_ahead(&mut self) {
         let mut seen = 0;
         if let Some(letter) = self.next_letter() {
@@ -52,7 +53,7 @@ impl<P: Copy, K: Copy> Spare<P, K> {
         self.seen = seen;
     }
 
-    /// Puts the letter into a kept node, or else into a new one. If memory is refused, the letter is handed back.
+    /// The letter in a node that was kept, or in a new one. Where memory is refused, it is handed back.
     pub fn letter(
         &mut self,
         alloc: Global,
@@ -68,7 +69,7 @@ impl<P: Copy, K: Copy> Spare<P, K> {
         Ok(parcel)
     }
 
-    /// Puts the past event into a kept node, or else into a new one. If memory is refused, the event is handed back.
+    /// The past event in a node that was kept, or in a new one. Where memory is refused, it is handed back.
     pub(crate) fn event(
         &mut self,
         alloc: Global,
@@ -104,7 +105,7 @@ impl<P: Copy, K: Copy> Spare<P, K> {
         }
     }
 
-    // The old content of the node that the next letter gets.
+    // What stands in the node of a letter that is given next.
     fn next_letter(&self) -> Option<&Letter<P>> {
         match &self.message {
             Some(letter) => Some(letter.get()),
@@ -112,7 +113,7 @@ impl<P: Copy, K: Copy> Spare<P, K> {
         }
     }
 
-    // The old content of the node that the next past event gets.
+    // What stands in the node of a past event that is given next.
     fn next_event(&self) -> Option<&PastEvent<P, K>> {
         match &self.event {
             Some(event) => Some(event.get()),
@@ -120,7 +121,7 @@ impl<P: Copy, K: Copy> Spare<P, K> {
         }
     }
 
-    // Takes a node of a letter. A node at hand comes first, since no other node is read to find it.
+    // A node of a letter. Those at hand are given first: to find them, no other node is read.
     fn take_letter(&mut self) -> Option<Parcel<Letter<P>>> {
         if let Some(parcel) = self.message.take() {
             return Some(parcel);
@@ -131,7 +132,7 @@ impl<P: Copy, K: Copy> Spare<P, K> {
         self.letters.pop()
     }
 
-    // Takes a node of a past event, the one at hand first.
+    // A node of a past event, the one at hand first.
     fn take_event(&mut self) -> Option<Parcel<PastEvent<P, K>>> {
         if let Some(parcel) = self.event.take() {
             return Some(parcel);
@@ -158,12 +159,12 @@ impl<P: Copy, K: Copy> Spare<P, K> {
     }
 }
 
-// Reads words at both ends of a letter.
+// Words from both ends of a letter.
 fn read_letter<P: Copy>(letter: &Letter<P>) -> u64 {
     letter.event.rank.key.number ^ u64::from(letter.event.dest)
 }
 
-// Reads words all over a past event.
+// Words from everywhere in a past event.
 fn read_event<P: Copy, K: Copy>(event: &PastEvent<P, K>) -> u64 {
     event.number ^ event.records.len() as u64 ^ event.anti_messages.len() as u64
 }
