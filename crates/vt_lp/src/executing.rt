@@ -1,13 +1,14 @@
 //! How a process with rollback executes its least pending event.
 
-ghost use Rattle.std.specs.Prelude.{◌≡◌, ◌+◌, ◌%◌, ◌<◌, ◌≤◌, ◌⊎◌, [], ◌∷◌, ◌++◌, length, map, All, IfOk, IfErr};
+ghost use Rattle.std.specs.Prelude.{◌≡◌, ◌+◌, ◌%◌, ◌^◌, ◌<◌, ◌≤◌, ◌⊎◌, [], ◌∷◌, ◌++◌, length, map, All, IfOk, IfErr};
 ghost use Rattle.vt_key.specs.Times.{TimeBefore};
-ghost use Rattle.vt_key.specs.declared.fault.Fault.TheVariants.{Memory, Exhausted};
+ghost use Rattle.vt_key.specs.declared.fault.Fault.TheVariants.{Memory, NotLawful, Exhausted};
 ghost use Rattle.vt_key.specs.declared.letter.Letter.{Letter};
 ghost use Rattle.vt_key.specs.declared.letter.Sign.TheVariants.{Plus, Minus};
 ghost use Rattle.vt_model.specs.Process.{triple_at, IsProcessStream};
 ghost use Rattle.vt_model.specs.Simulation.{simulation_of};
 ghost use Rattle.vt_pending.specs.Letters.{IsRising};
+ghost use Rattle.vt_stream.specs.Words.{moved};
 ghost use Rattle.vt_steps.specs.Letters.{unstamped, stamped, signed};
 ghost use Rattle.vt_steps.specs.ProcessSteps.{execute_process};
 ghost use Rattle.vt_steps.specs.StandsFor.{IsRemembered};
@@ -65,6 +66,9 @@ impl<M: EventModel> Lp<M> {
         ensures done { let sim = simulation_of (M.handlers model.now) self.old.config in (h : LogicalProcess _) → StandsFor (M.handlers model.now) self.old h → IfOk result (λ _. IsDone (M.handlers model.now) self.new (execute_process sim self.old.lp (self.old.lp % self.old.config.workers) serial.old h) outbox.old outbox.new serial.old serial.new) }
         ensures refused { let sim = simulation_of (M.handlers model.now) self.old.config in (h : LogicalProcess _) → StandsFor (M.handlers model.now) self.old h → IfErr result (λ fault. IsExecuteRefusal sim self.old.lp serial.old (execute_process sim self.old.lp (self.old.lp % self.old.config.workers) serial.old h) fault) }
         ensures unchanged { (h : LogicalProcess _) → StandsFor (M.handlers model.now) self.old h → IfErr result (λ fault. self.new ≡ self.old) }
+        ensures restored { M.IsState model.now self.old.triple.state → IfErr result (λ fault. self.new ≡ self.old) }
+        ensures not_lawful { IfErr result (λ fault. fault ≡ NotLawful → self.new ≡ self.old) }
+        ensures but_state { IfErr result (λ fault. (self.new.past ≡ self.old.past) × (self.new.pending ≡ self.old.pending) × (self.new.waiting ≡ self.old.waiting) × (self.new.triple.number ≡ self.old.triple.number) × (self.new.triple.place ≡ self.old.triple.place)) }
         ensures kept { IfErr result (λ fault. (outbox.new ≡ outbox.old) × (serial.new ≡ serial.old)) }
         ensures counted { IfOk result (λ _. (self.new.triple.number ≤ MAX_COUNT) × (serial.new ≤ MAX_COUNT)) }
         ensures within { AllWithinRun self.old.config outbox.old → AllWithinRun self.old.config outbox.new }
@@ -85,6 +89,9 @@ impl<M: EventModel> Lp<M> {
         ensures done { let sim = simulation_of (M.handlers model.now) self.old.config in (h : LogicalProcess _) → StandsFor (M.handlers model.now) self.old h → IfOk result (λ _. IsDone (M.handlers model.now) self.new (execute_process sim self.old.lp (self.old.lp % self.old.config.workers) serial.old h) outbox.old outbox.new serial.old serial.new) }
         ensures refused { let sim = simulation_of (M.handlers model.now) self.old.config in (h : LogicalProcess _) → StandsFor (M.handlers model.now) self.old h → IfErr result (λ fault. IsExecuteRefusal sim self.old.lp serial.old (execute_process sim self.old.lp (self.old.lp % self.old.config.workers) serial.old h) fault) }
         ensures unchanged { (h : LogicalProcess _) → StandsFor (M.handlers model.now) self.old h → IfErr result (λ fault. self.new ≡ self.old) }
+        ensures restored { M.IsState model.now self.old.triple.state → IfErr result (λ fault. self.new ≡ self.old) }
+        ensures not_lawful { IfErr result (λ fault. fault ≡ NotLawful → self.new ≡ self.old) }
+        ensures but_state { IfErr result (λ fault. (self.new.past ≡ self.old.past) × (self.new.pending ≡ self.old.pending) × (self.new.waiting ≡ self.old.waiting) × (self.new.triple.number ≡ self.old.triple.number) × (self.new.triple.place ≡ self.old.triple.place)) }
         ensures kept { IfErr result (λ fault. (outbox.new ≡ outbox.old) × (serial.new ≡ serial.old)) }
         ensures counted { IfOk result (λ _. (self.new.triple.number ≤ MAX_COUNT) × (serial.new ≤ MAX_COUNT)) }
         ensures within { AllWithinRun self.old.config outbox.old → AllWithinRun self.old.config outbox.new }
@@ -167,6 +174,9 @@ fn advance<M: EventModel>(
     ensures numbered { process.new.number ≤ MAX_COUNT }
     ensures stream { IsProcessStream config.seed event.dest process.new.stream }
     ensures unchanged { M.IsState model.now process.old.state → IfErr result (λ fault. process.new ≡ process.old) }
+    ensures but_state { IfErr result (λ fault. (process.new.number ≡ process.old.number) × (process.new.stream ≡ process.old.stream)) }
+    ensures drew { IfOk result (λ a. (a.0.number ≡ process.old.number) × (process.new.stream ≡ moved process.old.stream a.0.drawn)) }
+    ensures in_range { process.old.stream.place < 2 ^ 64 }
     ensures refused { let fired = (simulation_of (M.handlers model.now) config).fire event.dest (triple_at process.old.state process.old.number process.old.stream) (unstamped event) in IfErr result (λ fault. IsAdvanceRefusal fired serial fault) }
 {
     spare.read_ahead();

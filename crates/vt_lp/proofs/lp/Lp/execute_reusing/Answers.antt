@@ -1,4 +1,4 @@
-use Rattle.std.proofs.Common.{◌≡◌, ◌∙◌, ◌+◌, ◌≤◌, ◌%◌, ◌++◌, ◌∷◌, inr, List, map, length, sym, subst, refl, ap, arith}
+use Rattle.std.proofs.Common.{◌≡◌, ◌∙◌, ◌+◌, ◌-◌, ◌≤◌, ◌%◌, ◌^◌, ◌++◌, ◌∷◌, inr, List, map, length, sym, subst, refl, ap, arith}
 use Rattle.std.specs.List.{All}
 use Rattle.std.proofs.lemmas.List.Elements.{All-head, All-append}
 use Rattle.vt_key.specs.declared.limits.TheConstants.{MAX_COUNT}
@@ -15,6 +15,7 @@ use Rattle.vt_steps.specs.ProcessSteps.{execute_process}
 use Rattle.vt_steps.proofs.MemoryLemmas.{is_where}
 use Rattle.vt_lp.specs.Held.{HeldProcess, StandsFor, AllWithinRun, IsWithinRun, IsOwnLetter, process_memory}
 use Rattle.vt_lp.specs.Guards.{IsDone, IsExecuteRefusal}
+use Rattle.vt_lp.proofs.Advancing.{place-back}
 use Rattle.vt_lp.proofs.Stamping.{length-letters}
 use Rattle.vt_lp.proofs.ExecuteLemmas.{ready-some, ready-own, execute-none, executes, refuses, came-back, inside-at, inside-more}
 use Rattle.vt_lp.proofs.lp.Lp.execute_reusing.Goals as goal
@@ -208,3 +209,45 @@ returns-clause-done g c h s =
     (c.in-Ok.ensures.messages ∙ (λ j. map (signed Plus) (stamped (own.0 j % l.config.workers) c.args.serial.now fired.sends)))
     c.append.ensures.0
     (omega (arith, c.len.ensures, all, c.in-Ok.ensures.counted)))
+
+pub returns-in-Err-clause-restored : goal.returns-in-Err-clause-restored
+returns-in-Err-clause-restored g c is_state =
+    let l = c.self.inside in
+    let ok = subst (λ (v : HeldProcess _ _ _). g.M.Model.IsState c.args.model.now v.triple.state) (sym c.self.view_is) is_state in
+    let same = c.in-Err.ensures.unchanged ok in
+    (λ j. record { lp = l.lp; config = l.config; triple = triple_at (same j).state (same j).number (same j).stream; past = l.past; pending = l.pending; waiting = l.waiting }) ∙ c.self.view_is
+
+pub returns-in-Err-clause-but_state : goal.returns-in-Err-clause-but_state
+returns-in-Err-clause-but_state g c =
+    let l = c.self.inside in
+    let at = c.advance.new.process in
+    let same = c.in-Err.ensures.but_state in
+    subst (λ (v : HeldProcess _ _ _). (l.past ≡ v.past) × (l.pending ≡ v.pending) × (l.waiting ≡ v.waiting) × (at.number ≡ v.triple.number) × (at.stream.place ≡ v.triple.place)) c.self.view_is
+    (refl, refl, refl, same.0, ap (λ (s : Stream). s.place) same.1)
+
+pub returns-in-Err-keep-clause-restored : goal.returns-in-Err-keep-clause-restored
+returns-in-Err-keep-clause-restored g c is_state =
+    let handlers = g.M.Model.handlers c.args.model.now in
+    let l = c.self.inside in
+    let held : HeldProcess _ _ _ = record { lp = l.lp; config = l.config; triple = triple_at l.process.state l.process.number l.process.stream; past = l.past; pending = l.pending; waiting = l.waiting } in
+    let event = c.in-Some.event in
+    let ok = subst (λ (v : HeldProcess _ _ _). g.M.Model.IsState c.args.model.now v.triple.state) (sym c.self.view_is) is_state in
+    let left = c.in-Err-keep.ensures.unchanged in
+    let after = c.advance.new.process in
+    let back : triple_at c.undo.new.self.state c.undo.new.self.number c.undo.new.self.stream ≡ held.triple =
+    (λ j. record { state = c.undo.ensures.state j; number = c.undo.ensures.number j; place = (c.undo.ensures.stream j).place })
+    ∙ came-back handlers l.config event.dest held.triple (triple_at after.state after.number after.stream) event c.in-Ok.advanced.0 c.in-Ok.ensures.triple (c.in-Ok.ensures.remembered ok) in
+    (λ j. record { lp = l.lp; config = l.config; triple = back j; past = left.1 j; pending = left.0 j; waiting = l.waiting }) ∙ c.self.view_is
+
+pub returns-in-Err-keep-clause-but_state : goal.returns-in-Err-keep-clause-but_state
+returns-in-Err-keep-clause-but_state g c =
+    let l = c.self.inside in
+    let left = c.in-Err-keep.ensures.unchanged in
+    let drew = c.in-Ok.ensures.drew in
+    let drawn = c.in-Ok.advanced.0.drawn in
+    let at = c.undo.new.self in
+    let place : at.stream.place ≡ l.process.stream.place = ap (λ (s : Stream). s.place) c.undo.ensures.stream
+    ∙ ap (λ (s : Stream). (s.place + (2 ^ 64 - drawn)) % 2 ^ 64) drew.1
+    ∙ place-back l.process.stream.place drawn c.advance.ensures.in_range c.in-Ok.ensures.few in
+    subst (λ (v : HeldProcess _ _ _). (c.keep.new.past ≡ v.past) × (c.keep.new.pending ≡ v.pending) × (l.waiting ≡ v.waiting) × (at.number ≡ v.triple.number) × (at.stream.place ≡ v.triple.place)) c.self.view_is
+    (left.1, left.0, refl, c.undo.ensures.number ∙ drew.0, place)
