@@ -1,6 +1,6 @@
 //! Past events that are committed: their rows, and how they are forgotten.
 
-ghost use Rattle.std.specs.Prelude.{◌≡◌, ◌++◌, List, map, IsFalse, IfOk, IfErr};
+ghost use Rattle.std.specs.Prelude.{◌≡◌, ◌+◌, ◌++◌, List, map, length, IsFalse, IfOk, IfErr};
 ghost use Rattle.vt_key.specs.declared.fault.Fault.TheVariants.{Memory};
 ghost use Rattle.vt_model.specs.declared.rows.Row.{Row};
 ghost use Rattle.vt_model.specs.Handler.{Handlers};
@@ -69,6 +69,7 @@ impl<M: EventModel> Lp<M> {
         ensures same { (self.new.lp ≡ self.old.lp) × (self.new.config ≡ self.old.config) × (self.new.triple ≡ self.old.triple) × (self.new.pending ≡ self.old.pending) × (self.new.waiting ≡ self.old.waiting) }
         ensures past { self.new.past ≡ unripe_events floor self.old.past }
         ensures unchanged { IsFalse result → self.new ≡ self.old }
+        ensures kept { spare.new.events + length self.new.past ≡ spare.old.events + length self.old.past }
     {
         drop_ripe(&mut self.past, spare, floor)
     }
@@ -78,6 +79,7 @@ impl<M: EventModel> Lp<M> {
 fn drop_ripe<P: Copy, K: Copy>(past: &mut Past<P, K>, spare: &mut Spare<P, K>, floor: Time) -> bool
     ensures unripe { past.new ≡ unripe_events floor past.old }
     ensures unchanged { IsFalse result → past.new ≡ past.old }
+    ensures kept { spare.new.events + length past.new ≡ spare.old.events + length past.old }
 {
     let mut some = false;
     while let Some(first) = past.front() {

@@ -1,9 +1,10 @@
 //! Memory of what processes need no more, kept for what they make next.
 
-ghost use Rattle.std.specs.Prelude.{◌≡◌, IfOk, IfErr};
+ghost use Rattle.std.specs.Prelude.{◌≡◌, ◌+◌, ◌-◌, [], length, IfOk, IfErr, IfSome, IfNone};
 
 use crate::entry::PastEvent;
 use std::alloc::Global;
+use std::marker::Model;
 use vt_key::Letter;
 use vt_list::{List, Parcel, Stack};
 
@@ -13,6 +14,8 @@ use vt_list::{List, Parcel, Stack};
 /// An event needs a node, and one for each message and each anti-message: as many as a committed one leaves. A letter that comes
 /// from another worker needs a node, and one that was sent leaves it. So who commits now and then takes little memory anew, and
 /// writes where it wrote before. All that is kept is given back when the value is dropped.
+///
+/// Contracts see how many nodes of letters and of past events are kept (`KeptNodes`).
 #[derive(Drop)]
 pub struct Spare<P: Copy, K: Copy> {
     message: Option<Parcel<Letter<P>>>,
@@ -24,9 +27,23 @@ pub struct Spare<P: Copy, K: Copy> {
     events: Stack<PastEvent<P, K>>,
 }
 
+impl<P: Copy, K: Copy> Model for Spare<P, K> {
+    ghost use Rattle.std.specs.Prelude.{◌+◌, length};
+    ghost use Rattle.vt_lp.specs.Kept.{KeptNodes, one_if_some};
+
+    ghost Value = { KeptNodes };
+
+    ghost view = { λ s. record {
+      letters = one_if_some s.message + one_if_some s.anti_message + length s.letters;
+      events = one_if_some s.event + length s.events;
+    } };
+}
+
 impl<P: Copy, K: Copy> Spare<P, K> {
     /// No memory.
-    pub fn new(alloc: Global) -> Spare<P, K> {
+    pub fn new(alloc: Global) -> Spare<P, K>
+        ensures { result ≡ record { letters = 0; events = 0 } }
+    {
         Spare {
             message: None,
             anti_message: None,
@@ -39,7 +56,14 @@ impl<P: Copy, K: Copy> Spare<P, K> {
 
     /// Reads the nodes that will be written next, so that they are on their way from memory together, and not each when it is
     /// written.
-    pub(crate) fn read_ahead(&mut self) {
+    pub(crate) fn read_ahead(&mut self)
+        ensures { self.new ≡ self.old }
+    {
+        self.seen = self.words_ahead();
+    }
+
+    // Words of the nodes that will be written next.
+    fn words_ahead(&self) -> u64 {
         let mut seen = 0;
         if let Some(letter) = self.next_letter() {
             seen ^= read_letter(letter);
@@ -50,7 +74,7 @@ impl<P: Copy, K: Copy> Spare<P, K> {
         if let Some(event) = self.next_event() {
             seen ^= read_event(event);
         }
-        self.seen = seen;
+        seen
     }
 
     /// The letter in a node that was kept, or in a new one. Where memory is refused, it is handed back.
@@ -61,6 +85,8 @@ impl<P: Copy, K: Copy> Spare<P, K> {
     ) -> Result<Parcel<Letter<P>>, Letter<P>>
         ensures made { IfOk result (λ parcel. parcel ≡ letter) }
         ensures item_returned { IfErr result (λ refused. refused ≡ letter) }
+        ensures taken { self.new ≡ record { letters = self.old.letters - 1; events = self.old.events } }
+        ensures none_left { IfErr result (λ _. self.old.letters ≡ 0) }
     {
         let Some(mut parcel) = self.take_letter() else {
             return Parcel::new(alloc, letter);
@@ -77,6 +103,9 @@ impl<P: Copy, K: Copy> Spare<P, K> {
     ) -> Result<Parcel<PastEvent<P, K>>, PastEvent<P, K>>
         ensures made { IfOk result (λ parcel. parcel ≡ event) }
         ensures item_returned { IfErr result (λ refused. refused ≡ event) }
+        ensures taken { self.new.events ≡ self.old.events - 1 }
+        ensures kept { self.new.letters + self.new.events ≡ self.old.letters + self.old.events }
+        ensures none_left { IfErr result (λ _. self.old.events ≡ 0) }
     {
         let Some(mut parcel) = self.take_event() else {
             return Parcel::new(alloc, event);
@@ -95,7 +124,9 @@ impl<P: Copy, K: Copy> Spare<P, K> {
     }
 
     /// Keeps the nodes of a committed past event and of its letters.
-    pub(crate) fn collect(&mut self, event: Parcel<PastEvent<P, K>>) {
+    pub(crate) fn collect(&mut self, event: Parcel<PastEvent<P, K>>)
+        ensures { self.new ≡ record { letters = self.old.letters + length event.anti_messages; events = self.old.events + 1 } }
+    {
         let mut event = event;
         self.keep_letters(&mut event.get_mut().anti_messages);
         if self.event.is_none() {
@@ -122,7 +153,10 @@ impl<P: Copy, K: Copy> Spare<P, K> {
     }
 
     // A node of a letter. Those at hand are given first: to find them, no other node is read.
-    fn take_letter(&mut self) -> Option<Parcel<Letter<P>>> {
+    fn take_letter(&mut self) -> Option<Parcel<Letter<P>>>
+        ensures taken { self.new ≡ record { letters = self.old.letters - 1; events = self.old.events } }
+        ensures none_left { IfNone result (self.old.letters ≡ 0) }
+    {
         if let Some(parcel) = self.message.take() {
             return Some(parcel);
         }
@@ -133,7 +167,11 @@ impl<P: Copy, K: Copy> Spare<P, K> {
     }
 
     // A node of a past event, the one at hand first.
-    fn take_event(&mut self) -> Option<Parcel<PastEvent<P, K>>> {
+    fn take_event(&mut self) -> Option<Parcel<PastEvent<P, K>>>
+        ensures taken { self.new ≡ record { letters = self.old.letters; events = self.old.events - 1 } }
+        ensures none_left { IfNone result (self.old.events ≡ 0) }
+        ensures some_left { IfSome result (λ _. self.old.events ≡ self.new.events + 1) }
+    {
         if let Some(parcel) = self.event.take() {
             return Some(parcel);
         }
@@ -141,14 +179,19 @@ impl<P: Copy, K: Copy> Spare<P, K> {
     }
 
     // Keeps the nodes of letters.
-    fn keep_letters(&mut self, letters: &mut List<Letter<P>>) {
+    fn keep_letters(&mut self, letters: &mut List<Letter<P>>)
+        ensures kept { self.new ≡ record { letters = self.old.letters + length letters.old; events = self.old.events } }
+        ensures none_left { letters.new ≡ [] }
+    {
         while let Some(letter) = letters.pop_front() {
             self.keep_letter(letter);
         }
     }
 
     /// Keeps the node of a letter.
-    pub fn keep_letter(&mut self, letter: Parcel<Letter<P>>) {
+    pub fn keep_letter(&mut self, letter: Parcel<Letter<P>>)
+        ensures { self.new ≡ record { letters = self.old.letters + 1; events = self.old.events } }
+    {
         if self.message.is_none() {
             self.message = Some(letter);
         } else if self.anti_message.is_none() {

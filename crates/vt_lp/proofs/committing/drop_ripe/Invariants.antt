@@ -1,4 +1,4 @@
-use Rattle.std.proofs.Common.{◌≡◌, IsFalse, length}
+use Rattle.std.proofs.Common.{◌≡◌, ◌+◌, IsFalse, length}
 use Rattle.vt_lp.specs.Ripe.{unripe_events}
 use Rattle.vt_lp.proofs.committing.drop_ripe.Given as goal
 
@@ -6,6 +6,7 @@ abbrev pub invariant-loop-first : goal.invariant-loop-first
 invariant-loop-first g l = record {
   unripe : unripe_events l.fn.floor l.past ≡ unripe_events l.fn.floor l.fn.past;
   unchanged : IsFalse l.some → l.past ≡ l.fn.past;
+  kept : l.spare.events + length l.past ≡ l.fn.spare.events + length l.fn.past;
 }
 
 abbrev pub decreases-loop-first : goal.decreases-loop-first
