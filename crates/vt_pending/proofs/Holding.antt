@@ -1,13 +1,12 @@
 -- Letters in rising rank: what the first one that isn't before a rank tells of all.
 use Rattle.std.proofs.Common.{Bool, true, false, not, ◌||◌, if◌then◌else◌, ◌≡◌, refl, sym, ◌∙◌, ap, subst}
-use Rattle.std.specs.Prelude.{List, [], ◌∷◌, Some, find, slice_get}
+use Rattle.std.specs.Prelude.{List, [], ◌∷◌, Some, filter, find}
 use Rattle.vt_key.specs.Order.{RankBefore, rank_before, rank_same}
 use Rattle.vt_key.specs.declared.order.Rank.{Rank}
 use Rattle.vt_key.specs.declared.letter.Letter.{Letter}
 use Rattle.vt_key.proofs.OrderLemmas.{rank-irreflexive, rank_before-true, before-rank_before, rank_same-true}
-use Rattle.vt_list.specs.First.{from_first}
-use Rattle.vt_list.proofs.Firsts.{find-from}
 use Rattle.vt_pending.specs.Letters.{letter_rank, has_rank, some_has_rank, holds_rank, AllAfter, IsRising}
+use Rattle.vt_pending.proofs.Rising.{first-false, second-false}
 
 -- a rank that is before another is not the same
 before-differs : (a r : Rank) → RankBefore a r → rank_same a r ≡ false
@@ -43,6 +42,12 @@ module _ {P : Type 0} (r : Rank) where
         alone true c none = refl
         alone false c none = sym none
 
-  -- it is the first of those from there on
-  pub holds-from : (ls : List (Letter P)) → IsRising ls → some_has_rank r (slice_get (from_first is_reached ls) 0) ≡ holds_rank r ls
-  holds-from ls rises = ap (some_has_rank r) (sym (find-from is_reached ls)) ∙ holds-first ls rises
+  -- no letter of a list has it, so none of those that pass a test has
+  pub holds-filter : (p : Letter P → Bool) (ls : List (Letter P)) → holds_rank r ls ≡ false → holds_rank r (filter p ls) ≡ false
+  holds-filter p [] none = none
+  holds-filter p (l ∷ ls) none =
+      let more = holds-filter p ls (second-false (has_rank r l) (holds_rank r ls) none) in
+      elim (p l) as (λ b. holds_rank r (if b then l ∷ filter p ls else filter p ls) ≡ false) [
+        | true ↦ ap (λ b. b || holds_rank r (filter p ls)) (first-false (has_rank r l) (holds_rank r ls) none) ∙ more
+        | false ↦ more
+      ]

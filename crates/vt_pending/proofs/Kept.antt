@@ -1,6 +1,6 @@
 -- What a queue keeps when letters of one list come or go.
 use Rattle.std.proofs.Common.{Bool, true, false, not, ◌||◌, if◌then◌else◌, ◌≡◌, ◌≢◌, ◌↔◌, refl, sym, ap, ◌∙◌, subst, arith}
-use Rattle.std.specs.Prelude.{ℕ, ◌+◌, ◌<◌, nat_eq, IsBitSet, List, [], ◌∷◌, length, drop, filter, find, Option, Some, None}
+use Rattle.std.specs.Prelude.{ℕ, ◌+◌, ◌<◌, nat_eq, IsBitSet, List, [], ◌∷◌, length, drop, filter, find, Some, None}
 use Rattle.std.specs.List.{list_any}
 use Rattle.vt_key.specs.Order.{rank_before}
 use Rattle.vt_key.specs.declared.order.Rank.{Rank}
@@ -8,10 +8,10 @@ use Rattle.vt_key.specs.declared.letter.Letter.{Letter}
 use Rattle.vt_key.proofs.OrderLemmas.{rank_same-true}
 use Rattle.vt_list.specs.First.{without_first}
 use Rattle.vt_pending.specs.Letters.{letter_rank, has_rank, holds_rank, insert_letter, IsRising}
-use Rattle.vt_pending.specs.Buckets.{bucket_of, in_bucket, not_in_bucket, list_at, without_list, put_list, put_some, letters_of, IsRow, Buckets}
+use Rattle.vt_pending.specs.Buckets.{bucket_of, in_bucket, not_in_bucket, list_at, without_list, insert_in, put_some, letters_of, IsRow, Buckets}
 use Rattle.vt_pending.proofs.Rising.{IsRising-insert, IsRising-without}
 use Rattle.vt_pending.proofs.Filters.{find-filter, filter-insert, filter-insert-other, filter-without, filter-without-other}
-use Rattle.vt_pending.proofs.Rows.{own, in-own, same-number, number-same, row-list, row-without, row-put, row-letters}
+use Rattle.vt_pending.proofs.Rows.{own, in-own, same-number, number-same, row-list, row-insert, row-put, row-letters}
 
 -- a list that can't be otherwise is empty
 pub empty-else : {X : Type 0} (xs : List X) → (xs ≢ [] → ⊥) → xs ≡ []
@@ -56,12 +56,12 @@ module _ {P : Type 0} where
   own-not : (x : Letter P) → not_in_bucket (own x) x ≡ false
   own-not x = ap not (in-own x)
 
-  -- one list changed, with its bit, and was put in its place among the others
-  pub changed : (mask new b : ℕ) (letters after : List (Letter P)) (rest lists : List (List (Letter P))) → Marks mask letters → IsRising after → IsRow rest (filter (not_in_bucket b) after)
-      → lists ≡ put_some (filter (in_bucket b) after) rest → (IsBitSet new b ↔ (filter (in_bucket b) after ≢ [])) → ((c : ℕ) → c ≢ b → IsBitSet new c ↔ IsBitSet mask c)
+  -- one list changed, with its bit
+  pub changed : (mask new b : ℕ) (letters after : List (Letter P)) (lists : List (List (Letter P))) → Marks mask letters → IsRising after → IsRow lists after
+      → (IsBitSet new b ↔ (filter (in_bucket b) after ≢ [])) → ((c : ℕ) → c ≢ b → IsBitSet new c ↔ IsBitSet mask c)
       → ((c : ℕ) → c ≢ b → filter (in_bucket c) after ≡ filter (in_bucket c) letters) → Keeps new lists after
-  changed mask new b letters after rest lists marks rises row put bit bits same =
-      keeps new lists after rises (subst (λ ls. IsRow ls after) (sym put) (row-put b rest after rises row)) (λ c within.
+  changed mask new b letters after lists marks rises row bit bits same =
+      keeps new lists after rises row (λ c within.
       elim (nat_eq c b) as (λ t. nat_eq c b ≡ t → IsBitSet new c ↔ (filter (in_bucket c) after ≢ [])) [
         | true ↦ λ e. subst (λ n. IsBitSet new n ↔ (filter (in_bucket n) after ≢ [])) (sym (same-number c b e)) bit
         | false ↦ λ e.
@@ -71,26 +71,19 @@ module _ {P : Type 0} where
             )
       ] refl)
 
-  put-full : (x : Letter P) (list : List (Letter P)) (rest : List (List (Letter P))) → (list ≢ []) → put_list list rest ≡ put_some list rest
-  put-full x [] rest full = absurd (full refl)
-  put-full x (y ∷ ys) rest full = refl
-
-  pub insert-full : (x : Letter P) (ls : List (Letter P)) → insert_letter x ls ≢ []
+  insert-full : (x : Letter P) (ls : List (Letter P)) → insert_letter x ls ≢ []
   insert-full x [] e = omega (arith, ap length e)
   insert-full x (l ∷ ls) e =
       elim (rank_before (letter_rank x) (letter_rank l)) as (λ b. (if b then x ∷ l ∷ ls else l ∷ insert_letter x ls) ≡ [] → ⊥) [ true ↦ λ f. omega (arith, ap length f) | false ↦ λ f. omega (arith, ap length f) ] e
 
   -- a letter came
-  pub inserted : (mask new : ℕ) (x : Letter P) (letters : List (Letter P)) (rest lists : List (List (Letter P))) → Marks mask letters → IsRising letters → holds_rank (letter_rank x) letters ≡ false
-      → IsRow rest (filter (not_in_bucket (own x)) letters) → lists ≡ put_list (insert_letter x (filter (in_bucket (own x)) letters)) rest → IsBitSet new (own x) → ((c : ℕ) → c ≢ own x → IsBitSet new c ↔ IsBitSet mask c)
-      → Keeps new lists (insert_letter x letters)
-  inserted mask new x letters rest lists marks rises none row put bit bits =
+  pub inserted : (mask new : ℕ) (x : Letter P) (letters : List (Letter P)) (lists after : List (List (Letter P))) → Marks mask letters → IsRising letters → IsRow lists letters → holds_rank (letter_rank x) letters ≡ false
+      → after ≡ insert_in (own x) x lists → IsBitSet new (own x) → ((c : ℕ) → c ≢ own x → IsBitSet new c ↔ IsBitSet mask c) → Keeps new after (insert_letter x letters)
+  inserted mask new x letters lists after marks rises row none is bit bits =
       let there : filter (in_bucket (own x)) (insert_letter x letters) ≡ insert_letter x (filter (in_bucket (own x)) letters) = filter-insert (in_bucket (own x)) x letters (in-own x) rises in
-      let full = insert-full x (filter (in_bucket (own x)) letters) in
-      changed mask new (own x) letters (insert_letter x letters) rest lists marks (IsRising-insert x letters none rises)
-      (subst (IsRow rest) (sym (filter-insert-other (not_in_bucket (own x)) x letters (own-not x))) row)
-      (put ∙ put-full x (insert_letter x (filter (in_bucket (own x)) letters)) rest full ∙ ap (λ l. put_some l rest) (sym there))
-      ((λ set e. full (sym there ∙ e)), (λ some. bit)) bits (λ c other. filter-insert-other (in_bucket c) x letters (not-own c x other))
+      changed mask new (own x) letters (insert_letter x letters) after marks (IsRising-insert x letters none rises)
+      (subst (λ ls. IsRow ls (insert_letter x letters)) (sym is) (row-insert x lists letters rises none row))
+      ((λ set e. insert-full x (filter (in_bucket (own x)) letters) (sym there ∙ e)), (λ some. bit)) bits (λ c other. filter-insert-other (in_bucket c) x letters (not-own c x other))
 
   -- the first letter went
   pub record Left (x : Letter P) (mask : ℕ) (lists : List (List (Letter P))) (letters : List (Letter P)) : Type 0 where
@@ -108,7 +101,7 @@ module _ {P : Type 0} where
         others = ys;
         is = ap (λ z. z ∷ ys) (sym same);
         kept =
-            changed mask new (own y) (y ∷ ys) ys rest lists marks rises.1 row.1 (put ∙ ap (λ l. put_some l rest) more)
+            changed mask new (own y) (y ∷ ys) ys lists marks rises.1 (subst (λ ls. IsRow ls ys) (sym (put ∙ ap (λ l. put_some l rest) more)) (row-put (own y) rest ys rises.1 row.1))
             (subst (λ (z : Letter P). IsBitSet new (own z) ↔ (filter (in_bucket (own y)) ys ≢ [])) same (subst (λ (l : List (Letter P)). IsBitSet new (own x) ↔ (l ≢ [])) more bit))
             (λ c other. bits c (λ e. other (e ∙ ap own same)))
             (λ c other. ap (λ b. if b then y ∷ filter (in_bucket c) ys else filter (in_bucket c) ys) (sym (not-own c y other)));
@@ -120,10 +113,11 @@ module _ {P : Type 0} where
       → ((c : ℕ) → c ≢ own x → IsBitSet new c ↔ IsBitSet mask c) → Keeps new lists (without_first test letters)
   passing-left mask new test x letters line rest lists marks rises found row line_is put bit bits =
       let there : line ≡ filter (in_bucket (own x)) (without_first test letters) = line_is ∙ sym (filter-without test (in_bucket (own x)) x letters found (in-own x)) in
-      changed mask new (own x) letters (without_first test letters) rest lists marks (IsRising-without test letters rises)
-      (subst (IsRow rest) (sym (filter-without-other test (not_in_bucket (own x)) x letters found (own-not x))) row)
-      (put ∙ ap (λ l. put_some l rest) there) (subst (λ (l : List (Letter P)). IsBitSet new (own x) ↔ (l ≢ [])) there bit) bits
-      (λ c other. filter-without-other test (in_bucket c) x letters found (not-own c x other))
+      let after : List (Letter P) = without_first test letters in
+      let rises_on : IsRising after = IsRising-without test letters rises in
+      let others : IsRow rest (filter (not_in_bucket (own x)) after) = subst (IsRow rest) (sym (filter-without-other test (not_in_bucket (own x)) x letters found (own-not x))) row in
+      changed mask new (own x) letters after lists marks rises_on (subst (λ ls. IsRow ls after) (sym (put ∙ ap (λ l. put_some l rest) there)) (row-put (own x) rest after rises_on others))
+      (subst (λ (l : List (Letter P)). IsBitSet new (own x) ↔ (l ≢ [])) there bit) bits (λ c other. filter-without-other test (in_bucket c) x letters found (not-own c x other))
 
   -- where list b is empty, the others are all
   pub all-others : (b : ℕ) (letters : List (Letter P)) → filter (in_bucket b) letters ≡ [] → filter (not_in_bucket b) letters ≡ letters

@@ -9,6 +9,15 @@ use Rattle.vt_key.proofs.OrderLemmas.{rank-transitive, rank-total, rank_before-t
 use Rattle.vt_list.specs.First.{without_first}
 use Rattle.vt_pending.specs.Letters.{letter_rank, has_rank, holds_rank, insert_letter, AllAfter, IsRising}
 
+-- neither of two
+pub first-false : (b c : Bool) → (b || c) ≡ false → b ≡ false
+first-false true c e = e
+first-false false c e = refl
+
+pub second-false : (b c : Bool) → (b || c) ≡ false → c ≡ false
+second-false true c e = absurd (let h : true ≡ false = e in cc)
+second-false false c e = e
+
 -- a rank that is neither before another nor that one is after it
 after : (a b : Rank) → rank_before a b ≡ false → rank_same b a ≡ false → RankBefore b a
 after a b late other = elim (rank-total a b) [
@@ -49,14 +58,7 @@ module _ {P : Type 0} where
             let here : rank_same s r ≡ false = first-false (rank_same s r) (list_any (has_rank r) ls) none in
             let there : list_any (has_rank r) ls ≡ false = second-false (rank_same s r) (list_any (has_rank r) ls) none in
             (AllAfter-insert s x ls (after r s e here) rises.0, IsRising-insert x ls there rises.1)
-      ] refl where
-        first-false : (b c : Bool) → (b || c) ≡ false → b ≡ false
-        first-false true c e = e
-        first-false false c e = refl
-
-        second-false : (b c : Bool) → (b || c) ≡ false → c ≡ false
-        second-false true c e = absurd (let h : true ≡ false = e in cc)
-        second-false false c e = e
+      ] refl
 
   -- one letter is taken out
   pub IsRising-without : (test : Letter P → Bool) (ls : List (Letter P)) → IsRising ls → IsRising (without_first test ls)

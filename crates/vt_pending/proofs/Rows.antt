@@ -2,15 +2,21 @@
 use Rattle.std.proofs.Common.{Bool, true, false, not, if◌then◌else◌, ◌≡◌, ◌↔◌, refl, sym, ap, ◌∙◌, subst, arith}
 use Rattle.std.specs.Prelude.{ℕ, nat_eq, List, [], ◌∷◌, length, filter, slice_get}
 use Rattle.std.proofs.lemmas.Bool.{eqb-true, eq-eqb}
-use Rattle.vt_key.specs.Order.{RankBefore, rank_before}
+use Rattle.vt_key.specs.Order.{rank_before}
 use Rattle.vt_key.specs.declared.order.Rank.{Rank}
 use Rattle.vt_key.specs.declared.letter.Letter.{Letter}
-use Rattle.vt_key.proofs.OrderLemmas.{before-rank_before}
+use Rattle.vt_key.proofs.OrderLemmas.{rank_before-true, before-rank_before}
 use Rattle.vt_list.specs.Lines.{first_item}
-use Rattle.vt_pending.specs.Letters.{letter_rank, insert_letter, AllAfter, IsRising}
-use Rattle.vt_pending.specs.Buckets.{bucket_of, in_bucket, not_in_bucket, some_in_bucket, list_at, without_list, both_before, put_list, put_some, merged, letters_of, IsRow}
-use Rattle.vt_pending.proofs.Placing.{not-back}
-use Rattle.vt_pending.proofs.Filters.{filter-swap, filter-within, AllAfter-filter, IsRising-filter, insert-first}
+use Rattle.vt_pending.specs.Letters.{letter_rank, has_rank, holds_rank, insert_letter, AllAfter, IsRising}
+use Rattle.vt_pending.specs.Buckets.{bucket_of, in_bucket, not_in_bucket, some_in_bucket, list_at, without_list, insert_in, put_list, put_some, merged, letters_of, IsRow}
+use Rattle.vt_pending.proofs.Placing.{not-back, follows}
+use Rattle.vt_pending.proofs.Rising.{first-false, second-false}
+use Rattle.vt_pending.proofs.Holding.{holds-filter}
+use Rattle.vt_pending.proofs.Filters.{filter-swap, filter-within, filter-insert, filter-insert-other, AllAfter-filter, IsRising-filter, insert-first}
+
+not-true : (c : Bool) → not c ≡ true → c ≡ false
+not-true true e = sym e
+not-true false e = refl
 
 -- equal numbers
 pub same-number : (a b : ℕ) → nat_eq a b ≡ true → a ≡ b
@@ -144,6 +150,58 @@ module _ {P : Type 0} where
               subst (λ l. IsRow (put_some l lists) others) (filter-within (in_bucket b) (not_in_bucket (own x)) (apart b x e) xs) more,
             )
       ] refl row
+
+  -- ---- a letter comes
+
+  -- into the first list
+  row-into : (x y : Letter P) (ys : List (Letter P)) (lists : List (List (Letter P))) → in_bucket (own x) y ≡ true → IsRising (y ∷ ys) → IsRow lists (filter (not_in_bucket (own y)) ys)
+      → IsRow (insert_letter x (y ∷ filter (in_bucket (own y)) ys) ∷ lists) (insert_letter x (y ∷ ys))
+  row-into x y ys lists e rises row =
+      let b : ℕ = own x in let mine : List (Letter P) = filter (in_bucket (own y)) ys in
+      let same : own y ≡ b = same-number (own y) b e in
+      let here : in_bucket (own y) x ≡ true = subst (λ n. in_bucket n x ≡ true) (sym same) (in-own x) in
+      elim (rank_before (letter_rank x) (letter_rank y)) as (λ t. IsRow ((if t then x ∷ y ∷ mine else y ∷ insert_letter x mine) ∷ lists) (if t then x ∷ y ∷ ys else y ∷ insert_letter x ys)) [
+        | true ↦ (
+          ap (λ l. x ∷ l) (ap (λ n. y ∷ filter (in_bucket n) ys) same ∙ sym (ap (λ c. if c then y ∷ filter (in_bucket b) ys else filter (in_bucket b) ys) e)),
+          subst (λ c. IsRow lists (if not c then y ∷ filter (not_in_bucket b) ys else filter (not_in_bucket b) ys)) (sym e) (subst (λ n. IsRow lists (filter (not_in_bucket n) ys)) same row),
+        )
+        | false ↦ (
+          ap (λ l. y ∷ l) (sym (filter-insert (in_bucket (own y)) x ys here rises.1)),
+          subst (IsRow lists) (sym (filter-insert-other (not_in_bucket (own y)) x ys (ap not here))) row,
+        )
+      ]
+
+  -- into the row
+  pub row-insert : (x : Letter P) (lists : List (List (Letter P))) (letters : List (Letter P)) → IsRising letters → holds_rank (letter_rank x) letters ≡ false → IsRow lists letters → IsRow (insert_in (own x) x lists) (insert_letter x letters)
+  row-insert x [] [] rises none row = (refl, tt)
+  row-insert x [] (y ∷ ys) rises none row = absurd row
+  row-insert x (list ∷ lists) [] rises none row = absurd row
+  row-insert x (list ∷ lists) (y ∷ ys) rises none row =
+      let b : ℕ = own x in let r : Rank = letter_rank x in let s : Rank = letter_rank y in
+      let mine : List (Letter P) = y ∷ filter (in_bucket (own y)) ys in let others : List (Letter P) = filter (not_in_bucket (own y)) ys in
+      subst (λ l. IsRow (insert_in b x (l ∷ lists)) (insert_letter x (y ∷ ys))) (sym row.0) (
+      elim (in_bucket b y) as (λ c. in_bucket b y ≡ c → IsRow (if c then insert_letter x mine ∷ lists else if rank_before s r then mine ∷ insert_in b x lists else (x ∷ list_at b lists) ∷ mine ∷ without_list b lists) (insert_letter x (y ∷ ys))) [
+        | true ↦ λ e. row-into x y ys lists e rises row.1
+        | false ↦ λ e.
+            elim (rank_before s r) as (λ t. rank_before s r ≡ t → IsRow (if t then mine ∷ insert_in b x lists else (x ∷ list_at b lists) ∷ mine ∷ without_list b lists) (insert_letter x (y ∷ ys))) [
+              | true ↦ λ f.
+                  let away : not_in_bucket (own y) x ≡ true = apart b y e x (in-own x) in
+                  let place : insert_letter x (y ∷ ys) ≡ y ∷ insert_letter x ys = ap (λ t. if t then x ∷ y ∷ ys else y ∷ insert_letter x ys) (not-back s r (rank_before-true s r f)) in
+                  let absent : holds_rank r others ≡ false = holds-filter r (not_in_bucket (own y)) ys (second-false (has_rank r y) (holds_rank r ys) none) in
+                  subst (IsRow (mine ∷ insert_in b x lists)) (sym place) (
+                    ap (λ l. y ∷ l) (sym (filter-insert-other (in_bucket (own y)) x ys (not-true (in_bucket (own y) x) away))),
+                    subst (IsRow (insert_in b x lists)) (sym (filter-insert (not_in_bucket (own y)) x ys away rises.1)) (row-insert x lists others (IsRising-filter (not_in_bucket (own y)) ys rises.1) absent row.1),
+                  )
+              | false ↦ λ f.
+                  let before : rank_before r s ≡ true = before-rank_before r s (follows s r f (first-false (has_rank r y) (holds_rank r ys) none)) in
+                  let place : insert_letter x (y ∷ ys) ≡ x ∷ y ∷ ys = ap (λ t. if t then x ∷ y ∷ ys else y ∷ insert_letter x ys) before in
+                  let ours : IsRow (mine ∷ lists) (y ∷ ys) = (refl, row.1) in
+                  subst (IsRow ((x ∷ list_at b lists) ∷ mine ∷ without_list b lists)) (sym place) (
+                    ap (λ l. x ∷ l) (sym (ap (λ c. if c then mine else list_at b lists) e) ∙ row-list b (mine ∷ lists) (y ∷ ys) ours),
+                    subst (λ ls. IsRow ls (filter (not_in_bucket b) (y ∷ ys))) (ap (λ c. if c then lists else mine ∷ without_list b lists) e) (row-without b (mine ∷ lists) (y ∷ ys) ours),
+                  )
+            ] refl
+      ] refl)
 
   -- ---- the letters of a row
 

@@ -45,10 +45,19 @@ module _ {P : Type 0} where
   lesser (Some letter) None = Some letter
   lesser (Some letter) (Some other) = if rank_before (letter_rank other) (letter_rank letter) then Some other else Some letter
 
-  -- the letter of least rank among the first ones of each list that pass a test
-  abbrev pub least_of : (Letter P → Bool) → List (List (Letter P)) → Option (Letter P)
-  least_of test [] = None
-  least_of test (list ∷ lists) = lesser (find test list) (least_of test lists)
+  -- the lesser one of a letter and of what passes a test in a row of lists, of which none is looked at from the first one on
+  -- that begins behind what is found
+  abbrev pub least_from : (Letter P → Bool) → Option (Letter P) → List (List (Letter P)) → Option (Letter P)
+  least_from test found [] = found
+  least_from test found (list ∷ lists) = if both_before found (slice_get list 0) then found else least_from test (lesser found (find test list)) lists
+
+  -- the row with one letter more in list b, which then stands behind the lists whose first letters are before its first one
+  abbrev pub insert_in : ℕ → Letter P → List (List (Letter P)) → List (List (Letter P))
+  insert_in b letter [] = (letter ∷ []) ∷ []
+  insert_in b letter (list ∷ lists) =
+      if some_in_bucket b (slice_get list 0) then insert_letter letter list ∷ lists
+      else if both_before (slice_get list 0) (Some letter) then list ∷ insert_in b letter lists
+      else (letter ∷ list_at b lists) ∷ list ∷ without_list b lists
 
   -- the row with one list more, behind those whose first letters are before its first one
   abbrev pub put_list : List (Letter P) → List (List (Letter P)) → List (List (Letter P))

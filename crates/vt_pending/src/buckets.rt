@@ -1,14 +1,14 @@
 //! Letters in a row of lists, by their times modulo 64.
 
-ghost use Rattle.std.specs.Prelude.{◌≡◌, ◌≢◌, ℕ, ◌<◌, ◌↔◌, [], find, slice_get, IsBitSet};
+ghost use Rattle.std.specs.Prelude.{◌≡◌, ◌≢◌, ℕ, ◌<◌, ◌↔◌, [], None, find, slice_get, IsBitSet};
 ghost use Rattle.std.specs.Option.{option_copied};
 ghost use Rattle.vt_pending.specs.Letters.{some_has_rank};
-ghost use Rattle.vt_pending.specs.Buckets.{bucket_of, some_in_bucket, both_before, lesser, least_of, list_at, without_list, put_list, put_some};
+ghost use Rattle.vt_pending.specs.Buckets.{bucket_of, some_in_bucket, both_before, lesser, least_from, list_at, without_list, insert_in, put_list, put_some};
 
 use crate::mask::Mask;
 use std::alloc::Global;
 use vt_key::{Letter, Rank};
-use vt_list::{IterLines, Line, Lines, Predicate};
+use vt_list::{IterLines, Line, Lines, Parcel, Predicate};
 
 /// The number of the list where letters of this rank are.
 pub(crate) fn bucket(rank: Rank) -> u32
@@ -101,6 +101,37 @@ pub(crate) fn take_marked<P: Copy>(
     take_list(lists, number, alloc)
 }
 
+/// Puts a letter into its list, and that list behind those whose first letters are before its first one.
+pub(crate) fn insert_in<P: Copy>(
+    mask: Mask,
+    lists: &mut Lines<Letter<P>>,
+    number: u32,
+    letter: Parcel<Letter<P>>,
+    alloc: Global,
+)
+    requires within { number < 64 }
+    requires marked { (IsBitSet mask.bits number → ⊥) → list_at number lists.old ≡ [] }
+    ensures { lists.new ≡ insert_in number letter lists.old }
+{
+    let Some(mut list) = lists.pop_line() else {
+        let mut own = Line::new(alloc);
+        own.push_front(letter);
+        lists.push_line(own);
+        return;
+    };
+    if is_in(list.front(), number) {
+        list.insert_ordered(letter);
+    } else if is_before(list.front(), Some(letter.get())) {
+        insert_in(mask, lists, number, letter, alloc);
+    } else {
+        let mut own = take_marked(mask, lists, number, alloc);
+        lists.push_line(list);
+        own.push_front(letter);
+        list = own;
+    }
+    lists.push_line(list);
+}
+
 /// Puts back what is left of a list, and answers the mask then.
 pub(crate) fn put_back<P: Copy>(
     mask: Mask,
@@ -137,16 +168,22 @@ pub(crate) fn find_in<'a, P: Copy, T: Predicate<Letter<P>>>(
     None
 }
 
-/// The letter of least rank among the first ones of each list that pass the test.
+/// The letter of least rank among those that pass the test, in lists that stand in the order of their first letters. No
+/// list is looked at from the first one on that begins behind what is found.
 pub(crate) fn find_least<'a, P: Copy, T: Predicate<Letter<P>>>(
-    mut lists: IterLines<'a, Letter<P>>,
+    lists: IterLines<'a, Letter<P>>,
     test: &T,
 ) -> Option<&'a Letter<P>>
-    ensures { option_copied result ≡ least_of (T.passes test.now) lists.entry }
+    ensures { option_copied result ≡ least_from (T.passes test.now) None lists.entry }
 {
-    let list = lists.next()?;
-    let found = list.first_passing(test);
-    earlier(found, find_least(lists, test))
+    let mut found = None;
+    for list in lists {
+        if is_before(found, list.peek()) {
+            return found;
+        }
+        found = earlier(found, list.first_passing(test));
+    }
+    found
 }
 
 /// The letter of lesser rank, of those that are there.

@@ -6,7 +6,7 @@ ghost use Rattle.std.specs.Option.{option_copied};
 ghost use Rattle.vt_pending.specs.Letters.{has_stamp, holds_rank, first_of_stamp, insert_letter, without_stamp, IsRising};
 ghost use Rattle.vt_pending.specs.Buckets.{in_bucket};
 
-use crate::buckets::{bucket, find_in, find_least, has_rank, put_back, put_list, take_marked};
+use crate::buckets::{bucket, find_in, find_least, has_rank, insert_in, put_back, take_marked};
 use crate::mask::Mask;
 use std::alloc::Global;
 use std::marker::Model;
@@ -91,9 +91,7 @@ impl<P: Copy> Pending<P> {
         ensures rising { IsRising self.new }
     {
         let number = bucket(letter.get().event.rank);
-        let mut list = take_marked(self.mask, &mut self.lists, number, self.alloc);
-        list.insert_ordered(letter);
-        put_list(&mut self.lists, list);
+        insert_in(self.mask, &mut self.lists, number, letter, self.alloc);
         self.mask = self.mask.with(number);
         self.count = self.count.wrapping_add(1);
     }
@@ -161,7 +159,9 @@ impl<P: Copy> Pending<P> {
     {
         let number = bucket(self.find_stamp(stamp)?.event.rank);
         let mut list = take_marked(self.mask, &mut self.lists, number, self.alloc);
-        let letter = list.remove_first(&HasStamp(stamp))?;
+        let Some(letter) = list.remove_first(&HasStamp(stamp)) else {
+            unreachable!();
+        };
         self.mask = put_back(self.mask, &mut self.lists, number, list);
         self.count = self.count.wrapping_sub(1);
         Some(letter)

@@ -1,4 +1,4 @@
-use Rattle.std.proofs.Common.{rules, arith, ◌≡◌, ◌∙◌, ◌<◌, false, true, find, filter, sym, ap, subst}
+use Rattle.std.proofs.Common.{rules, ◌≡◌, ◌∙◌, false, true, find, filter, sym, ap, subst}
 use Rattle.vt_pending.specs.Letters.{some_has_rank, holds_rank, IsRising}
 use Rattle.vt_pending.specs.Buckets.{bucket_of, in_bucket, letters_of, list_at}
 use Rattle.vt_pending.proofs.Filters.{IsRising-filter}

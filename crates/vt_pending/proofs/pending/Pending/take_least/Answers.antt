@@ -1,9 +1,9 @@
-use Rattle.std.proofs.Common.{ℕ, ◌≡◌, ◌≢◌, ◌↔◌, [], ◌∷◌, arith, length, sym, ap, ◌∙◌, subst}
+use Rattle.std.proofs.Common.{ℕ, ◌≢◌, ◌↔◌, ◌≡◌, [], ◌∷◌, arith, length, sym, ap, ◌∙◌, subst}
 use Rattle.std.specs.Prelude.{IsBitSet}
-use Rattle.vt_pending.specs.Letters.{IsRising}
 use Rattle.vt_pending.specs.Buckets.{letters_of, IsRow}
 use Rattle.vt_pending.proofs.Rows.{own}
-use Rattle.vt_pending.proofs.Kept.{marks-of, first-left, first-marked}
+use Rattle.vt_pending.proofs.Kept.{Left, marks-of, first-left, first-marked}
+use Rattle.vt_pending.proofs.pending.Pending.take_least.Given.{Over}
 use Rattle.vt_pending.proofs.pending.Pending.take_least.Goals as goal
 
 pub put_back-self-inside-requires-clause-marked : goal.put_back-self-inside-requires-clause-marked
@@ -13,35 +13,25 @@ put_back-self-inside-requires-clause-marked g c =
     let row = subst (λ ls. IsRow ls all) (c.in_ok-list.ensures.lines ∙ ap (λ l. l ∷ c.pop_line.new.self) c.in_ok-letter.ensures) c.self.invariant.0.row in
     subst (IsBitSet s.mask.bits) (sym own_is) (first-marked s.mask.bits x c.pop_front.new.self all c.pop_line.new.self (marks-of s.mask.bits s.lists all c.self.invariant.0) row (omega arith))
 
-pub invariant_of-self-2 : goal.invariant_of-self-2
-invariant_of-self-2 g c =
-    let s = c.self.inside in let x = c.in_ok-letter.letter in let b = c.bucket-number.result in let kept = c.self.invariant.0 in let all = letters_of s.lists in let left = c.put_back-self-inside in
-    let own_is : b ≡ own x = c.bucket-number.ensures.value ∙ ap own c.get.ensures in
-    let marks = marks-of s.mask.bits s.lists all kept in
+-- the first letter went
+gone : (g : Over) (c : goal.After-self-2-1 g) → Left c.in_ok-letter.letter c.put_back-self-inside.result.bits c.put_back-self-inside.new.lists (letters_of c.self.inside.lists)
+gone g c =
+    let s = c.self.inside in let x = c.in_ok-letter.letter in let kept = c.self.invariant.0 in let all = letters_of s.lists in let left = c.put_back-self-inside in
+    let own_is : c.bucket-number.result ≡ own x = c.bucket-number.ensures.value ∙ ap own c.get.ensures in
     let row = subst (λ ls. IsRow ls all) (c.in_ok-list.ensures.lines ∙ ap (λ l. l ∷ c.pop_line.new.self) c.in_ok-letter.ensures) kept.row in
     let bit = subst (λ n. IsBitSet left.result.bits n ↔ (c.pop_front.new.self ≢ [])) own_is left.ensures.bit in
     let bits = subst (λ n. (i : ℕ) → i ≢ n → IsBitSet left.result.bits i ↔ IsBitSet s.mask.bits i) own_is left.ensures.others in
-    let after = first-left s.mask.bits left.result.bits x c.pop_front.new.self all c.pop_line.new.self left.new.lists marks kept.rising row left.ensures.lists bit bits in
+    first-left s.mask.bits left.result.bits x c.pop_front.new.self all c.pop_line.new.self left.new.lists (marks-of s.mask.bits s.lists all kept) kept.rising row left.ensures.lists bit bits
+
+pub invariant_of-self-2 : goal.invariant_of-self-2
+invariant_of-self-2 g c =
+    let after = gone g c in
     (after.kept.buckets, omega (arith, ap length after.kept.letters_are, ap length after.is, c.self.invariant.1))
 
 pub returns-clause-letters : goal.returns-clause-letters
 returns-clause-letters g c =
-    let s = c.self.inside in let x = c.in_ok-letter.letter in let b = c.bucket-number.result in let kept = c.self.invariant.0 in let all = letters_of s.lists in let left = c.put_back-self-inside in
-    let own_is : b ≡ own x = c.bucket-number.ensures.value ∙ ap own c.get.ensures in
-    let marks = marks-of s.mask.bits s.lists all kept in
-    let row = subst (λ ls. IsRow ls all) (c.in_ok-list.ensures.lines ∙ ap (λ l. l ∷ c.pop_line.new.self) c.in_ok-letter.ensures) kept.row in
-    let bit = subst (λ n. IsBitSet left.result.bits n ↔ (c.pop_front.new.self ≢ [])) own_is left.ensures.bit in
-    let bits = subst (λ n. (i : ℕ) → i ≢ n → IsBitSet left.result.bits i ↔ IsBitSet s.mask.bits i) own_is left.ensures.others in
-    let after = first-left s.mask.bits left.result.bits x c.pop_front.new.self all c.pop_line.new.self left.new.lists marks kept.rising row left.ensures.lists bit bits in
-    sym c.self.view_is ∙ after.is ∙ ap (λ ls. x ∷ ls) (sym after.kept.letters_are)
+    let after = gone g c in
+    sym c.self.view_is ∙ after.is ∙ ap (λ ls. c.in_ok-letter.letter ∷ ls) (sym after.kept.letters_are)
 
 pub returns-clause-rising : goal.returns-clause-rising
-returns-clause-rising g c =
-    let s = c.self.inside in let x = c.in_ok-letter.letter in let b = c.bucket-number.result in let kept = c.self.invariant.0 in let all = letters_of s.lists in let left = c.put_back-self-inside in
-    let own_is : b ≡ own x = c.bucket-number.ensures.value ∙ ap own c.get.ensures in
-    let marks = marks-of s.mask.bits s.lists all kept in
-    let row = subst (λ ls. IsRow ls all) (c.in_ok-list.ensures.lines ∙ ap (λ l. l ∷ c.pop_line.new.self) c.in_ok-letter.ensures) kept.row in
-    let bit = subst (λ n. IsBitSet left.result.bits n ↔ (c.pop_front.new.self ≢ [])) own_is left.ensures.bit in
-    let bits = subst (λ n. (i : ℕ) → i ≢ n → IsBitSet left.result.bits i ↔ IsBitSet s.mask.bits i) own_is left.ensures.others in
-    let after = first-left s.mask.bits left.result.bits x c.pop_front.new.self all c.pop_line.new.self left.new.lists marks kept.rising row left.ensures.lists bit bits in
-    after.kept.buckets.rising
+returns-clause-rising g c = (gone g c).kept.buckets.rising
