@@ -1,6 +1,7 @@
 //! Pending letters in the order of their ranks.
 
 use std::alloc::AllocError;
+use std::mem::size_of;
 use std::test::*;
 use vt_key::{Event, Key, Letter, Rank, Sign, Stamp};
 use vt_list::{Parcel, Predicate};
@@ -199,5 +200,110 @@ fn times_far_apart_share_a_list(rt: HostRuntime) -> Result<(), Fail> {
     }
     assert_eq!(rt; queue.mask(), 1 << 63);
     assert!(rt; come_out(&mut queue, &[63, 4_611_686_018_427_387_903]));
+    Ok(())
+}
+
+#[test]
+fn a_queue_is_three_words(rt: HostRuntime) {
+    assert_eq!(rt; size_of::<Pending<u64>>(), 24);
+}
+
+// Random numbers, by a linear congruence.
+#[derive(Drop)]
+struct Draws(u64);
+
+impl Draws {
+    // A number below `end`.
+    fn below(&mut self, end: u32) -> u32 {
+        self.0 = self
+            .0
+            .wrapping_mul(6364136223846793005)
+            .wrapping_add(1442695040888963407);
+        let upper = (self.0 >> 33) as u32;
+        upper.checked_rem(end).unwrap_or(0)
+    }
+
+    // A rank at one of 320 times, with one of 16 stamps.
+    fn rank(&mut self) -> Rank {
+        let time = u64::from(self.below(320));
+        let source = self.below(2);
+        rank((time, source, 0), (0, u64::from(self.below(16))))
+    }
+}
+
+// A queue, and beside it the ranks of its letters in rising order.
+#[derive(Drop)]
+struct Beside {
+    queue: Pending<u64>,
+    sorted: Vec<Rank>,
+}
+
+impl Beside {
+    // Puts a letter of this rank in, unless one is there. Whether both found the same.
+    fn put(&mut self, rt: &HostRuntime, rank: Rank) -> Result<bool, Fail> {
+        let is_new = put(&mut self.queue, letter(rt, rank)?);
+        match self.sorted.binary_search(&rank) {
+            Ok(_place) => Ok(!is_new),
+            Err(place) => {
+                self.sorted.insert(place, rank)?;
+                Ok(is_new)
+            }
+        }
+    }
+
+    // Takes the least letter out. Whether it was the same of both.
+    fn take_least(&mut self) -> bool {
+        taken(self.queue.take_least()) == self.remove(0)
+    }
+
+    // Takes the least letter of a stamp out. Whether it was the same of both.
+    fn take_stamp(&mut self, stamp: Stamp) -> bool {
+        let before = self.sorted.iter().take_while(|rank| rank.stamp != stamp);
+        let place = before.count();
+        taken(self.queue.take_stamp(stamp)) == self.remove(place)
+    }
+
+    // The rank that stood at this place, if one did.
+    fn remove(&mut self, place: usize) -> Option<Rank> {
+        if place < self.sorted.len() {
+            Some(self.sorted.remove(place))
+        } else {
+            None
+        }
+    }
+
+    // Whether both have as many letters, the same least one, and letters in the same lists.
+    fn agree(&self) -> bool {
+        let mut mask = 0u64;
+        for rank in self.sorted.iter() {
+            mask |= 1 << (rank.key.time % 64);
+        }
+        let least = self.queue.least().map(|l| l.event.rank);
+        self.queue.mask() == mask
+            && self.queue.len() == self.sorted.len()
+            && least == self.sorted.first().copied()
+    }
+}
+
+#[test]
+fn drawn_letters_come_and_go_as_in_a_sorted_list(rt: HostRuntime) -> Result<(), Fail> {
+    let mut draws = Draws(1);
+    let mut both = Beside {
+        queue: Pending::new(rt.alloc()),
+        sorted: Vec::new(rt.alloc()),
+    };
+    for _ in 0..2_000 {
+        let rank = draws.rank();
+        let same = match draws.below(5) {
+            0 => both.take_least(),
+            1 => both.take_stamp(rank.stamp),
+            _ => both.put(&rt, rank)?,
+        };
+        assert!(rt; same && both.agree());
+    }
+    for _ in 0..both.sorted.len() {
+        assert!(rt; both.take_least() && both.agree());
+    }
+    assert!(rt; both.queue.is_empty());
     Ok(())
 }
