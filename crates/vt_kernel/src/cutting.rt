@@ -37,7 +37,7 @@ impl<M: EventModel> Kernel<M> {
         self.floor = floor;
     }
 
-    /// What the worker reports: how much mail of the old colour it sent, how much of it it got, and the lesser of its red
+    /// What the worker reports: how much mail of the old colour it sent and how much it got, and the lesser of its red
     /// minimum and the least time of the letters that it has.
     pub fn report_values(&self) -> (u64, u64, Time)
         ensures sent { result.0 ≡ count_of self.now.sent (other_colour self.now.colour) }
