@@ -1,4 +1,4 @@
-//! Memory of what processes need no more, kept for what they make next.
+//! Nodes that processes no longer need, kept for their next letters and events.
 
 ghost use Rattle.std.specs.Prelude.{◌≡◌, ◌+◌, ◌-◌, [], length, IfOk, IfErr, IfSome, IfNone};
 
@@ -8,12 +8,13 @@ use std::marker::Model;
 use vt_key::Letter;
 use vt_list::{List, Parcel, Stack};
 
-/// Nodes of committed past events and of letters that are needed no more, to be written anew. What stands in them means
-/// nothing.
+/// Nodes of committed past events and of letters that are no longer needed, kept to be written again. Nothing depends on
+/// their old contents.
 ///
-/// An event needs a node, and one for each message and each anti-message: as many as a committed one leaves. A letter that comes
-/// from another worker needs a node, and one that was sent leaves it. So who commits now and then takes little memory anew, and
-/// writes where it wrote before. All that is kept is given back when the value is dropped.
+/// An executed event needs a node for itself and one for each message and anti-message, as many as a committed event
+/// leaves. A letter from another worker needs a node, and a letter that was sent leaves one. So a worker that commits
+/// regularly takes little new memory, and writes to memory that it has written before. All nodes are freed when the value
+/// is dropped.
 ///
 /// Contracts see how many nodes of letters and of past events are kept (`KeptNodes`).
 #[derive(Drop)]
@@ -21,7 +22,7 @@ pub struct Spare<P: Copy, K: Copy> {
     message: Option<Parcel<Letter<P>>>,
     anti_message: Option<Parcel<Letter<P>>>,
     event: Option<Parcel<PastEvent<P, K>>>,
-    // What was read ahead, which means nothing.
+    // A mix of what was read ahead. It is stored so that the reads are made; nothing depends on it.
     seen: u64,
     letters: Stack<Letter<P>>,
     events: Stack<PastEvent<P, K>>,
@@ -40,7 +41,7 @@ impl<P: Copy, K: Copy> Model for Spare<P, K> {
 }
 
 impl<P: Copy, K: Copy> Spare<P, K> {
-    /// No memory.
+    /// An empty store.
     pub fn new(alloc: Global) -> Spare<P, K>
         ensures { result ≡ record { letters = 0; events = 0 } }
     {
@@ -54,8 +55,7 @@ impl<P: Copy, K: Copy> Spare<P, K> {
         }
     }
 
-    /// Reads the nodes that will be written next, so that they are on their way from memory together, and not each when it is
-    /// written.
+    /// Reads the nodes that will be written next. So their cache lines are fetched together, and not one after the other.
     pub(crate) fn read_ahead(&mut self)
         ensures { self.new ≡ self.old }
     {
@@ -77,7 +77,7 @@ impl<P: Copy, K: Copy> Spare<P, K> {
         seen
     }
 
-    /// The letter in a node that was kept, or in a new one. Where memory is refused, it is handed back.
+    /// Puts the letter into a kept node, or else into a new one. If memory is refused, the letter is handed back.
     pub fn letter(
         &mut self,
         alloc: Global,
@@ -95,7 +95,7 @@ impl<P: Copy, K: Copy> Spare<P, K> {
         Ok(parcel)
     }
 
-    /// The past event in a node that was kept, or in a new one. Where memory is refused, it is handed back.
+    /// Puts the past event into a kept node, or else into a new one. If memory is refused, the event is handed back.
     pub(crate) fn event(
         &mut self,
         alloc: Global,
@@ -136,7 +136,7 @@ impl<P: Copy, K: Copy> Spare<P, K> {
         }
     }
 
-    // What stands in the node of a letter that is given next.
+    // The old content of the node that the next letter gets.
     fn next_letter(&self) -> Option<&Letter<P>> {
         match &self.message {
             Some(letter) => Some(letter.get()),
@@ -144,7 +144,7 @@ impl<P: Copy, K: Copy> Spare<P, K> {
         }
     }
 
-    // What stands in the node of a past event that is given next.
+    // The old content of the node that the next past event gets.
     fn next_event(&self) -> Option<&PastEvent<P, K>> {
         match &self.event {
             Some(event) => Some(event.get()),
@@ -152,7 +152,7 @@ impl<P: Copy, K: Copy> Spare<P, K> {
         }
     }
 
-    // A node of a letter. Those at hand are given first: to find them, no other node is read.
+    // Takes a node of a letter. A node at hand comes first, since no other node is read to find it.
     fn take_letter(&mut self) -> Option<Parcel<Letter<P>>>
         ensures taken { self.new ≡ record { letters = self.old.letters - 1; events = self.old.events } }
         ensures none_left { IfNone result (self.old.letters ≡ 0) }
@@ -166,7 +166,7 @@ impl<P: Copy, K: Copy> Spare<P, K> {
         self.letters.pop()
     }
 
-    // A node of a past event, the one at hand first.
+    // Takes a node of a past event, the one at hand first.
     fn take_event(&mut self) -> Option<Parcel<PastEvent<P, K>>>
         ensures taken { self.new ≡ record { letters = self.old.letters; events = self.old.events - 1 } }
         ensures none_left { IfNone result (self.old.events ≡ 0) }
@@ -202,12 +202,12 @@ impl<P: Copy, K: Copy> Spare<P, K> {
     }
 }
 
-// Words from both ends of a letter.
+// Reads words at both ends of a letter.
 fn read_letter<P: Copy>(letter: &Letter<P>) -> u64 {
     letter.event.rank.key.number ^ u64::from(letter.event.dest)
 }
 
-// Words from everywhere in a past event.
+// Reads words all over a past event.
 fn read_event<P: Copy, K: Copy>(event: &PastEvent<P, K>) -> u64 {
     event.number ^ event.records.len() as u64 ^ event.anti_messages.len() as u64
 }
