@@ -131,7 +131,7 @@ impl<'m, M: EventModel> Engine<'m, M> {
     /// Executes events until none is pending: then the records are those of the whole run.
     ///
     /// [`Fault::Exhausted`]: the next step would let a send number pass 2^63. [`Fault::Memory`]: it would not, and memory was
-    /// refused. After either the steps made before stand, and the run may be gone on with.
+    /// refused. After either the steps made before stand, and the run may be continued.
     pub(crate) fn complete(&mut self) -> Result<(), Fault>
         ensures model { self.new.model.now ≡ self.old.model.now }
         ensures config { self.new.config ≡ self.old.config }
@@ -149,7 +149,7 @@ impl<'m, M: EventModel> Engine<'m, M> {
     /// Executes events until none is pending, and answers the records of the whole run.
     ///
     /// [`Fault::Exhausted`]: the next step would let a send number pass 2^63. [`Fault::Memory`]: it would not, and memory was
-    /// refused. After either the steps made before stand, and the run may be gone on with.
+    /// refused. After either the steps made before stand, and the run may be continued.
     pub(crate) fn run(&mut self, alloc: Global) -> Result<Vec<Record>, Fault>
         ensures model { self.new.model.now ≡ self.old.model.now }
         ensures config { self.new.config ≡ self.old.config }

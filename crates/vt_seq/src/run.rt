@@ -105,7 +105,7 @@ impl<'m, M: EventModel> Sequential<'m, M> {
     /// Executes events until none is pending: then [`Sequential::records`] are those of the whole run.
     ///
     /// [`Fault::Exhausted`]: the next step would let a send number pass 2^63. [`Fault::Memory`]: it would not, and memory was
-    /// refused. After either the steps made before stand, and the run may be gone on with.
+    /// refused. After either the steps made before stand, and the run may be continued.
     pub fn complete(&mut self) -> Result<(), Fault>
         ensures model { self.new.model ≡ self.old.model }
         ensures config { self.new.config ≡ self.old.config }
@@ -131,7 +131,7 @@ impl<'m, M: EventModel> Sequential<'m, M> {
     /// Executes events until none is pending, and answers the records of the whole run.
     ///
     /// [`Fault::Exhausted`]: the next step would let a send number pass 2^63. [`Fault::Memory`]: it would not, and memory was
-    /// refused. After either the steps made before stand, and the run may be gone on with.
+    /// refused. After either the steps made before stand, and the run may be continued.
     pub fn run(&mut self, alloc: Global) -> Result<Vec<Record>, Fault>
         ensures model { self.new.model ≡ self.old.model }
         ensures config { self.new.config ≡ self.old.config }
