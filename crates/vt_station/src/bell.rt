@@ -9,12 +9,8 @@ use std::alloc::Global;
 use std::hint::spin_loop;
 use std::sync::Wait;
 use std::sync::atomic::{AtomicBool, AtomicU64, Ordering};
-use std::thread::yield_now;
 use std::time::Duration;
 use vt_key::Fault;
-
-/// After so many looks a worker that waits gives its processor to others that want it.
-const LOOKS_TO_YIELD: u32 = 64;
 
 /// How often a worker that begins looks whether all have begun before it sleeps.
 const LOOKS: u32 = 300;
@@ -103,15 +99,11 @@ impl Bell {
 
     /// Returns once the bell was rung since it was heard so often, and tells whether it slept: not where some looks were enough.
     fn wait<R: Wait>(&self, rt: &R, heard: u64, looks: u32) -> bool {
-        for look in 0..looks {
+        for _ in 0..looks {
             if self.rings() != heard {
                 return false;
             }
-            if look % LOOKS_TO_YIELD == LOOKS_TO_YIELD - 1 {
-                yield_now();
-            } else {
-                spin_loop();
-            }
+            spin_loop();
         }
         for _ in rt.forever() {
             self.asleep.store(heard.wrapping_add(1), Ordering::SeqCst);

@@ -24,10 +24,10 @@ const MOST_SPINS: u32 = 32;
 const PAUSES: u32 = 20;
 
 /// How often at most a worker looks at its bell before it sleeps.
-const MOST_LOOKS: u32 = 8_000;
+const MOST_LOOKS: u32 = 2_000;
 
 /// How often at least.
-const LEAST_LOOKS: u32 = 1_000;
+const LEAST_LOOKS: u32 = 100;
 
 /// How many turns a worker makes once another one has left before the end of the run: enough to close a book that all have
 /// handed in to.
@@ -70,7 +70,7 @@ pub(crate) struct Driver<'a, M: EventModel> {
     idle: bool,
     // How often in a row it tried again at once.
     spins: u32,
-    // How often it looks at its bell before it sleeps: the more often the sooner it was rung lately.
+    // How often it looks at its bell before it sleeps: half as often after each sleep, and twice as often after each wait without.
     looks: u32,
     // How many turns were made since another worker has left.
     last_turns: u32,
