@@ -1,3 +1,4 @@
 pub mod Flags
 pub mod PassLemmas
 pub mod Sums
+pub mod CellSteps

@@ -6,3 +6,5 @@ pub mod FloorLemmas
 pub mod KeptLemmas
 pub mod RunLemmas
 pub mod SpanLemmas
+pub mod CellSteps
+pub mod CommitRows

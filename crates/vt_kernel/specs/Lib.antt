@@ -3,3 +3,4 @@ pub mod Local
 pub mod Entered
 pub mod Guards
 pub mod Settled
+pub mod Refusals

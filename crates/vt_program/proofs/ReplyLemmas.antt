@@ -13,6 +13,7 @@ use Rattle.vt_steps.specs.declared.step.Step.{Step}
 use Rattle.vt_steps.specs.declared.step.Step.TheVariants.{Execute, Undo, Cancel, Home, Send, Fetch, Accept, Cut, Report, Commit, Close}
 use Rattle.vt_steps.specs.Letters.{count_of}
 use Rattle.vt_lp.specs.Guards.{number_of}
+use Rattle.vt_kernel.specs.Refusals.{IsSpent, PassesLimit}
 use Rattle.vt_program.proofs.RunLemmas.{either}
 use Rattle.vt_steps.specs.declared.step.Reply.{Reply}
 use Rattle.vt_steps.specs.World.{World}
@@ -20,7 +21,7 @@ use Rattle.vt_steps.specs.Next.{next}
 use Rattle.vt_steps.specs.StandsFor.{StandsFor}
 use Rattle.vt_steps.proofs.Refusals.{refusals}
 use Rattle.vt_world.specs.Held.{HeldWorld, world_memory, StandsForWorld}
-use Rattle.vt_world.specs.Calls.{IsStepOf, IsSpent, PassesLimit}
+use Rattle.vt_world.specs.Calls.{IsStepOf}
 use Rattle.vt_step_text.specs.declared.reading.NumberedStep.{NumberedStep}
 use Rattle.vt_step_text.specs.Replies.{Answered, reply_text, replies_text}
 use Rattle.vt_step_text.specs.Replays.{is_no_step, world_after, AreAnswered}

@@ -13,7 +13,7 @@ use Rattle.vt_steps.specs.declared.step.Step.{Step}
 use Rattle.vt_steps.specs.declared.step.Reply.{Reply}
 use Rattle.vt_steps.specs.Next.{next}
 use Rattle.vt_steps.specs.World.{World, opening_world}
-use Rattle.vt_world.specs.Calls.{IsSpent, PassesLimit}
+use Rattle.vt_kernel.specs.Refusals.{IsSpent, PassesLimit}
 use Rattle.vt_world.specs.Answers.{PassesAtStart}
 use Rattle.vt_text.specs.Writing.{AppendsBeginning}
 use Rattle.vt_step_text.specs.declared.limits.TheConstants.{MAX_INPUT}

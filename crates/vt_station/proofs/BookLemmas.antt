@@ -11,7 +11,7 @@ use Rattle.vt_steps.specs.Next.{next, run}
 use Rattle.vt_steps.proofs.Lists.{Every}
 use Rattle.vt_steps.proofs.Tests.{passes_both}
 use Rattle.vt_book.specs.Books.{is_within}
-use Rattle.vt_world.proofs.CommitRows.{IsBetween}
+use Rattle.vt_book.proofs.CommitRows.{IsBetween}
 
 -- rows that lie between two times, tested
 pub all-within : (from to : Time) (rows : List Row) → Every (IsBetween from to) rows → list_all (is_within from to) rows ≡ true

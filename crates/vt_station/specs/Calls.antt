@@ -25,7 +25,7 @@ use Rattle.vt_steps.specs.Marked.{Marked, answered, made_done, Each, IsMarkedRig
 use Rattle.vt_kernel.specs.Held.{HeldWorker, StandsFor}
 use Rattle.vt_kernel.specs.Local.{local_steps}
 use Rattle.vt_kernel.specs.Guards.{IsSendRefusal}
-use Rattle.vt_world.specs.Calls.{IsStepRefusal}
+use Rattle.vt_kernel.specs.Refusals.{IsStepRefusal}
 use Rattle.vt_station.specs.declared.slot.Slot.{Slot}
 use Rattle.vt_station.specs.declared.view.View.{View}
 use Rattle.vt_station.specs.Hands.{empty_hand, holding}

@@ -15,8 +15,9 @@ use Rattle.vt_steps.specs.Cells.{cell_of, book_cell}
 use Rattle.vt_steps.specs.StandsFor.{GoesOn}
 use Rattle.vt_steps.proofs.ReachedBooks.{closed-stays, closed-whole}
 use Rattle.vt_steps.proofs.Refusals.{refusals as refusal-laws}
+use Rattle.vt_kernel.specs.Refusals.{IsStepRefusal}
 use Rattle.vt_world.specs.Held.{HeldWorld, world_memory, StandsForWorld, IsReached}
-use Rattle.vt_world.specs.Calls.{IsStepRefusal, floor_held}
+use Rattle.vt_world.specs.Calls.{floor_held}
 
 module _ {M S P K : Type 0} (handlers : Handlers S P K) (held : HeldWorld M S P K) (shut : IsTrue held.book.is_closed) where
   -- each world that it stands for is closed

@@ -23,10 +23,10 @@ use Rattle.vt_steps.proofs.Places.{get-within}
 use Rattle.vt_steps.proofs.Tests.{passes_both}
 use Rattle.vt_kernel.specs.Held.{HeldWorker, StandsFor as WorkerStandsFor}
 use Rattle.vt_book.specs.Books.{RunBook, may_hand, is_within, are_within, refusal_of_hand, refusal_where}
+use Rattle.vt_kernel.specs.Refusals.{IsStepRefusal}
+use Rattle.vt_book.proofs.CellSteps.{next-commit}
+use Rattle.vt_book.proofs.CommitRows.{IsBetween, commit-between}
 use Rattle.vt_world.specs.Held.{HeldWorld, world_memory, StandsForWorld, AreWorkers, IsReached}
-use Rattle.vt_world.specs.Calls.{IsStepRefusal}
-use Rattle.vt_world.proofs.CellSteps.{next-commit}
-use Rattle.vt_world.proofs.CommitRows.{IsBetween, commit-between}
 use Rattle.vt_world.proofs.WorldLemmas.{found}
 use Rattle.vt_world.proofs.WorldSteps.{who}
 

@@ -1,7 +1,6 @@
 pub mod WorldLemmas
 pub mod CellSteps
 pub mod WorldSteps
-pub mod CommitRows
 pub mod ReachedLemmas
 pub mod ClosedLemmas
 pub mod FinalLemmas

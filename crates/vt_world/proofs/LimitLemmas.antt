@@ -9,8 +9,8 @@ use Rattle.vt_steps.specs.Letters.{Counts, count_of}
 use Rattle.vt_steps.specs.World.{Part, World, Board}
 use Rattle.vt_kernel.specs.Held.{HeldWorker, AreCounted, StandsFor as WorkerStandsFor}
 use Rattle.vt_kernel.specs.Guards.{AreWithinLimits}
+use Rattle.vt_kernel.specs.Refusals.{PassesLimit}
 use Rattle.vt_world.specs.Held.{HeldWorld, StandsForWorld, AreWorkers}
-use Rattle.vt_world.specs.Calls.{PassesLimit}
 use Rattle.vt_world.proofs.WorldLemmas.{worker-at, found}
 use Rattle.vt_world.proofs.Places.{same-there}
 

@@ -19,8 +19,9 @@ use Rattle.vt_lp.specs.Guards.{number_of}
 use Rattle.vt_kernel.specs.Held.{HeldWorker, StandsFor as WorkerStandsFor}
 use Rattle.vt_kernel.specs.Local.{local_step}
 use Rattle.vt_kernel.specs.Guards.{IsDone, IsExecuteRefusal, IsAcceptRefusal}
+use Rattle.vt_kernel.specs.Refusals.{IsStepRefusal, PassesLimit, TakesMemory}
 use Rattle.vt_world.specs.Held.{HeldWorld, world_memory, StandsForWorld, AreWorkers, IsReached, IsWorldInside}
-use Rattle.vt_world.specs.Calls.{IsStepRefusal, PassesLimit, TakesMemory, IsStepOf}
+use Rattle.vt_world.specs.Calls.{IsStepOf}
 use Rattle.vt_world.proofs.ReachedLemmas.{inside_view}
 use Rattle.vt_world.proofs.WorldLemmas.{IsLocalAt, IsFound, found, next-locally, local-done, local-refused}
 use Rattle.vt_world.proofs.WorldSteps.{who}

@@ -24,10 +24,11 @@ use Rattle.vt_steps.specs.StandsFor.{GoesOn}
 use Rattle.vt_kernel.specs.Held.{HeldWorker, StandsFor as WorkerStandsFor}
 use Rattle.vt_kernel.specs.Guards.{IsSendRefusal}
 use Rattle.vt_board.specs.Calls.{counted, cut_outcome}
+use Rattle.vt_kernel.specs.Refusals.{IsStepRefusal, PassesLimit}
+use Rattle.vt_board.proofs.CellSteps.{next-cut}
 use Rattle.vt_world.specs.Held.{HeldWorld, world_memory, StandsForWorld, AreWorkers}
-use Rattle.vt_world.specs.Calls.{IsStepRefusal, PassesLimit}
 use Rattle.vt_world.proofs.WorldLemmas.{found}
-use Rattle.vt_world.proofs.CellSteps.{next-send, next-not_send, next-fetch, next-not_fetch, next-cut}
+use Rattle.vt_world.proofs.CellSteps.{next-send, next-not_send, next-fetch, next-not_fetch}
 use Rattle.vt_world.proofs.WorldSteps.{who, goes, gone, send-refused, fetch-refused, cut-refused}
 use Rattle.vt_world.proofs.Places.{put-there, some-at}
 

@@ -21,11 +21,6 @@ use Rattle.vt_world.specs.Held.{HeldWorld, world_memory, StandsForWorld, AreWork
 use Rattle.vt_world.proofs.ReachedLemmas.{inside_view}
 use Rattle.vt_world.proofs.WorldSteps.{report-done, report-refused}
 
--- the least time of letters is not after the end
-pub least-ends : {P : Type 0} (end : Time) (letters : List (Letter P)) → TimeAtMost (least_time end letters) end
-least-ends end [] = omega arith
-least-ends end (letter ∷ letters) = let rest = least-ends end letters in omega (arith, rest)
-
 -- two tests don't both pass, and the second does
 fails-first : (a b : Bool) → (a && b) ≡ false → b ≡ true → a ≡ false
 fails-first true b h k = absurd (let e : true ≡ false = sym k ∙ h in cc)

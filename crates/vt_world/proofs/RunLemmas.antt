@@ -12,8 +12,9 @@ use Rattle.vt_steps.specs.Next.{Outcome, next, run, answers}
 use Rattle.vt_steps.specs.StandsFor.{WorldMemory, StandsFor, GoesOn, RunsTo}
 use Rattle.vt_steps.proofs.MemoryLemmas.{run-append}
 use Rattle.vt_steps.proofs.Refusals.{refusals as refusal-laws}
+use Rattle.vt_kernel.specs.Refusals.{IsStepRefusal, IsSpent}
 use Rattle.vt_world.specs.Held.{HeldWorld, world_memory, StandsForWorld}
-use Rattle.vt_world.specs.Calls.{IsStepOf, IsStepRefusal, IsSpent, IsAnsweredBy, refusals}
+use Rattle.vt_world.specs.Calls.{IsStepOf, IsAnsweredBy, refusals}
 
 -- one more answer
 refusals-more : (xs : List (Result Reply Fault)) (x : Result Reply Fault) → refusals (xs ++ x ∷ []) ≡ refusals xs + refusals (x ∷ [])

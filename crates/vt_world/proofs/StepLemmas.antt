@@ -24,8 +24,9 @@ use Rattle.vt_steps.proofs.MemoryLemmas.{still_reached}
 use Rattle.vt_kernel.specs.Held.{HeldWorker, AllOwnMail}
 use Rattle.vt_steps.specs.BookSteps.{may_close, closed_book}
 use Rattle.vt_book.specs.Books.{RunBook, refusal_where, refusal_of_close}
+use Rattle.vt_kernel.specs.Refusals.{PassesLimit, IsStepRefusal}
 use Rattle.vt_world.specs.Held.{HeldWorld, world_memory, StandsForWorld, AreWorkers, AreInboxes, IsWorldInside, IsReached}
-use Rattle.vt_world.specs.Calls.{PassesLimit, IsStepRefusal, IsStepOf, floor_held}
+use Rattle.vt_world.specs.Calls.{IsStepOf, floor_held}
 use Rattle.vt_world.proofs.ReachedLemmas.{inside_view}
 use Rattle.vt_world.proofs.ClosedLemmas.{done-closed, refused-closed, book-stays}
 use Rattle.vt_world.proofs.WorldSteps.{close-done, close-refused, close-closed}

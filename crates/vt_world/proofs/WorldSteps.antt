@@ -21,9 +21,11 @@ use Rattle.vt_steps.specs.BookSteps.{may_commit, with_rows, may_close, closed_bo
 use Rattle.vt_steps.specs.Next.{Outcome, next, refused, replied, with_part, done_or_refused, may_send, report_lawful}
 use Rattle.vt_steps.specs.StandsFor.{GoesOn}
 use Rattle.vt_kernel.specs.Held.{HeldWorker, part_memory, StandsFor as WorkerStandsFor}
+use Rattle.vt_board.proofs.CellSteps.{next-cut, next-not_cut, next-report, next-not_report, next-report_nobody}
+use Rattle.vt_book.proofs.CellSteps.{next-commit, next-not_commit, next-commit_closed, next-close, next-not_close, next-close_closed, next-commit_nobody}
 use Rattle.vt_world.specs.Held.{HeldWorld, world_memory, StandsForWorld, AreWorkers}
 use Rattle.vt_world.proofs.WorldLemmas.{nobody-at, worker-at, found, part-changed}
-use Rattle.vt_world.proofs.CellSteps.{next-send, next-not_send, next-fetch, next-not_fetch, next-cut, next-not_cut, next-report, next-not_report, next-commit, next-not_commit, next-commit_closed, next-close, next-not_close, next-close_closed, next-send_nobody, next-fetch_nobody, next-report_nobody, next-commit_nobody}
+use Rattle.vt_world.proofs.CellSteps.{next-send, next-not_send, next-fetch, next-not_fetch, next-send_nobody, next-fetch_nobody}
 
 module _ {M S P K : Type 0} (handlers : Handlers S P K) (held : HeldWorld M S P K) (are : AreWorkers held.config 0 held.workers) where
   -- the worker at its place is it

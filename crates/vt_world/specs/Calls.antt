@@ -1,59 +1,21 @@
 -- What the calls of a world answer, by the steps of the definitions.
-use Rattle.std.specs.Prelude.{◌≡◌, ℕ, ◌+◌, ◌<◌, ◌≤◌, ◌⊎◌, ◌/◌, ◌%◌, IsTrue, List, [], ◌∷◌, ◌++◌, map, Option, Some, None, Result, Ok, Err, slice_get, IfOk, IfErr}
+use Rattle.std.specs.Prelude.{◌≡◌, ℕ, ◌+◌, ◌≤◌, IsTrue, List, [], ◌∷◌, ◌++◌, map, Some, Result, Ok, Err, IfOk, IfErr}
 use Rattle.std.specs.List.{flat_map}
 use Rattle.vt_key.specs.Times.{Time, TimeAtMost}
-use Rattle.vt_key.specs.declared.limits.TheConstants.{MAX_COUNT}
-use Rattle.vt_key.specs.declared.letter.Colour.{Colour}
 use Rattle.vt_key.specs.declared.fault.Fault.{Fault}
-use Rattle.vt_key.specs.declared.fault.Fault.TheVariants.{Memory, NotLawful, Closed, Exhausted}
+use Rattle.vt_key.specs.declared.fault.Fault.TheVariants.{Closed}
 use Rattle.vt_model.specs.Handler.{Handlers}
-use Rattle.vt_model.specs.Simulation.{Simulation, simulation_of}
+use Rattle.vt_model.specs.Simulation.{simulation_of}
 use Rattle.vt_steps.specs.declared.step.Step.{Step}
-use Rattle.vt_steps.specs.declared.step.Step.TheVariants.{Execute, Undo, Cancel, Home, Send, Fetch, Accept, Cut, Report, Commit, Close}
 use Rattle.vt_steps.specs.declared.step.Reply.{Reply}
-use Rattle.vt_steps.specs.Letters.{count_of, least_time}
-use Rattle.vt_steps.specs.World.{LogicalProcess, Part, World, book_floor}
+use Rattle.vt_steps.specs.Letters.{least_time}
+use Rattle.vt_steps.specs.World.{World, book_floor}
 use Rattle.vt_steps.specs.Next.{next}
 use Rattle.vt_steps.specs.Cells.{cell_of, book_cell}
 use Rattle.vt_steps.specs.StandsFor.{GoesOn}
-use Rattle.vt_lp.specs.Guards.{number_of}
 use Rattle.vt_kernel.specs.Guards.{held_letters}
+use Rattle.vt_kernel.specs.Refusals.{PassesLimit, IsStepRefusal}
 use Rattle.vt_world.specs.Held.{HeldWorld, world_memory, StandsForWorld}
-
-module _ {S P : Type 0} (sim : Simulation S P) where
-  -- this is the part of worker w of a world
-  abbrev pub IsPart : World P → ℕ → Part P → Type 0
-  IsPart world w part = slice_get world.parts w ≡ Some part
-
-  -- a counter that the step raises is past its limit in the world after it: the send number of the process that executed, or
-  -- its worker's serial; how much mail of its colour the worker sent; how much of either colour it got; the number of rounds
-  abbrev pub PassesLimit : Step → World P → Type 0
-  PassesLimit (Execute p) after =
-      (part : Part P) × IsPart after (p % sim.workers) part
-      × ((MAX_COUNT < part.serial) ⊎ ((process : LogicalProcess P) × (slice_get part.processes (p / sim.workers) ≡ Some process) × (MAX_COUNT < number_of sim p process)))
-  PassesLimit (Send w v) after = (part : Part P) × IsPart after w part × (MAX_COUNT < count_of part.sent part.colour)
-  PassesLimit (Fetch w) after = (part : Part P) × IsPart after w part × ((MAX_COUNT < part.got.white) ⊎ (MAX_COUNT < part.got.red))
-  PassesLimit (Cut w) after = MAX_COUNT < after.board.rounds
-  PassesLimit _ after = ⊥
-
-  -- the step takes memory
-  abbrev pub TakesMemory : Step → Type 0
-  TakesMemory (Execute p) = Unit {0}
-  TakesMemory (Accept w i) = Unit {0}
-  TakesMemory (Send w v) = Unit {0}
-  TakesMemory (Commit w) = Unit {0}
-  TakesMemory _ = ⊥
-
-  -- a lawful step can't be done: a counter would pass its limit; or none would, and memory was refused
-  abbrev pub IsSpent : Step → World P → Fault → Type 0
-  IsSpent step world fault =
-      (reply : Reply) × ((next sim world step).answer ≡ Ok reply)
-      × (((fault ≡ Exhausted) × PassesLimit step (next sim world step).world)
-      ⊎ ((fault ≡ Memory) × TakesMemory step × (PassesLimit step (next sim world step).world → ⊥)))
-
-  -- why a step of a world is refused: as the definitions refuse it; or it is lawful and can't be done
-  abbrev pub IsStepRefusal : Step → World P → Fault → Type 0
-  IsStepRefusal step world fault = ((next sim world step).answer ≡ Err fault) ⊎ IsSpent step world fault
 
 module _ {M S P K : Type 0} where
   -- the least time of all that is unprocessed or travelling: in outboxes, arrived, pending, waiting and in inboxes

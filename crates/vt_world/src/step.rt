@@ -7,8 +7,9 @@ ghost use Rattle.vt_model.specs.Simulation.{simulation_of};
 ghost use Rattle.vt_steps.specs.Cells.{cell_of, book_cell};
 ghost use Rattle.vt_steps.specs.Next.{answers};
 ghost use Rattle.vt_steps.specs.StandsFor.{RunsTo};
+ghost use Rattle.vt_kernel.specs.Refusals.{IsSpent};
 ghost use Rattle.vt_world.specs.Held.{world_memory, StandsForWorld};
-ghost use Rattle.vt_world.specs.Calls.{IsStepOf, IsSpent, IsAnsweredBy, floor_held, refusals};
+ghost use Rattle.vt_world.specs.Calls.{IsStepOf, IsAnsweredBy, floor_held, refusals};
 
 use crate::world::World;
 use std::alloc::Global;

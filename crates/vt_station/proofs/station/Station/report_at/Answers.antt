@@ -12,7 +12,7 @@ use Rattle.vt_steps.proofs.Tests.{both_pass}
 use Rattle.vt_kernel.specs.Held.{HeldWorker, StandsFor}
 use Rattle.vt_kernel.specs.Guards.{held_letters}
 use Rattle.vt_board.specs.Calls.{takes_report}
-use Rattle.vt_world.proofs.ReportLemmas.{least-ends}
+use Rattle.vt_board.proofs.CellSteps.{least-ends}
 use Rattle.vt_station.specs.Calls.{Acts, IsReportRefusal}
 use Rattle.vt_station.proofs.ActLemmas.{act-report}
 use Rattle.vt_station.proofs.CallLemmas.{took-board}

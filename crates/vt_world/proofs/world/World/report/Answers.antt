@@ -11,12 +11,13 @@ use Rattle.vt_kernel.specs.Held.{HeldWorker, StandsFor}
 use Rattle.vt_kernel.specs.Guards.{held_letters}
 use Rattle.vt_board.specs.BoardOfRun.{BoardOfRun}
 use Rattle.vt_board.specs.Calls.{takes_report, reply_of}
+use Rattle.vt_board.proofs.CellSteps.{least-ends}
 use Rattle.vt_world.specs.Held.{world_memory}
 use Rattle.vt_model.proofs.LawLemmas.{lawful_of}
 use Rattle.vt_world.proofs.ReachedLemmas.{inside_view}
 use Rattle.vt_world.proofs.StepLemmas.{step-done, step-unlawful, inside-same}
 use Rattle.vt_world.proofs.Places.{inside-worker, same-there}
-use Rattle.vt_world.proofs.ReportLemmas.{report-taken, report-untaken, least-ends}
+use Rattle.vt_world.proofs.ReportLemmas.{report-taken, report-untaken}
 use Rattle.vt_world.proofs.LocalLemmas.{answered-fault}
 use Rattle.vt_world.proofs.WorldSteps.{who, report-nobody}
 use Rattle.vt_world.proofs.world.World.report.Goals as goal
