@@ -1,7 +1,8 @@
 -- A local step at one process: what stays of how a worker's fields go together, and what the step does to the part.
-use Rattle.std.proofs.Common.{◌≡◌, ℕ, Bool, true, zero, suc, ◌+◌, ◌-◌, ◌/◌, ◌%◌, ◌<◌, ◌≤◌, inl, inr, List, [], ◌∷◌, ◌++◌, map, length, refl, sym, ◌∙◌, ap, subst, arith, Option, Some, None, Result, Ok, Err, IfOk, IfErr, slice_get, slice_set, slice_index_or}
+use Rattle.std.proofs.Common.{◌≡◌, ℕ, Bool, true, zero, suc, ◌+◌, ◌-◌, ◌/◌, ◌%◌, ◌<◌, ◌≤◌, inl, inr, List, [], ◌∷◌, ◌++◌, map, length, refl, sym, ◌∙◌, ap, subst, arith, Option, Some, None, Result, Ok, Err, IfOk, IfErr, if◌then◌else◌, slice_get, slice_set, slice_index_or}
 use Rattle.std.specs.List.{All}
 use Rattle.std.proofs.Math.ListN.{length-set}
+use Rattle.std.proofs.lemmas.Bool.{eq-eqb}
 use Rattle.std.proofs.lemmas.Bool.Decides.{eqb_tells}
 use Rattle.std.proofs.lemmas.List.{length-map}
 use Rattle.std.proofs.lemmas.List.Elements.{All-cons, All-head, All-tail}
@@ -22,7 +23,7 @@ use Rattle.vt_steps.specs.PartSteps.{at_process}
 use Rattle.vt_steps.specs.StandsFor.{ProcessMemory, StandForProcesses}
 use Rattle.vt_lp.specs.Held.{HeldProcess, process_memory, AllWithinRun, StandsFor as ProcessStandsFor}
 use Rattle.vt_lp.specs.Guards.{IsDone as ProcessIsDone}
-use Rattle.vt_kernel.specs.Held.{HeldWorker, IsWorkerInside, StandsFor, AreProcesses, has_past, TellsLeast, ready_of, unready_of, entries_of}
+use Rattle.vt_kernel.specs.Held.{HeldWorker, IsWorkerInside, StandsFor, AreProcesses, process_of, has_past, TellsLeast, ready_of, unready_of, entries_of}
 use Rattle.vt_kernel.specs.Local.{at_own}
 use Rattle.vt_kernel.specs.Guards.{IsDone}
 use Rattle.vt_kernel.proofs.ProcessLemmas.{process-at, processes-changed, marked-changed, place-known, place-unknown, get-past}
@@ -151,6 +152,13 @@ module _ {S P K : Type 0} (handlers : Handlers S P K) (held : HeldWorker S P K) 
 -- a process that was written as it was leaves them all
 pub written-same : {X : Type 0} (xs : List X) (i : ℕ) (old new : X) → slice_get xs i ≡ Some old → new ≡ old → slice_set xs i new ≡ xs
 written-same xs i old new there same = ap (λ x. slice_set xs i x) same ∙ put-there xs i old there
+
+-- the process that was found is that of its number
+pub own-process : {S P K : Type 0} (held : HeldWorker S P K) (p place : ℕ) (q : HeldProcess S P K)
+    → place ≡ p / held.config.workers → p % held.config.workers ≡ held.worker → slice_get held.processes place ≡ Some q → process_of held p ≡ Some q
+own-process held p place q is own there =
+    ap (λ (b : Bool). if b then slice_get held.processes (p / held.config.workers) else None) (eq-eqb (p % held.config.workers) held.worker own)
+    ∙ ap (λ k. slice_get held.processes k) (sym is) ∙ there
 
 -- ---- results
 

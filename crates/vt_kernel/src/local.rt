@@ -7,7 +7,7 @@ ghost use Rattle.vt_model.specs.Simulation.{simulation_of};
 ghost use Rattle.vt_steps.specs.World.{Part};
 ghost use Rattle.vt_steps.specs.declared.step.Step.TheVariants as step;
 ghost use Rattle.vt_tournament.specs.Contest.{IsTournamentOf, WasTournamentOf};
-ghost use Rattle.vt_kernel.specs.Held.{StandsFor, entries_of, ready_of, unready_of, other_rank, has_past, TellsLeast};
+ghost use Rattle.vt_kernel.specs.Held.{StandsFor, process_of, entries_of, ready_of, unready_of, other_rank, has_past, TellsLeast};
 ghost use Rattle.vt_kernel.specs.Local.{local_step};
 ghost use Rattle.vt_kernel.specs.Guards.{IsDone, AreWithinLimits, IsExecuteRefusal};
 
@@ -25,12 +25,16 @@ impl<M: EventModel> Kernel<M> {
     ///
     /// [`Fault::NotLawful`]: `lp` is no process of this worker, it has no pending event, or the least one does not come after
     /// its last past one. [`Fault::Exhausted`]: its send number or the worker's serial would pass 2^63. [`Fault::Memory`]:
-    /// memory was refused. After each all is as it was.
+    /// memory was refused. After each all is as it was. (With another model than the one that the worker was made with, the
+    /// state of that process may be another after the last two: it goes back by the model's `reverse`.)
     pub fn execute(&mut self, alloc: Global, model: &M, lp: u32) -> Result<(), Fault>
         ensures done { (part : Part _) → StandsFor (M.handlers model.now) self.old part → IfOk result (λ done. IsDone (M.handlers model.now) self.new (local_step (simulation_of (M.handlers model.now) self.old.config) self.old.worker (step.Execute lp) part)) }
         ensures counted { (part : Part _) → StandsFor (M.handlers model.now) self.new part → IfOk result (λ done. AreWithinLimits (simulation_of (M.handlers model.now) self.old.config) lp part) }
         ensures refused { (part : Part _) → StandsFor (M.handlers model.now) self.old part → IfErr result (λ fault. IsExecuteRefusal (simulation_of (M.handlers model.now) self.old.config) lp (local_step (simulation_of (M.handlers model.now) self.old.config) self.old.worker (step.Execute lp) part) fault) }
         ensures unchanged { (part : Part _) → StandsFor (M.handlers model.now) self.old part → IfErr result (λ fault. self.new ≡ self.old) }
+        ensures restored { IfSome (process_of self.old lp) (λ process. M.IsState model.now process.triple.state) → IfErr result (λ fault. self.new ≡ self.old) }
+        ensures not_lawful { IfErr result (λ fault. fault ≡ NotLawful → self.new ≡ self.old) }
+        ensures but_processes { IfErr result (λ fault. self.new ≡ record self.old { processes = self.new.processes }) }
         ensures same { (self.new.worker ≡ self.old.worker) × (self.new.config ≡ self.old.config) }
     {
         let Some(place) = place_of(self.config, self.worker, lp) else {

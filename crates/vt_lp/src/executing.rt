@@ -55,7 +55,8 @@ impl<M: EventModel> Lp<M> {
     ///
     /// [`Fault::NotLawful`]: nothing is pending, or the least pending event does not come after the last past one.
     /// [`Fault::Exhausted`]: the send number or the serial would pass 2^63. [`Fault::Memory`]: memory was refused. After each
-    /// the process, the outbox and the serial are as they were.
+    /// the process, the outbox and the serial are as they were. (With another model than the one that the state comes from, that
+    /// state may be another after the last two: it goes back by the model's `reverse`.)
     pub fn execute(
         &mut self,
         alloc: Global,

@@ -1,4 +1,4 @@
-use Rattle.std.proofs.Common.{rules, ◌≡◌, ◌/◌, ◌%◌, ◌≤◌, ◌∙◌, IfOk, IfErr, Some, slice_get, slice_set, sym, subst, refl}
+use Rattle.std.proofs.Common.{rules, ◌≡◌, ◌/◌, ◌%◌, ◌≤◌, ◌∙◌, IfOk, IfErr, IfSome, Some, slice_get, slice_set, sym, subst, refl}
 use Rattle.vt_key.specs.declared.fault.Fault.TheVariants.{NotLawful}
 use Rattle.vt_key.specs.declared.limits.TheConstants.{MAX_COUNT}
 use Rattle.vt_model.specs.declared.settings.Config.{Config}
@@ -6,15 +6,15 @@ use Rattle.vt_model.specs.Simulation.{simulation_of}
 use Rattle.vt_steps.specs.ProcessSteps.{execute_process}
 use Rattle.vt_steps.specs.declared.step.Step.TheVariants as step
 use Rattle.vt_steps.proofs.Places.{get-put_same}
-use Rattle.vt_lp.specs.Held.{AllWithinRun}
+use Rattle.vt_lp.specs.Held.{HeldProcess, AllWithinRun}
 use Rattle.vt_lp.specs.Guards.{IsDone as ProcessIsDone, IsExecuteRefusal as ProcessRefusal}
-use Rattle.vt_kernel.specs.Held.{HeldWorker, StandsFor, ready_of, unready_of}
+use Rattle.vt_kernel.specs.Held.{HeldWorker, StandsFor, process_of, ready_of, unready_of}
 use Rattle.vt_kernel.specs.Local.{local_step}
 use Rattle.vt_kernel.specs.Guards.{IsDone, AreWithinLimits, IsExecuteRefusal}
 use Rattle.vt_kernel.proofs.ProcessLemmas.{process-at, processes-changed}
 use Rattle.vt_kernel.proofs.OwnSteps.{found, within-limits, same-execute, refusal-at, own-step}
 use Rattle.vt_kernel.proofs.EnteringLemmas.{in-changed, was-entered}
-use Rattle.vt_kernel.proofs.LocalLemmas.{worker_view, index-get, place-within, inside-changed, unknown-refused, written-same, if_ok-more, if_err-more, either-way, at-found-done, execute-step, both-errors}
+use Rattle.vt_kernel.proofs.LocalLemmas.{worker_view, index-get, place-within, inside-changed, unknown-refused, written-same, if_ok-more, if_err-more, either-way, at-found-done, execute-step, both-errors, own-process}
 use Rattle.vt_kernel.proofs.kernel.Kernel.execute.Goals as goal
 
 pub index_mut-requires : goal.index_mut-requires
@@ -152,3 +152,38 @@ returns-clause-unchanged g c part s =
     both-errors c.execute_reusing-result.result (λ _ same kept.
     (λ j. worker_view i.worker i.config (written-same i.processes.items c.in-Some.place old new at same j) (kept.0 j) i.arrived.items i.colour i.sent i.got i.red_minimum i.floor (kept.1 j)) ∙ c.self.view_is)
     (c.execute_reusing-result.ensures.unchanged f.process f.stands) c.execute_reusing-result.ensures.kept
+
+pub returns-clause-restored : goal.returns-clause-restored
+returns-clause-restored g c known =
+    let i = c.self.inside in
+    let held = worker_view i.worker i.config i.processes.items i.outbox i.arrived.items i.colour i.sent i.got i.red_minimum i.floor i.serial in
+    let own = c.in-Some.ensures.own in
+    let less = place-within c.self.invariant c.args.lp c.in-Some.place i.config.some_worker own.0 own.1 own.2 in
+    let old = c.index_mut.result.now in
+    let new = c.execute_reusing-result.new.self in
+    let at = index-get i.processes.items c.in-Some.place old less (sym c.index_mut.ensures.value) in
+    let here = subst (λ (v : HeldWorker _ _ _). IfSome (process_of v c.args.lp) (λ (p : HeldProcess _ _ _). g.M.Model.IsState c.args.model.now p.triple.state)) (sym c.self.view_is) known in
+    let is_state = subst (λ x. IfSome x (λ (p : HeldProcess _ _ _). g.M.Model.IsState c.args.model.now p.triple.state)) (own-process held c.args.lp c.in-Some.place old own.0 own.1 at) here in
+    both-errors c.execute_reusing-result.result (λ _ same kept.
+    (λ j. worker_view i.worker i.config (written-same i.processes.items c.in-Some.place old new at same j) (kept.0 j) i.arrived.items i.colour i.sent i.got i.red_minimum i.floor (kept.1 j)) ∙ c.self.view_is)
+    (c.execute_reusing-result.ensures.restored is_state) c.execute_reusing-result.ensures.kept
+
+pub returns-clause-not_lawful : goal.returns-clause-not_lawful
+returns-clause-not_lawful g c =
+    let i = c.self.inside in
+    let own = c.in-Some.ensures.own in
+    let less = place-within c.self.invariant c.args.lp c.in-Some.place i.config.some_worker own.0 own.1 own.2 in
+    let old = c.index_mut.result.now in
+    let new = c.execute_reusing-result.new.self in
+    let at = index-get i.processes.items c.in-Some.place old less (sym c.index_mut.ensures.value) in
+    both-errors c.execute_reusing-result.result (λ _ same kept is.
+    (λ j. worker_view i.worker i.config (written-same i.processes.items c.in-Some.place old new at (same is) j) (kept.0 j) i.arrived.items i.colour i.sent i.got i.red_minimum i.floor (kept.1 j)) ∙ c.self.view_is)
+    c.execute_reusing-result.ensures.not_lawful c.execute_reusing-result.ensures.kept
+
+pub returns-clause-but_processes : goal.returns-clause-but_processes
+returns-clause-but_processes g c =
+    let i = c.self.inside in
+    let new = c.execute_reusing-result.new.self in
+    let processes = slice_set i.processes.items c.in-Some.place new in
+    subst (λ (v : HeldWorker _ _ _). IfErr c.execute_reusing-result.result (λ _. worker_view i.worker i.config processes c.execute_reusing-result.new.outbox i.arrived.items i.colour i.sent i.got i.red_minimum i.floor c.execute_reusing-result.new.serial ≡ record v { processes = processes })) c.self.view_is
+    (if_err-more c.execute_reusing-result.result (λ _ kept j. worker_view i.worker i.config processes (kept.0 j) i.arrived.items i.colour i.sent i.got i.red_minimum i.floor (kept.1 j)) c.execute_reusing-result.ensures.kept)
