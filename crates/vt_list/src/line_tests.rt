@@ -1,6 +1,7 @@
 use crate::tests::{Counted, Is, event, numbers, parcel};
 use crate::{Iter, Line, Lines, Stack};
 use std::cell::Cell;
+use std::mem::size_of;
 use std::rc::Rc;
 use std::test::*;
 
@@ -18,6 +19,13 @@ fn push<T: Drop>(lines: &mut Lines<T>, line: Line<T>) {
     if !line.is_empty() {
         lines.push_line(line);
     }
+}
+
+// So 64 lists that are empty cost what one does.
+#[test]
+fn a_line_and_a_row_of_lines_are_one_word_each(rt: HostRuntime) {
+    assert_eq!(rt; size_of::<Line<u64>>(), 8);
+    assert_eq!(rt; size_of::<Lines<u64>>(), 8);
 }
 
 #[test]
