@@ -62,7 +62,7 @@ impl Subject for Shelf {
     }
 
     fn told(&mut self, alloc: Global) -> Told {
-        let mut told = [0; 16];
+        let mut told = [0; 24];
         told[0] = self.book.floor();
         told[1] = self.book.is_closed() as u64;
         told[2] = match records_told(&self.book, alloc) {

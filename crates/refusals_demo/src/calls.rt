@@ -2,11 +2,11 @@
 
 use std::alloc::Global;
 use std::io;
-use vt_key::Fault;
+use vt_key::{Event, Fault, Rank};
 use vt_model::{Record, Row};
 
 /// What a subject tells of itself, as numbers. The places that it doesn't need stay 0.
-pub(crate) type Told = [u64; 16];
+pub(crate) type Told = [u64; 24];
 
 /// What stands in the place of a number that isn't there.
 pub(crate) const NONE: u64 = u64::MAX;
@@ -26,6 +26,11 @@ pub(crate) trait Subject {
     fn make(&mut self, alloc: Global, call: Self::Call) -> Result<(), Fault>;
 }
 
+/// Whether a call was refused for memory. No other refusal is one that is tried again.
+pub(crate) fn is_refused<T>(answer: &Result<T, Fault>) -> bool {
+    matches!(answer, Err(Fault::Memory))
+}
+
 /// Makes a call, and makes it again where it was refused for memory. A line tells of each time what came of it.
 pub(crate) fn try_call<S: Subject>(
     rt: &HostRuntime,
@@ -34,7 +39,7 @@ pub(crate) fn try_call<S: Subject>(
 ) -> io::Result<()> {
     let before = subject.told(rt.alloc());
     let mut answer = subject.make(rt.alloc(), call);
-    if answer == Err(Fault::Memory) {
+    if is_refused(&answer) {
         let is_kept = subject.told(rt.alloc()) == before;
         tell_refused(rt, S::name(call), is_kept)?;
         answer = subject.make(rt.alloc(), call);
@@ -94,6 +99,33 @@ pub(crate) fn sum_of_rows(rows: &[Row]) -> u64 {
         sum = mixed(sum, row.rec.value);
     }
     sum
+}
+
+/// A number for a list of events.
+pub(crate) fn sum_of_events<P: Copy>(events: &[Event<P>]) -> u64 {
+    let mut sum = 1u64;
+    for event in events {
+        sum = mixed(sum, number_of(Some(event.rank)));
+    }
+    sum
+}
+
+/// A number for a list of numbers.
+pub(crate) fn sum_of_numbers(numbers: &[u64]) -> u64 {
+    let mut sum = 1u64;
+    for number in numbers {
+        sum = mixed(sum, *number);
+    }
+    sum
+}
+
+/// A number for a rank that may be there.
+pub(crate) fn number_of(rank: Option<Rank>) -> u64 {
+    let Some(Rank { key, stamp }) = rank else {
+        return NONE;
+    };
+    let by_key = mixed(mixed(key.time, u64::from(key.source)), key.number);
+    mixed(mixed(by_key, u64::from(stamp.worker)), stamp.serial)
 }
 
 /// A sum, and what it becomes by one number more.

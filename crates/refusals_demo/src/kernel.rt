@@ -4,7 +4,8 @@ ghost use Rattle.std.specs.Prelude.{◌≡◌};
 ghost use Rattle.vt_kernel.specs.Held.{AllOwnMail};
 
 use crate::calls::{
-    NONE, Subject, Told, sum_of_rows, tell_answer, tell_refused, try_call, try_calls,
+    NONE, Subject, Told, is_refused, mixed, sum_of_events, sum_of_rows, tell_answer, tell_refused,
+    try_call, try_calls,
 };
 use std::alloc::Global;
 use std::{io, mem};
@@ -13,9 +14,23 @@ use vt_key::{Colour, Fault, Mail, Stamp};
 use vt_model::Config;
 use vt_models::{Hop, Token};
 
-/// All that a worker tells of itself and of process `p`.
-pub(crate) fn told_of(kernel: &Kernel<Hop>, p: u32) -> Told {
-    let mut told = [0; 16];
+fn past_told(kernel: &Kernel<Hop>, p: u32, alloc: Global) -> Option<u64> {
+    match kernel.past_events(alloc, p) {
+        Ok(events) => Some(sum_of_events(&events)),
+        Err(_) => None,
+    }
+}
+
+fn process_or_none(process: Option<u32>) -> u64 {
+    match process {
+        Some(process) => u64::from(process),
+        None => NONE,
+    }
+}
+
+/// All that a worker tells of itself and of process `p`. The places from 21 on are the caller's.
+pub(crate) fn told_of(kernel: &Kernel<Hop>, p: u32, alloc: Global) -> Told {
+    let mut told = [0; 24];
     told[0] = kernel.serial();
     told[1] = kernel.outbox_len() as u64;
     told[2] = kernel.arrived_len() as u64;
@@ -31,6 +46,15 @@ pub(crate) fn told_of(kernel: &Kernel<Hop>, p: u32) -> Told {
     told[12] = kernel.number(p).unwrap_or(NONE);
     told[13] = kernel.pending_len(p).unwrap_or(0) as u64;
     told[14] = kernel.waiting_len(p).unwrap_or(0) as u64;
+    told[15] = kernel.place(p).unwrap_or(NONE);
+    told[16] = match past_told(kernel, p, alloc) {
+        Some(past) => past,
+        None => past_told(kernel, p, alloc).unwrap_or(NONE),
+    };
+    told[17] = process_or_none(kernel.next());
+    told[18] = process_or_none(kernel.next_receiver());
+    told[19] = process_or_none(kernel.home_for());
+    told[20] = process_or_none(kernel.arrived_for(0));
     told
 }
 
@@ -75,12 +99,12 @@ impl Worker {
     }
 
     fn told(&self, alloc: Global) -> Told {
-        let mut told = told_of(&self.kernel, self.number);
-        told[15] = match self.rows_told(alloc) {
+        let mut told = told_of(&self.kernel, self.number, alloc);
+        told[21] = self.inbox.len() as u64;
+        told[23] = match self.rows_told(alloc) {
             Some(rows) => rows,
             None => self.rows_told(alloc).unwrap_or(NONE),
         };
-        told[1] = (told[1] << 32) | self.inbox.len() as u64;
         told
     }
 }
@@ -142,7 +166,7 @@ impl Subject for Pair {
         let first = self.first.told(alloc);
         let mut told = self.second.told(alloc);
         for (number, other) in told.iter_mut().zip(first) {
-            *number = crate::calls::mixed(*number, other);
+            *number = mixed(*number, other);
         }
         told
     }
@@ -207,7 +231,7 @@ fn opened(
         "Kernel::new"
     };
     let mut made = new_worker(rt.alloc(), model, config, number, has_serial);
-    if made.is_err() {
+    if is_refused(&made) {
         tell_refused(rt, name, true)?;
         made = new_worker(rt.alloc(), model, config, number, has_serial);
     }

@@ -2,7 +2,10 @@
 
 ghost use Rattle.std.specs.Prelude.{◌≡◌};
 
-use crate::calls::{NONE, Subject, Told, sum_of_rows, tell_answer, tell_refused, try_calls};
+use crate::calls::{
+    NONE, Subject, Told, is_refused, number_of, sum_of_events, sum_of_rows, tell_answer,
+    tell_refused, try_calls,
+};
 use std::alloc::Global;
 use std::io;
 use vt_key::{Fault, Letter, Time};
@@ -51,7 +54,7 @@ impl Stage {
 
     fn past(&self, alloc: Global) -> Option<u64> {
         match self.process.past_events(alloc) {
-            Ok(events) => Some(events.len() as u64),
+            Ok(events) => Some(sum_of_events(&events)),
             Err(_) => None,
         }
     }
@@ -70,7 +73,7 @@ impl Subject for Stage {
     }
 
     fn told(&mut self, alloc: Global) -> Told {
-        let mut told = [0; 16];
+        let mut told = [0; 24];
         told[0] = *self.process.state();
         told[1] = self.process.number();
         told[2] = self.process.place();
@@ -86,6 +89,10 @@ impl Subject for Stage {
             Some(past) => past,
             None => self.past(alloc).unwrap_or(NONE),
         };
+        told[12] = number_of(self.process.least_rank());
+        told[13] = number_of(self.process.ready());
+        told[14] = self.process.has_past() as u64;
+        told[15] = self.process.cancellable().is_some() as u64;
         told
     }
 
@@ -107,7 +114,7 @@ fn opened(rt: &HostRuntime, model: Hop, config: Config) -> io::Result<Option<Sta
     let mut serial = 0;
     let mut outbox = List::new(rt.alloc());
     let mut made = Lp::new(rt.alloc(), &model, config, 0, &mut serial, &mut outbox);
-    if made.is_err() {
+    if is_refused(&made) {
         tell_refused(rt, "Lp::new", serial == 0 && outbox.is_empty())?;
         made = Lp::new(rt.alloc(), &model, config, 0, &mut serial, &mut outbox);
     }

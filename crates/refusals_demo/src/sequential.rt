@@ -1,7 +1,8 @@
 //! The sequential simulator.
 
 use crate::calls::{
-    NONE, Subject, Told, counted, sum_of_records, tell_answer, tell_refused, try_calls,
+    NONE, Subject, Told, counted, is_refused, sum_of_numbers, sum_of_records, tell_answer,
+    tell_refused, try_calls,
 };
 use std::alloc::Global;
 use std::io;
@@ -53,8 +54,17 @@ fn records_told(run: &Sequential<'_, Hop>, alloc: Global) -> Option<u64> {
     }
 }
 
+// No process has an end while an event is pending.
+fn finals_told(run: &Sequential<'_, Hop>, alloc: Global) -> Option<u64> {
+    match run.finals(alloc) {
+        Ok(finals) => Some(sum_of_numbers(&finals)),
+        Err(Fault::NotLawful) => Some(0),
+        Err(_) => None,
+    }
+}
+
 fn told(run: &Sequential<'_, Hop>, alloc: Global) -> Told {
-    let mut told = [0; 16];
+    let mut told = [0; 24];
     told[0] = run.number(0).unwrap_or(NONE);
     told[1] = run.number(1).unwrap_or(NONE);
     told[2] = run.place(0).unwrap_or(NONE);
@@ -62,6 +72,10 @@ fn told(run: &Sequential<'_, Hop>, alloc: Global) -> Told {
     told[4] = match records_told(run, alloc) {
         Some(records) => records,
         None => records_told(run, alloc).unwrap_or(NONE),
+    };
+    told[5] = match finals_told(run, alloc) {
+        Some(finals) => finals,
+        None => finals_told(run, alloc).unwrap_or(NONE),
     };
     told
 }
@@ -72,7 +86,7 @@ fn opened<'m>(
     config: Config,
 ) -> io::Result<Option<Sequential<'m, Hop>>> {
     let mut made = Sequential::new(rt.alloc(), model, config);
-    if made.is_err() {
+    if is_refused(&made) {
         tell_refused(rt, "Sequential::new", true)?;
         made = Sequential::new(rt.alloc(), model, config);
     }
@@ -110,7 +124,7 @@ fn whole(rt: &HostRuntime, model: &Hop, config: Config) -> io::Result<()> {
         return Ok(());
     };
     let mut answer = run.run(rt.alloc());
-    if answer.is_err() {
+    if is_refused(&answer) {
         let now = told(&run, rt.alloc());
         let is_kept = comes_to(&mut twin, rt.alloc(), now);
         tell_refused(rt, "Sequential::run", is_kept)?;

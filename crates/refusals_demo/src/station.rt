@@ -1,6 +1,8 @@
 //! A station, whose places are driven by hand from one thread.
 
-use crate::calls::{NONE, Subject, Told, sum_of_records, tell_answer, tell_refused, try_call};
+use crate::calls::{
+    NONE, Subject, Told, is_refused, mixed, sum_of_records, tell_answer, tell_refused, try_call,
+};
 use crate::kernel::told_of;
 use crate::world::STRAGGLER;
 use std::alloc::Global;
@@ -20,9 +22,9 @@ struct Crew<'a> {
 }
 
 // What a worker tells of itself and of process `p`, and the records of the book that it finds.
-fn told_by(worker: &mut Worker<'_, Hop>, p: u32) -> Told {
-    let mut told = told_of(worker.kernel(), p);
-    told[15] = match records_told(worker) {
+fn told_by(worker: &mut Worker<'_, Hop>, p: u32, alloc: Global) -> Told {
+    let mut told = told_of(worker.kernel(), p, alloc);
+    told[23] = match records_told(worker) {
         Some(records) => records,
         None => records_told(worker).unwrap_or(NONE),
     };
@@ -84,11 +86,11 @@ impl<'a> Subject for Crew<'a> {
         }
     }
 
-    fn told(&mut self, _alloc: Global) -> Told {
-        let first = told_by(&mut self.first, 0);
-        let mut told = told_by(&mut self.second, 1);
+    fn told(&mut self, alloc: Global) -> Told {
+        let first = told_by(&mut self.first, 0, alloc);
+        let mut told = told_by(&mut self.second, 1, alloc);
         for (number, other) in told.iter_mut().zip(first) {
-            *number = crate::calls::mixed(*number, other);
+            *number = mixed(*number, other);
         }
         told
     }
@@ -105,7 +107,7 @@ impl<'a> Subject for Crew<'a> {
 // A station by itself.
 fn opened(rt: &HostRuntime, model: &Hop, config: Config) -> io::Result<()> {
     let mut made = Station::new(rt.alloc(), model, config);
-    if made.is_err() {
+    if is_refused(&made) {
         tell_refused(rt, "Station::new", true)?;
         made = Station::new(rt.alloc(), model, config);
     }
@@ -114,16 +116,18 @@ fn opened(rt: &HostRuntime, model: &Hop, config: Config) -> io::Result<()> {
 
 const CREW: &str = "Station::new and Worker::new";
 
-// A station and its workers, driven to the end. False: they were refused for memory.
-fn drive(rt: &HostRuntime, model: &Hop, config: Config) -> io::Result<bool> {
-    let Ok((station, places)) = Station::new(rt.alloc(), model, config) else {
-        return Ok(false);
+// A station and its workers, driven to the end; or why they weren't made.
+fn drive(rt: &HostRuntime, model: &Hop, config: Config) -> io::Result<Result<(), Fault>> {
+    let (station, places) = match Station::new(rt.alloc(), model, config) {
+        Ok(made) => made,
+        Err(fault) => return Ok(Err(fault)),
     };
-    let Ok(mut workers) = workers_at(rt.alloc(), &station, model, config, places) else {
-        return Ok(false);
+    let mut workers = match workers_at(rt.alloc(), &station, model, config, places) {
+        Ok(workers) => workers,
+        Err(fault) => return Ok(Err(fault)),
     };
     let (Some(second), Some(first)) = (workers.pop(), workers.pop()) else {
-        return Ok(false);
+        return Ok(Err(Fault::NotLawful));
     };
     tell_answer(rt, CREW, Ok(()))?;
     let mut crew = Crew { first, second };
@@ -131,7 +135,7 @@ fn drive(rt: &HostRuntime, model: &Hop, config: Config) -> io::Result<bool> {
         try_call(rt, &mut crew, Call::Step(step))?;
         try_call(rt, &mut crew, Call::Records)?;
     }
-    Ok(true)
+    Ok(Ok(()))
 }
 
 /// A straggler and its rollback, step by step.
@@ -140,9 +144,13 @@ pub(crate) fn straggler(rt: &HostRuntime) -> io::Result<()> {
         return Ok(());
     };
     opened(rt, &model, config)?;
-    if !drive(rt, &model, config)? {
+    let mut driven = drive(rt, &model, config)?;
+    if is_refused(&driven) {
         tell_refused(rt, CREW, true)?;
-        drive(rt, &model, config)?;
+        driven = drive(rt, &model, config)?;
     }
-    Ok(())
+    match driven {
+        Ok(()) => Ok(()),
+        Err(fault) => tell_answer(rt, CREW, Err(fault)),
+    }
 }

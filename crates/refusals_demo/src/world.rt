@@ -1,7 +1,8 @@
 //! A world of two processes on two workers.
 
 use crate::calls::{
-    NONE, Subject, Told, mixed, sum_of_records, tell_answer, tell_refused, try_call, try_calls,
+    NONE, Subject, Told, is_refused, sum_of_events, sum_of_numbers, sum_of_records, tell_answer,
+    tell_refused, try_call, try_calls,
 };
 use std::alloc::Global;
 use std::io;
@@ -9,7 +10,7 @@ use vt_key::{Fault, Stamp};
 use vt_model::Config;
 use vt_models::Hop;
 use vt_steps::Step;
-use vt_world::World;
+use vt_world::{Stop, World};
 
 #[derive(Drop)]
 struct Drive<'m> {
@@ -51,15 +52,19 @@ impl<'m> Subject for Drive<'m> {
 }
 
 fn past_told(world: &World<'_, Hop>, alloc: Global, lp: u32) -> Option<u64> {
-    let Ok(past) = world.past(alloc, lp) else {
-        return None;
-    };
-    let mut sum = 1;
-    for event in past.iter() {
-        sum = mixed(sum, event.rank.key.time);
-        sum = mixed(sum, event.rank.stamp.serial);
+    match world.past(alloc, lp) {
+        Ok(past) => Some(sum_of_events(&past)),
+        Err(_) => None,
     }
-    Some(sum)
+}
+
+// No process has an end before the book is closed.
+fn finals_told(world: &World<'_, Hop>, alloc: Global) -> Option<u64> {
+    match world.finals(alloc) {
+        Ok(finals) => Some(sum_of_numbers(&finals)),
+        Err(Fault::NotLawful) => Some(0),
+        Err(_) => None,
+    }
 }
 
 fn records_told(world: &World<'_, Hop>, alloc: Global) -> Option<u64> {
@@ -77,7 +82,7 @@ fn past_or_again(world: &World<'_, Hop>, alloc: Global, lp: u32) -> u64 {
 }
 
 fn told(world: &World<'_, Hop>, alloc: Global) -> Told {
-    let mut told = [0; 16];
+    let mut told = [0; 24];
     told[0] = world.announced();
     told[1] = world.floor();
     told[2] = world.least();
@@ -87,6 +92,10 @@ fn told(world: &World<'_, Hop>, alloc: Global) -> Told {
     told[6] = match records_told(world, alloc) {
         Some(records) => records,
         None => records_told(world, alloc).unwrap_or(NONE),
+    };
+    told[7] = match finals_told(world, alloc) {
+        Some(finals) => finals,
+        None => finals_told(world, alloc).unwrap_or(NONE),
     };
     told
 }
@@ -104,7 +113,7 @@ fn opened<'m>(
         "World::new"
     };
     let mut made = new_world(rt.alloc(), model, config, has_serial);
-    if made.is_err() {
+    if is_refused(&made) {
         tell_refused(rt, name, true)?;
         made = new_world(rt.alloc(), model, config, has_serial);
     }
@@ -207,6 +216,15 @@ fn comes_to(world: &mut World<'_, Hop>, alloc: Global, steps: &[Step], wanted: T
     told(world, alloc) == wanted
 }
 
+// No step of the list was refused as not lawful: what was done before a stop isn't done again.
+fn none_refused(answer: Result<u64, Stop>) -> Result<(), Fault> {
+    match answer {
+        Ok(0) => Ok(()),
+        Ok(_) => Err(Fault::NotLawful),
+        Err(stop) => Err(stop.fault),
+    }
+}
+
 /// A list of steps. Where it stops, the steps before are done, and the rest of the list follows.
 pub(crate) fn list_of_steps(rt: &HostRuntime) -> io::Result<()> {
     let (Ok(model), Ok(config)) = (Hop::new(1, 0, 1), Config::new(1, 1, 10, 0)) else {
@@ -220,15 +238,17 @@ pub(crate) fn list_of_steps(rt: &HostRuntime) -> io::Result<()> {
     };
     let steps = [Step::Home(0), Step::Execute(0)];
     let mut answer = world.run(rt.alloc(), &steps);
-    if let Err(stop) = answer {
+    if let Err(
+        Stop {
+            at,
+            fault: Fault::Memory,
+        },
+    ) = answer
+    {
         let now = told(&world, rt.alloc());
-        let (done, left) = steps.split_at_checked(stop.at).unwrap_or((&[], &[]));
+        let (done, left) = steps.split_at_checked(at).unwrap_or((&[], &[]));
         tell_refused(rt, "World::run", comes_to(&mut twin, rt.alloc(), done, now))?;
         answer = world.run(rt.alloc(), left);
     }
-    let answer = match answer {
-        Ok(_) => Ok(()),
-        Err(stop) => Err(stop.fault),
-    };
-    tell_answer(rt, "World::run", answer)
+    tell_answer(rt, "World::run", none_refused(answer))
 }
