@@ -176,7 +176,7 @@ pub(crate) const STRAGGLER: [Step; 25] = [
     Step::Close,
 ];
 
-const READERS: [Call; 3] = [Call::Past, Call::Records, Call::Finals];
+const READERS: [Call; 2] = [Call::Records, Call::Finals];
 
 /// A straggler and its rollback, step by step, and one event of a world of one process.
 pub(crate) fn straggler(rt: &HostRuntime) -> io::Result<()> {
@@ -188,6 +188,10 @@ pub(crate) fn straggler(rt: &HostRuntime) -> io::Result<()> {
     };
     let mut drive = Drive { world };
     for step in STRAGGLER {
+        // What is committed is past no more.
+        if let Step::Commit(0) = step {
+            try_call(rt, &mut drive, Call::Past)?;
+        }
         try_call(rt, &mut drive, Call::Step(step))?;
     }
     try_calls(rt, &mut drive, &READERS)?;
