@@ -9,6 +9,7 @@ use std::alloc::Global;
 use std::hint::spin_loop;
 use std::sync::Wait;
 use std::sync::atomic::{AtomicBool, AtomicU64, Ordering};
+use std::thread::yield_now;
 use std::time::Duration;
 use vt_key::Fault;
 
@@ -17,6 +18,9 @@ const LOOKS: u32 = 300;
 
 /// How many milliseconds a worker sleeps at a time while not all have begun.
 const NAP: u64 = 4;
+
+/// How often it yields after each nap. Where the machine is busy each takes a time slice, in which a started thread may begin.
+const YIELDS: u32 = 8;
 
 /// After how many naps in a row in which no worker has begun it is taken that no more will: a thread wasn't started.
 const MOST_NAPS: u32 = 300;
@@ -263,6 +267,9 @@ impl Bells {
                 (begun & 0xffff_ffff) as u32,
                 Duration::from_millis(NAP),
             );
+            for _ in 0..YIELDS {
+                yield_now();
+            }
         }
         Start::Short
     }
