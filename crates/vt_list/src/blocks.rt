@@ -1,4 +1,4 @@
-//! Blocks of memory that are owned, apart from the pointers that lead to them.
+//! The right to use blocks of memory, apart from the pointers that lead to them.
 
 ghost use Rattle.std.specs.Prelude.{◌≡◌, ℕ, ◌<◌, List, [], ◌∷◌, ◌++◌, take, drop, length, slice_index_or};
 ghost use denote.RawPtr.{Ptr};
@@ -8,8 +8,8 @@ ghost use Rattle.vt_list.specs.Place.{IsSomewhere};
 use std::alloc::Global;
 use std::marker::{Model, PhantomData};
 
-/// Some blocks from the allocator `Global`, in a row, each with where it lies and what lies in it. A value of this type
-/// takes no space: it is the right to use these blocks and to free them, and knows nothing of the pointers among them.
+/// Some blocks of the allocator `Global`, in a row, each with its address and content. A value of this type takes no
+/// space: it is the right to use these blocks and to free them, and knows nothing of the pointers among them.
 ///
 /// It is not `Drop`, so code that loses a block is refused.
 pub(crate) struct Blocks<N> {
@@ -31,7 +31,7 @@ impl<N> Blocks<N> {
         Blocks { mark: PhantomData }
     }
 
-    /// Lets go of no block.
+    /// Ends a row without blocks.
     pub(crate) fn end(self)
         requires { self.owned ≡ [] }
     {

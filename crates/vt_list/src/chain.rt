@@ -41,7 +41,7 @@ impl<T> Chain<T> {
         }
     }
 
-    /// Lets go of no node.
+    /// Ends a chain without nodes.
     pub(crate) fn end(self)
         requires { self ≡ [] }
     {
@@ -67,7 +67,7 @@ impl<T> Chain<T> {
         replace(self, Chain::new())
     }
 
-    /// Puts nodes in where there are none.
+    /// Puts nodes into a chain without nodes.
     pub(crate) fn put(&mut self, chain: Chain<T>)
         requires { self.old ≡ [] }
         ensures { self.new ≡ chain }
@@ -75,7 +75,7 @@ impl<T> Chain<T> {
         replace(self, chain).end();
     }
 
-    /// The last item.
+    /// The last item; None if there is no node.
     pub(crate) fn last(&self) -> Option<&T>
         ensures variant { IsSome result ↔ (0 < length self.now) }
         ensures lookup { IfSome result (λ x. x.now ≡ slice_index_or self.now (length self.now - 1) x.now) }
@@ -113,7 +113,7 @@ impl<T> Chain<T> {
         }
     }
 
-    /// The node, if there is one.
+    /// The only node; None if there is none.
     pub(crate) fn into_only(self, alloc: Global) -> Option<Box<Node<T>>>
         requires { length self ≤ 1 }
         ensures { MatchOption result (self ≡ []) (λ n. self ≡ n.value.item ∷ []) }

@@ -1,4 +1,4 @@
-//! A place in a chain.
+//! A position in a chain.
 
 ghost use Rattle.std.specs.Prelude.{◌≡◌, ◌-◌, ◌%◌, ◌^◌, ◌↔◌, [], ◌∷◌, ◌++◌, length, take, drop, MatchOption, IsTrue};
 ghost use Rattle.vt_list.specs.First.{before_first, from_first, first_fails};
@@ -12,9 +12,9 @@ use crate::predicate::Predicate;
 use std::alloc::Global;
 use std::marker::Model;
 
-/// A chain with a place in it. A clause sees the items that were passed, and those ahead.
+/// A chain with a position in it. A clause sees the items that were passed, and those ahead.
 ///
-/// The nodes stay linked as they were. To go on is to read one link.
+/// The nodes stay linked as they were. Going on reads one link.
 pub(crate) struct Cursor<T> {
     head: Link,
     tail: Link,
@@ -36,7 +36,7 @@ impl<T> Model for Cursor<T> {
 }
 
 impl<T> Cursor<T> {
-    /// Before the first node.
+    /// The position in front of the first node.
     fn at_front(chain: Chain<T>) -> Cursor<T>
         ensures { result ≡ ([], chain) }
     {
@@ -51,7 +51,7 @@ impl<T> Cursor<T> {
         }
     }
 
-    /// Before the last node, if there is one.
+    /// The position in front of the last node; at the end if there is none.
     fn before_last(chain: Chain<T>) -> Cursor<T>
         ensures { result ≡ (take (length chain - 1) chain, drop (length chain - 1) chain) }
     {
@@ -71,7 +71,7 @@ impl<T> Cursor<T> {
         }
     }
 
-    /// The next item.
+    /// The next item; None at the end.
     fn peek(&self) -> Option<&T>
         ensures { MatchOption result (self.now.1 ≡ []) (λ x. take 1 self.now.1 ≡ x.now ∷ []) }
     {
@@ -88,7 +88,7 @@ impl<T> Cursor<T> {
         self.next.is_none()
     }
 
-    /// One node further, if there is one.
+    /// One node further; unchanged at the end.
     fn advance(self) -> Cursor<T>
         ensures { result ≡ advanced self }
     {

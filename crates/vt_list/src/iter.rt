@@ -1,4 +1,4 @@
-//! Going over the items of a list.
+//! Iterators over the items of lists.
 
 ghost use Rattle.std.specs.Prelude.{◌≡◌, find, length, reverse, slice_get};
 ghost use Rattle.std.specs.Iterator.{at_most};
@@ -14,7 +14,7 @@ use crate::row::Row;
 use crate::trail::Trail;
 use std::marker::Model;
 
-/// Goes over the items of a list from the front. A clause sees the items that are left.
+/// An iterator over the items of a list from the front. Contracts see the items that are left.
 #[derive(Drop)]
 pub struct Iter<'a, T> {
     next: Link,
@@ -51,7 +51,7 @@ impl<'a, T> Iter<'a, T> {
         }
     }
 
-    /// The next item. It stays among those that are left.
+    /// The next item, which stays among those that are left; None if none is left.
     pub fn peek(&self) -> Option<&'a T>
         ensures { option_copied result ≡ slice_get self.now 0 }
     {
@@ -61,7 +61,7 @@ impl<'a, T> Iter<'a, T> {
         Some(&self.left.get(at).item)
     }
 
-    /// The first of the items left that passes the test.
+    /// The first of the items left that passes the test; None if none passes.
     pub fn first_passing<P: Predicate<T>>(self, test: &P) -> Option<&'a T>
         ensures { option_copied result ≡ find (P.passes test.now) self.entry }
     {
@@ -90,7 +90,7 @@ impl<'a, T> Iterator for Iter<'a, T> {
     }
 }
 
-/// Goes over the items of a list from the back. A clause sees the items that are left, the last first.
+/// An iterator over the items of a list from the back. Contracts see the items that are left, the last first.
 #[derive(Drop)]
 pub struct IterBack<'a, T> {
     next: Link,
@@ -135,7 +135,8 @@ impl<'a, T> Iterator for IterBack<'a, T> {
     }
 }
 
-/// Goes over the lists of a row, each as an iterator over its items. A clause sees the lists that are left.
+/// An iterator over the lines of a row, which gives each as an iterator over its items. Contracts see the lines that
+/// are left.
 #[derive(Drop)]
 pub struct IterLines<'a, T> {
     next: Link,

@@ -15,12 +15,12 @@ use std::alloc::Global;
 use std::marker::Model;
 use vt_key::Ranked;
 
-/// A list of items that is linked one way, in one word. A clause sees the list of the items.
+/// A list of items that is linked one way, in one word. Contracts see the list of the items.
 ///
-/// Its parcels are those of a [`List`](crate::List). A walk reads one link of each node that it passes, and a call writes
-/// two nodes at most: the one that is put in or taken out, and the one before it.
+/// It holds the same parcels as a [`List`](crate::List). A walk reads one link of each node that it passes. A call
+/// writes two nodes at most: the one that it puts in or takes out, and the one before it.
 ///
-/// No call of it takes memory. When it is dropped it drops each item once and frees each node, in a loop and not by
+/// No call takes memory. A line that is dropped drops each item once and frees each node, in a loop and not by
 /// recursion.
 pub struct Line<T> {
     pub(crate) alloc: Global,
@@ -64,7 +64,7 @@ impl<T: Drop> Line<T> {
         trail
     }
 
-    /// Puts the item before all others. It writes the item's node alone.
+    /// Puts the item in front of all others. It writes only the item's node.
     pub fn push_front(&mut self, parcel: Parcel<T>)
         ensures { self.new ≡ parcel ∷ self.old }
     {
@@ -72,7 +72,7 @@ impl<T: Drop> Line<T> {
         self.trail.put(trail.with_first(parcel.into_node()));
     }
 
-    /// Takes out the first item. It reads that item's node alone.
+    /// Takes out the first item; None if the line is empty. It reads only that item's node.
     pub fn pop_front(&mut self) -> Option<Parcel<T>>
         ensures { MatchOption result ((self.old ≡ []) × (self.new ≡ [])) (λ p. self.old ≡ p ∷ self.new) }
     {
@@ -82,7 +82,7 @@ impl<T: Drop> Line<T> {
         Some(Parcel { node })
     }
 
-    /// Takes out the first item that passes the test. It walks there from the front.
+    /// Takes out the first item that passes the test; None if none passes. It walks there from the front.
     pub fn remove_first<P: Predicate<T>>(&mut self, test: &P) -> Option<Parcel<T>>
         ensures item { result ≡ find (P.passes test.now) self.old }
         ensures others { self.new ≡ without_first (P.passes test.now) self.old }
@@ -103,21 +103,21 @@ impl<T> Line<T> {
         self.trail.is_empty()
     }
 
-    /// The first item.
+    /// The first item; None if the line is empty.
     pub fn front(&self) -> Option<&T>
         ensures { option_copied result ≡ slice_get self.now 0 }
     {
         self.trail.first()
     }
 
-    /// Goes over the items from the front.
+    /// An iterator over the items from the front.
     pub fn iter(&self) -> Iter<'_, T>
         ensures { result ≡ self.now }
     {
         Iter::along(&self.trail)
     }
 
-    /// The first item that passes the test.
+    /// The first item that passes the test; None if none passes.
     pub fn find<P: Predicate<T>>(&self, test: &P) -> Option<&T>
         ensures { option_copied result ≡ find (P.passes test.now) self.now }
     {
@@ -126,8 +126,8 @@ impl<T> Line<T> {
 }
 
 impl<T: Drop + Ranked> Line<T> {
-    /// Puts the item before the first one of greater rank, or behind all where there is none. It walks there from the
-    /// front.
+    /// Puts the item in front of the first one of greater rank, or behind all others if there is none. It walks there
+    /// from the front.
     pub fn insert_ordered(&mut self, parcel: Parcel<T>)
         ensures { self.new ≡ insert_ordered T.rank_of parcel self.old }
     {

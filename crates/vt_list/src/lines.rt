@@ -1,4 +1,4 @@
-//! Lists in a row.
+//! Lines in a row.
 
 ghost use Rattle.std.specs.Prelude.{◌≡◌, ◌≢◌, ◌↔◌, [], ◌∷◌, MatchOption, IfNone, IfSome, IsTrue};
 ghost use Rattle.std.specs.Option.{option_copied};
@@ -10,12 +10,13 @@ use crate::row::Row;
 use std::alloc::Global;
 use std::marker::Model;
 
-/// Lists that stand in a row, none of them empty, in one word. A clause sees the list of the lists.
+/// Lines in a row, none of them empty, in one word. Contracts see the list of the lines.
 ///
-/// The lists have no memory of their own, nor has the row: the first node of each list knows where the next list begins. So
-/// many lists, of which most are empty at most times, cost one word in all.
+/// Neither the row nor its lines have memory of their own: the first node of each line knows where the next line
+/// begins. So many lines, of which most are empty at most times, cost one word in all.
 ///
-/// No call takes memory. When it is dropped it drops each item once and frees each node, in a loop and not by recursion.
+/// No call takes memory. A row that is dropped drops each item once and frees each node, in a loop and not by
+/// recursion.
 pub struct Lines<T> {
     alloc: Global,
     row: Row<T>,
@@ -40,7 +41,7 @@ impl<T: Drop> Drop for Lines<T> {
 }
 
 impl<T: Drop> Lines<T> {
-    /// No list.
+    /// A row without lines.
     pub fn new(alloc: Global) -> Lines<T>
         ensures { result ≡ [] }
     {
@@ -50,7 +51,7 @@ impl<T: Drop> Lines<T> {
         }
     }
 
-    /// Puts the list before all others. It may not be empty. Of all nodes its first one alone is touched.
+    /// Puts the line, which may not be empty, in front of all others. It touches only the line's first node.
     pub fn push_line(&mut self, line: Line<T>)
         requires { line ≢ [] }
         ensures { self.new ≡ line ∷ self.old }
@@ -59,7 +60,7 @@ impl<T: Drop> Lines<T> {
         self.row.put(row.with_first(line.into_trail()));
     }
 
-    /// Takes out the first list, which isn't empty. Of all nodes its first one alone is touched.
+    /// Takes out the first line, which isn't empty; None if there is no line. It touches only the line's first node.
     pub fn pop_line(&mut self) -> Option<Line<T>>
         ensures lines { MatchOption result ((self.old ≡ []) × (self.new ≡ [])) (λ line. self.old ≡ line ∷ self.new) }
         ensures filled { IfSome result (λ line. line ≢ []) }
@@ -75,14 +76,14 @@ impl<T: Drop> Lines<T> {
 }
 
 impl<T> Lines<T> {
-    /// Whether there is no list.
+    /// Whether there is no line.
     pub fn is_empty(&self) -> bool
         ensures { IsTrue result ↔ (self.now ≡ []) }
     {
         self.row.is_empty()
     }
 
-    /// The first item of the first list. There is none only where there is no list.
+    /// The first item of the first line; None only if there is no line.
     pub fn front(&self) -> Option<&T>
         ensures item { option_copied result ≡ first_item self.now }
         ensures none { IfNone result (self.now ≡ []) }
@@ -90,7 +91,7 @@ impl<T> Lines<T> {
         self.row.first()
     }
 
-    /// Goes over the lists, each as an iterator over its items.
+    /// An iterator over the lines, which gives each as an iterator over its items.
     pub fn iter(&self) -> IterLines<'_, T>
         ensures { result ≡ self.now }
     {

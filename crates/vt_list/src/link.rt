@@ -1,4 +1,4 @@
-//! Where something lies, or that there is nothing.
+//! Pointers that may be null.
 
 ghost use Rattle.std.specs.Prelude.{◌≡◌, ◌↔◌, None, Some, IsTrue};
 ghost use Rattle.vt_list.specs.Place.{IsSomewhere};
@@ -6,9 +6,9 @@ ghost use Rattle.vt_list.specs.Place.{IsSomewhere};
 use std::marker::Model;
 use std::ptr::{NonNull, null_mut};
 
-/// Where something lies, or that there is nothing: a pointer that may be null. A clause sees an `Option` of the place.
+/// A pointer that may be null: where a block lies, or nothing. A clause sees an `Option` of the address.
 ///
-/// What lies there it doesn't say: who follows a link owns the block, and knows.
+/// A link doesn't say what type lies there. The code that follows a link owns the block, and knows its type.
 #[derive(Clone, Copy)]
 pub(crate) struct Link {
     at: *mut u8,
@@ -42,7 +42,7 @@ impl Link {
         Link { at: null_mut() }
     }
 
-    /// What lies at `at`.
+    /// A link to what lies at `at`.
     pub(crate) fn to<N>(at: *mut N) -> Link
         requires { IsSomewhere at }
         ensures { result ≡ Some at }
@@ -60,7 +60,7 @@ impl Link {
         NonNull::new(self.at).is_none()
     }
 
-    /// Where it lies, if there is something.
+    /// The address; None if the link is null.
     pub(crate) fn place<N>(self) -> Option<*mut N>
         ensures { result ≡ self }
     {

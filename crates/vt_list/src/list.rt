@@ -14,14 +14,14 @@ use std::alloc::Global;
 use std::marker::Model;
 use vt_key::{Rank, Ranked};
 
-/// A list of items, each in a node of its own. A clause sees the list of the items.
+/// A list of items, each in a node of its own. Contracts see the list of the items.
 ///
-/// No call of a list takes memory: what it takes in are parcels, whose nodes are there already. A list that is dropped
-/// drops each item once and frees each node, in a loop and not by recursion.
+/// No call of a list takes memory: it takes in parcels, which bring their nodes. A list that is dropped drops each
+/// item once and frees each node, in a loop and not by recursion.
 pub struct List<T> {
     pub(crate) alloc: Global,
     pub(crate) chain: Chain<T>,
-    // How many items there are, modulo 2^64.
+    // The number of items, modulo 2^64.
     pub(crate) count: usize,
 }
 
@@ -61,7 +61,7 @@ impl<T: Drop> List<T> {
         }
     }
 
-    /// Puts the item before all others.
+    /// Puts the item in front of all others.
     pub fn push_front(&mut self, parcel: Parcel<T>)
         ensures { self.new ≡ parcel ∷ self.old }
     {
@@ -79,7 +79,7 @@ impl<T: Drop> List<T> {
         self.count = self.count.wrapping_add(1);
     }
 
-    /// Takes out the first item.
+    /// Takes out the first item; None if the list is empty.
     pub fn pop_front(&mut self) -> Option<Parcel<T>>
         ensures { MatchOption result ((self.old ≡ []) × (self.new ≡ [])) (λ p. self.old ≡ p ∷ self.new) }
     {
@@ -90,7 +90,7 @@ impl<T: Drop> List<T> {
         Some(Parcel { node })
     }
 
-    /// Takes out the last item.
+    /// Takes out the last item; None if the list is empty.
     pub fn pop_back(&mut self) -> Option<Parcel<T>>
         ensures { MatchOption result ((self.old ≡ []) × (self.new ≡ [])) (λ p. self.old ≡ self.new ++ p ∷ []) }
     {
@@ -101,7 +101,7 @@ impl<T: Drop> List<T> {
         Some(Parcel { node })
     }
 
-    /// Puts the items of `other` behind all others, in their order. `other` is empty then.
+    /// Moves the items of `other` behind all others, in their order. `other` is empty afterwards.
     pub fn append(&mut self, other: &mut List<T>)
         ensures { (self.new ≡ self.old ++ other.old) × (other.new ≡ []) }
     {
@@ -111,7 +111,7 @@ impl<T: Drop> List<T> {
         other.count = 0;
     }
 
-    /// Takes out the item at this index, counted from 0. It walks there from the front.
+    /// Takes out the item at this index, counted from 0; None if there is none. It walks there from the front.
     pub fn remove(&mut self, index: usize) -> Option<Parcel<T>>
         ensures item { result ≡ slice_get self.old index }
         ensures others { self.new ≡ remove self.old index }
@@ -124,7 +124,7 @@ impl<T: Drop> List<T> {
         Some(Parcel { node })
     }
 
-    /// Takes out the first item that passes the test. It walks there from the front.
+    /// Takes out the first item that passes the test; None if none passes. It walks there from the front.
     pub fn remove_first<P: Predicate<T>>(&mut self, test: &P) -> Option<Parcel<T>>
         ensures item { result ≡ find (P.passes test.now) self.old }
         ensures others { self.new ≡ without_first (P.passes test.now) self.old }
@@ -139,10 +139,10 @@ impl<T: Drop> List<T> {
 }
 
 impl<T> List<T> {
-    /// How many items there are, modulo 2^64. It reads a counter.
+    /// The number of items, modulo 2^64. It reads a counter.
     ///
-    /// No call asks that a list be short, so the counter wraps round: where 2^64 items are more than memory holds, this
-    /// is their number.
+    /// No call requires a short list, so the counter wraps round. It is the number itself as long as memory can't
+    /// hold 2^64 items.
     pub fn len(&self) -> usize
         ensures { result ≡ length self.now % 2 ^ 64 }
     {
@@ -154,56 +154,56 @@ impl<T> List<T> {
         self.alloc
     }
 
-    /// Whether there is no item. It looks for a first node and reads no counter.
+    /// Whether there is no item. It looks for a first node, not at the counter.
     pub fn is_empty(&self) -> bool
         ensures { IsTrue result ↔ (self.now ≡ []) }
     {
         self.chain.is_empty()
     }
 
-    /// Goes over the items from the front.
+    /// An iterator over the items from the front.
     pub fn iter(&self) -> Iter<'_, T>
         ensures { result ≡ self.now }
     {
         Iter::over(&self.chain)
     }
 
-    /// Goes over the items from the back.
+    /// An iterator over the items from the back.
     pub fn iter_back(&self) -> IterBack<'_, T>
         ensures { result ≡ reverse self.now }
     {
         IterBack::over(&self.chain)
     }
 
-    /// The first item.
+    /// The first item; None if the list is empty.
     pub fn front(&self) -> Option<&T>
         ensures { option_copied result ≡ slice_get self.now 0 }
     {
         self.iter().next()
     }
 
-    /// The last item.
+    /// The last item; None if the list is empty.
     pub fn back(&self) -> Option<&T>
         ensures { option_copied result ≡ slice_get self.now (length self.now - 1) }
     {
         self.chain.last()
     }
 
-    /// The item at this index, counted from 0. It walks there from the front.
+    /// The item at this index, counted from 0; None if there is none. It walks there from the front.
     pub fn get(&self, index: usize) -> Option<&T>
         ensures { option_copied result ≡ slice_get self.now index }
     {
         self.iter().nth(index)
     }
 
-    /// The first item that passes the test.
+    /// The first item that passes the test; None if none passes.
     pub fn find<P: Predicate<T>>(&self, test: &P) -> Option<&T>
         ensures { option_copied result ≡ find (P.passes test.now) self.now }
     {
         self.iter().first_passing(test)
     }
 
-    /// The last item that passes the test. It walks there from the back.
+    /// The last item that passes the test; None if none passes. It walks there from the back.
     pub fn find_back<P: Predicate<T>>(&self, test: &P) -> Option<&T>
         ensures { option_copied result ≡ find (P.passes test.now) (reverse self.now) }
     {
@@ -217,8 +217,8 @@ impl<T> List<T> {
 }
 
 impl<T: Drop + Ranked> List<T> {
-    /// Puts the item before the first one of greater rank, or behind all where there is none. It walks there from the
-    /// front.
+    /// Puts the item in front of the first one of greater rank, or behind all others if there is none. It walks there
+    /// from the front.
     pub fn insert_ordered(&mut self, parcel: Parcel<T>)
         ensures { self.new ≡ insert_ordered T.rank_of parcel self.old }
     {
@@ -230,7 +230,7 @@ impl<T: Drop + Ranked> List<T> {
     }
 }
 
-// Passes what has a greater rank.
+// Lets items of greater rank pass.
 #[derive(Drop)]
 pub(crate) struct RankedAfter(pub(crate) Rank);
 

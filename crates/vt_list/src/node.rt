@@ -1,4 +1,4 @@
-//! What lies in one block of a list, and how its links are written.
+//! The content of one block of a list, and the writes of its links.
 
 ghost use Rattle.std.specs.Prelude.{◌≡◌, [], ◌∷◌, map, None, Some};
 ghost use Rattle.vt_list.specs.Blocks.{places};
@@ -7,7 +7,7 @@ ghost use Rattle.vt_list.specs.Linked.{first_or, last_or, with_next, with_prev};
 use crate::blocks::Blocks;
 use crate::link::Link;
 
-/// An item of a list, and where its neighbours lie.
+/// An item of a list, with the links to its neighbours.
 #[derive(Drop)]
 pub(crate) struct Node<T> {
     pub(crate) next: Link,
@@ -15,7 +15,7 @@ pub(crate) struct Node<T> {
     pub(crate) item: T,
 }
 
-/// The one node, which lies at `at`, where it leads on to `next`.
+/// The one node, which lies at `at`, with its forward link set to `next`.
 pub(crate) fn set_next<T>(node: Blocks<Node<T>>, at: *mut Node<T>, next: Link) -> Blocks<Node<T>>
     requires { places node.owned ≡ at ∷ [] }
     ensures { result.owned ≡ map (λ b. (b.0, record b.1 { next = next })) node.owned }
@@ -26,7 +26,7 @@ pub(crate) fn set_next<T>(node: Blocks<Node<T>>, at: *mut Node<T>, next: Link) -
     node
 }
 
-/// The one node, which lies at `at`, where it leads back to `prev`.
+/// The one node, which lies at `at`, with its back link set to `prev`.
 pub(crate) fn set_prev<T>(node: Blocks<Node<T>>, at: *mut Node<T>, prev: Link) -> Blocks<Node<T>>
     requires { places node.owned ≡ at ∷ [] }
     ensures { result.owned ≡ map (λ b. (b.0, record b.1 { prev = prev })) node.owned }
@@ -37,7 +37,7 @@ pub(crate) fn set_prev<T>(node: Blocks<Node<T>>, at: *mut Node<T>, prev: Link) -
     node
 }
 
-/// The same nodes, where the last one, which lies at `last`, leads on to `next`.
+/// The same nodes, with the forward link of the last one, which lies at `last`, set to `next`.
 pub(crate) fn set_last_next<T>(
     nodes: Blocks<Node<T>>,
     last: *mut Node<T>,
@@ -50,7 +50,7 @@ pub(crate) fn set_last_next<T>(
     front.append(set_next(end, last, next))
 }
 
-/// The same nodes, where the first one, which lies at `first`, leads back to `prev`.
+/// The same nodes, with the back link of the first one, which lies at `first`, set to `prev`.
 pub(crate) fn set_first_prev<T>(
     nodes: Blocks<Node<T>>,
     first: *mut Node<T>,

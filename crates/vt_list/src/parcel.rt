@@ -8,7 +8,7 @@ use std::alloc::Global;
 use std::marker::Model;
 use std::mem::replace;
 
-/// An item in a node of its own, which is in no list and no stack. A clause sees the item.
+/// An item in a node of its own, which is in no list and no stack. Contracts see the item.
 ///
 /// Putting a parcel into a list or a stack and taking it out moves its node, and takes no memory.
 pub struct Parcel<T> {
@@ -29,9 +29,9 @@ impl<T: Drop> Drop for Parcel<T> {
 }
 
 impl<T> Parcel<T> {
-    /// A parcel with this item. Of all calls of this crate this one alone takes memory.
+    /// A parcel with this item. No other call of this crate takes memory.
     ///
-    /// Where memory is refused, the item is handed back.
+    /// An error means that memory was refused; it hands the item back.
     pub fn new(alloc: Global, item: T) -> Result<Parcel<T>, T>
         ensures made { IfOk result (λ p. p ≡ item) }
         ensures item_returned { IfErr result (λ x. x ≡ item) }
@@ -47,7 +47,7 @@ impl<T> Parcel<T> {
         }
     }
 
-    /// The item. The node is freed.
+    /// Takes the item out, and frees the node.
     pub fn into_value(self) -> T
         ensures { result ≡ self }
     {
@@ -70,7 +70,7 @@ impl<T> Parcel<T> {
         &self.node.item
     }
 
-    /// Puts this item in the other's place, and hands back the other. The node stays.
+    /// Replaces the item, and returns the old one. The node stays.
     pub fn replace(&mut self, item: T) -> T
         ensures { (self.new ≡ item) × (result ≡ self.old) }
     {
@@ -80,7 +80,7 @@ impl<T> Parcel<T> {
     ghost use Rattle.vt_list.specs.contracts.parcel.Parcel.{the_row};
     ghost use Rattle.std.specs.Borrow.{Lends, sem};
 
-    /// The item, to be written: what is written stays in the parcel.
+    /// The item, to be changed in place.
     pub fn get_mut(&mut self) -> &mut T
         ensures* writes_back { sem 𝓛 (Lends (the_row T.row) T.row self.entry result (λ w. w)) }
         ensures value { result.now ≡ self.old }

@@ -1,4 +1,4 @@
-//! A place in a trail.
+//! A position in a trail.
 
 ghost use Rattle.std.specs.Prelude.{◌≡◌, [], ◌∷◌, ◌++◌, take, MatchOption};
 ghost use Rattle.vt_list.specs.First.{before_first, from_first, first_fails};
@@ -11,9 +11,9 @@ use crate::predicate::Predicate;
 use crate::trail::Trail;
 use std::marker::Model;
 
-/// A trail with a place in it. A clause sees the items that were passed, and those ahead.
+/// A trail with a position in it. A clause sees the items that were passed, and those ahead.
 ///
-/// The nodes stay linked as they were. To go on is to read one link.
+/// The nodes stay linked as they were. Going on reads one link.
 pub(crate) struct Path<T> {
     head: Link,
     last: Link,
@@ -34,7 +34,7 @@ impl<T> Model for Path<T> {
 }
 
 impl<T> Path<T> {
-    /// Before the first node.
+    /// The position in front of the first node.
     fn at_front(trail: Trail<T>) -> Path<T>
         ensures { result ≡ ([], trail) }
     {
@@ -48,7 +48,7 @@ impl<T> Path<T> {
         }
     }
 
-    /// The next item.
+    /// The next item; None at the end.
     fn peek(&self) -> Option<&T>
         ensures { MatchOption result (self.now.1 ≡ []) (λ x. take 1 self.now.1 ≡ x.now ∷ []) }
     {
@@ -58,7 +58,7 @@ impl<T> Path<T> {
         Some(&self.ahead.get(next).item)
     }
 
-    /// One node further, if there is one.
+    /// One node further; unchanged at the end.
     fn advance(self) -> Path<T>
         ensures { result ≡ advanced self }
     {
@@ -99,7 +99,7 @@ impl<T> Path<T> {
         }
     }
 
-    /// The nodes that were passed, and those ahead. No node is written.
+    /// The nodes that were passed, and those ahead. It writes no node.
     fn part(self) -> (Beginning<T>, Trail<T>)
         ensures { (result.0 ≡ self.0) × (result.1 ≡ self.1) }
     {
@@ -124,7 +124,7 @@ impl<T> Path<T> {
     }
 }
 
-/// The first nodes of a trail, of which the last one leads on to another node still. A clause sees the list of their
+/// The first nodes of a trail; the last of them still leads on to the node behind it. A clause sees the list of their
 /// items.
 pub(crate) struct Beginning<T> {
     head: Link,
@@ -145,7 +145,7 @@ impl<T> Model for Beginning<T> {
 }
 
 impl<T> Beginning<T> {
-    /// These nodes and the others behind them. The last of these nodes alone is written.
+    /// These nodes, with `rest` behind them. It writes only the last of these nodes.
     pub(crate) fn join(self, rest: Trail<T>) -> Trail<T>
         ensures { result ≡ self ++ rest }
     {

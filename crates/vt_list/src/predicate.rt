@@ -4,7 +4,7 @@ ghost use Rattle.std.specs.Prelude.{◌≡◌, Bool};
 
 /// A test of items, such as whether a letter has a certain stamp.
 pub trait Predicate<T> {
-    /// Whether an item passes.
+    /// Whether this item passes: what contracts see of the test.
     ghost passes: { Self → T → Bool };
 
     /// Whether the item passes.

@@ -1,4 +1,4 @@
-//! Trails that stand in a row.
+//! Trails in a row.
 
 ghost use Rattle.std.specs.Prelude.{◌≡◌, ◌≢◌, ◌↔◌, [], ◌∷◌, MatchOption, IfNone, IfSome, IsTrue};
 ghost use Rattle.std.specs.Option.{option_copied};
@@ -11,10 +11,11 @@ use crate::trail::Trail;
 use std::marker::Model;
 use std::mem::replace;
 
-/// Trails that stand in a row, none of them empty, with where the first node of the first one lies. A clause sees the list
-/// of the lists of their items.
+/// Trails in a row, none of them empty, with where the first node of the first one lies. A clause sees the list of
+/// the lists of their items.
 ///
-/// A trail has no use for the links back of its nodes. So that of its first node leads to the first node of the next trail.
+/// A trail doesn't use the back links of its nodes. So the back link of its first node leads to the first node of the
+/// next trail.
 ///
 /// It is not `Drop`, so code that loses a node is refused.
 pub(crate) struct Row<T> {
@@ -45,7 +46,7 @@ impl<T> Row<T> {
         }
     }
 
-    /// Lets go of no trail.
+    /// Ends a row without trails.
     pub(crate) fn end(self)
         requires { self ≡ [] }
     {
@@ -75,7 +76,7 @@ impl<T> Row<T> {
         replace(self, row).end();
     }
 
-    /// The first item of the first trail.
+    /// The first item of the first trail; None only if there is no trail.
     pub(crate) fn first(&self) -> Option<&T>
         ensures item { option_copied result ≡ first_item self.now }
         ensures some { IfNone result (self.now ≡ []) }
@@ -86,7 +87,7 @@ impl<T> Row<T> {
         Some(&self.nodes.get(head).item)
     }
 
-    /// The first trail, and the others. Its first node is read, and no node is written.
+    /// The first trail, and the others. It reads the trail's first node, and writes none.
     pub(crate) fn split_first(self) -> (Option<Trail<T>>, Row<T>)
         ensures parts { MatchOption result.0 ((self ≡ []) × (result.1 ≡ [])) (λ trail. self ≡ trail ∷ result.1) }
         ensures filled { IfSome result.0 (λ trail. trail ≢ []) }
@@ -105,7 +106,7 @@ impl<T> Row<T> {
         (Some(first), rest)
     }
 
-    /// The trail, and the others behind it. Its first node alone is written.
+    /// The trail, with the others behind it. It writes only the trail's first node.
     pub(crate) fn with_first(self, trail: Trail<T>) -> Row<T>
         requires { trail ≢ [] }
         ensures { result ≡ trail ∷ self }

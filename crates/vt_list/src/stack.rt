@@ -8,16 +8,16 @@ use crate::trail::Trail;
 use std::alloc::Global;
 use std::marker::Model;
 
-/// A stack of items, each in a node of its own. A clause sees the list of the items, the top first.
+/// A stack of items, each in a node of its own. Contracts see the list of the items, the top first.
 ///
-/// Its parcels are those of a list. But only the top node is ever read or written: what a list would change in the node
-/// under it, a stack has no use for. So to take from a stack touches no memory but what is taken.
+/// It holds the same parcels as a list. A call reads and writes only the top node: nodes are linked one way, so the
+/// node below it needs no change. So taking from a stack touches only the memory that is taken.
 ///
-/// No call of a stack takes memory. A stack that is dropped drops each item once and frees each node, in a loop and not
-/// by recursion.
+/// No call takes memory. A stack that is dropped drops each item once and frees each node, in a loop and not by
+/// recursion.
 pub struct Stack<T> {
     alloc: Global,
-    // How many items there are, modulo 2^64.
+    // The number of items, modulo 2^64.
     count: usize,
     trail: Trail<T>,
 }
@@ -58,7 +58,7 @@ impl<T: Drop> Stack<T> {
         }
     }
 
-    /// Puts the item on top of all others. It writes the item's node alone.
+    /// Puts the item on top of all others. It writes only the item's node.
     pub fn push(&mut self, parcel: Parcel<T>)
         ensures { self.new ≡ parcel ∷ self.old }
     {
@@ -67,7 +67,7 @@ impl<T: Drop> Stack<T> {
         self.count = self.count.wrapping_add(1);
     }
 
-    /// Takes out the item on top. It reads that item's node alone.
+    /// Takes out the item on top; None if the stack is empty. It reads only that item's node.
     pub fn pop(&mut self) -> Option<Parcel<T>>
         ensures { MatchOption result ((self.old ≡ []) × (self.new ≡ [])) (λ p. self.old ≡ p ∷ self.new) }
     {
@@ -80,16 +80,14 @@ impl<T: Drop> Stack<T> {
 }
 
 impl<T> Stack<T> {
-    /// How many items there are, modulo 2^64. It reads a counter.
-    ///
-    /// The counter wraps round, as that of a list does.
+    /// The number of items, modulo 2^64. It reads a counter, which wraps round like that of a list.
     pub fn len(&self) -> usize
         ensures { result ≡ length self.now % 2 ^ 64 }
     {
         self.count
     }
 
-    /// The item on top.
+    /// The item on top; None if the stack is empty.
     pub fn top(&self) -> Option<&T>
         ensures { option_copied result ≡ slice_get self.now 0 }
     {

@@ -10,8 +10,8 @@ use std::alloc::Global;
 use std::marker::Model;
 use std::mem::replace;
 
-/// Nodes of which each leads on to the next one, with where the first lies. A clause sees the list of their items. What
-/// their links back say means nothing.
+/// Nodes that lead on from one to the next, with where the first lies. A clause sees the list of their items. Their
+/// back links are unused.
 ///
 /// It is not `Drop`, so code that loses a node is refused.
 pub(crate) struct Trail<T> {
@@ -41,7 +41,7 @@ impl<T> Trail<T> {
         }
     }
 
-    /// Lets go of no node.
+    /// Ends a trail without nodes.
     pub(crate) fn end(self)
         requires { self ≡ [] }
     {
@@ -63,7 +63,7 @@ impl<T> Trail<T> {
         replace(self, Trail::new())
     }
 
-    /// Puts nodes in where there are none.
+    /// Puts nodes into a trail without nodes.
     pub(crate) fn put(&mut self, trail: Trail<T>)
         requires { self.old ≡ [] }
         ensures { self.new ≡ trail }
@@ -71,7 +71,7 @@ impl<T> Trail<T> {
         replace(self, trail).end();
     }
 
-    /// The first item.
+    /// The first item; None if there is no node.
     pub(crate) fn first(&self) -> Option<&T>
         ensures { option_copied result ≡ slice_get self.now 0 }
     {
@@ -81,7 +81,7 @@ impl<T> Trail<T> {
         Some(&self.nodes.get(head).item)
     }
 
-    /// The first node, and the others. Of these none is read or written.
+    /// The first node, and the others. It reads and writes none of the others.
     pub(crate) fn split_first(self, alloc: Global) -> (Option<Box<Node<T>>>, Trail<T>)
         ensures { MatchOption result.0 ((self ≡ []) × (result.1 ≡ [])) (λ n. self ≡ n.value.item ∷ result.1) }
     {
@@ -100,7 +100,7 @@ impl<T> Trail<T> {
 }
 
 impl<T: Drop> Trail<T> {
-    /// The node, and the others behind it. Of these none is read or written.
+    /// The node, with the others behind it. It reads and writes none of the others.
     pub(crate) fn with_first(self, mut node: Box<Node<T>>) -> Trail<T>
         ensures { result ≡ node.value.item ∷ self }
     {
