@@ -1,4 +1,4 @@
-//! Letters in a row of lists, by their times modulo 64.
+//! Lists of letters in a row: the 64 buckets by time.
 
 ghost use Rattle.std.specs.Prelude.{◌≡◌, ◌≢◌, ℕ, ◌<◌, ◌↔◌, [], None, find, slice_get, IsBitSet};
 ghost use Rattle.std.specs.Option.{option_copied};
@@ -10,7 +10,7 @@ use std::alloc::Global;
 use vt_key::{Letter, Rank};
 use vt_list::{IterLines, Line, Lines, Parcel, Predicate};
 
-/// The number of the list where letters of this rank are.
+/// The number of the list that holds letters of this rank: their time modulo 64.
 pub(crate) fn bucket(rank: Rank) -> u32
     ensures value { result ≡ bucket_of rank }
     ensures within { result < 64 }
@@ -28,7 +28,7 @@ pub(crate) fn has_rank<P: Copy>(letter: Option<&Letter<P>>, rank: Rank) -> bool
     }
 }
 
-/// Whether there is a letter, and it belongs into this list.
+/// Whether there is a letter, and it belongs in list `number`.
 fn is_in<P: Copy>(letter: Option<&Letter<P>>, number: u32) -> bool
     ensures { result ≡ some_in_bucket number (option_copied letter.entry) }
 {
@@ -48,7 +48,7 @@ fn is_before<P: Copy>(letter: Option<&Letter<P>>, other: Option<&Letter<P>>) -> 
     }
 }
 
-/// Takes a list out of the row: an empty one, where it isn't there.
+/// Takes list `number` out of the row. If it isn't there, the result is empty.
 pub(crate) fn take_list<P: Copy>(
     lists: &mut Lines<Letter<P>>,
     number: u32,
@@ -68,7 +68,7 @@ pub(crate) fn take_list<P: Copy>(
     found
 }
 
-/// Puts a list into the row, behind those whose first letters are before its first one.
+/// Puts a list, which isn't empty, into the row: behind the lists whose first letters are before its first one.
 pub(crate) fn put_list<P: Copy>(lists: &mut Lines<Letter<P>>, list: Line<Letter<P>>)
     requires { list ≢ [] }
     ensures { lists.new ≡ put_list list lists.old }
@@ -83,7 +83,8 @@ pub(crate) fn put_list<P: Copy>(lists: &mut Lines<Letter<P>>, list: Line<Letter<
     }
 }
 
-/// Takes a list out of the row: an empty one, where the mask says that it isn't there.
+/// Takes list `number` out of the row. If the mask says that it isn't there, the result is empty, and no list is
+/// read.
 pub(crate) fn take_marked<P: Copy>(
     mask: Mask,
     lists: &mut Lines<Letter<P>>,
@@ -101,7 +102,7 @@ pub(crate) fn take_marked<P: Copy>(
     take_list(lists, number, alloc)
 }
 
-/// Puts a letter into its list, and that list behind those whose first letters are before its first one.
+/// Puts a letter into its list, `number`, and that list behind those whose first letters are before its first one.
 pub(crate) fn insert_in<P: Copy>(
     mask: Mask,
     lists: &mut Lines<Letter<P>>,
@@ -132,7 +133,7 @@ pub(crate) fn insert_in<P: Copy>(
     lists.push_line(list);
 }
 
-/// Puts back what is left of a list, and answers the mask then.
+/// Puts back what is left of list `number`, and returns the mask afterwards.
 pub(crate) fn put_back<P: Copy>(
     mask: Mask,
     lists: &mut Lines<Letter<P>>,
@@ -152,7 +153,7 @@ pub(crate) fn put_back<P: Copy>(
     mask
 }
 
-/// The first letter of a list that passes the test.
+/// The first letter of list `number` that passes the test; None if none passes.
 pub(crate) fn find_in<'a, P: Copy, T: Predicate<Letter<P>>>(
     lists: IterLines<'a, Letter<P>>,
     number: u32,
@@ -168,8 +169,8 @@ pub(crate) fn find_in<'a, P: Copy, T: Predicate<Letter<P>>>(
     None
 }
 
-/// The letter of least rank among those that pass the test, in lists that stand in the order of their first letters. No
-/// list is looked at from the first one on that begins behind what is found.
+/// The letter of least rank among those that pass the test, in lists that stand in the order of their first letters.
+/// The search ends at the first list that begins behind the letter found so far.
 pub(crate) fn find_least<'a, P: Copy, T: Predicate<Letter<P>>>(
     lists: IterLines<'a, Letter<P>>,
     test: &T,
@@ -186,7 +187,7 @@ pub(crate) fn find_least<'a, P: Copy, T: Predicate<Letter<P>>>(
     found
 }
 
-/// The letter of lesser rank, of those that are there.
+/// The letter of lesser rank; if only one is there, that one.
 fn earlier<'a, P: Copy>(
     letter: Option<&'a Letter<P>>,
     other: Option<&'a Letter<P>>,

@@ -2,21 +2,21 @@
 
 ghost use Rattle.std.specs.Prelude.{◌≡◌, ◌<◌, ◌^◌, ◌↔◌, bit_or, bit_xor, IsBitSet, IsTrue};
 
-/// Some of 64 lists, as one word: bit b says that list b is one of them.
+/// A set of some of the 64 lists, as one word: bit b is set if list b is in it.
 #[derive(Clone, Copy)]
 pub(crate) struct Mask {
     pub(crate) bits: u64,
 }
 
 impl Mask {
-    /// None of the lists.
+    /// The empty set.
     pub(crate) fn new() -> Mask
         ensures { result.bits ≡ 0 }
     {
         Mask { bits: 0 }
     }
 
-    /// Whether list `b` is one of them.
+    /// Whether list `b` is in the set.
     pub(crate) fn has(&self, b: u32) -> bool
         requires { b < 64 }
         ensures { IsTrue result ↔ IsBitSet self.now.bits b }
@@ -24,7 +24,7 @@ impl Mask {
         self.bits & (1 << b) != 0
     }
 
-    /// These lists and list `b`.
+    /// The set with list `b`.
     pub(crate) fn with(self, b: u32) -> Mask
         requires { b < 64 }
         ensures { result.bits ≡ bit_or self.bits (2 ^ b) }
@@ -34,7 +34,7 @@ impl Mask {
         }
     }
 
-    /// These lists without list `b`, which is one of them.
+    /// The set without list `b`, which must be in it.
     pub(crate) fn without(self, b: u32) -> Mask
         requires { b < 64 }
         ensures { result.bits ≡ bit_xor self.bits (2 ^ b) }

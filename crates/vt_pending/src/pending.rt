@@ -13,10 +13,10 @@ use std::marker::Model;
 use vt_key::{Letter, Rank, Stamp};
 use vt_list::{Lines, Parcel, Predicate};
 
-/// Letters in strictly rising rank. A clause sees the list of them.
+/// A queue of letters in strictly rising rank. Contracts see the list of them.
 ///
-/// They lie in 64 lists, by their times modulo 64, each in rising rank. The lists that aren't empty stand in a row, in the
-/// order of their first letters, so that the least letter of all is the first one of the first list.
+/// The letters lie in 64 lists, by their times modulo 64, each in rising rank. The lists that aren't empty stand in a
+/// row, in the order of their first letters. So the least letter of all is the first one of the first list.
 ///
 /// No call takes memory.
 #[derive(Drop)]
@@ -25,7 +25,7 @@ pub struct Pending<P: Copy> {
     // Which lists aren't empty.
     mask: Mask,
     lists: Lines<Letter<P>>,
-    // How many letters there are, modulo 2^64.
+    // The number of letters, modulo 2^64.
     count: usize,
 }
 
@@ -54,7 +54,7 @@ impl<P: Copy> Pending<P> {
         }
     }
 
-    /// How many letters there are, modulo 2^64: where 2^64 letters are more than memory holds, this is their number.
+    /// The number of letters, modulo 2^64. It is the number itself as long as memory can't hold 2^64 letters.
     pub fn len(&self) -> usize
         ensures { result ≡ length self.now % 2 ^ 64 }
     {
@@ -68,23 +68,23 @@ impl<P: Copy> Pending<P> {
         self.lists.is_empty()
     }
 
-    /// The times modulo 64 at which letters are there: bit b is set where some letter has time b modulo 64.
+    /// The times modulo 64 of the letters, as a set: bit b is set if some letter has time b modulo 64.
     pub fn mask(&self) -> u64
         ensures { (b : ℕ) → b < 64 → IsBitSet result b ↔ IsTrue (list_any (in_bucket b) self.now) }
     {
         self.mask.bits
     }
 
-    /// Whether a letter of this rank is there. It can only be in the list of its time. Letters stand there in rising rank, so
-    /// of those from the front the first that isn't before the rank has it, or none has.
+    /// Whether a letter of this rank is there. Only the list of its time is searched, and the search ends at the
+    /// first letter that isn't before the rank, since ranks rise there.
     pub fn holds(&self, rank: Rank) -> bool
         ensures { result ≡ holds_rank rank self.now }
     {
         self.is_held(rank)
     }
 
-    /// Puts a letter in its place: before the first one of greater rank, or last. No letter of its rank may be there,
-    /// which [`Pending::holds`] tells.
+    /// Puts a letter in front of the first one of greater rank, or last if there is none. No letter of its rank may
+    /// be there, which [`Pending::holds`] tells.
     pub fn insert(&mut self, letter: Parcel<Letter<P>>)
         requires { holds_rank letter.event.rank self.old ≡ false }
         ensures letters { self.new ≡ insert_letter letter self.old }
@@ -96,10 +96,9 @@ impl<P: Copy> Pending<P> {
         self.count = self.count.wrapping_add(1);
     }
 
-    /// Puts a letter in its place, unless one of its rank is there: what [`Pending::holds`] tells and [`Pending::insert`]
-    /// does.
+    /// Puts a letter in as [`Pending::insert`] does, unless a letter of its rank is there.
     ///
-    /// An error says that one of its rank is there. The letter is handed back, and all is as it was.
+    /// An error means that one is there. It hands the letter back, and the queue is unchanged.
     pub fn insert_new(&mut self, letter: Parcel<Letter<P>>) -> Result<(), Parcel<Letter<P>>>
         ensures letters { IfOk result (λ _. self.new ≡ insert_letter letter self.old) }
         ensures new { IfOk result (λ _. holds_rank letter.event.rank self.old ≡ false) }
@@ -114,7 +113,7 @@ impl<P: Copy> Pending<P> {
         Ok(())
     }
 
-    /// The letter of least rank.
+    /// The letter of least rank; None if the queue is empty.
     pub fn least(&self) -> Option<&Letter<P>>
         ensures letter { option_copied result ≡ slice_get self.now 0 }
         ensures rising { IsRising self.now }
@@ -122,7 +121,7 @@ impl<P: Copy> Pending<P> {
         self.lists.front()
     }
 
-    /// Takes out the letter of least rank.
+    /// Takes out the letter of least rank; None if the queue is empty.
     pub fn take_least(&mut self) -> Option<Parcel<Letter<P>>>
         ensures letters { MatchOption result ((self.old ≡ []) × (self.new ≡ [])) (λ letter. self.old ≡ letter ∷ self.new) }
         ensures rising { IsRising self.new }
@@ -135,21 +134,22 @@ impl<P: Copy> Pending<P> {
         Some(letter)
     }
 
-    /// The letter of least rank among those that pass the test.
+    /// The letter of least rank among those that pass the test; None if none passes.
     pub fn find<T: Predicate<Letter<P>>>(&self, test: &T) -> Option<&Letter<P>>
         ensures { option_copied result ≡ find (T.passes test.now) self.now }
     {
         find_least(self.lists.iter(), test)
     }
 
-    /// The letter of least rank among those of this stamp.
+    /// The letter of least rank among those of this stamp; None if there is none.
     pub fn find_stamp(&self, stamp: Stamp) -> Option<&Letter<P>>
         ensures { option_copied result ≡ first_of_stamp stamp self.now }
     {
         self.find(&HasStamp(stamp))
     }
 
-    /// Takes out the letter of least rank among those of this stamp. Where there is none, the queue stays as it is.
+    /// Takes out the letter of least rank among those of this stamp. If there is none, the result is None, and the
+    /// queue is unchanged.
     pub fn take_stamp(&mut self, stamp: Stamp) -> Option<Parcel<Letter<P>>>
         ensures letter { result ≡ first_of_stamp stamp self.old }
         ensures others { self.new ≡ without_stamp stamp self.old }
@@ -167,7 +167,7 @@ impl<P: Copy> Pending<P> {
         Some(letter)
     }
 
-    // What `holds` tells, and that the ranks rise.
+    // What `holds` tells. The clause `rising` is for `insert_new`.
     fn is_held(&self, rank: Rank) -> bool
         ensures held { result ≡ holds_rank rank self.now }
         ensures rising { IsRising self.now }
@@ -181,7 +181,7 @@ impl<P: Copy> Pending<P> {
     }
 }
 
-// Passes a letter that isn't before this rank.
+// Lets a letter pass that isn't before this rank.
 #[derive(Drop)]
 struct NotBefore(Rank);
 
@@ -196,7 +196,7 @@ impl<P> Predicate<Letter<P>> for NotBefore {
     }
 }
 
-// Passes a letter of this stamp.
+// Lets a letter of this stamp pass.
 #[derive(Drop)]
 struct HasStamp(Stamp);
 
