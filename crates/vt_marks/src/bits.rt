@@ -27,7 +27,7 @@ pub(crate) fn first_one(word: u64, from: u32) -> Option<u32>
     Some(rest.trailing_zeros())
 }
 
-/// Sets or clears the bit of a place, and returns the word that holds it afterwards.
+/// Sets or clears bit `place`, and returns the word that holds it afterwards.
 pub(crate) fn write(words: &mut [u64], place: usize, value: bool) -> u64
     requires { place / 64 < length words.old }
     ensures word { words.new ≡ slice_set words.old (place / 64) result }
@@ -39,7 +39,7 @@ pub(crate) fn write(words: &mut [u64], place: usize, value: bool) -> u64
     word
 }
 
-/// The first place at or after `from` whose bit is set.
+/// The first set bit at or after `from`; None if there is none.
 pub(crate) fn first_set(words: &[u64], from: usize) -> Option<usize>
     requires { length words.now ≤ 2 ^ 58 }
     ensures set { IfSome result (λ place. (from ≤ place) × (is_set words.now place ≡ true)) }
@@ -56,7 +56,7 @@ pub(crate) fn first_set(words: &[u64], from: usize) -> Option<usize>
     None
 }
 
-/// The same, where `sums` says which words have a set bit: the other words aren't read.
+/// As [`first_set`], where `sums` tells which words have a set bit: the other words aren't read.
 pub(crate) fn first_of_sums(words: &[u64], sums: &[u64], from: usize) -> Option<usize>
     requires few { length words.now ≤ 2 ^ 58 }
     requires few_sums { length sums.now ≤ 2 ^ 58 }

@@ -1,4 +1,4 @@
-//! A set of marked places, which can be visited in rising order without a look at the unmarked ones.
+//! A set of marked indices, which can be visited in rising order without a look at the unmarked ones.
 #![tactic(auto)]
 
 mod bits;

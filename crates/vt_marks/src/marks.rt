@@ -6,11 +6,11 @@ use crate::bits::{first_of_sums, write};
 use std::alloc::{AllocError, Global};
 use std::marker::Model;
 
-/// Marks of places, which are numbered from 0. Contracts see a list with a flag for each place. Only [`Marks::new`] takes
-/// memory.
+/// Marks of the indices from 0 to below a fixed count. Contracts see a list with a flag for each index. Only
+/// [`Marks::new`] takes memory.
 ///
-/// A place is a bit. A second level has a bit for each word of 64 places, set if one of them is marked. So a visit of the
-/// marked places skips the others quickly.
+/// Each index has a bit. A second level has a bit for each word of 64 indices, which is set if one of them is marked.
+/// So a visit of the marked indices skips the others quickly.
 #[derive(Drop)]
 pub struct Marks {
     count: usize,
@@ -30,7 +30,7 @@ impl Model for Marks {
 }
 
 impl Marks {
-    /// `count` places, none of them marked. An error means that memory was refused.
+    /// Marks of `count` indices, none of them marked. An error means that memory was refused.
     pub fn new(alloc: Global, count: usize) -> Result<Marks, AllocError>
         ensures { IfOk result (λ marks. marks ≡ replicate count false) }
     {
@@ -39,7 +39,7 @@ impl Marks {
         Ok(Marks { count, words, sums })
     }
 
-    /// Marks a place, or takes its mark away. Does nothing if there is no such place.
+    /// Marks index `place`, or takes its mark away. Does nothing if `place` is `count` or more.
     pub fn set(&mut self, place: usize, value: bool)
         ensures { self.new ≡ slice_set self.old place value }
     {
@@ -50,7 +50,7 @@ impl Marks {
         write(&mut self.sums, place / 64, word != 0);
     }
 
-    /// The first marked place at or after `place`; None if there is none.
+    /// The first marked index at or after `place`; None if there is none.
     pub fn first_from(&self, place: usize) -> Option<usize>
         ensures marked { IfSome result (λ first. (place ≤ first) × (slice_get self.now first ≡ Some true)) }
         ensures first { IfSome result (λ first. (other : ℕ) → place ≤ other → other < first → slice_get self.now other ≡ Some true → ⊥) }
