@@ -12,8 +12,8 @@ const LATEST: Time = Time::MAX;
 /// The number of a node that has no winner. There are at most 2^31 contestants, so no contestant has it.
 const NOBODY: u32 = u32::MAX;
 
-/// A node: the number of its winner and the first part of the winner's rank, which mostly decides between two nodes. It is
-/// small, since each change reads and writes many. All nodes without a winner are equal.
+/// A node: the number of its winner and the first part of the winner's rank, which mostly decides between two nodes.
+/// It is small, since each change reads and writes many nodes. All nodes without a winner are equal.
 #[derive(Clone, Copy)]
 pub(crate) struct Node {
     pub(crate) time: Time,

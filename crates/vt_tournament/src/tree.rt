@@ -13,8 +13,8 @@ use std::marker::Model;
 use vt_key::{Fault, Rank};
 
 /// A tournament of contestants that are numbered from 0. It keeps the winner of each node and the first part of the
-/// winner's rank. The ranks belong to the contestants ([`Contestants`]), so a contract says of which entries this is a
-/// tournament (`IsTournamentOf`).
+/// winner's rank. The ranks belong to the contestants ([`Contestants`]). So a contract says for which entries this is
+/// a tournament (`IsTournamentOf`).
 #[derive(Drop)]
 pub struct Tournament {
     nodes: Vec<Node>,
@@ -45,8 +45,9 @@ impl Tournament {
         Ok(Tournament { nodes })
     }
 
-    /// Updates the tournament after a change of the entry of contestant `number`: it entered, left or has another rank.
-    /// Before, this must have been a tournament of the same entries but this one (`WasTournamentOf`).
+    /// Updates the tournament after a change of the entry of contestant `number`: it entered, left or has another
+    /// rank. Before the change, this must have been a tournament of the same entries except this one
+    /// (`WasTournamentOf`).
     pub fn set<C: Contestants>(&mut self, number: u32, contestants: &C)
         requires known { number < length (C.entries contestants.now) }
         requires was { WasTournamentOf number (C.entries contestants.now) self.old }
@@ -75,8 +76,8 @@ impl Tournament {
     }
 }
 
-/// How many inner nodes a tree of `count` contestants has. Node 0 is the root, and the children of node k are 2 k + 1 and 2
-/// k + 2.
+/// The number of inner nodes of a tree of `count` contestants. Node 0 is the root, and the children of node k are
+/// nodes 2 k + 1 and 2 k + 2.
 fn inner_places(count: usize) -> usize
     requires some { 1 ≤ count }
     ensures { result ≡ inner_places count }
@@ -84,7 +85,7 @@ fn inner_places(count: usize) -> usize
     count - 1
 }
 
-/// The nodes of a tree for `count` contestants, of whom nobody takes part.
+/// The nodes of a tree for `count` contestants, none of which takes part.
 fn nodes_of_nobody(alloc: Global, count: u32) -> Result<Vec<Node>, Fault>
     requires some { 1 ≤ count }
     requires few { count ≤ 2 ^ 31 }
@@ -121,8 +122,8 @@ fn best_below<C: Contestants>(nodes: &[Node], contestants: &C, at: usize, winner
     winner.winner(nodes[beside(at)], contestants)
 }
 
-/// Updates the nodes above a contestant whose entry alone was changed; `node` is its new leaf. The winner is carried up: if
-/// each level read what the level below has just written, it would wait for it.
+/// Updates the nodes above a contestant whose entry was changed; `node` is its new leaf. The winner is carried up in
+/// a variable. If each level read what the level below has just written, it would wait for that write.
 fn decide_above<C: Contestants>(contestants: &C, nodes: &mut [Node], number: u32, node: Node)
     requires known { number < length (C.entries contestants.now) }
     requires few { length (C.entries contestants.now) ≤ 2 ^ 31 }
