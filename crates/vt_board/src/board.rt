@@ -24,10 +24,10 @@ pub enum Report {
     Announced(Time),
 }
 
-/// The board of a run: which of the workers have cut in the open round and which have reported in its pass, the sums of their
-/// counts, their least value, and the announced time. Its calls take no memory.
+/// The board of a run: which workers have cut in the open round and which have reported in its pass, the sums of
+/// their counts, their least value, and the announced time. Its calls take no memory.
 ///
-/// Contracts see the definition's board, and the end of the run beside it.
+/// Contracts see the board of the definitions, with the end of the run.
 #[derive(Drop)]
 pub struct Board {
     end: Time,
@@ -88,8 +88,8 @@ impl Board {
         }
     }
 
-    /// The announced time, in ticks, at most the end of the run. If the workers report what they have and have sent,
-    /// nothing unprocessed or travelling is before it.
+    /// The announced time, in ticks, at most the end of the run. As long as workers report what they have and have
+    /// sent, nothing before it is unprocessed or travelling.
     pub fn announced(&self) -> Time
         ensures announced { result ≡ self.now.board.announced }
         ensures in_time { TimeAtMost result self.now.end }
@@ -98,10 +98,10 @@ impl Board {
     }
 
     #[tactic(auto, unfolding(vt_steps::specs::BoardSteps::with_open_round))]
-    /// Worker `w` cuts in the open round, or opens a new one if none is open. The answer is the announced time.
+    /// Worker `w` cuts in the open round; if none is open, it opens a new one. Returns the announced time.
     ///
-    /// [`Fault::NotLawful`]: `w` is no worker, or it has cut in the open round. [`Fault::Exhausted`]: one more round would be
-    /// more than 2^63. A refused cut changes nothing.
+    /// [`Fault::NotLawful`]: `w` is no worker, or it has cut in the open round. [`Fault::Exhausted`]: one more round
+    /// would be more than 2^63. A refused cut changes nothing.
     pub fn cut(&mut self, w: u32) -> Result<Time, Fault>
         ensures cut { OnOk result (cut_outcome self.old.end w self.old.board ≡ Ok self.new.board) }
         ensures announced { IfOk result (λ time. time ≡ self.old.board.announced) }
@@ -128,11 +128,12 @@ impl Board {
     }
 
     #[tactic(auto, unfolding(vt_steps::specs::BoardSteps::with_report, vt_steps::specs::BoardSteps::board_after_report, vt_steps::specs::BoardSteps::report_reply))]
-    /// Worker `w` reports how much mail of the old colour it has ever sent and got, and the least time, in ticks, of all
-    /// that it has and of all that it sent since its cut. The last report closes the pass.
+    /// Worker `w` reports how much mail of the old colour it has ever sent and got, and a least time, in ticks: that
+    /// of all that it has and of all that it sent since its cut. The last report closes the pass.
     ///
-    /// [`Fault::NotLawful`]: `w` is no worker, no round is open, somebody hasn't cut, `w` has reported in this pass, or the
-    /// value is below the announced time or above the end of the run. A refused report changes nothing.
+    /// [`Fault::NotLawful`]: `w` is no worker, no round is open, some worker hasn't cut, `w` has reported in this
+    /// pass, or the least time is below the announced time or above the end of the run. A refused report changes
+    /// nothing.
     pub fn report(&mut self, w: u32, sent: u64, got: u64, least: Time) -> Result<Report, Fault>
         ensures lawful { is_ok result ≡ takes_report self.old.end w least self.old.board }
         ensures reported { OnOk result (self.new ≡ with_board self.old (board_after_report self.old.end (with_report w sent got least self.old.board))) }
@@ -151,7 +152,7 @@ impl Board {
         Ok(self.close_pass())
     }
 
-    /// Whether a report of this value by worker `w` is lawful.
+    /// Whether a report of this least time by worker `w` is lawful.
     fn takes(&self, w: u32, least: Time) -> bool
         ensures { result ≡ takes_report self.now.end w least self.now.board }
     {
