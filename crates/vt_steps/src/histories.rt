@@ -1,6 +1,6 @@
-//! Theorems on copies, ranks and histories: the first half of why an optimistic run is right. "After any steps" means: for
-//! any simulation that meets the laws and any first serials, in the world that any list of the eleven steps, refused ones
-//! included, makes of the opening world.
+//! Theorems on copies, ranks and histories: the first half of why an optimistic run is right. "After any steps"
+//! means: for any simulation that meets the laws and any first serials, in the world that a list of the eleven steps
+//! makes of the opening world. The list may contain steps that are refused.
 
 ghost use Rattle.std.specs.Prelude.{ℕ, ◌≡◌, List, Some, Ok, slice_get};
 ghost use Rattle.std.specs.List.{find};
@@ -17,11 +17,11 @@ ghost use Rattle.vt_steps.specs.PartSteps.{is_for};
 ghost use Rattle.vt_steps.specs.Next.{next, reached};
 ghost use Rattle.vt_steps.specs.Claims.{AreCopiesRight, IsProcess, DoRanksRise, AreHistoriesRight};
 
-/// A stamp is live if a start sent its event, or if the event that sent it is executed. After any steps, a live stamp has
-/// one message or executed event, and no anti-message. A stamp that was made and isn't live has one of each, or neither. A
-/// stamp that wasn't made has none.
+/// A stamp is live if a start sent its event, or if the event that sent it is executed. After any steps, a live stamp
+/// has one message or executed event, and no anti-message. A stamp that was made and isn't live has one of each, or
+/// neither. A stamp that wasn't made has none.
 ///
-/// It holds without the laws of the simulation, and in any order of delivery.
+/// This holds without the laws of the simulation, and in any order of delivery.
 pub fn copies_are_right<S, P>()
     ghost sim: { Simulation S P }
     ensures { (serial : ℕ) (steps : List Step) (stamp : Stamp) → AreCopiesRight sim serial (reached sim serial steps) stamp }
@@ -42,8 +42,8 @@ pub fn histories_are_right<S, P>()
     ensures { (serial : ℕ) (steps : List Step) → AreHistoriesRight sim (reached sim serial steps) }
 {}
 
-/// After any steps, a letter that comes home, or that is accepted out of the mail, finds its process, which doesn't hold it
-/// already: the step is answered as done.
+/// After any steps, a letter that comes home or is accepted out of the mail reaches its process, which doesn't hold
+/// it already: the step is answered as done.
 pub fn letters_are_delivered<S, P>()
     ghost sim: { Simulation S P }
     requires { IsLawful sim }

@@ -1,7 +1,8 @@
 //! What a Time Warp run means: the world of a run, its eleven steps, and what holds after any list of them.
 //!
-//! The definitions in `specs` are functions on plain values: they know no thread, no loop and no memory. A world holds no
-//! state of the model, since the state of a logical process follows from the events that it has executed.
+//! The definitions in `specs` are functions on plain values: they know no thread, no loop and no memory. A world of
+//! the definitions holds no state of the model, since a logical process's state follows from the events that it has
+//! executed.
 #![tactic(auto)]
 
 mod histories;

@@ -1,5 +1,5 @@
-//! Theorems on lists of steps that are marked with the workers that make them: what a worker's own steps do, whatever the
-//! others did, and what it can conclude from their answers.
+//! Theorems on lists of steps that are marked with the workers that make them: what a worker's own steps do, whatever
+//! the others do, and what the worker can conclude from their answers.
 
 ghost use Rattle.std.specs.Prelude.{ℕ, ◌≡◌, ◌<◌, ◌++◌, [], ◌∷◌, List, Some, None, Ok, true, false, slice_get};
 ghost use Rattle.vt_key.specs.Times.{TimeAtMost, TimeBefore};
@@ -15,8 +15,9 @@ ghost use Rattle.vt_steps.specs.Laws.{IsAny};
 ghost use Rattle.vt_steps.specs.Next.{next};
 ghost use Rattle.vt_steps.specs.Marked.{Marked, made_done, Each, IsMarkedRight, own_steps_of, shown, LeadLocally, Leads, has_cut_since, has_closed};
 
-/// Local steps of a worker, and one step of it at a cell, do the same to its part and to that cell in every world that has
-/// these two, and change no other part and no other cell. So they may stand last in a run, whatever other workers did since.
+/// Take local steps of a worker and then one step of it at a cell. They do the same in every world with this part of
+/// the worker and this cell, and change no other part and no other cell. So they may be put last in a run, whatever
+/// other workers did meanwhile.
 pub fn own_steps_may_come_last<S, P>()
     ghost sim: { Simulation S P }
     ensures { (w : ℕ) (name : CellName) (steps : List Step) (step : Step) (part before new : Part P) (cell left : Cell P) (reply : Reply) → LeadLocally sim w steps part before →
@@ -30,15 +31,15 @@ pub fn others_keep_their_parts<S, P>()
     ensures { (world : World P) (step : Step) (w v : ℕ) → IsAny (worker_of sim step) w → ¬ (v ≡ w) → slice_get (next sim world step).world.parts v ≡ slice_get world.parts v }
 {}
 
-/// The board refuses a worker's cut only where the worker has cut and was told of no announcement since.
+/// The board refuses a worker's cut only if the worker has cut and no announcement has reached it since.
 pub fn cuts_are_refused_after_a_cut<S, P>()
     ghost sim: { Simulation S P }
     requires { IsLawful sim }
     ensures { (w : ℕ) (marks : List Marked) → Each (IsMarkedRight sim) marks → w < sim.workers → cut_board sim.end w (shown sim marks).board ≡ None → has_cut_since false (own_steps_of sim w marks) ≡ true }
 {}
 
-/// Once a worker's close was done, the book is closed. If the book is closed, each worker's floor is the end of the run. If
-/// the book may not be closed, the book's floor is below the end.
+/// Once a worker's close was done, the book is closed. If the book is closed, each worker's floor is the end of the
+/// run. If the book may not be closed yet, its floor is below the end.
 pub fn closes_are_known<S, P>()
     ghost sim: { Simulation S P }
     requires { IsLawful sim }

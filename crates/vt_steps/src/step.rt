@@ -1,11 +1,13 @@
-//! The steps of a run, and what they answer.
+//! The steps of a run, and their replies.
 
 use vt_key::{Stamp, Time};
 
-/// One step of a run. A process or a worker is named by its number; process `p` is worker `p mod workers`' own.
+/// One step of a run. Processes and workers are given by number, from 0; process `p` belongs to worker `p mod
+/// workers`.
 ///
-/// Executing, undoing and cancelling are Jefferson's (Virtual Time, 1985); cutting and reporting make his global virtual
-/// time, by Mattern's two cuts (Efficient Algorithms for Distributed Snapshots and Global Virtual Time Approximation, 1993).
+/// Executing, undoing and cancelling are Jefferson's (Virtual Time, 1985). Cutting and reporting agree on his global
+/// virtual time, by Mattern's two cuts (Efficient Algorithms for Distributed Snapshots and Global Virtual Time
+/// Approximation, 1993).
 #[derive(Debug, Clone, Copy, PartialEq, Eq)]
 pub enum Step {
     /// This process executes its least pending event.
@@ -20,13 +22,13 @@ pub enum Step {
     Send(u32, u32),
     /// This worker empties its inbox.
     Fetch(u32),
-    /// The letter at this place, counted from 0, of the mail that this worker has fetched goes to its process.
+    /// The letter at this index, from 0, of the mail that this worker has fetched goes to its process.
     Accept(u32, u64),
-    /// This worker joins the open round and changes its colour; where none is open it opens one.
+    /// This worker joins the open round and changes its colour; if none is open, it opens one.
     Cut(u32),
     /// This worker reports its counts and its least time to the board; the last one closes the pass.
     Report(u32),
-    /// This worker hands the records of its events below its floor in to the book, and will never undo these events.
+    /// This worker hands the records of its events below its floor in to the book. It will never undo these events.
     Commit(u32),
     /// The book is closed: no record will follow.
     Close,
@@ -35,11 +37,11 @@ pub enum Step {
 /// The answer to a step that was done.
 #[derive(Debug, Clone, Copy, PartialEq, Eq)]
 pub enum Reply {
-    /// The step was done.
+    /// The step was done: the answer of all steps but `Report`.
     Done,
-    /// The report was taken, and others are awaited.
+    /// The report was taken, and other workers' reports are awaited.
     Waiting,
-    /// All have reported, and letters were still travelling: a new pass of the same round begins.
+    /// All have reported, and letters of the old colour were still travelling: a new pass of the same round begins.
     Again,
     /// All have reported, no letter of the old colour was travelling, and this is the new global virtual time, in ticks.
     Announced(Time),

@@ -1,6 +1,6 @@
-//! Theorems on times, floors and the book: the second half of why an optimistic run is right. "After any steps" means: for
-//! any simulation that meets the laws and any first serials, in the world that any list of the eleven steps, refused ones
-//! included, makes of the opening world.
+//! Theorems on times, floors and the book: the second half of why an optimistic run is right. "After any steps"
+//! means: for any simulation that meets the laws and any first serials, in the world that a list of the eleven steps
+//! makes of the opening world. The list may contain steps that are refused.
 
 ghost use Rattle.std.specs.Prelude.{ℕ, ◌≡◌, IsTrue, List};
 ghost use Rattle.vt_model.specs.Simulation.{Simulation};
@@ -11,9 +11,9 @@ ghost use Rattle.vt_steps.specs.Rows.{rows_in_order};
 ghost use Rattle.vt_steps.specs.Next.{reached, run};
 ghost use Rattle.vt_steps.specs.Claims.{AreFloorsRight, AreRecordsRight, NothingFalls, IsWhole, DoGuardsPass, IsTimeWarpRight};
 
-/// After any steps, the book's floor is at most the announced time, and that at most the least time of any unprocessed or
-/// travelling event or anti-message. In any further steps neither falls, and what the book showed is a beginning of what it
-/// shows.
+/// After any steps, the book's floor is at most the announced time. The announced time is at most the least time of
+/// any unprocessed or travelling event or anti-message. In any further steps neither falls, and the records that the
+/// book showed remain the first ones that it shows.
 pub fn floors_are_right<S, P>()
     ghost sim: { Simulation S P }
     requires { IsLawful sim }
@@ -23,9 +23,9 @@ pub fn floors_are_right<S, P>()
         NothingFalls sim (reached sim serial steps) (run sim (reached sim serial steps) more) }
 {}
 
-/// After any steps, the book's records are exactly the sequential run's records below the book's floor, in the order in
-/// which that run makes them, each once. No two rows of the book have the same key and index; this includes rows that it
-/// doesn't show yet.
+/// After any steps, the book's records are exactly the sequential run's records below the book's floor, in the order
+/// in which that run makes them, each once. No two rows of the book have the same key and index. That includes rows
+/// that it doesn't show yet.
 pub fn records_are_right<S, P>()
     ghost sim: { Simulation S P }
     requires { IsLawful sim }
@@ -35,9 +35,9 @@ pub fn records_are_right<S, P>()
         AreRowsRising (rows_in_order (reached sim serial steps).book.rows) }
 {}
 
-/// Once the book is closed, its floor is the end of the run, its records are those of the whole sequential run, each commit
-/// and each close is refused as closed, and each logical process stands where its events of the whole run leave it. In any
-/// further steps the book stays as it is.
+/// Once the book is closed, its floor is the end of the run and its records are those of the whole sequential run.
+/// Each commit and each close is refused as closed. Each logical process stands where its events of the whole run
+/// leave it. In any further steps the book is unchanged.
 pub fn closed_book_is_whole<S, P>()
     ghost sim: { Simulation S P }
     requires { IsLawful sim }
@@ -49,9 +49,10 @@ pub fn closed_book_is_whole<S, P>()
         (run sim (reached sim serial steps) more).book ≡ (reached sim serial steps).book }
 {}
 
-/// After any steps, four guards never fail. A letter that comes home or is accepted is never held already, so it is delivered.
-/// No worker's value is below the announced time, so a worker that hasn't reported in the pass of a round in which all have
-/// cut reports. No worker's floor is below its hand-in floor, so each worker commits unless the book is closed.
+/// After any steps, four guards never fail. A letter that comes home or is accepted is never held already, so it is
+/// delivered. No worker's least time is below the announced time. So in a round in which all have cut, a worker that
+/// hasn't reported in the pass can report. No worker's floor is below its hand-in floor. So each worker can commit
+/// unless the book is closed.
 pub fn guards_never_fail<S, P>()
     ghost sim: { Simulation S P }
     requires { IsLawful sim }
@@ -59,10 +60,14 @@ pub fn guards_never_fail<S, P>()
         DoGuardsPass sim (reached sim serial steps) }
 {}
 
-/// After any list of steps by any number of workers, with letters accepted in any order, the book's records are exactly the
-/// sequential run's records below the book's floor, in that run's order, each once; the announced time never falls and never
-/// exceeds the least time of any unprocessed or travelling event or anti-message; once closed, the book holds the whole run and
-/// takes nothing more.
+/// After any list of steps by any number of workers, with letters accepted in any order:
+///
+/// - the book's records are exactly the sequential run's records below the book's floor, in that run's order, each
+///   once;
+/// - the announced time never falls, and never exceeds the least time of any unprocessed or travelling event or
+///   anti-message;
+/// - once closed, the book holds the whole run and takes nothing more;
+/// - copies, ranks, histories and guards are right, as the theorems on them say.
 pub fn headline<S, P>()
     ghost sim: { Simulation S P }
     requires { IsLawful sim }
