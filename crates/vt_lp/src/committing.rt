@@ -37,10 +37,10 @@ impl<M: EventModel> Lp<M> {
         Ok(events)
     }
 
-    /// Appends the rows of the past events before the floor, in the order of their execution. [`Lp::fossil`] will commit
-    /// these.
+    /// Appends the rows of the past events before the floor, in the order of their execution. These are the events
+    /// that [`Lp::fossil`] forgets.
     ///
-    /// [`Fault::Memory`]: memory was refused, and the rows are as they were.
+    /// [`Fault::Memory`]: memory was refused, and the rows are unchanged.
     pub fn ripe(&self, floor: Time, rows: &mut Vec<Row>) -> Result<(), Fault>
         ensures rows { (handlers : Handlers _ _ _) (h : LogicalProcess _) → StandsFor handlers self.now h → IfOk result (λ done. rows.new.items ≡ rows.old.items ++ ripe_rows (simulation_of handlers self.now.config) self.now.lp floor h) }
         ensures refused { IfErr result (λ fault. (fault ≡ Memory) × (rows.new.items ≡ rows.old.items)) }
@@ -53,7 +53,7 @@ impl<M: EventModel> Lp<M> {
         appended
     }
 
-    /// Forgets the past events before the floor, which are committed. It takes no memory.
+    /// Forgets the past events before the floor, which are committed (fossil collection). It takes no memory.
     pub fn fossil(&mut self, floor: Time)
         ensures committed { (handlers : Handlers _ _ _) (h : LogicalProcess _) → StandsFor handlers self.old h → StandsFor handlers self.new (process_after_commit floor h) }
         ensures same { (self.new.lp ≡ self.old.lp) × (self.new.config ≡ self.old.config) × (self.new.triple ≡ self.old.triple) × (self.new.pending ≡ self.old.pending) × (self.new.waiting ≡ self.old.waiting) }
@@ -62,8 +62,8 @@ impl<M: EventModel> Lp<M> {
         let _ = self.fossil_into(floor, &mut spare);
     }
 
-    /// Like [`Lp::fossil`], and keeps the memory of the forgotten events for [`Lp::execute_reusing`]. It answers whether
-    /// there was an event to forget; if not, nothing changes.
+    /// As [`Lp::fossil`], and keeps the memory of the forgotten events for [`Lp::execute_reusing`]. Returns whether
+    /// an event was forgotten; if not, nothing changes.
     pub fn fossil_into(&mut self, floor: Time, spare: &mut Spare<M::Payload, M::Kept>) -> bool
         ensures committed { (handlers : Handlers _ _ _) (h : LogicalProcess _) → StandsFor handlers self.old h → StandsFor handlers self.new (process_after_commit floor h) }
         ensures same { (self.new.lp ≡ self.old.lp) × (self.new.config ≡ self.old.config) × (self.new.triple ≡ self.old.triple) × (self.new.pending ≡ self.old.pending) × (self.new.waiting ≡ self.old.waiting) }
@@ -75,7 +75,8 @@ impl<M: EventModel> Lp<M> {
     }
 }
 
-/// Drops the first past events, as many as are before the floor, and keeps their memory. It answers whether there was one.
+/// Drops the first past events, as many as are before the floor, and keeps their memory. Returns whether there was
+/// one.
 fn drop_ripe<P: Copy, K: Copy>(past: &mut Past<P, K>, spare: &mut Spare<P, K>, floor: Time) -> bool
     ensures unripe { past.new ≡ unripe_events floor past.old }
     ensures unchanged { IsFalse result → past.new ≡ past.old }

@@ -38,25 +38,27 @@ pub(crate) struct Trail<P: Copy, K: Copy> {
     pub(crate) kept: K,
     /// The flags that `forward` set.
     pub(crate) bits: Bits,
-    /// How many random words it drew.
+    /// How many random words the event drew.
     pub(crate) drawn: u32,
-    /// The send number before it.
+    /// The send number before the event.
     pub(crate) number: u64,
-    /// The records that it made.
+    /// The records that the event made.
     pub(crate) records: ArrayVec<Record, MAX_RECORDS>,
-    /// The anti-messages of what it sent, in the order of the sends.
+    /// The anti-messages of what the event sent, in the order of the sends.
     pub(crate) anti_messages: List<Letter<P>>,
 }
 
 impl<M: EventModel> Lp<M> {
-    /// Executes the least pending event: the model's `forward` takes the process on, the event becomes the last past one, and
-    /// what it sent below the end goes to the back of the outbox, with stamps of the process's worker from `serial` on;
-    /// `serial` is the next one afterwards.
+    /// Executes the least pending event: the model's `forward` takes the process on, and the event becomes the last
+    /// past one. The events that it sends below the end of the run go to the back of the outbox. Their stamps are of
+    /// the process's worker, with serials from `serial` on. Afterwards `serial` is the next free one.
     ///
-    /// [`Fault::NotLawful`]: nothing is pending, or the least pending event does not come after the last past one.
-    /// [`Fault::Exhausted`]: the send number or the serial would pass 2^63. [`Fault::Memory`]: memory was refused. After each
-    /// the process, the outbox and the serial are as they were. (With another model than the one that the state comes from, that
-    /// state may be another after the last two: it goes back by the model's `reverse`.)
+    /// [`Fault::NotLawful`]: nothing is pending, or the least pending event doesn't come after the last past one.
+    /// [`Fault::Exhausted`]: the send number or the serial would pass 2^63. [`Fault::Memory`]: memory was refused.
+    /// After each the process, the outbox and the serial are unchanged.
+    ///
+    /// That holds for the model that the process was made with. With another model, the last two faults may leave
+    /// another state, since that model's `reverse` restores it.
     pub fn execute(
         &mut self,
         alloc: Global,
@@ -78,7 +80,7 @@ impl<M: EventModel> Lp<M> {
         self.execute_reusing(alloc, model, serial, outbox, &mut Spare::new(alloc))
     }
 
-    /// Like [`Lp::execute`], in the memory of committed events as long as there is some of it, and then in new memory.
+    /// As [`Lp::execute`], but uses the memory of committed events as long as there is some, and then new memory.
     pub fn execute_reusing(
         &mut self,
         alloc: Global,
@@ -146,8 +148,8 @@ fn ready_event<P: Copy, K: Copy>(pending: &Pending<P>, past: &Past<P, K>) -> Opt
     Some(least.event)
 }
 
-/// Executes an event at its receiver, and makes the messages of what it sends and the anti-messages that it leaves. If it
-/// is refused, the process is unchanged.
+/// Executes an event at its receiver, and makes the messages of what it sends and the anti-messages that it leaves. A
+/// refusal leaves the process unchanged.
 ///
 /// [`Fault::Exhausted`]: the send number or the serial would pass 2^63. [`Fault::Memory`]: memory was refused.
 fn advance<M: EventModel>(
@@ -212,7 +214,7 @@ fn advance<M: EventModel>(
     Ok((trail, messages))
 }
 
-/// The messages of these sends and the anti-messages that take them back.
+/// The messages of these sends, and the anti-messages that take them back.
 ///
 /// [`Fault::Memory`]: memory was refused.
 fn both_letters<P: Copy, K: Copy>(
@@ -238,8 +240,7 @@ fn both_letters<P: Copy, K: Copy>(
     Ok((messages, anti_messages))
 }
 
-/// Moves the least pending event, with what it left, behind the last past one. If this is refused, both lists are
-/// unchanged.
+/// Moves the least pending event, with what it left, behind the last past one. A refusal leaves both lists unchanged.
 ///
 /// [`Fault::Memory`]: memory was refused.
 fn keep<P: Copy, K: Copy>(

@@ -1,4 +1,4 @@
-//! Letters at a process: one that comes, and two that annihilate.
+//! Letters at a process: how it accepts one, and how two annihilate.
 
 ghost use Rattle.std.specs.Prelude.{◌≡◌, suc, length, IfSome, IfNone, false, true, [], None, IfOk, IfErr};
 ghost use Rattle.vt_key.specs.declared.order.Stamp.{Stamp};
@@ -21,8 +21,8 @@ use vt_model::Model as EventModel;
 use vt_pending::Pending;
 
 impl<M: EventModel> Lp<M> {
-    /// Whether the process holds a letter of this sign and rank: a message among the pending and past ones, an anti-message
-    /// among the waiting ones.
+    /// Whether the process holds a letter of this sign and rank. Messages are held among the pending and the past
+    /// ones, anti-messages among the waiting ones.
     pub fn holds(&self, sign: Sign, rank: Rank) -> bool
         ensures { result ≡ holds_letter self.now.pending self.now.waiting self.now.past sign rank }
     {
@@ -32,9 +32,10 @@ impl<M: EventModel> Lp<M> {
         }
     }
 
-    /// A letter for this process comes: from now on a message is pending, and an anti-message waits.
+    /// Accepts a letter for this process: a message becomes pending, and an anti-message waits. It takes no memory.
     ///
-    /// [`Fault::NotLawful`]: a letter of its sign and rank is held already. The letter is handed back, and all is as it was.
+    /// [`Fault::NotLawful`]: the process holds a letter of this sign and rank already. The letter is handed back, and
+    /// nothing changes.
     pub fn accept(
         &mut self,
         letter: Parcel<Letter<M::Payload>>,
@@ -60,10 +61,10 @@ impl<M: EventModel> Lp<M> {
         }
     }
 
-    /// The waiting anti-message and the pending message of this stamp annihilate each other: of each queue the first of this
-    /// stamp, where they have one key.
+    /// Lets the waiting anti-message and the pending message of this stamp annihilate each other. If a queue has
+    /// several letters of this stamp, its first one counts. It takes no memory.
     ///
-    /// [`Fault::NotLawful`]: one of the two is not there, or their keys differ. All is as it was.
+    /// [`Fault::NotLawful`]: one of the two is missing, or their keys differ. Nothing changes.
     pub fn cancel(&mut self, stamp: Stamp) -> Result<(), Fault>
         ensures done { (handlers : Handlers _ _ _) (h : LogicalProcess _) → StandsFor handlers self.old h → IfOk result (λ done. IsDone handlers self.new (cancel_process stamp h) [] [] 0 0) }
         ensures refused { (handlers : Handlers _ _ _) (h : LogicalProcess _) → StandsFor handlers self.old h → IfErr result (λ fault. cancel_process stamp h ≡ None) }
@@ -108,7 +109,7 @@ fn annihilate<P: Copy>(stamp: Stamp, pending: &Pending<P>, waiting: &Pending<P>)
     }
 }
 
-// A test that lets the letters pass by whose stamp a waiting and a pending letter annihilate each other.
+// Lets a letter pass if a waiting and a pending letter of its stamp annihilate each other.
 #[derive(Drop)]
 struct Annihilates<'a, P: Copy> {
     pending: &'a Pending<P>,
@@ -125,7 +126,7 @@ impl<'a, P: Copy> Predicate<Letter<P>> for Annihilates<'a, P> {
     }
 }
 
-// A test that lets the past events pass that aren't after this rank.
+// Lets a past event pass that isn't after this rank.
 #[derive(Drop)]
 struct NotAfter(Rank);
 
@@ -150,8 +151,8 @@ fn ends_before<P: Copy, K: Copy>(past: &Past<P, K>, rank: Rank) -> bool
     }
 }
 
-/// Whether a past event has this rank. The ranks of past events rise, so this is decided by the first one, from the back,
-/// that isn't after the rank.
+/// Whether a past event has this rank. The ranks of past events rise. So only one event can have it: the first one,
+/// from the back, that isn't after the rank.
 fn has_executed<P: Copy, K: Copy>(past: &Past<P, K>, rank: Rank) -> bool
     requires { IsRisingPast past.now }
     ensures { result ≡ list_any (λ e. rank_same e.letter.event.rank rank) past.now }

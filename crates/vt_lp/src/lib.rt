@@ -1,8 +1,9 @@
-//! One logical process with rollback: it executes its pending events ahead of the others, and undoes in place, by reverse
-//! computation, what a straggler or an anti-message overtakes (Jefferson, Virtual Time, 1985).
+//! One logical process with rollback. It executes its pending events ahead of other processes. When a straggler or an
+//! anti-message overtakes executed events, it undoes them in place, by reverse computation (Jefferson, Virtual Time,
+//! 1985).
 //!
-//! Undoing, cancelling, taking a letter in and forgetting committed events take no memory: what an undo needs was made when
-//! its event was executed.
+//! Undoing, cancelling, accepting a letter and forgetting committed events take no memory: executing an event makes
+//! all that its undo needs.
 #![tactic(auto)]
 
 mod committing;

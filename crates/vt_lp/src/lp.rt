@@ -11,15 +11,15 @@ use vt_key::{Letter, Rank, Time};
 use vt_model::{Config, Model as EventModel, Process};
 use vt_pending::Pending;
 
-/// A logical process with rollback: its state, send number and place, its past events with what undoes them, its pending
-/// messages, and the anti-messages that wait for their messages.
+/// A logical process with rollback: its state, send number and stream position, its past events with what undoes
+/// them, its pending messages, and the anti-messages that wait for their messages.
 ///
-/// Contracts see these (`HeldProcess`). Committed events are not kept, so a contract speaks of every process of a world that
-/// the value stands for (`StandsFor`): one with the same past, pending and waiting, whose committed events lead to where the
-/// past begins.
+/// Contracts see these (`HeldProcess`). The value keeps no committed events. So a contract speaks of every process of
+/// a world that the value stands for (`StandsFor`): one with the same past events, pending messages and waiting
+/// anti-messages, whose committed events lead to where the past begins.
 #[derive(Drop)]
 pub struct Lp<M: EventModel> {
-    // First, since it holds many random words: the fields that every event reads stand together behind them, in few cache
+    // First, since it holds many random words. So the fields that every event reads stand together behind it, in few cache
     // lines.
     pub(crate) process: Process<M>,
     pub(crate) past: Past<M::Payload, M::Kept>,
@@ -55,21 +55,23 @@ impl<M: EventModel> Lp<M> {
         &self.process.state
     }
 
-    /// The number of the next send: how many events the process has sent, those at or past the end of the run among them.
+    /// The number of the next send: how many events the process has sent, including those at or past the end of the
+    /// run. Undone sends don't count.
     pub fn number(&self) -> u64
         ensures { result ≡ self.now.triple.number }
     {
         self.process.number
     }
 
-    /// The place of the next random word: how many words the process has drawn, modulo 2^64.
+    /// The position of the next random word in the process's stream: how many words it has drawn, modulo 2^64. Undone
+    /// draws don't count.
     pub fn place(&self) -> u64
         ensures { result ≡ self.now.triple.place }
     {
         self.process.stream.place()
     }
 
-    /// How many past events there are, modulo 2^64: where 2^64 are more than memory holds, this is their number.
+    /// The number of past events, modulo 2^64. It is the number itself as long as memory can't hold 2^64 events.
     pub fn past_len(&self) -> usize
         ensures { result ≡ length self.now.past % 2 ^ 64 }
     {
@@ -83,21 +85,22 @@ impl<M: EventModel> Lp<M> {
         !self.past.events().is_empty()
     }
 
-    /// How many messages are pending, modulo 2^64.
+    /// The number of pending messages, modulo 2^64.
     pub fn pending_len(&self) -> usize
         ensures { result ≡ length self.now.pending % 2 ^ 64 }
     {
         self.pending.len()
     }
 
-    /// How many anti-messages wait for their messages, modulo 2^64.
+    /// The number of anti-messages that wait for their messages, modulo 2^64.
     pub fn waiting_len(&self) -> usize
         ensures { result ≡ length self.now.waiting % 2 ^ 64 }
     {
         self.waiting.len()
     }
 
-    /// The least time of what is pending or waits; the end of the run where nothing does.
+    /// The least time, in ticks, of all pending messages and waiting anti-messages; the end of the run if there are
+    /// none.
     pub fn least(&self) -> Time
         ensures { result ≡ least_time self.now.config.end (self.now.pending ++ self.now.waiting) }
     {
@@ -107,7 +110,7 @@ impl<M: EventModel> Lp<M> {
         }
     }
 
-    /// The least rank of what is pending or waits; None where nothing does.
+    /// The least rank of all pending messages and waiting anti-messages; None if there are none.
     pub fn least_rank(&self) -> Option<Rank>
         ensures rank { result ≡ lesser_rank (slice_get self.now.pending 0) (slice_get self.now.waiting 0) }
         ensures time { IfSome result (λ rank. rank.key.time ≡ least_time self.now.config.end (self.now.pending ++ self.now.waiting)) }
@@ -116,8 +119,8 @@ impl<M: EventModel> Lp<M> {
         lesser(self.pending.least(), self.waiting.least())
     }
 
-    /// The rank of the event that [`Lp::execute`] would execute: the least pending one, where it comes after the last past
-    /// one. None where there is no such event.
+    /// The rank of the event that [`Lp::execute`] would execute: that of the least pending message, if it comes after
+    /// the last past event. Otherwise None.
     pub fn ready(&self) -> Option<Rank>
         ensures { result ≡ ready_rank self.now.pending self.now.past }
     {
@@ -131,7 +134,7 @@ impl<M: EventModel> Lp<M> {
     }
 }
 
-/// The lesser of the ranks of two letters that may be there.
+/// The lesser of the ranks of two letters, each of which may be missing.
 fn lesser<P>(a: Option<&Letter<P>>, b: Option<&Letter<P>>) -> Option<Rank>
     ensures { result ≡ lesser_rank (option_copied a.entry) (option_copied b.entry) }
 {

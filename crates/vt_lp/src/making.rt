@@ -1,4 +1,4 @@
-//! Letters of what an event sends.
+//! Letters for what an event sends.
 
 ghost use Rattle.std.specs.Prelude.{◌≡◌, ◌+◌, ◌≤◌, ◌↔◌, length, map, IsTrue, IfOk, IfErr};
 ghost use Rattle.vt_key.specs.declared.fault.Fault.TheVariants.{Memory};
@@ -10,7 +10,8 @@ use vt_key::{Event, Fault, Letter, MAX_COUNT, Rank, Sign, Stamp};
 use vt_list::List;
 use vt_model::Sent;
 
-/// The letters of these sends, with this sign and with stamps of a worker from a serial on, each in a parcel of its own.
+/// The letters of these sends, each in a parcel of its own: with this sign, and with stamps of this worker from
+/// `serial` on.
 ///
 /// [`Fault::Memory`]: memory was refused.
 pub(crate) fn letters<P: Copy, K: Copy>(
@@ -46,7 +47,7 @@ pub(crate) fn letters<P: Copy, K: Copy>(
     Ok(letters)
 }
 
-/// Whether the serial stays within 2^63 after these sends.
+/// Whether the serial stays at most 2^63 after these sends.
 pub(crate) fn is_counted<P>(serial: u64, sends: &[Sent<P>]) -> bool
     ensures { IsTrue result ↔ (serial + length sends.now ≤ MAX_COUNT) }
 {

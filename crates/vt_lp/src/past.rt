@@ -12,7 +12,7 @@ use vt_list::{List, Parcel};
 
 /// Past events, in the order of their execution. A clause sees the list of them.
 ///
-/// The rank of the last one is kept beside them, so that it takes no read of an event to decide what may be executed next.
+/// The rank of the last one is kept beside the list. So deciding what may be executed next reads no past event.
 #[derive(Drop)]
 pub(crate) struct Past<P: Copy, K: Copy> {
     events: List<PastEvent<P, K>>,
@@ -42,21 +42,21 @@ impl<P: Copy, K: Copy> Past<P, K> {
         }
     }
 
-    /// How many events there are, modulo 2^64.
+    /// The number of events, modulo 2^64.
     pub(crate) fn len(&self) -> usize
         ensures { result ≡ length self.now % 2 ^ 64 }
     {
         self.events.len()
     }
 
-    /// The rank of the last event.
+    /// The rank of the last event; None if there is none.
     pub(crate) fn last_rank(&self) -> Option<Rank>
         ensures { result ≡ last_rank self.now }
     {
         self.last
     }
 
-    /// The first event.
+    /// The first event; None if there is none.
     pub(crate) fn front(&self) -> Option<&PastEvent<P, K>>
         ensures { option_copied result ≡ slice_get self.now 0 }
     {
@@ -78,7 +78,7 @@ impl<P: Copy, K: Copy> Past<P, K> {
         self.events.push_back(event);
     }
 
-    /// Takes out the first event.
+    /// Takes out the first event; None if there is none.
     pub(crate) fn pop_front(&mut self) -> Option<Parcel<PastEvent<P, K>>>
         ensures { MatchOption result ((self.old ≡ []) × (self.new ≡ [])) (λ p. self.old ≡ p ∷ self.new) }
     {
@@ -89,7 +89,7 @@ impl<P: Copy, K: Copy> Past<P, K> {
         first
     }
 
-    /// Takes out the last event.
+    /// Takes out the last event; None if there is none.
     pub(crate) fn pop_back(&mut self) -> Option<Parcel<PastEvent<P, K>>>
         ensures { MatchOption result ((self.old ≡ []) × (self.new ≡ [])) (λ p. self.old ≡ self.new ++ p ∷ []) }
     {
@@ -99,7 +99,7 @@ impl<P: Copy, K: Copy> Past<P, K> {
     }
 }
 
-/// The rank of the last of these events.
+/// The rank of the last of these events; None if there are none.
 fn rank_of_last<P: Copy, K: Copy>(events: &List<PastEvent<P, K>>) -> Option<Rank>
     ensures { result ≡ last_rank events.now }
 {

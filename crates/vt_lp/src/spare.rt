@@ -1,4 +1,4 @@
-//! Nodes that processes no longer need, kept for their next letters and events.
+//! Nodes that processes no longer need, kept for the next letters and events.
 
 ghost use Rattle.std.specs.Prelude.{◌≡◌, ◌+◌, ◌-◌, [], length, IfOk, IfErr, IfSome, IfNone};
 
@@ -8,13 +8,13 @@ use std::marker::Model;
 use vt_key::Letter;
 use vt_list::{List, Parcel, Stack};
 
-/// Nodes of committed past events and of letters that are no longer needed, kept to be written again. Nothing depends on
+/// Nodes of committed past events and of letters that are no longer needed, kept to be used again. Nothing depends on
 /// their old contents.
 ///
-/// An executed event needs a node for itself and one for each message and anti-message, as many as a committed event
+/// An executed event needs a node for itself and one for each message and anti-message: as many as a committed event
 /// leaves. A letter from another worker needs a node, and a letter that was sent leaves one. So a worker that commits
-/// regularly takes little new memory, and writes to memory that it has written before. All nodes are freed when the value
-/// is dropped.
+/// regularly takes little new memory, and writes to memory that it has written before. All nodes are freed when the
+/// value is dropped.
 ///
 /// Contracts see how many nodes of letters and of past events are kept (`KeptNodes`).
 #[derive(Drop)]
@@ -55,7 +55,8 @@ impl<P: Copy, K: Copy> Spare<P, K> {
         }
     }
 
-    /// Reads the nodes that will be written next. So their cache lines are fetched together, and not one after the other.
+    /// Reads the nodes that will be written next. So their cache lines are fetched together, and not one after the
+    /// other.
     pub(crate) fn read_ahead(&mut self)
         ensures { self.new ≡ self.old }
     {
@@ -77,7 +78,8 @@ impl<P: Copy, K: Copy> Spare<P, K> {
         seen
     }
 
-    /// Puts the letter into a kept node, or else into a new one. If memory is refused, the letter is handed back.
+    /// Puts the letter into a kept node, or else into a new one. An error means that memory was refused; it hands the
+    /// letter back.
     pub fn letter(
         &mut self,
         alloc: Global,
@@ -95,7 +97,8 @@ impl<P: Copy, K: Copy> Spare<P, K> {
         Ok(parcel)
     }
 
-    /// Puts the past event into a kept node, or else into a new one. If memory is refused, the event is handed back.
+    /// Puts the past event into a kept node, or else into a new one. An error means that memory was refused; it hands
+    /// the event back.
     pub(crate) fn event(
         &mut self,
         alloc: Global,
@@ -152,7 +155,7 @@ impl<P: Copy, K: Copy> Spare<P, K> {
         }
     }
 
-    // Takes a node of a letter. A node at hand comes first, since no other node is read to find it.
+    // Takes a node for a letter; None if none is kept. A node at hand comes first, since no other node is read to find it.
     fn take_letter(&mut self) -> Option<Parcel<Letter<P>>>
         ensures taken { self.new ≡ record { letters = self.old.letters - 1; events = self.old.events } }
         ensures none_left { IfNone result (self.old.letters ≡ 0) }
@@ -166,7 +169,7 @@ impl<P: Copy, K: Copy> Spare<P, K> {
         self.letters.pop()
     }
 
-    // Takes a node of a past event, the one at hand first.
+    // Takes a node for a past event, the one at hand first; None if none is kept.
     fn take_event(&mut self) -> Option<Parcel<PastEvent<P, K>>>
         ensures taken { self.new ≡ record { letters = self.old.letters; events = self.old.events - 1 } }
         ensures none_left { IfNone result (self.old.events ≡ 0) }

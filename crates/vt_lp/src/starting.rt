@@ -19,11 +19,13 @@ use vt_model::{Config, Model as EventModel, Out, Process};
 use vt_pending::Pending;
 
 impl<M: EventModel> Lp<M> {
-    /// Process `lp` after its start. What the start sends below the end goes to the back of the outbox. It has stamps of
-    /// the process's worker from `serial` on, and `serial` is the next one afterwards.
+    /// Process `lp` after its start. The events that the start sends below the end of the run go to the back of the
+    /// outbox. Their stamps are of the process's worker, with serials from `serial` on. Afterwards `serial` is the
+    /// next free one.
     ///
-    /// [`Fault::NotLawful`]: there is no such process, `lp` is not below `config.lps`. [`Fault::Exhausted`]: the serial would
-    /// pass 2^63. [`Fault::Memory`]: memory was refused. After each the outbox and the serial are as they were.
+    /// [`Fault::NotLawful`]: there is no such process; `lp` is not below `config.lps`. [`Fault::Exhausted`]: the
+    /// serial would pass 2^63. [`Fault::Memory`]: memory was refused. After each the outbox and the serial are
+    /// unchanged.
     pub fn new(
         alloc: Global,
         model: &M,

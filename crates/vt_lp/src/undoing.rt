@@ -20,12 +20,12 @@ use vt_model::{Model as EventModel, Sent};
 use vt_pending::Pending;
 
 impl<M: EventModel> Lp<M> {
-    /// Undoes the last past event: the state goes back by the model's `reverse`, the send number and the drawn words are given
-    /// back, the event is pending again, and the anti-messages of what it sent, made when it was executed, go to the back of
-    /// the outbox. It takes no memory.
+    /// Undoes the last past event. The model's `reverse` takes the state back, the send number and the drawn words
+    /// are given back, and the event is pending again. The anti-messages of what it sent, made when it was executed,
+    /// go to the back of the outbox. It takes no memory.
     ///
-    /// [`Fault::NotLawful`]: there is no past event, or no letter forces the last one's undo: no pending one is before it,
-    /// and every waiting one is after it. Then nothing changes.
+    /// [`Fault::NotLawful`]: there is no past event, or no letter forces the undo of the last one: no pending message
+    /// is before it, and every waiting anti-message is after it. Nothing changes.
     pub fn undo(&mut self, model: &M, outbox: &mut List<Letter<M::Payload>>) -> Result<(), Fault>
         ensures done { (h : LogicalProcess _) → StandsFor (M.handlers model.now) self.old h → IfOk result (λ _. IsDone (M.handlers model.now) self.new (undo_process h) outbox.old outbox.new 0 0) }
         ensures refused { (h : LogicalProcess _) → StandsFor (M.handlers model.now) self.old h → IfErr result (λ fault. undo_process h ≡ None) }
@@ -62,8 +62,8 @@ impl<M: EventModel> Lp<M> {
     }
 }
 
-/// Whether there is a past event and a letter forces the undo of the last one. Only the least letters are looked at, since
-/// letters lie in rising rank.
+/// Whether there is a past event and a letter forces the undo of the last one. It looks only at the least letters,
+/// since queues are in rising rank.
 fn must_undo_last<P: Copy, K: Copy>(
     pending: &Pending<P>,
     waiting: &Pending<P>,
@@ -87,7 +87,7 @@ fn has_before<P: Copy>(letters: &Pending<P>, rank: Rank) -> bool
     }
 }
 
-/// Whether some letter is not after this rank.
+/// Whether some letter is at or before this rank.
 fn has_not_after<P: Copy>(letters: &Pending<P>, rank: Rank) -> bool
     ensures { result ≡ list_any (λ letter. not (rank_before rank letter.event.rank)) letters.now }
 {
