@@ -1,4 +1,4 @@
-//! Whether mail may leave for another worker.
+//! Whether mail can leave for another worker.
 
 ghost use Rattle.std.specs.Prelude.{◌≡◌, ◌+◌, ◌≤◌, ◌⊎◌, true, length, IfOk, IfErr};
 ghost use Rattle.vt_key.specs.declared.fault.Fault.TheVariants.{NotLawful, Exhausted};
@@ -18,7 +18,8 @@ use vt_key::Fault;
 use vt_model::Model as EventModel;
 
 impl<M: EventModel> Kernel<M> {
-    /// Whether [`Kernel::letters_for`] worker `v` would succeed if there is memory. It takes no memory and changes nothing.
+    /// Whether [`Kernel::letters_for`] worker `v` would succeed if memory isn't refused. It takes no memory and
+    /// changes nothing.
     ///
     /// [`Fault::NotLawful`]: `v` is this worker, or the outbox holds no letter for a process of `v`. [`Fault::Exhausted`]: the
     /// count of mail sent would pass 2^63.

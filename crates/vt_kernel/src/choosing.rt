@@ -1,4 +1,4 @@
-//! Which process to execute next.
+//! The process to execute next.
 
 ghost use Rattle.std.specs.Prelude.{◌≡◌, ℕ, ◌<◌, ◌/◌, ◌%◌, map, slice_get, Some, None, IfSome, IfNone};
 ghost use Rattle.vt_key.specs.declared.order.Rank.{Rank};
@@ -14,8 +14,8 @@ use crate::kernel::Kernel;
 use vt_model::Model as EventModel;
 
 impl<M: EventModel> Kernel<M> {
-    /// The process whose event is to be executed next: the one of least rank among the worker's processes at which Execute
-    /// is lawful. None if it is lawful at none. The cost doesn't grow with the number of processes.
+    /// The process to execute next: among the worker's processes at which Execute is lawful, the one whose event has
+    /// the least rank. None if Execute is lawful at none. The cost doesn't grow with the number of processes.
     pub fn next(&self) -> Option<u32>
         ensures least { IfSome result (λ p. (p < self.now.config.lps) × (p % self.now.config.workers ≡ self.now.worker) × IsLeast (map ready_of self.now.processes) (p / self.now.config.workers)) }
         ensures nothing { IfNone result ((place : ℕ) (rank : Rank) → slice_get (map ready_of self.now.processes) place ≡ Some (Some rank) → ⊥) }

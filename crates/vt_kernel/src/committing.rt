@@ -20,7 +20,8 @@ use vt_model::{Model as EventModel, Row};
 use vt_tournament::Tournament;
 
 impl<M: EventModel> Kernel<M> {
-    /// The rows of the past events before the worker's floor: process after process, and for each in the order of its execution.
+    /// The rows of the past events before the worker's floor: process after process, and for each process in the
+    /// order of execution.
     ///
     /// [`Fault::Memory`]: memory was refused.
     pub fn rows(&self, alloc: Global) -> Result<Vec<Row>, Fault>
@@ -36,7 +37,8 @@ impl<M: EventModel> Kernel<M> {
         Ok(rows)
     }
 
-    /// Forgets the past events before the worker's floor, which are committed. It takes no memory.
+    /// Forgets the past events before the worker's floor, which are committed (fossil collection). It takes no
+    /// memory.
     pub fn fossil(&mut self)
         ensures stands { (handlers : Handlers _ _ _) (part : Part _) → StandsFor handlers self.old part → StandsFor handlers self.new (part_after_commit part) }
         ensures others { self.new ≡ record self.old { processes = self.new.processes } }
@@ -78,8 +80,8 @@ fn forget_before<M: EventModel>(
     }
 }
 
-/// Lets the process at a place forget its past events before the floor, and updates the tournaments if its ranks may have
-/// changed.
+/// Lets the process at index `place` forget its past events before the floor. Updates the tournaments if its ranks
+/// may have changed.
 fn forget_at<M: EventModel>(
     processes: &mut Vec<Lp<M>>,
     ready: &mut Tournament,

@@ -15,13 +15,13 @@ use vt_lp::Lp;
 use vt_model::Model as EventModel;
 use vt_tournament::{Contestants, Tournament};
 
-/// Something that gives the ranks of processes. It is a closure, since the calls of a process need the model's payloads to
-/// be `Send`, which an `impl` of a trait can't ask for.
+/// Something that gives the ranks of processes by index. It is a closure: the calls of a process need the model's
+/// payloads to be `Send`, which an `impl` of a trait can't ask for.
 pub(crate) trait Tells {
-    /// The places for which it may be asked.
+    /// The indices for which it may be asked.
     ghost may: { Self → ℕ → Type 0 };
 
-    /// The rank that it gives for a place.
+    /// The rank that it gives for an index.
     ghost gives: { Self → ℕ → Option RankValue → Type 0 };
 
     fn tell(&self, place: u32) -> Option<Rank>
@@ -43,8 +43,8 @@ impl<F: Fn(u32) -> Option<Rank>> Tells for Teller<F> {
     }
 }
 
-/// The processes as contestants of the tournament of ready ones. The rank of one is at hand; those of the others are asked
-/// for.
+/// The processes as contestants of the tournament of ready ones. The rank of the process at `place` is given; the
+/// ranks of the others are asked for.
 #[derive(Drop)]
 struct Ready<'a, M: EventModel, T: Tells> {
     processes: &'a [Lp<M>],
@@ -76,7 +76,8 @@ impl<'a, M: EventModel, T: Tells> Contestants for Ready<'a, M, T> {
     }
 }
 
-/// Updates the tournament of ready processes at a place, the only one that may have changed; its rank is now this.
+/// Updates the tournament of ready processes after a change of the process at index `place` alone; `rank` is its rank
+/// now.
 pub(crate) fn enter_ready<M: EventModel, T: Tells + Drop>(
     tournament: &mut Tournament,
     processes: &[Lp<M>],
@@ -98,15 +99,16 @@ pub(crate) fn enter_ready<M: EventModel, T: Tells + Drop>(
     tournament.set(place, &contestants);
 }
 
-/// The rank of the event that the process at a place may execute; None if there is no such event or no such process.
+/// The rank of the event that the process at index `place` may execute; None if there is no such event or no such
+/// process.
 pub(crate) fn ready_at<M: EventModel>(processes: &[Lp<M>], place: u32) -> Option<Rank>
     ensures { result ≡ slice_index_or (entries_of ready_of processes.now) place None }
 {
     processes.get(place as usize)?.ready()
 }
 
-/// The processes as contestants of the tournament of unready ones. The rank of one is at hand; those of the others are
-/// asked for.
+/// The processes as contestants of the tournament of unready ones. The rank of the process at `place` is given; the
+/// ranks of the others are asked for.
 #[derive(Drop)]
 struct Unready<'a, M: EventModel, T: Tells> {
     processes: &'a [Lp<M>],
@@ -138,7 +140,8 @@ impl<'a, M: EventModel, T: Tells> Contestants for Unready<'a, M, T> {
     }
 }
 
-/// Updates the tournament of unready processes at a place, the only one that may have changed; its rank is now this.
+/// Updates the tournament of unready processes after a change of the process at index `place` alone; `rank` is its
+/// rank now.
 pub(crate) fn enter_unready<M: EventModel, T: Tells + Drop>(
     tournament: &mut Tournament,
     processes: &[Lp<M>],
@@ -160,8 +163,8 @@ pub(crate) fn enter_unready<M: EventModel, T: Tells + Drop>(
     tournament.set(place, &contestants);
 }
 
-/// The least rank of the letters that are pending or wait at the process at a place; None if that is the event that it may
-/// execute.
+/// The least rank of all pending messages and waiting anti-messages of the process at index `place`; None if that is
+/// the event that it may execute, or if there is none.
 pub(crate) fn unready_at<M: EventModel>(processes: &[Lp<M>], place: u32) -> Option<Rank>
     ensures { result ≡ slice_index_or (entries_of unready_of processes.now) place None }
 {

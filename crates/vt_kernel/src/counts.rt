@@ -1,4 +1,4 @@
-//! A number for each colour.
+//! Counts by colour.
 
 ghost use Rattle.std.specs.Prelude.{◌≡◌, ◌+◌, ◌<◌, ◌≤◌, ◌⊎◌, IfSome, IfNone};
 ghost use Rattle.vt_key.specs.declared.letter.Colour.TheVariants.{White, Red};
@@ -42,7 +42,7 @@ impl Counts {
         }
     }
 
-    /// How many of these letters have each colour.
+    /// The numbers of these letters by colour.
     pub(crate) fn of_mail<P>(mails: &[Mail<P>]) -> Counts
         ensures white { result.white ≡ count_colour White mails.now }
         ensures red { result.red ≡ count_colour Red mails.now }
@@ -69,7 +69,7 @@ impl Counts {
         Some(Counts { white, red })
     }
 
-    /// How much more of this colour may be counted.
+    /// How much more mail of this colour may be counted, up to 2^63.
     pub(crate) fn room(&self, colour: Colour) -> u64
         requires few { count_of self.now colour ≤ MAX_COUNT }
         ensures { result + count_of self.now colour ≡ MAX_COUNT }

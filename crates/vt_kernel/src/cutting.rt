@@ -18,8 +18,8 @@ use vt_list::List;
 use vt_model::Model as EventModel;
 
 impl<M: EventModel> Kernel<M> {
-    /// The worker's part of a cut: it changes its colour, has sent nothing in the new one, and may commit below the
-    /// announced time.
+    /// The worker's part of a cut: it changes its colour, its red minimum becomes the end of the run, and its floor
+    /// becomes the announced time.
     pub fn turn(&mut self, announced: Time)
         ensures turned { self.new ≡ record self.old { colour = other_colour self.old.colour; red_minimum = self.old.config.end; floor = announced } }
         ensures stands { (handlers : Handlers _ _ _) (part : Part _) → StandsFor handlers self.old part → StandsFor handlers self.new (part_after_cut self.old.config.end announced part) }
@@ -29,7 +29,7 @@ impl<M: EventModel> Kernel<M> {
         self.floor = announced;
     }
 
-    /// Sets the time below which the worker may commit.
+    /// Sets the floor: the time, in ticks, below which the worker may commit.
     pub fn set_floor(&mut self, floor: Time)
         ensures set { self.new ≡ record self.old { floor = floor } }
         ensures stands { (handlers : Handlers _ _ _) (part : Part _) → StandsFor handlers self.old part → StandsFor handlers self.new (record part { floor = floor }) }
@@ -37,8 +37,8 @@ impl<M: EventModel> Kernel<M> {
         self.floor = floor;
     }
 
-    /// What the worker reports: how much mail of the old colour it sent and how much it got, and the lesser of its red
-    /// minimum and the least time of the letters that it has.
+    /// What the worker reports: how much mail of the old colour it has sent and got, and a least time, in ticks. That is
+    /// the lesser of its red minimum and the least time of all letters that it has.
     pub fn report_values(&self) -> (u64, u64, Time)
         ensures sent { result.0 ≡ count_of self.now.sent (other_colour self.now.colour) }
         ensures got { result.1 ≡ count_of self.now.got (other_colour self.now.colour) }
@@ -50,8 +50,8 @@ impl<M: EventModel> Kernel<M> {
         (self.sent.of(left), self.got.of(left), least)
     }
 
-    /// The least time of all letters that the worker has: in its outbox, arrived, pending and waiting. Where it has none, the
-    /// end of the run.
+    /// The least time, in ticks, of all letters that the worker has: in its outbox, arrived, pending and waiting. The
+    /// end of the run if it has none.
     pub fn least(&self) -> Time
         ensures { result ≡ least_time self.now.config.end (held_letters self.now) }
     {
@@ -61,8 +61,8 @@ impl<M: EventModel> Kernel<M> {
         earlier(earlier(unsent, arrived), self.least_of_processes())
     }
 
-    /// The least time of the letters that are pending or wait at this worker's processes; the end of the run if there are
-    /// none.
+    /// The least time of all pending messages and waiting anti-messages of this worker; the end of the run if there
+    /// are none.
     fn least_of_processes(&self) -> Time
         ensures { result ≡ least_time self.now.config.end (flat_map (λ process. process.pending ++ process.waiting) self.now.processes) }
     {
@@ -71,8 +71,8 @@ impl<M: EventModel> Kernel<M> {
         earlier(ready, unready)
     }
 
-    /// The least time of the letters that are pending or wait at the process at a place; the end of the run if there are
-    /// none.
+    /// The least time of the pending messages and waiting anti-messages of the process at index `place`; the end of
+    /// the run if there are none.
     fn least_at(&self, place: Option<u32>) -> Time
         requires { IfSome place (λ place. place < length self.now.processes) }
         ensures some { IfSome place (λ place. (held : HeldProcess _ _ _) × (slice_get self.now.processes place ≡ Some held) × (result ≡ least_time self.now.config.end (held.pending ++ held.waiting))) }

@@ -1,4 +1,4 @@
-//! Letters that reach a process of the worker: those of its own outbox, and those of the mail that has arrived.
+//! How letters reach a process of the worker: out of its own outbox, or out of the mail that has arrived.
 
 ghost use Rattle.std.specs.Prelude.{◌≡◌, ◌%◌, ◌<◌, ◌≤◌, ◌⊎◌, IfOk, IfErr, None, true, false};
 ghost use Rattle.std.specs.Option.{is_none};
@@ -24,9 +24,9 @@ use vt_lp::Lp;
 use vt_model::{Config, Model as EventModel};
 
 impl<M: EventModel> Kernel<M> {
-    /// Home: the first letter of the outbox that is for a process of this worker reaches it. It takes no memory.
+    /// Home: the first letter of the outbox that is for a process of this worker goes there. It takes no memory.
     ///
-    /// [`Fault::NotLawful`]: there is no such letter, or its process holds it already. All is as it was.
+    /// [`Fault::NotLawful`]: there is no such letter, or its process holds it already. Nothing changes.
     pub fn home(&mut self) -> Result<(), Fault>
         ensures done { (handlers : Handlers _ _ _) (part : Part _) → StandsFor handlers self.old part → IfOk result (λ done. IsDone handlers self.new (local_step (simulation_of handlers self.old.config) self.old.worker (step.Home self.old.worker) part)) }
         ensures refused { (handlers : Handlers _ _ _) (part : Part _) → StandsFor handlers self.old part → IfErr result (λ fault. local_step (simulation_of handlers self.old.config) self.old.worker (step.Home self.old.worker) part ≡ None) }
@@ -58,10 +58,11 @@ impl<M: EventModel> Kernel<M> {
         Ok(())
     }
 
-    /// Accept: the letter at place `i`, from 0, of the mail that has arrived reaches its process, and those after it move up.
+    /// Accept: the letter at index `i`, from 0, of the mail that has arrived goes to its process, and those behind it
+    /// move up.
     ///
-    /// [`Fault::NotLawful`]: there is no such place, or its process holds the letter already. [`Fault::Memory`]: memory was
-    /// refused. After either all is as it was.
+    /// [`Fault::NotLawful`]: there is no such index, or its process holds the letter already. [`Fault::Memory`]:
+    /// memory was refused. After either nothing has changed.
     pub fn accept(&mut self, alloc: Global, i: u64) -> Result<(), Fault>
         ensures done { (handlers : Handlers _ _ _) (part : Part _) → StandsFor handlers self.old part → IfOk result (λ done. IsDone handlers self.new (local_step (simulation_of handlers self.old.config) self.old.worker (step.Accept self.old.worker i) part)) }
         ensures refused { (handlers : Handlers _ _ _) (part : Part _) → StandsFor handlers self.old part → IfErr result (λ fault. IsAcceptRefusal (local_step (simulation_of handlers self.old.config) self.old.worker (step.Accept self.old.worker i) part) fault) }
@@ -104,7 +105,7 @@ fn unmade<M: EventModel>(process: &Lp<M>, letter: Letter<M::Payload>) -> Fault
     Fault::Memory
 }
 
-// A test that lets the letters for this worker's processes pass.
+// Lets the letters for this worker's processes pass.
 #[derive(Drop)]
 pub(crate) struct IsFor {
     pub(crate) config: Config,

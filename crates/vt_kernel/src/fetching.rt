@@ -1,4 +1,4 @@
-//! What has arrived.
+//! Mail that arrives.
 
 ghost use Rattle.std.specs.Prelude.{◌≡◌, ◌+◌, ◌<◌, ◌≤◌, ◌⊎◌, [], true, false, IfOk, IfErr};
 ghost use Rattle.vt_key.specs.declared.fault.Fault.TheVariants.{NotLawful, Exhausted};
@@ -17,11 +17,11 @@ use vt_key::{Fault, Mail};
 use vt_model::Model as EventModel;
 
 impl<M: EventModel> Kernel<M> {
-    /// The worker's part of a fetch: it takes this mail of its inbox as arrived, and counts it by colour. It takes no
-    /// memory.
+    /// The worker's part of a fetch: the mail of its inbox becomes its arrived mail, and is counted by colour. It
+    /// takes no memory.
     ///
-    /// [`Fault::NotLawful`]: something that arrived before is not accepted yet. [`Fault::Exhausted`]: a count of mail got would
-    /// pass 2^63. After either all is as it was, and the mail is handed back.
+    /// [`Fault::NotLawful`]: mail that arrived before is not accepted yet. [`Fault::Exhausted`]: a count of mail got
+    /// would pass 2^63. After either nothing has changed, and the mail is handed back.
     pub fn take_in(
         &mut self,
         mail: Vec<Mail<M::Payload>>,
@@ -40,9 +40,10 @@ impl<M: EventModel> Kernel<M> {
         }
     }
 
-    /// The same for an inbox, by exchange: the inbox gets the worker's emptied list, so that it keeps its room.
+    /// As [`Kernel::take_in`], by exchange: `mail`, the inbox, gets the worker's emptied list, and keeps that list's
+    /// room.
     ///
-    /// [`Fault`]: as of [`Kernel::take_in`]; the mail in the inbox is unchanged then, too.
+    /// [`Fault`]: as of [`Kernel::take_in`]; the mail stays in the inbox.
     pub fn exchange_mail(&mut self, mail: &mut Vec<Mail<M::Payload>>) -> Result<(), Fault>
         requires own { AllOwnMail self.old.config self.old.worker mail.old.items }
         ensures taken { IfOk result (λ _. self.new ≡ record self.old { arrived = mail.old.items; got = raised (raised self.old.got White (count_colour White mail.old.items)) Red (count_colour Red mail.old.items) }) }

@@ -12,10 +12,11 @@ use vt_marks::Marks;
 use vt_model::{Config, Model as EventModel};
 use vt_tournament::Tournament;
 
-/// One worker: its processes, its outbox, the mail that has arrived, its colour, counts, red minimum, floor and serial.
+/// One worker: its processes, its outbox, the mail that has arrived, its colour, counts, red minimum, floor and
+/// serial.
 ///
-/// Contracts see these (`HeldWorker`). Committed events are not kept, so a contract speaks of every part of a world that the
-/// value stands for (`StandsFor`).
+/// Contracts see these (`HeldWorker`). The value keeps no committed events. So a contract speaks of every part of a
+/// world that the value stands for (`StandsFor`).
 #[derive(Drop)]
 pub struct Kernel<M: EventModel> {
     pub(crate) config: Config,
@@ -69,14 +70,15 @@ impl<M: EventModel> Kernel<M> {
         self.serial
     }
 
-    /// How many letters are in the outbox, modulo 2^64: where 2^64 are more than memory holds, this is their number.
+    /// The number of letters in the outbox, modulo 2^64. It is the number itself as long as memory can't hold 2^64
+    /// letters.
     pub fn outbox_len(&self) -> usize
         ensures { result ≡ length self.now.outbox % 2 ^ 64 }
     {
         self.outbox.len()
     }
 
-    /// How much mail has arrived and is not accepted yet.
+    /// How many letters have arrived and are not accepted yet.
     pub fn arrived_len(&self) -> usize
         ensures { result ≡ length self.now.arrived }
     {
@@ -90,28 +92,29 @@ impl<M: EventModel> Kernel<M> {
         self.colour
     }
 
-    /// The least time of all that the worker sent since its last cut; the end of the run if it sent nothing.
+    /// The red minimum: the least time, in ticks, of all that the worker sent since its last cut; the end of the run
+    /// if it sent nothing.
     pub fn red_minimum(&self) -> Time
         ensures { result ≡ self.now.red_minimum }
     {
         self.red_minimum
     }
 
-    /// The time below which the worker may commit.
+    /// The time, in ticks, below which the worker may commit.
     pub fn floor(&self) -> Time
         ensures { result ≡ self.now.floor }
     {
         self.floor
     }
 
-    /// How much mail of this colour the worker sent.
+    /// How much mail of this colour the worker has sent to other workers since the opening.
     pub fn sent(&self, colour: Colour) -> u64
         ensures { result ≡ count_of self.now.sent colour }
     {
         self.sent.of(colour)
     }
 
-    /// How much mail of this colour the worker got.
+    /// How much mail of this colour the worker has got from other workers since the opening.
     pub fn got(&self, colour: Colour) -> u64
         ensures { result ≡ count_of self.now.got colour }
     {

@@ -1,7 +1,8 @@
-//! One worker of a Time Warp run: its logical processes, its outbox, the mail that has arrived, its colour, counts and serials.
+//! One worker of a Time Warp run: its logical processes, its outbox, the mail that has arrived, its colour, counts
+//! and serials.
 //!
-//! Each call is this worker's part of one step of a world, or a list of such steps, so that any driver (a replay, a test, a
-//! thread) rests on the same contracts.
+//! Each call is this worker's part of one step of a world, or a list of such steps. So any driver (a replay, a test,
+//! a thread) rests on the same contracts.
 #![tactic(auto)]
 
 mod asking;

@@ -21,12 +21,15 @@ use vt_model::{Config, Model as EventModel};
 use vt_tournament::Tournament;
 
 impl<M: EventModel> Kernel<M> {
-    /// Execute at process `lp`: its least pending event is executed, and what it sends goes to the back of the outbox.
+    /// Execute at process `lp`: it executes its least pending event, and what that sends goes to the back of the
+    /// outbox.
     ///
-    /// [`Fault::NotLawful`]: `lp` is no process of this worker, it has no pending event, or the least one does not come after
-    /// its last past one. [`Fault::Exhausted`]: its send number or the worker's serial would pass 2^63. [`Fault::Memory`]:
-    /// memory was refused. After each all is as it was. (With another model than the one that the worker was made with, the
-    /// state of that process may be another after the last two: it goes back by the model's `reverse`.)
+    /// [`Fault::NotLawful`]: `lp` is no process of this worker, it has no pending event, or the least one doesn't
+    /// come after its last past event. [`Fault::Exhausted`]: its send number or the worker's serial would pass 2^63.
+    /// [`Fault::Memory`]: memory was refused. After each nothing has changed.
+    ///
+    /// That holds for the model that the worker was made with. With another model, the last two faults may leave that
+    /// process another state, since that model's `reverse` restores it.
     pub fn execute(&mut self, alloc: Global, model: &M, lp: u32) -> Result<(), Fault>
         ensures done { (part : Part _) → StandsFor (M.handlers model.now) self.old part → IfOk result (λ done. IsDone (M.handlers model.now) self.new (local_step (simulation_of (M.handlers model.now) self.old.config) self.old.worker (step.Execute lp) part)) }
         ensures counted { (part : Part _) → StandsFor (M.handlers model.now) self.new part → IfOk result (λ done. AreWithinLimits (simulation_of (M.handlers model.now) self.old.config) lp part) }
@@ -57,11 +60,11 @@ impl<M: EventModel> Kernel<M> {
         result
     }
 
-    /// Undo at process `lp`: its last past event, which a pending message or a waiting anti-message overtakes, is pending
-    /// again, and the anti-messages of what it sent go to the back of the outbox. It takes no memory.
+    /// Undo at process `lp`: its last past event, which a pending message or a waiting anti-message overtakes, is
+    /// pending again. The anti-messages of what it sent go to the back of the outbox. It takes no memory.
     ///
-    /// [`Fault::NotLawful`]: `lp` is no process of this worker, it has no past event, or no letter overtakes the last one. All
-    /// is as it was.
+    /// [`Fault::NotLawful`]: `lp` is no process of this worker, it has no past event, or no letter overtakes the last
+    /// one. Nothing changes.
     pub fn undo(&mut self, model: &M, lp: u32) -> Result<(), Fault>
         ensures done { (part : Part _) → StandsFor (M.handlers model.now) self.old part → IfOk result (λ done. IsDone (M.handlers model.now) self.new (local_step (simulation_of (M.handlers model.now) self.old.config) self.old.worker (step.Undo lp) part)) }
         ensures refused { (part : Part _) → StandsFor (M.handlers model.now) self.old part → IfErr result (λ fault. local_step (simulation_of (M.handlers model.now) self.old.config) self.old.worker (step.Undo lp) part ≡ None) }
@@ -82,10 +85,11 @@ impl<M: EventModel> Kernel<M> {
         result
     }
 
-    /// Cancel at process `lp`: its waiting anti-message and its pending message of this stamp annihilate each other. It takes no
-    /// memory.
+    /// Cancel at process `lp`: its waiting anti-message and its pending message of this stamp annihilate each other.
+    /// It takes no memory.
     ///
-    /// [`Fault::NotLawful`]: `lp` is no process of this worker, or it does not have both, with one key. All is as it was.
+    /// [`Fault::NotLawful`]: `lp` is no process of this worker, or it doesn't have both, with one key. Nothing
+    /// changes.
     pub fn cancel(&mut self, lp: u32, stamp: Stamp) -> Result<(), Fault>
         ensures done { (handlers : Handlers _ _ _) (part : Part _) → StandsFor handlers self.old part → IfOk result (λ done. IsDone handlers self.new (local_step (simulation_of handlers self.old.config) self.old.worker (step.Cancel lp stamp) part)) }
         ensures refused { (handlers : Handlers _ _ _) (part : Part _) → StandsFor handlers self.old part → IfErr result (λ fault. local_step (simulation_of handlers self.old.config) self.old.worker (step.Cancel lp stamp) part ≡ None) }
@@ -109,7 +113,7 @@ impl<M: EventModel> Kernel<M> {
     }
 }
 
-/// The place of process `lp` among the worker's processes; None if it isn't one of them.
+/// The index of process `lp` among the worker's processes; None if it isn't one of them.
 pub(crate) fn place_of(config: Config, worker: u32, lp: u32) -> Option<usize>
     ensures own { IfSome result (λ place. (place ≡ lp / config.workers) × (lp % config.workers ≡ worker) × (lp < config.lps)) }
     ensures other { IfNone result (lp % config.workers ≡ worker → config.lps ≤ lp) }
@@ -120,7 +124,7 @@ pub(crate) fn place_of(config: Config, worker: u32, lp: u32) -> Option<usize>
     Some((lp / config.workers) as usize)
 }
 
-/// Updates the tournaments and the marks for the process at `place`, the only one that may have changed.
+/// Updates the tournaments and the marks after a change of the process at index `place` alone.
 pub(crate) fn enter<M: EventModel>(
     ready: &mut Tournament,
     unready: &mut Tournament,

@@ -22,12 +22,12 @@ use vt_marks::Marks;
 use vt_model::{Config, Model as EventModel, Out, Process};
 use vt_tournament::Tournament;
 
-/// More events than the starts of a worker send, whatever the model.
+/// A number above that of all events that the starts of a worker send, whatever the model.
 const MORE_THAN_STARTED: u64 = 1 << 20;
 
 impl<M: EventModel> Kernel<M> {
-    /// Worker `w`, which is below `config.workers`, at the opening: its processes have started, in rising order, and what they
-    /// sent below the end is in the outbox, with serials from 0 on.
+    /// Worker `w`, which is below `config.workers`, at the opening: its processes have started, in rising order. What
+    /// they sent below the end of the run is in the outbox, with serials from 0 on.
     ///
     /// [`Fault::Memory`]: memory was refused.
     pub fn new(alloc: Global, model: &M, config: Config, w: u32) -> Result<Kernel<M>, Fault>
@@ -39,7 +39,7 @@ impl<M: EventModel> Kernel<M> {
         open(alloc, model, config, w, 0)
     }
 
-    /// Worker `w`, which is below `config.workers`, at the opening, with serials from `serial` on, which is at most 2^63.
+    /// As [`Kernel::new`], with serials from `serial` on, which is at most 2^63.
     ///
     /// [`Fault::Exhausted`]: with what the starts send the serial would pass 2^63. [`Fault::Memory`]: memory was refused.
     pub fn with_serial(
@@ -62,7 +62,7 @@ impl<M: EventModel> Kernel<M> {
     }
 }
 
-/// The worker at the opening, where its serials stay within their limit.
+/// The worker at the opening. Its serials must stay within their limit.
 fn open<M: EventModel>(
     alloc: Global,
     model: &M,
@@ -146,15 +146,15 @@ fn tournament<M: EventModel>(alloc: Global, processes: &[Lp<M>]) -> Result<Tourn
     Tournament::new(alloc, contestants as u32)
 }
 
-/// The number, or 1 in place of 0: a tournament needs a contestant.
+/// The number, but at least 1: a tournament needs a contestant.
 pub(crate) fn at_least_one(n: usize) -> usize
     ensures { result ≡ max n 1 }
 {
     if n == 0 { 1 } else { n }
 }
 
-/// Whether the serial of worker `w`, which is below `config.workers`, stays within 2^63 at its starts; before them it is
-/// `serial`, at most 2^63. It takes no memory: it runs the starts and keeps nothing of them.
+/// Whether the serial of worker `w`, which is below `config.workers`, stays at most 2^63 at its starts; `serial`, at
+/// most 2^63, is the serial before them. It takes no memory: it runs the starts and keeps nothing of them.
 pub fn starts_fit<M: EventModel>(model: &M, config: Config, w: u32, serial: u64) -> bool
     requires known { w < config.workers }
     requires counted { serial ≤ MAX_COUNT }

@@ -1,4 +1,4 @@
-//! What a worker tells of its processes.
+//! Readers of a worker's processes.
 
 ghost use Rattle.std.specs.Prelude.{◌≡◌, ◌⊎◌, ◌%◌, ◌^◌, length, map, Some, IfSome, IfNone, IfOk, IfErr, OnOk};
 ghost use Rattle.std.specs.Option.{option_copied, option_map};
@@ -12,7 +12,7 @@ use vt_lp::Lp;
 use vt_model::Model as EventModel;
 
 impl<M: EventModel> Kernel<M> {
-    /// Process `p`; None where it isn't one of this worker's.
+    /// Process `p`; None if it isn't one of this worker's.
     pub(crate) fn process(&self, p: u32) -> Option<&Lp<M>>
         ensures value { option_copied result ≡ process_of self.now p }
         ensures known { IfSome result (λ _. IsProcessOf self.now.config self.now.worker p) }
@@ -25,7 +25,7 @@ impl<M: EventModel> Kernel<M> {
         self.processes.get(place as usize)
     }
 
-    /// The state of process `p`; None where it isn't one of this worker's.
+    /// The state of process `p`; None if it isn't one of this worker's.
     pub fn state(&self, p: u32) -> Option<&M::State>
         ensures value { option_copied result ≡ option_map (λ process. process.triple.state) (process_of self.now p) }
         ensures known { IfSome result (λ _. IsProcessOf self.now.config self.now.worker p) }
@@ -34,7 +34,7 @@ impl<M: EventModel> Kernel<M> {
         Some(self.process(p)?.state())
     }
 
-    /// The number of the next send of process `p`; None where it isn't one of this worker's.
+    /// The number of the next send of process `p`; None if it isn't one of this worker's.
     pub fn number(&self, p: u32) -> Option<u64>
         ensures value { result ≡ option_map (λ process. process.triple.number) (process_of self.now p) }
         ensures known { IfSome result (λ _. IsProcessOf self.now.config self.now.worker p) }
@@ -43,7 +43,7 @@ impl<M: EventModel> Kernel<M> {
         Some(self.process(p)?.number())
     }
 
-    /// The place of the next random word of process `p`; None where it isn't one of this worker's.
+    /// The position of the next random word in the stream of process `p`; None if it isn't one of this worker's.
     pub fn place(&self, p: u32) -> Option<u64>
         ensures value { result ≡ option_map (λ process. process.triple.place) (process_of self.now p) }
         ensures known { IfSome result (λ _. IsProcessOf self.now.config self.now.worker p) }
@@ -52,7 +52,7 @@ impl<M: EventModel> Kernel<M> {
         Some(self.process(p)?.place())
     }
 
-    /// How many messages are pending at process `p`, modulo 2^64; None where it isn't one of this worker's.
+    /// The number of pending messages of process `p`, modulo 2^64; None if it isn't one of this worker's.
     pub fn pending_len(&self, p: u32) -> Option<usize>
         ensures value { result ≡ option_map (λ process. length process.pending % 2 ^ 64) (process_of self.now p) }
         ensures known { IfSome result (λ _. IsProcessOf self.now.config self.now.worker p) }
@@ -61,7 +61,7 @@ impl<M: EventModel> Kernel<M> {
         Some(self.process(p)?.pending_len())
     }
 
-    /// How many anti-messages wait at process `p`, modulo 2^64; None where it isn't one of this worker's.
+    /// The number of anti-messages that wait at process `p`, modulo 2^64; None if it isn't one of this worker's.
     pub fn waiting_len(&self, p: u32) -> Option<usize>
         ensures value { result ≡ option_map (λ process. length process.waiting % 2 ^ 64) (process_of self.now p) }
         ensures known { IfSome result (λ _. IsProcessOf self.now.config self.now.worker p) }
@@ -72,7 +72,8 @@ impl<M: EventModel> Kernel<M> {
 
     /// The past events of process `p`, in the order of their execution.
     ///
-    /// [`Fault::NotLawful`]: it isn't one of this worker's. [`Fault::Memory`]: it is, and memory was refused.
+    /// [`Fault::NotLawful`]: `p` isn't one of this worker's processes. [`Fault::Memory`]: it is, and memory was
+    /// refused.
     pub fn past_events(&self, alloc: Global, p: u32) -> Result<Vec<Event<M::Payload>>, Fault>
         ensures events { IfOk result (λ v. option_map (λ process. map (λ e. e.letter.event) process.past) (process_of self.now p) ≡ Some v.items) }
         ensures known { OnOk result (IsProcessOf self.now.config self.now.worker p) }

@@ -1,4 +1,4 @@
-//! The mail that leaves for another worker.
+//! Mail that leaves for another worker.
 
 ghost use Rattle.std.specs.Prelude.{◌≡◌, ◌%◌, ◌+◌, ◌<◌, ◌≤◌, ◌⊎◌, ◌++◌, true, not, length, map, filter, vec_len, IfOk, IfErr, IfSome, IfNone};
 ghost use Rattle.std.specs.List.{find};
@@ -25,12 +25,13 @@ use vt_lp::Spare;
 use vt_model::{Config, Model as EventModel};
 
 impl<M: EventModel> Kernel<M> {
-    /// The worker's part of a send to worker `v`: it moves the letters of the outbox for processes of `v` to the back of
-    /// `mail`, in their order and in its colour. It counts them, and lowers the red minimum to the least of their times.
+    /// The worker's part of a send to worker `v`: it moves the letters of the outbox for processes of `v` to the back
+    /// of `mail`, in their order and in the worker's colour. It counts them, and lowers the red minimum to the least
+    /// of their times.
     ///
-    /// [`Fault::NotLawful`]: `v` is this worker, or the outbox holds no letter for a process of `v`. [`Fault::Exhausted`]: the
-    /// count of mail sent would pass 2^63. [`Fault::Memory`]: memory was refused. After each the worker and `mail` are as they
-    /// were.
+    /// [`Fault::NotLawful`]: `v` is this worker, or the outbox holds no letter for a process of `v`.
+    /// [`Fault::Exhausted`]: the count of mail sent would pass 2^63. [`Fault::Memory`]: memory was refused. After
+    /// each the worker and `mail` are unchanged.
     pub fn letters_for(&mut self, v: u32, mail: &mut Vec<Mail<M::Payload>>) -> Result<(), Fault>
         ensures sent { let letters = filter (is_for_worker self.old.config v) self.old.outbox in IfOk result (λ _. self.new ≡ record self.old { outbox = filter (λ letter. not (is_for_worker self.old.config v letter)) self.old.outbox; sent = raised self.old.sent self.old.colour (length letters); red_minimum = earlier self.old.red_minimum (least_time self.old.config.end letters) }) }
         ensures mail { IfOk result (λ _. mail.new.items ≡ mail.old.items ++ map (mailed self.old.colour) (filter (is_for_worker self.old.config v) self.old.outbox)) }
@@ -59,8 +60,8 @@ impl<M: EventModel> Kernel<M> {
         Ok(())
     }
 
-    /// The worker for which the first letter of the outbox is that leaves this worker. None if all letters of the outbox
-    /// are for processes of this worker.
+    /// The worker that the next send should go to: the receiver of the first letter of the outbox that is for another
+    /// worker. None if all letters of the outbox are for processes of this worker.
     pub fn next_receiver(&self) -> Option<u32>
         ensures { result ≡ option_map (λ letter. letter.event.dest % self.now.config.workers) (find (λ letter. not (is_for_worker self.now.config self.now.worker letter)) self.now.outbox) }
     {
@@ -75,7 +76,7 @@ impl<M: EventModel> Kernel<M> {
     }
 }
 
-/// Makes room in `mail` for the letters of an outbox that are for processes of worker `v`, and answers how many there are.
+/// Makes room in `mail` for the letters of an outbox that are for processes of worker `v`, and returns their number.
 fn make_room<P: Copy>(
     outbox: &List<Letter<P>>,
     config: Config,
@@ -122,8 +123,8 @@ pub(crate) fn count_for<P: Copy>(
     Some(count)
 }
 
-/// Moves the letters for processes of worker `v` from the outbox to the back of `mail`, and answers their least time, or
-/// the end of the run if there are none. There must be room. The nodes are kept for other letters.
+/// Moves the letters for processes of worker `v` from the outbox to the back of `mail`, which must have room. Returns
+/// their least time, or the end of the run if there are none. The nodes are kept for other letters.
 fn move_letters<P: Copy, K: Copy>(
     outbox: &mut List<Letter<P>>,
     spare: &mut Spare<P, K>,
@@ -152,7 +153,7 @@ fn move_letters<P: Copy, K: Copy>(
     least
 }
 
-// A test that lets the letters for other workers' processes pass.
+// Lets the letters for other workers' processes pass.
 #[derive(Drop)]
 struct IsForAnother {
     config: Config,

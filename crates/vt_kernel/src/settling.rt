@@ -1,4 +1,4 @@
-//! Undo and Cancel at one process, as often as one is lawful.
+//! Undo and Cancel at one process, as long as one of them is lawful.
 
 ghost use Rattle.std.specs.Prelude.{◌≡◌, IsFalse};
 ghost use Rattle.vt_model.specs.Simulation.{simulation_of};
@@ -37,7 +37,7 @@ impl<M: EventModel> Kernel<M> {
     }
 }
 
-/// Undoes and cancels at one process until neither is lawful. Anti-messages go to the back of the outbox. It answers
+/// Undoes and cancels at one process until neither is lawful. Anti-messages go to the back of the outbox. Returns
 /// whether anything was undone or cancelled; if not, nothing changes.
 fn settle_process<M: EventModel>(
     process: &mut Lp<M>,

@@ -1,4 +1,4 @@
-//! The receivers of the letters that a worker holds. A driver needs them to settle the processes that it touches.
+//! The receivers of the letters that a worker holds. A driver needs them to settle the processes that letters reach.
 
 ghost use Rattle.std.specs.Prelude.{◌≡◌, slice_get};
 ghost use Rattle.std.specs.Option.{option_map};
@@ -10,7 +10,8 @@ use crate::kernel::Kernel;
 use vt_model::Model as EventModel;
 
 impl<M: EventModel> Kernel<M> {
-    /// The process that the letter at place `i`, from 0, of the mail that has arrived is for; None where there is no such place.
+    /// The process that the letter at index `i`, from 0, of the mail that has arrived is for; None if there is no
+    /// such index.
     pub fn arrived_for(&self, i: u64) -> Option<u32>
         ensures { result ≡ option_map (λ mail. mail.letter.event.dest) (slice_get self.now.arrived i) }
     {
@@ -20,8 +21,8 @@ impl<M: EventModel> Kernel<M> {
         Some(mail.letter.event.dest)
     }
 
-    /// The process to which [`Kernel::home`] would take a letter; None if the outbox has no letter for a process of this
-    /// worker.
+    /// The process to which [`Kernel::home`] would deliver a letter; None if the outbox has no letter for a process
+    /// of this worker.
     pub fn home_for(&self) -> Option<u32>
         ensures { result ≡ option_map (λ letter. letter.event.dest) (find (is_for_worker self.now.config self.now.worker) self.now.outbox) }
     {

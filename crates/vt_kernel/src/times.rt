@@ -1,4 +1,4 @@
-//! The lesser of two times.
+//! The earlier of two times.
 
 ghost use Rattle.std.specs.Prelude.{◌≡◌};
 ghost use Rattle.vt_key.specs.Times.{earlier};
