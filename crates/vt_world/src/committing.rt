@@ -1,4 +1,4 @@
-//! Commit and Close.
+//! The steps Commit and Close.
 
 ghost use Rattle.vt_steps.specs.declared.step.Step.TheVariants as step;
 ghost use Rattle.vt_world.specs.Calls.{IsStepOf};

@@ -1,4 +1,4 @@
-//! Cut and Report.
+//! The steps Cut and Report.
 
 ghost use Rattle.std.specs.Prelude.{◌≡◌};
 ghost use Rattle.vt_steps.specs.declared.step.Step.TheVariants as step;
@@ -12,7 +12,7 @@ use vt_model::Model as EventModel;
 use vt_steps::Reply;
 
 impl<'m, M: EventModel> World<'m, M> {
-    /// Worker `w` joins the open round, or opens one.
+    /// Worker `w` joins the open round; if none is open, it opens one.
     pub(crate) fn cut(&mut self, w: u32) -> Result<Reply, Fault>
         ensures { IsStepOf (M.handlers self.old.model) (step.Cut w) self.old self.new result }
     {

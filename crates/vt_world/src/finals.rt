@@ -11,15 +11,15 @@ use vt_key::Fault;
 use vt_model::Model as EventModel;
 
 impl<'m, M: EventModel> World<'m, M> {
-    /// Whether the book is closed. Then it holds the records of the whole run, and stays as it is.
+    /// Whether the book is closed. A closed book holds the records of the whole run, and doesn't change.
     pub fn is_closed(&self) -> bool
         ensures { result ≡ self.now.book.is_closed }
     {
         self.book.is_closed()
     }
 
-    /// The final value of each process, in rising order of processes: what the model's `finish` makes of the state in which
-    /// the whole sequential run leaves it.
+    /// The final value of each process, in rising order of processes: what the model's `finish` makes of the state
+    /// after the whole sequential run.
     ///
     /// [`Fault::NotLawful`]: the book isn't closed. [`Fault::Memory`]: it is, and memory was refused.
     pub fn finals(&self, alloc: Global) -> Result<Vec<u64>, Fault>

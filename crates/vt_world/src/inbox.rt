@@ -6,7 +6,7 @@ use std::alloc::Global;
 use std::marker::Model;
 use vt_key::Mail;
 
-/// The mail that was sent to one worker and that it hasn't fetched, in the order of its arrival.
+/// The mail that was sent to one worker and that it hasn't fetched, in the order of sending.
 #[derive(Drop)]
 pub(crate) struct Inbox<P: Copy> {
     pub(crate) mail: Vec<Mail<P>>,

@@ -1,5 +1,5 @@
-//! A Time Warp world that is driven by hand, step by step: its workers, what travels between them, the board on which global
-//! virtual time is agreed, and the book of committed records.
+//! A Time Warp world that a program drives step by step: its workers, what travels between them, the board on which
+//! they agree on global virtual time, and the book of committed records.
 #![tactic(auto)]
 
 mod committing;

@@ -1,4 +1,4 @@
-//! Execute, Undo, Cancel, Home and Accept.
+//! The steps Execute, Undo, Cancel, Home and Accept.
 
 ghost use Rattle.vt_steps.specs.declared.step.Step.TheVariants as step;
 ghost use Rattle.vt_world.specs.Calls.{IsStepOf};
@@ -48,7 +48,7 @@ impl<'m, M: EventModel> World<'m, M> {
         Ok(Reply::Done)
     }
 
-    /// The letter at place `i` of the mail that has arrived at worker `w` goes to its process.
+    /// The letter at index `i` of the mail that has arrived at worker `w` goes to its process.
     pub(crate) fn accept(&mut self, alloc: Global, w: u32, i: u64) -> Result<Reply, Fault>
         ensures { IsStepOf (M.handlers self.old.model) (step.Accept w i) self.old self.new result }
     {

@@ -21,8 +21,8 @@ use vt_key::Fault;
 use vt_model::{Config, Model as EventModel};
 
 impl<'m, M: EventModel> World<'m, M> {
-    /// The opening world of a model and a config, with serials from 0 on: the processes have started, what they sent below the
-    /// end is in their workers' outboxes, and no step was done.
+    /// The opening world of a model and a config, with serials from 0 on. The processes have started, what they sent
+    /// below the end of the run is in their workers' outboxes, and no step was done.
     ///
     /// [`Fault::Memory`]: memory was refused.
     pub fn new(alloc: Global, model: &'m M, config: Config) -> Result<World<'m, M>, Fault>
@@ -35,8 +35,8 @@ impl<'m, M: EventModel> World<'m, M> {
 
     /// The opening world, with the serials of each worker from `serial` on, which is at most 2^63.
     ///
-    /// [`Fault::Exhausted`]: with what the starts of some worker send, its serial would pass 2^63. [`Fault::Memory`]: none
-    /// would, and memory was refused.
+    /// [`Fault::Exhausted`]: the serial of some worker would pass 2^63 at the starts of its processes.
+    /// [`Fault::Memory`]: none would, and memory was refused.
     pub fn with_serial(
         alloc: Global,
         model: &'m M,
@@ -56,7 +56,7 @@ impl<'m, M: EventModel> World<'m, M> {
     }
 }
 
-/// Whether the serial of each worker stays within its limit at the starts.
+/// Whether the serial of each worker stays at most 2^63 at the starts.
 fn all_starts_fit<M: EventModel>(model: &M, config: Config, serial: u64) -> bool
     requires counted { serial ≤ MAX_COUNT }
     ensures fits { IsTrue result → DoStartsFit (simulation_of (M.handlers model.now) config) serial }
@@ -70,7 +70,7 @@ fn all_starts_fit<M: EventModel>(model: &M, config: Config, serial: u64) -> bool
     true
 }
 
-/// The opening world, where the serials stay within their limit.
+/// The opening world. The serials must stay at most 2^63 at the starts.
 fn open<'m, M: EventModel>(
     alloc: Global,
     model: &'m M,

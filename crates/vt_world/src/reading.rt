@@ -1,4 +1,4 @@
-//! What a world still has to do, and what its processes did.
+//! What a world still has to do, and what its processes have done.
 
 ghost use Rattle.std.specs.Prelude.{◌≡◌, ℕ, ◌<◌, ◌≤◌, ◌⊎◌, List, map, All, Some, IfOk, IfErr, OnOk};
 ghost use Rattle.std.specs.List.{flat_map};
@@ -23,8 +23,8 @@ use vt_key::{Event, Fault, Time};
 use vt_model::Model as EventModel;
 
 impl<'m, M: EventModel> World<'m, M> {
-    /// The least time, in ticks, of all events and anti-messages that are unprocessed or travelling: in outboxes and inboxes,
-    /// fetched, pending and waiting. Where there are none, the end of the run. It takes no memory.
+    /// The least time, in ticks, of all events and anti-messages that are unprocessed or travelling: in outboxes and
+    /// inboxes, fetched, pending and waiting. The end of the run if there are none. It takes no memory.
     pub fn least(&self) -> Time
         ensures value { result ≡ least_held self.now }
         ensures least { (world : _) → StandsForWorld (M.handlers self.now.model) self.now world → result ≡ least self.now.config.end world }
@@ -57,7 +57,7 @@ impl<'m, M: EventModel> World<'m, M> {
     }
 }
 
-/// The least time of all letters that these workers have; where they have none, the end of the run.
+/// The least time of all letters that these workers have; the end of the run if there are none.
 fn least_of_workers<M: EventModel>(kernels: &[Kernel<M>], end: Time) -> Time
     requires same_end { All (λ k. k.config.end ≡ end) kernels.now }
     ensures { result ≡ least_time end (flat_map held_letters kernels.now) }
@@ -69,7 +69,7 @@ fn least_of_workers<M: EventModel>(kernels: &[Kernel<M>], end: Time) -> Time
     least
 }
 
-/// The least time of the mail in these inboxes; where there is none, the end of the run.
+/// The least time of the mail in these inboxes; the end of the run if there is none.
 fn least_of_inboxes<P: Copy>(inboxes: &[Inbox<P>], end: Time) -> Time
     ensures { result ≡ least_time end (map (λ mail. mail.letter) (flat_map (λ inbox. inbox) inboxes.now)) }
 {

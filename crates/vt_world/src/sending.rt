@@ -1,4 +1,4 @@
-//! Send and Fetch.
+//! The steps Send and Fetch.
 
 ghost use Rattle.vt_steps.specs.declared.step.Step.TheVariants.{Send, Fetch};
 ghost use Rattle.vt_world.specs.Calls.{IsStepOf};
@@ -10,7 +10,7 @@ use vt_model::Model as EventModel;
 use vt_steps::Reply;
 
 impl<'m, M: EventModel> World<'m, M> {
-    /// All letters of the outbox of worker `w` for processes of worker `v` go into the inbox of `v`.
+    /// All letters of worker `w`'s outbox for processes of worker `v` go into the inbox of `v`.
     pub(crate) fn send(&mut self, w: u32, v: u32) -> Result<Reply, Fault>
         ensures { IsStepOf (M.handlers self.old.model) (Send w v) self.old self.new result }
     {

@@ -17,22 +17,22 @@ use vt_key::Fault;
 use vt_model::Model as EventModel;
 use vt_steps::{Reply, Step};
 
-/// Where and why a list of steps stopped.
+/// Which step of a list could not be done, and why.
 #[derive(Debug, Clone, Copy, PartialEq, Eq)]
 pub struct Stop {
-    /// The place of the step that couldn't be done, counted from 0.
+    /// The index of the step, counted from 0.
     pub at: usize,
-    /// [`Fault::Memory`] or [`Fault::Exhausted`].
+    /// [`Fault::Memory`]: memory was refused. [`Fault::Exhausted`]: a counter would pass 2^63.
     pub fault: Fault,
 }
 
 impl<'m, M: EventModel> World<'m, M> {
-    /// Does one step, and gives its reply. Once the book is closed, it stays as it is, and each commit and each close is
-    /// refused as [`Fault::Closed`].
+    /// Does one step, and returns its reply. A closed book doesn't change, and refuses each commit and each close as
+    /// [`Fault::Closed`].
     ///
-    /// [`Fault::NotLawful`]: the step isn't lawful in this world. [`Fault::Closed`]: it is a commit or a close, and the book is
-    /// closed. [`Fault::Exhausted`]: it is lawful, and a counter would pass 2^63. [`Fault::Memory`]: neither, and memory was
-    /// refused. After each the world is as it was.
+    /// [`Fault::NotLawful`]: the step isn't lawful in this world. [`Fault::Closed`]: it is a commit or a close, and
+    /// the book is closed. [`Fault::Exhausted`]: it is lawful, and a counter would pass 2^63. [`Fault::Memory`]: none
+    /// of these, and memory was refused. After each the world is unchanged.
     pub fn step(&mut self, alloc: Global, step: &Step) -> Result<Reply, Fault>
         ensures step { IsStepOf (M.handlers self.old.model) step.now self.old self.new result }
         ensures announced { TimeAtMost self.old.board.announced self.new.board.announced }
@@ -55,11 +55,12 @@ impl<'m, M: EventModel> World<'m, M> {
         }
     }
 
-    /// Does steps one after the other. A step that isn't lawful, or that the closed book refuses, changes nothing, and the
-    /// next one follows. The answer is how many were refused so. Once the book is closed it stays as it is.
+    /// Does steps one after the other, and returns how many of them were refused. A step that isn't lawful, or that
+    /// the closed book refuses, changes nothing and counts as refused, and the next one follows. A closed book
+    /// doesn't change.
     ///
-    /// [`Stop`]: a lawful step couldn't be done, since memory was refused or a counter would pass 2^63. The world is then that
-    /// after the steps before it.
+    /// [`Stop`]: a lawful step couldn't be done, since memory was refused or a counter would pass 2^63. The world is
+    /// the one after the steps before it.
     pub fn run(&mut self, alloc: Global, steps: &[Step]) -> Result<u64, Stop>
         ensures whole { let sim = simulation_of (M.handlers self.old.model) self.old.config in IfOk result (λ n. RunsTo sim steps.now (world_memory (M.handlers self.old.model) self.old) (world_memory (M.handlers self.old.model) self.new)) }
         ensures count { let sim = simulation_of (M.handlers self.old.model) self.old.config in (world : _) → StandsForWorld (M.handlers self.old.model) self.old world → IfOk result (λ n. n ≡ refusals (answers sim world steps.now)) }
@@ -80,8 +81,8 @@ impl<'m, M: EventModel> World<'m, M> {
         Ok(refused)
     }
 
-    /// Does one step of a list, and answers how many refusals it adds: one if it isn't lawful or the closed book refuses
-    /// it, else none.
+    /// Does one step of a list, and returns how many refusals it adds: one if it isn't lawful or the closed book
+    /// refuses it, else none.
     fn advance(&mut self, alloc: Global, step: &Step) -> Result<u64, Fault>
         ensures goes { IfOk result (λ more. IsAnsweredBy (M.handlers self.old.model) step.now self.old self.new more) }
         ensures spent { (world : _) → StandsForWorld (M.handlers self.old.model) self.old world → IfErr result (λ fault. IsSpent (simulation_of (M.handlers self.old.model) self.old.config) step.now world fault) }
@@ -98,7 +99,7 @@ impl<'m, M: EventModel> World<'m, M> {
     }
 }
 
-/// One refusal, for a fault that a list of steps passes over; else the fault, at which the list stops.
+/// Counts a fault that a list of steps passes over as one refusal. Any other fault is an error, and stops the list.
 fn passed_over(fault: Fault) -> Result<u64, Fault>
     ensures passed { IfOk result (λ more. (more ≡ 1) × ((fault ≡ NotLawful) ⊎ (fault ≡ Closed))) }
     ensures stopped { IfErr result (λ why. (why ≡ fault) × (fault ≡ NotLawful → ⊥) × (fault ≡ Closed → ⊥)) }

@@ -18,9 +18,9 @@ use vt_model::{Config, Model as EventModel, Record};
 
 /// A Time Warp world in memory: the workers, the inboxes between them, the board and the book.
 ///
-/// Contracts see these (`HeldWorld`). Committed events are not kept, so a contract speaks of every world of the definitions
-/// that the value stands for (`StandsForWorld`); the type keeps that it stands for one that a list of steps makes of the
-/// opening world.
+/// Contracts see these (`HeldWorld`). The value keeps no committed events. So a contract speaks of every world of the
+/// definitions that the value stands for (`StandsForWorld`). The type guarantees that it stands for one that some
+/// list of steps makes of the opening world.
 #[derive(Drop)]
 pub struct World<'m, M: EventModel> {
     pub(crate) model: &'m M,
@@ -64,8 +64,8 @@ impl<'m, M: EventModel> World<'m, M> {
         self.board.announced()
     }
 
-    /// The floor of the book, in ticks: the records below it are shown. It is at most the announced time. Once the book is
-    /// closed it is the end of the run.
+    /// The floor of the book, in ticks: the book shows the records below it. It is at most the announced time. Once
+    /// the book is closed, it is the end of the run.
     pub fn floor(&self) -> Time
         ensures value { result ≡ floor_held self.now }
         ensures announced { TimeAtMost result self.now.board.announced }
@@ -74,8 +74,8 @@ impl<'m, M: EventModel> World<'m, M> {
         self.book.floor()
     }
 
-    /// The records of the book: exactly the sequential run's records below the floor, in that run's order, each once. Once
-    /// the book is closed these are the records of the whole run.
+    /// The records that the book shows: exactly the sequential run's records below the floor, in that run's order,
+    /// each once. Once the book is closed, these are the records of the whole run.
     ///
     /// [`Fault::Memory`]: memory was refused.
     pub fn records(&self, alloc: Global) -> Result<Vec<Record>, Fault>
