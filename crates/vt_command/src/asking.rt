@@ -1,4 +1,4 @@
-//! What a command line asks for.
+//! Requests: what a command line asks for.
 
 ghost use Rattle.std.specs.Prelude.{◌≡◌, ◌⊎◌, [], ℕ, List, IfOk, IfErr, map};
 ghost use Rattle.clap.specs.Values.{kind_of};
@@ -17,18 +17,18 @@ use std::alloc::Global;
 use std::convert::AsStr;
 use vt_key::Fault;
 
-/// What the words of a command line ask for.
+/// What a command line asks for.
 #[derive(Debug, Drop)]
 pub enum Request {
     /// A run with these options.
     Run(Options),
     /// A replay with these options.
     Replay(ReplayOptions),
-    /// Help: this text.
+    /// Help, with its text.
     Help(String),
 }
 
-/// What matches of the command line ask for. A refusal is never for memory.
+/// The request of a command line that the parser has accepted. The error is never [`Fault::Memory`].
 fn request_of(matches: &ArgMatches) -> Result<Request, Fault>
     ensures ok { (words : List Text) → fault_of twarp_app words ≡ [] → subcommand_rows_of matches.now ≡ subcommand_of twarp_app words → IfOk result (IsAsked words) }
     ensures err { (words : List Text) → fault_of twarp_app words ≡ [] → subcommand_rows_of matches.now ≡ subcommand_of twarp_app words → IfErr result (IsRefusedBy words) }
@@ -48,8 +48,8 @@ fn request_of(matches: &ArgMatches) -> Result<Request, Fault>
     }
 }
 
-/// What a refused command line asks for, which may be help. Memory is refused only where the parser was refused it, or the text of
-/// the help.
+/// The request of a command line that the parser has refused: help, or an error. Memory is refused only if the
+/// parser, or the text of the help, was refused it.
 fn request_after(alloc: Global, error: Error) -> Result<Request, Fault>
     ensures ok { (words : List Text) → HasKind (fault_of twarp_app words) error → IfOk result (IsAsked words) }
     ensures err { (words : List Text) → HasKind (fault_of twarp_app words) error → IfErr result (IsRefusedBy words) }
@@ -65,11 +65,11 @@ fn request_after(alloc: Global, error: Error) -> Result<Request, Fault>
     }
 }
 
-/// What the words of a command line ask for. The first is the program's name.
+/// What a command line asks for. The first word is the program's name.
 ///
-/// [`Fault::BadOption`] names the first bad option in the order of the table, or is `command-line` where the words have
-/// no meaning: a word that isn't known, an option without a value or given twice, no subcommand, or one that isn't
-/// there. [`Fault::Memory`]: memory was refused.
+/// [`Fault::BadOption`] with an option's name: this is the first bad option in the order of the table.
+/// [`Fault::BadOption`] with `command-line`: the words have no meaning. A word is unknown, an option has no value or
+/// is given twice, or the subcommand is missing or unknown. [`Fault::Memory`]: memory was refused.
 pub fn read_request<S: AsStr>(alloc: Global, words: &[S]) -> Result<Request, Fault>
     ensures ok { IfOk result (IsAsked (map S.text words.now)) }
     ensures err { IfErr result (IsRefusedBy (map S.text words.now)) }

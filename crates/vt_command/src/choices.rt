@@ -1,4 +1,4 @@
-//! What a command line chooses.
+//! The choices of a command line.
 
 use vt_model::Config;
 use vt_models::{Hop, Phold, Stations};
@@ -14,22 +14,22 @@ pub enum ModelName {
     Stations,
 }
 
-/// How a run keeps the order of events.
+/// How a run keeps events in order.
 #[derive(Debug, Clone, Copy, PartialEq, Eq)]
 pub enum Synch {
     /// `1`: one thread, which always executes the pending event of least key.
     Sequential,
-    /// `3`: Time Warp, in a thread for each worker. A worker executes the least event that it knows of, and rolls back where an
-    /// earlier one comes after it.
+    /// `3`: Time Warp, in a thread for each worker. A worker executes the least event that it knows of, and rolls back if an
+    /// earlier one arrives after it.
     Optimistic,
 }
 
-/// The options of a run, each in its range, whether the run uses it or not.
+/// The options of a run. Each is in its range, also those that the run doesn't use.
 #[derive(Debug, Clone, Copy, PartialEq, Eq)]
 pub struct Options {
-    /// Which model is run.
+    /// The model to run.
     pub model: ModelName,
-    /// How the order of events is kept.
+    /// How events are kept in order.
     pub synch: Synch,
     /// The numbers of processes and workers, the end of virtual time, and the seed.
     pub config: Config,
@@ -39,14 +39,14 @@ pub struct Options {
     pub phold: Phold,
     /// The network of stations, made of its options.
     pub stations: Stations,
-    /// How many turns each worker may take, from 1 to 2^63. A sequential run has none, and doesn't use it.
+    /// The most turns of each worker, from 1 to 2^63. A sequential run doesn't use it.
     pub turns: u64,
 }
 
-/// The options of a replay, each in its range, whether the replay uses it or not.
+/// The options of a replay. Each is in its range, also those that the replay doesn't use.
 #[derive(Debug, Clone, Copy, PartialEq, Eq)]
 pub struct ReplayOptions {
-    /// Whose events the steps execute.
+    /// The model whose events the steps execute.
     pub model: ModelName,
     /// The numbers of processes and workers, the end of virtual time, and the seed.
     pub config: Config,
@@ -56,6 +56,6 @@ pub struct ReplayOptions {
     pub phold: Phold,
     /// The network of stations, made of its options.
     pub stations: Stations,
-    /// The serial of the first event that each worker makes, up to 2^63.
+    /// The serial of the first event that each worker makes, from 0 to 2^63.
     pub serial: u64,
 }

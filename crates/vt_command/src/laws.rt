@@ -1,4 +1,4 @@
-//! What the definitions make of command lines that are written out. They are theorems and do nothing when they are called.
+//! What the definitions say of example command lines. These functions are theorems: calling them does nothing.
 
 ghost use Rattle.std.specs.Prelude.{◌≡◌, [], ◌∷◌, ◌++◌, Some, None, codes, map};
 ghost use Rattle.clap.specs.Words.{Text};
@@ -13,7 +13,7 @@ pub fn defaults_are_read()
     ensures replay { AskReplay (codes "twarp" ∷ codes "replay" ∷ []) default_replay_options }
 {}
 
-/// A line that gives each option a text, whatever it is, behind `=` is of its subcommand, and gives each option its text.
+/// A line may give each option any text behind `=`. It belongs to its subcommand, and each option has its text.
 pub fn texts_are_given()
     ensures run { (text_of : Text → Text) → AreOfRun (line_with (codes "run") run_options text_of) }
     ensures given { (text_of : Text → Text) → map (given_in (line_with (codes "run") run_options text_of)) run_options ≡ map (λ name. Some (text_of name)) run_options }
@@ -21,7 +21,7 @@ pub fn texts_are_given()
     ensures given_to_replay { (text_of : Text → Text) → map (given_in (line_with (codes "replay") replay_options text_of)) replay_options ≡ map (λ name. Some (text_of name)) replay_options }
 {}
 
-/// An option's text may be a word of its own too, and an option that isn't given has none.
+/// An option's text may also be a word of its own. An option that isn't given has no text.
 pub fn values_are_read()
     ensures apart { given_in (codes "twarp" ∷ codes "run" ∷ codes "--lps" ∷ codes "3" ∷ codes "--end=7" ∷ []) (codes "lps") ≡ Some (codes "3") }
     ensures joined { given_in (codes "twarp" ∷ codes "run" ∷ codes "--lps" ∷ codes "3" ∷ codes "--end=7" ∷ []) (codes "end") ≡ Some (codes "7") }
@@ -29,7 +29,7 @@ pub fn values_are_read()
     ensures one { (text : Text) → given_in (codes "twarp" ∷ codes "run" ∷ (codes "--seed=" ++ text) ∷ []) (codes "seed") ≡ Some text }
 {}
 
-/// `--help`, `-h` and `help` ask for help, of the program or of a subcommand.
+/// `--help`, `-h` and `help` ask for help on the program or on a subcommand.
 pub fn help_is_asked_for()
     ensures of_the_program { AskHelp (codes "twarp" ∷ codes "--help" ∷ []) }
     ensures of_run { AskHelp (codes "twarp" ∷ codes "run" ∷ codes "--help" ∷ []) }
@@ -38,7 +38,7 @@ pub fn help_is_asked_for()
     ensures by_word { AskHelp (codes "twarp" ∷ codes "help" ∷ codes "run" ∷ []) }
 {}
 
-/// A line without a subcommand, with another word, or with an option that isn't there or is given twice, has no meaning.
+/// A line has no meaning if it has no subcommand, another word, or an option that is unknown or given twice.
 pub fn other_lines_have_no_meaning()
     ensures nothing { HasNoMeaning (codes "twarp" ∷ []) }
     ensures other { HasNoMeaning (codes "twarp" ∷ codes "walk" ∷ []) }
@@ -49,7 +49,7 @@ pub fn other_lines_have_no_meaning()
     ensures of_run_alone { HasNoMeaning (codes "twarp" ∷ codes "replay" ∷ codes "--synch" ∷ codes "1" ∷ []) }
 {}
 
-/// The first bad option is that of the table and not that of the line.
+/// The first bad option is the first in the order of the table, not of the line.
 pub fn first_bad_is_of_the_table()
     ensures lps { HasBadOption (codes "twarp" ∷ codes "run" ∷ codes "--end" ∷ codes "0" ∷ codes "--lps" ∷ codes "65537" ∷ []) (codes "lps") }
     ensures synch { HasBadOption (codes "twarp" ∷ codes "run" ∷ codes "--workers" ∷ codes "0" ∷ codes "--synch" ∷ codes "2" ∷ []) (codes "synch") }

@@ -1,7 +1,7 @@
 //! The command line of `twarp`: which words have a meaning, which options they give, and what they ask for.
 //!
-//! The words are read by `clap`, whose definitions say which text a line gives to each option. The numbers in these texts
-//! are read here, in the order of the table of options, and the first that is out of its range is named.
+//! `clap` reads the words, and its definitions say which text a line gives to each option. This crate reads the
+//! numbers in these texts, in the order of the table of options, and names the first that is out of its range.
 #![tactic(auto)]
 
 mod asking;

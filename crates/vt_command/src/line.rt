@@ -39,10 +39,10 @@ static REPLAY_OPTIONS: [OptionText; 16] = [
     SERIAL,
 ];
 
-/// How the program is called: it needs a command.
+/// The usage line of the program: it needs a command.
 const USAGE: &str = "twarp <COMMAND>";
 
-/// What a first run is, where the guide is, and the options in short.
+/// The end of the help: a first run, where the guide is, and the options in short.
 const IN_SHORT: &str = "\
 A first run: twarp run (six records of two processes). README.md tells more, docs/MODEL_GUIDE.md
 how to write a model of your own.
@@ -92,7 +92,7 @@ fn command_of<'a>(
     Ok(command)
 }
 
-/// The command line of the program, as a parser.
+/// The parser of the program's command line.
 ///
 /// An error means that memory was refused.
 pub(crate) fn twarp_command<'a>(alloc: Global) -> Result<Command<'a>, AllocError>
@@ -108,10 +108,10 @@ pub(crate) fn twarp_command<'a>(alloc: Global) -> Result<Command<'a>, AllocError
     Ok(twarp.subcommand(replay)?)
 }
 
-/// What the command line makes of the words, of which the first is the program's name.
+/// What the parser makes of a command line. The first word is the program's name.
 ///
-/// An error is memory refused, a request for help, or words without a meaning: it has a kind that the definitions give
-/// for these words.
+/// An error means that memory was refused, that the words ask for help, or that they have no meaning. Its kind is one
+/// that the definitions give for these words.
 pub(crate) fn matches_in<'a, S: AsStr>(
     alloc: Global,
     words: &'a [S],

@@ -17,7 +17,7 @@ use vt_models::{
 };
 use vt_text::read_number;
 
-/// A number of up to 64 bits.
+/// An option that is a number of up to 64 bits, from `least` to `most`; `default` if it isn't given.
 fn number_option(
     matches: &ArgMatches,
     name: &'static str,
@@ -40,7 +40,7 @@ fn number_option(
     }
 }
 
-/// A number of up to 32 bits.
+/// An option that is a number of up to 32 bits, from `least` to `most`; `default` if it isn't given.
 fn small_option(
     matches: &ArgMatches,
     name: &'static str,
@@ -143,10 +143,10 @@ fn stations_options(matches: &ArgMatches) -> Result<Stations, Fault>
     Stations::new(jobs, service, travel)
 }
 
-/// The options of a run, each in its range, or the default where it isn't given.
+/// The options of a run. Each is in its range; an option that isn't given has its default.
 ///
-/// [`Fault::BadOption`] names the first in the order of the table that is no number in its range, or no model or way of
-/// running that is there; options of other models than the one that is run are tested too.
+/// [`Fault::BadOption`] names the first option, in the order of the table, that is no number in its range, or no
+/// known model or way of running. Options of models that aren't run are tested too.
 pub(crate) fn read_options(matches: &ArgMatches) -> Result<Options, Fault>
     ensures ok { IfOk result (λ o. GiveOptions (first_value (found_of matches.now)) o) }
     ensures err { IfErr result (λ fault. fault_number fault ≡ 7) }
@@ -170,10 +170,10 @@ pub(crate) fn read_options(matches: &ArgMatches) -> Result<Options, Fault>
     })
 }
 
-/// The options of a replay, each in its range, or the default where it isn't given.
+/// The options of a replay. Each is in its range; an option that isn't given has its default.
 ///
-/// [`Fault::BadOption`] names the first in the order of the table that is no number in its range, or no model that is
-/// there; options of other models than the one that is replayed are tested too.
+/// [`Fault::BadOption`] names the first option, in the order of the table, that is no number in its range, or no
+/// known model. Options of models that aren't replayed are tested too.
 pub(crate) fn read_replay_options(matches: &ArgMatches) -> Result<ReplayOptions, Fault>
     ensures ok { IfOk result (λ o. GiveReplayOptions (first_value (found_of matches.now)) o) }
     ensures err { IfErr result (λ fault. fault_number fault ≡ 7) }

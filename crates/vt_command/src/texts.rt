@@ -1,4 +1,4 @@
-//! The options as help shows them.
+//! The texts that help shows for the options.
 
 const GENERAL: &str = "Options of every model";
 
@@ -9,7 +9,7 @@ const PHOLD: &str = "Options of the model phold, the benchmark of parallel simul
 const STATIONS: &str =
     "Options of the model stations, a closed network of queues with one server each";
 
-/// An option as help shows it.
+/// What help shows of an option.
 pub(crate) struct OptionText {
     pub(crate) name: &'static str,
     pub(crate) value: &'static str,
