@@ -9,13 +9,13 @@ use std::alloc::Global;
 use std::io::Read;
 use vt_key::Fault;
 
-/// How many bytes are asked for at a time.
+/// How many bytes a read asks for.
 const PIECE_LEN: usize = 8_192;
 
-/// All the bytes that a reader has left, up to [`MAX_INPUT`]. Beside them it takes a buffer of a fixed size.
+/// All bytes that a reader has left, at most [`MAX_INPUT`]. Beside them it takes a buffer of a fixed size.
 ///
-/// [`Fault::BadOption`] with `input`: a read failed, an interrupted one too, or there are more bytes.
-/// [`Fault::Memory`]: memory was refused.
+/// [`Fault::BadOption`] with `input`: a read failed or was interrupted, or there are more bytes. [`Fault::Memory`]:
+/// memory was refused.
 pub fn read_input<R: Read>(alloc: Global, reader: &mut R) -> Result<Vec<u8>, Fault>
     ensures ok { IfOk result (λ input. IfSome (R.remaining reader.old) (λ bytes. input.items ≡ bytes)) }
     ensures whole { OnOk result (IsAtEnd (R.remaining reader.new)) }

@@ -1,4 +1,4 @@
-//! What the definitions of a replay's texts say. They are theorems and do nothing when they are called.
+//! What the definitions say of a replay's texts. These functions are theorems: calling them does nothing.
 
 ghost use Rattle.std.specs.Prelude.{◌≡◌, ◌≤◌, ℕ, List, Ok};
 ghost use Rattle.std.specs.List.{AllByRecursion};
@@ -12,15 +12,16 @@ ghost use Rattle.vt_step_text.specs.Replays.{AreAnswered, AreRightlyAnswered};
 ghost use Rattle.vt_step_text.specs.StepLines.{IsOf, numbered_from, text_of_steps};
 ghost use Rattle.vt_step_text.specs.StepText.{steps_of};
 
-/// Whatever the answers of a replay are, the world that it shows at the end is that after the steps whose answers stand for
-/// a step. Where each answer does, these are all steps, and the answers are those that the steps have by definition.
+/// A step of a replay to which memory is refused, or that would take a counter past its limit, isn't taken. The world at
+/// the end of a replay is that after the steps that were taken. If all were taken, their answers are those of the
+/// definitions.
 pub fn replies_are_those_of_the_steps<S, P>()
     ghost sim: { Simulation S P }
     ensures { (world end : World P) (steps : List NumberedStep) (replies : List Answered) → AreAnswered sim world steps replies end →
         AreRightlyAnswered sim world steps replies end }
 {}
 
-/// Steps that are written as text, one a line, are read again, with lines counted from 1.
+/// Reading back steps that were written as text, one a line, gives the same steps, with lines counted from 1.
 pub fn steps_are_read_back()
     ensures { (lps workers : ℕ) (steps : List Step) → lps ≤ MAX_PROCESSES → workers ≤ MAX_WORKERS → AllByRecursion (IsOf lps workers) steps →
         steps_of lps workers (text_of_steps steps) ≡ Ok (numbered_from 1 steps) }

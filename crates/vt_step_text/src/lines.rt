@@ -1,16 +1,16 @@
-//! A text, part by part.
+//! Cutting a text at separators.
 
 ghost use Rattle.std.specs.Prelude.{◌≡◌, ◌==◌, ◌<◌, [], ◌∷◌, length, IfSome, MatchOption, position};
 ghost use Rattle.std.specs.List.{slice_split};
 
-/// The place of the first byte that is `byte`; None if there is none.
+/// The index of the first byte that is `byte`; None if there is none.
 fn place_of(byte: u8, text: &[u8]) -> Option<usize>
     ensures { result ≡ position (λ b. b == byte) text.now }
 {
     text.iter().position(|b| *b == byte)
 }
 
-/// What stands before the first separator, and what stands behind it; None if there is no separator.
+/// What stands before the first separator and what stands behind it; None if there is no separator.
 pub(crate) fn cut_once(text: &[u8], separator: u8) -> Option<(&[u8], &[u8])>
     ensures parts { MatchOption result (slice_split (λ b. b == separator) text.now ≡ text.now ∷ [])
         (λ cut. slice_split (λ b. b == separator) text.now ≡ cut.0.now ∷ slice_split (λ b. b == separator) cut.1.now) }

@@ -25,7 +25,7 @@ const ANSWER_LEN: usize = WORD_LEN + TIME_LEN;
 /// The most bytes of a reply's line: the number of the step's line, a space, the answer and a newline.
 pub const REPLY_LEN: usize = NUMBER_LEN + ANSWER_LEN + 2;
 
-/// The most bytes of the four lines that say what the world shows.
+/// The most bytes of the four lines at the end of a replay: three times and the number of records.
 const SHOWN_LEN: usize = 4 * (WORD_LEN + TIME_LEN + 1);
 
 /// Adds a time.
@@ -58,7 +58,7 @@ fn push_answer(text: &mut TextBuffer, answer: &Result<Reply, Fault>)
     }
 }
 
-/// Adds the line of a reply: the number of its line, and the answer.
+/// Adds the line of a reply: the number of the step's line, a space, the answer and a newline.
 fn push_reply(text: &mut TextBuffer, line: u64, answer: &Result<Reply, Fault>)
     requires room { length text.old + REPLY_LEN ≤ TEXT_ROOM }
     ensures text { text.new ≡ text.old ++ reply_text line answer.now }
@@ -70,7 +70,7 @@ fn push_reply(text: &mut TextBuffer, line: u64, answer: &Result<Reply, Fault>)
     text.push_bytes(b"\n");
 }
 
-/// Adds the line of a word and a time.
+/// Adds a line with a word and a time.
 fn push_time_line(text: &mut TextBuffer, word: &[u8], time: Time)
     requires short { length word.now ≤ WORD_LEN }
     requires room { length text.old + WORD_LEN + TIME_LEN + 1 ≤ TEXT_ROOM }
@@ -82,7 +82,7 @@ fn push_time_line(text: &mut TextBuffer, word: &[u8], time: Time)
     text.push_bytes(b"\n");
 }
 
-/// Adds the four lines that say what the world shows.
+/// Adds the four lines at the end of a replay: announced time, floor, least time, and number of records.
 #[tactic(auto, unfolding(crate::specs::Replies::shown_text))]
 fn push_shown(text: &mut TextBuffer, announced: Time, floor: Time, least: Time, records: usize)
     requires room { length text.old + SHOWN_LEN ≤ TEXT_ROOM }
@@ -97,7 +97,7 @@ fn push_shown(text: &mut TextBuffer, announced: Time, floor: Time, least: Time, 
     text.push_bytes(b"\n");
 }
 
-/// Makes room for `count` bytes. If there is none, the buffer is written first.
+/// Makes room for `count` bytes. If there is none, it writes the buffer first.
 fn make_room<W: Write>(text: &mut TextBuffer, writer: &mut W, count: usize) -> Result<(), Fault>
     requires { count ≤ TEXT_ROOM }
     ensures room { OnOk result (length text.new + count ≤ TEXT_ROOM) }
@@ -112,9 +112,9 @@ fn make_room<W: Write>(text: &mut TextBuffer, writer: &mut W, count: usize) -> R
     }
 }
 
-/// Adds the line of a reply to the buffer, which is written first if there is no room for the line.
+/// Adds the line of a reply to the buffer. If there is no room for the line, it writes the buffer first.
 ///
-/// [`Fault::Output`]: the writer failed, after a beginning of the buffer was written.
+/// [`Fault::Output`]: the writer failed. A beginning of the buffer was written.
 pub fn put_reply<W: Write>(
     text: &mut TextBuffer,
     writer: &mut W,
@@ -130,7 +130,7 @@ pub fn put_reply<W: Write>(
     Ok(())
 }
 
-/// Adds the lines of records to the buffer, which is written whenever there is no room for a line.
+/// Adds the lines of records to the buffer. It writes the buffer whenever there is no room for a line.
 fn put_records<W: Write>(
     text: &mut TextBuffer,
     writer: &mut W,
@@ -147,10 +147,11 @@ fn put_records<W: Write>(
     Ok(())
 }
 
-/// Adds what the world shows at the end of a replay to the buffer, which is written whenever there is no room: the
-/// announced time, the floor of the book, the least time, how many records the book shows, and a line for each of them.
+/// Adds what the world shows at the end of a replay to the buffer, and writes the buffer whenever there is no room.
+/// These are the announced time, the floor of the book, the least time, the number of records that the book shows,
+/// and a line for each record.
 ///
-/// [`Fault::Output`]: the writer failed, after a beginning of the buffer and of these lines was written.
+/// [`Fault::Output`]: the writer failed. A beginning of the buffer and of these lines was written.
 pub fn put_state<W: Write>(
     text: &mut TextBuffer,
     writer: &mut W,
@@ -171,10 +172,9 @@ pub fn put_state<W: Write>(
 }
 
 /// Writes the line of a reply: the number of the step's line, a space, and `ok`, `waiting`, `again`, `announced T` or
-/// `refused N`. Many replies go out in fewer writes by [`put_reply`].
+/// `refused N`. For many replies [`put_reply`] needs fewer writes.
 ///
-/// [`Fault::Output`] where the writer failed or took nothing: then a beginning of the line was written, and the last of it
-/// was not.
+/// [`Fault::Output`]: the writer failed or took nothing. A beginning of the line was written, but not all of it.
 pub fn print_reply<W: Write>(
     writer: &mut W,
     line: u64,
@@ -189,11 +189,10 @@ pub fn print_reply<W: Write>(
     text.flush(writer)
 }
 
-/// Writes what the world shows at the end of a replay: the lines `announced T`, `floor T`, `least T` and `records N`, and a
-/// line for each of the records.
+/// Writes what the world shows at the end of a replay: the lines `announced T`, `floor T`, `least T` and `records N`,
+/// and a line for each record.
 ///
-/// [`Fault::Output`] where the writer failed or took nothing: then a beginning of the text was written, and the last of it
-/// was not.
+/// [`Fault::Output`]: the writer failed or took nothing. A beginning of the text was written, but not all of it.
 pub fn print_state<W: Write>(
     writer: &mut W,
     announced: Time,

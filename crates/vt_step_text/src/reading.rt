@@ -1,4 +1,4 @@
-//! Step texts.
+//! Reading a step text.
 
 ghost use Rattle.std.specs.Prelude.{◌≡◌, ℕ, IfOk, IfErr, Ok};
 ghost use Rattle.vt_step_text.specs.StepText.{is_passed_over, steps_of, IsRefusedAs};
@@ -12,13 +12,13 @@ use vt_steps::Step;
 /// A step with the number of its line, counted from 1.
 #[derive(Debug, Clone, Copy, PartialEq, Eq)]
 pub struct NumberedStep {
-    /// The number of the line that says the step.
+    /// The number of the step's line.
     pub line: u64,
     /// The step.
     pub step: Step,
 }
 
-/// Whether a line is passed over: an empty one, or one that begins with `#`.
+/// Whether a line holds no step: it is empty, or begins with `#`.
 fn is_passed_over(line: &[u8]) -> bool
     ensures { result ≡ is_passed_over line.now }
 {
@@ -28,9 +28,10 @@ fn is_passed_over(line: &[u8]) -> bool
     }
 }
 
-/// The steps of a step text, of a run with `lps` logical processes and `workers` workers.
+/// The steps of a step text, for a run with `lps` logical processes and `workers` workers.
 ///
-/// [`Fault::BadStep`] names the first bad line. [`Fault::Memory`]: memory was refused.
+/// [`Fault::BadStep`]: a line says no step, or the last one has no newline at its end; the number is that of the first
+/// such line, from 1. [`Fault::Memory`]: memory was refused.
 pub fn read_steps(
     alloc: Global,
     text: &[u8],

@@ -1,4 +1,4 @@
-//! A line of a step text, word by word.
+//! Reading a line of a step text, word by word.
 
 ghost use Rattle.std.specs.Prelude.{◌≡◌};
 ghost use Rattle.vt_step_text.specs.Words.{words_of, number_below, step_of_name, step_with_one, step_with_two, step_with_three, step_said};
@@ -8,7 +8,7 @@ use vt_key::Stamp;
 use vt_steps::Step;
 use vt_text::read_number;
 
-/// The number that a word stands for; None if it is no number or not below the limit.
+/// The number that a word stands for; None if it is no number, or not below the limit.
 fn number_below(word: &[u8], limit: u32) -> Option<u32>
     ensures { result ≡ number_below limit word.now }
 {
@@ -20,7 +20,7 @@ fn number_below(word: &[u8], limit: u32) -> Option<u32>
     }
 }
 
-/// The step that a word alone says.
+/// The step of a line that is one word; None if the word is no such step.
 #[tactic(auto, unfolding(crate::specs::Words::step_of_name))]
 fn step_of_name(name: &[u8]) -> Option<Step>
     ensures { result ≡ step_of_name name.now }
@@ -32,7 +32,7 @@ fn step_of_name(name: &[u8]) -> Option<Step>
     }
 }
 
-/// The step that a word and one argument say.
+/// The step of a line with a word and one argument; None if there is no such step.
 #[tactic(auto, unfolding(crate::specs::Words::step_with_one))]
 fn step_with_one(name: &[u8], a: &[u8], lps: u32, workers: u32) -> Option<Step>
     ensures { result ≡ step_with_one lps workers name.now a.now }
@@ -56,7 +56,7 @@ fn step_with_one(name: &[u8], a: &[u8], lps: u32, workers: u32) -> Option<Step>
     }
 }
 
-/// The step that a word and two arguments say.
+/// The step of a line with a word and two arguments; None if there is no such step.
 #[tactic(auto, unfolding(crate::specs::Words::step_with_two))]
 fn step_with_two(name: &[u8], a: &[u8], b: &[u8], workers: u32) -> Option<Step>
     ensures { result ≡ step_with_two workers name.now a.now b.now }
@@ -74,7 +74,7 @@ fn step_with_two(name: &[u8], a: &[u8], b: &[u8], workers: u32) -> Option<Step>
     }
 }
 
-/// The step that a word and three arguments say.
+/// The step of a line with a word and three arguments; None if there is no such step.
 #[tactic(auto, unfolding(crate::specs::Words::step_with_three))]
 fn step_with_three(
     name: &[u8],
@@ -95,7 +95,7 @@ fn step_with_three(
     Some(Step::Cancel(process, Stamp { worker, serial }))
 }
 
-/// The step that a line says, of a run with `lps` logical processes and `workers` workers; None if it says none.
+/// The step that a line says, for a run with `lps` logical processes and `workers` workers; None if it says none.
 pub(crate) fn step_of_line(line: &[u8], lps: u32, workers: u32) -> Option<Step>
     ensures { result ≡ step_said lps workers (words_of line.now) }
 {
