@@ -1,7 +1,7 @@
-//! The program `twarp` as a function of its words, a reader and two writers.
+//! The program `twarp`, as a function of its words, a reader and two writers.
 //!
-//! It stands in a library, and not in the crate of the program, since no crate can stand on one with a `main`: so tests and
-//! other crates can run the whole program on writers of their own.
+//! It stands in a library, since no crate can depend on one with a `main`. So tests and other crates can run the
+//! whole program with writers of their own.
 #![tactic(auto)]
 
 mod refusal;
@@ -48,30 +48,33 @@ fn answer<H: Threads + Wait + Sync, S: AsStr, R: Read, O: Write>(
     }
 }
 
-/// The whole program: does what the words ask for, and answers the status with which it ends. The first word is the
-/// program's name.
+/// The whole program: does what the words ask for, and returns the exit status. The first word is the program's name.
 ///
-/// Status 0: what the words ask for was written to `out`, whole, and nothing else. This is the help; or a line for each
-/// record of a run; or, for a replay of the step text that `reader` gives, a line for each step's answer and then what the
-/// world shows. Any other status comes with one line `twarp: refused N TEXT` on `err`, or a beginning of it if `err` fails.
-/// The status depends on N alone: 2 for 7, 3 for 8, and 1 for the others.
+/// Status 0: `out` got all that the words ask for, and nothing else. This is the help; or a line for each record of a
+/// run; or, for a replay of the step text from `reader`, a line for each step's answer and then what the world shows.
 ///
-/// - 1, memory was refused: nothing was written to `out`, or of a replay the lines of all answers, or of a run in threads the
-///   lines of the records that were committed, which are those below some time. A step of a replay that memory is refused to is
-///   answered so, and ends nothing.
-/// - 3, the committed records of a run in threads couldn't be read: the lines of those below some time were written to `out`.
-/// - 5, a send number of a run, or a serial of a run in threads or at the starts of a replay, would pass 2^63: nothing was
-///   written to `out`, or of a run in threads the lines of the records that were committed.
-/// - 6, a worker of a run in threads made all its turns before the end: the lines of the records that were committed were written
-///   to `out`.
-/// - 7, the words or the input are refused: nothing was written to `out`, and the line names the first bad option in the
-///   order of the table, `command-line` where the words have no meaning, or `input` where a read failed, an interrupted one
-///   too, or the input is longer than a step text may be.
-/// - 8, the step text has a bad line: nothing was run, nothing was written to `out`, and the line names the first bad one.
-/// - 9, `out` failed: a beginning of the text was written, and the last of it was not.
+/// Any other status comes with one line `twarp: refused N TEXT` on `err`, or a beginning of it if `err` fails. The
+/// status depends on N alone: 2 for 7, 3 for 8, and 1 for the others. The committed records of a run in threads are
+/// those below some time.
 ///
-/// The handle is used for the threads of a run on workers alone. The reader is read to its end for a replay, and not
-/// otherwise.
+/// - N = 1: memory was refused. Nothing was written to `out`; or of a replay, the lines of all answers; or of a run in
+///   threads, the lines of the committed records. If memory is refused to a step of a replay, its answer says so, and
+///   the replay goes on.
+/// - N = 3: the committed records of a run in threads couldn't be read. The lines of those below some time were
+///   written to `out`.
+/// - N = 5: a send number of a run would pass 2^63, or a serial of a run in threads or at the starts of a replay.
+///   Nothing was written to `out`; or of a run in threads, the lines of the committed records.
+/// - N = 6: a worker of a run in threads made all its turns before the end of the run. The lines of the committed
+///   records were written to `out`.
+/// - N = 7: the words or the input are refused, and nothing was written to `out`. TEXT names the first bad option in
+///   the order of the table; or `command-line` if the words have no meaning; or `input` if a read failed or was
+///   interrupted, or if the input is longer than a step text may be.
+/// - N = 8: the step text has a bad line. TEXT names the first one. Nothing was run, and nothing was written to
+///   `out`.
+/// - N = 9: `out` failed. A beginning of the text was written, but not all of it.
+///
+/// The handle `rt` serves only for the threads of a run on workers. A replay reads `reader` to its end; nothing else
+/// reads it.
 pub fn program<H: Threads + Wait + Sync, S: AsStr, R: Read, O: Write, E: Write>(
     rt: &H,
     alloc: Global,

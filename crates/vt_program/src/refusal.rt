@@ -1,4 +1,4 @@
-//! The line of a refusal, and its status.
+//! The line of a refusal, and the exit status.
 
 ghost use Rattle.std.specs.Prelude.{◌≡◌, ◌≤◌, ◌+◌, ◌++◌, length, OnOk, OnErr, codes};
 ghost use Rattle.std.specs.Fmt.{decimal};
@@ -13,7 +13,7 @@ use std::io::Write;
 use vt_key::Fault;
 use vt_text::TextBuffer;
 
-/// The text of a fault, up to what the fault carries.
+/// The text of a fault, without the option or the line that it names.
 fn fault_text(fault: Fault) -> &'static str
     ensures value { result.now ≡ fixed_text fault }
     ensures short { length result.now ≤ 20 }
@@ -31,7 +31,7 @@ fn fault_text(fault: Fault) -> &'static str
     }
 }
 
-/// Adds what a fault carries.
+/// Adds the option or the line that a fault names, if it names one.
 fn put_carried<W: Write>(text: &mut TextBuffer, writer: &mut W, fault: Fault) -> Result<(), Fault>
     requires room { length text.old + NUMBER_LEN ≤ TEXT_ROOM }
     ensures ok { OnOk result (AppendsAllButHeld (W.contents writer.old) (W.contents writer.new) text.new (text.old ++ carried_text fault)) }
@@ -47,7 +47,7 @@ fn put_carried<W: Write>(text: &mut TextBuffer, writer: &mut W, fault: Fault) ->
     }
 }
 
-/// The line of a refusal, up to what the fault carries.
+/// The line of a refusal, without the option or the line that the fault names.
 fn begin_refusal(fault: Fault) -> TextBuffer
     ensures text { result ≡ codes "twarp: refused " ++ decimal (fault_number fault) ++ codes " " ++ fixed_text fault }
     ensures short { length result ≤ 60 }
@@ -60,7 +60,7 @@ fn begin_refusal(fault: Fault) -> TextBuffer
     text
 }
 
-/// Writes the line of a refusal, by one write where the name of an option isn't very long.
+/// Writes the line of a refusal, in one write unless the name of an option is very long.
 fn print_refusal<W: Write>(writer: &mut W, fault: Fault) -> Result<(), Fault>
     ensures ok { OnOk result (Appends (W.contents writer.old) (W.contents writer.new) (refusal_text fault)) }
     ensures err { OnErr result (AppendsBeginning (W.contents writer.old) (W.contents writer.new) (refusal_text fault)) }
@@ -71,7 +71,7 @@ fn print_refusal<W: Write>(writer: &mut W, fault: Fault) -> Result<(), Fault>
     text.flush(writer)
 }
 
-/// The status with which the program ends after a refusal.
+/// The exit status after a refusal.
 fn status(fault: Fault) -> u8
     ensures { result ≡ status_of fault }
 {
@@ -82,15 +82,15 @@ fn status(fault: Fault) -> u8
     }
 }
 
-/// Writes the line `twarp: refused N TEXT` of a refusal, and answers the status with which the program ends: 2 for
-/// [`Fault::BadOption`], 3 for [`Fault::BadStep`] and 1 for the others.
+/// Writes the line `twarp: refused N TEXT` of a refusal, and returns the exit status: 2 for [`Fault::BadOption`], 3
+/// for [`Fault::BadStep`] and 1 for the others.
 ///
-/// Where the line can't be written, a beginning of it was, and the status is the same.
+/// If `err` fails, a beginning of the line was written. The status is the same.
 pub fn tell_refusal<E: Write>(err: &mut E, fault: Fault) -> u8
     ensures status { result ≡ status_of fault }
     ensures told { TellsRefusal fault (E.contents err.old) (E.contents err.new) }
 {
-    // If the line can't be written, that is no refusal of its own.
+    // A line that can't be written is no refusal of its own: the status stays.
     let _ = print_refusal(err, fault);
     status(fault)
 }

@@ -1,4 +1,4 @@
-//! A replay: a world that is driven by the steps of a text, and what it answers.
+//! A replay: a world that is driven by the steps of a text, and its answers.
 
 ghost use Rattle.std.specs.Prelude.{◌≡◌, ◌≤◌, ◌⊎◌, ◌++◌, OnOk, OnErr, IfOk, IfErr};
 ghost use Rattle.std.specs.Io.KnownBytes.{Appends};
@@ -20,7 +20,7 @@ use vt_step_text::{NumberedStep, put_reply, put_state, read_input, read_steps};
 use vt_text::TextBuffer;
 use vt_world::World;
 
-/// The steps of the text that a reader gives.
+/// Reads the steps of the text that a reader gives.
 fn read_replay<R: Read>(
     alloc: Global,
     reader: &mut R,
@@ -33,8 +33,8 @@ fn read_replay<R: Read>(
     read_steps(alloc, text.as_slice(), config.lps, config.workers)
 }
 
-/// Does the steps one after the other, and puts the line of what each is answered. A step that is refused, for whatever
-/// reason, changes nothing, and the next one follows.
+/// Does the steps one after the other, and puts a line for each answer. A step that is refused, for any reason,
+/// changes nothing, and the next one follows.
 fn put_replies<M: EventModel, O: Write>(
     alloc: Global,
     world: &mut World<'_, M>,
@@ -56,9 +56,10 @@ fn put_replies<M: EventModel, O: Write>(
     Ok(())
 }
 
-/// Writes what is gathered, and then what the world shows.
+/// Writes the gathered lines, and then what the world shows.
 ///
-/// [`Fault::Memory`]: the records couldn't be copied; just what was gathered was written. [`Fault::Output`]: the writer failed.
+/// [`Fault::Memory`]: the records couldn't be copied, and only the gathered lines were written. [`Fault::Output`]:
+/// the writer failed.
 fn show<M: EventModel, O: Write>(
     alloc: Global,
     world: &World<'_, M>,
@@ -121,13 +122,16 @@ fn print_steps<O: Write>(
     }
 }
 
-/// Reads a step text, replays its steps on the model that the options name, and writes what each is answered and what the
-/// world shows at the end. The whole text is read before anything is run.
+/// Reads a step text, replays its steps on the model that the options name, and writes each step's answer and what
+/// the world shows at the end. It reads the whole text before it runs anything.
 ///
-/// [`Fault::BadOption`] with `input`: a read failed, or the text is too long. [`Fault::BadStep`]: the first bad line of the
-/// text. [`Fault::Exhausted`]: the starts would make more events than serials are left. After these three nothing was
-/// written. [`Fault::Memory`]: memory was refused to something else than a step: nothing was written, or the lines of all
-/// answers and nothing of what the world shows. [`Fault::Output`]: the writer failed, and a beginning of the output was written.
+/// [`Fault::BadOption`] with `input`: a read failed, or the text is too long. [`Fault::BadStep`]: the text has a bad
+/// line, the first of which is named. [`Fault::Exhausted`]: the starts would make more events than serials are left.
+/// After these three nothing was written.
+///
+/// [`Fault::Memory`]: memory was refused to something other than a step. Nothing was written, or the lines of all
+/// answers and nothing of what the world shows. [`Fault::Output`]: the writer failed, and a beginning of the output
+/// was written.
 pub(crate) fn run_replay<R: Read, O: Write>(
     alloc: Global,
     options: &ReplayOptions,

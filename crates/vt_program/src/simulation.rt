@@ -30,8 +30,8 @@ fn print_run<M: EventModel, O: Write>(
     print_records(out, run.records())
 }
 
-/// Simulates a model by Time Warp, in a thread for each worker, and writes the records of the run. Where the run stops, those
-/// that were committed are written before the refusal is answered.
+/// Simulates a model by Time Warp, in a thread for each worker, and writes the records of the run. If the run stops,
+/// it writes the committed records before it returns the fault.
 fn print_work<H: Threads + Wait + Sync, M: EventModel + Sync, O: Write>(
     rt: &H,
     alloc: Global,
@@ -55,7 +55,7 @@ where
     }
 }
 
-/// Simulates a model in the way that the options ask for, and writes the records of the run.
+/// Simulates a model with the kind of run that the options name, and writes the records of the run.
 fn print_model<H: Threads + Wait + Sync, M: EventModel + Sync, O: Write>(
     rt: &H,
     alloc: Global,
@@ -77,13 +77,14 @@ where
 
 /// Simulates the model that the options name, and writes the records of the run.
 ///
-/// A sequential run: [`Fault::Memory`]: memory was refused, and nothing was written. [`Fault::Exhausted`]: some step of the run
-/// would take a send number past 2^63, and nothing was written.
+/// In a sequential run, [`Fault::Memory`] means that memory was refused, and [`Fault::Exhausted`] that a send number
+/// would pass 2^63. Nothing was written.
 ///
-/// A run in threads: after these two, after [`Fault::TurnsSpent`], where a worker made all its turns before the end, and after
-/// [`Fault::Busy`], where the records couldn't be read, the records that were committed were written: those below some time.
+/// In a run in threads, the committed records, which are those below some time, are written before each of these
+/// faults: [`Fault::Memory`], [`Fault::Exhausted`], [`Fault::TurnsSpent`] if a worker made all its turns before the
+/// end of the run, and [`Fault::Busy`] if the records couldn't be read.
 ///
-/// Both: [`Fault::Output`]: the writer failed, and a beginning of the text was written.
+/// In both, [`Fault::Output`] means that the writer failed. A beginning of the text was written.
 pub fn simulate<H: Threads + Wait + Sync, O: Write>(
     rt: &H,
     alloc: Global,
