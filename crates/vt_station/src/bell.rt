@@ -1,6 +1,6 @@
-//! Where workers wait: a bell for each, and what they count together.
+//! How workers wait: a bell for each, and what they count together.
 //!
-//! It stands beside the station: no call of a place waits.
+//! The bells stand apart from the station, since no call of a place waits.
 
 ghost use Rattle.std.specs.Prelude.{◌≡◌, IfErr};
 ghost use Rattle.vt_key.specs.declared.fault.Fault.TheVariants.{Memory};
@@ -13,30 +13,31 @@ use std::thread::yield_now;
 use std::time::Duration;
 use vt_key::Fault;
 
-/// How often a worker that begins looks whether all have begun before it sleeps.
+/// How often a worker that has begun looks whether all have, before it sleeps.
 const LOOKS: u32 = 300;
 
-/// How many milliseconds a worker sleeps at a time while not all have begun.
+/// How long a worker sleeps at a time while not all have begun, in milliseconds.
 const NAP: u64 = 4;
 
-/// How often it yields after each nap. Where the machine is busy each takes a time slice, in which a started thread may begin.
+/// How often a worker yields after each nap. On a busy machine each yield takes a time slice, in which a started
+/// thread may begin.
 const YIELDS: u32 = 8;
 
-/// After how many naps in a row in which no worker has begun it is taken that no more will: a thread wasn't started.
+/// After so many naps in a row in which no worker has begun, a worker concludes that a thread wasn't started.
 const MOST_NAPS: u32 = 300;
 
-/// How the work of all begins.
+/// How the wait for all workers to begin has ended.
 #[derive(Clone, Copy)]
 pub(crate) enum Start {
     /// All workers have begun.
     Whole,
-    /// None has begun for so long that the machine can't have started a thread for each.
+    /// No worker has begun for so long that a thread wasn't started.
     Short,
     /// A worker has left before all had begun.
     Over,
 }
 
-/// A word that threads share, with nothing else on its lines of the cache.
+/// A word that threads share, padded so that nothing else is on its cache lines.
 #[derive(Drop)]
 #[repr(C)]
 struct Word {
@@ -58,22 +59,22 @@ impl Word {
         self.value.load(Ordering::SeqCst)
     }
 
-    /// Adds 1, and gives what was there before.
+    /// Adds 1, and returns the value before.
     fn raise(&self) -> u64 {
         self.value.fetch_add(1, Ordering::SeqCst)
     }
 }
 
-/// The bell of one worker, who alone sleeps at it.
+/// The bell of one worker. Only that worker sleeps at it.
 #[derive(Drop)]
 #[repr(C)]
 struct Bell {
     before: [u64; 8],
-    // How often it was rung.
+    // How often the bell was rung.
     rings: AtomicU64,
-    // One more than the rings at which its worker last went to sleep.
+    // One more than `rings` when the worker last went to sleep.
     asleep: AtomicU64,
-    // How often mail was put into its worker's inbox.
+    // How often mail was put into the worker's inbox.
     mail: AtomicU64,
     after: [u64; 8],
 }
@@ -93,7 +94,7 @@ impl Bell {
         self.rings.load(Ordering::SeqCst)
     }
 
-    /// Only who moves the rings on from where the worker sleeps wakes it.
+    /// Rings the bell. Only the first ring after the worker went to sleep wakes it.
     fn ring(&self) {
         let before = self.rings.fetch_add(1, Ordering::SeqCst);
         if self.asleep.load(Ordering::SeqCst) == before.wrapping_add(1) {
@@ -101,7 +102,8 @@ impl Bell {
         }
     }
 
-    /// Returns once the bell was rung since it was heard so often, and tells whether it slept: not where some looks were enough.
+    /// Waits until the bell has been rung more than `heard` times: looks up to `looks` times, then sleeps. Returns whether
+    /// it slept.
     fn wait<R: Wait>(&self, rt: &R, heard: u64, looks: u32) -> bool {
         for _ in 0..looks {
             if self.rings() != heard {
@@ -120,7 +122,7 @@ impl Bell {
     }
 }
 
-/// The bells of all workers, by number, and how far all have come.
+/// The bells of all workers, by number, and what the workers count together.
 #[derive(Drop)]
 pub(crate) struct Bells {
     bells: Vec<Bell>,
@@ -128,7 +130,7 @@ pub(crate) struct Bells {
     begun: Word,
     // How many cuts were done.
     cuts: Word,
-    // How often all had cut, or a pass was closed: then a cut or a report may be lawful that wasn't before.
+    // How often the round has moved on: all had cut, or a pass was closed. Then a cut or a report may have become lawful.
     moves: Word,
     // Whether a worker has left before the end of the run.
     stopped: AtomicBool,
@@ -153,7 +155,8 @@ impl Bells {
         })
     }
 
-    /// How often the bell of worker `w` was rung. Who waits later reads it before it tries.
+    /// How often the bell of worker `w` was rung. A worker reads it before it tries, and waits for more if nothing
+    /// was done.
     pub(crate) fn heard(&self, w: u32) -> u64 {
         match self.bells.get(w as usize) {
             Some(bell) => bell.rings(),
@@ -169,7 +172,7 @@ impl Bells {
         }
     }
 
-    /// Mail was put into the inbox of worker `w`.
+    /// Counts mail for worker `w`, and rings its bell.
     pub(crate) fn post(&self, w: u32) {
         if let Some(bell) = self.bells.get(w as usize) {
             bell.mail.fetch_add(1, Ordering::SeqCst);
@@ -182,7 +185,7 @@ impl Bells {
         self.moves.get()
     }
 
-    /// Worker `w` has cut. The last one of a round lets all others report.
+    /// Counts a cut of worker `w`. The last cut of a round moves the round on, since all may report now.
     pub(crate) fn cut(&self, w: u32) {
         let cuts = self.cuts.raise().wrapping_add(1);
         let all = self.bells.len() as u64;
@@ -191,13 +194,13 @@ impl Bells {
         }
     }
 
-    /// By what worker `w` has done the round has moved on.
+    /// Counts that worker `w` has moved the round on, and rings for all others.
     pub(crate) fn move_on(&self, w: u32) {
         self.moves.raise();
         self.ring_others(w);
     }
 
-    /// Rings for all workers but `w`.
+    /// Rings the bells of all workers but `w`.
     pub(crate) fn ring_others(&self, w: u32) {
         for (i, bell) in self.bells.iter().enumerate() {
             if i != w as usize {
@@ -206,7 +209,7 @@ impl Bells {
         }
     }
 
-    /// Worker `w` leaves before the end of the run.
+    /// Notes that worker `w` leaves before the end of the run, and rings for all others.
     pub(crate) fn stop(&self, w: u32) {
         self.stopped.store(true, Ordering::SeqCst);
         self.ring_others(w);
@@ -217,8 +220,8 @@ impl Bells {
         self.stopped.load(Ordering::SeqCst)
     }
 
-    /// Returns once the bell of worker `w` was rung since it was heard so often, and tells whether it slept: not where some looks
-    /// were enough.
+    /// Waits until the bell of worker `w` has been rung more than `heard` times: looks up to `looks` times, then sleeps.
+    /// Returns whether it slept.
     pub(crate) fn wait<R: Wait>(&self, rt: &R, w: u32, heard: u64, looks: u32) -> bool {
         match self.bells.get(w as usize) {
             Some(bell) => bell.wait(rt, heard, looks),
@@ -226,7 +229,7 @@ impl Bells {
         }
     }
 
-    /// A worker has begun, and waits until all have.
+    /// Counts a worker that begins, and waits until all have begun.
     pub(crate) fn begin<R: Wait>(&self, rt: &R) -> Start {
         if self.is_stopped() {
             return Start::Over;
@@ -245,7 +248,7 @@ impl Bells {
         self.await_all(rt, all)
     }
 
-    /// Sleeps until all have begun, or none has for long.
+    /// Sleeps until all have begun, or no worker has begun for long.
     fn await_all<R: Wait>(&self, rt: &R, all: u64) -> Start {
         let mut seen = 0;
         let mut naps = 0;

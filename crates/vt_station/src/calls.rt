@@ -1,4 +1,4 @@
-//! The calls of a place at its station.
+//! The calls by which a place acts at its station.
 
 ghost use Rattle.std.specs.Prelude.{◌≡◌, ◌<◌, true, IfOk, IfErr, MatchResult};
 ghost use Rattle.vt_key.specs.Times.{Time as TimeValue};
@@ -20,13 +20,15 @@ use vt_key::Fault;
 use vt_model::{Model as EventModel, Record};
 
 impl<M: EventModel> Station<M> {
-    /// Sends the kernel's letters for processes of worker `v` to the inbox of `v`. The kernel must be the place's own: made
-    /// for its worker with the station's model and config, and changed since the last visit by local calls alone. This
-    /// holds for every call that is lent a kernel.
+    /// Sends the kernel's letters for processes of worker `v` to the inbox of `v`.
     ///
-    /// [`Fault::NotLawful`]: `v` is this worker, or the kernel has no letter for a process of `v`. [`Fault::Exhausted`]: the count of
-    /// mail sent would pass 2^63. [`Fault::Busy`]: another place had claimed the inbox. [`Fault::Memory`]: memory was refused.
-    /// Faults are tested in this order, and after each of them the place and the kernel are as they were.
+    /// The kernel must be the place's own. It was made for the place's worker, with the station's model and config,
+    /// and only local calls have changed it since the last visit. This holds for every call that takes a kernel.
+    ///
+    /// [`Fault::NotLawful`]: `v` is this worker, or the kernel has no letter for a process of `v`.
+    /// [`Fault::Exhausted`]: the count of mail sent would pass 2^63. [`Fault::Busy`]: another place has claimed the
+    /// inbox. [`Fault::Memory`]: memory was refused. Faults are tested in this order. After each of them the place
+    /// and the kernel are unchanged.
     pub fn post(
         &self,
         place: &mut Place<M::Payload>,
@@ -47,8 +49,9 @@ impl<M: EventModel> Station<M> {
 
     /// Moves the mail of the worker's inbox to its kernel, as arrived. It takes no memory.
     ///
-    /// [`Fault::NotLawful`]: something that arrived before is not accepted yet. [`Fault::Busy`]: another place had claimed the inbox.
-    /// [`Fault::Exhausted`]: a count of mail got would pass 2^63. After each of them the place and the kernel are as they were.
+    /// [`Fault::NotLawful`]: mail that arrived before is not accepted yet. [`Fault::Busy`]: another place has claimed
+    /// the inbox. [`Fault::Exhausted`]: a count of mail got would pass 2^63. After each of them the place and the
+    /// kernel are unchanged.
     pub fn fetch(&self, place: &mut Place<M::Payload>, kernel: &mut Kernel<M>) -> Result<(), Fault>
         requires own { place_table place.old ≡ station_table self.now }
         requires kernel { Reaches (M.handlers (station_model self.now)) (station_config self.now) (place_view place.old) kernel.old }
@@ -62,10 +65,12 @@ impl<M: EventModel> Station<M> {
         self.fetch_at(&mut place.seat, kernel, place.worker)
     }
 
-    /// The worker joins the open round, or opens one: it changes its colour and learns the announced time. It takes no memory.
+    /// The worker joins the open round; if none is open, it opens one. It changes its colour and learns the announced
+    /// time. It takes no memory.
     ///
-    /// [`Fault::Busy`]: another place had claimed the board. [`Fault::NotLawful`]: the worker has cut in the open round.
-    /// [`Fault::Exhausted`]: one more round would be more than 2^63. After each of them the place and the kernel are as they were.
+    /// [`Fault::Busy`]: another place has claimed the board. [`Fault::NotLawful`]: the worker has cut in the open
+    /// round. [`Fault::Exhausted`]: one more round would be more than 2^63. After each of them the place and the
+    /// kernel are unchanged.
     pub fn cut(&self, place: &mut Place<M::Payload>, kernel: &mut Kernel<M>) -> Result<(), Fault>
         requires own { place_table place.old ≡ station_table self.now }
         requires kernel { Reaches (M.handlers (station_model self.now)) (station_config self.now) (place_view place.old) kernel.old }
@@ -79,10 +84,12 @@ impl<M: EventModel> Station<M> {
         self.cut_at(&mut place.seat, kernel, place.worker)
     }
 
-    /// The worker reports its counts and its least time to the board, and learns the announced time. It takes no memory.
+    /// The worker reports its counts and its least time to the board, and learns the announced time. It takes no
+    /// memory.
     ///
-    /// [`Fault::Busy`]: another place had claimed the board. [`Fault::NotLawful`]: no round is open, somebody hasn't cut in it, or the
-    /// worker has reported in this pass. After either the place and the kernel are as they were.
+    /// [`Fault::Busy`]: another place has claimed the board. [`Fault::NotLawful`]: no round is open, some worker
+    /// hasn't cut in it, or this worker has reported in this pass. After either the place and the kernel are
+    /// unchanged.
     pub fn report(
         &self,
         place: &mut Place<M::Payload>,
@@ -100,10 +107,10 @@ impl<M: EventModel> Station<M> {
         self.report_at(&mut place.seat, kernel, place.worker)
     }
 
-    /// The worker hands the rows of its events below its floor in to the book, and will never undo these events.
+    /// The worker hands the rows of its events below its floor in to the book. It will never undo these events.
     ///
-    /// [`Fault::Busy`]: another place had claimed the book. [`Fault::Closed`]: the book is closed. [`Fault::Memory`]: memory was
-    /// refused. After each of them the place and the kernel are as they were.
+    /// [`Fault::Busy`]: another place has claimed the book. [`Fault::Closed`]: the book is closed. [`Fault::Memory`]:
+    /// memory was refused. After each of them the place and the kernel are unchanged.
     pub fn commit(
         &self,
         alloc: Global,
@@ -126,8 +133,8 @@ impl<M: EventModel> Station<M> {
 
     /// Closes the book, whose floor must be the end of the run: no row will follow. It takes no memory.
     ///
-    /// [`Fault::Busy`]: another place had claimed the book. [`Fault::Closed`]: the book is closed. [`Fault::NotLawful`]: its floor isn't
-    /// the end of the run. After each of them the place is as it was.
+    /// [`Fault::Busy`]: another place has claimed the book. [`Fault::Closed`]: the book is closed.
+    /// [`Fault::NotLawful`]: its floor isn't the end of the run. After each of them the place is unchanged.
     pub fn close(&self, place: &mut Place<M::Payload>) -> Result<(), Fault>
         requires own { place_table place.old ≡ station_table self.now }
         ensures same { (place_table place.new ≡ place_table place.old) × (place_worker place.new ≡ place_worker place.old) }
@@ -138,11 +145,11 @@ impl<M: EventModel> Station<M> {
         self.close_at(&mut place.seat)
     }
 
-    /// The records that the book shows: exactly the sequential run's below some floor, which is at least each floor that
-    /// this place was shown.
+    /// The records that the book shows: exactly the sequential run's below some floor. That floor is at least each
+    /// floor that this place was shown before.
     ///
-    /// [`Fault::Busy`]: another place had claimed the book. [`Fault::Memory`]: memory was refused. After either the place is as it
-    /// was.
+    /// [`Fault::Busy`]: another place has claimed the book. [`Fault::Memory`]: memory was refused. After either the
+    /// place is unchanged.
     pub fn records(
         &self,
         alloc: Global,

@@ -22,7 +22,7 @@ use vt_model::Model as EventModel;
 use vt_steps::{Reply, Step};
 
 impl<M: EventModel> Station<M> {
-    /// The cut of a worker on the claimed board.
+    /// Does a worker's cut on the board, which is claimed.
     fn cut_board(&self, seat: &mut Seat<M>, worker: u32) -> Result<Time, Fault>
         requires table { seat.old.table_id ≡ self.now.table.shared.table_id }
         requires held { (board : BoardValue) × Holding self.now.table.shared.key.config seat.old.me self.now.workers (on_board board) (on_board board) }
@@ -38,7 +38,7 @@ impl<M: EventModel> Station<M> {
         board.cut(worker)
     }
 
-    /// The cut of a worker.
+    /// Does a worker's cut.
     pub(crate) fn cut_at(
         &self,
         seat: &mut Seat<M>,
@@ -80,7 +80,7 @@ impl<M: EventModel> Station<M> {
 }
 
 impl<M: EventModel> Station<M> {
-    /// The report of a worker on the claimed board: what it comes to, and the announced time as it then is.
+    /// Does a worker's report on the board, which is claimed. Returns the outcome, and the announced time after it.
     fn report_board(
         &self,
         seat: &mut Seat<M>,
@@ -108,7 +108,7 @@ impl<M: EventModel> Station<M> {
         }
     }
 
-    /// The report of a worker.
+    /// Does a worker's report.
     pub(crate) fn report_at(
         &self,
         seat: &mut Seat<M>,

@@ -17,20 +17,21 @@ use vt_board::Report;
 use vt_key::{Fault, Time};
 use vt_model::Model as EventModel;
 
-/// How often in a row a worker tries again at once where a cell was claimed by another place, before it gives its processor away.
+/// How often in a row a worker tries again at once after it found a cell claimed by another place. Then it yields its
+/// processor.
 const MOST_SPINS: u32 = 32;
 
-/// How many pauses it makes before each such try.
+/// How many pauses a worker makes before each such try.
 const PAUSES: u32 = 20;
 
-/// How often at most a worker looks at its bell before it sleeps.
+/// The most looks of a worker at its bell before it sleeps.
 const MOST_LOOKS: u32 = 2_000;
 
-/// How often at least.
+/// The fewest looks of a worker at its bell before it sleeps.
 const LEAST_LOOKS: u32 = 100;
 
-/// How many turns a worker makes once another one has left before the end of the run: enough to close a book that all have
-/// handed in to.
+/// How many turns a worker makes after another one has left before the end of the run. They are enough to close a
+/// book to which all have handed in.
 const LAST_TURNS: u32 = 8;
 
 /// How the work of a worker ended.
@@ -46,33 +47,33 @@ pub(crate) enum Outcome {
     Refused(Fault),
 }
 
-/// A worker that makes its turns.
+/// A worker and what it needs to make its turns.
 #[derive(Drop)]
 pub(crate) struct Driver<'a, M: EventModel> {
     worker: Worker<'a, M>,
-    // The processes that letters reached, and that are not settled since.
+    // The processes that letters have reached since they were last settled.
     touched: Vec<u32>,
-    // The floor of the last hand-in that was done.
+    // The worker's floor at its last hand-in.
     handed: Time,
     pace: Pace,
     bells: &'a Bells,
-    // How often the own bell was rung before the turn.
+    // How often the worker's own bell had been rung before this turn.
     heard: u64,
-    // How often mail had been put into the inbox before the last fetch that was done.
+    // How often mail had been put into the inbox before the last fetch.
     fetched: u64,
-    // How often the round had moved on before the last cut or report that was done or not lawful.
+    // How often the round had moved on before the last cut or report that didn't find the board claimed.
     asked: Option<u64>,
-    // Whether the worker has cut and not reported since.
+    // Whether the worker has cut and hasn't reported since.
     has_cut: bool,
-    // Whether in this turn a cell was claimed by another place.
+    // Whether another place had claimed a cell that was needed in this turn.
     busy: bool,
-    // Whether in this turn there was nothing to go on with.
+    // Whether this turn left nothing to go on with.
     idle: bool,
-    // How often in a row it tried again at once.
+    // How many times in a row the worker has tried again at once.
     spins: u32,
-    // How often it looks at its bell before it sleeps: half as often after each sleep, and twice as often after each wait without.
+    // How often the worker looks at its bell before it sleeps: halved after each sleep, doubled after each wait without one.
     looks: u32,
-    // How many turns were made since another worker has left.
+    // How many turns were made since another worker left before the end of the run.
     last_turns: u32,
 }
 
@@ -100,7 +101,7 @@ impl<'a, M: EventModel> Driver<'a, M> {
         }
     }
 
-    /// The place of the worker, whose work has ended.
+    /// Gives up the worker, and returns its place.
     pub(crate) fn leave(self) -> Place<M::Payload>
         ensures table { place_table result ≡ self.entry.worker.table }
         ensures view { place_view result ≡ self.entry.worker.view }
@@ -108,7 +109,7 @@ impl<'a, M: EventModel> Driver<'a, M> {
         self.worker.leave()
     }
 
-    /// Notes that a letter reached process `lp`.
+    /// Notes that a letter is for process `lp`, which has to be settled.
     fn touch(&mut self, lp: u32) -> Result<(), Fault>
         ensures same { self.new.worker ≡ self.old.worker }
         ensures lasting { IfErr result IsLasting }
@@ -119,7 +120,7 @@ impl<'a, M: EventModel> Driver<'a, M> {
         Ok(())
     }
 
-    /// Undoes and cancels at each process that letters reached. The letters that this takes back are counted.
+    /// Undoes and cancels at each process that letters have reached, and counts the letters that this takes back.
     fn settle_touched(&mut self)
         ensures same { self.new.worker.table ≡ self.old.worker.table }
     {
@@ -134,7 +135,7 @@ impl<'a, M: EventModel> Driver<'a, M> {
         self.pace.undo(after.saturating_sub(before));
     }
 
-    /// Takes all mail that has arrived to its processes, the last first.
+    /// Accepts all mail that has arrived, the last letter first.
     fn accept_all(&mut self) -> Result<(), Fault>
         ensures same { self.new.worker.table ≡ self.old.worker.table }
         ensures lasting { IfErr result IsLasting }
@@ -150,7 +151,7 @@ impl<'a, M: EventModel> Driver<'a, M> {
         Ok(())
     }
 
-    /// Takes all letters of the outbox that are for processes of this worker to them.
+    /// Takes all letters of the outbox that are for processes of this worker home.
     fn home_all(&mut self) -> Result<(), Fault>
         ensures same { self.new.worker.table ≡ self.old.worker.table }
         ensures lasting { IfErr result IsLasting }
@@ -167,7 +168,7 @@ impl<'a, M: EventModel> Driver<'a, M> {
         Ok(())
     }
 
-    /// How many events the turn may execute: none once another worker has left.
+    /// How many events this turn may execute: none once another worker has left before the end of the run.
     fn allowed(&self) -> u32 {
         if self.last_turns > 0 {
             0
@@ -176,7 +177,7 @@ impl<'a, M: EventModel> Driver<'a, M> {
         }
     }
 
-    /// Executes lawful events, the least first, and tells how many.
+    /// Executes events, each time the one of least rank, and returns how many.
     fn execute_some<G: Gate>(&mut self, gate: &G, turn: u64) -> Result<u32, Fault>
         ensures same { self.new.worker.table ≡ self.old.worker.table }
         ensures lasting { IfErr result IsLasting }
@@ -194,7 +195,7 @@ impl<'a, M: EventModel> Driver<'a, M> {
         Ok(most)
     }
 
-    /// Sends to each worker that there are letters for, until all are sent or an inbox is claimed by another place.
+    /// Sends to each worker that there are letters for, until all are sent or another place has claimed an inbox.
     fn post_all(&mut self) -> Result<(), Fault>
         ensures same { self.new.worker.table ≡ self.old.worker.table }
         ensures lasting { IfErr result IsLasting }
@@ -212,7 +213,8 @@ impl<'a, M: EventModel> Driver<'a, M> {
         Ok(())
     }
 
-    /// Whether a call was done. Only what no later turn mends is handed on, and what another place has claimed is noted.
+    /// Whether a call was done. Notes if another place had claimed the cell. An error is a fault that no later turn
+    /// mends.
     fn is_done(&mut self, answer: Result<(), Fault>) -> Result<bool, Fault>
         ensures same { self.new.worker ≡ self.old.worker }
         ensures passed { IsPassedOver answer result }
@@ -224,8 +226,8 @@ impl<'a, M: EventModel> Driver<'a, M> {
         pass_over(answer)
     }
 
-    /// Joins the round of global virtual time: one cut, or where that isn't lawful one report. It tells whether one was done. After
-    /// either, and where neither was lawful, none is until the round has moved on.
+    /// Takes part in the round of global virtual time by one cut or one report, and returns whether one was done.
+    /// After that it doesn't ask again until the round has moved on, unless another place had claimed the board.
     fn agree(&mut self) -> Result<bool, Fault>
         ensures same { self.new.worker.table ≡ self.old.worker.table }
         ensures lasting { IfErr result IsLasting }
@@ -245,7 +247,7 @@ impl<'a, M: EventModel> Driver<'a, M> {
         self.is_done(answer)
     }
 
-    /// One cut, or where it isn't lawful one report.
+    /// One cut; if the worker has cut in this round already, one report.
     fn cut(&mut self) -> Result<(), Fault>
         ensures same { self.new.worker.table ≡ self.old.worker.table }
     {
@@ -273,8 +275,8 @@ impl<'a, M: EventModel> Driver<'a, M> {
         Ok(())
     }
 
-    /// Hands in where the floor has risen since the last hand-in: else there is nothing that the book doesn't have. It tells whether
-    /// it was done.
+    /// Hands in if the floor has risen since the last hand-in; otherwise the book has all that there is. Returns
+    /// whether it was done.
     fn commit_risen(&mut self) -> Result<bool, Fault>
         ensures same { self.new.worker.table ≡ self.old.worker.table }
         ensures lasting { IfErr result IsLasting }
@@ -291,8 +293,8 @@ impl<'a, M: EventModel> Driver<'a, M> {
         Ok(done)
     }
 
-    /// Closes the book, where the worker knows that the end of the run was announced: before that it isn't lawful. It tells
-    /// whether the work has ended.
+    /// Closes the book if the worker knows that the end of the run was announced; before that, closing isn't lawful.
+    /// Returns how the work ended, if it has.
     fn close(&mut self) -> Option<Outcome>
         ensures same { self.new.worker.table ≡ self.old.worker.table }
         ensures ended { IfSome result (HasEnded self.new.worker.view) }
@@ -311,7 +313,7 @@ impl<'a, M: EventModel> Driver<'a, M> {
     }
 }
 
-/// Whether a call was done. Only what no later turn mends is handed on.
+/// Whether a call was done. An error is a fault that no later turn mends.
 fn pass_over(answer: Result<(), Fault>) -> Result<bool, Fault>
     ensures passed { IsPassedOver answer result }
     ensures lasting { IfErr result IsLasting }
@@ -325,7 +327,8 @@ fn pass_over(answer: Result<(), Fault>) -> Result<bool, Fault>
 }
 
 impl<'a, M: EventModel> Driver<'a, M> {
-    /// All of a turn but its end: mail comes in, events are executed, mail goes out. It tells whether an event was executed.
+    /// A turn up to its cut: fetches and accepts mail, executes events, and sends mail. Returns whether an event was
+    /// executed.
     fn work<G: Gate>(&mut self, gate: &G, turn: u64) -> Result<bool, Fault>
         ensures same { self.new.worker.table ≡ self.old.worker.table }
         ensures lasting { IfErr result IsLasting }
@@ -343,7 +346,7 @@ impl<'a, M: EventModel> Driver<'a, M> {
         Ok(executed > 0)
     }
 
-    /// The mail in the worker's inbox has arrived, where any was put there since the last fetch.
+    /// Fetches the mail of the worker's inbox, if any was put there since the last fetch.
     fn fetch(&mut self) -> Result<(), Fault>
         ensures same { self.new.worker.table ≡ self.old.worker.table }
         ensures lasting { IfErr result IsLasting }
@@ -360,7 +363,7 @@ impl<'a, M: EventModel> Driver<'a, M> {
         Ok(())
     }
 
-    /// One turn but its close.
+    /// One turn, all but the close of the book.
     fn turn<G: Gate>(&mut self, gate: &G, turn: u64) -> Result<(), Fault>
         ensures same { self.new.worker.table ≡ self.old.worker.table }
         ensures lasting { IfErr result IsLasting }
@@ -376,7 +379,8 @@ impl<'a, M: EventModel> Driver<'a, M> {
         Ok(())
     }
 
-    /// Where there was nothing to go on with: tries again soon where that may do, else waits until the bell is rung.
+    /// Rests if the turn left nothing to go on with: it spins or yields if another try may soon do, else waits for
+    /// the bell.
     fn rest<R: Wait>(&mut self, rt: &R)
         ensures same { self.new.worker ≡ self.old.worker }
     {
@@ -396,7 +400,7 @@ impl<'a, M: EventModel> Driver<'a, M> {
         }
     }
 
-    /// Waits until the bell is rung, as it may have been since the turn began.
+    /// Waits until the bell is rung. A ring since the turn began counts.
     fn wait<R: Wait>(&mut self, rt: &R)
         ensures same { self.new.worker ≡ self.old.worker }
     {
@@ -409,7 +413,8 @@ impl<'a, M: EventModel> Driver<'a, M> {
         };
     }
 
-    /// Whether another turn may do something: once another worker has left before the end of the run, only a few more may.
+    /// Whether another turn may do something. After another worker has left before the end of the run, only a few
+    /// may.
     fn goes_on(&mut self) -> bool
         ensures same { self.new.worker ≡ self.old.worker }
     {
@@ -420,7 +425,7 @@ impl<'a, M: EventModel> Driver<'a, M> {
         self.last_turns <= LAST_TURNS
     }
 
-    /// Turn after turn, until the book is closed, a call is refused for good, or all turns are made.
+    /// Makes turn after turn, until the book is closed, a call is refused for good, or all turns are made.
     pub(crate) fn run<R: Wait, G: Gate>(&mut self, rt: &R, gate: &G, max_turns: u64) -> Outcome
         ensures same { self.new.worker.table ≡ self.old.worker.table }
         ensures ended { HasEnded self.new.worker.view result }

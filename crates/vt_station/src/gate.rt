@@ -1,10 +1,10 @@
 //! A hook that is called before each execution.
 
-/// Called for each event that a worker is about to execute, in the worker's own thread. A test may hold a worker there.
+/// A hook that a worker calls before each event that it executes, in its own thread. A test may hold a worker there.
 ///
-/// The worker waits until the call returns, and no call changes a record.
+/// The worker waits until the call returns. A call can't change a record of the run.
 pub trait Gate {
-    /// Worker `worker` is about to execute an event in its turn `turn`, the first of which is 1.
+    /// Called when worker `worker` is about to execute an event in its turn `turn`, counted from 1.
     fn before_execute(&self, worker: u32, turn: u64);
 }
 

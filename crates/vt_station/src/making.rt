@@ -1,4 +1,4 @@
-//! The making of a station and its places.
+//! How a station and its places are made.
 
 ghost use Rattle.std.specs.Prelude.{◌≡◌, ◌<◌, ◌≤◌, ◌+◌, ℕ, [], length, IfOk, IfErr};
 ghost use Rattle.vt_key.specs.declared.fault.Fault.TheVariants.{Memory};
@@ -20,7 +20,7 @@ use vt_book::Book;
 use vt_key::Fault;
 use vt_model::{Config, Model as EventModel};
 
-/// How a seat is split: the maker's seat stays, and the seat of the next worker is new.
+/// How a seat is split: the maker's seat stays, and the next worker gets a new one.
 pub(crate) struct Next;
 
 impl<P> Split<View<P>> for Next {
@@ -31,7 +31,7 @@ impl<P> Split<View<P>> for Next {
     ghost right = { next_view };
 }
 
-/// The cells at the opening.
+/// The values of the cells at the opening: an inbox for each worker, the board and the book.
 fn slots_for<M: EventModel>(
     alloc: Global,
     config: Config,
@@ -47,7 +47,7 @@ fn slots_for<M: EventModel>(
     Ok(slots)
 }
 
-/// The table with its first seat.
+/// A station with its first seat.
 fn lay<M: EventModel>(
     alloc: Global,
     model: &M,
@@ -79,7 +79,7 @@ impl<M: EventModel> Station<M> {
         self.table.shared.split_seat::<Next>(maker)
     }
 
-    /// A station for this model and this config, and a place for each worker, in order.
+    /// A station for this model and this config, and a place for each worker, in rising order of workers.
     ///
     /// [`Fault::Memory`]: memory was refused.
     pub fn new(
@@ -100,7 +100,7 @@ impl<M: EventModel> Station<M> {
         Ok((station, places))
     }
 
-    /// The places of all workers, in order.
+    /// The places of all workers, in rising order.
     fn seat_all(
         &self,
         alloc: Global,

@@ -1,45 +1,46 @@
-//! How far a worker goes ahead of the others.
+//! How far a worker executes ahead of the others.
 
 ghost use Rattle.std.specs.Prelude.{◌≤◌, ◌<◌};
 
 /// The most events that a worker executes in one turn.
 const MOST_EXECUTIONS: u32 = 16;
 
-/// How many turns in a row without agreement all workers together execute ahead as if nothing were, where nothing was undone.
+/// The patience of all workers together while little is undone: for how many turns in a row without a cut or a report
+/// they execute at full pace.
 const LONG_PATIENCE: u32 = 128;
 
-/// The same where the worker's bound is low.
+/// The patience of all workers together while much is undone.
 const PATIENCE: u32 = 16;
 
-/// From this bound on a worker has the long patience.
+/// A worker has the long patience if it may execute at least so many events in a turn.
 const HIGH_BOUND: u32 = 8;
 
-/// How many of them each worker has at least.
+/// The least patience of one worker, in turns.
 const LEAST_PATIENCE: u32 = 4;
 
-/// One in so many letters that are taken back is too many.
+/// If more than one in so many letters is taken back, a turn executes half as many events.
 const TOO_MANY: u64 = 4;
 
-/// One in so many is few.
+/// If at most one in so many letters is taken back, a turn executes one event more.
 const FEW: u64 = 8;
 
-/// How far a worker goes ahead: the less the more of what it has sent is taken back.
+/// How far a worker executes ahead: the less, the more of what it has sent is taken back.
 #[derive(Drop)]
 pub(crate) struct Pace {
     workers: u32,
     // The most events that a turn executes.
     most: u32,
-    // How many letters the events made, and how many were taken back, since the worker last cut.
+    // How many letters events made, and how many were taken back, since the worker's last cut.
     made: u64,
     undone: u64,
-    // How many turns in a row executed something and got neither a cut nor a report done.
+    // How many turns executed something since the last turn with a cut or a report.
     waited: u32,
-    // Whether mail has come from another worker: what comes may undo what was executed ahead.
+    // Whether mail has come from another worker. Such mail may undo what was executed ahead.
     disturbed: bool,
 }
 
 impl Pace {
-    /// As fast as may be.
+    /// The pace at the start of a run: as fast as possible.
     pub(crate) fn new(workers: u32) -> Pace {
         Pace {
             workers,
@@ -51,22 +52,23 @@ impl Pace {
         }
     }
 
-    /// Mail has come.
+    /// Notes that mail has come from another worker.
     pub(crate) fn disturb(&mut self) {
         self.disturbed = true;
     }
 
-    /// So many letters were made by events.
+    /// Counts letters that events have made.
     pub(crate) fn make(&mut self, count: usize) {
         self.made = self.made.saturating_add(count as u64);
     }
 
-    /// So many letters were taken back.
+    /// Counts letters that were taken back.
     pub(crate) fn undo(&mut self, count: usize) {
         self.undone = self.undone.saturating_add(count as u64);
     }
 
-    /// At a cut: the bound follows what was taken back since the last one. A worker alone waits for nobody, and goes on as it is.
+    /// Adapts the pace at a cut to what was taken back since the last one. A worker that is alone waits for nobody,
+    /// and keeps its pace.
     pub(crate) fn adapt(&mut self) {
         if self.workers > 1 && (self.made > 0 || self.undone > 0) {
             if self.undone.saturating_mul(TOO_MANY) > self.made {
@@ -79,7 +81,7 @@ impl Pace {
         self.undone = 0;
     }
 
-    /// After a turn: whether a cut or a report was done, and whether an event was executed.
+    /// Counts a turn: `agreed` if a cut or a report was done, `executed` if an event was.
     pub(crate) fn count_turn(&mut self, agreed: bool, executed: bool) {
         if agreed {
             self.waited = 0;
@@ -97,7 +99,7 @@ impl Pace {
         (all / self.workers.max(1)).max(LEAST_PATIENCE)
     }
 
-    /// Whether the worker waits for the others, although it has something to execute.
+    /// Whether the worker holds back: it executes one event a turn, and waits for the others after it.
     pub(crate) fn is_held(&self) -> bool {
         self.disturbed && (self.most == 1 || self.waited >= self.patience())
     }

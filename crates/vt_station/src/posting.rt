@@ -25,7 +25,7 @@ use vt_model::Model as EventModel;
 use vt_steps::{Reply, Step};
 
 impl<M: EventModel> Station<M> {
-    /// Moves the letters of a kernel for worker `v` into the claimed inbox.
+    /// Moves the letters of a kernel for worker `v` into the inbox of `v`, which is claimed.
     fn put_letters(&self, seat: &mut Seat<M>, kernel: &mut Kernel<M>, v: u32) -> Result<(), Fault>
         requires table { seat.old.table_id ≡ self.now.table.shared.table_id }
         requires held { (mails : List (Mail _)) × Holding self.now.table.shared.key.config seat.old.me v (in_inbox mails) (in_inbox mails) }
@@ -45,7 +45,7 @@ impl<M: EventModel> Station<M> {
 }
 
 impl<M: EventModel> Station<M> {
-    /// Moves what is in the claimed inbox of a worker to its kernel.
+    /// Moves the mail of a worker's inbox, which is claimed, to its kernel.
     fn take_letters(
         &self,
         seat: &mut Seat<M>,
@@ -71,7 +71,7 @@ impl<M: EventModel> Station<M> {
 }
 
 impl<M: EventModel> Station<M> {
-    /// The send of a worker's letters for worker `v`, at the inbox of `v`.
+    /// Sends a worker's letters for worker `v` to the inbox of `v`.
     pub(crate) fn post_at(
         &self,
         seat: &mut Seat<M>,
@@ -112,7 +112,7 @@ impl<M: EventModel> Station<M> {
         }
     }
 
-    /// Whether a worker finds its inbox empty, which is its fetch then.
+    /// Whether the worker's inbox is empty. If it is, this look was the worker's fetch.
     fn finds_nothing(&self, seat: &mut Seat<M>, kernel: &Kernel<M>, worker: u32) -> bool
         requires table { seat.old.table_id ≡ self.now.table.shared.table_id }
         requires rests { Rests seat.old.me }
@@ -133,7 +133,7 @@ impl<M: EventModel> Station<M> {
         self.finds_empty(seat, worker as usize, &visit)
     }
 
-    /// The fetch of a worker, at its inbox, which it claims only where there is something in it.
+    /// Fetches a worker's mail. It claims the inbox only if there is something in it.
     pub(crate) fn fetch_at(
         &self,
         seat: &mut Seat<M>,

@@ -1,4 +1,4 @@
-//! The rule of a station's table, and what a step on it tells.
+//! The rule of a station's table, and what an atomic step on it tells.
 
 use crate::slot::Slot;
 use crate::view::View;
@@ -7,14 +7,14 @@ use std::marker::{Brand, PhantomData};
 use std::snapshot::Snapshot;
 use vt_model::{Config, Model as EventModel};
 
-/// The fixed data of a station: the model and the config. Contracts alone see the model.
+/// The fixed data of a station: the model and the config. Only contracts see the model.
 #[derive(Drop)]
 pub(crate) struct About<M> {
     pub(crate) model: Snapshot<M>,
     pub(crate) config: Config,
 }
 
-/// The invariant of a station: there is a list of marked steps whose run gives what the cells and the places show.
+/// The invariant of a station: some list of marked steps, when run, gives what the cells and the places show.
 pub(crate) struct Law<M> {
     model: PhantomData<M>,
 }
@@ -28,7 +28,7 @@ impl<M: EventModel> TableRule<Slot<M::Payload>, View<M::Payload>, About<M>> for 
     ghost first = { λ key. first_view (simulation_of (M.handlers key.model.value) key.config) };
 }
 
-/// What a caller wants to know after an atomic step: of the word that it found, and of the seat as it then is.
+/// What a caller wants to know after an atomic step: of the word that it found, and of its seat afterwards.
 pub(crate) trait Aim<P> {
     ghost use Rattle.std.specs.Prelude.{ℕ};
     ghost use Rattle.vt_station.specs.Kept.{Sat};

@@ -9,19 +9,19 @@ ghost use Rattle.vt_station.specs.Hands.{Hand};
 
 use std::marker::{Model, PhantomData};
 
-/// What a place knows, for contracts alone: no value of it is ever made.
+/// What a place knows, for contracts alone. No value of this type is ever made.
 pub(crate) struct View<P> {
     marker: PhantomData<P>,
-    // The worker whose place it is, and that worker's part after its last visit.
+    // The worker whose place it is, and that worker's part after the place's last visit.
     pub(crate) ghost worker: { ℕ },
     pub(crate) ghost part: { Part P },
     // The worker's steps, with the reply to each.
     pub(crate) ghost mine: { List Made },
-    // A floor of the book that was shown to this place.
+    // A floor of the book that this place was shown.
     pub(crate) ghost seen: { Time },
-    // The cell that it has claimed, and what the cell held then.
+    // The cell that the place has claimed, and what the cell held then.
     pub(crate) ghost hand: { Hand P },
-    // For the place that makes the others: how many there are, and the parts of those still to be made.
+    // The place that makes the others also has their number, and the parts of those that are still to be made.
     pub(crate) ghost made: { ℕ },
     pub(crate) ghost waiting: { List (Part P) },
 }

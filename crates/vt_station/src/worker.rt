@@ -1,4 +1,4 @@
-//! A worker at its place: the kernel goes by local steps from what its place knows.
+//! A worker at its place: the station's calls and the kernel's local steps together.
 
 ghost use Rattle.std.specs.Prelude.{◌≡◌, ◌<◌, None, IfOk, IfErr, MatchResult};
 ghost use Rattle.vt_key.specs.Times.{Time};
@@ -25,9 +25,9 @@ use vt_kernel::Kernel;
 use vt_key::{Fault, Stamp};
 use vt_model::{Config, Model as EventModel, Record};
 
-/// A worker with its place at a station, by which it acts there.
+/// A worker: a kernel, and the place at a station by which it acts there.
 ///
-/// The kernel is reached by local steps from what the place left at its last visit.
+/// The type guarantees that the kernel is what local steps make of the worker's part after the place's last visit.
 #[derive(Drop)]
 pub struct Worker<'a, M: EventModel> {
     alloc: Global,
@@ -61,17 +61,17 @@ impl<'a, M: EventModel> Model for Worker<'a, M> {
     }) };
 }
 
-/// A worker could not be made.
+/// Why a worker could not be made, and its place.
 #[derive(Drop)]
 pub struct NotMade<P> {
     /// [`Fault::Memory`]: memory was refused.
     pub fault: Fault,
-    /// The place, as it was.
+    /// The place, unchanged.
     pub place: Place<P>,
 }
 
 impl<'a, M: EventModel> Worker<'a, M> {
-    /// Worker `w` at its place, as the station made it, with its kernel at the opening.
+    /// Worker `w` with its kernel at the opening, at the place that the station made for it.
     ///
     /// [`NotMade`]: memory was refused.
     pub fn new(
@@ -102,7 +102,7 @@ impl<'a, M: EventModel> Worker<'a, M> {
         }
     }
 
-    /// Gives up the worker's kernel and returns its place.
+    /// Drops the worker's kernel and returns its place.
     pub fn leave(self) -> Place<M::Payload>
         ensures table { place_table result ≡ self.entry.table }
         ensures view { place_view result ≡ self.entry.view }
@@ -128,7 +128,7 @@ impl<'a, M: EventModel> Worker<'a, M> {
 impl<'a, M: EventModel> Worker<'a, M> {
     /// Executes the least pending event of process `lp`.
     ///
-    /// [`Fault`]: as [`Kernel::execute`] tells; after each the worker is as it was.
+    /// [`Fault`]: as [`Kernel::execute`] says; the worker is unchanged.
     pub fn execute(&mut self, lp: u32) -> Result<(), Fault>
         ensures place { IsAtSamePlace self.old self.new }
         ensures done { (part : Part _) → StandsFor (M.handlers self.old.model) self.old.kernel part → IfOk result (λ done. IsDone (M.handlers self.old.model) self.new.kernel (local_step (simulation_of (M.handlers self.old.model) self.old.kernel.config) self.old.kernel.worker (step.Execute lp) part)) }
@@ -140,7 +140,7 @@ impl<'a, M: EventModel> Worker<'a, M> {
 
     /// Undoes the last past event of process `lp`.
     ///
-    /// [`Fault::NotLawful`]: it isn't lawful; the worker is as it was.
+    /// [`Fault::NotLawful`]: as [`Kernel::undo`] says; the worker is unchanged.
     pub fn undo(&mut self, lp: u32) -> Result<(), Fault>
         ensures place { IsAtSamePlace self.old self.new }
         ensures done { (part : Part _) → StandsFor (M.handlers self.old.model) self.old.kernel part → IfOk result (λ done. IsDone (M.handlers self.old.model) self.new.kernel (local_step (simulation_of (M.handlers self.old.model) self.old.kernel.config) self.old.kernel.worker (step.Undo lp) part)) }
@@ -150,9 +150,9 @@ impl<'a, M: EventModel> Worker<'a, M> {
         self.kernel.undo(self.model, lp)
     }
 
-    /// Annihilates a message and its anti-message at process `lp`.
+    /// Annihilates the message and the anti-message of this stamp at process `lp`.
     ///
-    /// [`Fault::NotLawful`]: it isn't lawful; the worker is as it was.
+    /// [`Fault::NotLawful`]: as [`Kernel::cancel`] says; the worker is unchanged.
     pub fn cancel(&mut self, lp: u32, stamp: Stamp) -> Result<(), Fault>
         ensures place { IsAtSamePlace self.old self.new }
         ensures done { (part : Part _) → StandsFor (M.handlers self.old.model) self.old.kernel part → IfOk result (λ done. IsDone (M.handlers self.old.model) self.new.kernel (local_step (simulation_of (M.handlers self.old.model) self.old.kernel.config) self.old.kernel.worker (step.Cancel lp stamp) part)) }
@@ -164,7 +164,7 @@ impl<'a, M: EventModel> Worker<'a, M> {
 
     /// Takes the first letter of the outbox that is for a process of this worker to it.
     ///
-    /// [`Fault::NotLawful`]: there is none, or its process holds it already; the worker is as it was.
+    /// [`Fault::NotLawful`]: there is none, or its process holds it already; the worker is unchanged.
     pub fn home(&mut self) -> Result<(), Fault>
         ensures place { IsAtSamePlace self.old self.new }
         ensures done { (part : Part _) → StandsFor (M.handlers self.old.model) self.old.kernel part → IfOk result (λ done. IsDone (M.handlers self.old.model) self.new.kernel (local_step (simulation_of (M.handlers self.old.model) self.old.kernel.config) self.old.kernel.worker (step.Home self.old.kernel.worker) part)) }
@@ -174,9 +174,9 @@ impl<'a, M: EventModel> Worker<'a, M> {
         self.kernel.home()
     }
 
-    /// Takes the letter at place `i` of the mail that has arrived to its process.
+    /// Takes the letter at index `i`, from 0, of the mail that has arrived to its process.
     ///
-    /// [`Fault`]: as [`Kernel::accept`] tells; after each the worker is as it was.
+    /// [`Fault`]: as [`Kernel::accept`] says; the worker is unchanged.
     pub fn accept(&mut self, i: u64) -> Result<(), Fault>
         ensures place { IsAtSamePlace self.old self.new }
         ensures done { (part : Part _) → StandsFor (M.handlers self.old.model) self.old.kernel part → IfOk result (λ done. IsDone (M.handlers self.old.model) self.new.kernel (local_step (simulation_of (M.handlers self.old.model) self.old.kernel.config) self.old.kernel.worker (step.Accept self.old.kernel.worker i) part)) }
@@ -198,7 +198,7 @@ impl<'a, M: EventModel> Worker<'a, M> {
 impl<'a, M: EventModel> Worker<'a, M> {
     /// Sends all letters for processes of worker `v`.
     ///
-    /// [`Fault`]: as [`Station::post`] tells; after each the worker is as it was.
+    /// [`Fault`]: as [`Station::post`] says; the worker is unchanged.
     pub fn post(&mut self, v: u32) -> Result<(), Fault>
         ensures station { IsAtSameStation self.old self.new }
         ensures done { MatchResult result
@@ -209,9 +209,9 @@ impl<'a, M: EventModel> Worker<'a, M> {
         self.station.post(&mut self.place, &mut self.kernel, v)
     }
 
-    /// Takes in what was sent to this worker.
+    /// Fetches the mail that was sent to this worker.
     ///
-    /// [`Fault`]: as [`Station::fetch`] tells; after each the worker is as it was.
+    /// [`Fault`]: as [`Station::fetch`] says; the worker is unchanged.
     pub fn fetch(&mut self) -> Result<(), Fault>
         ensures station { IsAtSameStation self.old self.new }
         ensures done { MatchResult result
@@ -222,9 +222,9 @@ impl<'a, M: EventModel> Worker<'a, M> {
         self.station.fetch(&mut self.place, &mut self.kernel)
     }
 
-    /// Joins the open round of global virtual time, or opens one.
+    /// Joins the open round of global virtual time; if none is open, it opens one.
     ///
-    /// [`Fault`]: as [`Station::cut`] tells; after each the worker is as it was.
+    /// [`Fault`]: as [`Station::cut`] says; the worker is unchanged.
     pub fn cut(&mut self) -> Result<(), Fault>
         ensures station { IsAtSameStation self.old self.new }
         ensures done { MatchResult result
@@ -235,9 +235,9 @@ impl<'a, M: EventModel> Worker<'a, M> {
         self.station.cut(&mut self.place, &mut self.kernel)
     }
 
-    /// Reports to the board.
+    /// Reports to the board, and returns the outcome.
     ///
-    /// [`Fault`]: as [`Station::report`] tells; after each the worker is as it was.
+    /// [`Fault`]: as [`Station::report`] says; the worker is unchanged.
     pub fn report(&mut self) -> Result<Report, Fault>
         ensures station { IsAtSameStation self.old self.new }
         ensures done { MatchResult result
@@ -248,9 +248,9 @@ impl<'a, M: EventModel> Worker<'a, M> {
         self.station.report(&mut self.place, &mut self.kernel)
     }
 
-    /// Hands in the rows below the worker's floor.
+    /// Hands the rows of the events below the worker's floor in to the book.
     ///
-    /// [`Fault`]: as [`Station::commit`] tells; after each the worker is as it was.
+    /// [`Fault`]: as [`Station::commit`] says; the worker is unchanged.
     pub fn commit(&mut self) -> Result<(), Fault>
         ensures station { IsAtSameStation self.old self.new }
         ensures done { MatchResult result
@@ -266,7 +266,7 @@ impl<'a, M: EventModel> Worker<'a, M> {
 
     /// Closes the book.
     ///
-    /// [`Fault`]: as [`Station::close`] tells; after each the worker is as it was.
+    /// [`Fault`]: as [`Station::close`] says; the worker is unchanged.
     pub fn close(&mut self) -> Result<(), Fault>
         ensures station { IsAtSameStation self.old self.new }
         ensures done { MatchResult result (λ _. Closes self.old.view self.old.config.end self.new.view) (λ _. Stays self.old.view self.new.view) }
@@ -279,7 +279,7 @@ impl<'a, M: EventModel> Worker<'a, M> {
 
     /// The records that the book shows.
     ///
-    /// [`Fault`]: as [`Station::records`] tells; after each the worker is as it was.
+    /// [`Fault`]: as [`Station::records`] says; the worker is unchanged.
     pub fn records(&mut self) -> Result<Vec<Record>, Fault>
         ensures station { IsAtSameStation self.old self.new }
         ensures kernel { self.new.kernel ≡ self.old.kernel }
@@ -291,7 +291,7 @@ impl<'a, M: EventModel> Worker<'a, M> {
         self.station.records(self.alloc, &mut self.place)
     }
 
-    /// The kernel, to look at.
+    /// The worker's kernel, to be read.
     pub fn kernel(&self) -> &Kernel<M>
         ensures { result.now ≡ self.now.kernel }
     {
