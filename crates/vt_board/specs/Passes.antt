@@ -23,11 +23,11 @@ is_taken board report = may_report report.worker report.least board
 abbrev pub with_one_more : Board → WorkerReport → Board
 with_one_more board report = with_report report.worker report.sent report.got report.least board
 
--- what the report is answered
+-- the reply to the report
 abbrev pub reply_to : Board → WorkerReport → Reply
 reply_to board report = report_reply (with_one_more board report)
 
--- the board after it
+-- the board after the report
 abbrev pub board_after : Time → Board → WorkerReport → Board
 board_after end board report = board_after_report end (with_one_more board report)
 
@@ -68,8 +68,8 @@ abbrev pub all_got : List WorkerReport → ℕ
 all_got reports = sum_by (λ report. report.got) reports
 
 -- what becomes of a pass that began on this board and had these reports, with this answer to the last one and this board
--- after it: each worker reported once; where all that was sent was got, the least reported time is announced and the round
--- is over; and else a pass begins again, on the same board
+-- after it: each worker reported once; if all that was sent was got, the least reported time is announced and the round is
+-- over; otherwise a new pass begins on the same board
 pub record IsClosedBySums (end : Time) (board : Board) (reports : List WorkerReport) (answer : Reply) (after : Board) : Type 0 where
   pub once : (w : ℕ) → w < length board.has_cut → times_reported w reports ≡ 1
   pub equal : all_sent reports ≡ all_got reports →

@@ -74,7 +74,7 @@ default_options = record {
   turns = 10000000;
 }
 
--- the same of a replay, with serials from 0
+-- the same options for a replay, with serials from 0
 abbrev pub default_replay_options : ReplayOptions
 default_replay_options = record {
   model = name.Hop;

@@ -102,11 +102,11 @@ abbrev pub model_in : Option (List ℕ) → Option ModelName
 model_in None = Some Hop
 model_in (Some text) = model_named text
 
--- the way of keeping order of a number
+-- the kind of run that a number names
 abbrev pub synch_numbered : ℕ → Option Synch
 synch_numbered n = if n == 1 then Some Sequential else if n == 3 then Some Optimistic else None
 
--- the way of keeping order that a text gives: 1 where there is none
+-- the kind of run that a text names: 1 if there is no text
 abbrev pub synch_in : Option (List ℕ) → Option Synch
 synch_in None = Some Sequential
 synch_in (Some text) = option_and_then synch_numbered (number_of text)

@@ -1,8 +1,8 @@
--- What is told of the contestants of a tournament.
+-- What a tournament is told of its contestants.
 use Rattle.std.specs.Prelude.{◌≡◌, ℕ, ◌<◌, ◌^◌, List, Option, None, slice_index_or}
 use Rattle.vt_key.specs.declared.order.Rank.{Rank}
 
--- of these entries one is at hand, and for the others may be asked
+-- the entry of one contestant is given, and those of the others may be asked for
 pub record AreTold (entries : List (Option Rank)) (place : ℕ) (rank : Option Rank) (may : ℕ → Type 0) (gives : ℕ → Option Rank → Type 0) : Type 0 where
   pub own : rank ≡ slice_index_or entries place None
   pub asked : (number : ℕ) → number < 2 ^ 32 → may number

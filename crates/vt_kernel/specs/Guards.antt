@@ -91,7 +91,7 @@ pub record IsForgotten {S P K : Type 0} (floor : Time) (old new : HeldProcess S 
   pub pending : new.pending ≡ old.pending
   pub waiting : new.waiting ≡ old.waiting
 
--- of these processes the one at a place has committed below a floor
+-- of these processes, the one at this index has committed below a floor, and the others are the same
 pub record HasForgotten {S P K : Type 0} (floor : Time) (place : ℕ) (old new : List (HeldProcess S P K)) : Type 0 where
   pub process : HeldProcess S P K
   pub forgotten : (d : HeldProcess S P K) → IsForgotten floor (slice_index_or old place d) process

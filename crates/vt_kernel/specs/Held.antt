@@ -19,7 +19,7 @@ use Rattle.vt_tournament.specs.declared.node.Node.{Node}
 use Rattle.vt_tournament.specs.Contest.{IsTournamentOf}
 
 -- what a contract sees of a worker: its number and the config, and all that a part of a world has, with its processes as they
--- are in memory. Process p is at place p / workers
+-- are in memory. Process p is at index p / workers
 pub record HeldWorker (S P K : Type 0) : Type 0 where
   pub worker : ℕ
   pub config : Config
@@ -69,7 +69,7 @@ module _ {P : Type 0} where
     pub within : IsWithinRun config.lps config.end mail.letter
     pub own : mail.letter.event.dest % config.workers ≡ w
 
-  -- all of this mail is
+  -- each of these is mail that a process of worker w receives before the end of the run
   abbrev pub AllOwnMail : Config → ℕ → List (Mail P) → Type 0
   AllOwnMail config w mails = All (IsOwnMail config w) mails
 
@@ -85,7 +85,7 @@ other_rank (Some ready) None = None
 other_rank (Some ready) (Some least) = if rank_same ready least then None else Some least
 
 module _ {S P K : Type 0} where
-  -- the processes of worker w from this place on
+  -- the processes of worker w from this index on
   abbrev pub AreProcesses : Config → ℕ → ℕ → List (HeldProcess S P K) → Type 0
   AreProcesses config w place [] = Unit {0}
   AreProcesses config w place (held ∷ rest) =
@@ -117,7 +117,7 @@ module _ {S P K : Type 0} where
   abbrev pub has_past : HeldProcess S P K → Bool
   has_past held = not (is_empty held.past)
 
-  -- those processes are marked that have one
+  -- exactly the processes that have a past event are marked
   abbrev pub AreMarked : List Bool → List (HeldProcess S P K) → Type 0
   AreMarked marked processes = marked ≡ map has_past processes
 

@@ -1,4 +1,4 @@
--- Virtual times. Nothing but this order is asked of them, save where a run is shown to end.
+-- Virtual times. Everything uses only their order, except the proof that a run ends.
 use Rattle.std.specs.Prelude.{ℕ, ◌-◌, ◌<◌, ◌≤◌, Bool, nat_lt, nat_le, nat_eq, min}
 
 -- a virtual time
@@ -9,7 +9,7 @@ Time = ℕ
 abbrev pub TimeBefore : Time → Time → Type 0
 TimeBefore a b = a < b
 
--- the test of it
+-- whether one time is before another
 abbrev pub time_before : Time → Time → Bool
 time_before a b = nat_lt a b
 
@@ -21,7 +21,7 @@ time_left end t = end - t
 abbrev pub TimeAtMost : Time → Time → Type 0
 TimeAtMost a b = a ≤ b
 
--- the test of it
+-- whether one time is before another, or the two are one
 abbrev pub time_at_most : Time → Time → Bool
 time_at_most a b = nat_le a b
 

@@ -1,4 +1,4 @@
--- Lists that stand in a row. These words are for the proof that the links are right, and no public clause has them but `first_item`.
+-- Lines in a row. These words are for the proof that the links are right, and no public clause has them but `first_item`.
 use Rattle.std.specs.Prelude.{◌≡◌, ℕ, List, [], ◌∷◌, length, slice_get, Option, Some, None}
 use denote.RawPtr.{Ptr}
 use Rattle.vt_list.specs.Linked.{NodeAt, first_or, LeadOn}

@@ -17,7 +17,7 @@ abbrev pub last_or : {Y : Type 0} → Option Ptr → List (Ptr × Y) → Option 
 last_or before [] = before
 last_or before (b ∷ bs) = last_or (Some b.0) bs
 
--- a place in a list is what was passed and what is ahead; one item further, if there is one
+-- a position in a list, given as the items that were passed and those ahead, moved on by one item if there is one
 abbrev pub advanced : {X : Type 0} → List X × List X → List X × List X
 advanced (passed, []) = (passed, [])
 advanced (passed, x ∷ ahead) = (passed ++ x ∷ [], ahead)
@@ -55,7 +55,7 @@ module _ {X : Type 0} where
     pub on : LeadOn bs None
     pub back : LeadBack None bs
 
-  -- they are, and a place among them is after `last` and before `next`
+  -- the nodes are a chain, and a position among them is after `last` and before `next`
   pub record IsPlace (head tail last next : Option Ptr) (passed ahead : List (NodeAt X)) : Type 0 where
     pub chain : IsChain head tail (passed ++ ahead)
     pub last_is : last ≡ last_or None passed

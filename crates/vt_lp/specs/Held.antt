@@ -69,7 +69,7 @@ pub record IsWithinRun {P : Type 0} (lps : ℕ) (end : Time) (letter : Letter P)
   pub known : letter.event.dest < lps
   pub soon : TimeBefore letter.event.rank.key.time end
 
--- all of these letters are
+-- each of these letters is one that some process of the run receives before its end
 abbrev pub AllWithinRun : {P : Type 0} → Config → List (Letter P) → Type 0
 AllWithinRun config letters = All (IsWithinRun config.lps config.end) letters
 

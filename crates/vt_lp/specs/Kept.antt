@@ -1,4 +1,4 @@
--- Memory that is kept, to be written anew.
+-- Memory that is kept, to be used again.
 use Rattle.std.specs.Prelude.{ℕ, Option, Some, None}
 
 -- how many nodes are kept: of letters, and of past events

@@ -15,7 +15,7 @@ module _ {P K : Type 0} (floor : Time) where
   unripe_events [] = []
   unripe_events (e ∷ es) = if is_ripe e then unripe_events es else e ∷ es
 
-  -- the rows of the first ones
+  -- the rows of the first past events, which are before the floor
   abbrev pub rows_of_ripe : List (PastEvent P K) → List Row
   rows_of_ripe [] = []
   rows_of_ripe (e ∷ es) = if is_ripe e then rows_of e.letter.event.rank.key e.records.items ++ rows_of_ripe es else []

@@ -1,4 +1,4 @@
--- Marks kept as bits: 64 places in a word.
+-- Marks kept as bits: 64 indices in a word.
 use Rattle.std.specs.Prelude.{◌≡◌, ℕ, ◌*◌, ◌/◌, ◌%◌, ◌^◌, ◌≤◌, Bool, false, not, nat_eq, List, map, length, slice_index_or}
 use Rattle.std.specs.Int.{bit_at}
 use Rattle.std.specs.List.{range_with_len}
@@ -7,19 +7,19 @@ use Rattle.std.specs.List.{range_with_len}
 abbrev pub is_one : ℕ → ℕ → Bool
 is_one word bit = nat_eq (bit_at word bit) 1
 
--- the bit of a place is set; past the last word none is
+-- the bit of an index is set; past the last word no bit is
 abbrev pub is_set : List ℕ → ℕ → Bool
 is_set words place = is_one (slice_index_or words (place / 64) 0) (place % 64)
 
--- the marks of so many places
+-- the marks of so many indices
 abbrev pub marks_of : ℕ → List ℕ → List Bool
 marks_of count words = map (is_set words) (range_with_len 0 count)
 
--- the sums tell of each word whether it has a bit that is set
+-- the sums have a bit for each word, which is set if one of the word's is
 abbrev pub AreSums : List ℕ → List ℕ → Type 0
 AreSums words sums = (word : ℕ) → is_set sums word ≡ not (nat_eq (slice_index_or words word 0) 0)
 
--- each place has a bit in the words, and each word one in the sums, which tells of it
+-- each index has a bit in the words, no other bit is set there, and each word has its bit in the sums
 pub record AreKept (count : ℕ) (words sums : List ℕ) : Type 0 where
   pub few_words : length words ≤ 2 ^ 58
   pub few_sums : length sums ≤ 2 ^ 58

@@ -10,15 +10,15 @@ abbrev pub bucket_of : Rank → ℕ
 bucket_of rank = rank.key.time % 64
 
 module _ {P : Type 0} where
-  -- the letter belongs into list b
+  -- the letter belongs in list b
   abbrev pub in_bucket : ℕ → Letter P → Bool
   in_bucket b letter = nat_eq (bucket_of (letter_rank letter)) b
 
-  -- it belongs into another one
+  -- the letter belongs in another list
   abbrev pub not_in_bucket : ℕ → Letter P → Bool
   not_in_bucket b letter = not (in_bucket b letter)
 
-  -- there is a letter, and it belongs into list b
+  -- there is a letter, and it belongs in list b
   abbrev pub some_in_bucket : ℕ → Option (Letter P) → Bool
   some_in_bucket b None = false
   some_in_bucket b (Some letter) = in_bucket b letter
@@ -45,8 +45,8 @@ module _ {P : Type 0} where
   lesser (Some letter) None = Some letter
   lesser (Some letter) (Some other) = if rank_before (letter_rank other) (letter_rank letter) then Some other else Some letter
 
-  -- the lesser one of a letter and of what passes a test in a row of lists, of which none is looked at from the first one on
-  -- that begins behind what is found
+  -- the letter of lesser rank: the one found so far, or the least in a row of lists that passes a test. The search ends at
+  -- the first list that begins behind what is found
   abbrev pub least_from : (Letter P → Bool) → Option (Letter P) → List (List (Letter P)) → Option (Letter P)
   least_from test found [] = found
   least_from test found (list ∷ lists) = if both_before found (slice_get list 0) then found else least_from test (lesser found (find test list)) lists
@@ -64,7 +64,7 @@ module _ {P : Type 0} where
   put_list list [] = list ∷ []
   put_list list (other ∷ lists) = if both_before (slice_get other 0) (slice_get list 0) then other ∷ put_list list lists else list ∷ other ∷ lists
 
-  -- the same, where an empty list is left out
+  -- the row with one list more, unless that list is empty
   abbrev pub put_some : List (Letter P) → List (List (Letter P)) → List (List (Letter P))
   put_some [] lists = lists
   put_some (letter ∷ letters) lists = put_list (letter ∷ letters) lists

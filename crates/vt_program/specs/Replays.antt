@@ -34,7 +34,7 @@ module _ {S P : Type 0} (sim : Simulation S P) where
   IsExact world step (Ok reply) = PassesLimit sim step (next sim world step).world → ⊥
   IsExact world step (Err fault) = IsTrue (is_no_step (Err fault)) → IsSpent sim step world fault
 
-  -- so each answer says: it is `refused 5` exactly where the step is lawful and would take a counter past its limit
+  -- each answer is exact: it is `refused 5` exactly if the step is lawful and would take a counter past its limit
   abbrev pub AreExact : World P → List NumberedStep → List Answered → Type 0
   AreExact world (step ∷ steps) (reply ∷ replies) =
       IsExact world step.step reply.answer × AreExact (world_after sim world step.step reply.answer) steps replies
@@ -70,7 +70,7 @@ IsReplayOfModel Stations o steps text = IsReplayOf (stations_handlers o.stations
 abbrev pub IsReplay : ReplayOptions → List NumberedStep → List ℕ → Type 0
 IsReplay o steps text = IsReplayOfModel o.model o steps text
 
--- and the lines of its answers
+-- a text may be the lines of the answers in a replay of a model
 abbrev pub AreRepliesOf : {S P K : Type 0} → Handlers S P K → Config → ℕ → List NumberedStep → List ℕ → Type 0
 AreRepliesOf handlers config serial steps text = IsRepliesText (simulation_of handlers config) serial steps text
 
@@ -116,7 +116,7 @@ StopsReplay IsRight AreReplies OpensLate old new _ = ⊥
 
 -- ---- the input
 
--- a reader that tells its bytes gave these, to its end, and they are no more than a step text may have
+-- a reader whose bytes are known gave exactly these, and they are no more than a step text may have
 pub record GivesText (remaining : Option (List ℕ)) (text : List ℕ) : Type 0 where
   pub told : IfSome remaining (λ bytes. text ≡ bytes)
   pub within : length text ≤ MAX_INPUT

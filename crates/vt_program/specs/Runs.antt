@@ -24,7 +24,7 @@ use Rattle.vt_command.specs.declared.choices.Synch.TheVariants.{Sequential, Opti
 abbrev pub text_below : {S P K : Type 0} → Handlers S P K → Config → Time → List ℕ
 text_below handlers config time = records_text (seq_records (simulation_of handlers config) time)
 
--- those of the whole run
+-- the records of a model's whole sequential run, as text
 abbrev pub run_text : {S P K : Type 0} → Handlers S P K → Config → List ℕ
 run_text handlers config = text_below handlers config config.end
 
@@ -57,7 +57,7 @@ PassesInRunOfModel Hop o = PassesInRun (hop_handlers o.hop) o.config
 PassesInRunOfModel Phold o = PassesInRun (phold_handlers o.phold) o.config
 PassesInRunOfModel Stations o = PassesInRun (stations_handlers o.stations) o.config
 
--- some step of the run that options ask for would
+-- some step of the run that options ask for would take a send number past its limit
 abbrev pub PassesInRunOf : Options → Type 0
 PassesInRunOf o = PassesInRunOfModel o.model o
 

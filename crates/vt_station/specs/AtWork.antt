@@ -23,13 +23,13 @@ pub record IsAtWork {M S P K : Type 0} (handlers : M → Handlers S P K) (told :
   pub model_is : told ≡ w.model
   pub reaches : Reaches (handlers w.model) w.config w.view w.kernel
 
--- it is at the same station, and was told the same model
+-- the worker is at the same station as before, with the same model
 pub record IsAtSameStation {M S P K : Type 0} (v w : AtWork M S P K) : Type 0 where
   pub model : w.model ≡ v.model
   pub config : w.config ≡ v.config
   pub table : w.table ≡ v.table
 
--- and its place knows the same
+-- the worker is at the same station as before, and its place knows the same
 pub record IsAtSamePlace {M S P K : Type 0} (v w : AtWork M S P K) : Type 0 where
   pub station : IsAtSameStation v w
   pub view : w.view ≡ v.view

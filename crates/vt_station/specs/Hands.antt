@@ -4,7 +4,7 @@ use Rattle.vt_key.specs.declared.letter.Mail.{Mail}
 use Rattle.vt_steps.specs.World.{Board, Book}
 use Rattle.vt_steps.specs.Cells.{Cell, in_inbox, on_board, in_book}
 
--- a claimed cell, and what it held when it was claimed: mail, a board or a book. Of no cell there is none of them
+-- a claimed cell, and what it held when it was claimed: mail, a board or a book. All are None if no cell is claimed
 pub record Hand (P : Type 0) : Type 0 where
   pub claimed : Option ℕ
   pub mail : Option (List (Mail P))
@@ -16,7 +16,7 @@ module _ {P : Type 0} where
   abbrev pub empty_hand : Hand P
   empty_hand = record { claimed = None; mail = None; board = None; book = None }
 
-  -- this cell is, and held this
+  -- this cell is claimed, and held this
   abbrev pub holding : ℕ → Cell P → Hand P
   holding k (in_inbox mails) = record { claimed = Some k; mail = Some mails; board = None; book = None }
   holding k (on_board board) = record { claimed = Some k; mail = None; board = Some board; book = None }

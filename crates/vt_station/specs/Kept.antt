@@ -82,7 +82,7 @@ module _ {S P : Type 0} (sim : Simulation S P) where
       -- a cell whose word says that it is claimed is held by one seat, and any other is at home
       pub free : (k : ℕ) → k < cell_count sim.workers → slice_index s.words (word_at k) ≢ claimed_word → IsAtHome s log k
       pub taken : (k : ℕ) → k < cell_count sim.workers → slice_index s.words (word_at k) ≡ claimed_word → IsHeld s k
-      -- and an inbox whose word says that it is empty is
+      -- an inbox whose word says that it is empty is empty
       pub empty : (k : ℕ) → k < sim.workers → slice_index s.words (word_at k) ≡ empty_word → content (shown sim log) (inbox_of k) ≡ Some (in_inbox [])
       pub each : (j : ℕ) (v : View P) → get_elem? s.views j ≡ some v → Sits s log made maker j v
       -- no two seats are of one worker, and none hold one cell
@@ -95,7 +95,7 @@ module _ {S P : Type 0} (sim : Simulation S P) where
 abbrev pub blank : {P : Type 0} → ℕ → Part P → View P
 blank worker part = record { marker = record {}; worker = worker; part = part; mine = []; seen = opening_time; hand = empty_hand; made = 0; waiting = [] }
 
--- that of the first place, which makes the others
+-- the view of the first place, which makes the others
 abbrev pub first_view : {S P : Type 0} → Simulation S P → View P
 first_view sim = record (blank 0 (opening_part sim 0 0)) { made = 1; waiting = map (opening_part sim 0) (range_with_len 1 (sim.workers - 1)) }
 

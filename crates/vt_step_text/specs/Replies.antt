@@ -26,7 +26,7 @@ answer_text (Err fault) = codes "refused " ++ decimal (fault_number fault)
 abbrev pub reply_text : ℕ → Result Reply Fault → List ℕ
 reply_text line answer = decimal line ++ (codes " " ++ (answer_text answer ++ 10 ∷ []))
 
--- what the step of a line was answered
+-- the answer to the step of a line
 pub record Answered : Type 0 where
   pub line : ℕ
   pub answer : Result Reply Fault
@@ -48,7 +48,7 @@ shown_text announced floor least records =
     ++ (time_line (codes "least ") least
     ++ (codes "records " ++ (decimal records ++ 10 ∷ []))))
 
--- the same, and a line for each of the records
+-- what the world shows at the end, and a line for each of its records
 abbrev pub state_text : Time → Time → Time → List Record → List ℕ
 state_text announced floor least records = shown_text announced floor least (length records) ++ records_text records
 

@@ -10,7 +10,7 @@ use Rattle.vt_steps.specs.World.{Board}
 abbrev pub all_set : List Bool → Bool
 all_set flags = list_all (λ flag. flag) flags
 
--- there is such a worker, and its flag is not set
+-- the worker exists, and its flag is not set
 abbrev pub is_clear : Option Bool → Bool
 is_clear None = false
 is_clear (Some flag) = not flag
@@ -69,7 +69,7 @@ after_pass end board =
 unfoldable pub board_after_report : Time → Board → Board
 board_after_report end board = if all_set board.has_reported then after_pass end board else board
 
--- what the report is answered
+-- the reply to a report
 unfoldable pub report_reply : Board → Reply
 report_reply board =
     if all_set board.has_reported then (if nat_eq board.sent board.got then Announced board.least else Again)

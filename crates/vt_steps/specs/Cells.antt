@@ -17,7 +17,7 @@ use Rattle.vt_steps.specs.BoardSteps.{cut_board, may_report, with_report, board_
 use Rattle.vt_steps.specs.BookSteps.{may_commit, with_rows, may_close, closed_book}
 use Rattle.vt_steps.specs.Next.{Outcome, may_send}
 
--- which cell it is
+-- the name of a cell
 pub data CellName : Type 0 where
   inbox_of : ℕ → CellName
   board_cell : CellName

@@ -65,7 +65,7 @@ module _ {S P : Type 0} (sim : Simulation S P) where
         slice_get world.board.has_reported w ≡ Some false → IsTaken world (Report w)
     pub commits : (w : ℕ) → w < sim.workers → world.book.is_closed ≡ false → (next sim world (Commit w)).answer ≡ Ok Done
 
-  -- the book's floor is not after the announced time, and that not after the least time of what is unprocessed or travelling
+  -- the book's floor is not after the announced time, which is not after the least time of what is unprocessed or travelling
   pub record AreFloorsRight (world : World P) : Type 0 where
     pub floor : TimeAtMost (book_floor sim.end world.book) world.board.announced
     pub announced : TimeAtMost world.board.announced (least sim.end world)
@@ -92,7 +92,7 @@ module _ {S P : Type 0} (sim : Simulation S P) where
     pub finals : (p : ℕ) (process : LogicalProcess P) → p < sim.lps → IsProcess world p process →
         triple_after sim p (process.done ++ process.past) ≡ after sim p (seq_events sim p sim.end)
 
-  -- what holds of a world of whose copies, ranks and histories nothing is wrong
+  -- the copies, ranks and histories of a world are right
   pub record Histories (serial : ℕ) (world : World P) : Type 0 where
     pub copies : (stamp : Stamp) → AreCopiesRight serial world stamp
     pub ranks : (p : ℕ) (process : LogicalProcess P) → IsProcess world p process → DoRanksRise process

@@ -23,7 +23,7 @@ module _ {P : Type 0} where
   abbrev pub mail_weight : (Sign → Event P → ℕ) → Mail P → ℕ
   mail_weight f mail = letter_weight f mail.letter
 
-  -- what is pending weighs as a message and what is waiting as an anti-message, by its place
+  -- the weight of a process's letters: each pending one weighs as a message, each waiting one as an anti-message
   abbrev pub process_sum : (Sign → Event P → ℕ) → LogicalProcess P → ℕ
   process_sum f process =
       sum_by (λ letter. f Plus letter.event) process.pending + sum_by (λ letter. f Minus letter.event) process.waiting

@@ -20,7 +20,7 @@ use Rattle.vt_steps.specs.Next.{next, refused}
 use Rattle.vt_steps.specs.Copies.{letter_sum}
 use Rattle.vt_steps.specs.Cells.{CellName, book_cell, Cell, content, worker_of, cell_of, act, put_back}
 
--- this one, where one is named
+-- x is the one that is named, if one is
 abbrev pub IsAny : {X : Type 0} → Option X → X → Type 0
 IsAny None x = Unit {0}
 IsAny (Some y) x = y ≡ x
@@ -33,7 +33,7 @@ module _ {P : Type 0} where
     pub pending : list_any (has_stamp stamp) process.pending ≡ false
     pub waiting : list_any (has_stamp stamp) process.waiting ≡ false
 
-  -- nothing is left of a process's change but the process itself
+  -- the effect of changing nothing: this process, no letters and no serials
   abbrev pub unchanged : LogicalProcess P → ProcessEffect P
   unchanged process = record { process = process; letters = []; serials = 0 }
 
@@ -50,7 +50,7 @@ module _ {P : Type 0} where
   abbrev pub mail_sent : Colour → World P → ℕ
   mail_sent colour world = sum_by (λ part. count_of part.sent colour) world.parts
 
-  -- and have got
+  -- how much mail of a colour all workers have got
   abbrev pub mail_got : Colour → World P → ℕ
   mail_got colour world = sum_by (λ part. count_of part.got colour) world.parts
 
@@ -59,7 +59,7 @@ module _ {P : Type 0} where
   IsMailKept old new =
       (colour : Colour) → mail_sent colour new + (mail_got colour old + travelling colour old) ≡ mail_sent colour old + (mail_got colour new + travelling colour new)
 
-  -- from one world to another, the same letters are there, whatever of them is counted
+  -- two worlds have the same letters: each sum over them is the same
   abbrev pub AreLettersKept : World P → World P → Type 0
   AreLettersKept old new = (f : Sign → Event P → ℕ) → letter_sum f new ≡ letter_sum f old
 

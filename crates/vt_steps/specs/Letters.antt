@@ -61,7 +61,7 @@ abbrev pub without_first : {X : Type 0} → (X → Bool) → List X → List X
 without_first test [] = []
 without_first test (x ∷ xs) = if test x then xs else x ∷ without_first test xs
 
--- nothing is in the list
+-- the list is empty
 abbrev pub is_empty : {X : Type 0} → List X → Bool
 is_empty [] = true
 is_empty (x ∷ xs) = false

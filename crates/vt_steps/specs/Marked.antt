@@ -44,7 +44,7 @@ marked w steps = map (λ step. record { worker = w; step = step }) steps
 abbrev pub made_done : List Step → List Made
 made_done steps = map (λ step. record { step = step; reply = Done }) steps
 
--- it holds of each element
+-- each element has this property
 abbrev pub Each : {X : Type 0} → (X → Type 0) → List X → Type 0
 Each Q [] = Unit {0}
 Each Q (x ∷ xs) = Q x × Each Q xs
@@ -105,7 +105,7 @@ cut_by_now so_far (Cut w) (Ok reply) = true
 cut_by_now so_far (Report w) (Ok (Announced time)) = false
 cut_by_now so_far _ _ = so_far
 
--- the same of a list of steps, in order
+-- the same after a list of steps
 abbrev pub has_cut_since : Bool → List Answered → Bool
 has_cut_since so_far [] = so_far
 has_cut_since so_far (a ∷ rest) = has_cut_since (cut_by_now so_far a.step a.answer) rest

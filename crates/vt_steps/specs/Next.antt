@@ -47,7 +47,7 @@ module _ {P : Type 0} where
   abbrev pub may_send : {S : Type 0} → Simulation S P → ℕ → ℕ → Part P → Bool
   may_send sim w v part = not (nat_eq w v) && list_any (is_for sim v) part.outbox
 
-  -- its effect: what is for v goes to the back of the inbox of v
+  -- the effect of Send: the letters for v go to the back of the inbox of v
   unfoldable pub send : {S : Type 0} → Simulation S P → World P → ℕ → ℕ → Option (Part P) → Option (List (Mail P)) → Option (World P)
   send sim world w v (Some part) (Some inbox) =
       if may_send sim w v part then Some (record world {
@@ -56,7 +56,7 @@ module _ {P : Type 0} where
       }) else None
   send sim world w v _ _ = None
 
-  -- Fetch of w: nothing that arrived is left; the inbox is empty afterwards
+  -- Fetch of w: all that arrived before must be accepted; the inbox is empty afterwards
   unfoldable pub fetch : World P → ℕ → Option (Part P) → Option (List (Mail P)) → Option (World P)
   fetch world w (Some part) (Some inbox) =
       if is_empty part.arrived then Some (record world {

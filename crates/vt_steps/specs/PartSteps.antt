@@ -18,7 +18,7 @@ use Rattle.vt_steps.specs.ProcessSteps.{ProcessEffect, execute_process, undo_pro
 -- ---- Execute, Undo and Cancel
 
 module _ {P : Type 0} where
-  -- the part after a step at the process of this place
+  -- the part after a step at the process of this index
   abbrev pub with_effect : Part P → ℕ → ProcessEffect P → Part P
   with_effect part place effect =
       record part {
@@ -27,19 +27,19 @@ module _ {P : Type 0} where
         serial = part.serial + effect.serials;
       }
 
-  -- a step at the process of this place, if there is one
+  -- a step at the process of this index, if there is one
   abbrev pub at_process : (LogicalProcess P → Option (ProcessEffect P)) → ℕ → Part P → Option (Part P)
   at_process step place part = option_map (with_effect part place) (option_and_then step (slice_get part.processes place))
 
-  -- Execute at a place of worker w
+  -- Execute at the process of this index of worker w
   abbrev pub execute : {S : Type 0} → Simulation S P → ℕ → ℕ → Part P → Option (Part P)
   execute sim w place part = at_process (execute_process sim (process_at sim w place) w part.serial) place part
 
-  -- Undo at a place
+  -- Undo at the process of this index
   abbrev pub undo : ℕ → Part P → Option (Part P)
   undo place part = at_process undo_process place part
 
-  -- Cancel of a stamp at a place
+  -- Cancel of a stamp at the process of this index
   abbrev pub cancel : ℕ → Stamp → Part P → Option (Part P)
   cancel place stamp part = at_process (cancel_process stamp) place part
 
@@ -63,12 +63,12 @@ module _ {S P : Type 0} (sim : Simulation S P) where
   abbrev pub home : ℕ → Part P → Option (Part P)
   home w part = home_letter w part (find (is_for w) part.outbox)
 
-  -- this mail, found at place i of what has arrived, leaves it for its process; those after it move up
+  -- this mail, found at index i of what has arrived, goes to its process; the mail behind it moves up
   abbrev pub accept_mail : ℕ → Part P → Option (Mail P) → Option (Part P)
   accept_mail i part None = None
   accept_mail i part (Some mail) = deliver (record part { arrived = remove part.arrived i }) mail.letter
 
-  -- Accept at place i
+  -- Accept of the mail at index i
   abbrev pub accept : ℕ → Part P → Option (Part P)
   accept i part = accept_mail i part (slice_get part.arrived i)
 
@@ -78,7 +78,7 @@ module _ {S P : Type 0} (sim : Simulation S P) where
   abbrev pub letters_for : ℕ → Part P → List (Letter P)
   letters_for v part = filter (is_for v) part.outbox
 
-  -- they leave the outbox, are counted, and lower the red minimum
+  -- the part after a send to v: the letters leave the outbox, are counted, and lower the red minimum
   unfoldable pub part_after_send : ℕ → Part P → Part P
   part_after_send v part =
       record part {
@@ -87,7 +87,7 @@ module _ {S P : Type 0} (sim : Simulation S P) where
         red_minimum = earlier part.red_minimum (least_time sim.end (letters_for v part));
       }
 
-  -- and become mail of the worker's colour, in their order
+  -- the mail of a send to v: the letters in the worker's colour, in their order
   unfoldable pub mail_of_send : ℕ → Part P → List (Mail P)
   mail_of_send v part = map (λ letter. record { letter = letter; colour = part.colour }) (letters_for v part)
 
@@ -107,11 +107,11 @@ part_after_cut end announced part =
 -- ---- Report
 
 module _ {P : Type 0} where
-  -- how much mail of the colour that it has left the worker sent
+  -- how much mail of the old colour the worker has sent
   abbrev pub report_sent : Part P → ℕ
   report_sent part = count_of part.sent (other_colour part.colour)
 
-  -- and how much of it the worker got
+  -- how much mail of the old colour the worker has got
   abbrev pub report_got : Part P → ℕ
   report_got part = count_of part.got (other_colour part.colour)
 
@@ -129,7 +129,7 @@ module _ {P : Type 0} where
   abbrev pub ripe : Time → LogicalProcess P → List (Entry P)
   ripe floor process = take (prefix_len (is_below floor) process.past) process.past
 
-  -- they become done
+  -- a process after it commits below a floor: its past entries before the floor are done
   abbrev pub process_after_commit : Time → LogicalProcess P → LogicalProcess P
   process_after_commit floor process =
       record process {
@@ -145,7 +145,7 @@ module _ {P : Type 0} where
   abbrev pub ripe_rows : {S : Type 0} → Simulation S P → ℕ → Time → LogicalProcess P → List Row
   ripe_rows sim p floor process = rows_from sim p (triple_after sim p process.done) (entry_events (ripe floor process))
 
-  -- the same of the processes of w from this place on
+  -- the rows that the processes of w commit, from the process of this index on
   abbrev pub rows_of_processes : {S : Type 0} → Simulation S P → ℕ → Time → ℕ → List (LogicalProcess P) → List Row
   rows_of_processes sim w floor place [] = []
   rows_of_processes sim w floor place (process ∷ processes) =

@@ -78,7 +78,7 @@ module _ {S P : Type 0} (sim : Simulation S P) where
     pub waiting : process.waiting ≡ memory.waiting
     pub leads : LeadTo p (triple_after sim p process.done) memory.past memory.triple
 
-  -- values stand for the processes of worker w from this place on, one by one
+  -- values stand for the processes of worker w from this index on, one by one
   abbrev pub StandForProcesses : ℕ → ℕ → List (ProcessMemory S P) → List (LogicalProcess P) → Type 0
   StandForProcesses w place [] [] = Unit {0}
   StandForProcesses w place (memory ∷ memories) (process ∷ processes) =

@@ -33,7 +33,7 @@ pub record LogicalProcess (P : Type 0) : Type 0 where
 -- the part of one worker: its processes; the letters that it made and that have not gone; the mail that it fetched and has
 -- not accepted; its colour; how much mail of each colour it sent and got; the least time of all that it sent since it took
 -- its colour; the time below which it may commit; and the serial of the next event that it makes.
--- Process p is at place p / workers of the part of worker p mod workers
+-- Process p is at index p / workers of the part of worker p mod workers
 pub record Part (P : Type 0) : Type 0 where
   pub processes : List (LogicalProcess P)
   pub outbox : List (Letter P)
@@ -129,7 +129,7 @@ module _ {S P : Type 0} (sim : Simulation S P) where
   abbrev pub process_count : ℕ → ℕ
   process_count w = (sim.lps + (sim.workers - 1) - w) / sim.workers
 
-  -- the number of the process at a place of a worker
+  -- the number of the process at an index of a worker
   abbrev pub process_at : ℕ → ℕ → ℕ
   process_at w place = place * sim.workers + w
 
@@ -137,7 +137,7 @@ module _ {S P : Type 0} (sim : Simulation S P) where
   abbrev pub start_sends : ℕ → List (Sent P)
   start_sends w = flat_map (λ place. (sim.start (process_at w place)).sends) (range_with_len 0 (process_count w))
 
-  -- the same with stamps, from a first serial on
+  -- these sends with stamps, from a first serial on
   abbrev pub start_events : ℕ → ℕ → List (Event P)
   start_events serial w = stamped w serial (start_sends w)
 

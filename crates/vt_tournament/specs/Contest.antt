@@ -28,7 +28,7 @@ winner_of a b = if is_ahead b a then b else a
 abbrev pub contestant : List (Option Rank) → ℕ → Contestant
 contestant ranks number = record { rank = slice_index_or ranks number None; number = number }
 
--- the beginning of a rank; who takes no part has the last of all
+-- the beginning of a rank; a contestant that takes no part has the last of all
 abbrev pub first_time : Option Rank → Time
 first_time (Some r) = r.key.time
 first_time None = 2 ^ 64 - 1
@@ -41,7 +41,7 @@ first_source None = 2 ^ 32 - 1
 abbrev pub nobodys_number : ℕ
 nobodys_number = 2 ^ 32 - 1
 
--- the number in a contestant's node: who takes no part is nobody there
+-- the number in a contestant's node: that of nobody if the contestant takes no part
 abbrev pub number_of : Option Rank → ℕ → ℕ
 number_of (Some r) n = n
 number_of None n = nobodys_number
@@ -57,56 +57,56 @@ packed n = n.time * 2 ^ 64 + n.source * 2 ^ 32 + n.number
 abbrev pub unpacked : ℕ → Node
 unpacked p = record { time = p / 2 ^ 64; source = p / 2 ^ 32 % 2 ^ 32; number = p % 2 ^ 32 }
 
--- a node says what the rank of its contestant begins with; there is no entry of nobody's number, so nobody has no rank
+-- a node has the beginning of its contestant's rank. No entry has nobody's number, so nobody has no rank
 abbrev pub Fits : List (Option Rank) → Node → Type 0
 Fits ranks w = w ≡ node_of (contestant ranks w.number)
 
--- how many places of the tree stand above those of so many contestants
+-- how many inner nodes the tree of so many contestants has
 abbrev pub inner_places : ℕ → ℕ
 inner_places count = count - 1
 
--- the last place of so many contestants' tree: below each inner place are two, and the first is below none
+-- the last node of so many contestants' tree: below each inner node are two, and the first node, the root, is below none
 abbrev pub last_place : ℕ → ℕ
 last_place count = 2 * inner_places count
 
--- the place of a contestant: these come after the inner places, in the order of their numbers
+-- the leaf of a contestant: leaves come after the inner nodes, in the order of their numbers
 abbrev pub place : List (Option Rank) → ℕ → ℕ
 place ranks number = inner_places (length ranks) + number
 
--- the node at a place
+-- the content of a node
 abbrev pub node : List Node → ℕ → Node
 node nodes k = slice_index_or nodes k (record { time = 0; source = 0; number = 0 })
 
--- one place is right below another
+-- one node is right below another
 abbrev pub IsBelow : ℕ → ℕ → Type 0
 IsBelow k above = (2 * above + 1 ≤ k) × (k ≤ 2 * above + 2)
 
--- the other one of the two places below the same one
+-- the sibling of a node
 abbrev pub beside : ℕ → ℕ
 beside k = k - 1 + 2 * (k % 2)
 
--- the place so many levels above another; the first place stands for all that would be above it
+-- the node so many levels above another; above the root it is the root
 abbrev pub raised : ℕ → ℕ → ℕ
 raised zero k = k
 raised (suc levels) k = raised levels ((k - 1) / 2)
 
--- one place is another, or above it
+-- one node is another, or above it
 abbrev pub IsAbove : ℕ → ℕ → Type 0
 IsAbove k low = (levels : ℕ) × (raised levels low ≡ k)
 
--- a node is that of the winner at a place: it fits, its contestant stands at the place or below it, and of all who do and
--- take part nobody is ahead
+-- this content is that of the winner at a node: it fits, its contestant's leaf is the node or below it, and of the
+-- contestants that take part and whose leaves are there none is ahead
 pub record IsWinner (ranks : List (Option Rank)) (k : ℕ) (w : Node) : Type 0 where
   pub fits : Fits ranks w
   pub placed : w.number < length ranks → IsAbove k (place ranks w.number)
   pub least : (i : ℕ) (rank : Rank) → slice_index_or ranks i None ≡ Some rank → IsAbove k (place ranks i) → is_ahead (contestant ranks i) (contestant ranks w.number) ≡ false
 
--- a node is one of the two below a place, and neither of these is ahead
+-- this content is that of one of the two nodes below, and the other isn't ahead of it
 pub record IsBest (ranks : List (Option Rank)) (nodes : List Node) (at : ℕ) (w : Node) : Type 0 where
   pub one : (k : ℕ) × (IsBelow k at × (w ≡ node nodes k))
   pub least : (k : ℕ) → IsBelow k at → is_ahead (contestant ranks (node nodes k).number) (contestant ranks w.number) ≡ false
 
--- each place has the winner's node
+-- each node has its winner's content
 pub record AreWinners (ranks : List (Option Rank)) (nodes : List Node) : Type 0 where
   pub full : length nodes ≡ last_place (length ranks) + 1
   pub won : (k : ℕ) → k ≤ last_place (length ranks) → IsWinner ranks k (node nodes k)
@@ -117,7 +117,7 @@ pub record IsTournamentOf (ranks : List (Option Rank)) (nodes : List Node) : Typ
   pub few : length ranks ≤ 2 ^ 31
   pub tree : AreWinners ranks nodes
 
--- they were one of the same entries but that of one contestant, which was this one
+-- the nodes were a tournament of the same entries, except that one contestant had this entry
 pub record WasTournamentOf (number : ℕ) (ranks : List (Option Rank)) (nodes : List Node) : Type 0 where
   pub entry : Option Rank
   pub was : IsTournamentOf (slice_set ranks number entry) nodes

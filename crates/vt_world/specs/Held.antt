@@ -28,11 +28,11 @@ module _ {M S P K : Type 0} (handlers : Handlers S P K) where
     book = held.book;
   }
 
-  -- it stands for this world
+  -- the value stands for this world of the definitions
   abbrev pub StandsForWorld : HeldWorld M S P K → World P → Type 0
   StandsForWorld held world = StandsFor (simulation_of handlers held.config) (world_memory held) world
 
-  -- it stands for the world after some list of steps from the opening one, with serials from this one on
+  -- the value stands for the world after some list of steps from the opening one, with serials from this one on
   abbrev pub IsReached : ℕ → HeldWorld M S P K → Type 0
   IsReached serial held = StandsForReached (simulation_of handlers held.config) serial (world_memory held)
 
