@@ -24,8 +24,8 @@ pub enum Report {
     Announced(Time),
 }
 
-/// The board of a run: which workers have cut in the open round and which have reported in its pass, the sums of
-/// their counts, their least value, and the announced time. Its calls take no memory.
+/// The board of a run: which workers have cut in the open round and which have reported in its pass; the sums of
+/// their counts and their least time; and the announced time. Its calls take no memory.
 ///
 /// Contracts see the board of the definitions, with the end of the run.
 #[derive(Drop)]
@@ -128,8 +128,8 @@ impl Board {
     }
 
     #[tactic(auto, unfolding(vt_steps::specs::BoardSteps::with_report, vt_steps::specs::BoardSteps::board_after_report, vt_steps::specs::BoardSteps::report_reply))]
-    /// Worker `w` reports how much mail of the old colour it has ever sent and got, and a least time, in ticks: that
-    /// of all that it has and of all that it sent since its cut. The last report closes the pass.
+    /// Worker `w` reports how much mail of the old colour it has ever sent and got, and a least time in ticks. That
+    /// is the least of all that it has and of all that it sent since its cut. The last report closes the pass.
     ///
     /// [`Fault::NotLawful`]: `w` is no worker, no round is open, some worker hasn't cut, `w` has reported in this
     /// pass, or the least time is below the announced time or above the end of the run. A refused report changes

@@ -25,7 +25,7 @@ use vt_lp::Spare;
 use vt_model::{Config, Model as EventModel};
 
 impl<M: EventModel> Kernel<M> {
-    /// The worker's part of a send to worker `v`: it moves the letters of the outbox for processes of `v` to the back
+    /// The worker's part of a send to worker `v`. It moves the letters of the outbox for processes of `v` to the back
     /// of `mail`, in their order and in the worker's colour. It counts them, and lowers the red minimum to the least
     /// of their times.
     ///

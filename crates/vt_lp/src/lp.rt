@@ -11,12 +11,12 @@ use vt_key::{Letter, Rank, Time};
 use vt_model::{Config, Model as EventModel, Process};
 use vt_pending::Pending;
 
-/// A logical process with rollback: its state, send number and stream position, its past events with what undoes
-/// them, its pending messages, and the anti-messages that wait for their messages.
+/// A logical process with rollback: its state, send number and stream position; its past events, with what undoes
+/// them; its pending messages; and the anti-messages that wait for their messages.
 ///
 /// Contracts see these (`HeldProcess`). The value keeps no committed events. So a contract speaks of every process of
-/// a world that the value stands for (`StandsFor`): one with the same past events, pending messages and waiting
-/// anti-messages, whose committed events lead to where the past begins.
+/// a world that the value stands for (`StandsFor`). Such a process has the same past events, pending messages and
+/// waiting anti-messages, and its committed events lead to where the past begins.
 #[derive(Drop)]
 pub struct Lp<M: EventModel> {
     // First, since it holds many random words. So the fields that every event reads stand together behind it, in few cache

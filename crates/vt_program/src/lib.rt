@@ -50,8 +50,9 @@ fn answer<H: Threads + Wait + Sync, S: AsStr, R: Read, O: Write>(
 
 /// The whole program: does what the words ask for, and returns the exit status. The first word is the program's name.
 ///
-/// Status 0: `out` got all that the words ask for, and nothing else. This is the help; or a line for each record of a
-/// run; or, for a replay of the step text from `reader`, a line for each step's answer and then what the world shows.
+/// Status 0: `out` got all that the words ask for, and nothing else. This is the help, or a line for each record of a
+/// run. For a replay of the step text from `reader`, it is a line for each step's answer, and then what the world
+/// shows.
 ///
 /// Any other status comes with one line `twarp: refused N TEXT` on `err`, or a beginning of it if `err` fails. The
 /// status depends on N alone: 2 for 7, 3 for 8, and 1 for the others. The committed records of a run in threads are
@@ -67,8 +68,8 @@ fn answer<H: Threads + Wait + Sync, S: AsStr, R: Read, O: Write>(
 /// - N = 6: a worker of a run in threads made all its turns before the end of the run. The lines of the committed
 ///   records were written to `out`.
 /// - N = 7: the words or the input are refused, and nothing was written to `out`. TEXT names the first bad option in
-///   the order of the table; or `command-line` if the words have no meaning; or `input` if a read failed or was
-///   interrupted, or if the input is longer than a step text may be.
+///   the order of the table. It names `command-line` if the words have no meaning. It names `input` if a read failed
+///   or was interrupted, or if the input is longer than a step text may be.
 /// - N = 8: the step text has a bad line. TEXT names the first one. Nothing was run, and nothing was written to
 ///   `out`.
 /// - N = 9: `out` failed. A beginning of the text was written, but not all of it.

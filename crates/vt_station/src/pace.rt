@@ -5,8 +5,8 @@ ghost use Rattle.std.specs.Prelude.{◌≤◌, ◌<◌};
 /// The most events that a worker executes in one turn.
 const MOST_EXECUTIONS: u32 = 16;
 
-/// The patience of all workers together while little is undone: for how many turns in a row without a cut or a report
-/// they execute at full pace.
+/// The patience of all workers together while little is undone: so many turns in a row without a cut or a report they
+/// execute at full pace.
 const LONG_PATIENCE: u32 = 128;
 
 /// The patience of all workers together while much is undone.

@@ -1,6 +1,7 @@
-//! Theorems on times, floors and the book: the second half of why an optimistic run is right. "After any steps"
-//! means: for any simulation that meets the laws and any first serials, in the world that a list of the eleven steps
-//! makes of the opening world. The list may contain steps that are refused.
+//! Theorems on times, floors and the book: the second half of why an optimistic run is right.
+//!
+//! "After any steps" means: in the world that a list of the eleven steps makes of the opening world. The simulation
+//! is any that meets the laws, and the first serials are any. The list may contain steps that are refused.
 
 ghost use Rattle.std.specs.Prelude.{ℕ, ◌≡◌, IsTrue, List};
 ghost use Rattle.vt_model.specs.Simulation.{Simulation};

@@ -39,8 +39,8 @@ impl<'m, M: EventModel> World<'m, M> {
     /// The past events of process `lp`, which are executed and not committed, in the order of their execution. They are the
     /// last ones of all that the process has executed.
     ///
-    /// Nothing before [`World::least`] is unprocessed or travelling. So the process has executed below it exactly what the
-    /// sequential run executes there, in the same order, and its past events below it are the last of these.
+    /// Nothing before [`World::least`] is unprocessed or travelling. So the process has executed below it exactly
+    /// what the sequential run executes there, in the same order. Its past events below it are the last of these.
     ///
     /// [`Fault::NotLawful`]: there is no such process. [`Fault::Memory`]: there is, and memory was refused.
     pub fn past(&self, alloc: Global, lp: u32) -> Result<Vec<Event<M::Payload>>, Fault>
