@@ -92,8 +92,8 @@ impl<M: EventModel> Kernel<M> {
         self.colour
     }
 
-    /// The red minimum: the least time, in ticks, of all that the worker sent since its last cut; the end of the run
-    /// if it sent nothing.
+    /// The red minimum: the least time, in ticks, of all that the worker sent since its last cut, or since the opening;
+    /// the end of the run if it sent nothing.
     pub fn red_minimum(&self) -> Time
         ensures { result ≡ self.now.red_minimum }
     {

@@ -11,7 +11,7 @@ use Rattle.vt_stream.specs.Words.{Stream, seed_key, word}
 use Rattle.vt_model.specs.Sends.{Outgoing, sent_events, requested_records}
 use Rattle.vt_model.specs.Handler.{Handlers, StartResult, ForwardResult}
 
--- where a process stands: its state, its next send number, and the place of its next random word
+-- where a process stands: its state, its next send number, and the position of its next random word
 pub record Triple (S : Type 0) : Type 0 where
   pub state : S
   pub number : ℕ
@@ -33,7 +33,7 @@ pub record Simulation (S P : Type 0) : Type 0 where
   pub fire : ℕ → Triple S → Sent P → Fired S P
   pub finish : ℕ → S → ℕ
 
--- the words of a process from a place on
+-- the words of a process from a position on
 abbrev pub words_at : ℕ → ℕ → ℕ → ℕ → ℕ
 words_at seed process place i = word (seed_key seed) process (place + i)
 

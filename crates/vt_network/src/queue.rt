@@ -16,7 +16,7 @@ pub struct Packet {
     pub born: u64,
 }
 
-/// The value of a place that has held no packet.
+/// The value of a slot that has held no packet.
 pub const BLANK: Packet = Packet {
     source: 0,
     dest: 0,
@@ -26,9 +26,9 @@ pub const BLANK: Packet = Packet {
 /// A queue of up to [`ROOM`] packets.
 #[derive(Debug, Clone, Copy, PartialEq, Eq)]
 pub struct Queue {
-    /// The packets stand from `head` on, cyclically. The other places keep old packets.
+    /// The packets stand from `head` on, cyclically. The other slots keep old packets.
     pub items: [Packet; ROOM],
-    /// The place of the first packet.
+    /// The slot of the first packet.
     pub head: usize,
     /// How many packets there are.
     pub len: usize,
@@ -37,7 +37,7 @@ pub struct Queue {
 impl Queue {
     ghost use Rattle.vt_network.specs.Queue.{overwritten, pushed, unpushed, first, popped, unpopped};
 
-    /// Puts a packet behind the others, and answers what was in its place before.
+    /// Puts a packet behind the others, and returns what was in its slot before.
     pub fn push(&mut self, item: Packet) -> Packet
         ensures queue { self.new ≡ pushed self.old item }
         ensures before { result ≡ overwritten self.old }
@@ -57,7 +57,7 @@ impl Queue {
         self.items[self.head.wrapping_add(self.len) % ROOM] = before;
     }
 
-    /// Takes the first packet out, of which there must be one. Its place keeps the old value.
+    /// Takes the first packet out, of which there must be one. Its slot keeps the old value.
     pub fn pop(&mut self) -> Packet
         requires { 0 < self.old.len }
         ensures queue { self.new ≡ popped self.old }

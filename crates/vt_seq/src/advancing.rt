@@ -92,7 +92,7 @@ pub(crate) fn start_process<M: EventModel>(
 }
 
 /// Makes room for what an event sent and recorded: a letter for each send after the first, which reuses the event's own
-/// letter, and places for the records. None if memory is refused.
+/// letter, and room for the records. None if memory is refused.
 fn make_room<P: Copy>(
     pending: &PendingEvents<P>,
     records: &mut Vec<Record>,

@@ -71,7 +71,8 @@ impl<'m, M: EventModel> Engine<'m, M> {
         Some(process.number)
     }
 
-    /// The place of process `p` in its random words now: how many words its start and its events have drawn, modulo 2^64.
+    /// The position of the next random word in the stream of process `p`: how many words its start and its events have
+    /// drawn, modulo 2^64.
     /// None where there is no such process.
     pub(crate) fn place(&self, p: u32) -> Option<u64>
         ensures unknown { IfNone result (self.now.config.lps ≤ p) }

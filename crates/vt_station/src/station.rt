@@ -79,7 +79,7 @@ const CLAIMED: u64 = 1;
 /// The word of a cell that nobody has claimed.
 const HOME: u64 = 2;
 
-/// The place of the word of cell `cells`; also the number of words that `cells` cells take.
+/// The index of the word of cell `cells`; also the number of words that `cells` cells take.
 pub(crate) fn words_of(cells: usize) -> usize
     requires few { cells ≤ cell_count MAX_WORKERS }
     ensures { result ≡ word_at cells }

@@ -45,7 +45,7 @@ step_with_one lps workers name a =
     else if bytes_eq name (codes "commit") then option_map Commit (number_below workers a)
     else None
 
--- the step that a word and two arguments say: two workers, or a worker and a place in its mail
+-- the step that a word and two arguments say: two workers, or a worker and an index in its mail
 unfoldable pub step_with_two : ℕ → List ℕ → List ℕ → List ℕ → Option Step
 step_with_two workers name a b =
     if bytes_eq name (codes "send") then of_both Send (number_below workers a) (number_below workers b)

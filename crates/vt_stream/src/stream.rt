@@ -1,7 +1,7 @@
 //! A seekable stream of ChaCha with 8 rounds.
 //!
-//! The block function is that of RFC 8439 as `rand_chacha` states it, with 8 rounds. A word is named by (seed, process,
-//! place), so that a rollback gives words back by going back in place.
+//! The block function is that of RFC 8439 as `rand_chacha` states it, with 8 rounds. Seed, process and position
+//! determine a word. So a rollback gives words back by moving the position back.
 
 ghost use Rattle.std.specs.Prelude.{◌≡◌, ℕ, ◌+◌, ◌-◌, ◌*◌, ◌/◌, ◌%◌, ◌^◌, ◌<◌, ◌≤◌, slice_index};
 ghost use Rattle.vt_stream.specs.Words.{seed_key, word, word_of, moved};
@@ -14,15 +14,16 @@ use std::marker::Model;
 // How many words a stream keeps: half of what `rand_chacha` computes at once, since every process keeps as many.
 const WINDOW: usize = 32;
 
-/// The stream of random words of one logical process. Contracts see its key, its process and the place of the next word.
+/// The stream of random words of one logical process. Contracts see its key, its process and the position
+/// of the next word.
 ///
-/// It keeps the words around its place, so drawing one of them, going back and seeking compute nothing.
+/// It keeps the words around its position. Drawing one of them, going back and seeking compute nothing.
 #[derive(Drop)]
 pub struct LpStream {
     seed: u64,
     lp: u32,
-    // The words from place `first` on; `len` of them are known, none at first and then all. The fields that each draw reads
-    // stand together behind them.
+    // The words from position `first` on; `len` of them are known, none at first and then all. The fields that each draw
+    // reads stand together behind them.
     words: [u32; WINDOW],
     first: u64,
     len: u64,
@@ -41,7 +42,7 @@ impl Model for LpStream {
 }
 
 impl LpStream {
-    /// The stream of process `lp` at place 0. Its key is the eight bytes of `seed`, the low one first, and 24 zero bytes.
+    /// The stream of process `lp` at position 0. Its key is the eight bytes of `seed`, the low one first, and 24 zero bytes.
     pub fn new(seed: u64, lp: u32) -> Self
         ensures { result ≡ record { key = seed_key seed; process = lp; place = 0 } }
     {
@@ -55,7 +56,7 @@ impl LpStream {
         }
     }
 
-    /// The word at this place. The place rises by one, modulo 2^64.
+    /// Draws the word at the position, which rises by one, modulo 2^64.
     pub fn word(&mut self) -> u32
         ensures value { result ≡ word_of self.old 0 }
         ensures after { self.new ≡ moved self.old 1 }
@@ -71,8 +72,8 @@ impl LpStream {
         self.words[at as usize]
     }
 
-    /// The word at this place scaled to a number below `n`, which is from 1 to 2^32: the word times `n`, divided by 2^32
-    /// and rounded down. The place rises by one, modulo 2^64.
+    /// Draws the word at the position, scaled to a number below `n`, which is from 1 to 2^32: the word times `n`, divided
+    /// by 2^32 and rounded down. The position rises by one, modulo 2^64.
     pub fn below(&mut self, n: u64) -> u64
         requires low { 1 ≤ n }
         requires high { n ≤ 2 ^ 32 }
@@ -91,14 +92,14 @@ impl LpStream {
         self.place = self.place.wrapping_sub(count);
     }
 
-    /// Goes to `place`, wherever it was: the next word is the one there.
+    /// Moves the position to `place`: the next word is the one there.
     pub fn seek(&mut self, place: u64)
         ensures { self.new ≡ record self.old { place = place } }
     {
         self.place = place;
     }
 
-    /// The place of the next word: how many words were drawn since place 0, modulo 2^64.
+    /// The position of the next word, modulo 2^64.
     pub fn place(&self) -> u64
         ensures { result ≡ self.now.place }
     {
@@ -106,7 +107,7 @@ impl LpStream {
     }
 }
 
-// Writes the words of a process from place `first` on.
+// Writes the words of a process from position `first` on.
 fn fill(seed: u64, lp: u32, first: u64, words: &mut [u32; WINDOW])
     requires { first + 32 ≤ 2 ^ 64 }
     ensures { (i : ℕ) → i < 32 → slice_index words.new i ≡ word (seed_key seed) lp (first + i) }

@@ -18,7 +18,7 @@ pub const TEXT_ROOM: usize = 8_192;
 /// The most bytes of a record's line: four numbers, three spaces and a newline.
 pub const RECORD_LEN: usize = 4 * NUMBER_LEN + 4;
 
-/// Puts the digits of a number before the place `end`, and answers where they begin.
+/// Puts the digits of a number before index `end`, and returns the index where they begin.
 fn put_number(n: u64, text: &mut [u8], end: usize) -> usize
     requires room { NUMBER_LEN ≤ end }
     requires within { end ≤ length text.old }
