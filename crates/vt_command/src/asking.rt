@@ -48,8 +48,8 @@ fn request_of(matches: &ArgMatches) -> Result<Request, Fault>
     }
 }
 
-/// The request of a command line that the parser has refused: help, or an error. Memory is refused only if the
-/// parser, or the text of the help, was refused it.
+/// The request of a command line that the parser has refused: help, or an error. The fault is
+/// [`Fault::Memory`] only if the parser or the text of the help was refused memory.
 fn request_after(alloc: Global, error: Error) -> Result<Request, Fault>
     ensures ok { (words : List Text) → HasKind (fault_of twarp_app words) error → IfOk result (IsAsked words) }
     ensures err { (words : List Text) → HasKind (fault_of twarp_app words) error → IfErr result (IsRefusedBy words) }

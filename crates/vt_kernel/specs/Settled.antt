@@ -37,7 +37,7 @@ module _ {S P K : Type 0} (handlers : Handlers S P K) where
     pub letters : new_outbox ≡ outbox ++ effect.letters
     pub serials : effect.serials ≡ 0
 
-  -- and there neither is lawful any more
+  -- Undo and Cancel lead to a process that this value stands for, and neither is lawful there any more
   pub record IsSettledTo (process : LogicalProcess P) (new : HeldProcess S P K) (outbox new_outbox : List (Letter P)) : Type 0 where
     pub led : IsLed process new outbox new_outbox
     pub no_undo : undo_process led.effect.process ≡ None

@@ -72,7 +72,7 @@ IsToldBy jobs fault records = (NoneClosed jobs × (fault ≡ first_fault jobs)) 
 abbrev pub AllAt : {M P : Type 0} → M → Config → List (AtJob M P) → Type 0
 AllAt model config jobs = All (λ j. (j.model ≡ model) × (j.config ≡ config)) jobs
 
--- it is the work of as many workers, for the same model and config
+-- the work is that of as many workers as before, for the same model and config
 pub record IsSameWork {M P : Type 0} (old new : List (AtJob M P)) : Type 0 where
   pub count : length new ≡ length old
   pub told : (model : M) (config : Config) → AllAt model config old → AllAt model config new

@@ -31,7 +31,7 @@ const MOST_NAPS: u32 = 300;
 pub(crate) enum Start {
     /// All workers have begun.
     Whole,
-    /// No worker has begun for so long that a thread wasn't started.
+    /// No further worker has begun for so long that the machine can't have started a thread for each.
     Short,
     /// A worker has left before all had begun.
     Over,

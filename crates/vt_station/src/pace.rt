@@ -5,11 +5,11 @@ ghost use Rattle.std.specs.Prelude.{◌≤◌, ◌<◌};
 /// The most events that a worker executes in one turn.
 const MOST_EXECUTIONS: u32 = 16;
 
-/// The patience of all workers together while little is undone: so many turns in a row without a cut or a report they
-/// execute at full pace.
+/// The patience of all workers together while little is undone. A worker's share of it is the number of turns without a cut
+/// or a report in which it executes at full pace.
 const LONG_PATIENCE: u32 = 128;
 
-/// The patience of all workers together while much is undone.
+/// The patience of all workers together while more is undone.
 const PATIENCE: u32 = 16;
 
 /// A worker has the long patience if it may execute at least so many events in a turn.

@@ -1,5 +1,5 @@
--- What a value in memory stands for. Memory does not keep committed history and changes the state of a process in place,
--- so a value stands for every world that has its other fields, and in which committed events lead to where its past begins.
+-- What a value in memory stands for. Memory keeps no committed events, and changes the state of a process in place. So a
+-- value stands for every world that has its other fields, and in which committed events lead to where its past begins.
 use Rattle.std.specs.Prelude.{◌≡◌, ℕ, ◌+◌, List, [], ◌∷◌, map, Result}
 use Rattle.vt_key.specs.Times.{Time}
 use Rattle.vt_key.specs.declared.letter.Event.{Event}

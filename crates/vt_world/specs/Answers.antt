@@ -36,8 +36,8 @@ module _ {S P : Type 0} (sim : Simulation S P) where
     pub past : map (λ (entry : Entry P). entry.event) process.past ≡ events
     pub last : map (λ (entry : Entry P). entry.event) (process.done ++ process.past) ≡ map (λ (entry : Entry P). entry.event) process.done ++ events
 
-  -- those of these events that are before a time are, stamps aside, the last ones of what process p executes before it in the
-  -- sequential run
+  -- of these events, those before a time are the last ones that process p executes before that time in the sequential run,
+  -- stamps aside
   abbrev pub EndsSequential : ℕ → Time → List (Event P) → Type 0
   EndsSequential p t events = ∥ ((first : List (Sent P)) × (seq_events sim p t ≡ first ++ events_before t (map unstamped events))) ∥₁
 
