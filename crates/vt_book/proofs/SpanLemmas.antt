@@ -1,6 +1,5 @@
 -- The times of the rows of a run lie between those of its first and its last row.
-use Rattle.std.proofs.Common.{◌≡◌, ℕ, cond, nat_eq, Bool, true, false, ◌&&◌, List, [], ◌∷◌, ◌++◌, map, get_or, refl, sym, ap, subst, ◌∙◌, arith, Option, Some, None}
-use Rattle.std.specs.declared.cmp.Reverse.{Reverse}
+use Rattle.std.proofs.Common.{◌≡◌, ℕ, cond, nat_eq, Bool, true, false, ◌&&◌, List, [], ◌∷◌, ◌++◌, get_or, refl, sym, ap, subst, ◌∙◌, arith, Option, Some, None}
 use Rattle.std.specs.List.{sum_by, list_all}
 use Rattle.std.proofs.lemmas.Bool.Decides.{nat_tests}
 use Rattle.std.proofs.lemmas.List.Sums.{sum_by-cons}
@@ -23,37 +22,37 @@ same-test false true f g = g refl
 same-test false false f g = refl
 
 -- rows of which none is before one and none is after another have times between theirs
-all-between : (from to : Time) (least most : Row) (xs : List (Reverse Row)) → time_at_most from least.key.time ≡ true → time_before most.key.time to ≡ true →
-    Every (λ (x : Reverse Row). row_before x.0 least ≡ false) xs → Every (λ (x : Reverse Row). row_before most x.0 ≡ false) xs → list_all (is_within from to) (map (λ x. x.0) xs) ≡ true
+all-between : (from to : Time) (least most : Row) (xs : List Row) → time_at_most from least.key.time ≡ true → time_before most.key.time to ≡ true →
+    Every (λ (x : Row). row_before x least ≡ false) xs → Every (λ (x : Row). row_before most x ≡ false) xs → list_all (is_within from to) xs ≡ true
 all-between from to least most [] low high h k = refl
 all-between from to least most (x ∷ xs) low high h k =
-    let after = not-earlier least x.0 h.0 in
-    let before = not-earlier x.0 most k.0 in
-    let one : time_at_most from x.0.key.time ≡ true = grind (arith, nat_tests) in
-    let other : time_before x.0.key.time to ≡ true = grind (arith, nat_tests) in
-    passes_both (is_within from to x.0) (list_all (is_within from to) (map (λ x. x.0) xs)) (passes_both (time_at_most from x.0.key.time) (time_before x.0.key.time to) one other) (all-between from to least most xs low high h.1 k.1)
+    let after = not-earlier least x h.0 in
+    let before = not-earlier x most k.0 in
+    let one : time_at_most from x.key.time ≡ true = grind (arith, nat_tests) in
+    let other : time_before x.key.time to ≡ true = grind (arith, nat_tests) in
+    passes_both (is_within from to x) (list_all (is_within from to) xs) (passes_both (time_at_most from x.key.time) (time_before x.key.time to) one other) (all-between from to least most xs low high h.1 k.1)
 
 -- the last in order stands in front, or is the first where there is no other
-pub between : (from to : Time) (first : Reverse Row) (xs : List (Reverse Row)) → Falls (xs ++ first ∷ []) →
-    (time_at_most from first.0.key.time && time_before (get_or xs 0 first).0.key.time to) ≡ list_all (is_within from to) (first.0 ∷ map (λ x. x.0) xs)
+pub between : (from to : Time) (first : Row) (xs : List Row) → Falls (xs ++ first ∷ []) →
+    (time_at_most from first.key.time && time_before (get_or xs 0 first).key.time to) ≡ list_all (is_within from to) (first ∷ xs)
 between from to first [] falls =
-    same-test (time_at_most from first.0.key.time && time_before first.0.key.time to) (is_within from to first.0 && true) (λ h. passes_both (is_within from to first.0) true h refl) (λ h. (both_pass (is_within from to first.0) true h).0)
+    same-test (time_at_most from first.key.time && time_before first.key.time to) (is_within from to first && true) (λ h. passes_both (is_within from to first) true h refl) (λ h. (both_pass (is_within from to first) true h).0)
 between from to first (x ∷ xs) falls =
-    same-test (time_at_most from first.0.key.time && time_before x.0.key.time to) (list_all (is_within from to) (first.0 ∷ x.0 ∷ map (λ x. x.0) xs))
+    same-test (time_at_most from first.key.time && time_before x.key.time to) (list_all (is_within from to) (first ∷ x ∷ xs))
     (λ h. (
-    let both = both_pass (time_at_most from first.0.key.time) (time_before x.0.key.time to) h in
+    let both = both_pass (time_at_most from first.key.time) (time_before x.key.time to) h in
     let early = before-last (x ∷ xs) first falls in
-    let less = not-earlier first.0 x.0 early.0 in
-    let high : time_before first.0.key.time to ≡ true = (let l = both.1 in grind (arith, nat_tests)) in
-    let low : time_at_most from x.0.key.time ≡ true = (let l = both.0 in grind (arith, nat_tests)) in
-    passes_both (is_within from to first.0) (list_all (is_within from to) (x.0 ∷ map (λ x. x.0) xs)) (passes_both (time_at_most from first.0.key.time) (time_before first.0.key.time to) both.0 high)
-    (passes_both (is_within from to x.0) (list_all (is_within from to) (map (λ x. x.0) xs)) (passes_both (time_at_most from x.0.key.time) (time_before x.0.key.time to) low both.1)
-    (all-between from to first.0 x.0 xs both.0 both.1 early.1 (front-after x xs (first ∷ []) falls)))))
+    let less = not-earlier first x early.0 in
+    let high : time_before first.key.time to ≡ true = (let l = both.1 in grind (arith, nat_tests)) in
+    let low : time_at_most from x.key.time ≡ true = (let l = both.0 in grind (arith, nat_tests)) in
+    passes_both (is_within from to first) (list_all (is_within from to) (x ∷ xs)) (passes_both (time_at_most from first.key.time) (time_before first.key.time to) both.0 high)
+    (passes_both (is_within from to x) (list_all (is_within from to) xs) (passes_both (time_at_most from x.key.time) (time_before x.key.time to) low both.1)
+    (all-between from to first x xs both.0 both.1 early.1 (front-after x xs (first ∷ []) falls)))))
     (λ h. (
-    let both = both_pass (is_within from to first.0) (list_all (is_within from to) (x.0 ∷ map (λ x. x.0) xs)) h in
-    let next = both_pass (is_within from to x.0) (list_all (is_within from to) (map (λ x. x.0) xs)) both.1 in
-    passes_both (time_at_most from first.0.key.time) (time_before x.0.key.time to) (both_pass (time_at_most from first.0.key.time) (time_before first.0.key.time to) both.0).0
-    (both_pass (time_at_most from x.0.key.time) (time_before x.0.key.time to) next.0).1))
+    let both = both_pass (is_within from to first) (list_all (is_within from to) (x ∷ xs)) h in
+    let next = both_pass (is_within from to x) (list_all (is_within from to) xs) both.1 in
+    passes_both (time_at_most from first.key.time) (time_before x.key.time to) (both_pass (time_at_most from first.key.time) (time_before first.key.time to) both.0).0
+    (both_pass (time_at_most from x.key.time) (time_before x.key.time to) next.0).1))
 
 -- ---- a test of all rows doesn't see their order
 

@@ -15,8 +15,7 @@ use vt_model::Row;
 
 /// Rows that a worker is going to hand in. Contracts see them in the order in which they were given.
 ///
-/// The rows are copied and sorted when the batch is made, so that a hand-in only moves them. A batch may go to another
-/// thread.
+/// The rows are sorted when the batch is made, so that a hand-in only moves them. A batch may go to another thread.
 #[derive(Drop)]
 pub struct Batch {
     rows: History,
@@ -37,19 +36,30 @@ impl Model for Batch {
 }
 
 impl Batch {
-    /// A batch of these rows, which may come in any order.
+    /// A batch of copies of these rows, which may come in any order.
     ///
     /// [`Fault::Memory`]: memory was refused.
     pub fn new(alloc: Global, rows: &[Row]) -> Result<Batch, Fault>
         ensures rows { IfOk result (λ batch. batch ≡ rows.now) }
         ensures refused { IfErr result (λ fault. fault ≡ Memory) }
     {
-        let run = run_of(alloc, rows)?;
-        Ok(Batch {
-            rows: History::new().with(rows),
-            run,
-            count: rows.len(),
-        })
+        let Ok(rows) = Vec::from_slice(alloc, rows) else {
+            return Err(Fault::Memory);
+        };
+        Ok(Batch::of(rows))
+    }
+
+    /// A batch of these rows themselves, which may come in any order. It takes no memory.
+    pub fn of(rows: Vec<Row>) -> Batch
+        ensures { result ≡ rows.items }
+    {
+        let history = History::new().with(rows.as_slice());
+        let count = rows.len();
+        Batch {
+            rows: history,
+            run: run_of(rows),
+            count,
+        }
     }
 
     /// How many rows there are.

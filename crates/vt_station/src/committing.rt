@@ -33,7 +33,7 @@ fn batch_of<M: EventModel>(alloc: Global, kernel: &Kernel<M>) -> Result<Batch, F
     ensures rows { (handlers : Handlers _ _ _) (part : Part _) → StandsFor handlers kernel.now part → IfOk result (λ batch. batch ≡ rows_of_commit (simulation_of handlers kernel.now.config) kernel.now.worker part) }
 {
     let rows = kernel.rows(alloc)?;
-    Batch::new(alloc, &rows)
+    Ok(Batch::of(rows))
 }
 
 impl<M: EventModel> Station<M> {

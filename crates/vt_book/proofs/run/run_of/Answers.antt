@@ -1,23 +1,24 @@
-use Rattle.std.proofs.Common.{List, sym, ◌∙◌, subst, arith}
+use Rattle.std.proofs.Common.{List, Option, sym, ◌∙◌, subst, arith}
 use Rattle.std.specs.List.Sorted.{IsSorted}
-use Rattle.std.specs.declared.cmp.Reverse.{Reverse}
 use Rattle.vt_model.specs.declared.rows.Row.{Row}
 use Rattle.vt_model.specs.contracts.rows.RowOrd.TheImpl.{ghosts}
+use Rattle.vt_book.specs.declared.run.Run.{Run}
+use Rattle.vt_book.specs.Runs.{IsRunOf}
 use Rattle.vt_book.proofs.RunLemmas.{same-falling, same-last, none-falling}
 use Rattle.vt_book.proofs.run.run_of.Goals as goal
 
-pub returns-in_default-clause-run : goal.returns-in_default-clause-run
-returns-in_default-clause-run c =
-    let rest = c.in_ok-rest.rest in
+pub returns-in_err-first : goal.returns-in_err-first
+returns-in_err-first c =
+    let rest = c.falling-rest.result in
     let counted = rest.ok.0 in
-    let empty = c.in_default.ensures.cases.0 in
-    none-falling c.args.rows.now rest.items c.in_ok-rest.ensures.permutation (omega arith)
+    let empty = c.in_err-first.ensures.cases.0 in
+    subst (λ (run : Option Run). IsRunOf c.args.rows.items run) (sym c.from_residual.ensures) (none-falling c.args.rows.items rest.items c.falling-rest.ensures.permutation (omega arith))
 
-pub returns-clause-run : goal.returns-clause-run
-returns-clause-run c =
-    let first = c.in-Some.first in
-    let all = c.in_ok-rest.rest.items in
+pub returns : goal.returns
+returns c =
+    let first = c.in_ok-first.first in
+    let all = c.falling-rest.result.items in
     let rest = c.pop.new.self.items in (
-      subst (λ (xs : List (Reverse Row)). IsSorted (λ x y. ghosts.cmp y.0 x.0) xs) c.in-Some.ensures.items c.in_ok-rest.ensures.sorted,
-      λ f. sym (same-last rest first all c.in-Some.ensures.items f) ∙ same-falling c.args.rows.now all c.in_ok-rest.ensures.permutation f,
+      subst (λ (xs : List Row). IsSorted (λ x y. ghosts.cmp y x) xs) c.in_ok-first.ensures.items c.falling-rest.ensures.sorted,
+      λ f. sym (same-last rest first all c.in_ok-first.ensures.items f) ∙ same-falling c.args.rows.items all c.falling-rest.ensures.permutation f,
     )

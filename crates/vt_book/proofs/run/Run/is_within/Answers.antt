@@ -7,7 +7,7 @@ use Rattle.vt_book.proofs.run.Run.is_within.Goals as goal
 pub returns-then-from-least : goal.returns-then-from-least
 returns-then-from-least c =
     let run = c.args.self.now in
-    let last = get_or run.rest.items 0 run.first in
+    let last = get_or run.rest.items 0 run.first.0 in
     let is = c.span-least.ensures in
     let low : time_at_most c.args.from run.first.0.key.time ≡ true = (let l : c.args.from ≤ c.span-least.result.0 = c.if-from-least.true in let e = is.0 in grind (arith, nat_tests)) in
-    ap (λ t. nat_lt t c.args.to) is.1 ∙ ap (λ b. b && time_before last.0.key.time c.args.to) (sym low) ∙ between c.args.from c.args.to run.first run.rest.items c.requires
+    ap (λ t. nat_lt t c.args.to) is.1 ∙ ap (λ b. b && time_before last.key.time c.args.to) (sym low) ∙ between c.args.from c.args.to run.first.0 run.rest.items c.requires

@@ -1,6 +1,5 @@
-use Rattle.std.proofs.Common.{◌∷◌, [], ◌++◌, List, map, refl, subst}
+use Rattle.std.proofs.Common.{◌∷◌, [], ◌++◌, List, refl, subst}
 use Rattle.std.specs.List.Sorted.{IsSorted}
-use Rattle.std.specs.declared.cmp.Reverse.{Reverse}
 use Rattle.vt_model.specs.declared.rows.Row.{Row}
 use Rattle.vt_model.specs.contracts.rows.RowOrd.TheImpl.{ghosts}
 use Rattle.vt_book.proofs.RowLists.{same-cons}
@@ -9,13 +8,13 @@ use Rattle.vt_book.proofs.run.Run.split.Goals as goal
 
 pub returns : goal.returns
 returns c =
-    let first = c.args.self.first in
+    let first = c.args.self.first.0 in
     let next = c.in-Some.next in
     let rest = c.pop.new.self.items in
-    let falls = subst (λ (xs : List (Reverse Row)). IsSorted (λ x y. ghosts.cmp y.0 x.0) (xs ++ first ∷ [])) c.in-Some.ensures.items c.requires in (
+    let falls = subst (λ (xs : List Row). IsSorted (λ x y. ghosts.cmp y x) (xs ++ first ∷ [])) c.in-Some.ensures.items c.requires in (
       refl,
       (
-        sorted-front (λ (x y : Reverse Row). ghosts.cmp y.0 x.0) (rest ++ next ∷ []) (first ∷ []) falls,
-        same-cons first.0 (map (λ x. x.0) c.args.self.rest.items) (next.0 ∷ map (λ x. x.0) rest) (same-last rest next c.args.self.rest.items c.in-Some.ensures.items),
+        sorted-front (λ (x y : Row). ghosts.cmp y x) (rest ++ next ∷ []) (first ∷ []) falls,
+        same-cons first c.args.self.rest.items (next ∷ rest) (same-last rest next c.args.self.rest.items c.in-Some.ensures.items),
       ),
     )
