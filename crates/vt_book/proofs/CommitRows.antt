@@ -1,8 +1,8 @@
 -- The rows that a worker hands in when it commits lie between its hand-in floor and its floor.
-use Rattle.std.proofs.Common.{◌≡◌, ℕ, zero, suc, ◌+◌, ◌<◌, ◌≤◌, ◌⊎◌, inl, inr, Bool, true, false, cond, List, [], ◌∷◌, ◌++◌, map, length, take, refl, sym, ◌∙◌, ap, subst, arith, Option, Some, None, slice_get, if◌then◌else◌}
-use Rattle.std.specs.List.{list_all, prefix_len}
+use Rattle.std.proofs.Common.{◌≡◌, ℕ, suc, ◌+◌, true, false, cond, List, [], ◌∷◌, take, refl, sym, ap, subst, arith, Some, slice_get}
+use Rattle.std.specs.List.{prefix_len}
 use Rattle.std.proofs.lemmas.Bool.Decides.{nat_tests}
-use Rattle.vt_key.specs.Times.{Time, TimeBefore, TimeAtMost, time_before, time_at_most}
+use Rattle.vt_key.specs.Times.{Time, TimeBefore, TimeAtMost}
 use Rattle.vt_key.specs.declared.order.Key.{Key}
 use Rattle.vt_model.specs.declared.rows.Row.{Row}
 use Rattle.vt_model.specs.declared.sending.Sent.{Sent}
@@ -11,7 +11,7 @@ use Rattle.vt_model.specs.Histories.{IsLawful}
 use Rattle.vt_model.specs.Simulation.{Simulation, Triple}
 use Rattle.vt_steps.specs.declared.step.Step.{Step}
 use Rattle.vt_steps.specs.Rows.{rows_from}
-use Rattle.vt_steps.specs.World.{Entry, LogicalProcess, Part, World, entry_events, triple_after, process_at}
+use Rattle.vt_steps.specs.World.{Entry, LogicalProcess, Part, entry_events, triple_after, process_at}
 use Rattle.vt_steps.specs.PartSteps.{is_below, ripe, ripe_rows, rows_of_processes, rows_of_commit}
 use Rattle.vt_steps.specs.Next.{reached}
 use Rattle.vt_steps.proofs.Lists.{Every, every-append, every-take, every-both, every-map}

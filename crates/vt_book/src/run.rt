@@ -1,6 +1,6 @@
 //! Rows that were handed in together.
 
-ghost use Rattle.std.specs.Prelude.{◌≡◌, [], ◌∷◌, MatchOption, get_or};
+ghost use Rattle.std.specs.Prelude.{◌≡◌, [], ◌∷◌, true, false, get_or};
 ghost use Rattle.std.specs.List.{list_all};
 ghost use Rattle.std.specs.List.Sorted.{IsPermutation, IsSorted};
 ghost use Rattle.vt_book.specs.Kept.{AreSameRows};
@@ -20,25 +20,17 @@ pub(crate) struct Run {
 }
 
 impl Run {
-    /// The first row, and the run of the others, if there are any.
-    pub(crate) fn split(self) -> (Row, Option<Run>)
-        requires { IsRun self }
-        ensures { (result.0 ≡ self.first.0) × MatchOption result.1
-            (rows_of self ≡ result.0 ∷ [])
-            (λ r. IsRun r × AreSameRows (rows_of self) (result.0 ∷ rows_of r)) }
+    /// Takes out the first row, unless it is the only one: whether it isn't.
+    pub(crate) fn advance(&mut self) -> bool
+        requires { IsRun self.old }
+        ensures more { result ≡ true → IsRun self.new × AreSameRows (rows_of self.old) (self.old.first.0 ∷ rows_of self.new) }
+        ensures last { result ≡ false → rows_of self.old ≡ self.old.first.0 ∷ [] }
     {
-        let Run { first, mut rest } = self;
-        let Some(next) = rest.pop() else {
-            return (first.0, None);
+        let Some(next) = self.rest.pop() else {
+            return false;
         };
-        let first_of_rest = Reverse(next);
-        (
-            first.0,
-            Some(Run {
-                first: first_of_rest,
-                rest,
-            }),
-        )
+        self.first = Reverse(next);
+        true
     }
 
     /// Whether the times of all rows are at least `from` and below `to`. It reads the first row and the last one alone.

@@ -1,20 +1,18 @@
-use Rattle.std.proofs.Common.{◌∷◌, [], ◌++◌, List, refl, subst}
+use Rattle.std.proofs.Common.{◌∷◌, [], ◌++◌, List, subst}
 use Rattle.std.specs.List.Sorted.{IsSorted}
 use Rattle.vt_model.specs.declared.rows.Row.{Row}
 use Rattle.vt_model.specs.contracts.rows.RowOrd.TheImpl.{ghosts}
 use Rattle.vt_book.proofs.RowLists.{same-cons}
 use Rattle.vt_book.proofs.RunLemmas.{sorted-front, same-last}
-use Rattle.vt_book.proofs.run.Run.split.Goals as goal
+use Rattle.vt_book.proofs.run.Run.advance.Goals as goal
 
-pub returns : goal.returns
-returns c =
-    let first = c.args.self.first.0 in
+pub returns-clause-more : goal.returns-clause-more
+returns-clause-more c = λ _.
+    let run = c.args.self.now in
+    let first = run.first.0 in
     let next = c.in-Some.next in
     let rest = c.pop.new.self.items in
     let falls = subst (λ (xs : List Row). IsSorted (λ x y. ghosts.cmp y x) (xs ++ first ∷ [])) c.in-Some.ensures.items c.requires in (
-      refl,
-      (
-        sorted-front (λ (x y : Row). ghosts.cmp y x) (rest ++ next ∷ []) (first ∷ []) falls,
-        same-cons first c.args.self.rest.items (next ∷ rest) (same-last rest next c.args.self.rest.items c.in-Some.ensures.items),
-      ),
+      sorted-front (λ (x y : Row). ghosts.cmp y x) (rest ++ next ∷ []) (first ∷ []) falls,
+      same-cons first run.rest.items (next ∷ rest) (same-last rest next run.rest.items c.in-Some.ensures.items),
     )
