@@ -36,7 +36,7 @@ pub struct Kernel<M: EventModel> {
     pub(crate) unready: Tournament,
     // The processes that have past events.
     pub(crate) marked: Marks,
-    // The memory of committed events, for the next ones.
+    // The memory of committed events and of annihilated letters, for the next ones.
     pub(crate) spare: Spare<M::Payload, M::Kept>,
 }
 

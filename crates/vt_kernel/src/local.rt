@@ -99,7 +99,7 @@ impl<M: EventModel> Kernel<M> {
         let Some(place) = place_of(self.config, self.worker, lp) else {
             return Err(Fault::NotLawful);
         };
-        if let Err(fault) = self.processes[place].cancel(stamp) {
+        if let Err(fault) = self.processes[place].cancel_into(stamp, &mut self.spare) {
             return Err(fault);
         }
         enter(

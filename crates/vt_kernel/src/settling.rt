@@ -12,7 +12,7 @@ use crate::kernel::Kernel;
 use crate::local::{enter, place_of};
 use vt_key::Letter;
 use vt_list::List;
-use vt_lp::Lp;
+use vt_lp::{Lp, Spare};
 use vt_model::Model as EventModel;
 
 impl<M: EventModel> Kernel<M> {
@@ -25,7 +25,12 @@ impl<M: EventModel> Kernel<M> {
         let Some(place) = place_of(self.config, self.worker, lp) else {
             return;
         };
-        if settle_process(&mut self.processes[place], model, &mut self.outbox) {
+        if settle_process(
+            &mut self.processes[place],
+            model,
+            &mut self.outbox,
+            &mut self.spare,
+        ) {
             enter(
                 &mut self.ready,
                 &mut self.unready,
@@ -43,6 +48,7 @@ fn settle_process<M: EventModel>(
     process: &mut Lp<M>,
     model: &M,
     outbox: &mut List<Letter<M::Payload>>,
+    spare: &mut Spare<M::Payload, M::Kept>,
 ) -> bool
     ensures settled { (h : LogicalProcess _) → ProcessStandsFor (M.handlers model.now) process.old h → IsSettledTo (M.handlers model.now) h process.new outbox.old outbox.new }
     ensures within { AllWithinRun process.old.config outbox.old → AllWithinRun process.old.config outbox.new }
@@ -58,7 +64,7 @@ fn settle_process<M: EventModel>(
         let Some(stamp) = process.cancellable() else {
             return changed;
         };
-        let _ = process.cancel(stamp);
+        let _ = process.cancel_into(stamp, spare);
         changed = true;
     }
 }

@@ -3,6 +3,7 @@ use Rattle.std.proofs.Common.{◌≡◌, ℕ, ◌+◌, ◌-◌, ◌%◌, ◌^◌
 use Rattle.vt_key.specs.declared.letter.Event.{Event}
 use Rattle.vt_key.specs.declared.letter.Sign.{Sign}
 use Rattle.vt_key.specs.declared.letter.Sign.TheVariants.{Plus, Minus}
+use Rattle.vt_model.specs.declared.limits.TheConstants.{MAX_DRAWS}
 use Rattle.vt_model.specs.declared.settings.Config.{Config}
 use Rattle.vt_model.specs.Handler.{Handlers}
 use Rattle.vt_model.specs.Simulation.{Triple, simulation_of, rows_of}
@@ -14,7 +15,7 @@ use Rattle.vt_lp.specs.Held.{remembered, way_back}
 use Rattle.vt_lp.specs.Past.{past_event}
 
 -- drawn words given back
-pub place-back : (at n : ℕ) → at < 2 ^ 64 → n ≤ 64 → ((at + n) % 2 ^ 64 + (2 ^ 64 - n)) % 2 ^ 64 ≡ at
+pub place-back : (at n : ℕ) → at < 2 ^ 64 → n ≤ MAX_DRAWS → ((at + n) % 2 ^ 64 + (2 ^ 64 - n)) % 2 ^ 64 ≡ at
 place-back at n small few = omega arith
 
 -- the events of letters
@@ -26,7 +27,7 @@ module _ {S P K : Type 0} (handlers : Handlers S P K) (config : Config) where
   pub remembers : (p w serial : ℕ) (event : Event P) (before now : Triple S) (trail : Trail P K) →
       now ≡ ((simulation_of handlers config).fire p before (unstamped event)).triple →
       handlers.reverse p event.rank.key.time event.payload now.state trail.bits trail.kept ≡ before.state →
-      trail.number ≡ before.number → before.place < 2 ^ 64 → trail.drawn ≤ 64 → now.place ≡ (before.place + trail.drawn) % 2 ^ 64 →
+      trail.number ≡ before.number → before.place < 2 ^ 64 → trail.drawn ≤ MAX_DRAWS → now.place ≡ (before.place + trail.drawn) % 2 ^ 64 →
       trail.anti_messages ≡ map (signed Minus) (stamped w serial ((simulation_of handlers config).fire p before (unstamped event)).sends) →
       rows_of event.rank.key trail.records.items ≡ ((simulation_of handlers config).fire p before (unstamped event)).rows →
       IsRemembered (simulation_of handlers config) p before (remembered handlers p (past_event (signed Plus event) trail))

@@ -1,6 +1,6 @@
 //! Letters at a process: how it accepts one, and how two annihilate.
 
-ghost use Rattle.std.specs.Prelude.{◌≡◌, suc, length, IfSome, IfNone, false, true, [], None, IfOk, IfErr};
+ghost use Rattle.std.specs.Prelude.{◌≡◌, ◌+◌, suc, length, IfSome, IfNone, false, true, [], None, IfOk, IfErr};
 ghost use Rattle.vt_key.specs.declared.order.Stamp.{Stamp};
 ghost use Rattle.std.specs.List.{list_any, last_or};
 ghost use Rattle.vt_key.specs.Order.{rank_same};
@@ -15,6 +15,7 @@ ghost use Rattle.vt_lp.specs.Guards.{IsDone, holds_letter, can_annihilate, may_c
 use crate::Lp;
 use crate::entry::PastEvent;
 use crate::past::Past;
+use crate::spare::Spare;
 use vt_key::{Fault, Letter, Rank, Sign, Stamp};
 use vt_list::{List, Parcel, Predicate};
 use vt_model::Model as EventModel;
@@ -74,11 +75,34 @@ impl<M: EventModel> Lp<M> {
         ensures fewer { IfOk result (λ done. (suc (length self.new.pending) ≡ length self.old.pending) × (suc (length self.new.waiting) ≡ length self.old.waiting)) }
         ensures same { (self.new.lp ≡ self.old.lp) × (self.new.config ≡ self.old.config) × (self.new.triple ≡ self.old.triple) × (self.new.past ≡ self.old.past) }
     {
+        let mut spare = Spare::new(self.past.events().allocator());
+        self.cancel_into(stamp, &mut spare)
+    }
+
+    /// Like [`Lp::cancel`], and keeps the nodes of both letters for the next ones.
+    ///
+    /// [`Fault::NotLawful`]: as for [`Lp::cancel`]. `spare` is as it was too.
+    pub fn cancel_into(
+        &mut self,
+        stamp: Stamp,
+        spare: &mut Spare<M::Payload, M::Kept>,
+    ) -> Result<(), Fault>
+        ensures done { (handlers : Handlers _ _ _) (h : LogicalProcess _) → StandsFor handlers self.old h → IfOk result (λ done. IsDone handlers self.new (cancel_process stamp h) [] [] 0 0) }
+        ensures refused { (handlers : Handlers _ _ _) (h : LogicalProcess _) → StandsFor handlers self.old h → IfErr result (λ fault. cancel_process stamp h ≡ None) }
+        ensures kept { IfErr result (λ fault. (fault ≡ NotLawful) × (self.new ≡ self.old) × (spare.new ≡ spare.old)) }
+        ensures freed { IfOk result (λ done. spare.new ≡ record { letters = spare.old.letters + 2; events = spare.old.events }) }
+        ensures lawful { IfOk result (λ done. can_annihilate stamp self.old.pending self.old.waiting ≡ true) }
+        ensures unlawful { IfErr result (λ fault. can_annihilate stamp self.old.pending self.old.waiting ≡ false) }
+        ensures fewer { IfOk result (λ done. (suc (length self.new.pending) ≡ length self.old.pending) × (suc (length self.new.waiting) ≡ length self.old.waiting)) }
+        ensures same { (self.new.lp ≡ self.old.lp) × (self.new.config ≡ self.old.config) × (self.new.triple ≡ self.old.triple) × (self.new.past ≡ self.old.past) }
+    {
         if !annihilate(stamp, &self.pending, &self.waiting) {
             return Err(Fault::NotLawful);
         }
-        self.pending.take_stamp(stamp);
-        self.waiting.take_stamp(stamp);
+        let message = self.pending.take_stamp(stamp);
+        let anti_message = self.waiting.take_stamp(stamp);
+        spare.keep_if_some(message);
+        spare.keep_if_some(anti_message);
         Ok(())
     }
 

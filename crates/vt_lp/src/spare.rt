@@ -1,6 +1,7 @@
 //! Nodes that processes no longer need, kept for the next letters and events.
 
 ghost use Rattle.std.specs.Prelude.{◌≡◌, ◌+◌, ◌-◌, [], length, IfOk, IfErr, IfSome, IfNone};
+ghost use Rattle.vt_lp.specs.Kept.{one_if_some};
 
 use crate::entry::PastEvent;
 use std::alloc::Global;
@@ -187,6 +188,15 @@ impl<P: Copy, K: Copy> Spare<P, K> {
         ensures none_left { letters.new ≡ [] }
     {
         while let Some(letter) = letters.pop_front() {
+            self.keep_letter(letter);
+        }
+    }
+
+    /// Keeps the node of a letter, where there is one.
+    pub(crate) fn keep_if_some(&mut self, letter: Option<Parcel<Letter<P>>>)
+        ensures { self.new ≡ record { letters = self.old.letters + one_if_some letter; events = self.old.events } }
+    {
+        if let Some(letter) = letter {
             self.keep_letter(letter);
         }
     }

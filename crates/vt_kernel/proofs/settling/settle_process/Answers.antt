@@ -53,13 +53,13 @@ loop-changed-preserved g c =
     let inv = c.loop-changed.invariant in
     let err = sym c.is_ok.ensures.value ∙ c.if-is_ok.false in
     let kept = kept-err c.undo.result c.undo.new.self c.loop-changed.process c.undo.new.outbox c.loop-changed.outbox err c.undo.ensures.kept in
-    let ok = cannot-err c.cancel.result (can_annihilate c.in-Some.stamp c.undo.new.self.pending c.undo.new.self.waiting) c.cancel.ensures.unlawful c.in-Some.ensures.lawful in
-    let same = c.cancel.ensures.same in
+    let ok = cannot-err c.cancel_into.result (can_annihilate c.in-Some.stamp c.undo.new.self.pending c.undo.new.self.waiting) c.cancel_into.ensures.unlawful c.in-Some.ensures.lawful in
+    let same = c.cancel_into.ensures.same in
     record {
       led = λ h s.
           (let so_far = led-same handlers h c.loop-changed.process c.undo.new.self c.args.outbox.now c.loop-changed.outbox c.undo.new.outbox (inv.led h s) kept.0 kept.1 in
-          led-cancelled handlers c.in-Some.stamp h c.undo.new.self c.cancel.new.self c.args.outbox.now c.undo.new.outbox so_far same.0
-          (in-ok c.cancel.result ok (c.cancel.ensures.done handlers so_far.effect.process so_far.stands)));
+          led-cancelled handlers c.in-Some.stamp h c.undo.new.self c.cancel_into.new.self c.args.outbox.now c.undo.new.outbox so_far same.0
+          (in-ok c.cancel_into.result ok (c.cancel_into.ensures.done handlers so_far.effect.process so_far.stands)));
       within = λ w. subst (λ (k : Config). AllWithinRun k c.loop-changed.outbox → AllWithinRun k c.undo.new.outbox) inv.config c.undo.ensures.within (inv.within w);
       lp = same.0 ∙ c.undo.ensures.same.0 ∙ inv.lp;
       config = same.1 ∙ c.undo.ensures.same.1 ∙ inv.config;

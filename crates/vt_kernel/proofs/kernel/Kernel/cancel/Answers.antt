@@ -31,7 +31,7 @@ invariant_of-self g c =
     let less = place-within c.self.invariant c.args.lp c.in-Some.place i.config.some_worker own.0 own.1 own.2 in
     let at = index-get i.processes.items c.in-Some.place c.index_mut.result.now less (sym c.index_mut.ensures.value) in
     subst (λ (ps : List (HeldProcess _ _ _)). IsWorkerInside i.config i.worker ps i.outbox i.arrived.items i.sent i.got i.serial i.ready i.unready i.marked)
-    (sym (written-same i.processes.items c.in-Some.place c.index_mut.result.now c.cancel.new.self at c.in-Err.ensures.kept.1)) c.self.invariant
+    (sym (written-same i.processes.items c.in-Some.place c.index_mut.result.now c.cancel_into.new.self at c.in-Err.ensures.kept.1)) c.self.invariant
 
 pub returns-in-Err-clause-refused : goal.returns-in-Err-clause-refused
 returns-in-Err-clause-refused g c handlers part s =
@@ -51,7 +51,7 @@ enter-requires-clause-there g c κs within =
     let less = place-within c.self.invariant c.args.lp c.in-Some.place i.config.some_worker own.0 own.1 own.2 in
     let old = c.index_mut.result.now in
     let at = index-get i.processes.items c.in-Some.place old less (sym c.index_mut.ensures.value) in
-    in-changed i.processes.items c.deref.result.now c.in-Some.place old c.cancel.new.self at c.deref.ensures.value
+    in-changed i.processes.items c.deref.result.now c.in-Some.place old c.cancel_into.new.self at c.deref.ensures.value
 
 pub enter-requires-clause-in_ready : goal.enter-requires-clause-in_ready
 enter-requires-clause-in_ready g c κs within =
@@ -60,7 +60,7 @@ enter-requires-clause-in_ready g c κs within =
     let less = place-within c.self.invariant c.args.lp c.in-Some.place i.config.some_worker own.0 own.1 own.2 in
     let old = c.index_mut.result.now in
     let at = index-get i.processes.items c.in-Some.place old less (sym c.index_mut.ensures.value) in
-    was-entered ready_of i.processes.items c.deref.result.now c.in-Some.place old c.cancel.new.self i.ready at c.deref.ensures.value c.self.invariant.ready_entered
+    was-entered ready_of i.processes.items c.deref.result.now c.in-Some.place old c.cancel_into.new.self i.ready at c.deref.ensures.value c.self.invariant.ready_entered
 
 pub enter-requires-clause-in_unready : goal.enter-requires-clause-in_unready
 enter-requires-clause-in_unready g c κs within =
@@ -69,7 +69,7 @@ enter-requires-clause-in_unready g c κs within =
     let less = place-within c.self.invariant c.args.lp c.in-Some.place i.config.some_worker own.0 own.1 own.2 in
     let old = c.index_mut.result.now in
     let at = index-get i.processes.items c.in-Some.place old less (sym c.index_mut.ensures.value) in
-    was-entered unready_of i.processes.items c.deref.result.now c.in-Some.place old c.cancel.new.self i.unready at c.deref.ensures.value c.self.invariant.unready_entered
+    was-entered unready_of i.processes.items c.deref.result.now c.in-Some.place old c.cancel_into.new.self i.unready at c.deref.ensures.value c.self.invariant.unready_entered
 
 pub invariant_of-self-2 : goal.invariant_of-self-2
 invariant_of-self-2 g c =
@@ -77,9 +77,9 @@ invariant_of-self-2 g c =
     let own = c.in-Some.ensures.own in
     let less = place-within c.self.invariant c.args.lp c.in-Some.place i.config.some_worker own.0 own.1 own.2 in
     let old = c.index_mut.result.now in
-    let new = c.cancel.new.self in
+    let new = c.cancel_into.new.self in
     let at = index-get i.processes.items c.in-Some.place old less (sym c.index_mut.ensures.value) in
-    let same = c.in_default-cancel.ensures.same in
+    let same = c.in_default-cancel_into.ensures.same in
     inside-changed c.self.invariant c.in-Some.place old new i.outbox i.serial c.deref.result.now c.enter.new.ready c.enter.new.unready c.enter.new.marked at same.0 same.1 c.deref.ensures.value
     c.enter.ensures.ready c.enter.ensures.unready c.enter.ensures.marked c.enter.ensures.told c.self.invariant.sendable c.self.invariant.few_made
 
@@ -90,11 +90,11 @@ returns-clause-done g c handlers part s =
     let own = c.in-Some.ensures.own in
     let less = place-within c.self.invariant c.args.lp c.in-Some.place i.config.some_worker own.0 own.1 own.2 in
     let old = c.index_mut.result.now in
-    let new = c.cancel.new.self in
+    let new = c.cancel_into.new.self in
     let at = index-get i.processes.items c.in-Some.place old less (sym c.index_mut.ensures.value) in
-    let same = c.in_default-cancel.ensures.same in
+    let same = c.in_default-cancel_into.ensures.same in
     subst (λ (v : HeldWorker _ _ _). IsDone handlers (worker_view i.worker i.config (slice_set i.processes.items c.in-Some.place new) i.outbox i.arrived.items i.colour i.sent i.got i.red_minimum i.floor i.serial)
     (local_step (simulation_of handlers v.config) v.worker (step.Cancel c.args.lp c.args.stamp) part)) c.self.view_is
     (changed-done handlers held c.self.invariant.own_processes part (subst (λ (v : HeldWorker _ _ _). StandsFor handlers v part) (sym c.self.view_is) s)
     c.args.lp c.in-Some.place old new i.outbox i.serial (cancel_process c.args.stamp) own.0 own.1 at same.0 same.1
-    (λ process st. plain-done handlers new (cancel_process c.args.stamp process) i.outbox i.serial (c.in_default-cancel.ensures.done handlers process st)))
+    (λ process st. plain-done handlers new (cancel_process c.args.stamp process) i.outbox i.serial (c.in_default-cancel_into.ensures.done handlers process st)))

@@ -2,8 +2,8 @@ use Rattle.std.proofs.Common.{◌≡◌, ◌∙◌, true, false, length, suc, ap
 use Rattle.vt_model.specs.Process.{triple_at}
 use Rattle.vt_lp.specs.Held.{HeldProcess, StandsFor}
 use Rattle.vt_lp.specs.Guards.{can_annihilate}
-use Rattle.vt_lp.proofs.CancelLemmas.{cancel-none, cancels, inside-cancelled, fewer-both}
-use Rattle.vt_lp.proofs.lp.Lp.cancel.Goals as goal
+use Rattle.vt_lp.proofs.CancelLemmas.{cancel-none, cancels, inside-cancelled, fewer-both, taken-both, two-more}
+use Rattle.vt_lp.proofs.lp.Lp.cancel_into.Goals as goal
 
 pub returns-then-not-annihilate-clause-refused : goal.returns-then-not-annihilate-clause-refused
 returns-then-not-annihilate-clause-refused g c handlers h s =
@@ -15,8 +15,8 @@ returns-then-not-annihilate-clause-refused g c handlers h s =
 pub invariant_of-self : goal.invariant_of-self
 invariant_of-self g c =
     let inside = c.self.inside in
-    inside-cancelled inside.config inside.lp inside.process.number inside.process.stream inside.past inside.pending inside.waiting c.take_stamp.new.self c.take_stamp-2.new.self
-    c.args.stamp c.take_stamp.ensures.others c.take_stamp-2.ensures.others c.self.invariant
+    inside-cancelled inside.config inside.lp inside.process.number inside.process.stream inside.past inside.pending inside.waiting c.take_stamp-message.new.self c.take_stamp-anti_message.new.self
+    c.args.stamp c.take_stamp-message.ensures.others c.take_stamp-anti_message.ensures.others c.self.invariant
 
 pub returns-clause-done : goal.returns-clause-done
 returns-clause-done g c handlers h s =
@@ -31,11 +31,18 @@ returns-clause-done g c handlers h s =
     } in
     let stands = subst (λ (v : HeldProcess _ _ _). StandsFor handlers v h) (sym c.self.view_is) s in
     let can : can_annihilate c.args.stamp held.pending held.waiting ≡ true = sym c.annihilate.ensures ∙ c.if-not-annihilate.false in
-    cancels handlers held h c.args.stamp c.take_stamp.new.self c.take_stamp-2.new.self c.take_stamp.ensures.others c.take_stamp-2.ensures.others can stands
+    cancels handlers held h c.args.stamp c.take_stamp-message.new.self c.take_stamp-anti_message.new.self c.take_stamp-message.ensures.others c.take_stamp-anti_message.ensures.others can stands
 
 pub returns-clause-fewer : goal.returns-clause-fewer
 returns-clause-fewer g c =
     let inside = c.self.inside in
     let can : can_annihilate c.args.stamp inside.pending inside.waiting ≡ true = sym c.annihilate.ensures ∙ c.if-not-annihilate.false in
-    subst (λ (v : HeldProcess _ _ _). (suc (length c.take_stamp.new.self) ≡ length v.pending) × (suc (length c.take_stamp-2.new.self) ≡ length v.waiting)) c.self.view_is
-    (fewer-both c.args.stamp inside.pending inside.waiting c.take_stamp.new.self c.take_stamp-2.new.self c.take_stamp.ensures.others c.take_stamp-2.ensures.others can)
+    subst (λ (v : HeldProcess _ _ _). (suc (length c.take_stamp-message.new.self) ≡ length v.pending) × (suc (length c.take_stamp-anti_message.new.self) ≡ length v.waiting)) c.self.view_is
+    (fewer-both c.args.stamp inside.pending inside.waiting c.take_stamp-message.new.self c.take_stamp-anti_message.new.self c.take_stamp-message.ensures.others c.take_stamp-anti_message.ensures.others can)
+
+pub returns-clause-freed : goal.returns-clause-freed
+returns-clause-freed g c =
+    let inside = c.self.inside in
+    let can : can_annihilate c.args.stamp inside.pending inside.waiting ≡ true = sym c.annihilate.ensures ∙ c.if-not-annihilate.false in
+    let both = taken-both c.args.stamp inside.pending inside.waiting c.take_stamp-message.result c.take_stamp-anti_message.result c.take_stamp-message.ensures.letter c.take_stamp-anti_message.ensures.letter can in
+    two-more c.args.spare.now c.keep_if_some.new.self c.keep_if_some-2.new.self _ _ c.keep_if_some.ensures c.keep_if_some-2.ensures both.0 both.1
