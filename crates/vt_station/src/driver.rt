@@ -1,6 +1,6 @@
 //! The turns of a worker.
 
-ghost use Rattle.std.specs.Prelude.{◌≡◌, ◌≤◌, IfErr, IfSome};
+ghost use Rattle.std.specs.Prelude.{◌≡◌, ◌<◌, ◌≤◌, ◌⊎◌, suc, IsTrue, IsFalse, IfErr, IfSome};
 ghost use Rattle.vt_station.specs.Told.{place_table, place_view};
 ghost use Rattle.vt_station.specs.Turns.{IsLasting, IsPassedOver, HasEnded};
 
@@ -169,7 +169,9 @@ impl<'a, M: EventModel> Driver<'a, M> {
     }
 
     /// How many events this turn may execute: none once another worker has left before the end of the run.
-    fn allowed(&self) -> u32 {
+    fn allowed(&self) -> u32
+        ensures { 0 < self.now.last_turns → result ≡ 0 }
+    {
         if self.last_turns > 0 {
             0
         } else {
@@ -417,6 +419,8 @@ impl<'a, M: EventModel> Driver<'a, M> {
     /// may.
     fn goes_on(&mut self) -> bool
         ensures same { self.new.worker ≡ self.old.worker }
+        ensures more { IsTrue result → (self.new.last_turns ≡ self.old.last_turns) ⊎ ((self.new.last_turns ≡ suc self.old.last_turns) × (self.new.last_turns ≤ LAST_TURNS)) }
+        ensures enough { IsFalse result → LAST_TURNS ≤ self.old.last_turns }
     {
         if !self.bells.is_stopped() {
             return true;
