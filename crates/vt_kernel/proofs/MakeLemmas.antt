@@ -9,6 +9,7 @@ use Rattle.std.proofs.lemmas.Nat.{div-mul-add}
 use Rattle.vt_key.specs.declared.order.Rank.{Rank}
 use Rattle.vt_key.specs.declared.letter.Letter.{Letter}
 use Rattle.vt_key.specs.declared.letter.Event.{Event}
+use Rattle.vt_model.specs.declared.limits.TheConstants.{MAX_SENDS}
 use Rattle.vt_model.specs.declared.sending.Sent.{Sent}
 use Rattle.vt_model.specs.declared.settings.Config.{Config}
 use Rattle.vt_model.specs.Handler.{Handlers, StartResult}
@@ -63,7 +64,7 @@ module _ {S P : Type 0} (sim : Simulation S P) (w : ℕ) where
       let next = started-length n in
       omega (arith, all, next)
 
-  few-started : (each : (p : ℕ) → p < sim.lps → length (sim.start p).sends ≤ 8) → (n : ℕ) → ((place : ℕ) → place < n → process_at sim w place < sim.lps) → length (started_sends n) ≤ 8 * n
+  few-started : (each : (p : ℕ) → p < sim.lps → length (sim.start p).sends ≤ MAX_SENDS) → (n : ℕ) → ((place : ℕ) → place < n → process_at sim w place < sim.lps) → length (started_sends n) ≤ MAX_SENDS * n
   few-started each zero known = omega arith
   few-started each (suc n) known =
       let rest = few-started each n (λ place less. known place (omega arith)) in
@@ -72,7 +73,7 @@ module _ {S P : Type 0} (sim : Simulation S P) (w : ℕ) where
       omega (arith, rest, next, last)
 
   -- the starts of a worker send little
-  pub few-starts : (each : (p : ℕ) → p < sim.lps → length (sim.start p).sends ≤ 8) → w < sim.workers → length (start_sends sim w) ≤ 8 * (sim.lps + sim.workers)
+  pub few-starts : (each : (p : ℕ) → p < sim.lps → length (sim.start p).sends ≤ MAX_SENDS) → w < sim.workers → length (start_sends sim w) ≤ MAX_SENDS * (sim.lps + sim.workers)
   few-starts each some =
       let pos : 0 < sim.workers = omega arith in
       let known : (place : ℕ) → place < process_count sim w → process_at sim w place < sim.lps = λ place less.

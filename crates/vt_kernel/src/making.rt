@@ -15,15 +15,15 @@ ghost use Rattle.vt_kernel.specs.Held.{StandsFor, AreProcesses, entries_of};
 use crate::counts::Counts;
 use crate::kernel::Kernel;
 use std::alloc::Global;
-use vt_key::{Colour, Fault, Letter, MAX_COUNT};
+use vt_key::{Colour, Fault, Letter, MAX_COUNT, MAX_PROCESSES, MAX_WORKERS};
 use vt_list::List;
 use vt_lp::{Lp, Spare};
 use vt_marks::Marks;
-use vt_model::{Config, Model as EventModel, Out, Process};
+use vt_model::{Config, MAX_SENDS, Model as EventModel, Out, Process};
 use vt_tournament::Tournament;
 
-/// A number above that of all events that the starts of a worker send, whatever the model.
-const MORE_THAN_STARTED: u64 = 1 << 20;
+/// The most events that the starts of a worker can send, whatever the model.
+const MOST_STARTED: u64 = MAX_SENDS as u64 * (MAX_PROCESSES as u64 + MAX_WORKERS as u64);
 
 impl<M: EventModel> Kernel<M> {
     /// Worker `w`, which is below `config.workers`, at the opening: its processes have started, in rising order. What
@@ -160,7 +160,7 @@ pub fn starts_fit<M: EventModel>(model: &M, config: Config, w: u32, serial: u64)
     requires counted { serial ≤ MAX_COUNT }
     ensures { IsTrue result ↔ (serial + length (start_sends (simulation_of (M.handlers model.now) config) w) ≤ MAX_COUNT) }
 {
-    if serial <= MAX_COUNT - MORE_THAN_STARTED {
+    if serial <= MAX_COUNT - MOST_STARTED {
         return true;
     }
     let mut serial = serial;

@@ -3,6 +3,7 @@ use Rattle.std.proofs.lemmas.List.{length-append}
 use Rattle.std.proofs.Math.Nat.{suc-mul}
 use Rattle.vt_key.specs.declared.limits.TheConstants.{MAX_COUNT}
 use Rattle.vt_model.proofs.LawLemmas.{lawful_of}
+use Rattle.vt_model.specs.declared.limits.TheConstants.{MAX_SENDS}
 use Rattle.vt_model.specs.Simulation.{simulation_of, words_at}
 use Rattle.vt_steps.specs.World.{process_at, start_sends}
 use Rattle.vt_stream.proofs.WordLemmas.{word_below}
@@ -16,7 +17,7 @@ returns-then-serial g c =
     let handlers = g.M.Model.handlers model in
     let sim = simulation_of handlers config in
     let lawful = lawful_of handlers config (g.met.M.Model.start_within model) (g.met.M.Model.forward_within model) in
-    let each : (p : ℕ) → p < sim.lps → length (sim.start p).sends ≤ 8 = λ p is.
+    let each : (p : ℕ) → p < sim.lps → length (sim.start p).sends ≤ MAX_SENDS = λ p is.
     let within = g.met.M.Model.start_within model config.lps p (words_at config.seed p 0) is (λ i. word_below _ _ _) in
     let numbered = numbered-few p 0 (sim.start p).triple.number (sim.start p).sends (lawful.numbered_start p is) in
     let number = start-number config.end p (handlers.start config.lps p (words_at config.seed p 0)) in
