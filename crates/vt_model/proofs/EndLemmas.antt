@@ -79,7 +79,7 @@ module _ {P : Type 0} where
         | inr y ↦ rw (filter-no test x xs y) (omega (arith, ih, sum_by-cons f x xs))
       ]
 
-  pub sum_by-bound : (f : Sent P → ℕ) (m : ℕ) (xs : List (Sent P)) → ((d : Sent P) → Among d xs → f d ≤ m) → sum_by f xs ≤ length xs * m
+  sum_by-bound : (f : Sent P → ℕ) (m : ℕ) (xs : List (Sent P)) → ((d : Sent P) → Among d xs → f d ≤ m) → sum_by f xs ≤ length xs * m
   sum_by-bound f m [] h = omega arith
   sum_by-bound f m (x ∷ xs) h =
       let ih = sum_by-bound f m xs (λ d k. h d (inr k)) in
@@ -109,7 +109,7 @@ module _ {S P : Type 0} (sim : Simulation S P) (lawful : IsLawful sim) where
       let one : 1 ≤ (MAX_SENDS + 1) ^ time_left sim.end x.key.time = one-le-pow (time_left sim.end x.key.time) (MAX_SENDS + 1) (omega arith) in
       omega (arith, one, sum_by-cons (λ (e : Sent P). (MAX_SENDS + 1) ^ time_left sim.end e.key.time) x xs)
 
-  pub few-fresh : (xs : List (Sent P)) (e : Sent P) → e.dest < sim.lps → length (fired_after sim xs e).sends ≤ MAX_SENDS
+  few-fresh : (xs : List (Sent P)) (e : Sent P) → e.dest < sim.lps → length (fired_after sim xs e).sends ≤ MAX_SENDS
   unfolding fired_after
   few-fresh xs e is = lawful.few e.dest (after sim e.dest (events_of e.dest xs)) e is
 
@@ -117,31 +117,37 @@ module _ {S P : Type 0} (sim : Simulation S P) (lawful : IsLawful sim) where
   unfolding fired_after
   fresh-ends xs e d is m = lawful.ends e.dest (after sim e.dest (events_of e.dest xs)) e d is m
 
+  -- what an event sends weighs less than the event: it is few events, and those later
+  pub sent-lighter : (e : Sent P) (fresh : List (Sent P)) → e.key.time < sim.end → length fresh ≤ MAX_SENDS → ((d : Sent P) → Among d fresh → e.key.time < d.key.time)
+      → weight sim fresh < (MAX_SENDS + 1) ^ time_left sim.end e.key.time
+  unfolding weight
+  sent-lighter e fresh soon few after =
+      let f : Sent P → ℕ = λ d. (MAX_SENDS + 1) ^ time_left sim.end d.key.time in
+      let k : ℕ = sim.end - e.key.time - 1 in
+      let each : (d : Sent P) → Among d fresh → f d ≤ (MAX_SENDS + 1) ^ k =
+      λ d m.
+      let later : e.key.time < d.key.time = after d m in
+      let less : sim.end - d.key.time ≤ k = omega arith in
+      pow-le-pow_right (let p : zero < MAX_SENDS + 1 = omega arith in p) less in
+      let bound : sum_by f fresh ≤ length fresh * (MAX_SENDS + 1) ^ k = sum_by-bound f ((MAX_SENDS + 1) ^ k) fresh each in
+      let most : length fresh * (MAX_SENDS + 1) ^ k ≤ MAX_SENDS * (MAX_SENDS + 1) ^ k = mul-le-mul_right ((MAX_SENDS + 1) ^ k) few in
+      let up : sim.end - e.key.time ≡ suc k = omega arith in
+      let own : f e ≡ (MAX_SENDS + 1) ^ k * (MAX_SENDS + 1) = ap (λ (n : ℕ). (MAX_SENDS + 1) ^ n) up ∙ pow-suc (MAX_SENDS + 1) k in
+      let one : 1 ≤ (MAX_SENDS + 1) ^ k = one-le-pow k (MAX_SENDS + 1) (omega arith) in
+      omega (arith, bound, most, own, one)
+
   -- executing an event lowers the weight
   weight-falls : (x : RunState P) (e : Sent P) → IsReached sim lawful x → Among e x.pending → suc (weight sim (with_event sim x e).pending) ≤ weight sim x.pending
   unfolding weight
   weight-falls x e r here =
       let is = known_sent sim lawful (lists_of sim lawful x.executed) e (r.made e (inl here)) in
-      let dest : e.dest < sim.lps = is.0 in
-      let soon : e.key.time < sim.end = is.1 in
       let f : Sent P → ℕ = λ d. (MAX_SENDS + 1) ^ time_left sim.end d.key.time in
       let kept : Sent P → Bool = λ d. not (key_same d.key e.key) in
       let fresh : List (Sent P) = (fired_after sim x.executed e).sends in
-      let k : ℕ = sim.end - e.key.time - 1 in
       let out = sum_by-out f kept x.pending e here (ap not (same-key_same e.key)) in
-      let few : length fresh ≤ MAX_SENDS = few-fresh x.executed e dest in
-      let each : (d : Sent P) → Among d fresh → f d ≤ (MAX_SENDS + 1) ^ k =
-      λ d m.
-      let later : e.key.time < d.key.time = fresh-later sim lawful x.executed e d dest m in
-      let less : sim.end - d.key.time ≤ k = omega arith in
-      pow-le-pow_right (let p : zero < MAX_SENDS + 1 = omega arith in p) less in
-      let bound : sum_by f fresh ≤ length fresh * (MAX_SENDS + 1) ^ k = sum_by-bound f ((MAX_SENDS + 1) ^ k) fresh each in
-      let eight : length fresh * (MAX_SENDS + 1) ^ k ≤ MAX_SENDS * (MAX_SENDS + 1) ^ k = mul-le-mul_right ((MAX_SENDS + 1) ^ k) few in
-      let up : sim.end - e.key.time ≡ suc k = omega arith in
-      let nine : f e ≡ (MAX_SENDS + 1) ^ k * (MAX_SENDS + 1) = ap (λ (n : ℕ). (MAX_SENDS + 1) ^ n) up ∙ pow-suc (MAX_SENDS + 1) k in
-      let one : 1 ≤ (MAX_SENDS + 1) ^ k = one-le-pow k (MAX_SENDS + 1) (omega arith) in
+      let lighter : sum_by f fresh < f e = sent-lighter e fresh is.1 (few-fresh x.executed e is.0) (λ d m. fresh-later sim lawful x.executed e d is.0 m) in
       let both : sum_by f (filter kept x.pending ++ fresh) ≡ sum_by f (filter kept x.pending) + sum_by f fresh = sum_by-append f (filter kept x.pending) fresh in
-      omega (arith, out, bound, eight, nine, one, both)
+      omega (arith, out, lighter, both)
 
   -- after n steps either nothing is left or the weight has fallen by n
   ends-by : (n : ℕ) → ((after_steps sim n).pending ≡ []) ⊎ (weight sim (after_steps sim n).pending + n ≤ weight sim (opening sim).pending)

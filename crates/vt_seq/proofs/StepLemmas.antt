@@ -1,15 +1,15 @@
 -- One step of the code is one step of the definition.
-use Rattle.std.proofs.Common.{◌≡◌, ℕ, zero, suc, ◌+◌, ◌*◌, ◌-◌, ◌^◌, ◌<◌, ◌≤◌, inl, inr, List, [], ◌∷◌, ◌++◌, Bool, true, false, not, filter, map, drop, Option, Some, None, nat_eq, nat_lt, length, slice_get, slice_index_or, slice_set, Result, Ok, Err, IfOk, IfErr, IsErrAnd, refl, sym, subst, ap, ◌∙◌, arith, append_assoc, append-nil}
+use Rattle.std.proofs.Common.{◌≡◌, ℕ, zero, suc, ◌+◌, ◌^◌, ◌<◌, ◌≤◌, inl, inr, List, [], ◌∷◌, ◌++◌, Bool, true, false, not, filter, map, drop, Option, Some, None, nat_eq, nat_lt, length, slice_get, slice_index_or, slice_set, Result, Ok, Err, IfOk, IfErr, IsErrAnd, refl, sym, subst, ap, ◌∙◌, arith, append_assoc, append-nil}
 use Rattle.std.specs.List.{sum_by}
 use Rattle.std.proofs.lemmas.List.{set-get_or, get_or-set_same, get_or-set_other, map-append}
 use Rattle.std.proofs.lemmas.List.Sums.{sum_by-cons}
 use Rattle.std.proofs.lemmas.Bool.{eqb-true, eq-eqb}
-use Rattle.std.proofs.Math.Nat.{pow-suc, one-le-pow, pow-le-pow_right, mul-le-mul_right}
-use Rattle.vt_key.specs.Times.{time_before}
+use Rattle.vt_key.specs.Times.{time_before, time_left}
 use Rattle.vt_key.specs.declared.limits.TheConstants.{MAX_COUNT}
 use Rattle.vt_key.specs.declared.order.Key.{Key}
 use Rattle.vt_key.specs.Order.{KeyBefore, key_same}
 use Rattle.vt_key.proofs.OrderLemmas.{key-irreflexive, key_same-true, same-key_same}
+use Rattle.vt_model.specs.declared.limits.TheConstants.{MAX_SENDS}
 use Rattle.vt_model.specs.declared.rows.Record.{Record}
 use Rattle.vt_model.specs.declared.rows.Row.{Row}
 use Rattle.vt_model.specs.declared.sending.Sent.{Sent}
@@ -18,7 +18,7 @@ use Rattle.vt_model.specs.Sequential.{RunState, events_of, least_event, fired_af
 use Rattle.vt_model.specs.Histories.{Among, IsRising, sends_of, IsLawful}
 use Rattle.vt_model.proofs.HistoryLemmas.{among-left, among-right, among-append, after-among}
 use Rattle.vt_model.proofs.RunLemmas.{tested, among-filter, filter-among, least-found, known_sent, lists_of, IsReached, reached, numbered-all, numbered-among, events_of-same, events_of-other, after-snoc}
-use Rattle.vt_model.proofs.EndLemmas.{least-none, no_step, sum_by-bound, executed_all}
+use Rattle.vt_model.proofs.EndLemmas.{least-none, no_step, sent-lighter, executed_all}
 use Rattle.vt_model.specs.Process.{triple_at}
 use Rattle.vt_seq.specs.Limits.{number_after, IsCounted, IsCountedWhole}
 use Rattle.vt_seq.specs.StandsFor.{StandsFor, StandsAt, HasExecuted}
@@ -271,23 +271,12 @@ module _ {S P : Type 0} (sim : Simulation S P) (lawful : IsLawful sim) where
       → weight sim (all_inserted (sim.fire e.dest t e).sends (drop 1 pending)) < weight sim pending
   unfolding weight
   falls pending e t dest soon some first =
-      let f : Sent P → ℕ = λ d. 9 ^ (sim.end - d.key.time) in
+      let f : Sent P → ℕ = λ d. (MAX_SENDS + 1) ^ time_left sim.end d.key.time in
       let fresh : List (Sent P) = (sim.fire e.dest t e).sends in
-      let k : ℕ = sim.end - e.key.time - 1 in
-      let few : length fresh ≤ 8 = lawful.few e.dest t e dest in
-      let each : (d : Sent P) → Among d fresh → f d ≤ 9 ^ k =
-      λ d m.
-      let later : e.key.time < d.key.time = lawful.later e.dest t e d dest m in
-      let less : sim.end - d.key.time ≤ k = omega arith in
-      pow-le-pow_right (let p : zero < 9 = omega arith in p) less in
-      let bound : sum_by f fresh ≤ length fresh * 9 ^ k = sum_by-bound f (9 ^ k) fresh each in
-      let eight : length fresh * 9 ^ k ≤ 8 * 9 ^ k = mul-le-mul_right (9 ^ k) few in
-      let up : sim.end - e.key.time ≡ suc k = omega arith in
-      let nine : f e ≡ 9 ^ k * 9 = ap (λ (n : ℕ). 9 ^ n) up ∙ pow-suc 9 k in
-      let one : 1 ≤ 9 ^ k = one-le-pow k 9 (omega arith) in
+      let lighter : sum_by f fresh < f e = sent-lighter sim lawful e fresh soon (lawful.few e.dest t e dest) (λ d m. lawful.later e.dest t e d dest m) in
       let both : sum_by f (all_inserted fresh (drop 1 pending)) ≡ sum_by f fresh + sum_by f (drop 1 pending) = all_inserted-sum f fresh (drop 1 pending) in
       let whole_sum : sum_by f pending ≡ f e + sum_by f (drop 1 pending) = ap (sum_by f) (opened pending e some first) ∙ sum_by-cons f e (drop 1 pending) in
-      omega (arith, bound, eight, nine, one, both, whole_sum)
+      omega (arith, lighter, both, whole_sum)
 
 -- an item put back where it was
 pub set_same : {X : Type 0} (xs : List X) (i : ℕ) (p q : X) → slice_index_or xs i p ≡ p → q ≡ p → slice_set xs i q ≡ xs
