@@ -1,5 +1,6 @@
 -- What a handler's contract says is what the simulation's firing is.
 use Rattle.std.proofs.Common.{◌≡◌, ℕ, ◌+◌, ◌%◌, ◌^◌, ◌≤◌, [], ◌∙◌, ap, length, arith}
+use Rattle.vt_model.specs.declared.limits.TheConstants.{MAX_DRAWS}
 use Rattle.vt_model.specs.declared.sending.Sent.{Sent}
 use Rattle.vt_stream.specs.Words.{Stream, seed_key, word, word_of, moved}
 use Rattle.vt_model.specs.Sends.{Outgoing, with_requests}
@@ -40,7 +41,7 @@ module _ {S P : Type 0} (seed end lps p : ℕ) where
   pub starts : (go : (ℕ → ℕ) → StartResult S P) (w v : Stream) (o q : Outgoing P) (s : S)
       → w ≡ record { key = seed_key seed; process = p; place = 0 }
       → o ≡ record { lps = lps; end = end; lp = p; time = 0; first = 0; number = 0; sends = []; records = [] }
-      → s ≡ (go (word_of w)).state → v ≡ moved w (go (word_of w)).drawn → (go (words_at seed p 0)).drawn ≤ 64 → q ≡ with_requests o (go (word_of w)).send_requests []
+      → s ≡ (go (word_of w)).state → v ≡ moved w (go (word_of w)).drawn → (go (words_at seed p 0)).drawn ≤ MAX_DRAWS → q ≡ with_requests o (go (word_of w)).send_requests []
       → IsStart (start_of end p (go (words_at seed p 0))) s v q
   unfolding start_of
   starts go w v o q s at out state stream few outgoing =

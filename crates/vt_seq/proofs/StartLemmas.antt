@@ -1,12 +1,8 @@
--- What a start's contract says is what the simulation's start is.
-use Rattle.std.proofs.Common.{◌≡◌, ℕ, ◌+◌, ◌%◌, ◌^◌, ◌≤◌, ◌<◌, List, [], ◌∷◌, ◌++◌, length, inl, inr, slice_index_or, true, false, nat_eq, zero, suc, refl, sym, ◌∙◌, ap, subst, arith}
+-- The processes that have started, and what they sent.
+use Rattle.std.proofs.Common.{◌≡◌, ℕ, ◌+◌, ◌<◌, List, [], ◌∷◌, ◌++◌, length, inl, inr, slice_index_or, true, false, nat_eq, zero, suc, refl, sym, ◌∙◌, ap, subst, arith}
 use Rattle.std.proofs.lemmas.Bool.{eqb-true, eq-eqb}
 use Rattle.std.proofs.Common.{length-append}
 use Rattle.vt_model.specs.declared.sending.Sent.{Sent}
-use Rattle.vt_stream.specs.Words.{Stream, seed_key, word_of, moved}
-use Rattle.vt_model.specs.Sends.{Outgoing, with_requests}
-use Rattle.vt_model.specs.Handler.{StartResult}
-use Rattle.vt_model.specs.Simulation.{Fired, words_at, start_of}
 use Rattle.vt_model.specs.Histories.{Among, IsRising, IsLawful}
 use Rattle.vt_model.specs.Simulation.{Simulation}
 use Rattle.vt_model.proofs.RunLemmas.{numbered-among, among-below, below-among, tested}
@@ -15,31 +11,6 @@ use Rattle.vt_seq.specs.StandsFor.{StandsAt, HasStarted}
 use Rattle.vt_seq.specs.Queue.{all_inserted}
 use Rattle.vt_model.specs.declared.process.Process.{Process}
 use Rattle.vt_seq.proofs.InsertedLemmas.{all_inserted-among, among-all_inserted, all_inserted-rising}
-
--- where a process stands after its start, and what it sent
-pub record IsStart {S P : Type 0} (f : Fired S P) (s : S) (v : Stream) (q : Outgoing P) : Type 0 where
-  pub triple : record { state = s; number = q.number; place = v.place } ≡ f.triple
-  pub sends : q.sends ≡ f.sends
-
-module _ {S P : Type 0} (seed end lps p : ℕ) where
-  pub starts : (go : (ℕ → ℕ) → StartResult S P) (w v : Stream) (o q : Outgoing P) (s : S)
-      → w ≡ record { key = seed_key seed; process = p; place = 0 }
-      → o ≡ record { lps = lps; end = end; lp = p; time = 0; first = 0; number = 0; sends = []; records = [] }
-      → s ≡ (go (word_of w)).state → v ≡ moved w (go (word_of w)).drawn → (go (words_at seed p 0)).drawn ≤ 64 → q ≡ with_requests o (go (word_of w)).send_requests []
-      → IsStart (start_of end p (go (words_at seed p 0))) s v q
-  unfolding start_of
-  starts go w v o q s at out state stream few outgoing =
-      let x : go (word_of w) ≡ go (words_at seed p 0) = ap go (λ j. word_of (at j)) in
-      let fresh : Outgoing P = record { lps = lps; end = end; lp = p; time = 0; first = 0; number = 0; sends = []; records = [] } in
-      let q_is : q ≡ with_requests fresh (go (words_at seed p 0)).send_requests [] = outgoing ∙ (λ j. with_requests (out j) (x j).send_requests []) in
-      let s_is : s ≡ (go (words_at seed p 0)).state = state ∙ ap (λ (y : StartResult S P). y.state) x in
-      let m_is : v.place ≡ (0 + (go (words_at seed p 0)).drawn) % 2 ^ 64 = ap (λ (y : Stream). y.place) stream ∙ (λ j. ((at j).place + (x j).drawn) % 2 ^ 64) in
-      let v_is : v.place ≡ (go (words_at seed p 0)).drawn = omega (arith, m_is, few) in
-      let n_is : q.number ≡ length (go (words_at seed p 0)).send_requests = omega (arith, ap (λ (y : Outgoing P). y.number) q_is) in
-      record {
-        triple = λ j. record { state = s_is j; number = n_is j; place = v_is j };
-        sends = ap (λ (y : Outgoing P). y.sends) q_is;
-      }
 
 -- an item of a list with one more
 pub at-end : {X : Type 0} (xs : List X) (x d : X) → slice_index_or (xs ++ x ∷ []) (length xs) d ≡ x

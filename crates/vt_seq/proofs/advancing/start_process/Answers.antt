@@ -8,13 +8,13 @@ use Rattle.vt_stream.proofs.WordLemmas.{word_below}
 use Rattle.vt_model.specs.declared.sending.Sent.{Sent}
 use Rattle.vt_model.specs.Histories.{Among}
 use Rattle.vt_model.specs.Simulation.{simulation_of}
+use Rattle.vt_model.proofs.FireLemmas.{starts}
 use Rattle.vt_model.proofs.LawLemmas.{lawful_of}
 use Rattle.vt_seq.specs.Queue.{all_inserted}
 use Rattle.vt_seq.specs.Letters.{event_of, AreNew}
 use Rattle.vt_seq.proofs.InsertedLemmas.{are_new}
 use Rattle.vt_seq.proofs.PendingLemmas.{among-map}
 use Rattle.vt_seq.proofs.Sizes.{up_le}
-use Rattle.vt_seq.proofs.StartLemmas.{starts}
 use Rattle.vt_seq.proofs.advancing.start_process.Goals as goal
 
 pub new-out-requires : goal.new-out-requires
