@@ -1,0 +1,3 @@
+mod RingItems
+mod HistogramTotal
+mod DrawingLemmas

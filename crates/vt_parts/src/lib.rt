@@ -1,0 +1,15 @@
+//! Ready parts of models.
+#![tactic(auto)]
+
+mod drawing;
+mod exponentials;
+mod histogram;
+mod ring;
+
+pub use drawing::{bernoulli, geometric, weighted};
+pub use exponentials::exponential;
+pub use histogram::{Histogram, histograms_count};
+pub use ring::{Ring, rings_are_queues};
+
+#[cfg(test)]
+mod tests;
