@@ -2,6 +2,7 @@
 
 ghost use Rattle.std.specs.Prelude.{◌≡◌, ◌-◌, ◌<◌, ◌%◌, ◌^◌, ◌↔◌, [], ◌∷◌, ◌++◌, length, slice_get, find, remove, reverse, MatchOption, IsTrue};
 ghost use Rattle.std.specs.Option.{option_copied};
+ghost use Rattle.std_heap.specs.declared.Global.{Global as GlobalHandle};
 ghost use Rattle.vt_list.specs.First.{without_first};
 ghost use Rattle.vt_list.specs.Ordered.{insert_ordered};
 
@@ -149,8 +150,10 @@ impl<T> List<T> {
         self.count
     }
 
-    /// The allocator that the list was made with.
-    pub fn allocator(&self) -> Global {
+    /// The allocator that the list was made with. All of its type are alike.
+    pub fn allocator(&self) -> Global
+        ensures { (alloc : GlobalHandle) → result ≡ alloc }
+    {
         self.alloc
     }
 
