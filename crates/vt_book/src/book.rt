@@ -158,7 +158,7 @@ impl Book {
         self.floors.least(self.end)
     }
 
-    /// The records of the rows below the book's floor, in the order of the rows.
+    /// Copies of the records of the rows below the book's floor, in the order of the rows.
     ///
     /// [`Fault::Memory`]: memory was refused.
     pub fn records(&self, alloc: Global) -> Result<Vec<Record>, Fault>
@@ -166,6 +166,13 @@ impl Book {
         ensures refused { IfErr result (λ fault. fault ≡ Memory) }
     {
         Vec::from_slice(alloc, &self.shown).map_err(|_| Fault::Memory)
+    }
+
+    /// The same records, taken out of the book. It takes no memory.
+    pub fn into_records(self) -> Vec<Record>
+        ensures { result.items ≡ book_records self.end self.book }
+    {
+        self.shown
     }
 
     /// Closes the book, which takes nothing more then. It takes no memory.

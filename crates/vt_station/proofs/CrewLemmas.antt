@@ -14,7 +14,7 @@ use Rattle.vt_station.specs.declared.view.View.{View}
 use Rattle.vt_station.specs.declared.place.Place.{Place}
 use Rattle.vt_station.specs.declared.driver.Outcome.{Outcome}
 use Rattle.vt_station.specs.declared.driver.Outcome.TheVariants.{Closed}
-use Rattle.vt_station.specs.Calls.{AreRecordsShown, Unvisited, Stays}
+use Rattle.vt_station.specs.Calls.{AreRecordsShown}
 use Rattle.vt_station.specs.Crew.{IsLeft}
 
 module _ {S P : Type 0} (sim : Simulation S P) where
@@ -23,12 +23,12 @@ module _ {S P : Type 0} (sim : Simulation S P) where
   closed-left table w outcome place left is = subst (λ (o : Option Outcome). IsLeft sim table w o place) is left
 
   -- the records are those before some time, and where the worker closed the book all
-  pub records-left : {X : Type 0} (items : X → List Record) (result : Result X Fault) (v w : View P) (outcome : Option Outcome)
+  pub records-left : {X : Type 0} (items : X → List Record) (result : Result X Fault) (v : View P) (outcome : Option Outcome)
       → (outcome ≡ Some Closed → has_closed (map answered v.mine) ≡ true)
-      → MatchResult result (λ x. (floor : Time) × AreRecordsShown sim v floor (items x) × Unvisited v floor w) (λ _. Stays v w)
+      → IfOk result (λ x. (floor : Time) × AreRecordsShown sim v floor (items x))
       → IfOk result (λ x. (floor : Time) × (items x ≡ seq_records sim floor) × (outcome ≡ Some Closed → floor ≡ sim.end))
-  records-left items (Ok x) v w outcome closed done = (done.0, done.1.records_are, λ is. done.1.closed (closed is))
-  records-left items (Err fault) v w outcome closed done = tt
+  records-left items (Ok x) v outcome closed done = (done.0, done.1.records_are, λ is. done.1.closed (closed is))
+  records-left items (Err fault) v outcome closed done = tt
 
 -- nothing is before the opening
 rows-none : (rows : List Row) → rows_before opening_time rows ≡ []

@@ -2,7 +2,7 @@
 use Rattle.std.specs.Prelude.{◌≡◌, ◌⊎◌, ℕ, ◌<◌, List, [], ◌∷◌, length, All, Option, Some, None, slice_get}
 use Rattle.atomic_table.specs.Seated.{TableId}
 use Rattle.vt_key.specs.declared.fault.Fault.{Fault}
-use Rattle.vt_key.specs.declared.fault.Fault.TheVariants.{Memory, Busy, TurnsSpent}
+use Rattle.vt_key.specs.declared.fault.Fault.TheVariants.{Busy, TurnsSpent}
 use Rattle.vt_model.specs.declared.settings.Config.{Config}
 use Rattle.vt_model.specs.declared.rows.Record.{Record}
 use Rattle.vt_model.specs.Handler.{Handlers}
@@ -64,9 +64,9 @@ abbrev pub first_fault : {M P : Type 0} → List (AtJob M P) → Fault
 first_fault [] = TurnsSpent
 first_fault (job ∷ jobs) = fault_or job.outcome (first_fault jobs)
 
--- what a run that stopped is told by: where no worker closed the book that fault; or the records were refused, and there are none
+-- what a run that stopped is told by: where no worker closed the book that fault; or the book was claimed, and there are no records
 abbrev pub IsToldBy : {M P : Type 0} → List (AtJob M P) → Fault → List Record → Type 0
-IsToldBy jobs fault records = (NoneClosed jobs × (fault ≡ first_fault jobs)) ⊎ (((fault ≡ Memory) ⊎ (fault ≡ Busy)) × (records ≡ []))
+IsToldBy jobs fault records = (NoneClosed jobs × (fault ≡ first_fault jobs)) ⊎ ((fault ≡ Busy) × (records ≡ []))
 
 -- the work of workers for this model and this config
 abbrev pub AllAt : {M P : Type 0} → M → Config → List (AtJob M P) → Type 0

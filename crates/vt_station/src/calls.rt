@@ -2,6 +2,7 @@
 
 ghost use Rattle.std.specs.Prelude.{◌≡◌, ◌<◌, true, IfOk, IfErr, MatchResult};
 ghost use Rattle.vt_key.specs.Times.{Time as TimeValue};
+ghost use Rattle.vt_key.specs.declared.fault.Fault.TheVariants.{Busy};
 ghost use Rattle.vt_model.specs.Simulation.{simulation_of};
 ghost use Rattle.vt_steps.specs.declared.step.Step.TheVariants as step;
 ghost use Rattle.vt_steps.specs.declared.step.Reply.TheVariants as reply;
@@ -145,8 +146,8 @@ impl<M: EventModel> Station<M> {
         self.close_at(&mut place.seat)
     }
 
-    /// The records that the book shows: exactly the sequential run's below some floor. That floor is at least each
-    /// floor that this place was shown before.
+    /// Copies of the records that the book shows: exactly the sequential run's below some floor. That floor is at least
+    /// each floor that this place was shown before.
     ///
     /// [`Fault::Busy`]: another place has claimed the book. [`Fault::Memory`]: memory was refused. After either the
     /// place is unchanged.
@@ -163,5 +164,16 @@ impl<M: EventModel> Station<M> {
         ensures refused { IfErr result (λ fault. IsRecordsRefusal (simulation_of (M.handlers (station_model self.now)) (station_config self.now)) fault) }
     {
         self.records_at(alloc, &mut place.seat)
+    }
+
+    /// The same records, taken out of the book and not copied, with the end of the station. It takes no memory.
+    ///
+    /// [`Fault::Busy`]: another place had claimed the book.
+    pub fn into_records(self, alloc: Global, place: Place<M::Payload>) -> Result<Vec<Record>, Fault>
+        requires own { place_table place ≡ station_table self }
+        ensures shown { let sim = simulation_of (M.handlers (station_model self)) (station_config self) in IfOk result (λ v. (floor : TimeValue) × AreRecordsShown sim (place_view place) floor v.items) }
+        ensures refused { IfErr result (λ fault. (fault ≡ Busy) × (1 < (station_config self).workers)) }
+    {
+        self.take_out(alloc, place)
     }
 }

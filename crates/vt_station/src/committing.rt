@@ -2,7 +2,7 @@
 
 ghost use Rattle.std.specs.Prelude.{◌≡◌, ◌<◌, ◌⊎◌, ◌+◌, List, true, false, IfOk, IfErr, MatchResult};
 ghost use Rattle.vt_key.specs.Times.{Time as TimeValue};
-ghost use Rattle.vt_key.specs.declared.fault.Fault.TheVariants.{Memory, Closed, NotLawful};
+ghost use Rattle.vt_key.specs.declared.fault.Fault.TheVariants.{Memory, Busy, Closed, NotLawful};
 ghost use Rattle.vt_model.specs.declared.rows.Row.{Row as RowValue};
 ghost use Rattle.vt_model.specs.Handler.{Handlers};
 ghost use Rattle.vt_model.specs.Simulation.{simulation_of};
@@ -15,11 +15,14 @@ ghost use Rattle.vt_steps.specs.Cells.{in_book};
 ghost use Rattle.vt_kernel.specs.Held.{StandsFor};
 ghost use Rattle.vt_book.specs.Books.{may_hand};
 ghost use Rattle.vt_station.specs.Kept.{Rests};
+ghost use Rattle.vt_station.specs.Told.{station_model, station_config, station_table, place_table, place_view};
 ghost use Rattle.vt_station.specs.Calls.{Acts, Holding, Reaches, Visited, Closes, Unvisited, Stays, IsCommitRefusal, IsCloseRefusal, IsRecordsRefusal, IsFloorLeft, AreRecordsShown, IsRefusedOnceClosed};
 
+use crate::place::Place;
 use crate::slot::Slot;
 use crate::station::{Lent, Seat, Station};
 use std::alloc::Global;
+use std::mem;
 use std::snapshot::Snapshot;
 use vt_book::Batch;
 use vt_kernel::Kernel;
@@ -110,6 +113,21 @@ impl<M: EventModel> Station<M> {
             Ok(records) => Ok((records, book.floor())),
             Err(fault) => Err(fault),
         }
+    }
+}
+
+impl<M: EventModel> Station<M> {
+    /// Takes the records out of the claimed book, which is gone then.
+    fn take_records(&self, alloc: Global, seat: &mut Seat<M>) -> Vec<Record>
+        requires table { seat.old.table_id ≡ self.now.table.shared.table_id }
+        requires held { let config = self.now.table.shared.key.config in (book : BookValue) × Holding config seat.old.me (self.now.workers + 1) (in_book book) (in_book book) }
+        ensures { let config = self.now.table.shared.key.config in (book : BookValue) × Holding config seat.old.me (self.now.workers + 1) (in_book book) (in_book book) × (result.items ≡ book_records config.end book) }
+    {
+        let held = seat.slot_mut(&self.table.shared, self.workers + 1);
+        let Slot::Book(book) = mem::replace(held, Slot::Inbox(Vec::new(alloc))) else {
+            unreachable!()
+        };
+        book.into_records()
     }
 }
 
@@ -207,5 +225,24 @@ impl<M: EventModel> Station<M> {
                 Err(fault)
             }
         }
+    }
+}
+
+impl<M: EventModel> Station<M> {
+    /// The records that the book shows, taken out of it. The book stays claimed: no place gets at it any more.
+    pub(crate) fn take_out(
+        &self,
+        alloc: Global,
+        place: Place<M::Payload>,
+    ) -> Result<Vec<Record>, Fault>
+        requires own { place_table place ≡ station_table self.now }
+        ensures shown { let sim = simulation_of (M.handlers (station_model self.now)) (station_config self.now) in IfOk result (λ v. (floor : TimeValue) × AreRecordsShown sim (place_view place) floor v.items) }
+        ensures refused { IfErr result (λ fault. (fault ≡ Busy) × (1 < (station_config self.now).workers)) }
+    {
+        let Place { mut seat, .. } = place;
+        if !self.claim(&mut seat, self.workers + 1) {
+            return Err(Fault::Busy);
+        }
+        Ok(self.take_records(alloc, &mut seat))
     }
 }

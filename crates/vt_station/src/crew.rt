@@ -138,16 +138,14 @@ impl<'a, M: EventModel> Job<'a, M> {
 }
 
 impl<'a, M: EventModel> Job<'a, M> {
-    /// The records that the worker's place shows.
+    /// The records that the worker's place shows, taken out of the book.
     fn into_records(self, alloc: Global) -> Result<Vec<Record>, Fault>
         ensures shown { IfOk result (λ v. (floor : TimeValue) × (v.items ≡ seq_records (simulation_of (M.handlers self.entry.model) self.entry.config) floor) × (self.entry.outcome ≡ Some Closed → floor ≡ self.entry.config.end)) }
-        ensures refused { IfErr result (λ fault. (fault ≡ Memory) ⊎ (fault ≡ Busy)) }
+        ensures refused { IfErr result (λ fault. fault ≡ Busy) }
     {
         let Job { station, place, .. } = self;
-        let Some(mut place) = place else {
-            unreachable!()
-        };
-        station.records(alloc, &mut place)
+        let Some(place) = place else { unreachable!() };
+        station.take_out(alloc, place)
     }
 }
 

@@ -87,3 +87,14 @@ fn there_are_no_records_before_any_visit(rt: HostRuntime) {
     crew.read(&rt, &[]);
     crew.first.refuses(&rt, Step::Close, Fault::NotLawful);
 }
+
+#[test]
+fn nothing_is_taken_out_before_any_visit(rt: HostRuntime) {
+    let model = Hop::new(1, 1, 1).expect(&rt, "options");
+    let config = Config::new(2, 2, 10, 0).expect(&rt, "config");
+    let (station, places) = Station::new(rt.alloc(), &model, config).expect(&rt, "memory");
+    let mut places = places;
+    let place = places.remove(0);
+    let records = station.into_records(rt.alloc(), place);
+    assert_eq!(&rt; records.expect(&rt, "records").len(), 0);
+}

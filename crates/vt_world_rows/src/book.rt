@@ -33,13 +33,16 @@ fn records(rt: &(impl Abort + AllocGlobal), book: &Book) -> Vec<Record> {
     }
 }
 
-fn is_shown(rt: &(impl Abort + AllocGlobal), book: &Book, rows: &[Row]) -> bool {
-    let shown = records(rt, book);
-    shown.len() == rows.len()
-        && shown
+fn are_records_of(records: &[Record], rows: &[Row]) -> bool {
+    records.len() == rows.len()
+        && records
             .iter()
             .zip(rows)
             .all(|(record, row)| *record == row.rec)
+}
+
+fn is_shown(rt: &(impl Abort + AllocGlobal), book: &Book, rows: &[Row]) -> bool {
+    are_records_of(&records(rt, book), rows)
 }
 
 // These rows of a worker up to this floor must be answered so.
@@ -81,6 +84,11 @@ fn has_floor(rt: &impl Abort, book: &Book, want: Time) {
 // The book must show exactly these rows.
 fn shows(rt: &(impl Abort + AllocGlobal), book: &Book, want: &[Row]) {
     assert!(rt; is_shown(rt, book, want));
+}
+
+// Exactly these rows' records must come out of the book.
+fn gives_out(rt: &impl Abort, book: Book, want: &[Row]) {
+    assert!(rt; are_records_of(&book.into_records(), want));
 }
 
 // These rows made ready; where memory is refused, by a second try.
@@ -174,6 +182,16 @@ fn batches_are_refused_as_rows_are(rt: HostRuntime) {
         Err(Fault::Closed),
     );
     shows(&rt, &book, &[early, middle, late]);
+}
+
+#[test]
+fn a_book_gives_out_the_records_that_it_shows(rt: HostRuntime) {
+    let mut book = Book::new(rt.alloc(), 2, 10);
+    let [early, middle, late] = [row(1, 0, 0), row(4, 0, 1), row(9, 0, 2)];
+    let rows = Vec::from_array(rt.alloc(), [late, early, middle]).expect(&rt, "memory");
+    hands_batch(&rt, &mut book, 0, Batch::of(rows), 10, Ok(()));
+    hands(&rt, &mut book, 1, &[], 9, Ok(()));
+    gives_out(&rt, book, &[early, middle]);
 }
 
 #[test]
