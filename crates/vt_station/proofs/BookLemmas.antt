@@ -6,7 +6,8 @@ use Rattle.vt_key.specs.Times.{Time, time_at_most, time_before}
 use Rattle.vt_model.specs.declared.rows.Row.{Row}
 use Rattle.vt_model.specs.Simulation.{Simulation}
 use Rattle.vt_steps.specs.declared.step.Step.{Step}
-use Rattle.vt_steps.specs.World.{World}
+use Rattle.vt_steps.specs.World.{Book, World, book_floor}
+use Rattle.vt_steps.specs.BookSteps.{may_close}
 use Rattle.vt_steps.specs.Next.{next, run}
 use Rattle.vt_steps.proofs.Lists.{Every}
 use Rattle.vt_steps.proofs.Tests.{passes_both}
@@ -22,6 +23,10 @@ all-within from to (row ∷ rows) h =
     let late : time_at_most from row.key.time ≡ true = grind (arith, nat_tests) in
     let early : time_before row.key.time to ≡ true = grind (arith, nat_tests) in
     passes_both (is_within from to row) (list_all (is_within from to) rows) (passes_both (time_at_most from row.key.time) (time_before row.key.time to) late early) (all-within from to rows h.1)
+
+-- a book that may be closed has the end as its floor
+pub ends-closed : (end : Time) (book : Book) → may_close end book ≡ true → book_floor end book ≡ end
+ends-closed end book may = grind (arith, nat_tests)
 
 module _ {S P : Type 0} (sim : Simulation S P) where
   -- a list of one step

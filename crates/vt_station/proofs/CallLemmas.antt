@@ -1,17 +1,24 @@
 -- From a claim to a release: what a seat holds in between, and that its place is the same.
-use Rattle.std.proofs.Common.{◌≡◌, ℕ, ◌<◌, List, ◌∷◌, sym, ◌∙◌, ap, subst, Some}
+use Rattle.std.proofs.Common.{◌≡◌, ℕ, ◌<◌, List, [], ◌∷◌, sym, ◌∙◌, ap, subst, Some}
 use Rattle.vt_key.specs.Times.{Time}
 use Rattle.vt_key.specs.declared.letter.Mail.{Mail}
 use Rattle.vt_model.specs.declared.settings.Config.{Config}
-use Rattle.vt_model.specs.Simulation.{Simulation}
+use Rattle.vt_model.specs.Handler.{Handlers}
+use Rattle.vt_model.specs.Simulation.{Simulation, simulation_of}
+use Rattle.vt_steps.specs.declared.step.Step.{Step}
+use Rattle.vt_steps.specs.declared.step.Step.TheVariants.{Close}
+use Rattle.vt_steps.specs.declared.step.Reply.{Reply}
+use Rattle.vt_steps.specs.declared.step.Reply.TheVariants.{Done}
+use Rattle.vt_steps.specs.World.{Part}
 use Rattle.vt_steps.specs.Cells.{inbox_of, board_cell, book_cell, Cell, in_inbox, on_board, in_book, content}
 use Rattle.vt_steps.specs.Marked.{shown}
+use Rattle.vt_kernel.specs.Held.{HeldWorker}
 use Rattle.vt_station.specs.declared.slot.Slot.{Slot}
 use Rattle.vt_station.specs.declared.view.View.{View}
 use Rattle.vt_station.specs.Hands.{Hand, holding}
 use Rattle.vt_station.specs.Slots.{held_in}
 use Rattle.vt_station.specs.Kept.{Sat, Rests}
-use Rattle.vt_station.specs.Calls.{Unvisited, Took, Holding}
+use Rattle.vt_station.specs.Calls.{Unvisited, Known, Took, Holding, IsDoneAt, Closes, Visited}
 use Rattle.vt_station.proofs.Cells.{inbox-name, board-name, book-name, inbox-holds, board-holds, book-holds}
 
 -- a view that differs in its hand alone
@@ -23,10 +30,56 @@ module _ {P : Type 0} where
   unvisited-held v w seen after h r =
       let x : Unvisited (record v { hand = h.0 }) seen after = subst (λ (y : View P). Unvisited y seen after) h.1 r in
       record {
-        steps = record { same = record { worker = x.steps.same.worker; made = x.steps.same.made; waiting = x.steps.same.waiting }; part = x.steps.part; mine = x.steps.mine };
+        steps = record { same = record { worker = x.steps.same.worker; made = x.steps.same.made; waiting = x.steps.same.waiting }; part = x.steps.part; mine = x.steps.mine; positions = x.steps.positions };
         floor = x.floor;
         rests = x.rests;
       }
+
+-- what a place knows, and what it did, it knows and did whatever it holds
+module _ {S P : Type 0} (sim : Simulation S P) (v : View P) (hand : Hand P) where
+  abbrev known-held : (k : ℕ) (cell : Cell P) → Known sim (record v { hand = hand }) k cell → Known sim v k cell
+  known-held k cell x = record { log = x.log; right = x.right; within = x.within; part = x.part; mine = x.mine; positions = x.positions; seen = x.seen; shows = x.shows; own = x.own }
+
+  abbrev pub done-held : (steps : List Step) (part : Part P) (step : Step) (reply : Reply) (after : View P) → IsDoneAt sim (record v { hand = hand }) steps part step reply after → IsDoneAt sim v steps part step reply after
+  done-held steps part step reply after x =
+      record { cell = x.cell; about = x.about; found = x.found; now = x.now; known = known-held x.cell x.found x.known; gives = x.gives; positions = x.positions }
+
+pub closes-there : {S P : Type 0} (sim : Simulation S P) (v w : View P) (seen end : Time) (after : View P) → WithHand v w → seen ≡ end → Closes sim w seen after → Closes sim v end after
+closes-there sim v w seen end after h is r =
+    let x : Closes sim (record v { hand = h.0 }) seen after = subst (λ (y : View _). Closes sim y seen after) h.1 r in
+    record {
+      same = record { worker = x.same.worker; made = x.same.made; waiting = x.same.waiting };
+      part = x.part;
+      mine = x.mine;
+      at = done-held sim v h.0 [] v.part Close Done after x.at;
+      floor = x.floor ∙ is;
+      rests = x.rests;
+    }
+
+module _ {S P K : Type 0} (handlers : Handlers S P K) (config : Config) (v w : View P) (before left : HeldWorker S P K) (step : Step) (reply : Reply) (after : View P) where
+  visited-held : WithHand v w → Visited handlers config w before step reply left w.seen after → Visited handlers config v before step reply left v.seen after
+  visited-held h r =
+      let x : Visited handlers config (record v { hand = h.0 }) before step reply left v.seen after = subst (λ (y : View P). Visited handlers config y before step reply left y.seen after) h.1 r in
+      let z = x.visits in
+      record {
+        visits = record {
+          steps = z.steps;
+          part = z.part;
+          led = z.led;
+          stood = z.stood;
+          mine = z.mine;
+          at = done-held (simulation_of handlers config) v h.0 z.steps z.part step reply after z.at;
+          does = z.does;
+          stands = z.stands;
+        };
+        same = record { worker = x.same.worker; made = x.same.made; waiting = x.same.waiting };
+        floor = x.floor;
+        rests = x.rests;
+      }
+
+  -- of these kernels
+  pub visited-there : (lent done : HeldWorker S P K) → WithHand v w → before ≡ lent → left ≡ done → Visited handlers config w before step reply left w.seen after → Visited handlers config v lent step reply done v.seen after
+  visited-there lent done h was is r = subst (λ (k : HeldWorker S P K × HeldWorker S P K). Visited handlers config v k.0 step reply k.1 v.seen after) (λ i. (was i, is i)) (visited-held h r)
 
 module _ {S P : Type 0} (sim : Simulation S P) (config : Config) (m after : Sat P) (k : ℕ) (rests : Rests m) (t : Took sim config m k after) where
   -- a claim leaves the place as it was

@@ -1,5 +1,6 @@
 -- The release of the book after a commit, and the place once its kernel has forgotten what was committed.
-use Rattle.std.proofs.Common.{◌≡◌, inr, ℕ, ◌<◌, List, [], ◌∷◌, ◌++◌, refl, sym, subst}
+use Rattle.std.proofs.Common.{◌≡◌, inr, ℕ, ◌<◌, List, [], ◌∷◌, ◌++◌, length, length-append, refl, sym, ap, subst}
+use Rattle.std.specs.List.{range_with_len}
 use Rattle.atomic_table.specs.Table.{Allows}
 use Rattle.vt_key.specs.Times.{Time}
 use Rattle.vt_model.specs.Handler.{Handlers}
@@ -19,7 +20,7 @@ use Rattle.vt_station.specs.Slots.{cell_count, word_at, home_word, cell_at}
 use Rattle.vt_station.specs.Kept.{Sat, Kept}
 use Rattle.vt_station.specs.Calls.{Reaches, Visited, Holding, ShowsFloor}
 use Rattle.vt_station.specs.Commits.{CommitsTo, Commits}
-use Rattle.vt_station.proofs.CallLemmas.{WithHand}
+use Rattle.vt_station.proofs.CallLemmas.{WithHand, done-held}
 use Rattle.vt_station.proofs.Keeps.{releases}
 use Rattle.vt_station.proofs.Releases.{steps-lead, home-not_claimed, home-not_empty}
 
@@ -38,7 +39,7 @@ module _ {S P K : Type 0} (handlers : Handlers S P K) (config : Config) where
       (λ (n : ℕ) (after : Sat P). (after.1 ≡ []) × Commits handlers config m.0 worker lent seen after.0) near home-not_claimed (λ e _. home-not_empty e) h.carried h.hand h.right
       (subst (λ (c : Cell P). Leads sim m.0.worker (cell_at sim.workers k) m.0.part found (way.steps ++ Commit worker ∷ []) left c own) (sym h.now_is) goes)
       (inr (subst (λ (c : Cell P). ShowsFloor sim.end seen c) (sym h.now_is) sees))
-      (λ n. (
+      (λ n known. (
         refl,
         record {
           steps = way.steps;
@@ -47,6 +48,17 @@ module _ {S P K : Type 0} (handlers : Handlers S P K) (config : Config) where
           stood = way.stands;
           mine = refl;
           gone = refl;
+          at = record {
+            cell = k;
+            about = sym at;
+            found = found;
+            now = now;
+            known = known;
+            gives = does way.part way.stands;
+            positions = ap (λ (l : ℕ). m.0.positions ++ range_with_len (length known.log) l) (length-append way.steps (Commit worker ∷ []));
+          };
+          commits = does;
+          shows = sees;
           same = record { worker = refl; made = refl; waiting = refl };
           floor = refl;
           rests = refl;
@@ -56,21 +68,23 @@ module _ {S P K : Type 0} (handlers : Handlers S P K) (config : Config) where
   -- once the kernel stands for the part without what was committed, the place was visited
   pub committed-visited : (v w : View P) (worker : ℕ) (lent left : HeldWorker S P K) (seen : Time) (after : View P) → WithHand v w → Commits handlers config w worker lent seen after →
       ((part : Part P) → StandsFor handlers lent part → StandsFor handlers left (part_after_commit part)) → left.worker ≡ lent.worker → left.config ≡ lent.config →
-      Visited handlers config v lent (Commit worker) Done left seen after
+      (visited : Visited handlers config v lent (Commit worker) Done left seen after) × ShowsFloor config.end seen visited.visits.at.now
   committed-visited v w worker lent left seen after h r forgets same_worker same_config =
-      let x : Commits handlers config (record v { hand = h.0 }) worker lent seen after = subst (λ (y : View P). Commits handlers config y worker lent seen after) h.1 r in
-      record {
-        visits = record {
-          steps = x.steps;
-          part = x.part;
-          led = x.led;
-          stood = x.stood;
-          mine = x.mine;
-          stands = subst (StandsFor handlers left) (sym x.gone) (forgets x.part x.stood);
-          worker = same_worker;
-          config_is = same_config;
-        };
-        same = record { worker = x.same.worker; made = x.same.made; waiting = x.same.waiting };
-        floor = x.floor;
-        rests = x.rests;
-      }
+      let x : Commits handlers config (record v { hand = h.0 }) worker lent seen after = subst (λ (y : View P). Commits handlers config y worker lent seen after) h.1 r in (
+        record {
+          visits = record {
+            steps = x.steps;
+            part = x.part;
+            led = x.led;
+            stood = x.stood;
+            mine = x.mine;
+            at = done-held (simulation_of handlers config) v h.0 x.steps x.part (Commit worker) Done after x.at;
+            does = record { acts = λ part s. (part_after_commit part, x.commits part s, forgets part s); worker = same_worker; config_is = same_config };
+            stands = subst (StandsFor handlers left) (sym x.gone) (forgets x.part x.stood);
+          };
+          same = record { worker = x.same.worker; made = x.same.made; waiting = x.same.waiting };
+          floor = x.floor;
+          rests = x.rests;
+        },
+        x.shows,
+      )

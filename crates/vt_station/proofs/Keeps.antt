@@ -5,9 +5,9 @@ use mathlib.Core.Option.{Option as Maybe, none, some, some-injective, some-ne-no
 use native.Mathlib.Decide.{ℕ_discrete}
 use lib.ListN.{get_elem?}
 use lib.Seq.{set-get_or}
+use Rattle.std.specs.List.{range_with_len}
 use Rattle.atomic_table.specs.Table.{Act, keeps, takes, gives, Valid, carried_after, stepped, Allows, rest, put_back}
 use Rattle.atomic_table.proofs.Lists.{at_set, set_here, set_else, set_again}
-use Rattle.std.proofs.lemmas.List.{append-nil}
 use Rattle.vt_key.specs.Times.{Time, TimeAtMost}
 use Rattle.vt_model.specs.Histories.{IsLawful}
 use Rattle.vt_model.specs.declared.settings.Config.{Config}
@@ -18,13 +18,14 @@ use Rattle.vt_steps.specs.Cells.{CellName, inbox_of, Cell, in_inbox, content}
 use Rattle.vt_steps.specs.Marked.{Marked, Made, Answered, answered, unmarked, marked, Each, IsMarkedRight, own_steps_of, shown, DoesSo, Leads}
 use Rattle.vt_steps.specs.Next.{run}
 use Rattle.vt_steps.proofs.ReachedBooks.{reached-falls}
-use Rattle.vt_steps.proofs.MarkedRuns.{each-append, each-weaker, each-marked, own-append, own-others, shown-append, shown-marked}
+use Rattle.vt_steps.proofs.MarkedRuns.{each-append, each-weaker, each-marked, own-append, shown-append, shown-marked}
 use Rattle.vt_station.specs.declared.slot.Slot.{Slot}
 use Rattle.vt_station.specs.declared.view.View.{View}
 use Rattle.vt_station.specs.Hands.{empty_hand, holding}
 use Rattle.vt_station.specs.Slots.{cell_count, word_at, empty_word, claimed_word, cell_at, held_in, IsSlotOf}
-use Rattle.vt_station.specs.Kept.{Standing, Sat, IsClaimed, Sits, IsAtHome, IsHeld, Kept, Rests}
-use Rattle.vt_station.specs.Calls.{Took, ShowsFloor}
+use Rattle.vt_station.specs.Kept.{Standing, Sat, positions_of, IsClaimed, Sits, IsAtHome, IsHeld, Kept, Rests}
+use Rattle.vt_station.specs.Calls.{Known, Took, ShowsFloor}
+use Rattle.vt_station.proofs.Positions.{positions-longer, positions-kept, own-kept}
 use Rattle.vt_station.proofs.Cells.{not-empty, same-cell_held, same-found, inbox-name, names-apart, words-apart, holds-book}
 
 -- what a load tells of the number that it found and the seat after it
@@ -39,7 +40,7 @@ module _ {S P : Type 0} (sim : Simulation S P) (config : Config) where
   -- the rule after it, with another list of steps
   rebuilt : (s : Standing P) (r : Kept sim config s) (id k x : ℕ) (h : Maybe (Slot P)) (v w : View P) (log : List Marked)
       → get_elem? s.views id ≡ some v → k < cell_count sim.workers → w.worker ≡ v.worker → Each (λ m. m.worker < r.made) log → Each (IsMarkedRight sim) log
-      → ((q : ℕ) → q ≢ v.worker → (slice_get (shown sim log).parts q ≡ slice_get (shown sim r.log).parts q) × (own_steps_of sim q log ≡ own_steps_of sim q r.log))
+      → ((q : ℕ) → q ≢ v.worker → (slice_get (shown sim log).parts q ≡ slice_get (shown sim r.log).parts q) × (own_steps_of sim q log ≡ own_steps_of sim q r.log) × (positions_of q log ≡ positions_of q r.log))
       → ((j : ℕ) → j < cell_count sim.workers → j ≢ k → content (shown sim log) (cell_at sim.workers j) ≡ content (shown sim r.log) (cell_at sim.workers j))
       → TimeAtMost (book_floor sim.end (shown sim r.log).book) (book_floor sim.end (shown sim log).book)
       → Sits sim (changed s id k x h w) log r.made r.maker id w
@@ -135,6 +136,7 @@ module _ {S P : Type 0} (sim : Simulation S P) (config : Config) where
             inside = t.inside;
             part = o.0 ∙ t.part;
             mine = o.1 ∙ t.mine;
+            positions = o.2 ∙ t.positions;
             seen = le_trans t.seen more;
             holds = λ i c hd.
                 (let g = t.holds i c hd in
@@ -159,6 +161,22 @@ module _ {S P : Type 0} (sim : Simulation S P) (config : Config) where
       let words : set s.words i x ≡ s.words = ap (set s.words i) (sym is) ∙ set-get_or s.words i 0 in
       subst (λ (y : List ℕ × List (View P)). Kept sim config record { words = y.0; homes = s.homes; views = y.1 }) (λ j. (sym words j, sym (set_again s.views id v at) j)) r
 
+  -- what the rule says of a seat and of what a cell holds
+  abbrev known_there : (s : Standing P) (r : Kept sim config s) (id k : ℕ) (v : View P) (cell : Cell P) → get_elem? s.views id ≡ some v → content (shown sim r.log) (cell_at sim.workers k) ≡ Some cell → Known sim v k cell
+  known_there s r id k v cell at shows =
+      let t = r.each id v at in
+      record {
+        log = r.log;
+        right = r.right;
+        within = (let a = t.inside in let b = r.most in omega arith);
+        part = t.part;
+        mine = t.mine;
+        positions = t.positions;
+        seen = t.seen;
+        shows = shows;
+        own = λ one. (let a = t.inside in let b = r.most in all_own r.made v.worker r.log (omega arith) t.inside r.marks);
+      }
+
   -- what a claim tells of the number that it found and the seat after it
   abbrev pub Claimed : Sat P → ℕ → ℕ → Sat P → Type 0
   Claimed m k n after = (n ≢ claimed_word → Took sim config m k after) × (n ≡ claimed_word → (after ≡ m) × (1 < sim.workers))
@@ -180,11 +198,12 @@ module _ {S P : Type 0} (sim : Simulation S P) (config : Config) where
             w,
             takes k c,
             f.home,
-            rebuilt s r id k claimed_word none m.0 w r.log at near refl r.marks r.right (λ q _. (refl, refl)) (λ j _ _. refl) (le_refl _)
+            rebuilt s r id k claimed_word none m.0 w r.log at near refl r.marks r.right (λ q _. (refl, refl, refl)) (λ j _ _. refl) (le_refl _)
                 (record {
                   inside = t.inside;
                   part = t.part;
                   mine = t.mine;
+                  positions = t.positions;
                   seen = t.seen;
                   holds = λ j d e.
                       (let is = same-cell_held k j (held_in c) d e in
@@ -208,16 +227,7 @@ module _ {S P : Type 0} (sim : Simulation S P) (config : Config) where
                 slot = c;
                 after_is = refl;
                 right = f.right;
-                known = record {
-                  log = r.log;
-                  right = r.right;
-                  within = (let a = t.inside in let b = r.most in omega arith);
-                  part = t.part;
-                  mine = t.mine;
-                  seen = t.seen;
-                  shows = f.cell;
-                  own = λ one. (let a = t.inside in let b = r.most in all_own r.made m.0.worker r.log (omega arith) t.inside r.marks);
-                };
+                known = known_there s r id k m.0 (held_in c) at f.cell;
               }),
               λ z. absurd (nz z),
             ),
@@ -253,12 +263,11 @@ module _ {S P : Type 0} (sim : Simulation S P) (config : Config) where
   -- the list with one worker's steps behind it
   pub longer-others : (w q : ℕ) (log : List Marked) (steps : List Step) (name : CellName) (part new : Part P) (cell left : Cell P) (made : List Made) →
       q ≢ w → DoesSo sim w name steps (shown sim log) new left made →
-      (slice_get (shown sim (log ++ marked w steps)).parts q ≡ slice_get (shown sim log).parts q) × (own_steps_of sim q (log ++ marked w steps) ≡ own_steps_of sim q log)
+      (slice_get (shown sim (log ++ marked w steps)).parts q ≡ slice_get (shown sim log).parts q) × (own_steps_of sim q (log ++ marked w steps) ≡ own_steps_of sim q log) × (positions_of q (log ++ marked w steps) ≡ positions_of q log)
   longer-others w q log steps name part new cell left made ne does = (
     ap (λ (n : World P). slice_get n.parts q) (shown-marked sim log w steps) ∙ does.other_parts q ne,
-    own-append sim q (opening_world sim 0) log (marked w steps)
-        ∙ (ap (λ (l : List Answered). own_steps_of sim q log ++ l) (own-others sim q (shown sim log) (marked w steps) (each-weaker (λ m. m.worker ≡ w) (λ m. m.worker ≡ q → ⊥) (marked w steps) (λ m is e. ne (sym e ∙ is)) (each-marked w steps)))
-        ∙ append-nil (own_steps_of sim q log)),
+    own-kept sim w q log steps ne,
+    positions-kept w q log steps ne,
   )
 
   pub longer-floor : IsLawful sim → (log more : List Marked) → TimeAtMost (book_floor sim.end (shown sim log).book) (book_floor sim.end (shown sim (log ++ more)).book)
@@ -270,7 +279,7 @@ module _ {S P : Type 0} (sim : Simulation S P) (config : Config) where
   shown-floor : (world : World P) (name : CellName) (cell : Cell P) (t : Time) → content world name ≡ Some cell → ShowsFloor sim.end t cell → TimeAtMost t (book_floor sim.end world.book)
   shown-floor world name (Rattle.vt_steps.specs.Cells.in_inbox mails) t holds shows = absurd shows
   shown-floor world name (Rattle.vt_steps.specs.Cells.on_board board) t holds shows = absurd shows
-  shown-floor world name (Rattle.vt_steps.specs.Cells.in_book book) t holds shows = subst (λ b. TimeAtMost t (book_floor sim.end b)) (sym (holds-book world name book holds)) shows
+  shown-floor world name (Rattle.vt_steps.specs.Cells.in_book book) t holds shows = subst (λ b. TimeAtMost t (book_floor sim.end b)) (sym (holds-book world name book holds)) (omega (arith, shows))
 
   -- one worker's steps at a cell that nobody else has claimed and that is at home after them stand behind all others
   follows : IsLawful sim → (s : Standing P) (r : Kept sim config s) (id k x : ℕ) (v : View P) (found : Cell P) (slot : Slot P) (steps : List Step) (new : Part P) (made : List Made) (seen : Time)
@@ -280,9 +289,9 @@ module _ {S P : Type 0} (sim : Simulation S P) (config : Config) where
       → x ≢ claimed_word → (x ≡ empty_word → k < sim.workers → held_in slot ≡ in_inbox [])
       → ((j : ℕ) (c : Cell P) → v.hand ≡ holding j c → j ≡ k)
       → ((j : ℕ) (u : View P) (c : Cell P) → j ≢ id → get_elem? s.views j ≡ some u → u.hand ≡ holding k c → ⊥)
-      → Kept sim config (changed s id k x (some slot) (record v { part = new; mine = v.mine ++ made; seen = seen; hand = empty_hand }))
+      → Kept sim config (changed s id k x (some slot) (record v { part = new; mine = v.mine ++ made; positions = v.positions ++ range_with_len (length r.log) (length steps); seen = seen; hand = empty_hand }))
   follows lawful s r id k x v found slot steps new made seen at near shows right goes low home empty held alone =
-      rebuilt s r id k x (some slot) v (record v { part = new; mine = v.mine ++ made; seen = seen; hand = empty_hand }) log at near refl marks rights
+      rebuilt s r id k x (some slot) v (record v { part = new; mine = v.mine ++ made; positions = v.positions ++ range_with_len (length r.log) (length steps); seen = seen; hand = empty_hand }) log at near refl marks rights
       (λ q ne. longer-others v.worker q r.log steps (cell_at sim.workers k) v.part new found (held_in slot) made ne did)
       (λ j l ne. ap (λ (n : World P). content n (cell_at sim.workers j)) whole ∙ did.other_cells (cell_at sim.workers j) (names-apart sim.workers k j near l ne))
       (longer-floor lawful r.log (marked v.worker steps))
@@ -291,6 +300,7 @@ module _ {S P : Type 0} (sim : Simulation S P) (config : Config) where
         part = ap (λ (n : World P). slice_get n.parts v.worker) whole ∙ did.part;
         mine = own-append sim v.worker (opening_world sim 0) r.log (marked v.worker steps)
             ∙ ((λ i. t.mine i ++ did.answers i) ∙ sym (map-append answered v.mine made));
+        positions = positions-longer v.worker r.log steps ∙ ap (λ (l : List ℕ). l ++ range_with_len (length r.log) (length steps)) t.positions;
         seen = ⊎_elim (λ l. le_trans l (le_trans t.seen (longer-floor lawful r.log (marked v.worker steps)))) (λ l. shown-floor (shown sim log) (cell_at sim.workers k) (held_in slot) seen now l) low;
         holds = λ j d e. absurd (not-empty empty_hand j d refl e);
         makes = λ e. (let g = t.makes e in record { next = g.next; all = g.all; parts = g.parts });
@@ -331,24 +341,25 @@ module _ {S P : Type 0} (sim : Simulation S P) (config : Config) where
       → m.1 ≡ (k, slot) ∷ [] → m.0.hand ≡ holding k found → IsSlotOf config k slot
       → Leads sim m.0.worker (cell_at sim.workers k) m.0.part found steps new (held_in slot) made
       → TimeAtMost seen m.0.seen ⊎ ShowsFloor sim.end seen (held_in slot)
-      → ((n : ℕ) → aim n (record m.0 { part = new; mine = m.0.mine ++ made; seen = seen; hand = empty_hand }, []))
+      → ((n : ℕ) (known : Known sim m.0 k found) → aim n (record m.0 { part = new; mine = m.0.mine ++ made; positions = m.0.positions ++ range_with_len (length known.log) (length steps); seen = seen; hand = empty_hand }, []))
       → Allows (Kept sim config) slots id m (word_at k) (λ _. x) (λ _. aim x)
   releases lawful slots id k x m found slot steps new made seen aim near home empty carried held right goes low want s r deep at small =
-      let w : View P = record m.0 { part = new; mine = m.0.mine ++ made; seen = seen; hand = empty_hand } in
+      let shows = ((r.each id m.0 at).holds k found held).shows in
+      let w : View P = record m.0 { part = new; mine = m.0.mine ++ made; positions = m.0.positions ++ range_with_len (length r.log) (length steps); seen = seen; hand = empty_hand } in
       let back : put_back s.homes m.1 ≡ set s.homes k (some slot) = ap (put_back s.homes) carried in (
         w,
         gives,
         tt,
         subst (λ (hs : List (Maybe (Slot P))). Kept sim config record { words = set s.words (word_at k) x; homes = hs; views = set s.views id w }) (sym back)
-            (follows lawful s r id k x m.0 found slot steps new made seen at near ((r.each id m.0 at).holds k found held).shows right goes low home empty
+            (follows lawful s r id k x m.0 found slot steps new made seen at near shows right goes low home empty
             (λ j d e. same-cell_held k j found d (sym held ∙ e)) (λ j u d ne there hd. ne (r.alone j id u m.0 k d found there at hd held))),
-        subst (λ (l : List (ℕ × Slot P)). aim x (w, l)) (sym (ap rest carried)) (want x),
+        subst (λ (l : List (ℕ × Slot P)). aim x (w, l)) (sym (ap rest carried)) (want x (known_there s r id k m.0 found at shows)),
       )
 
   -- a load that finds an inbox empty is where the worker's steps stand that find it empty and leave it so
   pub looks : IsLawful sim → (slots id k : ℕ) (m : Sat P) (steps : List Step) (new : Part P) (made : List Made) (aim : Sat P → Type 0) → k < sim.workers → Rests m
       → Leads sim m.0.worker (cell_at sim.workers k) m.0.part (in_inbox []) steps new (in_inbox []) made
-      → aim (record m.0 { part = new; mine = m.0.mine ++ made; hand = empty_hand }, [])
+      → ((known : Known sim m.0 k (in_inbox [])) → aim (record m.0 { part = new; mine = m.0.mine ++ made; positions = m.0.positions ++ range_with_len (length known.log) (length steps); hand = empty_hand }, []))
       → Allows (Kept sim config) slots id m (word_at k) (λ n. n) (Looked m aim)
   looks lawful slots id k m steps new made aim less rests goes want s r deep at small = dite (ℕ_discrete (get_or s.words (word_at k) 0) empty_word) hit miss
     where
@@ -362,7 +373,7 @@ module _ {S P : Type 0} (sim : Simulation S P) (config : Config) where
           let shows : content (shown sim r.log) (cell_at sim.workers k) ≡ Some (in_inbox []) = ap (content (shown sim r.log)) (inbox-name sim.workers k less) ∙ r.empty k less z in
           let found : Some (held_in f.slot) ≡ Some (in_inbox []) = sym f.cell ∙ shows in
           let is : held_in f.slot ≡ in_inbox [] = cc in
-          let w : View P = record m.0 { part = new; mine = m.0.mine ++ made; hand = empty_hand } in (
+          let w : View P = record m.0 { part = new; mine = m.0.mine ++ made; positions = m.0.positions ++ range_with_len (length r.log) (length steps); hand = empty_hand } in (
             w,
             keeps,
             tt,
@@ -371,7 +382,7 @@ module _ {S P : Type 0} (sim : Simulation S P) (config : Config) where
                 (subst (λ (c : Cell P). Leads sim m.0.worker (cell_at sim.workers k) m.0.part (in_inbox []) steps new c made) (sym is) goes)
                 (inl (le_refl m.0.seen)) free (λ _ _. is) (λ j d e. absurd (not-empty m.0.hand j d rests.0 e))
                 (λ j u d ne there hd. free ((r.each j u there).holds k d hd).word)),
-            ((λ _. subst (λ (l : List (ℕ × Slot P)). aim (w, l)) (sym rests.1) want), λ ne. absurd (ne z)),
+            ((λ _. subst (λ (l : List (ℕ × Slot P)). aim (w, l)) (sym rests.1) (want (known_there s r id k m.0 (in_inbox []) at shows))), λ ne. absurd (ne z)),
           )
 
       miss : get_or s.words (word_at k) 0 ≢ empty_word → Steps s id (word_at k) m (Looked m aim) (get_or s.words (word_at k) 0)

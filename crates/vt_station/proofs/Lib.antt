@@ -1,4 +1,6 @@
 pub mod Cells
+pub mod Positions
+pub mod OneList
 pub mod Keeps
 pub mod Seating
 pub mod Releases
@@ -6,6 +8,8 @@ pub mod CommitRelease
 pub mod HeldLemmas
 pub mod ActLemmas
 pub mod CallLemmas
+pub mod GuardLemmas
+pub mod AloneLemmas
 pub mod Opening
 pub mod BoardLemmas
 pub mod BookLemmas

@@ -97,9 +97,9 @@ module _ {S P K : Type 0} (handlers : Handlers S P K) (config : Config) (v w : V
   reaches-steps h = reaches-there h.same.worker h.part
 
   -- after a close, done or refused
-  pub reaches-closed : {X : Type 0} (seen : Time) (result : Result X Fault) → MatchResult result (λ _. Closes v seen w) (λ _. Stays v w) → Reaches handlers config w k
-  reaches-closed seen (Ok x) h = reaches-there h.same.worker h.part
-  reaches-closed seen (Err fault) h = reaches-steps h.0
+  pub reaches-closed : {S' X : Type 0} (sim : Simulation S' P) (seen : Time) (result : Result X Fault) → MatchResult result (λ _. Closes sim v seen w) (λ _. Stays v w) → Reaches handlers config w k
+  reaches-closed sim seen (Ok x) h = reaches-there h.same.worker h.part
+  reaches-closed sim seen (Err fault) h = reaches-steps h.0
 
   -- after a look at the records
   pub reaches-shown : {X : Type 0} (Are : Time → X → Type 0) (result : Result X Fault) → MatchResult result (λ x. (floor : Time) × Are floor x × Unvisited v floor w) (λ _. Stays v w) → Reaches handlers config w k

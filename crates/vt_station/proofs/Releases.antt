@@ -1,7 +1,8 @@
 -- The release after each call, in the words of its contract.
-use Rattle.std.proofs.Common.{◌≡◌, ◌≢◌, ◌⊎◌, inl, inr, ℕ, ◌%◌, ◌/◌, ◌<◌, arith, cond, List, [], ◌∷◌, ◌++◌, refl, sym, ◌∙◌, ap, subst, le_refl, nat_eq, Option, Some, None, Ok}
+use Rattle.std.proofs.Common.{◌≡◌, ◌≢◌, ◌⊎◌, inl, inr, ℕ, ◌%◌, ◌/◌, ◌<◌, arith, cond, List, [], ◌∷◌, ◌++◌, length, length-append, refl, sym, ◌∙◌, ap, subst, le_refl, nat_eq, Option, Some, None, Ok}
 use Rattle.std.proofs.lemmas.List.{append-nil}
 use Rattle.std.proofs.lemmas.Bool.Decides.{eqb_tells}
+use Rattle.std.specs.List.{range_with_len}
 use Rattle.atomic_table.specs.Table.{Allows}
 use Rattle.vt_key.specs.Times.{Time, TimeAtMost}
 use Rattle.vt_model.specs.Handler.{Handlers}
@@ -92,10 +93,10 @@ module _ {S P K : Type 0} (handlers : Handlers S P K) (config : Config) (lawful 
       subst (λ (c : Cell P). Leads sim m.0.worker (cell_at sim.workers k) m.0.part found [] m.0.part c []) (sym h.now_is) (leads-nowhere sim m.0.worker (cell_at sim.workers k) m.0.part found) in
       releases sim config lawful slots id k home_word m found h.slot [] m.0.part [] (seen_or m.0.seen seen) (λ (n : ℕ) (after : Sat P). (after.1 ≡ []) × Unvisited m.0 (seen_or m.0.seen seen) after.0) near home-not_claimed (λ e _. home-not_empty e) h.carried h.hand h.right same
       (subst (λ (c : Cell P). TimeAtMost (seen_or m.0.seen seen) m.0.seen ⊎ ShowsFloor sim.end (seen_or m.0.seen seen) c) (sym h.now_is) (may-see config.end m.0.seen seen found sees))
-      (λ n. (
+      (λ n known. (
         refl,
         record {
-          steps = record { same = record { worker = refl; made = refl; waiting = refl }; part = refl; mine = append-nil m.0.mine };
+          steps = record { same = record { worker = refl; made = refl; waiting = refl }; part = refl; mine = append-nil m.0.mine; positions = append-nil m.0.positions };
           floor = refl;
           rests = refl;
         },
@@ -116,10 +117,19 @@ module _ {S P K : Type 0} (handlers : Handlers S P K) (config : Config) (lawful 
       (λ (n : ℕ) (after : Sat P). (after.1 ≡ []) × Visited handlers config m.0 before step reply left m.0.seen after.0) near home (λ e _. h.now_is ∙ empty e) h.carried h.hand h.right
       (subst (λ (c : Cell P). Leads sim m.0.worker (cell_at sim.workers k) m.0.part found (way.steps ++ step ∷ []) a.0 c (made_done way.steps ++ record { step = step; reply = reply } ∷ [])) (sym h.now_is) goes)
       (inl (le_refl m.0.seen))
-      (λ n. (
+      (λ n known. (
         refl,
         record {
-          visits = record { steps = way.steps; part = way.part; led = way.led; stood = way.stands; mine = refl; stands = a.2; worker = does.worker; config_is = does.config_is };
+          visits = record {
+            steps = way.steps;
+            part = way.part;
+            led = way.led;
+            stood = way.stands;
+            mine = refl;
+            at = record { cell = k; about = at; found = found; now = now; known = known; gives = a.1; positions = ap (λ (l : ℕ). m.0.positions ++ range_with_len (length known.log) l) (length-append way.steps (step ∷ [])) };
+            does = does;
+            stands = a.2;
+          };
           same = record { worker = refl; made = refl; waiting = refl };
           floor = refl;
           rests = refl;
@@ -136,26 +146,45 @@ module _ {S P K : Type 0} (handlers : Handlers S P K) (config : Config) (lawful 
       let a = does.acts way.part way.stands in
       looks sim config lawful slots id k m (way.steps ++ step ∷ []) a.0 (made_done way.steps ++ record { step = step; reply = reply } ∷ [])
       (λ after. (after.1 ≡ []) × Visited handlers config m.0 before step reply left m.0.seen after.0) near rests
-      (leads sim m.0.worker (cell_at sim.workers k) way.steps step m.0.part way.part a.0 (in_inbox []) (in_inbox []) reply (steps-lead sim m.0.worker way.steps m.0.part way.part way.led) whose at a.1) (
+      (leads sim m.0.worker (cell_at sim.workers k) way.steps step m.0.part way.part a.0 (in_inbox []) (in_inbox []) reply (steps-lead sim m.0.worker way.steps m.0.part way.part way.led) whose at a.1) (λ known. (
         refl,
         record {
-          visits = record { steps = way.steps; part = way.part; led = way.led; stood = way.stands; mine = refl; stands = a.2; worker = does.worker; config_is = does.config_is };
+          visits = record {
+            steps = way.steps;
+            part = way.part;
+            led = way.led;
+            stood = way.stands;
+            mine = refl;
+            at = record { cell = k; about = at; found = in_inbox []; now = in_inbox []; known = known; gives = a.1; positions = ap (λ (l : ℕ). m.0.positions ++ range_with_len (length known.log) l) (length-append way.steps (step ∷ [])) };
+            does = does;
+            stands = a.2;
+          };
           same = record { worker = refl; made = refl; waiting = refl };
           floor = refl;
           rests = refl;
         },
-      )
+      ))
 
   -- after a close
   pub leaves-closed : (slots id k : ℕ) (m : Sat P) (seen : Time) (found now : Cell P) → k < cell_count config.workers → cell_at config.workers k ≡ book_cell → Holding config m k found now
       → ((part : Part P) → act (simulation_of handlers config) Close part found ≡ record { part = part; cell = now; answer = Ok Done }) → ShowsFloor config.end seen now
-      → Allows (Kept (simulation_of handlers config) config) slots id m (word_at k) (λ _. home_word) (λ _. (λ (n : ℕ) (after : Sat P). (after.1 ≡ []) × Closes m.0 seen after.0) home_word)
+      → Allows (Kept (simulation_of handlers config) config) slots id m (word_at k) (λ _. home_word) (λ _. (λ (n : ℕ) (after : Sat P). (after.1 ≡ []) × Closes (simulation_of handlers config) m.0 seen after.0) home_word)
   leaves-closed slots id k m seen found now near at h does sees =
       let sim = simulation_of handlers config in
       let own : List Made = record { step = Close; reply = Done } ∷ [] in
       let goes : Leads sim m.0.worker (cell_at sim.workers k) m.0.part found (Close ∷ []) m.0.part now own =
       leads sim m.0.worker (cell_at sim.workers k) [] Close m.0.part m.0.part m.0.part found now Done refl tt (sym at) (does m.0.part) in
-      releases sim config lawful slots id k home_word m found h.slot (Close ∷ []) m.0.part own seen (λ (n : ℕ) (after : Sat P). (after.1 ≡ []) × Closes m.0 seen after.0) near home-not_claimed (λ e _. home-not_empty e) h.carried h.hand h.right
+      releases sim config lawful slots id k home_word m found h.slot (Close ∷ []) m.0.part own seen (λ (n : ℕ) (after : Sat P). (after.1 ≡ []) × Closes sim m.0 seen after.0) near home-not_claimed (λ e _. home-not_empty e) h.carried h.hand h.right
       (subst (λ (c : Cell P). Leads sim m.0.worker (cell_at sim.workers k) m.0.part found (Close ∷ []) m.0.part c own) (sym h.now_is) goes)
       (inr (subst (λ (c : Cell P). ShowsFloor sim.end seen c) (sym h.now_is) sees))
-      (λ n. (refl, record { same = record { worker = refl; made = refl; waiting = refl }; part = refl; mine = refl; floor = refl; rests = refl }))
+      (λ n known. (
+        refl,
+        record {
+          same = record { worker = refl; made = refl; waiting = refl };
+          part = refl;
+          mine = refl;
+          at = record { cell = k; about = sym at; found = found; now = now; known = known; gives = does m.0.part; positions = refl };
+          floor = refl;
+          rests = refl;
+        },
+      ))

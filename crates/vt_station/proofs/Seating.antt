@@ -22,8 +22,9 @@ use Rattle.vt_station.specs.declared.slot.Slot.{Slot}
 use Rattle.vt_station.specs.declared.view.View.{View}
 use Rattle.vt_station.specs.Hands.{empty_hand, holding}
 use Rattle.vt_station.specs.Slots.{cell_count, word_at, cell_at, held_in, IsSlotOf}
-use Rattle.vt_station.specs.Kept.{Standing, IsClaimed, Makes, Sits, Kept, first_view, left_view, next_view, first_or}
+use Rattle.vt_station.specs.Kept.{Standing, positions_from, IsClaimed, Makes, Sits, Kept, first_view, left_view, next_view, first_or}
 use Rattle.vt_station.proofs.Cells.{not-empty}
+use Rattle.vt_station.proofs.Positions.{positions-others}
 
 -- ---- lists
 
@@ -132,6 +133,7 @@ module _ {S P : Type 0} (sim : Simulation S P) (config : Config) where
         inside = (let l = t.inside in omega arith);
         part = t.part;
         mine = t.mine;
+        positions = t.positions;
         seen = t.seen;
         holds = λ k cell e. claimed_as k cell (t.holds k cell e);
         makes = λ e. record {
@@ -147,6 +149,7 @@ module _ {S P : Type 0} (sim : Simulation S P) (config : Config) where
         inside = (let l = o.inside in omega arith);
         part = o.part;
         mine = o.mine;
+        positions = o.positions;
         seen = o.seen;
         holds = λ k cell e. claimed_as k cell (o.holds k cell e);
         makes = λ e. absurd (ne (e ∙ sym is_maker));
@@ -164,6 +167,7 @@ module _ {S P : Type 0} (sim : Simulation S P) (config : Config) where
             ∙ opening-at v.made (let a = makes.all in let b = makes.next in omega arith)
             ∙ ap (λ p. Some p) (sym (makes.parts 0 (first_or v.part v.waiting) (head v.waiting v.part some_left) ∙ ap (opening_part sim 0) (let a = makes.next in let z : r.made + 0 ≡ v.made = omega arith in z)));
         mine = own-others sim v.made (opening_world sim 0) r.log fresh;
+        positions = positions-others v.made 0 r.log fresh;
         seen = omega arith;
         holds = λ k cell e. absurd (not-empty empty_hand k cell refl e);
         makes = λ e. absurd (let a = r.maker_there in let b = r.count in omega arith);
@@ -210,7 +214,7 @@ module _ {S P : Type 0} (sim : Simulation S P) (config : Config) where
       → ((k : ℕ) → k < sim.workers → content (opening_world sim 0) (inbox_of k) ≡ Some (in_inbox []))
       → ((k : ℕ) → k < cell_count sim.workers → (slot : Slot P) × (get_elem? (map some slots) k ≡ some (some slot)) × (content (opening_world sim 0) (cell_at sim.workers k) ≡ Some (held_in slot)) × IsSlotOf config k slot)
       → Kept sim config (tabled words slots (first_view sim))
-  unfolding run own_steps
+  unfolding run own_steps positions_from
   starts words slots some_worker wide deep blank_words empty full = record {
     log = [];
     made = 1;
@@ -239,6 +243,7 @@ module _ {S P : Type 0} (sim : Simulation S P) (config : Config) where
         inside = omega arith;
         part = opening-at 0 some_worker;
         mine = refl;
+        positions = refl;
         seen = omega arith;
         holds = λ k cell e. absurd (not-empty empty_hand k cell refl e);
         makes = λ e. record {

@@ -1,5 +1,6 @@
 -- What the calls of a station answer and leave.
-use Rattle.std.specs.Prelude.{◌≡◌, ℕ, ◌+◌, ◌<◌, ◌≤◌, ◌⊎◌, true, false, List, [], ◌∷◌, ◌++◌, map, length, Option, Some, None, Result, Ok, slice_get, IfSome}
+use Rattle.std.specs.Prelude.{◌≡◌, ℕ, ◌+◌, ◌<◌, ◌≤◌, ◌⊎◌, true, false, List, [], ◌∷◌, ◌++◌, map, length, Option, Some, None, Result, Ok, Err, slice_get, IfSome}
+use Rattle.std.specs.List.{range_with_len}
 use Rattle.std.specs.Result.{IsErrAnd}
 use Rattle.vt_key.specs.Times.{Time, TimeAtMost, TimeBefore}
 use Rattle.vt_key.specs.declared.fault.Fault.{Fault}
@@ -17,10 +18,11 @@ use Rattle.vt_steps.specs.declared.step.Step.TheVariants.{Cut, Report, Commit, C
 use Rattle.vt_steps.specs.declared.step.Reply.{Reply}
 use Rattle.vt_steps.specs.declared.step.Reply.TheVariants.{Done}
 use Rattle.vt_steps.specs.World.{Part, book_floor}
-use Rattle.vt_steps.specs.Letters.{is_empty, count_of, count_colour}
+use Rattle.vt_steps.specs.Letters.{Counts, is_empty, count_of, count_colour}
 use Rattle.vt_steps.specs.PartSteps.{letters_for}
-use Rattle.vt_steps.specs.Next.{next, run, may_send}
-use Rattle.vt_steps.specs.Cells.{Cell, in_book, content, act}
+use Rattle.vt_steps.specs.Next.{next, run, reached, may_send}
+use Rattle.vt_steps.specs.Cells.{Cell, in_inbox, in_book, content, cell_of, act}
+use Rattle.vt_steps.specs.Laws.{IsAny}
 use Rattle.vt_steps.specs.Marked.{Marked, answered, made_done, Each, IsMarkedRight, own_steps_of, shown, has_cut_since, has_closed}
 use Rattle.vt_kernel.specs.Held.{HeldWorker, StandsFor}
 use Rattle.vt_kernel.specs.Local.{local_steps}
@@ -30,7 +32,7 @@ use Rattle.vt_station.specs.declared.slot.Slot.{Slot}
 use Rattle.vt_station.specs.declared.view.View.{View}
 use Rattle.vt_station.specs.Hands.{empty_hand, holding}
 use Rattle.vt_station.specs.Slots.{cell_at, held_in, IsSlotOf}
-use Rattle.vt_station.specs.Kept.{Sat}
+use Rattle.vt_station.specs.Kept.{Sat, positions_of}
 
 -- the floor that a place was shown: this one, if one was shown to it now
 abbrev pub seen_or : Time → Option Time → Time
@@ -51,6 +53,7 @@ module _ {P : Type 0} where
     pub same : IsSamePlace v w
     pub part : w.part ≡ v.part
     pub mine : w.mine ≡ v.mine
+    pub positions : w.positions ≡ v.positions
 
   -- nothing but what it was shown is another, and it holds no cell
   pub record Unvisited (v : View P) (seen : Time) (w : View P) : Type 0 where
@@ -58,13 +61,50 @@ module _ {P : Type 0} where
     pub floor : w.seen ≡ seen
     pub rests : w.hand ≡ empty_hand
 
--- a close is one more of the place's own steps, and its part stays
-pub record Closes {P : Type 0} (v : View P) (seen : Time) (w : View P) : Type 0 where
-  pub same : IsSamePlace v w
-  pub part : w.part ≡ v.part
-  pub mine : w.mine ≡ v.mine ++ record { step = Close; reply = Done } ∷ []
-  pub floor : w.seen ≡ seen
-  pub rests : w.hand ≡ empty_hand
+-- ---- cells
+
+module _ {S P : Type 0} (sim : Simulation S P) where
+  -- a list of steps in which the place's are its own, and that shows its part and this in cell k: what a claim tells
+  pub record Known (v : View P) (k : ℕ) (cell : Cell P) : Type 0 where
+    pub log : List Marked
+    pub right : Each (IsMarkedRight sim) log
+    pub within : v.worker < sim.workers
+    pub part : slice_get (shown sim log).parts v.worker ≡ Some v.part
+    pub mine : own_steps_of sim v.worker log ≡ map answered v.mine
+    pub positions : positions_of v.worker log ≡ v.positions
+    pub seen : TimeAtMost v.seen (book_floor sim.end (shown sim log).book)
+    pub shows : content (shown sim log) (cell_at sim.workers k) ≡ Some cell
+    -- where there is one worker all steps are its own
+    pub own : sim.workers ≡ 1 → Each (λ m. m.worker ≡ v.worker) log
+
+  -- a step of the place at its cell, after local steps that led to this part: the cell held one thing after a list of steps in which
+  -- the place's are its own. The step is lawful, is answered so, and leaves the place's part and what the cell holds now. Local
+  -- steps and step stand right behind that list
+  pub record IsDoneAt (v : View P) (steps : List Step) (part : Part P) (step : Step) (reply : Reply) (w : View P) : Type 0 where
+    pub cell : ℕ
+    pub about : IsAny (cell_of step) (cell_at sim.workers cell)
+    pub found : Cell P
+    pub now : Cell P
+    pub known : Known v cell found
+    pub gives : act sim step part found ≡ record { part = w.part; cell = now; answer = Ok reply }
+    pub positions : w.positions ≡ v.positions ++ range_with_len (length known.log) (length steps + 1)
+
+  -- a close is one more of the place's own steps, and its part stays
+  pub record Closes (v : View P) (seen : Time) (w : View P) : Type 0 where
+    pub same : IsSamePlace v w
+    pub part : w.part ≡ v.part
+    pub mine : w.mine ≡ v.mine ++ record { step = Close; reply = Done } ∷ []
+    pub at : IsDoneAt v [] v.part Close Done w
+    pub floor : w.seen ≡ seen
+    pub rests : w.hand ≡ empty_hand
+
+  module _ (config : Config) where
+    -- the seat has claimed cell k
+    pub record Took (m : Sat P) (k : ℕ) (after : Sat P) : Type 0 where
+      pub slot : Slot P
+      pub after_is : after ≡ (record m.0 { hand = holding k (held_in slot) }, (k, slot) ∷ m.1)
+      pub right : IsSlotOf config k slot
+      pub known : Known m.0 k (held_in slot)
 
 -- ---- kernels
 
@@ -78,25 +118,6 @@ module _ {S P K : Type 0} (handlers : Handlers S P K) (config : Config) where
     pub led : local_steps (simulation_of handlers config) v.worker steps v.part ≡ Some part
     pub stands : StandsFor handlers k part
 
-  -- local steps that lead to the kernel as it was lent, and then one step with its reply, after which the kernel is as it was
-  -- left: they are the place's own steps from now on, and it has the part after them
-  pub record Visits (v : View P) (before : HeldWorker S P K) (step : Step) (reply : Reply) (left : HeldWorker S P K) (w : View P) : Type 0 where
-    pub steps : List Step
-    pub part : Part P
-    pub led : local_steps (simulation_of handlers config) v.worker steps v.part ≡ Some part
-    pub stood : StandsFor handlers before part
-    pub mine : w.mine ≡ v.mine ++ (made_done steps ++ record { step = step; reply = reply } ∷ [])
-    pub stands : StandsFor handlers left w.part
-    pub worker : left.worker ≡ before.worker
-    pub config_is : left.config ≡ before.config
-
-  -- the same, and the place holds nothing and was shown this floor
-  pub record Visited (v : View P) (before : HeldWorker S P K) (step : Step) (reply : Reply) (left : HeldWorker S P K) (seen : Time) (w : View P) : Type 0 where
-    pub visits : Visits v before step reply left w
-    pub same : IsSamePlace v w
-    pub floor : w.seen ≡ seen
-    pub rests : w.hand ≡ empty_hand
-
   -- a step does this to the kernel's part, whatever part it stands for, and to a cell
   pub record Acts (step : Step) (reply : Reply) (before : HeldWorker S P K) (cell : Cell P) (left : HeldWorker S P K) (after : Cell P) : Type 0 where
     pub acts : (part : Part P) → StandsFor handlers before part →
@@ -104,28 +125,25 @@ module _ {S P K : Type 0} (handlers : Handlers S P K) (config : Config) where
     pub worker : left.worker ≡ before.worker
     pub config_is : left.config ≡ before.config
 
--- ---- cells
+  -- local steps that lead to the kernel as it was lent, and then one step with its reply, after which the kernel is as it was
+  -- left: they are the place's own steps from now on, and it has the part after them. The step does this to the part that the
+  -- kernel stood for, whichever it was, and to what its cell held
+  pub record Visits (v : View P) (before : HeldWorker S P K) (step : Step) (reply : Reply) (left : HeldWorker S P K) (w : View P) : Type 0 where
+    pub steps : List Step
+    pub part : Part P
+    pub led : local_steps (simulation_of handlers config) v.worker steps v.part ≡ Some part
+    pub stood : StandsFor handlers before part
+    pub mine : w.mine ≡ v.mine ++ (made_done steps ++ record { step = step; reply = reply } ∷ [])
+    pub at : IsDoneAt (simulation_of handlers config) v steps part step reply w
+    pub does : Acts step reply before at.found left at.now
+    pub stands : StandsFor handlers left w.part
 
-module _ {S P : Type 0} (sim : Simulation S P) where
-  -- a list of steps in which the place's are its own, and that shows its part and this in cell k: what a claim tells
-  pub record Known (v : View P) (k : ℕ) (cell : Cell P) : Type 0 where
-    pub log : List Marked
-    pub right : Each (IsMarkedRight sim) log
-    pub within : v.worker < sim.workers
-    pub part : slice_get (shown sim log).parts v.worker ≡ Some v.part
-    pub mine : own_steps_of sim v.worker log ≡ map answered v.mine
-    pub seen : TimeAtMost v.seen (book_floor sim.end (shown sim log).book)
-    pub shows : content (shown sim log) (cell_at sim.workers k) ≡ Some cell
-    -- where there is one worker all steps are its own
-    pub own : sim.workers ≡ 1 → Each (λ m. m.worker ≡ v.worker) log
-
-  module _ (config : Config) where
-    -- the seat has claimed cell k
-    pub record Took (m : Sat P) (k : ℕ) (after : Sat P) : Type 0 where
-      pub slot : Slot P
-      pub after_is : after ≡ (record m.0 { hand = holding k (held_in slot) }, (k, slot) ∷ m.1)
-      pub right : IsSlotOf config k slot
-      pub known : Known m.0 k (held_in slot)
+  -- the same, and the place holds nothing and was shown this floor
+  pub record Visited (v : View P) (before : HeldWorker S P K) (step : Step) (reply : Reply) (left : HeldWorker S P K) (seen : Time) (w : View P) : Type 0 where
+    pub visits : Visits v before step reply left w
+    pub same : IsSamePlace v w
+    pub floor : w.seen ≡ seen
+    pub rests : w.hand ≡ empty_hand
 
 -- the seat holds cell k alone, which held one thing when it was claimed, and holds another now
 pub record Holding {P : Type 0} (config : Config) (m : Sat P) (k : ℕ) (found now : Cell P) : Type 0 where
@@ -135,9 +153,9 @@ pub record Holding {P : Type 0} (config : Config) (m : Sat P) (k : ℕ) (found n
   pub now_is : held_in slot ≡ now
   pub right : IsSlotOf config k slot
 
--- a floor that a place may be said to be shown by this cell: it is the book, and its floor is not below
+-- the floor that a place is shown by this cell: it is the book, and has this floor
 abbrev pub ShowsFloor : {P : Type 0} → Time → Time → Cell P → Type 0
-ShowsFloor end t (in_book book) = TimeAtMost t (book_floor end book)
+ShowsFloor end t (in_book book) = t ≡ book_floor end book
 ShowsFloor end t _ = ⊥
 
 abbrev pub MaySee : {P : Type 0} → Time → Option Time → Cell P → Type 0
@@ -149,6 +167,15 @@ MaySee end seen cell = IfSome seen (λ t. ShowsFloor end t cell)
 abbrev pub Stays : {P : Type 0} → View P → View P → Type 0
 Stays v w = HasSameSteps v w × (w.seen ≡ v.seen)
 
+-- with this mail a count of mail got is past its limit
+abbrev pub IsTooMuchMail : {P : Type 0} → Counts → List (Mail P) → Type 0
+IsTooMuchMail got mails = (MAX_COUNT < got.white + count_colour White mails) ⊎ (MAX_COUNT < got.red + count_colour Red mails)
+
+-- why mail isn't taken out of a claimed inbox, by what arrived before and was got before
+abbrev pub IsTakeRefusal : {P : Type 0} → List (Mail P) → Counts → List (Mail P) → Fault → Type 0
+IsTakeRefusal arrived got mails fault =
+    ((fault ≡ NotLawful) × (is_empty arrived ≡ false)) ⊎ ((fault ≡ Exhausted) × (is_empty arrived ≡ true) × IsTooMuchMail got mails)
+
 module _ {S P : Type 0} (sim : Simulation S P) where
   -- why a post from worker w to v is refused: the send is not lawful, or its count would pass the limit; or neither, and the
   -- cell was claimed by another place, of which there is one; or none of these, and memory was refused
@@ -158,13 +185,13 @@ module _ {S P : Type 0} (sim : Simulation S P) where
       ⊎ ((fault ≡ Busy) × (1 < sim.workers) × (may_send sim w v part ≡ true) × (count_of part.sent part.colour + length (letters_for sim v part) ≤ MAX_COUNT))
 
   -- why a fetch is refused: what arrived before is not accepted yet; or it is, and the cell was claimed by another place; or
-  -- the mail that is there would make a count pass its limit
-  abbrev pub IsFetchRefusal : Part P → Fault → Type 0
-  IsFetchRefusal part fault =
+  -- the mail in the worker's inbox, after a list of steps in which the place's are its own, would take a count past its limit
+  abbrev pub IsFetchRefusal : View P → Part P → Fault → Type 0
+  IsFetchRefusal v part fault =
       ((fault ≡ NotLawful) × (is_empty part.arrived ≡ false))
       ⊎ ((is_empty part.arrived ≡ true)
       × (((fault ≡ Busy) × (1 < sim.workers))
-      ⊎ ((fault ≡ Exhausted) × ((mails : List (Mail P)) × ((MAX_COUNT < part.got.white + count_colour White mails) ⊎ (MAX_COUNT < part.got.red + count_colour Red mails))))))
+      ⊎ ((fault ≡ Exhausted) × ((mails : List (Mail P)) × Known sim v v.worker (in_inbox mails) × IsTooMuchMail part.got mails))))
 
 -- ---- refusals that are found in a claimed cell
 
@@ -206,6 +233,12 @@ module _ {S P : Type 0} (sim : Simulation S P) where
   IsCloseRefusal v fault =
       ((fault ≡ Busy) × (1 < sim.workers))
       ⊎ (IsRefusedBy v Close fault × (((fault ≡ Closed) × (v.part.floor ≡ sim.end)) ⊎ ((fault ≡ NotLawful) × TimeBefore v.seen sim.end)))
+
+module _ {S P : Type 0} (sim : Simulation S P) where
+  -- where there is one worker: what the definitions refuse after the place's own steps and these local steps is refused so
+  abbrev pub IsRefusedAlone : {X : Type 0} → View P → List Step → Step → Result X Fault → Type 0
+  IsRefusedAlone v steps step result =
+      sim.workers ≡ 1 → (fault : Fault) → (next sim (run sim (reached sim 0 (map (λ m. m.step) v.mine)) steps) step).answer ≡ Err fault → result ≡ Err fault
 
 -- ---- what the book shows
 

@@ -15,7 +15,7 @@ use Rattle.vt_kernel.specs.Held.{HeldWorker, StandsFor}
 use Rattle.vt_kernel.specs.Local.{local_steps}
 use Rattle.vt_station.specs.declared.view.View.{View}
 use Rattle.vt_station.specs.Hands.{empty_hand}
-use Rattle.vt_station.specs.Calls.{IsSamePlace}
+use Rattle.vt_station.specs.Calls.{IsSamePlace, IsDoneAt, ShowsFloor}
 
 module _ {S P K : Type 0} (handlers : Handlers S P K) (config : Config) where
   -- the commit of a worker does this to a cell, whatever part the kernel stands for
@@ -24,7 +24,7 @@ module _ {S P K : Type 0} (handlers : Handlers S P K) (config : Config) where
       (part : Part P) → StandsFor handlers k part → act (simulation_of handlers config) (Commit worker) part found ≡ record { part = part_after_commit part; cell = now; answer = Ok Done }
 
   -- local steps that lead to the kernel as it was lent, and then a commit: they are the place's own steps from now on, its part is
-  -- without what was committed, it holds nothing, and it was shown this floor
+  -- without what was committed, it holds nothing, and it was shown the floor of the book as it is now
   pub record Commits (v : View P) (worker : ℕ) (k : HeldWorker S P K) (seen : Time) (w : View P) : Type 0 where
     pub steps : List Step
     pub part : Part P
@@ -32,6 +32,9 @@ module _ {S P K : Type 0} (handlers : Handlers S P K) (config : Config) where
     pub stood : StandsFor handlers k part
     pub mine : w.mine ≡ v.mine ++ (made_done steps ++ record { step = Commit worker; reply = Done } ∷ [])
     pub gone : w.part ≡ part_after_commit part
+    pub at : IsDoneAt (simulation_of handlers config) v steps part (Commit worker) Done w
+    pub commits : CommitsTo worker k at.found at.now
+    pub shows : ShowsFloor config.end seen at.now
     pub same : IsSamePlace v w
     pub floor : w.seen ≡ seen
     pub rests : w.hand ≡ empty_hand

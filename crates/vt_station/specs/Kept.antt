@@ -1,6 +1,6 @@
 -- What holds of a station between any two atomic steps: there is a list of steps, each marked with its worker, whose run from
 -- the opening world gives the world that the cells and the places show; and each place's own steps are those of its worker.
-use Rattle.std.specs.Prelude.{◌≡◌, ◌≢◌, ℕ, ◌+◌, ◌-◌, ◌<◌, ◌≤◌, List, [], ◌∷◌, map, length, drop, slice_get, slice_index, Some}
+use Rattle.std.specs.Prelude.{◌≡◌, ◌≢◌, ℕ, ◌+◌, ◌-◌, ◌<◌, ◌≤◌, nat_eq, if◌then◌else◌, List, [], ◌∷◌, map, length, drop, slice_get, slice_index, Some}
 use Rattle.std.specs.List.{range_with_len}
 use mathlib.Core.Option.{none, some}
 use lib.ListN.{get_elem?}
@@ -24,6 +24,15 @@ Standing P = State (Slot P) (View P)
 abbrev pub Sat : Type 0 → Type 0
 Sat P = Me (Slot P) (View P)
 
+-- where the steps of worker w stand in a list of steps, of which the first stands at i
+unfoldable pub positions_from : ℕ → ℕ → List Marked → List ℕ
+positions_from w i [] = []
+positions_from w i (m ∷ marks) = if nat_eq m.worker w then i ∷ positions_from w (i + 1) marks else positions_from w (i + 1) marks
+
+-- where they stand in the list of all steps
+abbrev pub positions_of : ℕ → List Marked → List ℕ
+positions_of w log = positions_from w 0 log
+
 -- cell k is held by a seat
 pub record IsHeld {P : Type 0} (s : Standing P) (k : ℕ) : Type 0 where
   pub seat : ℕ
@@ -46,12 +55,13 @@ module _ {S P : Type 0} (sim : Simulation S P) where
     pub all : made + length v.waiting ≡ sim.workers
     pub parts : (i : ℕ) (part : Part P) → get_elem? v.waiting i ≡ some part → part ≡ opening_part sim 0 (made + i)
 
-  -- what is said of the seat j with the view v: the shown world has its part, the list's steps of its worker are its own, and
-  -- the book's floor is not below the one that it was shown
+  -- what is said of the seat j with the view v: the shown world has its part, the list's steps of its worker are its own and stand
+  -- where it knows, and the book's floor is not below the one that it was shown
   pub record Sits (s : Standing P) (log : List Marked) (made maker j : ℕ) (v : View P) : Type 0 where
     pub inside : v.worker < made
     pub part : slice_get (shown sim log).parts v.worker ≡ Some v.part
     pub mine : own_steps_of sim v.worker log ≡ map answered v.mine
+    pub positions : positions_of v.worker log ≡ v.positions
     pub seen : TimeAtMost v.seen (book_floor sim.end (shown sim log).book)
     pub holds : (k : ℕ) (cell : Cell P) → v.hand ≡ holding k cell → IsClaimed s log k cell
     pub makes : j ≡ maker → Makes made v
@@ -93,7 +103,7 @@ module _ {S P : Type 0} (sim : Simulation S P) where
 
 -- the view of a place that is made: it has its part, and has made no step
 abbrev pub blank : {P : Type 0} → ℕ → Part P → View P
-blank worker part = record { marker = record {}; worker = worker; part = part; mine = []; seen = opening_time; hand = empty_hand; made = 0; waiting = [] }
+blank worker part = record { marker = record {}; worker = worker; part = part; mine = []; positions = []; seen = opening_time; hand = empty_hand; made = 0; waiting = [] }
 
 -- the view of the first place, which makes the others
 abbrev pub first_view : {S P : Type 0} → Simulation S P → View P

@@ -1,16 +1,18 @@
 //! The calls by which a place acts at its station.
 
-ghost use Rattle.std.specs.Prelude.{◌≡◌, ◌<◌, true, IfOk, IfErr, MatchResult};
+ghost use Rattle.std.specs.Prelude.{◌≡◌, ◌<◌, true, false, [], Err, IfOk, IfErr, MatchResult};
 ghost use Rattle.vt_key.specs.Times.{Time as TimeValue};
-ghost use Rattle.vt_key.specs.declared.fault.Fault.TheVariants.{Busy};
+ghost use Rattle.vt_key.specs.declared.fault.Fault.TheVariants.{Busy, NotLawful};
 ghost use Rattle.vt_model.specs.Simulation.{simulation_of};
 ghost use Rattle.vt_steps.specs.declared.step.Step.TheVariants as step;
 ghost use Rattle.vt_steps.specs.declared.step.Reply.TheVariants as reply;
 ghost use Rattle.vt_steps.specs.World.{Part};
+ghost use Rattle.vt_steps.specs.Letters.{is_empty};
+ghost use Rattle.vt_steps.specs.Next.{may_send};
 ghost use Rattle.vt_board.specs.Calls.{reply_of};
 ghost use Rattle.vt_kernel.specs.Held.{StandsFor};
 ghost use Rattle.vt_station.specs.Told.{station_model, station_config, station_table, place_table, place_worker, place_view};
-ghost use Rattle.vt_station.specs.Calls.{Reaches, Visited, Closes, Unvisited, Stays, IsPostRefusal, IsFetchRefusal, IsCutRefusal, IsReportRefusal, IsCommitRefusal, IsCloseRefusal, IsRecordsRefusal, IsFloorLeft, AreRecordsShown, IsRefusedOnceClosed};
+ghost use Rattle.vt_station.specs.Calls.{Reaches, Visited, Closes, Unvisited, Stays, ShowsFloor, IsPostRefusal, IsFetchRefusal, IsCutRefusal, IsReportRefusal, IsCommitRefusal, IsCloseRefusal, IsRecordsRefusal, IsFloorLeft, AreRecordsShown, IsRefusedOnceClosed, IsRefusedAlone};
 
 use crate::place::Place;
 use crate::station::Station;
@@ -43,6 +45,7 @@ impl<M: EventModel> Station<M> {
             (λ _. Visited handlers config (place_view place.old) kernel.old (step.Send (place_worker place.old) v) reply.Done kernel.new (place_view place.old).seen (place_view place.new))
             (λ _. Stays (place_view place.old) (place_view place.new) × (kernel.new ≡ kernel.old)) }
         ensures refused { let handlers = M.handlers (station_model self.now) in let config = station_config self.now in (part : Part _) → StandsFor handlers kernel.old part → IfErr result (λ fault. IsPostRefusal (simulation_of handlers config) (place_worker place.old) v part fault) }
+        ensures unlawful { let handlers = M.handlers (station_model self.now) in let config = station_config self.now in (part : Part _) → StandsFor handlers kernel.old part → may_send (simulation_of handlers config) (place_worker place.old) v part ≡ false → result ≡ Err NotLawful }
         ensures ready { Reaches (M.handlers (station_model self.now)) (station_config self.now) (place_view place.new) kernel.new }
     {
         self.post_at(&mut place.seat, kernel, place.worker, v)
@@ -60,7 +63,8 @@ impl<M: EventModel> Station<M> {
         ensures done { let handlers = M.handlers (station_model self.now) in let config = station_config self.now in MatchResult result
             (λ _. Visited handlers config (place_view place.old) kernel.old (step.Fetch (place_worker place.old)) reply.Done kernel.new (place_view place.old).seen (place_view place.new))
             (λ _. Stays (place_view place.old) (place_view place.new) × (kernel.new ≡ kernel.old)) }
-        ensures refused { let handlers = M.handlers (station_model self.now) in let config = station_config self.now in (part : Part _) → StandsFor handlers kernel.old part → IfErr result (λ fault. IsFetchRefusal (simulation_of handlers config) part fault) }
+        ensures refused { let handlers = M.handlers (station_model self.now) in let config = station_config self.now in (part : Part _) → StandsFor handlers kernel.old part → IfErr result (λ fault. IsFetchRefusal (simulation_of handlers config) (place_view place.old) part fault) }
+        ensures unlawful { let handlers = M.handlers (station_model self.now) in (part : Part _) → StandsFor handlers kernel.old part → is_empty part.arrived ≡ false → result ≡ Err NotLawful }
         ensures ready { Reaches (M.handlers (station_model self.now)) (station_config self.now) (place_view place.new) kernel.new }
     {
         self.fetch_at(&mut place.seat, kernel, place.worker)
@@ -80,6 +84,7 @@ impl<M: EventModel> Station<M> {
             (λ _. Visited handlers config (place_view place.old) kernel.old (step.Cut (place_worker place.old)) reply.Done kernel.new (place_view place.old).seen (place_view place.new))
             (λ _. Stays (place_view place.old) (place_view place.new) × (kernel.new ≡ kernel.old)) }
         ensures refused { IfErr result (λ fault. IsCutRefusal (simulation_of (M.handlers (station_model self.now)) (station_config self.now)) (place_view place.old) fault) }
+        ensures alone { let handlers = M.handlers (station_model self.now) in let config = station_config self.now in (reaches : Reaches handlers config (place_view place.old) kernel.old) → IsRefusedAlone (simulation_of handlers config) (place_view place.old) reaches.steps (step.Cut (place_worker place.old)) result }
         ensures ready { Reaches (M.handlers (station_model self.now)) (station_config self.now) (place_view place.new) kernel.new }
     {
         self.cut_at(&mut place.seat, kernel, place.worker)
@@ -103,6 +108,7 @@ impl<M: EventModel> Station<M> {
             (λ report. Visited handlers config (place_view place.old) kernel.old (step.Report (place_worker place.old)) (reply_of report) kernel.new (place_view place.old).seen (place_view place.new))
             (λ _. Stays (place_view place.old) (place_view place.new) × (kernel.new ≡ kernel.old)) }
         ensures refused { IfErr result (λ fault. IsReportRefusal (simulation_of (M.handlers (station_model self.now)) (station_config self.now)) (place_view place.old) fault) }
+        ensures alone { let handlers = M.handlers (station_model self.now) in let config = station_config self.now in (reaches : Reaches handlers config (place_view place.old) kernel.old) → IsRefusedAlone (simulation_of handlers config) (place_view place.old) reaches.steps (step.Report (place_worker place.old)) result }
         ensures ready { Reaches (M.handlers (station_model self.now)) (station_config self.now) (place_view place.new) kernel.new }
     {
         self.report_at(&mut place.seat, kernel, place.worker)
@@ -122,11 +128,12 @@ impl<M: EventModel> Station<M> {
         requires kernel { Reaches (M.handlers (station_model self.now)) (station_config self.now) (place_view place.old) kernel.old }
         ensures same { (place_table place.new ≡ place_table place.old) × (place_worker place.new ≡ place_worker place.old) }
         ensures done { let handlers = M.handlers (station_model self.now) in let config = station_config self.now in MatchResult result
-            (λ _. (shown : TimeValue) × Visited handlers config (place_view place.old) kernel.old (step.Commit (place_worker place.old)) reply.Done kernel.new shown (place_view place.new)
-            × IsFloorLeft (simulation_of handlers config) (place_view place.old) (step.Commit (place_worker place.old)) shown)
+            (λ _. (shown : TimeValue) × (visited : Visited handlers config (place_view place.old) kernel.old (step.Commit (place_worker place.old)) reply.Done kernel.new shown (place_view place.new))
+            × ShowsFloor config.end shown visited.visits.at.now × IsFloorLeft (simulation_of handlers config) (place_view place.old) (step.Commit (place_worker place.old)) shown)
             (λ _. Stays (place_view place.old) (place_view place.new) × (kernel.new ≡ kernel.old)) }
         ensures refused { IfErr result (λ fault. IsCommitRefusal (simulation_of (M.handlers (station_model self.now)) (station_config self.now)) (place_view place.old) fault) }
         ensures closed { IsRefusedOnceClosed (place_view place.old) result }
+        ensures alone { let handlers = M.handlers (station_model self.now) in let config = station_config self.now in (reaches : Reaches handlers config (place_view place.old) kernel.old) → IsRefusedAlone (simulation_of handlers config) (place_view place.old) reaches.steps (step.Commit (place_worker place.old)) result }
         ensures ready { Reaches (M.handlers (station_model self.now)) (station_config self.now) (place_view place.new) kernel.new }
     {
         self.commit_at(alloc, &mut place.seat, kernel, place.worker)
@@ -139,8 +146,9 @@ impl<M: EventModel> Station<M> {
     pub fn close(&self, place: &mut Place<M::Payload>) -> Result<(), Fault>
         requires own { place_table place.old ≡ station_table self.now }
         ensures same { (place_table place.new ≡ place_table place.old) × (place_worker place.new ≡ place_worker place.old) }
-        ensures done { MatchResult result (λ _. Closes (place_view place.old) (station_config self.now).end (place_view place.new)) (λ _. Stays (place_view place.old) (place_view place.new)) }
+        ensures done { let handlers = M.handlers (station_model self.now) in let config = station_config self.now in MatchResult result (λ _. Closes (simulation_of handlers config) (place_view place.old) config.end (place_view place.new)) (λ _. Stays (place_view place.old) (place_view place.new)) }
         ensures refused { IfErr result (λ fault. IsCloseRefusal (simulation_of (M.handlers (station_model self.now)) (station_config self.now)) (place_view place.old) fault) }
+        ensures alone { IsRefusedAlone (simulation_of (M.handlers (station_model self.now)) (station_config self.now)) (place_view place.old) [] step.Close result }
         ensures closed { IsRefusedOnceClosed (place_view place.old) result }
     {
         self.close_at(&mut place.seat)

@@ -16,7 +16,7 @@ ghost use Rattle.vt_kernel.specs.Held.{StandsFor};
 ghost use Rattle.vt_book.specs.Books.{may_hand};
 ghost use Rattle.vt_station.specs.Kept.{Rests};
 ghost use Rattle.vt_station.specs.Told.{station_model, station_config, station_table, place_table, place_view};
-ghost use Rattle.vt_station.specs.Calls.{Acts, Holding, Reaches, Visited, Closes, Unvisited, Stays, IsCommitRefusal, IsCloseRefusal, IsRecordsRefusal, IsFloorLeft, AreRecordsShown, IsRefusedOnceClosed};
+ghost use Rattle.vt_station.specs.Calls.{Acts, Holding, Reaches, Visited, Closes, Unvisited, Stays, ShowsFloor, IsCommitRefusal, IsCloseRefusal, IsRecordsRefusal, IsFloorLeft, AreRecordsShown, IsRefusedOnceClosed};
 
 use crate::place::Place;
 use crate::slot::Slot;
@@ -147,8 +147,8 @@ impl<M: EventModel> Station<M> {
         requires kernel { let key = self.now.table.shared.key in Reaches (M.handlers key.model.value) key.config seat.old.me.0 kernel.old }
         ensures same { (seat.new.table_id ≡ seat.old.table_id) × (seat.new.id ≡ seat.old.id) × Rests seat.new.me }
         ensures done { let key = self.now.table.shared.key in MatchResult result
-            (λ _. (shown : TimeValue) × Visited (M.handlers key.model.value) key.config seat.old.me.0 kernel.old (step.Commit worker) reply.Done kernel.new shown seat.new.me.0
-            × IsFloorLeft (simulation_of (M.handlers key.model.value) key.config) seat.old.me.0 (step.Commit worker) shown)
+            (λ _. (shown : TimeValue) × (visited : Visited (M.handlers key.model.value) key.config seat.old.me.0 kernel.old (step.Commit worker) reply.Done kernel.new shown seat.new.me.0)
+            × ShowsFloor key.config.end shown visited.visits.at.now × IsFloorLeft (simulation_of (M.handlers key.model.value) key.config) seat.old.me.0 (step.Commit worker) shown)
             (λ _. Stays seat.old.me.0 seat.new.me.0 × (kernel.new ≡ kernel.old)) }
         ensures refused { let key = self.now.table.shared.key in IfErr result (λ fault. IsCommitRefusal (simulation_of (M.handlers key.model.value) key.config) seat.old.me.0 fault) }
         ensures closed { IsRefusedOnceClosed seat.old.me.0 result }
@@ -183,7 +183,7 @@ impl<M: EventModel> Station<M> {
         requires table { seat.old.table_id ≡ self.now.table.shared.table_id }
         requires rests { Rests seat.old.me }
         ensures same { (seat.new.table_id ≡ seat.old.table_id) × (seat.new.id ≡ seat.old.id) × Rests seat.new.me }
-        ensures done { MatchResult result (λ _. Closes seat.old.me.0 self.now.table.shared.key.config.end seat.new.me.0) (λ _. Stays seat.old.me.0 seat.new.me.0) }
+        ensures done { let key = self.now.table.shared.key in MatchResult result (λ _. Closes (simulation_of (M.handlers key.model.value) key.config) seat.old.me.0 key.config.end seat.new.me.0) (λ _. Stays seat.old.me.0 seat.new.me.0) }
         ensures refused { let key = self.now.table.shared.key in IfErr result (λ fault. IsCloseRefusal (simulation_of (M.handlers key.model.value) key.config) seat.old.me.0 fault) }
         ensures closed { IsRefusedOnceClosed seat.old.me.0 result }
     {

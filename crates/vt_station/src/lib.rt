@@ -8,6 +8,7 @@ mod crew;
 mod cutting;
 mod driver;
 mod gate;
+mod history;
 mod making;
 mod pace;
 mod place;
@@ -20,6 +21,7 @@ mod worker;
 
 pub use crew::{Stopped, run_workers};
 pub use gate::{Gate, Open};
+pub use history::places_tell_the_list;
 pub use place::Place;
 pub use station::Station;
 pub use worker::{NotMade, Worker};

@@ -14,7 +14,7 @@ ghost use Rattle.vt_kernel.specs.Held.{StandsFor};
 ghost use Rattle.vt_kernel.specs.Guards.{IsSendRefusal};
 ghost use Rattle.vt_station.specs.Slots.{cell_count};
 ghost use Rattle.vt_station.specs.Kept.{Rests};
-ghost use Rattle.vt_station.specs.Calls.{Acts, Holding, Reaches, Visited, Stays, IsPostRefusal, IsFetchRefusal};
+ghost use Rattle.vt_station.specs.Calls.{Acts, Holding, Reaches, Visited, Stays, IsPostRefusal, IsFetchRefusal, IsTakeRefusal};
 
 use crate::slot::Slot;
 use crate::station::{Seat, Station, Visit};
@@ -60,7 +60,7 @@ impl<M: EventModel> Station<M> {
         ensures done { let key = self.now.table.shared.key in (mails : List (Mail _)) × MatchResult result
             (λ _. Holding key.config seat.new.me worker (in_inbox mails) (in_inbox []) × Acts (M.handlers key.model.value) key.config (step.Fetch worker) reply.Done kernel.old (in_inbox mails) kernel.new (in_inbox []))
             (λ _. Holding key.config seat.new.me worker (in_inbox mails) (in_inbox mails) × (kernel.new ≡ kernel.old)) }
-        ensures refused { (handlers : Handlers _ _ _) (part : Part _) → StandsFor handlers kernel.old part → IfErr result (λ fault. IsFetchRefusal (simulation_of handlers kernel.old.config) part fault) }
+        ensures refused { (mails : List (Mail _)) → Holding self.now.table.shared.key.config seat.old.me worker (in_inbox mails) (in_inbox mails) → IfErr result (λ fault. IsTakeRefusal kernel.old.arrived kernel.old.got mails fault) }
     {
         let held = seat.slot_mut(&self.table.shared, worker as usize);
         let Slot::Inbox(mails) = held else {
@@ -149,7 +149,7 @@ impl<M: EventModel> Station<M> {
         ensures done { let key = self.now.table.shared.key in MatchResult result
             (λ _. Visited (M.handlers key.model.value) key.config seat.old.me.0 kernel.old (step.Fetch worker) reply.Done kernel.new seat.old.me.0.seen seat.new.me.0)
             (λ _. Stays seat.old.me.0 seat.new.me.0 × (kernel.new ≡ kernel.old)) }
-        ensures refused { let key = self.now.table.shared.key in (part : Part _) → StandsFor (M.handlers key.model.value) kernel.old part → IfErr result (λ fault. IsFetchRefusal (simulation_of (M.handlers key.model.value) key.config) part fault) }
+        ensures refused { let key = self.now.table.shared.key in (part : Part _) → StandsFor (M.handlers key.model.value) kernel.old part → IfErr result (λ fault. IsFetchRefusal (simulation_of (M.handlers key.model.value) key.config) seat.old.me.0 part fault) }
     {
         if kernel.arrived_len() > 0 {
             return Err(Fault::NotLawful);

@@ -231,7 +231,7 @@ impl<M: EventModel> Station<M> {
         requires held { let key = self.now.table.shared.key in (found : Cell _) × (now : Cell _) × Holding key.config seat.old.me cell found now
             × ((part : Part _) → act (simulation_of (M.handlers key.model.value) key.config) Close part found ≡ record { part = part; cell = now; answer = Ok Done }) × ShowsFloor key.config.end seen now }
         ensures same { (seat.new.table_id ≡ seat.old.table_id) × (seat.new.id ≡ seat.old.id) × Rests seat.new.me }
-        ensures done { Closes seat.old.me.0 seen seat.new.me.0 }
+        ensures done { let key = self.now.table.shared.key in Closes (simulation_of (M.handlers key.model.value) key.config) seat.old.me.0 seen seat.new.me.0 }
     {
         store::<M, Brand, Time>(&self.table.shared, seat, cell, HOME, &seen);
     }

@@ -17,6 +17,8 @@ pub(crate) struct View<P> {
     pub(crate) ghost part: { Part P },
     // The worker's steps, with the reply to each.
     pub(crate) ghost mine: { List Made },
+    // The position of each of them in the list of all steps.
+    pub(crate) ghost positions: { List ℕ },
     // A floor of the book that this place was shown.
     pub(crate) ghost seen: { Time },
     // The cell that the place has claimed, and what the cell held then.

@@ -1,10 +1,12 @@
 //! A worker at its place: the station's calls and the kernel's local steps together.
 
-ghost use Rattle.std.specs.Prelude.{◌≡◌, ◌<◌, None, IfOk, IfErr, MatchResult};
+ghost use Rattle.std.specs.Prelude.{◌≡◌, ◌<◌, false, None, Err, IfOk, IfErr, MatchResult};
 ghost use Rattle.vt_key.specs.Times.{Time};
 ghost use Rattle.vt_key.specs.declared.fault.Fault.TheVariants.{Memory, NotLawful};
 ghost use Rattle.vt_model.specs.Simulation.{simulation_of};
 ghost use Rattle.vt_steps.specs.World.{Part, opening_part};
+ghost use Rattle.vt_steps.specs.Letters.{is_empty};
+ghost use Rattle.vt_steps.specs.Next.{may_send};
 ghost use Rattle.vt_steps.specs.declared.step.Step.TheVariants as step;
 ghost use Rattle.vt_steps.specs.declared.step.Reply.TheVariants as reply;
 ghost use Rattle.vt_board.specs.Calls.{reply_of};
@@ -13,7 +15,7 @@ ghost use Rattle.vt_kernel.specs.Local.{local_step};
 ghost use Rattle.vt_kernel.specs.Guards.{IsDone, IsExecuteRefusal, IsAcceptRefusal, SettlesTo};
 ghost use Rattle.vt_station.specs.Told.{station_model, station_config, station_table, place_table, place_view};
 ghost use Rattle.vt_station.specs.Making.{IsNew};
-ghost use Rattle.vt_station.specs.Calls.{Visited, Closes, Unvisited, Stays, IsPostRefusal, IsFetchRefusal, IsCutRefusal, IsReportRefusal, IsCommitRefusal, IsCloseRefusal, IsRecordsRefusal, IsFloorLeft, AreRecordsShown, IsRefusedOnceClosed};
+ghost use Rattle.vt_station.specs.Calls.{Visited, Closes, Unvisited, Stays, ShowsFloor, IsPostRefusal, IsFetchRefusal, IsCutRefusal, IsReportRefusal, IsCommitRefusal, IsCloseRefusal, IsRecordsRefusal, IsFloorLeft, AreRecordsShown, IsRefusedOnceClosed};
 ghost use Rattle.vt_station.specs.AtWork.{IsAtSamePlace, IsAtSameStation};
 
 use crate::place::Place;
@@ -204,6 +206,7 @@ impl<'a, M: EventModel> Worker<'a, M> {
         ensures done { MatchResult result
             (λ _. Visited (M.handlers self.old.model) self.old.config self.old.view self.old.kernel (step.Send self.old.kernel.worker v) reply.Done self.new.kernel self.old.view.seen self.new.view)
             (λ _. Stays self.old.view self.new.view × (self.new.kernel ≡ self.old.kernel)) }
+        ensures unlawful { (part : Part _) → StandsFor (M.handlers self.old.model) self.old.kernel part → may_send (simulation_of (M.handlers self.old.model) self.old.config) self.old.kernel.worker v part ≡ false → result ≡ Err NotLawful }
         ensures refused { (part : Part _) → StandsFor (M.handlers self.old.model) self.old.kernel part → IfErr result (λ fault. IsPostRefusal (simulation_of (M.handlers self.old.model) self.old.config) self.old.kernel.worker v part fault) }
     {
         self.station.post(&mut self.place, &mut self.kernel, v)
@@ -217,7 +220,8 @@ impl<'a, M: EventModel> Worker<'a, M> {
         ensures done { MatchResult result
             (λ _. Visited (M.handlers self.old.model) self.old.config self.old.view self.old.kernel (step.Fetch self.old.kernel.worker) reply.Done self.new.kernel self.old.view.seen self.new.view)
             (λ _. Stays self.old.view self.new.view × (self.new.kernel ≡ self.old.kernel)) }
-        ensures refused { (part : Part _) → StandsFor (M.handlers self.old.model) self.old.kernel part → IfErr result (λ fault. IsFetchRefusal (simulation_of (M.handlers self.old.model) self.old.config) part fault) }
+        ensures unlawful { (part : Part _) → StandsFor (M.handlers self.old.model) self.old.kernel part → is_empty part.arrived ≡ false → result ≡ Err NotLawful }
+        ensures refused { (part : Part _) → StandsFor (M.handlers self.old.model) self.old.kernel part → IfErr result (λ fault. IsFetchRefusal (simulation_of (M.handlers self.old.model) self.old.config) self.old.view part fault) }
     {
         self.station.fetch(&mut self.place, &mut self.kernel)
     }
@@ -254,8 +258,8 @@ impl<'a, M: EventModel> Worker<'a, M> {
     pub fn commit(&mut self) -> Result<(), Fault>
         ensures station { IsAtSameStation self.old self.new }
         ensures done { MatchResult result
-            (λ _. (shown : Time) × Visited (M.handlers self.old.model) self.old.config self.old.view self.old.kernel (step.Commit self.old.kernel.worker) reply.Done self.new.kernel shown self.new.view
-            × IsFloorLeft (simulation_of (M.handlers self.old.model) self.old.config) self.old.view (step.Commit self.old.kernel.worker) shown)
+            (λ _. (shown : Time) × (visited : Visited (M.handlers self.old.model) self.old.config self.old.view self.old.kernel (step.Commit self.old.kernel.worker) reply.Done self.new.kernel shown self.new.view)
+            × ShowsFloor self.old.config.end shown visited.visits.at.now × IsFloorLeft (simulation_of (M.handlers self.old.model) self.old.config) self.old.view (step.Commit self.old.kernel.worker) shown)
             (λ _. Stays self.old.view self.new.view × (self.new.kernel ≡ self.old.kernel)) }
         ensures refused { IfErr result (λ fault. IsCommitRefusal (simulation_of (M.handlers self.old.model) self.old.config) self.old.view fault) }
         ensures closed { IsRefusedOnceClosed self.old.view result }
@@ -269,7 +273,7 @@ impl<'a, M: EventModel> Worker<'a, M> {
     /// [`Fault`]: as [`Station::close`] says; the worker is unchanged.
     pub fn close(&mut self) -> Result<(), Fault>
         ensures station { IsAtSameStation self.old self.new }
-        ensures done { MatchResult result (λ _. Closes self.old.view self.old.config.end self.new.view) (λ _. Stays self.old.view self.new.view) }
+        ensures done { MatchResult result (λ _. Closes (simulation_of (M.handlers self.old.model) self.old.config) self.old.view self.old.config.end self.new.view) (λ _. Stays self.old.view self.new.view) }
         ensures kernel { self.new.kernel ≡ self.old.kernel }
         ensures refused { IfErr result (λ fault. IsCloseRefusal (simulation_of (M.handlers self.old.model) self.old.config) self.old.view fault) }
         ensures closed { IsRefusedOnceClosed self.old.view result }

@@ -8,7 +8,8 @@ use Rattle.vt_steps.specs.Marked.{shown}
 use Rattle.vt_station.specs.Calls.{IsCloseRefusal}
 use Rattle.vt_station.proofs.ActLemmas.{act-close}
 use Rattle.vt_station.proofs.HeldLemmas.{held-book}
-use Rattle.vt_station.proofs.CallLemmas.{took-book}
+use Rattle.vt_station.proofs.CallLemmas.{took-book, took-place, closes-there}
+use Rattle.vt_station.proofs.BookLemmas.{ends-closed}
 use Rattle.vt_station.proofs.CommitAt.{once-closed}
 use Rattle.vt_station.proofs.RefusalLemmas as refusal
 use Rattle.vt_station.proofs.station.Station.close_at.Goals as goal
@@ -30,7 +31,7 @@ release_close-requires-clause-held g c κs within =
       in_book (closed_book d.0),
       d.2.2,
       (λ part. act-close sim part d.0 d.2.0 d.2.1),
-      (let is = d.2.3 in omega arith),
+      d.2.3,
     )
 
 pub returns-in-Ok-clause-closed : goal.returns-in-Ok-clause-closed
@@ -85,3 +86,12 @@ returns-in-Err-clause-closed g c = λ h.
       | inl x ↦ inr x.0
       | inr x ↦ absurd (let e : true ≡ false = sym closed ∙ ap (λ (b : Book). b.is_closed) same ∙ x.1 in cc)
     ])
+
+pub returns-in-Ok-clause-done : goal.returns-in-Ok-clause-done
+returns-in-Ok-clause-done g c =
+    let key = c.args.self.now.table.shared.key in
+    let sim = simulation_of (g.M.Model.handlers key.model.value) key.config in
+    let t = c.if-not-claim.ensures.claimed refl in
+    let place = took-place sim key.config c.args.seat.now.me c.claim.new.seat.me (c.args.self.now.workers + 1) c.requires.rests t in
+    let d = c.in-Ok.ensures.done in
+    closes-there sim c.args.seat.now.me.0 c.close_book.new.seat.me.0 c.in-Ok.floor key.config.end c.release_close.new.seat.me.0 (place.0, c.in-Ok.ensures.same.2 ∙ place.1) (d.2.3 ∙ ends-closed key.config.end d.0 d.2.1) c.release_close.ensures.done

@@ -10,7 +10,7 @@ use Rattle.vt_steps.specs.Cells.{in_book}
 use Rattle.vt_steps.specs.Marked.{shown}
 use Rattle.vt_kernel.specs.Held.{HeldWorker, StandsFor}
 use Rattle.vt_book.specs.Books.{may_hand}
-use Rattle.vt_station.specs.Calls.{IsCommitRefusal, IsFloorLeft, Visited}
+use Rattle.vt_station.specs.Calls.{IsCommitRefusal, IsFloorLeft, Visited, ShowsFloor}
 use Rattle.vt_station.specs.Commits.{CommitsTo}
 use Rattle.vt_station.proofs.HeldLemmas.{held-book}
 use Rattle.vt_station.proofs.CallLemmas.{took-book, took-place}
@@ -68,7 +68,7 @@ release_commit-requires-clause-held g c κs within =
       in_book (with_rows w rows floor d.0),
       d.2.3,
       subst (λ (h : HeldWorker _ _ _). CommitsTo H key.config w h (in_book d.0) (in_book (with_rows w rows floor d.0))) (sym c.of.ensures) moved,
-      (let low = d.2.4 in omega arith),
+      d.2.4,
     )
 
 pub returns-in-Ok-clause-done : goal.returns-in-Ok-clause-done
@@ -98,9 +98,11 @@ returns-in-Ok-clause-done g c =
     let stands = subst (λ (h : HeldWorker _ _ _). (part : Part _) → StandsFor H h part → StandsFor H left (part_after_commit part)) (sym c.of.ensures) (λ part s. c.fossil.ensures.stands H part s) in
     let visited = committed-visited H key.config v c.hand_in.new.seat.me.0 w lent left c.in-Ok.shown after (place.0, c.in-Ok.ensures.same.2 ∙ place.1) c.release_commit.ensures.done stands
     (ap (λ (h : HeldWorker _ _ _). h.worker) (c.fossil.ensures.others) ∙ ap (λ (h : HeldWorker _ _ _). h.worker) (sym c.of.ensures))
-    (ap (λ (h : HeldWorker _ _ _). h.config) (c.fossil.ensures.others) ∙ ap (λ (h : HeldWorker _ _ _). h.config) (sym c.of.ensures)) in (
+    (ap (λ (h : HeldWorker _ _ _). h.config) (c.fossil.ensures.others) ∙ ap (λ (h : HeldWorker _ _ _). h.config) (sym c.of.ensures)) in
+    let both = subst (λ (h : HeldWorker _ _ _). (r : Visited H key.config v h (Commit w) Done left c.in-Ok.shown after) × ShowsFloor key.config.end c.in-Ok.shown r.visits.at.now) c.of.ensures visited in (
       c.in-Ok.shown,
-      subst (λ (h : HeldWorker _ _ _). Visited H key.config v h (Commit w) Done left c.in-Ok.shown after) c.of.ensures visited,
+      both.0,
+      both.1,
       subst (λ (u : ℕ). IsFloorLeft sim v (Commit u) c.in-Ok.shown) c.requires.worker
           (commit-left H key.config lawful v cell _ t.known k r rows floor c.in-Ok.shown (ap (λ (b : Book). b.is_closed) same ∙ d.2.2) c.floor-floor.ensures
           (handed-is c.batch_of-batch.result (λ x. x) rows (rows_of_commit (simulation_of H k.config) k.worker r.part) d.2.1 (c.batch_of-batch.ensures.rows H r.part r.stands))

@@ -11,7 +11,7 @@ use Rattle.vt_kernel.specs.Held.{HeldWorker, StandsFor}
 use Rattle.vt_board.specs.Calls.{cut_outcome}
 use Rattle.vt_station.specs.Calls.{Acts}
 use Rattle.vt_station.proofs.ActLemmas.{act-cut}
-use Rattle.vt_station.proofs.CallLemmas.{took-board}
+use Rattle.vt_station.proofs.CallLemmas.{took-board, took-place, visited-there}
 use Rattle.vt_station.proofs.RefusalLemmas.{cut-refused}
 use Rattle.vt_station.proofs.station.Station.cut_at.Goals as goal
 
@@ -67,3 +67,12 @@ returns-in-Err-clause-refused g c =
     let r = c.requires.kernel in
     cut-refused sim c.args.seat.now.me.0 c.args.self.now.workers _ t.known r.steps r.part r.led (lawful_of H key.config (g.met.M.Model.start_within m) (g.met.M.Model.forward_within m)) c.in-Err.fault
     (ap (λ w. cut_outcome key.config.end w board) c.requires.worker ∙ d.1)
+
+pub returns-in-Ok-clause-done : goal.returns-in-Ok-clause-done
+returns-in-Ok-clause-done g c =
+    let key = c.args.self.now.table.shared.key in
+    let H = g.M.Model.handlers key.model.value in
+    let t = c.if-not-claim.ensures.claimed refl in
+    let place = took-place (simulation_of H key.config) key.config c.args.seat.now.me c.claim.new.seat.me c.args.self.now.workers c.requires.rests t in
+    visited-there H key.config c.args.seat.now.me.0 c.cut_board.new.seat.me.0 c.of-before.result.value c.of.result.value (Cut c.args.worker) Done c.release_visit.new.seat.me.0
+    c.args.kernel.now c.turn.new.self (place.0, c.in-Ok.ensures.same.2 ∙ place.1) c.of-before.ensures c.of.ensures c.release_visit.ensures.done

@@ -13,9 +13,9 @@ use Rattle.vt_kernel.specs.Held.{HeldWorker, StandsFor}
 use Rattle.vt_kernel.specs.Guards.{held_letters}
 use Rattle.vt_board.specs.Calls.{takes_report}
 use Rattle.vt_board.proofs.CellSteps.{least-ends}
-use Rattle.vt_station.specs.Calls.{Acts, IsReportRefusal}
+use Rattle.vt_station.specs.Calls.{Acts, Visited, IsReportRefusal}
 use Rattle.vt_station.proofs.ActLemmas.{act-report}
-use Rattle.vt_station.proofs.CallLemmas.{took-board}
+use Rattle.vt_station.proofs.CallLemmas.{took-board, took-place, visited-there}
 use Rattle.vt_station.proofs.RefusalLemmas.{report-refused}
 use Rattle.vt_station.proofs.station.Station.report_at.Goals as goal
 
@@ -89,3 +89,14 @@ returns-in-Err-clause-refused g c =
     subst (IsReportRefusal sim c.args.seat.now.me.0) (sym d.2)
     (report-refused sim c.args.seat.now.me.0 c.args.self.now.workers _ t.known r.steps r.part r.led least (v.2 ∙ ap (λ e. report_least e r.part) end)
     (ap (λ w. takes_report key.config.end w least board) c.requires.worker ∙ d.1) ends)
+
+pub returns-in-Ok-clause-done : goal.returns-in-Ok-clause-done
+returns-in-Ok-clause-done g c =
+    let key = c.args.self.now.table.shared.key in
+    let H = g.M.Model.handlers key.model.value in
+    let t = c.if-not-claim.ensures.claimed refl in
+    let place = took-place (simulation_of H key.config) key.config c.args.seat.now.me c.claim.new.seat.me c.args.self.now.workers c.requires.rests t in
+    let v = c.args.seat.now.me.0 in
+    subst (λ (r : Reply). Visited H key.config v c.args.kernel.now (Report c.args.worker) r c.set_floor.new.self v.seen c.release_visit.new.seat.me.0) c.reply_of.ensures
+    (visited-there H key.config v c.report_board.new.seat.me.0 c.of-before.result.value c.of.result.value (Report c.args.worker) c.reply_of.result c.release_visit.new.seat.me.0
+    c.args.kernel.now c.set_floor.new.self (place.0, c.in-Ok.ensures.same.2 ∙ place.1) c.of-before.ensures c.of.ensures c.release_visit.ensures.done)

@@ -1,4 +1,4 @@
-use Rattle.std.proofs.Common.{◌≡◌, ◌∷◌, [], List, sym, ap, subst, ◌∙◌}
+use Rattle.std.proofs.Common.{◌≡◌, ◌∷◌, [], List, sym, ap, subst, ◌∙◌, IfErr}
 use Rattle.atomic_table.specs.Table.{rest}
 use Rattle.vt_key.specs.declared.letter.Mail.{Mail}
 use Rattle.vt_model.specs.Simulation.{simulation_of}
@@ -7,6 +7,7 @@ use Rattle.vt_steps.specs.Cells.{in_inbox}
 use Rattle.vt_kernel.specs.Held.{HeldWorker, AllOwnMail, IsOwnMail, StandsFor}
 use Rattle.vt_station.specs.declared.slot.Slot.TheVariants.{Inbox}
 use Rattle.vt_station.specs.Slots.{held_in}
+use Rattle.vt_station.specs.Calls.{IsTakeRefusal}
 use Rattle.vt_station.proofs.HeldLemmas.{by-result, ok-has, err-has, same-mail, slot-is, slot-right, holds-after, all-none}
 use Rattle.vt_station.proofs.ActLemmas.{act-fetch}
 use Rattle.vt_station.proofs.station.Station.take_letters.Goals as goal
@@ -49,3 +50,13 @@ returns-clause-done g c =
             kept.0,
           ))),
     )
+
+pub returns-clause-refused : goal.returns-clause-refused
+returns-clause-refused g c mails held =
+    let config = c.args.self.now.table.shared.key.config in
+    let m = c.args.seat.now.me in
+    let w = c.args.worker in
+    let k = c.args.kernel.now in
+    let value = c.slot_mut-held.ensures.value in
+    let is : c.in-Inbox.mails.items ≡ mails = same-mail c.in-Inbox.mails.items mails (ap held_in (sym c.in-Inbox.is) ∙ slot-is config m w (in_inbox mails) (in_inbox mails) held c.slot_mut-held.result.now value) in
+    subst (λ (l : List (Mail _)). IfErr c.exchange_mail.result (λ fault. IsTakeRefusal k.arrived k.got l fault)) is c.exchange_mail.ensures.refused
