@@ -1,4 +1,3 @@
 pub mod Options
-pub mod Queue
 pub mod Network
 pub mod NetworkLaws

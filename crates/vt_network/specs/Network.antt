@@ -1,16 +1,17 @@
 -- What the handlers of `Network` give.
-use Rattle.std.specs.Prelude.{ℕ, ◌+◌, ◌-◌, ◌%◌, ◌/◌, ◌^◌, ◌<◌, List, [], ◌∷◌, nat_eq, nat_lt, replicate, Option, Some, None, if◌then◌else◌}
+use Rattle.std.specs.Prelude.{ℕ, ◌+◌, ◌-◌, ◌%◌, ◌/◌, ◌^◌, ◌<◌, List, [], ◌∷◌, nat_eq, nat_lt, Option, Some, None, is_none, if◌then◌else◌}
 use Rattle.vt_model.specs.Handler.{Handlers, StartResult, ForwardResult}
 use Rattle.vt_model.specs.Sends.{SendRequest, RecordRequest}
 use Rattle.vt_stream.specs.Drawn.{scaled}
-use Rattle.vt_network.specs.declared.queue.Packet.{Packet}
-use Rattle.vt_network.specs.declared.queue.TheConstants.{ROOM, BLANK}
+use Rattle.vt_parts.specs.declared.ring.Ring.{Ring}
+use Rattle.vt_parts.specs.Ring.{IsRing, empty_ring, is_empty, is_full, pushed, push_answer, unpushed, first, popped, unpopped}
+use Rattle.vt_network.specs.declared.packet.Packet.{Packet}
+use Rattle.vt_network.specs.declared.packet.TheConstants.{ROOM, BLANK}
 use Rattle.vt_network.specs.declared.network.Network.{Network}
 use Rattle.vt_network.specs.declared.network.Router.{Router}
 use Rattle.vt_network.specs.declared.network.NetworkEvent.{NetworkEvent}
 use Rattle.vt_network.specs.declared.network.NetworkEvent.TheVariants.{Generate, Arrive, Served}
 use Rattle.vt_network.specs.declared.network.TheConstants.{DELIVERED, DROPPED}
-use Rattle.vt_network.specs.Queue.{IsQueue, overwritten, pushed, unpushed, first, popped, unpopped}
 
 -- how far ahead a router is
 abbrev pub ahead : ℕ → ℕ → ℕ → ℕ
@@ -56,17 +57,13 @@ forwarded m lps lp p = record { dest = next_hop m lps lp p.dest; delay = m.link;
 abbrev pub with_delivery : Router → Router
 with_delivery s = record s { delivered = one_more s.delivered }
 
--- the packet is lost
-abbrev pub with_drop : Router → Router
-with_drop s = record s { dropped = one_more s.dropped }
+-- one packet more is lost where the buffer is full
+abbrev pub lost_with : Router → ℕ
+lost_with s = if is_full s.queue then one_more s.dropped else s.dropped
 
--- the packet waits
-abbrev pub with_packet : Router → Packet → Router
-with_packet s p = record s { queue = pushed s.queue p }
-
--- what a packet that isn't here yet does to a router
+-- the packet waits, or it is lost
 abbrev pub taken : Router → Packet → Router
-taken s p = if nat_eq s.queue.len ROOM then with_drop s else with_packet s p
+taken s p = record s { queue = pushed s.queue p; dropped = lost_with s }
 
 -- what a packet that comes in does to a router
 abbrev pub arrived : ℕ → Packet → Router → Router
@@ -74,12 +71,12 @@ arrived lp p s = if nat_eq p.dest lp then with_delivery s else taken s p
 
 -- what is kept then
 abbrev pub arrived_kept : ℕ → Packet → Router → Option Packet
-arrived_kept lp p s = if nat_eq p.dest lp then None else (if nat_eq s.queue.len ROOM then None else Some (overwritten s.queue))
+arrived_kept lp p s = if nat_eq p.dest lp then None else push_answer s.queue
 
 -- what is sent then
 abbrev pub arrived_sends : Network → ℕ → Packet → Router → List (SendRequest NetworkEvent)
 arrived_sends m lp p s =
-    if nat_eq p.dest lp then [] else (if nat_eq s.queue.len ROOM then [] else (if nat_eq s.queue.len 0 then (served m lp ∷ []) else []))
+    if nat_eq p.dest lp then [] else (if is_full s.queue then [] else (if is_empty s.queue then (served m lp ∷ []) else []))
 
 -- the record of a packet that has reached its destination: how long it was on its way
 abbrev pub delivery : ℕ → Packet → RecordRequest
@@ -92,23 +89,24 @@ loss p = record { kind = DROPPED; value = p.source }
 -- what is recorded then
 abbrev pub arrived_records : ℕ → ℕ → Packet → Router → List RecordRequest
 arrived_records lp now p s =
-    if nat_eq p.dest lp then (delivery now p ∷ []) else (if nat_eq s.queue.len ROOM then (loss p ∷ []) else [])
+    if nat_eq p.dest lp then (delivery now p ∷ []) else (if is_full s.queue then (loss p ∷ []) else [])
 
--- the first packet has gone on
+-- the first packet has gone on, if there was one
 abbrev pub gone_on : Router → Router
-gone_on s = if nat_eq s.queue.len 0 then s else record s { queue = popped s.queue }
-
--- what is kept then
-abbrev pub gone_kept : Router → Option Packet
-gone_kept s = if nat_eq s.queue.len 0 then None else Some (first s.queue)
+gone_on s = record s { queue = popped s.queue }
 
 -- the router goes on with the next packet, if there is one
-abbrev pub goes_on : Network → ℕ → ℕ → List (SendRequest NetworkEvent)
-goes_on m lp len = if nat_eq len 0 then [] else served m lp ∷ []
+abbrev pub goes_on : Network → ℕ → Ring Packet ROOM → List (SendRequest NetworkEvent)
+goes_on m lp q = if is_empty q then [] else served m lp ∷ []
 
--- what is sent then
+-- what is sent with the first packet, if there is one, where this buffer is left
+abbrev pub sent_on : Network → ℕ → ℕ → Ring Packet ROOM → Option Packet → List (SendRequest NetworkEvent)
+sent_on m lps lp q None = []
+sent_on m lps lp q (Some p) = forwarded m lps lp p ∷ goes_on m lp q
+
+-- what is sent when the first packet goes on
 abbrev pub gone_sends : Network → ℕ → ℕ → Router → List (SendRequest NetworkEvent)
-gone_sends m lps lp s = if nat_eq s.queue.len 0 then [] else forwarded m lps lp (first s.queue) ∷ goes_on m lp (s.queue.len - 1)
+gone_sends m lps lp s = sent_on m lps lp (popped s.queue) (first s.queue)
 
 -- a router after an event
 abbrev pub after : ℕ → NetworkEvent → Router → Router
@@ -120,7 +118,7 @@ after lp Served s = gone_on s
 abbrev pub kept_by : ℕ → NetworkEvent → Router → Option Packet
 kept_by lp Generate s = None
 kept_by lp (Arrive p) s = arrived_kept lp p s
-kept_by lp Served s = gone_kept s
+kept_by lp Served s = first s.queue
 
 -- how many words are drawn
 abbrev pub drawn_by : NetworkEvent → ℕ
@@ -146,7 +144,7 @@ records_by lp now Served s = []
 
 -- an empty router
 abbrev pub empty : Router
-empty = record { queue = record { items = replicate ROOM BLANK; head = 0; len = 0 }; made = 0; delivered = 0; dropped = 0 }
+empty = record { queue = empty_ring BLANK; made = 0; delivered = 0; dropped = 0 }
 
 -- at the start a host draws when it makes its first packet
 abbrev pub network_start : Network → ℕ → (ℕ → ℕ) → StartResult Router NetworkEvent
@@ -165,19 +163,13 @@ network_forward m lps lp now e s words = record {
 
 -- a router before a packet was taken or lost
 abbrev pub untaken : Option Packet → Router → Router
-untaken None s = record s { dropped = one_fewer s.dropped }
-untaken (Some before) s = record s { queue = unpushed s.queue before }
-
--- a router before its first packet went on, if one did
-abbrev pub ungone : Option Packet → Router → Router
-ungone None s = s
-ungone (Some p) s = record s { queue = unpopped s.queue }
+untaken kept s = record s { queue = unpushed s.queue kept; dropped = if is_none kept then one_fewer s.dropped else s.dropped }
 
 -- a router before an event
 abbrev pub network_reverse : ℕ → NetworkEvent → Router → Option Packet → Router
 network_reverse lp Generate s kept = record s { made = one_fewer s.made }
 network_reverse lp (Arrive p) s kept = if nat_eq p.dest lp then record s { delivered = one_fewer s.delivered } else untaken kept s
-network_reverse lp Served s kept = ungone kept s
+network_reverse lp Served s kept = record s { queue = unpopped s.queue kept }
 
 -- the four handlers
 abbrev pub network_handlers : Network → Handlers Router NetworkEvent (Option Packet)
@@ -188,9 +180,9 @@ network_handlers m = record {
   finish = λ lp s. s.dropped;
 }
 
--- a router's queue is a queue, and its counts are 64-bit numbers
+-- a router's buffer is a ring, and its counts are 64-bit numbers
 pub record IsRouter (s : Router) : Type 0 where
-  pub queue : IsQueue s.queue
+  pub queue : IsRing s.queue
   pub made : s.made < 2 ^ 64
   pub delivered : s.delivered < 2 ^ 64
   pub dropped : s.dropped < 2 ^ 64

@@ -2,7 +2,7 @@
 #![tactic(auto)]
 
 mod network;
-mod queue;
+mod packet;
 
 pub use network::{DELIVERED, DROPPED, MAX_TICKS, Network, NetworkEvent, Router};
-pub use queue::{Packet, Queue, ROOM};
+pub use packet::{Buffer, Packet, ROOM};

@@ -6,9 +6,10 @@ ghost use Rattle.vt_key.specs.Faults.{option_named};
 ghost use Rattle.vt_key.specs.declared.limits.TheConstants.{MAX_PROCESSES};
 ghost use Rattle.vt_model.specs.declared.limits.TheConstants.{MAX_SENDS, MAX_RECORDS};
 ghost use Rattle.vt_model.specs.Sends.{with_requests};
+ghost use Rattle.vt_parts.specs.Ring.{first};
 ghost use Rattle.vt_network.specs.Options.{first_bad_option};
 
-use crate::queue::{BLANK, Packet, Queue, ROOM};
+use crate::packet::{BLANK, Buffer, Packet, ROOM};
 use vt_key::{Fault, MAX_PROCESSES, Time};
 use vt_model::{Bits, Draws, Model as EventModel, Out};
 
@@ -36,7 +37,7 @@ pub enum NetworkEvent {
 #[derive(Debug, Clone, Copy, PartialEq, Eq)]
 pub struct Router {
     /// The packets that wait, and the one that is served, which is the first.
-    pub queue: Queue,
+    pub queue: Buffer,
     /// How many packets its host has made.
     pub made: u64,
     /// How many packets have reached its host.
@@ -71,7 +72,7 @@ pub struct Network {
 }
 
 impl Network {
-    ghost use Rattle.vt_network.specs.Network.{step, next_hop, one_more, made_sends, arrived, arrived_kept, arrived_sends, arrived_records, gone_on, gone_kept, gone_sends};
+    ghost use Rattle.vt_network.specs.Network.{step, next_hop, one_more, made_sends, arrived, arrived_kept, arrived_sends, arrived_records, gone_on, gone_sends};
 
     /// The network whose chords lead `columns` (1 to 65,536) routers on, with up to `gap` ticks between two packets of a host,
     /// `service` ticks of work for a packet and `link` ticks on a link (each 1 to 1,000,000).
@@ -176,15 +177,13 @@ impl Network {
             out.emit(DELIVERED, now.wrapping_sub(packet.born));
             return None;
         }
-        if router.queue.len == ROOM {
+        if router.queue.is_full() {
             router.dropped = router.dropped.wrapping_add(1);
             out.emit(DROPPED, u64::from(packet.source));
-            return None;
-        }
-        if router.queue.len == 0 {
+        } else if router.queue.is_empty() {
             out.send(lp, u64::from(self.service), NetworkEvent::Served);
         }
-        Some(router.queue.push(packet))
+        router.queue.push(packet)
     }
 
     #[tactic(auto, using(vt_model::proofs::RequestLemmas::no_requests, vt_model::proofs::RequestLemmas::sent_after))]
@@ -193,17 +192,14 @@ impl Network {
         requires known { lp < out.old.lps }
         requires few { out.old.lps ≤ MAX_PROCESSES }
         requires room { out.old.number + 1 < out.old.first + MAX_SENDS }
-        ensures kept { result ≡ gone_kept router.old }
+        ensures kept { result ≡ first router.old.queue }
         ensures router { router.new ≡ gone_on router.old }
         ensures out { out.new ≡ with_requests out.old (gone_sends self.now out.old.lps lp router.old) [] }
     {
-        if router.queue.len == 0 {
-            return None;
-        }
-        let packet = router.queue.pop();
+        let packet = router.queue.pop()?;
         let next = self.next_hop(lp, packet.dest, out.lps());
         out.send(next, u64::from(self.link), NetworkEvent::Arrive(packet));
-        if router.queue.len != 0 {
+        if !router.queue.is_empty() {
             out.send(lp, u64::from(self.service), NetworkEvent::Served);
         }
         Some(packet)
@@ -229,11 +225,7 @@ impl EventModel for Network {
         let first = 1 + draws.below(u64::from(self.gap));
         out.send(lp, first, NetworkEvent::Generate);
         Router {
-            queue: Queue {
-                items: [BLANK; ROOM],
-                head: 0,
-                len: 0,
-            },
+            queue: Buffer::new(BLANK),
             made: 0,
             delivered: 0,
             dropped: 0,
@@ -276,17 +268,14 @@ impl EventModel for Network {
             NetworkEvent::Arrive(packet) => {
                 if packet.dest == lp {
                     state.delivered = state.delivered.wrapping_sub(1);
-                } else if let Some(before) = kept {
-                    state.queue.unpush(before);
                 } else {
-                    state.dropped = state.dropped.wrapping_sub(1);
+                    if kept.is_none() {
+                        state.dropped = state.dropped.wrapping_sub(1);
+                    }
+                    state.queue.unpush(kept);
                 }
             }
-            NetworkEvent::Served => {
-                if kept.is_some() {
-                    state.queue.unpop();
-                }
-            }
+            NetworkEvent::Served => state.queue.unpop(kept),
         }
     }
 
