@@ -24,7 +24,7 @@ pub use drawing::Draws;
 pub use flags::Bits;
 pub use handler::Model;
 pub use limits::{MAX_DRAWS, MAX_RECORDS, MAX_SENDS};
-pub use process::{Executed, Process, Undo};
+pub use process::{Process, Undo};
 pub use rows::{Record, Row};
 pub use sending::{Out, Sent};
 pub use settings::Config;

@@ -2,14 +2,12 @@
 //! rollback have in common.
 
 ghost use Rattle.std.specs.Prelude.{◌≡◌, ◌+◌, ◌-◌, ◌%◌, ◌<◌, ◌≤◌, ◌^◌, []};
-ghost use Rattle.vt_key.specs.Times.{TimeBefore};
 ghost use Rattle.vt_stream.specs.Words.{moved};
 ghost use Rattle.vt_model.specs.Handler.{IsFresh};
 ghost use Rattle.vt_model.specs.Simulation.{simulation_of, IsFiring};
 ghost use Rattle.vt_model.specs.Process.{triple_at, IsProcessStream};
 
 use crate::{Bits, Config, Draws, MAX_DRAWS, MAX_SENDS, Model as EventModel, Out, Sent};
-use vt_key::MAX_COUNT;
 use vt_stream::LpStream;
 
 /// A logical process: its state, its next send number and its random words. For simulators.
@@ -21,19 +19,6 @@ pub struct Process<M: EventModel> {
     pub number: u64,
     /// The model's state of this process.
     pub state: M::State,
-}
-
-/// What the execution of an event leaves beside the new state: what undoes it, and what it sent and recorded.
-#[derive(Drop)]
-pub struct Executed<M: EventModel> {
-    /// The flags that `forward` set.
-    pub bits: Bits,
-    /// What `forward` kept.
-    pub kept: M::Kept,
-    /// How many words it drew.
-    pub drawn: u32,
-    /// What it sent and recorded.
-    pub out: Out<M::Payload>,
 }
 
 /// What undoes an executed event, beside its send number before.
@@ -68,35 +53,11 @@ impl<M: EventModel> Process<M> {
         }
     }
 
-    /// Executes an event for this process by the model's `forward`.
+    /// Executes an event for this process by the model's `forward`. What it sends and records goes into `out`, which must be
+    /// as [`Out::new`] gives it for the event's receiver and time and for the process's send number.
     ///
-    /// The event's receiver is below `config.lps`, its time below `config.end`, the send number at most 2^63, and the
-    /// stream is the receiver's. The send number may be above 2^63 afterwards: the caller undoes the event then.
-    pub fn execute(&mut self, model: &M, config: Config, event: Sent<M::Payload>) -> Executed<M>
-        requires known { event.dest < config.lps }
-        requires early { TimeBefore event.key.time config.end }
-        requires numbered { self.old.number ≤ MAX_COUNT }
-        requires stream { IsProcessStream config.seed event.dest self.old.stream }
-        ensures number { self.new.number ≡ result.out.number }
-        ensures fires { IsFiring ((simulation_of (M.handlers model.now) config).fire event.dest (triple_at self.old.state self.old.number self.old.stream) event) event.key self.new.state self.new.stream result.out }
-        ensures stream { self.new.stream ≡ moved self.old.stream result.drawn }
-        ensures few { result.drawn ≤ MAX_DRAWS }
-        ensures undoes { M.IsState model.now self.old.state → (M.handlers model.now).reverse event.dest event.key.time event.payload self.new.state result.bits result.kept ≡ self.old.state }
-        ensures state { M.IsState model.now self.old.state → M.IsState model.now self.new.state }
-        ensures in_range { self.old.stream.place < 2 ^ 64 }
-    {
-        let mut out = Out::new(config, event.dest, event.key.time, self.number);
-        let Undo { bits, kept, drawn } = self.execute_into(model, config, event, &mut out);
-        Executed {
-            bits,
-            kept,
-            drawn,
-            out,
-        }
-    }
-
-    /// Executes an event as [`Process::execute`] does, into an `out` of the caller. It must be as [`Out::new`] gives it for
-    /// the event's receiver and time and for the process's send number, with nothing put into it since.
+    /// The event's receiver is below `config.lps`, and the stream is the receiver's. The send number may be above 2^63
+    /// afterwards: the caller undoes the event then.
     pub fn execute_into(
         &mut self,
         model: &M,

@@ -1,5 +1,5 @@
 -- What a histogram's calls do.
-use Rattle.std.specs.Prelude.{◌≡◌, ℕ, ◌+◌, ◌-◌, ◌%◌, ◌/◌, ◌^◌, ◌<◌, max, length, replicate, All, slice_index, slice_set, nat_lt, if◌then◌else◌}
+use Rattle.std.specs.Prelude.{◌≡◌, ℕ, ◌+◌, ◌-◌, ◌%◌, ◌/◌, ◌^◌, ◌<◌, max, length, replicate, All, slice_index, slice_index_or, slice_set, nat_lt, if◌then◌else◌}
 use Rattle.std.specs.List.{sum}
 use Rattle.vt_parts.specs.declared.histogram.Histogram.{Histogram}
 
@@ -29,6 +29,14 @@ module _ {N : ℕ} where
   -- the bin of a value
   abbrev pub bin_of : Histogram N → ℕ → ℕ
   bin_of h value = value / max h.width 1
+
+  -- how many values fell into a bin: none where there is no such bin
+  abbrev pub count_in : Histogram N → ℕ → ℕ
+  count_in h bin = slice_index_or h.bins bin 0
+
+  -- how many values lay beyond all bins
+  abbrev pub count_beyond : Histogram N → ℕ
+  count_beyond h = h.beyond
 
   -- with another count in one bin
   abbrev pub with_bin : Histogram N → ℕ → (ℕ → ℕ) → Histogram N

@@ -17,6 +17,10 @@ module _ {T : Type 0} {N : ℕ} where
   abbrev pub held : Ring T N → List T
   held r = take r.len (drop r.head r.items ++ take r.head r.items)
 
+  -- how many items there are
+  abbrev pub item_count : Ring T N → ℕ
+  item_count r = r.len
+
   -- an empty ring
   abbrev pub empty_ring : T → Ring T N
   empty_ring blank = record { items = replicate N blank; head = 0; len = 0 }

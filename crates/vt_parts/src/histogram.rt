@@ -1,7 +1,7 @@
 //! Counts of values by their size.
 
-ghost use Rattle.std.specs.Prelude.{◌≡◌, ◌+◌, ◌%◌, ◌^◌, ◌<◌, ℕ, slice_index_or};
-ghost use Rattle.vt_parts.specs.Histogram.{IsHistogram, empty_histogram, counted, uncounted, total};
+ghost use Rattle.std.specs.Prelude.{◌≡◌, ◌+◌, ◌%◌, ◌^◌, ◌<◌, ℕ};
+ghost use Rattle.vt_parts.specs.Histogram.{IsHistogram, empty_histogram, counted, uncounted, total, count_in, count_beyond};
 
 /// How many values fell into each of `N` bins of one width, and how many lay beyond them. Its counts are modulo 2^64.
 #[derive(Debug, Clone, Copy, PartialEq, Eq)]
@@ -49,14 +49,14 @@ impl<const N: usize> Histogram<N> {
 
     /// How many values fell into this bin. It is 0 where there is no such bin.
     pub fn bin(&self, bin: usize) -> u64
-        ensures { result ≡ slice_index_or self.now.bins bin 0 }
+        ensures { result ≡ count_in self.now bin }
     {
         self.bins.get(bin).copied().unwrap_or(0)
     }
 
     /// How many values lay beyond all bins.
     pub fn beyond(&self) -> u64
-        ensures { result ≡ self.now.beyond }
+        ensures { result ≡ count_beyond self.now }
     {
         self.beyond
     }

@@ -1,7 +1,7 @@
 //! A finite first-in-first-out queue that can go back.
 
 ghost use Rattle.std.specs.Prelude.{◌≡◌, ◌<◌, [], ◌∷◌, ◌++◌, length, drop, slice_get, is_none, if◌then◌else◌};
-ghost use Rattle.vt_parts.specs.Ring.{IsRing, held, empty_ring, place, written, is_empty, is_full, pushed, push_answer, unpushed, first, popped, unpopped};
+ghost use Rattle.vt_parts.specs.Ring.{IsRing, held, item_count, empty_ring, place, written, is_empty, is_full, pushed, push_answer, unpushed, first, popped, unpopped};
 
 /// A first-in-first-out queue of at most `N` items, of fixed size. Each call that changes it has an inverse, which takes what the
 /// call answered. Two rings are equal where their items stand in the same places and the other places hold the same values.
@@ -78,7 +78,7 @@ impl<T: Copy, const N: usize> Ring<T, N> {
 
     /// How many items there are.
     pub fn len(&self) -> usize
-        ensures { result ≡ self.now.len }
+        ensures { result ≡ item_count self.now }
     {
         self.len
     }
@@ -135,7 +135,7 @@ impl<T: Copy, const N: usize> Ring<T, N> {
 pub fn rings_are_queues<T: Copy, const N: usize>()
     ensures empty { (blank : T) → held (empty_ring {N = N} blank) ≡ [] }
     ensures begins { (blank : T) → 0 < N → IsRing (empty_ring {N = N} blank) }
-    ensures count { (r : Ring T N) → IsRing r → length (held r) ≡ r.len }
+    ensures count { (r : Ring T N) → IsRing r → length (held r) ≡ item_count r }
     ensures pushed { (r : Ring T N) (item : T) → IsRing r → IsRing (pushed r item) × (held (pushed r item) ≡ held r ++ (if is_full r then [] else item ∷ [])) }
     ensures first { (r : Ring T N) → IsRing r → first r ≡ slice_get (held r) 0 }
     ensures popped { (r : Ring T N) → IsRing r → IsRing (popped r) × (held (popped r) ≡ drop 1 (held r)) }
