@@ -1,34 +1,31 @@
 //! The book of committed records.
 
-use crate::calls::{NONE, Subject, Told, sum_of_records, try_calls};
+use crate::calls::{NONE, Subject, Told, sum_of_records, time_told, try_calls};
 use std::alloc::Global;
 use std::io;
 use vt_book::Book;
-use vt_key::{Fault, Key, Time};
+use vt_key::{Fault, Key, When};
 use vt_model::{Record, Row};
 
 // A book of two workers, and how far each has handed in.
 #[derive(Drop)]
 struct Shelf {
     book: Book,
-    floors: [Time; 2],
+    floors: [u64; 2],
 }
 
 #[derive(Clone, Copy)]
 enum Call {
-    // Rows of a worker, two or one, at the time before its new floor.
-    Hand(bool, Time),
+    // Rows of a worker, two or one, at the tick before its new floor, which is this tick.
+    Hand(bool, u64),
     Records,
 }
 
-fn row(time: Time, number: u64) -> Row {
-    let key = Key {
-        time,
-        source: 0,
-        number,
-    };
+fn row(time: When, number: u64) -> Row {
+    let key = Key::new(time, 0, number);
     let rec = Record {
-        time,
+        time: time.ticks(),
+        priority: time.priority(),
         lp: 0,
         kind: 1,
         value: number,
@@ -44,11 +41,11 @@ fn records_told(book: &Book, alloc: Global) -> Option<u64> {
 }
 
 // Whether a hand-in below this floor is still refused as not lawful. It hands in nothing.
-fn is_refused_below(book: &mut Book, worker: u32, floor: Time) -> u64 {
+fn is_refused_below(book: &mut Book, worker: u32, floor: u64) -> u64 {
     let Some(below) = floor.checked_sub(1) else {
         return 1;
     };
-    (book.hand(worker, &[], below) == Err(Fault::NotLawful)) as u64
+    (book.hand(worker, &[], When::tick(below)) == Err(Fault::NotLawful)) as u64
 }
 
 impl Subject for Shelf {
@@ -63,7 +60,7 @@ impl Subject for Shelf {
 
     fn told(&mut self, alloc: Global) -> Told {
         let mut told = [0; 24];
-        told[0] = self.book.floor();
+        told[0] = time_told(self.book.floor());
         told[1] = self.book.is_closed() as u64;
         told[2] = match records_told(&self.book, alloc) {
             Some(records) => records,
@@ -78,9 +75,9 @@ impl Subject for Shelf {
         match call {
             Call::Hand(is_second, floor) => {
                 let at = is_second as usize;
-                let time = floor.saturating_sub(1);
-                self.book
-                    .hand(at as u32, &[row(time, 1), row(time, 0)], floor)?;
+                let time = When::tick(floor.saturating_sub(1));
+                let rows = [row(time, 1), row(time, 0)];
+                self.book.hand(at as u32, &rows, When::tick(floor))?;
                 self.floors[at] = floor;
                 Ok(())
             }
@@ -102,7 +99,7 @@ const CALLS: [Call; 8] = [
 
 /// Two workers hand in rows, each in its turn, up to the end.
 pub(crate) fn hand_ins(rt: &HostRuntime) -> io::Result<()> {
-    let book = Book::new(rt.alloc(), 2, 10);
+    let book = Book::new(rt.alloc(), 2, When::tick(10));
     let floors = [0; 2];
     try_calls(rt, &mut Shelf { book, floors }, &CALLS)
 }

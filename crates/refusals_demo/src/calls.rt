@@ -2,7 +2,7 @@
 
 use std::alloc::Global;
 use std::io;
-use vt_key::{Event, Fault, Rank};
+use vt_key::{Event, Fault, Rank, When};
 use vt_model::{Record, Row};
 
 /// What a subject tells of itself, as numbers. The places that it doesn't need stay 0.
@@ -84,7 +84,7 @@ pub(crate) fn tell_answer(
 pub(crate) fn sum_of_records(records: &[Record]) -> u64 {
     let mut sum = 1u64;
     for record in records {
-        sum = mixed(sum, record.time);
+        sum = mixed(sum, time_told(record.when()));
         sum = mixed(sum, record.lp as u64);
         sum = mixed(sum, record.value);
     }
@@ -95,7 +95,7 @@ pub(crate) fn sum_of_records(records: &[Record]) -> u64 {
 pub(crate) fn sum_of_rows(rows: &[Row]) -> u64 {
     let mut sum = 1u64;
     for row in rows {
-        sum = mixed(sum, row.key.time);
+        sum = mixed(sum, time_told(row.key.when()));
         sum = mixed(sum, row.rec.value);
     }
     sum
@@ -119,12 +119,20 @@ pub(crate) fn sum_of_numbers(numbers: &[u64]) -> u64 {
     sum
 }
 
+/// A number for a time.
+pub(crate) fn time_told(time: When) -> u64 {
+    mixed(time.ticks(), u64::from(time.priority()))
+}
+
 /// A number for a rank that may be there.
 pub(crate) fn number_of(rank: Option<Rank>) -> u64 {
     let Some(Rank { key, stamp }) = rank else {
         return NONE;
     };
-    let by_key = mixed(mixed(key.time, u64::from(key.source)), key.number);
+    let by_key = mixed(
+        mixed(time_told(key.when()), u64::from(key.source())),
+        key.number(),
+    );
     mixed(mixed(by_key, u64::from(stamp.worker)), stamp.serial)
 }
 

@@ -5,12 +5,12 @@ ghost use Rattle.vt_kernel.specs.Held.{AllOwnMail};
 
 use crate::calls::{
     NONE, Subject, Told, is_refused, mixed, sum_of_events, sum_of_rows, tell_answer, tell_refused,
-    try_call, try_calls,
+    time_told, try_call, try_calls,
 };
 use std::alloc::Global;
 use std::{io, mem};
 use vt_kernel::Kernel;
-use vt_key::{Colour, Fault, Mail, Stamp};
+use vt_key::{Colour, Fault, Mail, Stamp, When};
 use vt_model::Config;
 use vt_models::{Hop, Token};
 
@@ -35,13 +35,13 @@ pub(crate) fn told_of(kernel: &Kernel<Hop>, p: u32, alloc: Global) -> Told {
     told[1] = kernel.outbox_len() as u64;
     told[2] = kernel.arrived_len() as u64;
     told[3] = (kernel.colour() == Colour::Red) as u64;
-    told[4] = kernel.red_minimum();
-    told[5] = kernel.floor();
+    told[4] = time_told(kernel.red_minimum());
+    told[5] = time_told(kernel.floor());
     told[6] = kernel.sent(Colour::White);
     told[7] = kernel.sent(Colour::Red);
     told[8] = kernel.got(Colour::White);
     told[9] = kernel.got(Colour::Red);
-    told[10] = kernel.least();
+    told[10] = time_told(kernel.least());
     told[11] = kernel.state(p).copied().unwrap_or(NONE);
     told[12] = kernel.number(p).unwrap_or(NONE);
     told[13] = kernel.pending_len(p).unwrap_or(0) as u64;
@@ -183,7 +183,7 @@ impl Subject for Pair {
             Call::Undo => self.second.kernel.undo(&self.model, 1),
             Call::Cancel => self.first.kernel.cancel(0, OLD),
             Call::SetFloor(is_second) => {
-                self.worker(is_second).kernel.set_floor(10);
+                self.worker(is_second).kernel.set_floor(When::tick(10));
                 Ok(())
             }
             Call::Rows(is_second) => self.worker(is_second).kernel.rows(alloc).map(|_| ()),

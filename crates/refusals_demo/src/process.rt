@@ -4,11 +4,11 @@ ghost use Rattle.std.specs.Prelude.{◌≡◌};
 
 use crate::calls::{
     NONE, Subject, Told, is_refused, number_of, sum_of_events, sum_of_rows, tell_answer,
-    tell_refused, try_calls,
+    tell_refused, time_told, try_calls,
 };
 use std::alloc::Global;
 use std::io;
-use vt_key::{Fault, Letter, Time};
+use vt_key::{Fault, Letter, When};
 use vt_list::List;
 use vt_lp::Lp;
 use vt_model::{Config, Row};
@@ -23,7 +23,7 @@ struct Stage {
     outbox: List<Letter<Token>>,
     rows: Vec<Row>,
     lp: u32,
-    end: Time,
+    end: u64,
     ghost here: { process.lp ≡ lp },
     ghost until: { process.config.end ≡ end },
 }
@@ -43,7 +43,7 @@ impl Stage {
             return Err(Fault::NotLawful);
         };
         let event = letter.get().event;
-        if event.dest != self.lp || event.rank.key.time >= self.end {
+        if event.dest != self.lp || event.rank.key.when() >= When::tick(self.end) {
             return Err(Fault::NotLawful);
         }
         match self.process.accept(letter) {
@@ -80,7 +80,7 @@ impl Subject for Stage {
         told[3] = self.process.past_len() as u64;
         told[4] = self.process.pending_len() as u64;
         told[5] = self.process.waiting_len() as u64;
-        told[6] = self.process.least();
+        told[6] = time_told(self.process.least());
         told[7] = self.serial;
         told[8] = self.outbox.len() as u64;
         told[9] = self.rows.len() as u64;
@@ -103,7 +103,7 @@ impl Subject for Stage {
                 self.process
                     .execute(alloc, &self.model, &mut self.serial, &mut self.outbox)
             }
-            Call::Ripe => self.process.ripe(self.end, &mut self.rows),
+            Call::Ripe => self.process.ripe(When::tick(self.end), &mut self.rows),
             Call::Past => self.process.past_events(alloc).map(|_| ()),
         }
     }

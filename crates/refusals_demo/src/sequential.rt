@@ -6,7 +6,7 @@ use crate::calls::{
 };
 use std::alloc::Global;
 use std::io;
-use vt_key::Fault;
+use vt_key::{Fault, When};
 use vt_model::Config;
 use vt_models::Hop;
 use vt_seq::Sequential;
@@ -41,14 +41,14 @@ impl<'m> Subject for Run<'m> {
     fn make(&mut self, alloc: Global, call: Call) -> Result<(), Fault> {
         match call {
             Call::Step => self.run.step().map(|_| ()),
-            Call::RecordsBelow => self.run.records_below(alloc, 10).map(|_| ()),
+            Call::RecordsBelow => self.run.records_below(alloc, When::tick(10)).map(|_| ()),
             Call::Finals => self.run.finals(alloc).map(|_| ()),
         }
     }
 }
 
 fn records_told(run: &Sequential<'_, Hop>, alloc: Global) -> Option<u64> {
-    match run.records_below(alloc, 10) {
+    match run.records_below(alloc, When::tick(10)) {
         Ok(records) => Some(sum_of_records(&records)),
         Err(_) => None,
     }

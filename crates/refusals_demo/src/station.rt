@@ -48,7 +48,10 @@ fn make(worker: &mut Worker<'_, Hop>, step: Step) -> Result<(), Fault> {
         Step::Send(_, v) => worker.post(v),
         Step::Fetch(_) => worker.fetch(),
         Step::Cut(_) => worker.cut(),
-        Step::Report(_) => worker.report().map(|_| ()),
+        Step::Report(_) => match worker.report() {
+            Ok(_) => Ok(()),
+            Err(fault) => Err(fault),
+        },
         Step::Commit(_) => worker.commit(),
         Step::Close => worker.close(),
     }

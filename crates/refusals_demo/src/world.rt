@@ -2,7 +2,7 @@
 
 use crate::calls::{
     NONE, Subject, Told, is_refused, sum_of_events, sum_of_numbers, sum_of_records, tell_answer,
-    tell_refused, try_call, try_calls,
+    tell_refused, time_told, try_call, try_calls,
 };
 use std::alloc::Global;
 use std::io;
@@ -43,7 +43,10 @@ impl<'m> Subject for Drive<'m> {
 
     fn make(&mut self, alloc: Global, call: Call) -> Result<(), Fault> {
         match call {
-            Call::Step(step) => self.world.step(alloc, &step).map(|_| ()),
+            Call::Step(step) => match self.world.step(alloc, &step) {
+                Ok(_) => Ok(()),
+                Err(fault) => Err(fault),
+            },
             Call::Past => self.world.past(alloc, 0).map(|_| ()),
             Call::Records => self.world.records(alloc).map(|_| ()),
             Call::Finals => self.world.finals(alloc).map(|_| ()),
@@ -83,9 +86,9 @@ fn past_or_again(world: &World<'_, Hop>, alloc: Global, lp: u32) -> u64 {
 
 fn told(world: &World<'_, Hop>, alloc: Global) -> Told {
     let mut told = [0; 24];
-    told[0] = world.announced();
-    told[1] = world.floor();
-    told[2] = world.least();
+    told[0] = time_told(world.announced());
+    told[1] = time_told(world.floor());
+    told[2] = time_told(world.least());
     told[3] = world.is_closed() as u64;
     told[4] = past_or_again(world, alloc, 0);
     told[5] = past_or_again(world, alloc, 1);

@@ -3,7 +3,7 @@
 #![tactic(auto)]
 
 use std::alloc::Global;
-use vt_key::{Fault, Stamp, Time};
+use vt_key::{Fault, Stamp};
 use vt_model::Config;
 use vt_models::Hop;
 use vt_steps::Step;
@@ -16,7 +16,7 @@ const LPS: u32 = 4;
 const WORKERS: u32 = 2;
 
 // The end of the run, in ticks.
-const END: Time = 12;
+const END: u64 = 12;
 
 // The second worker is served in each round that this divides.
 const SLOW: u64 = 3;

@@ -5,7 +5,6 @@
 #[cfg(test)]
 mod tests;
 
-use vt_key::Time;
 use vt_model::Config;
 use vt_seq::Sequential;
 use vt_text::print_records;
@@ -30,7 +29,7 @@ const TRAVEL: u32 = 5;
 const TURNING: u32 = 25;
 
 // The end of the run, in ticks.
-const END: Time = 100;
+const END: u64 = 100;
 
 // The seed of the run's random words.
 const SEED: u64 = 1;

@@ -1,9 +1,10 @@
 //! Runs of the traffic model through public calls. Expected values are worked out by hand, or by another program: a short
 //! one in Python, with its own random words, that was written from the rules of the model.
 
+use std::process::Abort;
 use std::rt::{self, HostRuntime};
 use std::test::Fail;
-use vt_key::{Fault, MAX_COUNT, MAX_END};
+use vt_key::{Fault, MAX_COUNT, MAX_END, When};
 use vt_model::{Bits, Config, Draws, Model as EventModel, Out, Record, Sent};
 use vt_seq::Sequential;
 use vt_stream::LpStream;
@@ -12,6 +13,7 @@ use vt_traffic::{Junction, JunctionEvent, PASSED, Traffic, WAITING};
 fn record(time: u64, lp: u32, kind: u32, value: u64) -> Record {
     Record {
         time,
+        priority: 0,
         lp,
         kind,
         value,
@@ -130,6 +132,39 @@ fn count_cars(places: &[Place], pending: &[Sent<JunctionEvent>]) -> u64 {
     cars
 }
 
+// Executes an event at its junction, and undoes it at a copy.
+fn execute(
+    rt: &impl Abort,
+    model: &Traffic,
+    config: Config,
+    event: &Sent<JunctionEvent>,
+    place: &mut Place,
+    pending: &mut Vec<Sent<JunctionEvent>>,
+) -> Result<(), Fail> {
+    let lp = event.dest;
+    let now = event.key.when();
+    assert!(rt; lp < config.lps && now < config.end() && place.number <= MAX_COUNT);
+    let before = place.junction;
+    let mut bits = Bits::new();
+    let mut out = Out::new(config, lp, now, place.number);
+    let mut draws = Draws::new(&mut place.stream);
+    let kept = model.forward(
+        lp,
+        now,
+        event.payload,
+        &mut place.junction,
+        &mut bits,
+        &mut draws,
+        &mut out,
+    );
+    place.number = out.number();
+    pending.extend_from_slice(out.sends())?;
+    let mut undone = place.junction;
+    model.reverse(lp, now, event.payload, &mut undone, bits, kept);
+    assert_eq!(rt; undone, before);
+    Ok(())
+}
+
 /// An event loop of its own counts the cars after each of 3,000 events, and undoes each event once. No event is past the end.
 #[test]
 fn no_car_is_lost_on_the_way(rt: HostRuntime) -> Result<(), Fail> {
@@ -139,7 +174,7 @@ fn no_car_is_lost_on_the_way(rt: HostRuntime) -> Result<(), Fail> {
     let mut pending = Vec::new(rt.alloc());
     for lp in 0..config.lps {
         let mut stream = LpStream::new(config.seed, lp);
-        let mut out = Out::new(config, lp, 0, 0);
+        let mut out = Out::new(config, lp, When::tick(0), 0);
         let mut draws = Draws::new(&mut stream);
         let junction = model.start(lp, &mut draws, &mut out);
         pending.extend_from_slice(out.sends())?;
@@ -155,28 +190,9 @@ fn no_car_is_lost_on_the_way(rt: HostRuntime) -> Result<(), Fail> {
         let at = least(&pending);
         assert!(rt; at < pending.len());
         let event = pending.remove(at);
-        let (lp, now) = (event.dest, event.key.time);
-        assert!(rt; lp < config.lps && (lp as usize) < places.len() && now < config.end);
-        let place = &mut places[lp as usize];
-        assert!(rt; place.number <= MAX_COUNT);
-        let before = place.junction;
-        let mut bits = Bits::new();
-        let mut out = Out::new(config, lp, now, place.number);
-        let mut draws = Draws::new(&mut place.stream);
-        let kept = model.forward(
-            lp,
-            now,
-            event.payload,
-            &mut place.junction,
-            &mut bits,
-            &mut draws,
-            &mut out,
-        );
-        place.number = out.number();
-        pending.extend_from_slice(out.sends())?;
-        let mut undone = place.junction;
-        model.reverse(lp, now, event.payload, &mut undone, bits, kept);
-        assert_eq!(rt; undone, before);
+        let at = event.dest as usize;
+        assert!(rt; at < places.len());
+        execute(&rt, &model, config, &event, &mut places[at], &mut pending)?;
         assert_eq!(rt; count_cars(&places, &pending), 72);
     }
     Ok(())

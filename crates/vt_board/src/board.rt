@@ -1,7 +1,7 @@
 //! The board of a run.
 
-ghost use Rattle.std.specs.Prelude.{◌≡◌, ◌<◌, ◌≤◌, true, false, Ok, Err, IfOk, IfErr, OnOk, OnErr, is_ok, slice_get};
-ghost use Rattle.vt_key.specs.Times.{TimeAtMost};
+ghost use Rattle.std.specs.Prelude.{◌≡◌, ◌<◌, ◌≤◌, true, false, Ok, Err, IfOk, IfErr, OnOk, OnErr, is_ok, slice_get, slice_set};
+ghost use Rattle.vt_key.specs.Times.{TimeAtMost, at};
 ghost use Rattle.vt_key.specs.declared.fault.Fault.TheVariants.{NotLawful};
 ghost use Rattle.vt_key.specs.declared.limits.TheConstants.{MAX_COUNT, MAX_END, MAX_WORKERS};
 ghost use Rattle.vt_steps.specs.BoardSteps.{all_set, is_clear, with_open_round, with_report, after_pass, board_after_report, report_reply};
@@ -10,7 +10,7 @@ ghost use Rattle.vt_board.specs.Calls.{cut_outcome, takes_report, reply_of};
 
 use crate::worker_set::WorkerSet;
 use std::marker::Model;
-use vt_key::{Fault, MAX_COUNT, Time};
+use vt_key::{Fault, MAX_COUNT, When};
 
 /// The outcome of a report.
 #[derive(Debug, Clone, Copy, PartialEq, Eq)]
@@ -20,8 +20,8 @@ pub enum Report {
     /// All have reported, and mail of the old colour was still travelling: a new pass of the same round has begun.
     Again,
     /// All have reported, and no mail of the old colour was travelling: the round is over, and this is the new announced
-    /// time, in ticks.
-    Announced(Time),
+    /// time.
+    Announced(When),
 }
 
 /// The board of a run: which workers have cut in the open round and which have reported in its pass; the sums of
@@ -30,14 +30,14 @@ pub enum Report {
 /// Contracts see the board of the definitions, with the end of the run.
 #[derive(Drop)]
 pub struct Board {
-    end: Time,
-    announced: Time,
+    end: When,
+    announced: When,
     is_open: bool,
     has_cut: WorkerSet,
     has_reported: WorkerSet,
     sent: u128,
     got: u128,
-    least: Time,
+    least: When,
     rounds: u64,
 }
 
@@ -56,28 +56,28 @@ impl Model for Board {
 impl Board {
     /// The board of a run of `workers` workers, from 1 to 64, that ends at `end`, from 1 to 2^62 ticks. No round is open, and
     /// the announced time is 0.
-    pub fn new(workers: u32, end: Time) -> Board
+    pub fn new(workers: u32, end: When) -> Board
         requires some_worker { 1 ≤ workers }
         requires few_workers { workers ≤ MAX_WORKERS }
         requires some_time { 1 ≤ end }
-        requires in_time { end ≤ MAX_END }
+        requires in_time { end ≤ at MAX_END 0 }
         ensures { result ≡ opening_run workers end }
     {
         Board::with_rounds(workers, end, 0)
     }
 
     /// A board as [`Board::new`] makes it, with `rounds` rounds already counted, at most 2^63.
-    pub fn with_rounds(workers: u32, end: Time, rounds: u64) -> Board
+    pub fn with_rounds(workers: u32, end: When, rounds: u64) -> Board
         requires some_worker { 1 ≤ workers }
         requires few_workers { workers ≤ MAX_WORKERS }
         requires some_time { 1 ≤ end }
-        requires in_time { end ≤ MAX_END }
+        requires in_time { end ≤ at MAX_END 0 }
         requires countable { rounds ≤ MAX_COUNT }
         ensures { result ≡ after_rounds rounds (opening_run workers end) }
     {
         Board {
             end,
-            announced: 0,
+            announced: When::tick(0),
             is_open: false,
             has_cut: WorkerSet::none_of(workers),
             has_reported: WorkerSet::none_of(workers),
@@ -88,9 +88,9 @@ impl Board {
         }
     }
 
-    /// The announced time, in ticks, at most the end of the run. As long as workers report what they have and have
+    /// The announced time, at most the end of the run. As long as workers report what they have and have
     /// sent, nothing before it is unprocessed or travelling.
-    pub fn announced(&self) -> Time
+    pub fn announced(&self) -> When
         ensures announced { result ≡ self.now.board.announced }
         ensures in_time { TimeAtMost result self.now.end }
     {
@@ -102,7 +102,7 @@ impl Board {
     ///
     /// [`Fault::NotLawful`]: `w` is no worker, or it has cut in the open round. [`Fault::Exhausted`]: one more round
     /// would be more than 2^63. A refused cut changes nothing.
-    pub fn cut(&mut self, w: u32) -> Result<Time, Fault>
+    pub fn cut(&mut self, w: u32) -> Result<When, Fault>
         ensures cut { OnOk result (cut_outcome self.old.end w self.old.board ≡ Ok self.new.board) }
         ensures announced { IfOk result (λ time. time ≡ self.old.board.announced) }
         ensures in_time { IfOk result (λ time. TimeAtMost time self.old.end) }
@@ -123,18 +123,28 @@ impl Board {
             }
             self.open_round();
         }
+        Ok(self.mark_cut(w))
+    }
+
+    /// Enters the cut of a worker that hasn't cut in the open round. Returns the announced time.
+    fn mark_cut(&mut self, w: u32) -> When
+        requires { is_clear (slice_get self.old.board.has_cut w) ≡ true }
+        ensures cut { self.new ≡ with_board self.old (record self.old.board { has_cut = slice_set self.old.board.has_cut w true }) }
+        ensures announced { result ≡ self.old.board.announced }
+        ensures in_time { TimeAtMost result self.old.end }
+    {
         self.has_cut.insert(w);
-        Ok(self.announced)
+        self.announced
     }
 
     #[tactic(auto, unfolding(vt_steps::specs::BoardSteps::with_report, vt_steps::specs::BoardSteps::board_after_report, vt_steps::specs::BoardSteps::report_reply))]
-    /// Worker `w` reports how much mail of the old colour it has ever sent and got, and a least time in ticks. That
+    /// Worker `w` reports how much mail of the old colour it has ever sent and got, and a least time. That
     /// is the least of all that it has and of all that it sent since its cut. The last report closes the pass.
     ///
     /// [`Fault::NotLawful`]: `w` is no worker, no round is open, some worker hasn't cut, `w` has reported in this
     /// pass, or the least time is below the announced time or above the end of the run. A refused report changes
     /// nothing.
-    pub fn report(&mut self, w: u32, sent: u64, got: u64, least: Time) -> Result<Report, Fault>
+    pub fn report(&mut self, w: u32, sent: u64, got: u64, least: When) -> Result<Report, Fault>
         ensures lawful { is_ok result ≡ takes_report self.old.end w least self.old.board }
         ensures reported { OnOk result (self.new ≡ with_board self.old (board_after_report self.old.end (with_report w sent got least self.old.board))) }
         ensures answer { IfOk result (λ report. reply_of report ≡ report_reply (with_report w sent got least self.old.board)) }
@@ -153,7 +163,7 @@ impl Board {
     }
 
     /// Whether a report of this least time by worker `w` is lawful.
-    fn takes(&self, w: u32, least: Time) -> bool
+    fn takes(&self, w: u32, least: When) -> bool
         ensures { result ≡ takes_report self.now.end w least self.now.board }
     {
         self.is_open
@@ -188,7 +198,7 @@ impl Board {
 
     #[tactic(auto, using(crate::proofs::Sums::summed, crate::proofs::Sums::room), unfolding(vt_steps::specs::BoardSteps::with_report))]
     /// Adds the report of a worker that hasn't reported in this pass.
-    fn add(&mut self, w: u32, sent: u64, got: u64, least: Time)
+    fn add(&mut self, w: u32, sent: u64, got: u64, least: When)
         requires first { is_clear (slice_get self.old.board.has_reported w) ≡ true }
         requires not_past { TimeAtMost self.old.board.announced least }
         requires in_time { TimeAtMost least self.old.end }
@@ -197,7 +207,7 @@ impl Board {
         self.has_reported.insert(w);
         self.sent += u128::from(sent);
         self.got += u128::from(got);
-        self.least = self.least.min(least);
+        self.least = self.least.earlier(least);
     }
 
     #[tactic(auto, unfolding(vt_steps::specs::BoardSteps::after_pass, vt_steps::specs::BoardSteps::report_reply))]

@@ -3,7 +3,7 @@ use Rattle.std.proofs.Common.{◌≡◌, ℕ, suc, ◌+◌, true, false, cond, L
 use Rattle.std.specs.List.{prefix_len}
 use Rattle.std.proofs.lemmas.Bool.Decides.{nat_tests}
 use Rattle.vt_key.specs.Times.{Time, TimeBefore, TimeAtMost}
-use Rattle.vt_key.specs.declared.order.Key.{Key}
+use Rattle.vt_key.specs.Keys.{Key}
 use Rattle.vt_model.specs.declared.rows.Row.{Row}
 use Rattle.vt_model.specs.declared.sending.Sent.{Sent}
 use Rattle.vt_model.specs.Rows.{AreRowsOf}

@@ -10,7 +10,7 @@ use crate::history::History;
 use crate::run::{Run, run_of};
 use std::alloc::Global;
 use std::marker::Model;
-use vt_key::{Fault, Time};
+use vt_key::{Fault, When};
 use vt_model::Row;
 
 /// Rows that a worker is going to hand in. Contracts see them in the order in which they were given.
@@ -70,7 +70,7 @@ impl Batch {
     }
 
     /// Whether the times of all rows are at least `from` and below `to`.
-    pub(crate) fn are_within(&self, from: Time, to: Time) -> bool
+    pub(crate) fn are_within(&self, from: When, to: When) -> bool
         ensures { result ≡ list_all (is_within from to) self.now }
     {
         match &self.run {

@@ -17,7 +17,7 @@ use crate::history::History;
 use crate::waiting::Waiting;
 use std::alloc::Global;
 use std::marker::Model;
-use vt_key::{Fault, Time};
+use vt_key::{Fault, When};
 use vt_model::{Record, Row};
 
 /// The rows that the workers of a run have handed in, and the floor up to which each has.
@@ -26,7 +26,7 @@ use vt_model::{Record, Row};
 /// the order in which they were handed in, the floors by worker, and whether it is closed.
 #[derive(Drop)]
 pub struct Book {
-    end: Time,
+    end: When,
     floors: Floors,
     history: History,
     shown: Vec<Record>,
@@ -51,7 +51,7 @@ impl Model for Book {
 
 impl Book {
     /// An open book without rows, for a run of `workers` workers, up to 64, that ends at `end`. It takes no memory.
-    pub fn new(alloc: Global, workers: u32, end: Time) -> Book
+    pub fn new(alloc: Global, workers: u32, end: When) -> Book
         requires { workers ≤ MAX_WORKERS }
         ensures end { result.end ≡ end }
         ensures book { result.book ≡ opening_book workers }
@@ -72,7 +72,7 @@ impl Book {
     /// [`Fault::Closed`]: the book is closed. [`Fault::NotLawful`]: there is no such worker, the floor is below the worker's
     /// or after the end of the run, or a row's time isn't from the worker's floor on and below the new one.
     /// [`Fault::Memory`]: memory was refused. After any of them the book is as it was.
-    pub fn hand(&mut self, worker: u32, rows: &[Row], floor: Time) -> Result<(), Fault>
+    pub fn hand(&mut self, worker: u32, rows: &[Row], floor: When) -> Result<(), Fault>
         ensures refused { IfSome (refusal_of_hand self.old worker rows.now floor) (λ fault. result ≡ Err fault) }
         ensures taken { refusal_of_hand self.old worker rows.now floor ≡ None → MatchResult result
             (λ _. self.new ≡ record self.old { book = with_rows worker rows.now floor self.old.book })
@@ -91,7 +91,7 @@ impl Book {
 
     /// Takes a prepared batch, as [`Book::hand`] takes rows. No row is copied or sorted. Memory is asked for at most twice:
     /// for records that will be shown, and for one more batch. A batch that is refused is dropped.
-    pub fn hand_batch(&mut self, worker: u32, batch: Batch, floor: Time) -> Result<(), Fault>
+    pub fn hand_batch(&mut self, worker: u32, batch: Batch, floor: When) -> Result<(), Fault>
         ensures refused { IfSome (refusal_of_hand self.old worker batch floor) (λ fault. result ≡ Err fault) }
         ensures taken { refusal_of_hand self.old worker batch floor ≡ None → MatchResult result
             (λ _. self.new ≡ record self.old { book = with_rows worker batch floor self.old.book })
@@ -110,7 +110,7 @@ impl Book {
     /// Takes a lawful hand-in.
     ///
     /// [`Fault::Memory`]: memory was refused, and the book is as it was.
-    fn take(&mut self, worker: u32, batch: Batch, floor: Time) -> Result<(), Fault>
+    fn take(&mut self, worker: u32, batch: Batch, floor: When) -> Result<(), Fault>
         requires { may_hand self.old worker batch floor ≡ true }
         ensures taken { MatchResult result
             (λ _. self.new ≡ record self.old { book = with_rows worker batch floor self.old.book })
@@ -131,7 +131,7 @@ impl Book {
     }
 
     /// Whether what a worker hands in is lawful, the book's being closed aside.
-    fn may_hand(&self, worker: u32, rows: &[Row], floor: Time) -> bool
+    fn may_hand(&self, worker: u32, rows: &[Row], floor: When) -> bool
         ensures { result ≡ may_hand self.now worker rows.now floor }
     {
         let Some(handed_in) = self.floors.get(worker) else {
@@ -141,7 +141,7 @@ impl Book {
     }
 
     /// The same for a prepared batch.
-    fn may_hand_batch(&self, worker: u32, batch: &Batch, floor: Time) -> bool
+    fn may_hand_batch(&self, worker: u32, batch: &Batch, floor: When) -> bool
         ensures { result ≡ may_hand self.now worker batch.now floor }
     {
         let Some(handed_in) = self.floors.get(worker) else {
@@ -150,9 +150,9 @@ impl Book {
         handed_in <= floor && floor <= self.end && batch.are_within(handed_in, floor)
     }
 
-    /// The book's floor, in ticks: the least of the floors up to which the workers have handed in, which are 0 at first. No
+    /// The book's floor: the least of the floors up to which the workers have handed in, which are 0 at first. No
     /// row below it can be handed in any more.
-    pub fn floor(&self) -> Time
+    pub fn floor(&self) -> When
         ensures { result ≡ book_floor self.now.end self.now.book }
     {
         self.floors.least(self.end)
@@ -203,11 +203,11 @@ impl Book {
 }
 
 /// Whether the times of all rows are at least `from` and below `to`.
-fn are_within(rows: &[Row], from: Time, to: Time) -> bool
+fn are_within(rows: &[Row], from: When, to: When) -> bool
     ensures { result ≡ list_all (is_within from to) rows.now }
 {
     rows.iter()
-        .all(|row| from <= row.key.time && row.key.time < to)
+        .all(|row| from <= row.key.when() && row.key.when() < to)
 }
 
 /// Makes room for the records of all waiting rows and of `more` others.
@@ -224,7 +224,7 @@ fn make_room(shown: &mut Vec<Record>, waiting: &Waiting, more: usize) -> Result<
 }
 
 /// Moves the waiting rows before a time to the shown records, in the order of the rows.
-fn show_before(waiting: &mut Waiting, shown: &mut Vec<Record>, time: Time)
+fn show_before(waiting: &mut Waiting, shown: &mut Vec<Record>, time: When)
     requires { vec_len shown.old + length waiting.old ≤ vec_capacity shown.old }
     ensures shown { shown.new.items ≡ shown.old.items ++ records_of (rows_in_order (rows_before time waiting.old)) }
     ensures waiting { AreSameRows waiting.old (rows_before time waiting.old ++ waiting.new) }

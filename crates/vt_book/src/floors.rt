@@ -6,13 +6,13 @@ ghost use Rattle.vt_key.specs.declared.limits.TheConstants.{MAX_WORKERS};
 ghost use Rattle.vt_steps.specs.World.{least_floor};
 
 use std::marker::Model;
-use vt_key::{MAX_WORKERS, Time};
+use vt_key::{MAX_WORKERS, When};
 
 /// A floor for each worker. Contracts see the list of them. No call takes memory.
 #[derive(Drop)]
 pub(crate) struct Floors {
     workers: u32,
-    floors: [Time; MAX_WORKERS as usize],
+    floors: [When; MAX_WORKERS as usize],
 }
 
 impl Model for Floors {
@@ -35,12 +35,12 @@ impl Floors {
     {
         Floors {
             workers,
-            floors: [0; MAX_WORKERS as usize],
+            floors: [When::tick(0); MAX_WORKERS as usize],
         }
     }
 
     /// The floor of a worker; None if there is no such worker.
-    pub(crate) fn get(&self, worker: u32) -> Option<Time>
+    pub(crate) fn get(&self, worker: u32) -> Option<When>
         ensures { result ≡ slice_get self.now worker }
     {
         self.floors[..self.workers as usize]
@@ -49,7 +49,7 @@ impl Floors {
     }
 
     /// Sets the floor of a worker.
-    pub(crate) fn set(&mut self, worker: u32, floor: Time)
+    pub(crate) fn set(&mut self, worker: u32, floor: When)
         requires { worker < length self.old }
         ensures { self.new ≡ slice_set self.old worker floor }
     {
@@ -57,7 +57,7 @@ impl Floors {
     }
 
     /// The least floor, or the end of the run if there is no worker.
-    pub(crate) fn least(&self, end: Time) -> Time
+    pub(crate) fn least(&self, end: When) -> When
         ensures { result ≡ least_floor end self.now }
     {
         least(&self.floors[..self.workers as usize], end)
@@ -65,12 +65,12 @@ impl Floors {
 }
 
 /// The least of these times and the end.
-fn least(times: &[Time], end: Time) -> Time
+fn least(times: &[When], end: When) -> When
     ensures { result ≡ least_floor end times.now }
 {
     let mut least = end;
     for time in times {
-        least = least.min(*time);
+        least = least.earlier(*time);
     }
     least
 }

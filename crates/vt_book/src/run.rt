@@ -8,7 +8,7 @@ ghost use Rattle.vt_book.specs.Books.{is_within};
 ghost use Rattle.vt_book.specs.Runs.{IsRun, IsRunOf, rows_of};
 
 use std::cmp::Reverse;
-use vt_key::Time;
+use vt_key::When;
 use vt_model::Row;
 
 /// At least one row, sorted: the first row, and the others with the next one last. Runs compare in reverse by their first
@@ -34,7 +34,7 @@ impl Run {
     }
 
     /// Whether the times of all rows are at least `from` and below `to`. It reads the first row and the last one alone.
-    pub(crate) fn is_within(&self, from: Time, to: Time) -> bool
+    pub(crate) fn is_within(&self, from: When, to: When) -> bool
         requires { IsRun self.now }
         ensures { result ≡ list_all (is_within from to) (rows_of self.now) }
     {
@@ -43,11 +43,11 @@ impl Run {
     }
 
     /// The time of the first row, and that of the last.
-    fn span(&self) -> (Time, Time)
+    fn span(&self) -> (When, When)
         ensures { (result.0 ≡ self.now.first.0.key.time) × (result.1 ≡ (get_or self.now.rest.items 0 self.now.first.0).key.time) }
     {
         let last = self.rest.first().unwrap_or(&self.first.0);
-        (self.first.0.key.time, last.key.time)
+        (self.first.0.key.when(), last.key.when())
     }
 }
 

@@ -16,6 +16,7 @@ use Rattle.vt_list.specs.First.{without_first as list_without_first}
 use Rattle.vt_model.specs.declared.settings.Config.{Config}
 use Rattle.vt_model.specs.Handler.{Handlers}
 use Rattle.vt_model.specs.Simulation.{simulation_of}
+use Rattle.vt_model.specs.Settings.{end_of}
 use Rattle.vt_steps.specs.declared.step.Step.TheVariants as step
 use Rattle.vt_steps.specs.Letters.{without_first, has_rank, Counts}
 use Rattle.vt_steps.specs.World.{Entry, LogicalProcess, Part}
@@ -165,10 +166,10 @@ module _ {S P K : Type 0} (handlers : Handlers S P K) (held : HeldWorker S P K) 
 -- a letter that was found in the outbox is for one of the worker's processes, before the end of the run
 pub found-in : {S P K : Type 0} {config : Config} {w : ℕ} {processes : List (HeldProcess S P K)} {outbox : List (Letter P)} {arrived : List (Mail P)} {sent got : Counts} {serial : ℕ} {ready unready : List Node} {marked : List Bool}
     → IsWorkerInside config w processes outbox arrived sent got serial ready unready marked → (letter : Letter P) → find (λ (l : Letter P). nat_eq (l.event.dest % config.workers) w) outbox ≡ Some letter
-    → (letter.event.dest % config.workers ≡ w) × IsWithinRun config.lps config.end letter
+    → (letter.event.dest % config.workers ≡ w) × IsWithinRun config.lps (end_of config) letter
 found-in {config = config} {w = w} {outbox = outbox} h letter is = (
   for-worker config.workers w letter.event.dest (find-passes (λ l. nat_eq (l.event.dest % config.workers) w) outbox letter is),
-  find-all (IsWithinRun config.lps config.end) (λ l. nat_eq (l.event.dest % config.workers) w) outbox letter h.sendable is,
+  find-all (IsWithinRun config.lps (end_of config)) (λ l. nat_eq (l.event.dest % config.workers) w) outbox letter h.sendable is,
 )
 
 -- one letter was found and taken

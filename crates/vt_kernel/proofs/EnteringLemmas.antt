@@ -12,6 +12,7 @@ use Rattle.vt_lp.specs.declared.entry.PastEvent.{PastEvent}
 use Rattle.vt_key.specs.Order.{rank_before}
 use Rattle.vt_key.specs.Times.{Time}
 use Rattle.vt_key.specs.declared.letter.Letter.{Letter}
+use Rattle.vt_model.specs.Settings.{end_of}
 use Rattle.std.specs.List.{last_or}
 use Rattle.vt_steps.specs.Letters.{least_time}
 use Rattle.vt_kernel.specs.Held.{entries_of, ready_of, unready_of, other_rank, earliest_of, rank_time, TellsLeast}
@@ -55,10 +56,10 @@ in-changed xs now place q new at is =
     omega (arith, less, size)
 
 -- what a process tells of its least rank tells the least time
-pub tells-least : {S P K : Type 0} (q : HeldProcess S P K) (least : Option Rank) → least ≡ earliest_of q → IfSome least (λ rank. rank.key.time ≡ least_time q.config.end (q.pending ++ q.waiting))
+pub tells-least : {S P K : Type 0} (q : HeldProcess S P K) (least : Option Rank) → least ≡ earliest_of q → IfSome least (λ rank. rank.key.time ≡ least_time (end_of q.config) (q.pending ++ q.waiting))
     → IfNone least ((q.pending ≡ []) × (q.waiting ≡ [])) → TellsLeast q
-tells-least q None is some none = ap (rank_time q.config.end) (sym is) ∙ (λ j. least_time q.config.end (sym none.0 j ++ sym none.1 j))
-tells-least q (Some rank) is some none = ap (rank_time q.config.end) (sym is) ∙ some
+tells-least q None is some none = ap (rank_time (end_of q.config)) (sym is) ∙ (λ j. least_time (end_of q.config) (sym none.0 j ++ sym none.1 j))
+tells-least q (Some rank) is some none = ap (rank_time (end_of q.config)) (sym is) ∙ some
 
 -- ---- a process that forgets past events
 

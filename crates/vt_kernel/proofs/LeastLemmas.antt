@@ -8,6 +8,7 @@ use Rattle.vt_key.proofs.OrderLemmas.{rank_same-true}
 use Rattle.vt_key.specs.declared.order.Rank.{Rank}
 use Rattle.vt_key.specs.declared.letter.Letter.{Letter}
 use Rattle.vt_model.specs.declared.settings.Config.{Config}
+use Rattle.vt_model.specs.Settings.{end_of}
 use Rattle.std.specs.List.{last_or}
 use Rattle.vt_steps.specs.Letters.{letter_time, least_time}
 use Rattle.vt_tournament.specs.Least.{IsLeast}
@@ -123,70 +124,70 @@ module _ {S P K : Type 0} where
 module _ {S P K : Type 0} (config : Config) (w : ℕ) where
   -- the least time of a process, by its least rank
   pub told : (processes : List (HeldProcess S P K)) (i : ℕ) (held : HeldProcess S P K) → AreProcesses config w 0 processes → All TellsLeast processes → slice_get processes i ≡ Some held →
-      rank_time config.end (earliest_of held) ≡ least_time config.end (kept_letters held)
+      rank_time (end_of config) (earliest_of held) ≡ least_time (end_of config) (kept_letters held)
   told processes i held are tells at =
       let who = process-at config w 0 i processes held are at in
-      subst (λ (c : Config). rank_time c.end (earliest_of held) ≡ least_time c.end (kept_letters held)) who.1 (all-at TellsLeast processes i held tells at)
+      subst (λ (c : Config). rank_time (end_of c) (earliest_of held) ≡ least_time (end_of c) (kept_letters held)) who.1 (all-at TellsLeast processes i held tells at)
 
   module _ (processes : List (HeldProcess S P K)) (are : AreProcesses config w 0 processes) (tells : All TellsLeast processes) where
     -- a time that comes from a tournament: of all letters it is not before the least, and no entry's is before it
     pub record IsFirst (entry : HeldProcess S P K → Option Rank) (t : Time) : Type 0 where
-      pub low : TimeAtMost (least_time config.end (flat_map kept_letters processes)) t
-      pub end : TimeAtMost t config.end
+      pub low : TimeAtMost (least_time (end_of config) (flat_map kept_letters processes)) t
+      pub end : TimeAtMost t (end_of config)
       pub entries : (j : ℕ) (other : HeldProcess S P K) (rank : Rank) → slice_get processes j ≡ Some other → entry other ≡ Some rank → TimeAtMost t rank.key.time
 
     -- where nobody has an entry, the end is
-    pub nobody-first : (entry : HeldProcess S P K → Option Rank) → ((i : ℕ) (rank : Rank) → slice_get (entries_of entry processes) i ≡ Some (Some rank) → ⊥) → IsFirst entry config.end
+    pub nobody-first : (entry : HeldProcess S P K → Option Rank) → ((i : ℕ) (rank : Rank) → slice_get (entries_of entry processes) i ≡ Some (Some rank) → ⊥) → IsFirst entry (end_of config)
     nobody-first entry nobody = record {
-      low = least_time-low config.end (flat_map kept_letters processes);
-      end = same_low config.end;
+      low = least_time-low (end_of config) (flat_map kept_letters processes);
+      end = same_low (end_of config);
       entries = λ j other rank there is. absurd (nobody j rank (entered entry processes j other there ∙ ap Some is));
     }
 
     -- and else the least time of the process with the least entry
     winner-first : (entry : HeldProcess S P K → Option Rank) →
-        ((j : ℕ) (other : HeldProcess S P K) (rank : Rank) → slice_get processes j ≡ Some other → entry other ≡ Some rank → TimeAtMost (least_time config.end (kept_letters other)) rank.key.time) →
-        (i : ℕ) (held : HeldProcess S P K) → slice_get processes i ≡ Some held → IsLeast (entries_of entry processes) i → IsFirst entry (least_time config.end (kept_letters held))
+        ((j : ℕ) (other : HeldProcess S P K) (rank : Rank) → slice_get processes j ≡ Some other → entry other ≡ Some rank → TimeAtMost (least_time (end_of config) (kept_letters other)) rank.key.time) →
+        (i : ℕ) (held : HeldProcess S P K) → slice_get processes i ≡ Some held → IsLeast (entries_of entry processes) i → IsFirst entry (least_time (end_of config) (kept_letters held))
     winner-first entry sound i held at least =
         let rank = least.rank in
         let mine : entry held ≡ Some rank = same_entry (entry held) (Some rank) (sym (entered entry processes i held at) ∙ least.entered) in
-        let first : TimeAtMost (least_time config.end (kept_letters held)) rank.key.time = sound i held rank at mine in
+        let first : TimeAtMost (least_time (end_of config) (kept_letters held)) rank.key.time = sound i held rank at mine in
         record {
-          low = flat-at config.end kept_letters processes i held at;
-          end = least_time-low config.end (kept_letters held);
+          low = flat-at (end_of config) kept_letters processes i held at;
+          end = least_time-low (end_of config) (kept_letters held);
           entries = λ j other r there is.
               let later : TimeAtMost rank.key.time r.key.time = not_before r.key.time rank.key.time (λ before. least.least j r (entered entry processes j other there ∙ ap Some is) (inl (inl before))) in
-              at_most_chain (least_time config.end (kept_letters held)) rank.key.time r.key.time first later;
+              at_most_chain (least_time (end_of config) (kept_letters held)) rank.key.time r.key.time first later;
         }
 
-    pub ready-first : (i : ℕ) (held : HeldProcess S P K) → slice_get processes i ≡ Some held → IsLeast (entries_of ready_of processes) i → IsFirst ready_of (least_time config.end (kept_letters held))
-    ready-first = winner-first ready_of (λ j other rank there is. ready-pending other rank is config.end)
+    pub ready-first : (i : ℕ) (held : HeldProcess S P K) → slice_get processes i ≡ Some held → IsLeast (entries_of ready_of processes) i → IsFirst ready_of (least_time (end_of config) (kept_letters held))
+    ready-first = winner-first ready_of (λ j other rank there is. ready-pending other rank is (end_of config))
 
-    pub unready-first : (i : ℕ) (held : HeldProcess S P K) → slice_get processes i ≡ Some held → IsLeast (entries_of unready_of processes) i → IsFirst unready_of (least_time config.end (kept_letters held))
+    pub unready-first : (i : ℕ) (held : HeldProcess S P K) → slice_get processes i ≡ Some held → IsLeast (entries_of unready_of processes) i → IsFirst unready_of (least_time (end_of config) (kept_letters held))
     unready-first = winner-first unready_of (λ j other rank there is.
-        let time : least_time config.end (kept_letters other) ≡ rank.key.time = sym (told processes j other are tells there) ∙ ap (rank_time config.end) (only-least other rank is) in
-        subst (λ (t : Time). TimeAtMost (least_time config.end (kept_letters other)) t) time (same_low (least_time config.end (kept_letters other))))
+        let time : least_time (end_of config) (kept_letters other) ≡ rank.key.time = sym (told processes j other are tells there) ∙ ap (rank_time (end_of config)) (only-least other rank is) in
+        subst (λ (t : Time). TimeAtMost (least_time (end_of config) (kept_letters other)) t) time (same_low (least_time (end_of config) (kept_letters other))))
 
     -- the lesser of both is the least time of all
-    pub both-first : (a b : Time) → IsFirst ready_of a → IsFirst unready_of b → earlier a b ≡ least_time config.end (flat_map kept_letters processes)
+    pub both-first : (a b : Time) → IsFirst ready_of a → IsFirst unready_of b → earlier a b ≡ least_time (end_of config) (flat_map kept_letters processes)
     both-first a b f g =
-        let low : TimeAtMost (earlier a b) config.end = earlier_low a b config.end f.end in
-        let each : (j : ℕ) (other : HeldProcess S P K) → slice_get processes j ≡ Some other → TimeAtMost (earlier a b) (least_time config.end (kept_letters other)) =
+        let low : TimeAtMost (earlier a b) (end_of config) = earlier_low a b (end_of config) f.end in
+        let each : (j : ℕ) (other : HeldProcess S P K) → slice_get processes j ≡ Some other → TimeAtMost (earlier a b) (least_time (end_of config) (kept_letters other)) =
         λ j other there. subst (TimeAtMost (earlier a b)) (told processes j other are tells there)
-        (rank_low config.end (earlier a b) (earliest_of other) low (λ r is. elim (one-of-both other r is) [
+        (rank_low (end_of config) (earlier a b) (earliest_of other) low (λ r is. elim (one-of-both other r is) [
           | inl here ↦ earlier_low a b r.key.time (f.entries j other r there here)
           | inr here ↦ earlier_low_right a b r.key.time (g.entries j other r there here)
         ])) in
-        same_times (earlier a b) (least_time config.end (flat_map kept_letters processes))
-        (flat-low config.end kept_letters (earlier a b) processes low each)
-        (at_most_both (least_time config.end (flat_map kept_letters processes)) a b f.low g.low)
+        same_times (earlier a b) (least_time (end_of config) (flat_map kept_letters processes))
+        (flat-low (end_of config) kept_letters (earlier a b) processes low each)
+        (at_most_both (least_time (end_of config) (flat_map kept_letters processes)) a b f.low g.low)
 
     -- what a tournament tells, by who wins there, if anybody does
     pub told-first : (entry : HeldProcess S P K → Option Rank) →
-        ((i : ℕ) (held : HeldProcess S P K) → slice_get processes i ≡ Some held → IsLeast (entries_of entry processes) i → IsFirst entry (least_time config.end (kept_letters held))) →
+        ((i : ℕ) (held : HeldProcess S P K) → slice_get processes i ≡ Some held → IsLeast (entries_of entry processes) i → IsFirst entry (least_time (end_of config) (kept_letters held))) →
         (winner : Option ℕ) (t : Time) → IfSome winner (IsLeast (entries_of entry processes)) →
         IfNone winner ((i : ℕ) (rank : Rank) → slice_get (entries_of entry processes) i ≡ Some (Some rank) → ⊥) →
-        IfSome winner (λ i. (held : HeldProcess S P K) × (slice_get processes i ≡ Some held) × (t ≡ least_time config.end (kept_letters held))) →
-        IfNone winner (t ≡ config.end) → IsFirst entry t
+        IfSome winner (λ i. (held : HeldProcess S P K) × (slice_get processes i ≡ Some held) × (t ≡ least_time (end_of config) (kept_letters held))) →
+        IfNone winner (t ≡ (end_of config)) → IsFirst entry t
     told-first entry first None t least nobody some none = subst (IsFirst entry) (sym none) (nobody-first entry nobody)
     told-first entry first (Some i) t least nobody some none = subst (IsFirst entry) (sym some.2) (first i some.0 some.1 least)

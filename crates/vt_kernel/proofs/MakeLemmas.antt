@@ -1,5 +1,5 @@
 -- The starts of a worker's processes: how many there are, and what they send.
-use Rattle.std.proofs.Common.{◌≡◌, ◌∙◌, ℕ, zero, suc, ◌+◌, ◌-◌, ◌*◌, ◌/◌, ◌%◌, ◌<◌, ◌≤◌, List, [], ◌∷◌, ◌++◌, map, replicate, length, slice_index_or, refl, sym, ap, subst, arith, Option, Some, None, not, false, slice_get, max, Result, Ok, Err}
+use Rattle.std.proofs.Common.{◌≡◌, ◌∙◌, ℕ, zero, suc, ◌+◌, ◌-◌, ◌*◌, ◌/◌, ◌%◌, ◌<◌, ◌≤◌, List, [], ◌∷◌, ◌++◌, map, replicate, length, slice_index_or, refl, sym, ap, subst, arith, Option, None, not, false, slice_get, max, Result, Ok, Err}
 use Rattle.std.specs.Result.{IfOk}
 use Rattle.std.specs.List.{All, flat_map, range_with_len}
 use Rattle.std.proofs.lemmas.List.{append-nil, append_assoc, length-append}
@@ -15,6 +15,7 @@ use Rattle.vt_model.specs.declared.settings.Config.{Config}
 use Rattle.vt_model.specs.Handler.{Handlers, StartResult}
 use Rattle.vt_model.specs.Histories.{AreNumbered}
 use Rattle.vt_model.specs.Simulation.{Simulation, simulation_of, start_of}
+use Rattle.vt_model.specs.Settings.{end_of}
 use Rattle.vt_steps.specs.Letters.{stamped, least_time, is_empty}
 use Rattle.vt_steps.specs.World.{process_at, process_count, start_sends}
 use Rattle.vt_steps.specs.StandsFor.{StandsForProcess, StandForProcesses, entry_of}
@@ -169,7 +170,7 @@ module _ {S P K : Type 0} where
 
     tells-none : (held : HeldProcess S P K) → IsOpening held → TellsLeast held
     tells-none held s =
-        ap (rank_time held.config.end) (earliest-none held s) ∙ (λ j. least_time held.config.end (s.pending j ++ s.waiting j))
+        ap (rank_time (end_of held.config)) (earliest-none held s) ∙ (λ j. least_time (end_of held.config) (s.pending j ++ s.waiting j))
 
     pub tells-opening : (xs : List (HeldProcess S P K)) → All IsOpening xs → All TellsLeast xs
     tells-opening xs all = λ k d within. tells-none (slice_index_or xs k d) (all k d within)

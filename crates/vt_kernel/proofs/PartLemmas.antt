@@ -9,6 +9,7 @@ use Rattle.vt_key.specs.declared.letter.Colour.{Colour}
 use Rattle.vt_key.specs.declared.letter.Colour.TheVariants.{White, Red}
 use Rattle.vt_model.specs.Handler.{Handlers}
 use Rattle.vt_model.specs.Simulation.{simulation_of}
+use Rattle.vt_model.specs.Settings.{end_of}
 use Rattle.vt_steps.specs.Letters.{Counts, raised, count_colour, least_time}
 use Rattle.vt_steps.specs.World.{Part}
 use Rattle.vt_steps.specs.PartSteps.{part_after_cut, part_after_fetch, part_after_send, mail_of_send}
@@ -21,10 +22,10 @@ module _ {S P K : Type 0} where
   stands_along e handlers part s = subst (λ (v : HeldWorker S P K). StandsFor handlers v part) (sym e) s
 
   pub stands-cut : {held now : HeldWorker S P K} → held ≡ now → (handlers : Handlers S P K) (announced : Time) (part : Part P) → StandsFor handlers now part →
-      (colour : Colour) → colour ≡ other_colour held.colour →
-      StandsFor handlers (record held { colour = colour; red_minimum = held.config.end; floor = announced }) (part_after_cut now.config.end announced part)
+      (colour : Colour) → colour ≡ other_colour held.colour → (red : Time) → red ≡ end_of held.config →
+      StandsFor handlers (record held { colour = colour; red_minimum = red; floor = announced }) (part_after_cut (end_of now.config) announced part)
   unfolding part_after_cut
-  stands-cut {held} e handlers announced part s colour other =
+  stands-cut {held} e handlers announced part s colour other red lowest =
       let h : StandsFor handlers held part = stands_along e handlers part s in
       record {
         processes = h.processes;
@@ -33,7 +34,7 @@ module _ {S P K : Type 0} where
         colour = ap other_colour h.colour ∙ sym other;
         sent = h.sent;
         got = h.got;
-        red_minimum = ap (λ (v : HeldWorker S P K). v.config.end) (sym e);
+        red_minimum = ap (λ (v : HeldWorker S P K). end_of v.config) (sym e) ∙ sym lowest;
         floor = refl;
         serial = h.serial;
       }
@@ -59,7 +60,7 @@ module _ {S P K : Type 0} where
   pub stands-send : {held now : HeldWorker S P K} → held ≡ now → (handlers : Handlers S P K) (v : ℕ) (part : Part P) → StandsFor handlers now part →
       (outbox : List (Letter P)) → outbox ≡ filter (λ (l : Letter P). not (is_for_worker held.config v l)) held.outbox →
       (sent : Counts) → sent ≡ raised held.sent held.colour (length (filter (is_for_worker held.config v) held.outbox)) →
-      (red : Time) → red ≡ earlier held.red_minimum (least_time held.config.end (filter (is_for_worker held.config v) held.outbox)) →
+      (red : Time) → red ≡ earlier held.red_minimum (least_time (end_of held.config) (filter (is_for_worker held.config v) held.outbox)) →
       StandsFor handlers (record held { outbox = outbox; sent = sent; red_minimum = red }) (part_after_send (simulation_of handlers now.config) v part)
   unfolding part_after_send
   stands-send {held} e handlers v part s outbox left sent counted red least =
@@ -74,7 +75,7 @@ module _ {S P K : Type 0} where
         colour = h.colour;
         sent = (λ j. raised (h.sent j) (h.colour j) (length (theirs (h.outbox j)))) ∙ sym counted;
         got = h.got;
-        red_minimum = (λ j. earlier (h.red_minimum j) (least_time held.config.end (theirs (h.outbox j)))) ∙ sym least;
+        red_minimum = (λ j. earlier (h.red_minimum j) (least_time (end_of held.config) (theirs (h.outbox j)))) ∙ sym least;
         floor = h.floor;
         serial = h.serial;
       })

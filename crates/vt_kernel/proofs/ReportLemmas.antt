@@ -6,6 +6,7 @@ use Rattle.vt_key.specs.Times.{earlier}
 use Rattle.vt_key.specs.declared.letter.Mail.{Mail}
 use Rattle.vt_model.specs.Handler.{Handlers}
 use Rattle.vt_model.specs.Simulation.{Simulation, simulation_of}
+use Rattle.vt_model.specs.Settings.{end_of}
 use Rattle.vt_steps.specs.Letters.{least_time, count_of}
 use Rattle.vt_steps.specs.World.{LogicalProcess, Part, letters_in}
 use Rattle.vt_steps.specs.PartSteps.{report_sent, report_got, report_least}
@@ -32,10 +33,10 @@ module _ {S P K : Type 0} (handlers : Handlers S P K) where
 
   pub same-report : (held : HeldWorker S P K) (part : Part P) → StandsFor handlers held part →
       (count_of held.sent (other_colour held.colour) ≡ report_sent part) × (count_of held.got (other_colour held.colour) ≡ report_got part)
-      × (earlier held.red_minimum (least_time held.config.end (held_letters held)) ≡ report_least held.config.end part)
+      × (earlier held.red_minimum (least_time (end_of held.config) (held_letters held)) ≡ report_least (end_of held.config) part)
   same-report held part s =
       let letters = same-letters held part s in (
         (λ j. count_of (sym s.sent j) (other_colour (sym s.colour j))),
         (λ j. count_of (sym s.got j) (other_colour (sym s.colour j))),
-        (λ j. earlier (sym s.red_minimum j) (least_time held.config.end (sym letters j))),
+        (λ j. earlier (sym s.red_minimum j) (least_time (end_of held.config) (sym letters j))),
       )

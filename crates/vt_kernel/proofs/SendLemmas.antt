@@ -13,6 +13,7 @@ use Rattle.vt_key.specs.declared.limits.TheConstants.{MAX_COUNT}
 use Rattle.vt_model.specs.Handler.{Handlers}
 use Rattle.vt_model.specs.Simulation.{Simulation, simulation_of}
 use Rattle.vt_model.specs.declared.settings.Config.{Config}
+use Rattle.vt_model.specs.Settings.{end_of}
 use Rattle.vt_steps.specs.Letters.{Counts, count_of, raised}
 use Rattle.vt_steps.specs.World.{Part}
 use Rattle.vt_steps.specs.PartSteps.{is_for, letters_for}
@@ -98,14 +99,14 @@ module _ {S P K : Type 0} where
 -- ---- the mail is for its worker
 
 module _ {P : Type 0} (config : Config) (v : ℕ) (colour : Colour) where
-  own_mail-one : (letter : Letter P) → IsWithinRun config.lps config.end letter → is_for_worker config v letter ≡ true → IsOwnMail config v (mailed colour letter)
+  own_mail-one : (letter : Letter P) → IsWithinRun config.lps (end_of config) letter → is_for_worker config v letter ≡ true → IsOwnMail config v (mailed colour letter)
   own_mail-one letter within own = record { within = within; own = grind (arith, nat_tests) }
 
   pub own_mail-sent : (letters : List (Letter P)) → AllWithinRun config letters → AllOwnMail config v (map (mailed colour) (filter (is_for_worker config v) letters))
   own_mail-sent letters within =
       let chosen = filter (is_for_worker config v) letters in
       All-map (IsOwnMail config v) (mailed colour) chosen
-      (λ k d inside. own_mail-one _ (All-filter (is_for_worker config v) (IsWithinRun config.lps config.end) letters within k d inside) (filter_passes (is_for_worker config v) letters k d inside))
+      (λ k d inside. own_mail-one _ (All-filter (is_for_worker config v) (IsWithinRun config.lps (end_of config)) letters within k d inside) (filter_passes (is_for_worker config v) letters k d inside))
 
 -- ---- the error that a `?` hands on
 

@@ -10,6 +10,7 @@ use Rattle.vt_key.specs.declared.letter.Colour.{Colour}
 use Rattle.vt_model.specs.declared.settings.Config.{Config}
 use Rattle.vt_model.specs.Handler.{Handlers}
 use Rattle.vt_model.specs.Simulation.{simulation_of}
+use Rattle.vt_model.specs.Settings.{end_of}
 use Rattle.vt_steps.specs.Letters.{Counts, least_time, is_empty}
 use Rattle.vt_steps.specs.World.{Part}
 use Rattle.vt_steps.specs.StandsFor.{PartMemory, StandsForPart}
@@ -66,7 +67,7 @@ process_of held p = if nat_eq (p % held.config.workers) held.worker then slice_g
 module _ {P : Type 0} where
   -- mail that a process of worker w receives before the end of the run
   pub record IsOwnMail (config : Config) (w : ℕ) (mail : Mail P) : Type 0 where
-    pub within : IsWithinRun config.lps config.end mail.letter
+    pub within : IsWithinRun config.lps (end_of config) mail.letter
     pub own : mail.letter.event.dest % config.workers ≡ w
 
   -- each of these is mail that a process of worker w receives before the end of the run
@@ -105,7 +106,7 @@ module _ {S P K : Type 0} where
 
   -- the least rank of a process tells the least time of what is pending or waits there
   abbrev pub TellsLeast : HeldProcess S P K → Type 0
-  TellsLeast held = rank_time held.config.end (earliest_of held) ≡ least_time held.config.end (held.pending ++ held.waiting)
+  TellsLeast held = rank_time (end_of held.config) (earliest_of held) ≡ least_time (end_of held.config) (held.pending ++ held.waiting)
 
   -- what these processes enter into a tournament, which has one entry at least
   abbrev pub entries_of : (HeldProcess S P K → Option Rank) → List (HeldProcess S P K) → List (Option Rank)

@@ -13,7 +13,7 @@ ghost use Rattle.vt_kernel.specs.Guards.{IsForgotten, HasForgotten};
 use crate::kernel::Kernel;
 use crate::local::enter;
 use std::alloc::Global;
-use vt_key::{Fault, Time};
+use vt_key::{Fault, When};
 use vt_lp::{Lp, Spare};
 use vt_marks::Marks;
 use vt_model::{Model as EventModel, Row};
@@ -61,7 +61,7 @@ fn forget_before<M: EventModel>(
     unready: &mut Tournament,
     marked: &mut Marks,
     spare: &mut Spare<M::Payload, M::Kept>,
-    floor: Time,
+    floor: When,
 )
     requires few { length processes.old.items < 2 ^ 32 }
     requires entered { IsTournamentOf (entries_of ready_of processes.old.items) ready.old }
@@ -89,7 +89,7 @@ fn forget_at<M: EventModel>(
     marked: &mut Marks,
     spare: &mut Spare<M::Payload, M::Kept>,
     place: usize,
-    floor: Time,
+    floor: When,
 )
     requires there { place < length processes.old.items }
     requires small { place < 2 ^ 32 }

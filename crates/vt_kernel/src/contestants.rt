@@ -169,5 +169,5 @@ pub(crate) fn unready_at<M: EventModel>(processes: &[Lp<M>], place: u32) -> Opti
     ensures { result ≡ slice_index_or (entries_of unready_of processes.now) place None }
 {
     let process = processes.get(place as usize)?;
-    other_than(process.ready(), process.least_rank())
+    other_than(&process.ready(), &process.least_rank())
 }

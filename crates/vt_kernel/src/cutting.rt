@@ -5,6 +5,7 @@ ghost use Rattle.vt_lp.specs.Held.{HeldProcess};
 ghost use Rattle.vt_key.specs.Letters.{other_colour};
 ghost use Rattle.vt_key.specs.Times.{earlier};
 ghost use Rattle.vt_model.specs.Handler.{Handlers};
+ghost use Rattle.vt_model.specs.Settings.{end_of};
 ghost use Rattle.vt_steps.specs.Letters.{least_time, count_of};
 ghost use Rattle.vt_steps.specs.World.{Part};
 ghost use Rattle.vt_steps.specs.PartSteps.{part_after_cut, report_sent, report_got, report_least};
@@ -12,25 +13,24 @@ ghost use Rattle.vt_kernel.specs.Held.{StandsFor};
 ghost use Rattle.vt_kernel.specs.Guards.{held_letters};
 
 use crate::kernel::Kernel;
-use crate::times::earlier;
-use vt_key::{Letter, Mail, Time};
+use vt_key::{Letter, Mail, When};
 use vt_list::List;
 use vt_model::Model as EventModel;
 
 impl<M: EventModel> Kernel<M> {
     /// The worker's part of a cut: it changes its colour, its red minimum becomes the end of the run, and its floor
     /// becomes the announced time.
-    pub fn turn(&mut self, announced: Time)
-        ensures turned { self.new ≡ record self.old { colour = other_colour self.old.colour; red_minimum = self.old.config.end; floor = announced } }
-        ensures stands { (handlers : Handlers _ _ _) (part : Part _) → StandsFor handlers self.old part → StandsFor handlers self.new (part_after_cut self.old.config.end announced part) }
+    pub fn turn(&mut self, announced: When)
+        ensures turned { self.new ≡ record self.old { colour = other_colour self.old.colour; red_minimum = (end_of self.old.config); floor = announced } }
+        ensures stands { (handlers : Handlers _ _ _) (part : Part _) → StandsFor handlers self.old part → StandsFor handlers self.new (part_after_cut (end_of self.old.config) announced part) }
     {
         self.colour = self.colour.other();
-        self.red_minimum = self.config.end;
+        self.red_minimum = self.config.end();
         self.floor = announced;
     }
 
     /// Sets the floor: the time, in ticks, below which the worker may commit.
-    pub fn set_floor(&mut self, floor: Time)
+    pub fn set_floor(&mut self, floor: When)
         ensures set { self.new ≡ record self.old { floor = floor } }
         ensures stands { (handlers : Handlers _ _ _) (part : Part _) → StandsFor handlers self.old part → StandsFor handlers self.new (record part { floor = floor }) }
     {
@@ -39,70 +39,70 @@ impl<M: EventModel> Kernel<M> {
 
     /// What the worker reports: how much mail of the old colour it has sent and got, and a least time, in ticks. That is
     /// the lesser of its red minimum and the least time of all letters that it has.
-    pub fn report_values(&self) -> (u64, u64, Time)
+    pub fn report_values(&self) -> (u64, u64, When)
         ensures sent { result.0 ≡ count_of self.now.sent (other_colour self.now.colour) }
         ensures got { result.1 ≡ count_of self.now.got (other_colour self.now.colour) }
-        ensures least { result.2 ≡ earlier self.now.red_minimum (least_time self.now.config.end (held_letters self.now)) }
-        ensures reports { (handlers : Handlers _ _ _) (part : Part _) → StandsFor handlers self.now part → (result.0 ≡ report_sent part) × (result.1 ≡ report_got part) × (result.2 ≡ report_least self.now.config.end part) }
+        ensures least { result.2 ≡ earlier self.now.red_minimum (least_time (end_of self.now.config) (held_letters self.now)) }
+        ensures reports { (handlers : Handlers _ _ _) (part : Part _) → StandsFor handlers self.now part → (result.0 ≡ report_sent part) × (result.1 ≡ report_got part) × (result.2 ≡ report_least (end_of self.now.config) part) }
     {
         let left = self.colour.other();
-        let least = earlier(self.red_minimum, self.least());
+        let least = self.red_minimum.earlier(self.least());
         (self.sent.of(left), self.got.of(left), least)
     }
 
     /// The least time, in ticks, of all letters that the worker has: in its outbox, arrived, pending and waiting. The
     /// end of the run if it has none.
-    pub fn least(&self) -> Time
-        ensures { result ≡ least_time self.now.config.end (held_letters self.now) }
+    pub fn least(&self) -> When
+        ensures { result ≡ least_time (end_of self.now.config) (held_letters self.now) }
     {
-        let end = self.config.end;
+        let end = self.config.end();
         let unsent = least_of_letters(&self.outbox, end);
         let arrived = least_of_mail(&self.arrived, end);
-        earlier(earlier(unsent, arrived), self.least_of_processes())
+        unsent.earlier(arrived).earlier(self.least_of_processes())
     }
 
     /// The least time of all pending messages and waiting anti-messages of this worker; the end of the run if there
     /// are none.
-    fn least_of_processes(&self) -> Time
-        ensures { result ≡ least_time self.now.config.end (flat_map (λ process. process.pending ++ process.waiting) self.now.processes) }
+    fn least_of_processes(&self) -> When
+        ensures { result ≡ least_time (end_of self.now.config) (flat_map (λ process. process.pending ++ process.waiting) self.now.processes) }
     {
         let ready = self.least_at(self.ready.winner());
         let unready = self.least_at(self.unready.winner());
-        earlier(ready, unready)
+        ready.earlier(unready)
     }
 
     /// The least time of the pending messages and waiting anti-messages of the process at index `place`; the end of
     /// the run if there are none.
-    fn least_at(&self, place: Option<u32>) -> Time
+    fn least_at(&self, place: Option<u32>) -> When
         requires { IfSome place (λ place. place < length self.now.processes) }
-        ensures some { IfSome place (λ place. (held : HeldProcess _ _ _) × (slice_get self.now.processes place ≡ Some held) × (result ≡ least_time self.now.config.end (held.pending ++ held.waiting))) }
-        ensures none { IfNone place (result ≡ self.now.config.end) }
+        ensures some { IfSome place (λ place. (held : HeldProcess _ _ _) × (slice_get self.now.processes place ≡ Some held) × (result ≡ least_time (end_of self.now.config) (held.pending ++ held.waiting))) }
+        ensures none { IfNone place (result ≡ (end_of self.now.config)) }
     {
         match place {
             Some(place) => self.processes[place as usize].least(),
-            None => self.config.end,
+            None => self.config.end(),
         }
     }
 }
 
 /// The least time of these letters; the end of the run if there are none.
-fn least_of_letters<P: Copy>(letters: &List<Letter<P>>, end: Time) -> Time
+fn least_of_letters<P: Copy>(letters: &List<Letter<P>>, end: When) -> When
     ensures { result ≡ least_time end letters.now }
 {
     let mut least = end;
     for letter in letters.iter() {
-        least = earlier(least, letter.event.rank.key.time);
+        least = least.earlier(letter.event.rank.key.when());
     }
     least
 }
 
 /// The least time of this mail, in ticks; the end of the run if there is none.
-pub fn least_of_mail<P: Copy>(mails: &[Mail<P>], end: Time) -> Time
+pub fn least_of_mail<P: Copy>(mails: &[Mail<P>], end: When) -> When
     ensures { result ≡ least_time end (map (λ mail. mail.letter) mails.now) }
 {
     let mut least = end;
     for mail in mails {
-        least = earlier(least, mail.letter.event.rank.key.time);
+        least = least.earlier(mail.letter.event.rank.key.when());
     }
     least
 }

@@ -5,7 +5,7 @@ ghost use Rattle.vt_steps.specs.Letters.{count_of};
 
 use crate::counts::Counts;
 use std::marker::Model;
-use vt_key::{Colour, Letter, Mail, Time};
+use vt_key::{Colour, Letter, Mail, When};
 use vt_list::List;
 use vt_lp::{Lp, Spare};
 use vt_marks::Marks;
@@ -27,8 +27,8 @@ pub struct Kernel<M: EventModel> {
     pub(crate) colour: Colour,
     pub(crate) sent: Counts,
     pub(crate) got: Counts,
-    pub(crate) red_minimum: Time,
-    pub(crate) floor: Time,
+    pub(crate) red_minimum: When,
+    pub(crate) floor: When,
     pub(crate) serial: u64,
     // The processes that may execute, by the ranks of their least pending events.
     pub(crate) ready: Tournament,
@@ -94,14 +94,14 @@ impl<M: EventModel> Kernel<M> {
 
     /// The red minimum: the least time, in ticks, of all that the worker sent since its last cut, or since the opening;
     /// the end of the run if it sent nothing.
-    pub fn red_minimum(&self) -> Time
+    pub fn red_minimum(&self) -> When
         ensures { result ≡ self.now.red_minimum }
     {
         self.red_minimum
     }
 
     /// The time, in ticks, below which the worker may commit.
-    pub fn floor(&self) -> Time
+    pub fn floor(&self) -> When
         ensures { result ≡ self.now.floor }
     {
         self.floor

@@ -20,7 +20,6 @@ mod readers;
 mod sending;
 mod settling;
 mod steering;
-mod times;
 
 pub use cutting::least_of_mail;
 pub use kernel::Kernel;

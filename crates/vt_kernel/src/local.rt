@@ -144,7 +144,7 @@ pub(crate) fn enter<M: EventModel>(
     let process = &processes[place];
     let least = process.least_rank();
     let own = process.ready();
-    let rank = other_than(own, least);
+    let rank = other_than(&own, &least);
     let number = place as u32;
     let who_is_ready = Teller(|other| ready_at(processes, other));
     enter_ready(ready, processes, number, own, who_is_ready);
@@ -154,11 +154,11 @@ pub(crate) fn enter<M: EventModel>(
 }
 
 /// The least rank, or None if it is that of the ready event.
-pub(crate) fn other_than(ready: Option<Rank>, least: Option<Rank>) -> Option<Rank>
-    ensures { result ≡ other_rank ready least }
+pub(crate) fn other_than(ready: &Option<Rank>, least: &Option<Rank>) -> Option<Rank>
+    ensures { result ≡ other_rank ready.now least.now }
 {
     match (ready, least) {
-        (Some(ready), Some(least)) if ready.is_same(&least) => None,
-        (_, least) => least,
+        (Some(ready), Some(least)) if ready.is_same(least) => None,
+        _ => *least,
     }
 }

@@ -15,7 +15,7 @@ ghost use Rattle.vt_kernel.specs.Held.{StandsFor, AreProcesses, entries_of};
 use crate::counts::Counts;
 use crate::kernel::Kernel;
 use std::alloc::Global;
-use vt_key::{Colour, Fault, Letter, MAX_COUNT, MAX_PROCESSES, MAX_WORKERS};
+use vt_key::{Colour, Fault, Letter, MAX_COUNT, MAX_PROCESSES, MAX_WORKERS, When};
 use vt_list::List;
 use vt_lp::{Lp, Spare};
 use vt_marks::Marks;
@@ -93,8 +93,8 @@ fn open<M: EventModel>(
         colour: Colour::White,
         sent: Counts::new(),
         got: Counts::new(),
-        red_minimum: config.end,
-        floor: 0,
+        red_minimum: config.end(),
+        floor: When::tick(0),
         serial,
         ready,
         unready,
@@ -137,7 +137,7 @@ fn start_all<M: EventModel>(
 
 /// A tournament for these processes, in which none takes part yet.
 fn tournament<M: EventModel>(alloc: Global, processes: &[Lp<M>]) -> Result<Tournament, Fault>
-    requires few { length processes.now ≤ 2 ^ 31 }
+    requires few { length processes.now ≤ 2 ^ 23 }
     ensures nobody { IfOk result (IsTournamentOf (entries_of (λ _. None) processes.now)) }
     ensures refused { IfErr result (λ fault. fault ≡ Memory) }
 {
@@ -181,7 +181,7 @@ fn count_started<M: EventModel>(model: &M, config: Config, p: u32) -> u64
     requires known { p < config.lps }
     ensures { result ≡ length ((simulation_of (M.handlers model.now) config).start p).sends }
 {
-    let mut out = Out::new(config, p, 0, 0);
+    let mut out = Out::new(config, p, When::tick(0), 0);
     Process::start(model, config, p, &mut out);
     out.sends().len() as u64
 }

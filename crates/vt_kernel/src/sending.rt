@@ -9,6 +9,7 @@ ghost use Rattle.vt_key.specs.declared.fault.Fault.TheVariants.{Memory, NotLawfu
 ghost use Rattle.vt_key.specs.declared.limits.TheConstants.{MAX_COUNT};
 ghost use Rattle.vt_model.specs.Handler.{Handlers};
 ghost use Rattle.vt_model.specs.Simulation.{simulation_of};
+ghost use Rattle.vt_model.specs.Settings.{end_of};
 ghost use Rattle.vt_steps.specs.Letters.{count_of, least_time, raised};
 ghost use Rattle.vt_steps.specs.World.{Part};
 ghost use Rattle.vt_steps.specs.PartSteps.{part_after_send, mail_of_send};
@@ -17,9 +18,8 @@ ghost use Rattle.vt_kernel.specs.Held.{StandsFor, AllOwnMail};
 ghost use Rattle.vt_kernel.specs.Guards.{is_for_worker, mailed, IsSendRefusal};
 
 use crate::kernel::Kernel;
-use crate::times::earlier;
 use std::mem;
-use vt_key::{Colour, Fault, Letter, Mail, Time};
+use vt_key::{Colour, Fault, Letter, Mail, When};
 use vt_list::{List, Predicate};
 use vt_lp::Spare;
 use vt_model::{Config, Model as EventModel};
@@ -33,7 +33,7 @@ impl<M: EventModel> Kernel<M> {
     /// [`Fault::Exhausted`]: the count of mail sent would pass 2^63. [`Fault::Memory`]: memory was refused. After
     /// each the worker and `mail` are unchanged.
     pub fn letters_for(&mut self, v: u32, mail: &mut Vec<Mail<M::Payload>>) -> Result<(), Fault>
-        ensures sent { let letters = filter (is_for_worker self.old.config v) self.old.outbox in IfOk result (λ _. self.new ≡ record self.old { outbox = filter (λ letter. not (is_for_worker self.old.config v letter)) self.old.outbox; sent = raised self.old.sent self.old.colour (length letters); red_minimum = earlier self.old.red_minimum (least_time self.old.config.end letters) }) }
+        ensures sent { let letters = filter (is_for_worker self.old.config v) self.old.outbox in IfOk result (λ _. self.new ≡ record self.old { outbox = filter (λ letter. not (is_for_worker self.old.config v letter)) self.old.outbox; sent = raised self.old.sent self.old.colour (length letters); red_minimum = earlier self.old.red_minimum (least_time (end_of self.old.config) letters) }) }
         ensures mail { IfOk result (λ _. mail.new.items ≡ mail.old.items ++ map (mailed self.old.colour) (filter (is_for_worker self.old.config v) self.old.outbox)) }
         ensures own { IfOk result (λ _. AllOwnMail self.old.config v (map (mailed self.old.colour) (filter (is_for_worker self.old.config v) self.old.outbox))) }
         ensures done { (handlers : Handlers _ _ _) (part : Part _) → StandsFor handlers self.old part → IfOk result (λ _. (may_send (simulation_of handlers self.old.config) self.old.worker v part ≡ true) × StandsFor handlers self.new (part_after_send (simulation_of handlers self.old.config) v part) × (mail.new.items ≡ mail.old.items ++ mail_of_send (simulation_of handlers self.old.config) v part)) }
@@ -56,7 +56,7 @@ impl<M: EventModel> Kernel<M> {
             mail,
         );
         self.sent.raise(self.colour, count);
-        self.red_minimum = earlier(self.red_minimum, least);
+        self.red_minimum = self.red_minimum.earlier(least);
         Ok(())
     }
 
@@ -132,20 +132,23 @@ fn move_letters<P: Copy, K: Copy>(
     v: u32,
     colour: Colour,
     mail: &mut Vec<Mail<P>>,
-) -> Time
+) -> When
     requires room { vec_len mail.old + length (filter (is_for_worker config v) outbox.old) ≤ vec_capacity mail.old }
     ensures outbox { outbox.new ≡ filter (λ letter. not (is_for_worker config v letter)) outbox.old }
     ensures mail { mail.new.items ≡ mail.old.items ++ map (mailed colour) (filter (is_for_worker config v) outbox.old) }
-    ensures least { result ≡ least_time config.end (filter (is_for_worker config v) outbox.old) }
+    ensures least { result ≡ least_time (end_of config) (filter (is_for_worker config v) outbox.old) }
 {
     let mut letters = mem::replace(outbox, List::new(*mail.allocator()));
-    let mut least = config.end;
+    let mut least = config.end();
     while let Some(parcel) = letters.pop_front() {
-        let letter = *parcel.get();
+        let letter = parcel.get();
         if config.owner(letter.event.dest) == v {
+            least = least.earlier(letter.event.rank.key.when());
+            let _ = mail.push(Mail {
+                letter: *letter,
+                colour,
+            });
             spare.keep_letter(parcel);
-            least = earlier(least, letter.event.rank.key.time);
-            let _ = mail.push(Mail { letter, colour });
         } else {
             outbox.push_back(parcel);
         }

@@ -5,7 +5,7 @@ use std::alloc::AllocGlobal;
 use std::process::Abort;
 use std::rt::{self, HostRuntime};
 use vt_kernel::Kernel;
-use vt_key::{Colour, Fault, Mail, Sign, Stamp, Time};
+use vt_key::{Colour, Fault, Mail, Sign, Stamp, When};
 use vt_model::Config;
 use vt_models::{Hop, Token};
 
@@ -71,11 +71,11 @@ fn sends(
     v: u32,
     mail: &mut Vec<Mail<Token>>,
     want: &[LetterTold],
-    red_minimum: Time,
+    red_minimum: u64,
 ) {
     assert_eq!(rt; worker.letters_for(v, mail), Ok(()));
     assert!(rt; is_mail(mail, Colour::White, want));
-    assert_eq!(rt; worker.red_minimum(), red_minimum);
+    assert_eq!(rt; worker.red_minimum(), When::tick(red_minimum));
 }
 
 #[test]

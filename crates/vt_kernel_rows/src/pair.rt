@@ -8,7 +8,7 @@ use std::alloc::AllocGlobal;
 use std::process::Abort;
 use std::{mem, rt};
 use vt_kernel::Kernel;
-use vt_key::{Colour, Fault, Mail, Sign, Stamp, Time};
+use vt_key::{Colour, Fault, Mail, Sign, Stamp, When};
 use vt_model::Config;
 use vt_models::{Hop, Token};
 use vt_steps::Step;
@@ -94,13 +94,13 @@ impl Worker {
     }
 
     /// The worker's part of a cut.
-    pub(crate) fn turn(&mut self, announced: Time) {
-        self.kernel.turn(announced);
+    pub(crate) fn turn(&mut self, announced: u64) {
+        self.kernel.turn(When::tick(announced));
     }
 
     /// The worker may commit below this time.
-    pub(crate) fn set_floor(&mut self, floor: Time) {
-        self.kernel.set_floor(floor);
+    pub(crate) fn set_floor(&mut self, floor: u64) {
+        self.kernel.set_floor(When::tick(floor));
     }
 
     /// The past events below the floor are forgotten.
@@ -144,22 +144,22 @@ impl Worker {
     }
 
     /// It must have this colour, red minimum and floor.
-    pub(crate) fn has_cut(&self, rt: &impl Abort, colour: Colour, red_minimum: Time, floor: Time) {
+    pub(crate) fn has_cut(&self, rt: &impl Abort, colour: Colour, red_minimum: u64, floor: u64) {
         let kernel = &self.kernel;
         assert_eq!(rt;
             (kernel.colour(), kernel.red_minimum(), kernel.floor()),
-            (colour, red_minimum, floor)
+            (colour, When::tick(red_minimum), When::tick(floor))
         );
     }
 
     /// It must report so.
-    pub(crate) fn reports(&self, rt: &impl Abort, sent: u64, got: u64, least: Time) {
-        assert_eq!(rt; self.kernel.report_values(), (sent, got, least));
+    pub(crate) fn reports(&self, rt: &impl Abort, sent: u64, got: u64, least: u64) {
+        assert_eq!(rt; self.kernel.report_values(), (sent, got, When::tick(least)));
     }
 
     /// The least time of its letters must be this.
-    pub(crate) fn tells_least(&self, rt: &impl Abort, want: Time) {
-        assert_eq!(rt; self.kernel.least(), want);
+    pub(crate) fn tells_least(&self, rt: &impl Abort, want: u64) {
+        assert_eq!(rt; self.kernel.least(), When::tick(want));
     }
 
     /// The mail on its way to it must be exactly these letters, all in this colour.

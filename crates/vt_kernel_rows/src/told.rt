@@ -1,10 +1,10 @@
 //! What is told of letters and of rows, in few words.
 
-use vt_key::{Colour, Key, Mail, Sign, Time};
+use vt_key::{Colour, Key, Mail, Sign};
 use vt_model::Row;
 
-/// A key as time, source and number.
-pub(crate) type KeyTold = (Time, u32, u64);
+/// A key as tick, source and number.
+pub(crate) type KeyTold = (u64, u32, u64);
 
 /// A letter by its sign, its key, and its stamp as worker and serial.
 pub(crate) type LetterTold = (Sign, KeyTold, (u32, u64));
@@ -13,7 +13,7 @@ pub(crate) type LetterTold = (Sign, KeyTold, (u32, u64));
 pub(crate) type RecordTold = (KeyTold, u32, u64);
 
 fn key_told(key: &Key) -> KeyTold {
-    (key.time, key.source, key.number)
+    (key.when().ticks(), key.source(), key.number())
 }
 
 fn letter_told<P: Copy>(mail: &Mail<P>) -> LetterTold {
@@ -46,5 +46,6 @@ fn is_row(row: &Row, wanted: &RecordTold) -> bool {
     let (key, lp, value) = *wanted;
     key_told(&row.key) == key
         && row.index == 0
-        && (row.rec.time, row.rec.lp, row.rec.kind, row.rec.value) == (row.key.time, lp, 1, value)
+        && (row.rec.time, row.rec.lp, row.rec.kind, row.rec.value)
+            == (row.key.when().ticks(), lp, 1, value)
 }

@@ -1,4 +1,6 @@
 pub mod Faults
+pub mod Keys
 pub mod Letters
 pub mod Order
+pub mod Pairs
 pub mod Times

@@ -1,7 +1,7 @@
 -- The orders of keys, stamps and ranks: field by field from the left.
 use Rattle.std.specs.Prelude.{◌≡◌, ◌<◌, ◌⊎◌, Bool, ◌||◌, ◌&&◌, nat_lt, nat_eq}
 use Rattle.vt_key.specs.Times.{TimeBefore, time_before}
-use Rattle.vt_key.specs.declared.order.Key.{Key}
+use Rattle.vt_key.specs.Keys.{Key}
 use Rattle.vt_key.specs.declared.order.Stamp.{Stamp}
 use Rattle.vt_key.specs.declared.order.Rank.{Rank}
 

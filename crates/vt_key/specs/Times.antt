@@ -1,9 +1,22 @@
--- Virtual times. Everything uses only their order, except the proof that a run ends.
-use Rattle.std.specs.Prelude.{ℕ, ◌-◌, ◌<◌, ◌≤◌, Bool, nat_lt, nat_le, nat_eq, min}
+-- Virtual times. A time is a pair of a tick and a priority, and stands here as one number. The order of the numbers is the order
+-- of the pairs: by the tick, then by the priority. Everything uses only this order, except a send and the proof that a run ends.
+use Rattle.std.specs.Prelude.{ℕ, ◌+◌, ◌-◌, ◌*◌, ◌/◌, ◌%◌, ◌<◌, ◌≤◌, Bool, nat_lt, nat_le, nat_eq, min}
 
 -- a virtual time
 abbrev pub Time : Type 0
 Time = ℕ
+
+-- the time of a tick and a priority below 256
+abbrev pub at : ℕ → ℕ → Time
+at tick priority = 256 * tick + priority
+
+-- the tick of a time
+abbrev pub ticks_of : Time → ℕ
+ticks_of t = t / 256
+
+-- the priority of a time
+abbrev pub priority_of : Time → ℕ
+priority_of t = t % 256
 
 -- one time is before another
 abbrev pub TimeBefore : Time → Time → Type 0
@@ -13,7 +26,7 @@ TimeBefore a b = a < b
 abbrev pub time_before : Time → Time → Bool
 time_before a b = nat_lt a b
 
--- the ticks from a time to the end, by which a run is shown to end
+-- how far a time is from the end, by which a run is shown to end
 abbrev pub time_left : Time → Time → ℕ
 time_left end t = end - t
 

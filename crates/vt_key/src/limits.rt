@@ -1,7 +1,5 @@
 //! The limits of a run, each named once.
 
-use crate::Time;
-
 /// The most logical processes of a run.
 pub const MAX_PROCESSES: u32 = 65_536;
 
@@ -9,7 +7,7 @@ pub const MAX_PROCESSES: u32 = 65_536;
 pub const MAX_WORKERS: u32 = 64;
 
 /// The latest end of a run, in ticks: 2^62.
-pub const MAX_END: Time = 1 << 62;
+pub const MAX_END: u64 = 1 << 62;
 
 /// The largest value of a counter, of sends, serials, mail or rounds: 2^63.
 pub const MAX_COUNT: u64 = 1 << 63;

@@ -1,35 +1,141 @@
 //! Keys, stamps and ranks, and their orders.
 
-ghost use Rattle.std.specs.Prelude.{◌≡◌};
+ghost use Rattle.std.specs.Prelude.{◌≡◌, ◌==◌};
+ghost use Rattle.std.specs.Ordering.{on, eq_of_both, as_partial_cmp};
+ghost use Rattle.std.specs.Cmp.{partial_order_from_own_ties};
+ghost use Rattle.std.proofs.Common.{rules};
+ghost use Rattle.std.specs.Cmp.Rules.{comparing};
+ghost use Rattle.vt_key.specs.Keys.{key_cmp};
 ghost use Rattle.vt_key.specs.Order.{KeyBefore, StampBefore, RankBefore, key_before, rank_before, rank_same, stamp_same, IsStrictTotal};
 
-use crate::Time;
+use crate::When;
+use std::cmp::Ordering;
+use std::marker::Model;
 
 /// The name of an event in virtual time. Keys compare field by field: time, then source, then number. So events of one time
 /// have an order that doesn't depend on the schedule.
 ///
-/// `number` is part of the sender's state and is rolled back with it, so an event that is sent again may have the key of
+/// The number is part of the sender's state and is rolled back with it, so an event that is sent again may have the key of
 /// a cancelled one: a [`Stamp`] tells the two apart.
-#[derive(Debug, Clone, Copy, PartialEq, Eq, PartialOrd, Ord, Hash)]
+///
+/// A key has 24 bytes. One that held a [`When`] would have 32.
+#[derive(Debug, Clone, Copy, Hash)]
 pub struct Key {
-    /// When the event is received.
-    pub time: Time,
-    /// The logical process that sent it.
-    pub source: u32,
-    /// How many events that process had sent before it.
-    pub number: u64,
+    /// The tick of the time.
+    ticks: u64,
+    number: u64,
+    source: u32,
+    /// The priority of the time.
+    priority: u8,
+}
+
+impl Model for Key {
+    ghost use Rattle.std.specs.Prelude.{◌<◌};
+    ghost use Rattle.vt_key.specs.Keys.{Key};
+    ghost use Rattle.vt_key.specs.Times.{at, ticks_of, priority_of};
+
+    ghost Value = { Key };
+
+    ghost use Rattle.vt_key.specs.Pairs.{key_again};
+
+    ghost view = { λ k. record { time = at k.ticks k.priority; source = k.source; number = k.number } };
+
+    ghost invariant = { λ k. k.priority < 256 };
+
+    ghost inverse = { λ v. record { ticks = ticks_of v.time; number = v.number; source = v.source; priority = priority_of v.time } };
+
+    ghost inverse_ok = { λ k h. key_again k h };
 }
 
 impl Key {
+    /// The key of the event that process `source` sends for `time` after `number` others.
+    pub fn new(time: When, source: u32, number: u64) -> Key
+        ensures { result ≡ record { time = time; source = source; number = number } }
+    {
+        Key {
+            ticks: time.ticks(),
+            number,
+            source,
+            priority: time.priority(),
+        }
+    }
+
+    /// When the event is received.
+    pub fn when(&self) -> When
+        ensures { result ≡ self.now.time }
+    {
+        When::new(self.ticks, self.priority)
+    }
+
+    /// The logical process that sent it.
+    pub fn source(&self) -> u32
+        ensures { result ≡ self.now.source }
+    {
+        self.source
+    }
+
+    /// How many events that process had sent before it.
+    pub fn number(&self) -> u64
+        ensures { result ≡ self.now.number }
+    {
+        self.number
+    }
+
     #[tactic(auto, unfolding(crate::specs::Order::key_before))]
     /// Whether this key is before the other.
     pub fn is_before(&self, other: &Key) -> bool
         ensures { result ≡ key_before self.now other.now }
     {
-        self.time < other.time
-            || (self.time == other.time
-                && (self.source < other.source
-                    || (self.source == other.source && self.number < other.number)))
+        self.ticks < other.ticks
+            || (self.ticks == other.ticks
+                && (self.priority < other.priority
+                    || (self.priority == other.priority
+                        && (self.source < other.source
+                            || (self.source == other.source && self.number < other.number)))))
+    }
+}
+
+impl PartialEq for Key {
+    ghost eq = { eq_of_both (on (λ k. k.time) ◌==◌) (eq_of_both (on (λ k. k.source) ◌==◌) (on (λ k. k.number) ◌==◌)) };
+
+    ghost laws = { Prim.search (comparing, rules) };
+
+    fn eq(&self, other: &Key) -> bool {
+        self.when() == other.when() && self.source == other.source && self.number == other.number
+    }
+}
+
+impl Eq for Key {
+    ghost laws = { Prim.search (comparing, rules) };
+}
+
+impl Ord for Key {
+    ghost cmp = { key_cmp };
+
+    ghost total = { Prim.search (comparing, rules) };
+
+    ghost matches_partial_cmp = { Prim.search (comparing, rules) };
+
+    ghost matches_eq = { Prim.search (comparing, rules) };
+
+    fn cmp(&self, other: &Key) -> Ordering {
+        match self.when().cmp(&other.when()) {
+            Ordering::Equal => self
+                .source
+                .cmp(&other.source)
+                .then(self.number.cmp(&other.number)),
+            order => order,
+        }
+    }
+}
+
+impl PartialOrd for Key {
+    ghost partial_cmp = { as_partial_cmp key_cmp };
+
+    ghost laws = { partial_order_from_own_ties (Prim.search (comparing, rules)) (Prim.search (comparing, rules)) };
+
+    fn partial_cmp(&self, other: &Key) -> Option<Ordering> {
+        Some(self.cmp(other))
     }
 }
 

@@ -3,7 +3,7 @@ use std::alloc::AllocError;
 use std::cell::Cell;
 use std::rc::Rc;
 use std::test::*;
-use vt_key::{Event, Key, Rank, Ranked, Stamp};
+use vt_key::{Event, Key, Rank, Ranked, Stamp, When};
 
 // A number that counts its own drops.
 pub(crate) struct Counted {
@@ -66,11 +66,7 @@ fn is_made_of(list: &List<u32>, wanted: &[u32]) -> bool {
 }
 
 pub(crate) fn event(time: u64, serial: u64, payload: u32) -> Event<u32> {
-    let key = Key {
-        time,
-        source: 0,
-        number: 0,
-    };
+    let key = Key::new(When::tick(time), 0, 0);
     let stamp = Stamp { worker: 0, serial };
     Event {
         rank: Rank { key, stamp },
@@ -138,7 +134,7 @@ fn an_item_of_equal_rank_goes_behind(rt: HostRuntime) -> Result<(), Fail> {
     for want in 0..4u32 {
         assert_eq!(rt; list.get(want as usize).map(|e| e.payload), Some(want));
     }
-    assert_eq!(rt; list.front().map(|e| e.rank().key.time), Some(1));
+    assert_eq!(rt; list.front().map(|e| e.rank().key.when().ticks()), Some(1));
     assert_eq!(rt; list.back().map(|e| e.payload), Some(3));
     Ok(())
 }

@@ -12,6 +12,7 @@ use Rattle.vt_key.proofs.OrderLemmas.{rank_same-true, same-rank_same}
 use Rattle.vt_stream.specs.Words.{Stream}
 use Rattle.vt_model.specs.declared.settings.Config.{Config}
 use Rattle.vt_model.specs.Handler.{Handlers}
+use Rattle.vt_model.specs.Settings.{end_of}
 use Rattle.vt_steps.specs.Letters.{has_rank, insert_ordered}
 use Rattle.vt_steps.specs.World.{LogicalProcess}
 use Rattle.vt_steps.specs.StandsFor.{entry_of}
@@ -92,7 +93,7 @@ module _ {P K : Type 0} where
 
   -- a message more
   pub inside-message : (config : Config) (p number : ℕ) (stream : Stream) (past : List (PastEvent P K)) (pending waiting new : List (Letter P)) (x : Letter P) →
-      new ≡ insert_letter x pending → IsOwnLetter p config.end Plus x → holds_letter pending waiting past Plus (letter_rank x) ≡ false →
+      new ≡ insert_letter x pending → IsOwnLetter p (end_of config) Plus x → holds_letter pending waiting past Plus (letter_rank x) ≡ false →
       IsProcessInside config p number stream past pending waiting → IsProcessInside config p number stream past new waiting
   inside-message config p number stream past pending waiting new x is own never i =
       let none = right-false (list_any (has_rank (letter_rank x)) pending) (list_any (λ (e : PastEvent P K). rank_same e.letter.event.rank (letter_rank x)) past) never in
@@ -100,7 +101,7 @@ module _ {P K : Type 0} where
         known = i.known;
         few_sends = i.few_sends;
         own_stream = i.own_stream;
-        own_pending = subst (λ (ls : List (Letter P)). All (IsOwnLetter p config.end Plus) ls) (sym is) (All-insert (IsOwnLetter p config.end Plus) x pending own i.own_pending);
+        own_pending = subst (λ (ls : List (Letter P)). All (IsOwnLetter p (end_of config) Plus) ls) (sym is) (All-insert (IsOwnLetter p (end_of config) Plus) x pending own i.own_pending);
         own_waiting = i.own_waiting;
         own_past = i.own_past;
         rising = i.rising;
@@ -109,14 +110,14 @@ module _ {P K : Type 0} where
 
   -- an anti-message more
   pub inside-anti_message : (config : Config) (p number : ℕ) (stream : Stream) (past : List (PastEvent P K)) (pending waiting new : List (Letter P)) (x : Letter P) →
-      new ≡ insert_letter x waiting → IsOwnLetter p config.end Minus x → IsProcessInside config p number stream past pending waiting →
+      new ≡ insert_letter x waiting → IsOwnLetter p (end_of config) Minus x → IsProcessInside config p number stream past pending waiting →
       IsProcessInside config p number stream past pending new
   inside-anti_message config p number stream past pending waiting new x is own i = record {
     known = i.known;
     few_sends = i.few_sends;
     own_stream = i.own_stream;
     own_pending = i.own_pending;
-    own_waiting = subst (λ (ls : List (Letter P)). All (IsOwnLetter p config.end Minus) ls) (sym is) (All-insert (IsOwnLetter p config.end Minus) x waiting own i.own_waiting);
+    own_waiting = subst (λ (ls : List (Letter P)). All (IsOwnLetter p (end_of config) Minus) ls) (sym is) (All-insert (IsOwnLetter p (end_of config) Minus) x waiting own i.own_waiting);
     own_past = i.own_past;
     rising = i.rising;
     apart = i.apart;

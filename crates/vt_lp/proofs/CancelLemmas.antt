@@ -11,6 +11,7 @@ use Rattle.vt_stream.specs.Words.{Stream}
 use Rattle.vt_model.specs.declared.settings.Config.{Config}
 use Rattle.vt_model.specs.Handler.{Handlers}
 use Rattle.vt_model.specs.Histories.{Among}
+use Rattle.vt_model.specs.Settings.{end_of}
 use Rattle.vt_steps.specs.Letters.{has_stamp, without_first}
 use Rattle.vt_steps.specs.World.{LogicalProcess}
 use Rattle.vt_steps.specs.ProcessSteps.{ProcessEffect, are_opposite, cancel_process}
@@ -133,8 +134,8 @@ module _ {P K : Type 0} where
     known = i.known;
     few_sends = i.few_sends;
     own_stream = i.own_stream;
-    own_pending = subst (λ (ls : List (Letter P)). All (IsOwnLetter p config.end Plus) ls) (sym is) (All-without (IsOwnLetter p config.end Plus) stamp pending i.own_pending);
-    own_waiting = subst (λ (ls : List (Letter P)). All (IsOwnLetter p config.end Minus) ls) (sym are) (All-without (IsOwnLetter p config.end Minus) stamp waiting i.own_waiting);
+    own_pending = subst (λ (ls : List (Letter P)). All (IsOwnLetter p (end_of config) Plus) ls) (sym is) (All-without (IsOwnLetter p (end_of config) Plus) stamp pending i.own_pending);
+    own_waiting = subst (λ (ls : List (Letter P)). All (IsOwnLetter p (end_of config) Minus) ls) (sym are) (All-without (IsOwnLetter p (end_of config) Minus) stamp waiting i.own_waiting);
     own_past = i.own_past;
     rising = i.rising;
     apart = subst (λ (ls : List (Letter P)). All (IsNotPending ls) past) (sym is) (apart-without stamp pending past i.apart);

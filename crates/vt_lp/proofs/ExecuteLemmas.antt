@@ -19,6 +19,7 @@ use Rattle.vt_model.specs.Process.{IsProcessStream}
 use Rattle.vt_stream.specs.Words.{Stream}
 use Rattle.vt_pending.specs.Letters.{letter_rank, has_rank, holds_rank, IsRising}
 use Rattle.vt_model.specs.Simulation.{Simulation, Triple, Fired, simulation_of}
+use Rattle.vt_model.specs.Settings.{end_of}
 use Rattle.vt_steps.specs.Letters.{unstamped, stamped, signed}
 use Rattle.vt_steps.specs.World.{Entry, LogicalProcess, triple_after}
 use Rattle.vt_steps.specs.ProcessSteps.{may_follow, effect_of_execute, execute_least, execute_process}
@@ -240,21 +241,21 @@ module _ {P K : Type 0} where
   pub inside-more : (config : Config) (p number new_number : ℕ) (stream new_stream : Stream) (past : List (PastEvent P K)) (pending waiting : List (Letter P)) (event : Event P)
       (l : Letter P) (ls : List (Letter P)) (trail : Trail P K) (new_past : List (PastEvent P K)) →
       IsProcessInside config p number stream past pending waiting → IsRising pending → pending ≡ l ∷ ls → Some event ≡ ready_event pending past → new_number ≤ MAX_COUNT →
-      IsProcessStream config.seed p new_stream → trail.drawn ≤ MAX_DRAWS → trail.number ≤ MAX_COUNT → All (IsReady config.lps config.end) trail.anti_messages →
+      IsProcessStream config.seed p new_stream → trail.drawn ≤ MAX_DRAWS → trail.number ≤ MAX_COUNT → All (IsReady config.lps (end_of config)) trail.anti_messages →
       new_past ≡ past ++ past_event l trail ∷ [] → IsProcessInside config p new_number new_stream new_past ls waiting
   inside-more config p number new_number stream new_stream past pending waiting event l ls trail new_past inside rises is ready few own few_words few_sends anti longer =
       let e : PastEvent P K = past_event l trail in
-      let mine : All (IsOwnLetter p config.end Plus) (l ∷ ls) = subst (λ (xs : List (Letter P)). All (IsOwnLetter p config.end Plus) xs) is inside.own_pending in
+      let mine : All (IsOwnLetter p (end_of config) Plus) (l ∷ ls) = subst (λ (xs : List (Letter P)). All (IsOwnLetter p (end_of config) Plus) xs) is inside.own_pending in
       let up : IsRising (l ∷ ls) = subst IsRising is rises in
       let apart : All (IsNotPending (l ∷ ls)) past = subst (λ (xs : List (Letter P)). All (IsNotPending xs) past) is inside.apart in
       subst (λ (es : List (PastEvent P K)). IsProcessInside config p new_number new_stream es ls waiting) (sym longer) (record {
         known = inside.known;
         few_sends = few;
         own_stream = own;
-        own_pending = All-tail (IsOwnLetter p config.end Plus) l ls mine;
+        own_pending = All-tail (IsOwnLetter p (end_of config) Plus) l ls mine;
         own_waiting = inside.own_waiting;
         own_past = All-append (IsOwnEvent config p) past (e ∷ []) inside.own_past (All-cons (IsOwnEvent config p) e [] (record {
-          own = All-head (IsOwnLetter p config.end Plus) l ls mine;
+          own = All-head (IsOwnLetter p (end_of config) Plus) l ls mine;
           few = few_words;
           numbered = few_sends;
           ready = anti;

@@ -12,6 +12,7 @@ use Rattle.vt_model.specs.declared.settings.Config.{Config}
 use Rattle.vt_model.specs.Handler.{Handlers}
 use Rattle.vt_model.specs.Process.{IsProcessStream}
 use Rattle.vt_model.specs.Simulation.{Simulation, Triple, simulation_of}
+use Rattle.vt_model.specs.Settings.{end_of}
 use Rattle.vt_pending.specs.Letters.{letter_rank, insert_letter}
 use Rattle.vt_steps.specs.Letters.{signed, insert_ordered}
 use Rattle.vt_steps.specs.World.{Entry, LogicalProcess, triple_after}
@@ -121,7 +122,7 @@ module _ {S P K : Type 0} (handlers : Handlers S P K) where
           leads = subst (λ (t : Triple S). LeadTo sim p (triple_after sim p h.done) (map (remembered handlers p) past) t)
               (ap (λ d. way_back handlers d e held.triple) (sym own) ∙ sym back) gone.leads;
         };
-        letters = box ∙ ap (λ (xs : List (Letter P)). outbox ++ xs) (minus-again held.config.lps held.config.end e.anti_messages mine.ready);
+        letters = box ∙ ap (λ (xs : List (Letter P)). outbox ++ xs) (minus-again held.config.lps (end_of held.config) e.anti_messages mine.ready);
         serials = refl;
       }
 
@@ -158,7 +159,7 @@ module _ {P K : Type 0} where
         known = inside.known;
         few_sends = few;
         own_stream = own;
-        own_pending = All-insert (IsOwnLetter p config.end Plus) e.letter pending mine.1.own inside.own_pending;
+        own_pending = All-insert (IsOwnLetter p (end_of config) Plus) e.letter pending mine.1.own inside.own_pending;
         own_waiting = inside.own_waiting;
         own_past = mine.0;
         rising = rising-front es e rises;

@@ -12,6 +12,7 @@ use Rattle.vt_model.specs.declared.settings.Config.{Config}
 use Rattle.vt_model.specs.Handler.{Handlers}
 use Rattle.vt_model.specs.Process.{IsProcessStream}
 use Rattle.vt_model.specs.Simulation.{Triple, simulation_of, rows_of}
+use Rattle.vt_model.specs.Settings.{end_of}
 use Rattle.vt_steps.specs.World.{LogicalProcess}
 use Rattle.vt_steps.specs.StandsFor.{Remembered, ProcessMemory, StandsForProcess}
 use Rattle.vt_pending.specs.Letters.{holds_rank}
@@ -71,7 +72,7 @@ pub record IsWithinRun {P : Type 0} (lps : ℕ) (end : Time) (letter : Letter P)
 
 -- each of these letters is one that some process of the run receives before its end
 abbrev pub AllWithinRun : {P : Type 0} → Config → List (Letter P) → Type 0
-AllWithinRun config letters = All (IsWithinRun config.lps config.end) letters
+AllWithinRun config letters = All (IsWithinRun config.lps (end_of config)) letters
 
 -- a letter of this sign for process p, before the end of the run
 pub record IsOwnLetter {P : Type 0} (p : ℕ) (end : Time) (sign : Sign) (letter : Letter P) : Type 0 where
@@ -86,10 +87,10 @@ pub record IsReady {P : Type 0} (lps : ℕ) (end : Time) (letter : Letter P) : T
 
 -- a past event of process p
 pub record IsOwnEvent {P K : Type 0} (config : Config) (p : ℕ) (e : PastEvent P K) : Type 0 where
-  pub own : IsOwnLetter p config.end Plus e.letter
+  pub own : IsOwnLetter p (end_of config) Plus e.letter
   pub few : e.drawn ≤ MAX_DRAWS
   pub numbered : e.number ≤ MAX_COUNT
-  pub ready : All (IsReady config.lps config.end) e.anti_messages
+  pub ready : All (IsReady config.lps (end_of config)) e.anti_messages
 
 module _ {P K : Type 0} where
   -- the ranks of past events rise strictly: each is after this one's
@@ -111,8 +112,8 @@ pub record IsProcessInside {P K : Type 0} (config : Config) (p number : ℕ) (st
   pub known : p < config.lps
   pub few_sends : number ≤ MAX_COUNT
   pub own_stream : IsProcessStream config.seed p stream
-  pub own_pending : All (IsOwnLetter p config.end Plus) pending
-  pub own_waiting : All (IsOwnLetter p config.end Minus) waiting
+  pub own_pending : All (IsOwnLetter p (end_of config) Plus) pending
+  pub own_waiting : All (IsOwnLetter p (end_of config) Minus) waiting
   pub own_past : All (IsOwnEvent config p) past
   pub rising : IsRisingPast past
   pub apart : All (IsNotPending pending) past

@@ -16,7 +16,7 @@ use crate::past::Past;
 use crate::spare::Spare;
 use arrayvec::ArrayVec;
 use std::alloc::Global;
-use vt_key::{Event, Fault, Key, Time};
+use vt_key::{Event, Fault, Key, When};
 use vt_list::List;
 use vt_model::{MAX_RECORDS, Model as EventModel, Record, Row};
 
@@ -41,7 +41,7 @@ impl<M: EventModel> Lp<M> {
     /// that [`Lp::fossil`] forgets.
     ///
     /// [`Fault::Memory`]: memory was refused, and the rows are unchanged.
-    pub fn ripe(&self, floor: Time, rows: &mut Vec<Row>) -> Result<(), Fault>
+    pub fn ripe(&self, floor: When, rows: &mut Vec<Row>) -> Result<(), Fault>
         ensures rows { (handlers : Handlers _ _ _) (h : LogicalProcess _) → StandsFor handlers self.now h → IfOk result (λ done. rows.new.items ≡ rows.old.items ++ ripe_rows (simulation_of handlers self.now.config) self.now.lp floor h) }
         ensures refused { IfErr result (λ fault. (fault ≡ Memory) × (rows.new.items ≡ rows.old.items)) }
     {
@@ -54,7 +54,7 @@ impl<M: EventModel> Lp<M> {
     }
 
     /// Forgets the past events before the floor, which are committed (fossil collection). It takes no memory.
-    pub fn fossil(&mut self, floor: Time)
+    pub fn fossil(&mut self, floor: When)
         ensures committed { (handlers : Handlers _ _ _) (h : LogicalProcess _) → StandsFor handlers self.old h → StandsFor handlers self.new (process_after_commit floor h) }
         ensures same { (self.new.lp ≡ self.old.lp) × (self.new.config ≡ self.old.config) × (self.new.triple ≡ self.old.triple) × (self.new.pending ≡ self.old.pending) × (self.new.waiting ≡ self.old.waiting) }
     {
@@ -64,7 +64,7 @@ impl<M: EventModel> Lp<M> {
 
     /// As [`Lp::fossil`], and keeps the memory of the forgotten events for [`Lp::execute_reusing`]. Returns whether
     /// an event was forgotten; if not, nothing changes.
-    pub fn fossil_into(&mut self, floor: Time, spare: &mut Spare<M::Payload, M::Kept>) -> bool
+    pub fn fossil_into(&mut self, floor: When, spare: &mut Spare<M::Payload, M::Kept>) -> bool
         ensures committed { (handlers : Handlers _ _ _) (h : LogicalProcess _) → StandsFor handlers self.old h → StandsFor handlers self.new (process_after_commit floor h) }
         ensures same { (self.new.lp ≡ self.old.lp) × (self.new.config ≡ self.old.config) × (self.new.triple ≡ self.old.triple) × (self.new.pending ≡ self.old.pending) × (self.new.waiting ≡ self.old.waiting) }
         ensures past { self.new.past ≡ unripe_events floor self.old.past }
@@ -77,14 +77,14 @@ impl<M: EventModel> Lp<M> {
 
 /// Drops the first past events, as many as are before the floor, and keeps their memory. Returns whether there was
 /// one.
-fn drop_ripe<P: Copy, K: Copy>(past: &mut Past<P, K>, spare: &mut Spare<P, K>, floor: Time) -> bool
+fn drop_ripe<P: Copy, K: Copy>(past: &mut Past<P, K>, spare: &mut Spare<P, K>, floor: When) -> bool
     ensures unripe { past.new ≡ unripe_events floor past.old }
     ensures unchanged { IsFalse result → past.new ≡ past.old }
     ensures kept { spare.new.events + length past.new ≡ spare.old.events + length past.old }
 {
     let mut some = false;
     while let Some(first) = past.front() {
-        if first.letter.get().event.rank.key.time >= floor {
+        if first.letter.get().event.rank.key.when() >= floor {
             break;
         }
         if let Some(committed) = past.pop_front() {
@@ -99,7 +99,7 @@ fn drop_ripe<P: Copy, K: Copy>(past: &mut Past<P, K>, spare: &mut Spare<P, K>, f
 /// appended.
 fn append_ripe<P: Copy, K: Copy>(
     past: &List<PastEvent<P, K>>,
-    floor: Time,
+    floor: When,
     rows: &mut Vec<Row>,
 ) -> Result<(), Fault>
     ensures rows { IfOk result (λ done. rows.new.items ≡ rows.old.items ++ rows_of_ripe floor past.now) }
@@ -107,7 +107,7 @@ fn append_ripe<P: Copy, K: Copy>(
 {
     for event in past.iter() {
         let key = event.letter.get().event.rank.key;
-        if key.time >= floor {
+        if key.when() >= floor {
             break;
         }
         append_rows(key, &event.records, rows)?;
@@ -124,10 +124,11 @@ fn append_rows(
     ensures rows { IfOk result (λ done. rows.new.items ≡ rows.old.items ++ rows_of key records.now.items) }
     ensures refused { IfErr result (λ fault. (fault ≡ Memory) × ((some : List Row) × (rows.new.items ≡ rows.old.items ++ some))) }
 {
+    let key = &key;
     let mut index = 0;
     for record in records.as_slice() {
         let row = Row {
-            key,
+            key: *key,
             index,
             rec: *record,
         };

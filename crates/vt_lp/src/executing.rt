@@ -7,6 +7,7 @@ ghost use Rattle.vt_key.specs.declared.letter.Letter.{Letter};
 ghost use Rattle.vt_key.specs.declared.letter.Sign.TheVariants.{Plus, Minus};
 ghost use Rattle.vt_model.specs.Process.{triple_at, IsProcessStream};
 ghost use Rattle.vt_model.specs.Simulation.{simulation_of};
+ghost use Rattle.vt_model.specs.Settings.{end_of};
 ghost use Rattle.vt_pending.specs.Letters.{IsRising};
 ghost use Rattle.vt_stream.specs.Words.{moved};
 ghost use Rattle.vt_steps.specs.Letters.{unstamped, stamped, signed};
@@ -162,7 +163,7 @@ fn advance<M: EventModel>(
     event: Event<M::Payload>,
 ) -> Result<(Trail<M::Payload, M::Kept>, List<Letter<M::Payload>>), Fault>
     requires known { event.dest < config.lps }
-    requires early { TimeBefore event.rank.key.time config.end }
+    requires early { TimeBefore event.rank.key.time (end_of config) }
     requires numbered { process.old.number ≤ MAX_COUNT }
     requires stream { IsProcessStream config.seed event.dest process.old.stream }
     ensures triple { let fired = (simulation_of (M.handlers model.now) config).fire event.dest (triple_at process.old.state process.old.number process.old.stream) (unstamped event) in IfOk result (λ a. triple_at process.new.state process.new.number process.new.stream ≡ fired.triple) }
@@ -171,7 +172,7 @@ fn advance<M: EventModel>(
     ensures remembered { M.IsState model.now process.old.state → IfOk result (λ a. IsRemembered (simulation_of (M.handlers model.now) config) event.dest (triple_at process.old.state process.old.number process.old.stream) (remembered (M.handlers model.now) event.dest (past_event (signed Plus event) a.0))) }
     ensures few { IfOk result (λ a. a.0.drawn ≤ MAX_DRAWS) }
     ensures few_sends { IfOk result (λ a. a.0.number ≤ MAX_COUNT) }
-    ensures ready { IfOk result (λ a. All (IsReady config.lps config.end) a.0.anti_messages) }
+    ensures ready { IfOk result (λ a. All (IsReady config.lps (end_of config)) a.0.anti_messages) }
     ensures within { IfOk result (λ a. AllWithinRun config a.1) }
     ensures counted { let fired = (simulation_of (M.handlers model.now) config).fire event.dest (triple_at process.old.state process.old.number process.old.stream) (unstamped event) in IfOk result (λ a. serial + length fired.sends ≤ MAX_COUNT) }
     ensures numbered { process.new.number ≤ MAX_COUNT }
@@ -183,13 +184,14 @@ fn advance<M: EventModel>(
     ensures refused { let fired = (simulation_of (M.handlers model.now) config).fire event.dest (triple_at process.old.state process.old.number process.old.stream) (unstamped event) in IfErr result (λ fault. IsAdvanceRefusal fired serial fault) }
 {
     spare.read_ahead();
+    let event = &event;
     let number = process.number;
     let sent = Sent {
         key: event.rank.key,
         dest: event.dest,
         payload: event.payload,
     };
-    let mut out = Out::new(config, event.dest, event.rank.key.time, number);
+    let mut out = Out::new(config, event.dest, event.rank.key.when(), number);
     let Undo { bits, kept, drawn } = process.execute_into(model, config, sent, &mut out);
     if out.number() > MAX_COUNT || !is_counted(serial, out.sends()) {
         process.undo(model, sent, bits, kept, drawn, number);

@@ -7,6 +7,7 @@ ghost use Rattle.vt_key.specs.Order.{rank_same};
 ghost use Rattle.vt_key.specs.Times.{TimeBefore};
 ghost use Rattle.vt_key.specs.declared.fault.Fault.TheVariants.{NotLawful};
 ghost use Rattle.vt_model.specs.Handler.{Handlers};
+ghost use Rattle.vt_model.specs.Settings.{end_of};
 ghost use Rattle.vt_steps.specs.World.{LogicalProcess};
 ghost use Rattle.vt_steps.specs.ProcessSteps.{cancel_process, accept_process};
 ghost use Rattle.vt_lp.specs.Held.{StandsFor, IsRisingPast};
@@ -27,9 +28,10 @@ impl<M: EventModel> Lp<M> {
     pub fn holds(&self, sign: Sign, rank: Rank) -> bool
         ensures { result ≡ holds_letter self.now.pending self.now.waiting self.now.past sign rank }
     {
+        let rank = &rank;
         match sign {
-            Sign::Plus => self.pending.holds(rank) || has_executed(&self.past, rank),
-            Sign::Minus => self.waiting.holds(rank),
+            Sign::Plus => self.pending.holds(*rank) || has_executed(&self.past, *rank),
+            Sign::Minus => self.waiting.holds(*rank),
         }
     }
 
@@ -42,7 +44,7 @@ impl<M: EventModel> Lp<M> {
         letter: Parcel<Letter<M::Payload>>,
     ) -> Result<(), (Fault, Parcel<Letter<M::Payload>>)>
         requires dest { letter.event.dest ≡ self.old.lp }
-        requires soon { TimeBefore letter.event.rank.key.time self.old.config.end }
+        requires soon { TimeBefore letter.event.rank.key.time (end_of self.old.config) }
         ensures done { (handlers : Handlers _ _ _) (h : LogicalProcess _) → StandsFor handlers self.old h → IfOk result (λ done. IsDone handlers self.new (accept_process letter h) [] [] 0 0) }
         ensures held { IfOk result (λ done. holds_letter self.old.pending self.old.waiting self.old.past letter.sign letter.event.rank ≡ false) }
         ensures refused { (handlers : Handlers _ _ _) (h : LogicalProcess _) → StandsFor handlers self.old h → IfErr result (λ e. accept_process letter h ≡ None) }

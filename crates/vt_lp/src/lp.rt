@@ -4,10 +4,11 @@ ghost use Rattle.std.specs.Prelude.{◌≡◌, ◌++◌, ◌%◌, ◌^◌, ◌�
 ghost use Rattle.std.specs.Option.{option_copied};
 ghost use Rattle.vt_steps.specs.Letters.{least_time};
 ghost use Rattle.vt_lp.specs.Guards.{ready_rank, lesser_rank};
+ghost use Rattle.vt_model.specs.Settings.{end_of};
 
 use crate::past::Past;
 use std::marker::Model;
-use vt_key::{Letter, Rank, Time};
+use vt_key::{Letter, Rank, When};
 use vt_model::{Config, Model as EventModel, Process};
 use vt_pending::Pending;
 
@@ -99,21 +100,20 @@ impl<M: EventModel> Lp<M> {
         self.waiting.len()
     }
 
-    /// The least time, in ticks, of all pending messages and waiting anti-messages; the end of the run if there are
-    /// none.
-    pub fn least(&self) -> Time
-        ensures { result ≡ least_time self.now.config.end (self.now.pending ++ self.now.waiting) }
+    /// The least time of all pending messages and waiting anti-messages; the end of the run if there are none.
+    pub fn least(&self) -> When
+        ensures { result ≡ least_time (end_of self.now.config) (self.now.pending ++ self.now.waiting) }
     {
         match self.least_rank() {
-            Some(rank) => rank.key.time,
-            None => self.config.end,
+            Some(rank) => rank.key.when(),
+            None => self.config.end(),
         }
     }
 
     /// The least rank of all pending messages and waiting anti-messages; None if there are none.
     pub fn least_rank(&self) -> Option<Rank>
         ensures rank { result ≡ lesser_rank (slice_get self.now.pending 0) (slice_get self.now.waiting 0) }
-        ensures time { IfSome result (λ rank. rank.key.time ≡ least_time self.now.config.end (self.now.pending ++ self.now.waiting)) }
+        ensures time { IfSome result (λ rank. rank.key.time ≡ least_time (end_of self.now.config) (self.now.pending ++ self.now.waiting)) }
         ensures nothing { IfNone result ((self.now.pending ≡ []) × (self.now.waiting ≡ [])) }
     {
         lesser(self.pending.least(), self.waiting.least())

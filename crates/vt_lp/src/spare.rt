@@ -217,7 +217,7 @@ impl<P: Copy, K: Copy> Spare<P, K> {
 
 // Reads words at both ends of a letter.
 fn read_letter<P: Copy>(letter: &Letter<P>) -> u64 {
-    letter.event.rank.key.number ^ u64::from(letter.event.dest)
+    letter.event.rank.key.number() ^ u64::from(letter.event.dest)
 }
 
 // Reads words all over a past event.

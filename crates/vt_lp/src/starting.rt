@@ -13,7 +13,7 @@ use crate::making::{is_counted, letters};
 use crate::past::Past;
 use crate::spare::Spare;
 use std::alloc::Global;
-use vt_key::{Fault, Letter, MAX_COUNT, Sign};
+use vt_key::{Fault, Letter, MAX_COUNT, Sign, When};
 use vt_list::List;
 use vt_model::{Config, Model as EventModel, Out, Process};
 use vt_pending::Pending;
@@ -85,7 +85,7 @@ fn start<M: EventModel>(
     ensures counted { IfOk result (λ s. serial + length ((simulation_of (M.handlers model.now) config).start lp).sends ≤ MAX_COUNT) }
     ensures refused { IfErr result (λ fault. ((fault ≡ Exhausted) × (MAX_COUNT < serial + length ((simulation_of (M.handlers model.now) config).start lp).sends)) ⊎ ((fault ≡ Memory) × (serial + length ((simulation_of (M.handlers model.now) config).start lp).sends ≤ MAX_COUNT))) }
 {
-    let mut out = Out::new(config, lp, 0, 0);
+    let mut out = Out::new(config, lp, When::tick(0), 0);
     let process = Process::start(model, config, lp, &mut out);
     if !is_counted(serial, out.sends()) {
         return Err(Fault::Exhausted);

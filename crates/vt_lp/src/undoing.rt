@@ -74,22 +74,22 @@ fn must_undo_last<P: Copy, K: Copy>(
     let Some(rank) = past.last_rank() else {
         return false;
     };
-    has_before(pending, rank) || has_not_after(waiting, rank)
+    has_before(pending, &rank) || has_not_after(waiting, &rank)
 }
 
 /// Whether some letter is before this rank.
-fn has_before<P: Copy>(letters: &Pending<P>, rank: Rank) -> bool
-    ensures { result ≡ list_any (λ letter. rank_before letter.event.rank rank) letters.now }
+fn has_before<P: Copy>(letters: &Pending<P>, rank: &Rank) -> bool
+    ensures { result ≡ list_any (λ letter. rank_before letter.event.rank rank.now) letters.now }
 {
     match letters.least() {
-        Some(least) => least.event.rank.is_before(&rank),
+        Some(least) => least.event.rank.is_before(rank),
         None => false,
     }
 }
 
 /// Whether some letter is at or before this rank.
-fn has_not_after<P: Copy>(letters: &Pending<P>, rank: Rank) -> bool
-    ensures { result ≡ list_any (λ letter. not (rank_before rank letter.event.rank)) letters.now }
+fn has_not_after<P: Copy>(letters: &Pending<P>, rank: &Rank) -> bool
+    ensures { result ≡ list_any (λ letter. not (rank_before rank.now letter.event.rank)) letters.now }
 {
     match letters.least() {
         Some(least) => !rank.is_before(&least.event.rank),

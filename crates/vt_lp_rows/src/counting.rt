@@ -5,7 +5,7 @@ use std::alloc::AllocGlobal;
 use std::cell::Cell;
 use std::process::Abort;
 use std::rt::{self, HostRuntime};
-use vt_key::{Fault, Sign, Time};
+use vt_key::{Fault, Sign, When};
 use vt_model::{Bits, Draws, Model as EventModel, Out};
 use vt_models::{Hop, Token};
 
@@ -48,7 +48,7 @@ impl<M: EventModel> EventModel for Counting<M> {
     fn forward(
         &self,
         lp: u32,
-        now: Time,
+        now: When,
         payload: M::Payload,
         state: &mut M::State,
         bits: &mut Bits,
@@ -63,7 +63,7 @@ impl<M: EventModel> EventModel for Counting<M> {
     fn reverse(
         &self,
         lp: u32,
-        now: Time,
+        now: When,
         payload: M::Payload,
         state: &mut M::State,
         bits: Bits,

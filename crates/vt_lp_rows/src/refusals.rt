@@ -4,7 +4,7 @@ use crate::stage::{Stage, Told};
 use std::alloc::{AllocGlobal, Global};
 use std::process::Abort;
 use std::rt::{self, HostRuntime};
-use vt_key::{Event, Fault, Key, Letter, Rank, Sign, Stamp};
+use vt_key::{Event, Fault, Key, Letter, Rank, Sign, Stamp, When};
 use vt_list::Parcel;
 use vt_model::Config;
 use vt_models::{Hop, Token};
@@ -128,11 +128,7 @@ fn is_cancelled_and_forgotten(rt: &impl Abort, stage: &mut Stage<Hop>) {
 // The straggler, or its anti-message, in a parcel; None where memory is refused.
 fn letter_or_none(alloc: Global, sign: Sign) -> Option<Parcel<Letter<Token>>> {
     let rank = Rank {
-        key: Key {
-            time: 2,
-            source: 0,
-            number: 1,
-        },
+        key: Key::new(When::tick(2), 0, 1),
         stamp: Stamp {
             worker: 0,
             serial: 1,

@@ -5,7 +5,7 @@ ghost use Rattle.std.specs.Prelude.{◌≡◌};
 use std::alloc::{AllocGlobal, Global};
 use std::process::Abort;
 use std::rt;
-use vt_key::{Event, Fault, Key, Letter, Rank, Sign, Stamp, Time};
+use vt_key::{Event, Fault, Key, Letter, Rank, Sign, Stamp, When};
 use vt_list::{List, Parcel};
 use vt_lp::Lp;
 use vt_model::{Config, Model as EventModel, Row};
@@ -18,7 +18,7 @@ pub(crate) struct Stage<M: EventModel> {
     serial: u64,
     outbox: List<Letter<M::Payload>>,
     lp: u32,
-    end: Time,
+    end: u64,
     ghost here: { process.lp ≡ lp },
     ghost until: { process.config.end ≡ end },
 }
@@ -62,7 +62,7 @@ impl<M: EventModel> Stage<M> {
         letter: Parcel<Letter<M::Payload>>,
     ) -> Result<(), (Fault, Parcel<Letter<M::Payload>>)> {
         let event = letter.get().event;
-        assert!(rt; event.dest == self.lp && event.rank.key.time < self.end);
+        assert!(rt; event.dest == self.lp && event.rank.key.when() < When::tick(self.end));
         self.process.accept(letter)
     }
 
@@ -70,8 +70,8 @@ impl<M: EventModel> Stage<M> {
         self.process.cancel(stamp)
     }
 
-    pub(crate) fn fossil(&mut self, floor: Time) {
-        self.process.fossil(floor);
+    pub(crate) fn fossil(&mut self, floor: u64) {
+        self.process.fossil(When::tick(floor));
     }
 
     /// The last letter of the outbox is taken out and comes.
@@ -160,9 +160,9 @@ impl<M: EventModel> Stage<M> {
         assert_eq!(rt; self.serial, serial);
     }
 
-    /// The least time of its letters must be this.
-    pub(crate) fn tells_least(&self, rt: &impl Abort, want: Time) {
-        assert_eq!(rt; self.process.least(), want);
+    /// The least time of its letters must be the first of this tick.
+    pub(crate) fn tells_least(&self, rt: &impl Abort, want: u64) {
+        assert_eq!(rt; self.process.least(), When::tick(want));
     }
 
     /// The serial of the event that is next to execute must be this.
@@ -181,7 +181,8 @@ impl<M: EventModel> Stage<M> {
     }
 
     /// Exactly these rows must be ripe below the floor.
-    pub(crate) fn ripens(&self, rt: &(impl Abort + AllocGlobal), floor: Time, wanted: &[RowTold]) {
+    pub(crate) fn ripens(&self, rt: &(impl Abort + AllocGlobal), floor: u64, wanted: &[RowTold]) {
+        let floor = When::tick(floor);
         let mut rows = Vec::new(rt.alloc());
         assert_eq!(rt; self.process.ripe(floor, &mut rows), Ok(()));
         assert!(rt; are_rows(&rows, wanted));
@@ -220,28 +221,28 @@ impl Stage<Stations> {
     }
 }
 
-/// What is told of a letter: its sign, its key as time, source and number, and its stamp as worker and serial.
-pub(crate) type Told = (Sign, (Time, u32, u64), (u32, u64));
+/// What is told of a letter: its sign, its key as tick, source and number, and its stamp as worker and serial. Its priority
+/// must be 0.
+pub(crate) type Told = (Sign, (u64, u32, u64), (u32, u64));
 
-/// What is told of the one record of an event: the event's key as time, source and number, and the record's value. It must be
-/// of kind 1 and of process 1.
-pub(crate) type RowTold = ((Time, u32, u64), u64);
+/// What is told of the one record of an event: the event's key as tick, source and number, and the record's value. It must be
+/// of kind 1 and of process 1, and the event's priority 0.
+pub(crate) type RowTold = ((u64, u32, u64), u64);
 
-// The sign, the key and the stamp of a letter.
-fn told<P: Copy>(letter: &Letter<P>) -> Told {
-    let key = letter.event.rank.key;
-    let stamp = letter.event.rank.stamp;
-    (
-        letter.sign,
-        (key.time, key.source, key.number),
-        (stamp.worker, stamp.serial),
-    )
+// Whether the sign, the key and the stamp of a letter are these.
+fn is_told<P: Copy>(letter: &Letter<P>, wanted: &Told) -> bool {
+    let (sign, (time, source, number), (worker, serial)) = *wanted;
+    let rank = &letter.event.rank;
+    letter.sign == sign
+        && rank.key.when() == When::tick(time)
+        && (rank.key.source(), rank.key.number()) == (source, number)
+        && (rank.stamp.worker, rank.stamp.serial) == (worker, serial)
 }
 
 // Whether a list has exactly these letters.
 fn holds_exactly<P: Copy>(letters: &List<Letter<P>>, wanted: &[Told]) -> bool {
     let mut letters = letters.iter();
-    wanted.iter().all(|want| letters.next().is_some_and(|letter| told(letter) == *want))
+    wanted.iter().all(|want| letters.next().is_some_and(|letter| is_told(letter, want)))
         && letters.next().is_none()
 }
 
@@ -255,10 +256,12 @@ fn are_rows(rows: &[Row], wanted: &[RowTold]) -> bool {
 }
 
 fn is_row(row: &Row, wanted: &RowTold) -> bool {
-    let (key, value) = *wanted;
-    (row.key.time, row.key.source, row.key.number) == key
+    let ((time, source, number), value) = *wanted;
+    row.key.when() == When::tick(time)
+        && row.rec.when() == When::tick(time)
+        && (row.key.source(), row.key.number()) == (source, number)
         && row.index == 0
-        && (row.rec.time, row.rec.lp, row.rec.kind, row.rec.value) == (row.key.time, 1, 1, value)
+        && (row.rec.lp, row.rec.kind, row.rec.value) == (1, 1, value)
 }
 
 // Whether these events have exactly these serials.
@@ -280,11 +283,7 @@ pub(crate) fn letter<P: Copy>(
 ) -> Parcel<Letter<P>> {
     let (sign, (time, source, number), (worker, serial)) = told;
     let rank = Rank {
-        key: Key {
-            time,
-            source,
-            number,
-        },
+        key: Key::new(When::tick(time), source, number),
         stamp: Stamp { worker, serial },
     };
     let event = Event {

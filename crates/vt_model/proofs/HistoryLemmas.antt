@@ -1,7 +1,7 @@
 -- There is one history: two of them have the same events below the time.
 use Rattle.std.proofs.Common.{◌≡◌, ℕ, zero, suc, ◌<◌, ◌≤◌, ◌⊎◌, inl, inr, List, [], ◌∷◌, ◌++◌, Bool, true, false, nat_lt, if◌then◌else◌, refl, sym, subst, ap, ◌∙◌, arith}
 use Rattle.std.proofs.lemmas.Bool.{lt-ltb, le-ltb, ltb-true, ltb-false}
-use Rattle.vt_key.specs.declared.order.Key.{Key}
+use Rattle.vt_key.specs.Keys.{Key}
 use Rattle.vt_key.specs.Order.{KeyBefore}
 use Rattle.vt_key.proofs.OrderLemmas.{key-irreflexive, key-asymmetric}
 use Rattle.vt_model.specs.declared.sending.Sent.{Sent}

@@ -2,8 +2,9 @@
 use Rattle.std.proofs.Common.{◌≡◌, ℕ, suc, ◌+◌, ◌<◌, inl, inr, List, [], ◌∷◌, ◌++◌, Bool, true, false, map, filter, nat_lt, if◌then◌else◌, refl, sym, subst, ap, ◌∙◌, arith}
 use Rattle.std.specs.List.{enumerate_from}
 use Rattle.std.proofs.lemmas.Bool.{lt-ltb}
-use Rattle.vt_key.specs.declared.order.Key.{Key}
+use Rattle.vt_key.specs.Keys.{Key}
 use Rattle.vt_key.specs.Order.{KeyBefore}
+use Rattle.vt_key.specs.Times.{ticks_of, priority_of}
 use Rattle.vt_model.specs.declared.rows.Record.{Record}
 use Rattle.vt_model.specs.declared.rows.Row.{Row}
 use Rattle.vt_model.specs.declared.sending.Sent.{Sent}
@@ -13,7 +14,7 @@ use Rattle.vt_model.specs.Handler.{Handlers}
 use Rattle.vt_model.specs.Simulation.{Simulation, Triple, rows_of, fire_of, simulation_of, words_at}
 use Rattle.vt_model.specs.Sequential.{fired_after, rows_after}
 use Rattle.vt_model.specs.Histories.{Among, AllAfter, IsRising}
-use Rattle.vt_model.specs.Rows.{AllRowsAfter, AreRowsRising, AreRowsOf}
+use Rattle.vt_model.specs.Rows.{AllRowsAfter, AreRowsRising, AreRowsOf, record_time, records_before}
 
 told_from : (key : Key) (n : ℕ) (rs : List Record) → map (λ (r : Row). r.rec) (map (λ (q : ℕ × Record). record { key = key; index = q.0; rec = q.1 }) (enumerate_from n rs)) ≡ rs
 told_from key n [] = refl
@@ -25,9 +26,9 @@ unfolding rows_of
 told_rows key rs = told_from key 0 rs
 
 -- an event's rows have its key, its time and rising indices
-rows_from : (key : Key) (lp n : ℕ) (record_requests : List RecordRequest) → AreRowsOf key n (map (λ (q : ℕ × Record). record { key = key; index = q.0; rec = q.1 }) (enumerate_from n (map (λ (x : RecordRequest). record { time = key.time; lp = lp; kind = x.kind; value = x.value }) record_requests)))
+rows_from : (key : Key) (lp n : ℕ) (record_requests : List RecordRequest) → AreRowsOf key n (map (λ (q : ℕ × Record). record { key = key; index = q.0; rec = q.1 }) (enumerate_from n (map (λ (x : RecordRequest). record { time = ticks_of key.time; priority = priority_of key.time; lp = lp; kind = x.kind; value = x.value }) record_requests)))
 rows_from key lp n [] = tt
-rows_from key lp n (x ∷ xs) = (refl, refl, refl, subst (λ (k : ℕ). AreRowsOf key k (map (λ (q : ℕ × Record). record { key = key; index = q.0; rec = q.1 }) (enumerate_from (n + 1) (map (λ (y : RecordRequest). record { time = key.time; lp = lp; kind = y.kind; value = y.value }) xs)))) (let u : n + 1 ≡ suc n = omega arith in u) (rows_from key lp (n + 1) xs))
+rows_from key lp n (x ∷ xs) = (refl, refl, omega arith, subst (λ (k : ℕ). AreRowsOf key k (map (λ (q : ℕ × Record). record { key = key; index = q.0; rec = q.1 }) (enumerate_from (n + 1) (map (λ (y : RecordRequest). record { time = ticks_of key.time; priority = priority_of key.time; lp = lp; kind = y.kind; value = y.value }) xs)))) (let u : n + 1 ≡ suc n = omega arith in u) (rows_from key lp (n + 1) xs))
 
 module _ {S P K : Type 0} (handlers : Handlers S P K) (c : Config) where
   pub has_rows : (p : ℕ) (t : Triple S) (e : Sent P) → AreRowsOf e.key 0 ((simulation_of handlers c).fire p t e).rows
@@ -72,26 +73,26 @@ module _ {S P : Type 0} (sim : Simulation S P) (rows : (p : ℕ) (t : Triple S) 
 
   -- records of a time are those of rows of that time
   filter_told : (t : ℕ) (k : Key) (n : ℕ) (rs more : List Row) → AreRowsOf k n rs
-      → filter (λ (x : Record). nat_lt x.time t) (map (λ (r : Row). r.rec) more) ≡ map (λ (r : Row). r.rec) (filter (λ (r : Row). nat_lt r.key.time t) more)
-      → filter (λ (x : Record). nat_lt x.time t) (map (λ (r : Row). r.rec) (rs ++ more)) ≡ map (λ (r : Row). r.rec) (filter (λ (r : Row). nat_lt r.key.time t) (rs ++ more))
+      → records_before t (map (λ (r : Row). r.rec) more) ≡ map (λ (r : Row). r.rec) (filter (λ (r : Row). nat_lt r.key.time t) more)
+      → records_before t (map (λ (r : Row). r.rec) (rs ++ more)) ≡ map (λ (r : Row). r.rec) (filter (λ (r : Row). nat_lt r.key.time t) (rs ++ more))
   filter_told t k n [] more h ih = ih
   filter_told t k n (r ∷ rs) more h ih =
       let rest = filter_told t k (suc n) rs more h.3 ih in
-      let time : r.rec.time ≡ r.key.time = h.2 ∙ ap (λ (j : Key). j.time) (sym h.0) in
-      go (nat_lt r.key.time t) (nat_lt r.rec.time t) refl (ap (λ (i : ℕ). nat_lt i t) time) rest where
-        go : (b d : Bool) → nat_lt r.key.time t ≡ b → nat_lt r.rec.time t ≡ nat_lt r.key.time t
-            → filter (λ (x : Record). nat_lt x.time t) (map (λ (q : Row). q.rec) (rs ++ more)) ≡ map (λ (q : Row). q.rec) (filter (λ (q : Row). nat_lt q.key.time t) (rs ++ more))
-            → filter (λ (x : Record). nat_lt x.time t) (map (λ (q : Row). q.rec) ((r ∷ rs) ++ more)) ≡ map (λ (q : Row). q.rec) (filter (λ (q : Row). nat_lt q.key.time t) ((r ∷ rs) ++ more))
+      let time : record_time r.rec ≡ r.key.time = h.2 ∙ ap (λ (j : Key). j.time) (sym h.0) in
+      go (nat_lt r.key.time t) (nat_lt (record_time r.rec) t) refl (ap (λ (i : ℕ). nat_lt i t) time) rest where
+        go : (b d : Bool) → nat_lt r.key.time t ≡ b → nat_lt (record_time r.rec) t ≡ nat_lt r.key.time t
+            → records_before t (map (λ (q : Row). q.rec) (rs ++ more)) ≡ map (λ (q : Row). q.rec) (filter (λ (q : Row). nat_lt q.key.time t) (rs ++ more))
+            → records_before t (map (λ (q : Row). q.rec) ((r ∷ rs) ++ more)) ≡ map (λ (q : Row). q.rec) (filter (λ (q : Row). nat_lt q.key.time t) ((r ∷ rs) ++ more))
         go true d e f rest =
-            ap (λ (z : Bool). if z then (r.rec ∷ filter (λ (x : Record). nat_lt x.time t) (map (λ (q : Row). q.rec) (rs ++ more))) else filter (λ (x : Record). nat_lt x.time t) (map (λ (q : Row). q.rec) (rs ++ more))) (f ∙ e)
+            ap (λ (z : Bool). if z then (r.rec ∷ records_before t (map (λ (q : Row). q.rec) (rs ++ more))) else records_before t (map (λ (q : Row). q.rec) (rs ++ more))) (f ∙ e)
             ∙ ap (λ (l : List Record). r.rec ∷ l) rest
             ∙ ap (λ (z : Bool). map (λ (q : Row). q.rec) (if z then (r ∷ filter (λ (q : Row). nat_lt q.key.time t) (rs ++ more)) else filter (λ (q : Row). nat_lt q.key.time t) (rs ++ more))) (sym e)
         go false d e f rest =
-            ap (λ (z : Bool). if z then (r.rec ∷ filter (λ (x : Record). nat_lt x.time t) (map (λ (q : Row). q.rec) (rs ++ more))) else filter (λ (x : Record). nat_lt x.time t) (map (λ (q : Row). q.rec) (rs ++ more))) (f ∙ e)
+            ap (λ (z : Bool). if z then (r.rec ∷ records_before t (map (λ (q : Row). q.rec) (rs ++ more))) else records_before t (map (λ (q : Row). q.rec) (rs ++ more))) (f ∙ e)
             ∙ rest
             ∙ ap (λ (z : Bool). map (λ (q : Row). q.rec) (if z then (r ∷ filter (λ (q : Row). nat_lt q.key.time t) (rs ++ more)) else filter (λ (q : Row). nat_lt q.key.time t) (rs ++ more))) (sym e)
 
-  pub told_before : (t : ℕ) (done xs : List (Sent P)) → filter (λ (x : Record). nat_lt x.time t) (map (λ (r : Row). r.rec) (rows_after sim done xs)) ≡ map (λ (r : Row). r.rec) (filter (λ (r : Row). nat_lt r.key.time t) (rows_after sim done xs))
+  pub told_before : (t : ℕ) (done xs : List (Sent P)) → records_before t (map (λ (r : Row). r.rec) (rows_after sim done xs)) ≡ map (λ (r : Row). r.rec) (filter (λ (r : Row). nat_lt r.key.time t) (rows_after sim done xs))
   unfolding fired_after
   told_before t done [] = refl
   told_before t done (x ∷ xs) = filter_told t x.key 0 (fired_after sim done x).rows (rows_after sim (done ++ x ∷ []) xs) (rows x.dest _ x) (told_before t (done ++ x ∷ []) xs)

@@ -1,9 +1,10 @@
 -- What one send and one record do to an out, and how the parts of a handler add up.
-use Rattle.std.proofs.Common.{◌≡◌, ℕ, ◌+◌, ◌<◌, ◌≤◌, List, [], ◌∷◌, ◌++◌, length, nat_lt, true, false, arith, append_assoc, append-nil, length-append, add-zero, add_assoc}
+use Rattle.std.proofs.Common.{◌≡◌, ℕ, ◌-◌, ◌+◌, ◌<◌, ◌≤◌, List, [], ◌∷◌, ◌++◌, length, true, false, arith, append_assoc, append-nil, length-append, add-zero, add_assoc}
 use Rattle.std.specs.List.{enumerate_from}
 use Rattle.std.proofs.lemmas.List.{map-append}
 use Rattle.std.proofs.lemmas.List.Elements.{filter-append}
-use Rattle.std.proofs.lemmas.Bool.{lt-ltb, ltb-false}
+use Rattle.std.proofs.lemmas.Bool.{lt-ltb, le-ltb}
+use Rattle.vt_key.specs.Times.{at, ticks_of, priority_of, time_before}
 use Rattle.vt_model.specs.Sends.{SendRequest, RecordRequest, Outgoing, sent_events, requested_records, with_requests}
 
 pub enumerate_from-append : {A : Type 0} (n : ℕ) (xs ys : List A) → enumerate_from n (xs ++ ys) ≡ enumerate_from n xs ++ enumerate_from (n + length xs) ys
@@ -15,23 +16,24 @@ enumerate_from-append n (x ∷ xs) ys =
 module _ {P : Type 0} where
   pub told : (o : Outgoing P) (kind value : ℕ)
       → with_requests o [] (record { kind = kind; value = value } ∷ [])
-      ≡ record o { records = o.records ++ record { time = o.time; lp = o.lp; kind = kind; value = value } ∷ [] }
+      ≡ record o { records = o.records ++ record { time = ticks_of o.time; priority = priority_of o.time; lp = o.lp; kind = kind; value = value } ∷ [] }
   unfolding sent_events requested_records
   told o kind value = simp (add-zero, append-nil)
 
-  pub sent_one : (o : Outgoing P) (dest delay : ℕ) (payload : P) → o.time + delay < o.end
+  pub sent_one : (o : Outgoing P) (dest delay : ℕ) (payload : P) → delay < ticks_of o.end - ticks_of o.time
       → with_requests o (record { dest = dest; delay = delay; payload = payload } ∷ []) []
-      ≡ record o { number = o.number + 1; sends = o.sends ++ record { key = record { time = o.time + delay; source = o.lp; number = o.number }; dest = dest; payload = payload } ∷ [] }
+      ≡ record o { number = o.number + 1; sends = o.sends ++ record { key = record { time = at (ticks_of o.time + delay) 0; source = o.lp; number = o.number }; dest = dest; payload = payload } ∷ [] }
   unfolding sent_events requested_records
   sent_one o dest delay payload early =
-      let e : nat_lt (o.time + delay) o.end ≡ true = lt-ltb _ _ early in
+      let e : time_before (at (ticks_of o.time + delay) 0) o.end ≡ true = lt-ltb _ _ (omega (arith, early)) in
       simp (e, append-nil)
 
-  pub sent_none : (o : Outgoing P) (dest delay : ℕ) (payload : P) → o.end ≤ o.time + delay
+  pub sent_none : (o : Outgoing P) (dest delay : ℕ) (payload : P) → priority_of o.end ≡ 0 → o.time < o.end → ticks_of o.end - ticks_of o.time ≤ delay
       → with_requests o (record { dest = dest; delay = delay; payload = payload } ∷ []) [] ≡ record o { number = o.number + 1 }
   unfolding sent_events requested_records
-  sent_none o dest delay payload late =
-      let e : nat_lt (o.time + delay) o.end ≡ false = search (arith, ltb-false) in
+  sent_none o dest delay payload whole soon late =
+      let low : o.end ≤ at (ticks_of o.time + delay) 0 = omega (arith, whole, soon, late) in
+      let e : time_before (at (ticks_of o.time + delay) 0) o.end ≡ false = le-ltb _ _ low in
       simp (e, append-nil)
 
   pub with_requests-append : (o : Outgoing P) (xs ys : List (SendRequest P)) (ms ns : List RecordRequest) → with_requests (with_requests o xs ms) ys ns ≡ with_requests o (xs ++ ys) (ms ++ ns)

@@ -1,6 +1,6 @@
 -- What the handlers of a model give, and the limits that they keep.
 use Rattle.std.specs.Prelude.{◌≡◌, ℕ, ◌<◌, ◌≤◌, ◌^◌, List, [], length, All}
-use Rattle.vt_key.specs.Times.{Time, TimeBefore}
+use Rattle.vt_key.specs.Times.{Time, TimeBefore, at}
 use Rattle.vt_key.specs.declared.limits.TheConstants.{MAX_PROCESSES, MAX_END, MAX_COUNT}
 use Rattle.vt_model.specs.declared.flags.Bits.{Bits}
 use Rattle.vt_model.specs.declared.limits.TheConstants.{MAX_DRAWS, MAX_SENDS, MAX_RECORDS}
@@ -60,7 +60,7 @@ pub record IsFresh {P : Type 0} (o : Outgoing P) (p : ℕ) (t : Time) : Type 0 w
   pub known : p < o.lps
   pub few_processes : o.lps ≤ MAX_PROCESSES
   pub early : TimeBefore t o.end
-  pub in_time : o.end ≤ MAX_END
+  pub in_time : o.end ≤ at MAX_END 0
   pub numbered : o.first ≤ MAX_COUNT
 
 -- draws as `Draws::new` gives them: nothing is drawn

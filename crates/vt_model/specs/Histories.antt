@@ -1,9 +1,9 @@
 -- Histories: for each process the events that it executed, as the sends alone determine them; and the laws of a simulation.
 use Rattle.std.specs.Prelude.{◌≡◌, ℕ, suc, length, ◌<◌, ◌≤◌, ◌⊎◌, List, [], ◌∷◌, ◌++◌}
-use Rattle.vt_key.specs.declared.order.Key.{Key}
+use Rattle.vt_key.specs.Keys.{Key}
 use Rattle.vt_key.specs.Order.{KeyBefore}
 use Rattle.vt_model.specs.declared.sending.Sent.{Sent}
-use Rattle.vt_key.specs.Times.{Time, TimeBefore}
+use Rattle.vt_key.specs.Times.{Time, TimeBefore, at}
 use Rattle.vt_key.specs.declared.limits.TheConstants.{MAX_WORKERS, MAX_END}
 use Rattle.vt_model.specs.declared.limits.TheConstants.{MAX_SENDS}
 use Rattle.vt_model.specs.Rows.{AreRowsOf}
@@ -68,4 +68,4 @@ module _ {S P : Type 0} (sim : Simulation S P) where
     pub some_worker : 1 ≤ sim.workers
     pub few_workers : sim.workers ≤ MAX_WORKERS
     pub some_time : 1 ≤ sim.end
-    pub in_time : sim.end ≤ MAX_END
+    pub in_time : sim.end ≤ at MAX_END 0

@@ -1,7 +1,7 @@
 -- What a handler asks for, and what becomes of it.
 use Rattle.std.specs.Prelude.{ℕ, ◌+◌, List, ◌++◌, map, filter, length}
 use Rattle.std.specs.List.{enumerate_from}
-use Rattle.vt_key.specs.Times.{Time, time_before}
+use Rattle.vt_key.specs.Times.{Time, at, ticks_of, priority_of, time_before}
 use Rattle.vt_model.specs.declared.sending.Sent.{Sent}
 use Rattle.vt_model.specs.declared.rows.Record.{Record}
 
@@ -28,9 +28,9 @@ pub record Outgoing (P : Type 0) : Type 0 where
   pub sends : List (Sent P)
   pub records : List Record
 
--- when a send is received: so long after the time of its handler
+-- when a send is received: so many ticks after the time of its handler, with priority 0
 abbrev pub receive_time : {P : Type 0} → Time → SendRequest P → Time
-receive_time now request = now + request.delay
+receive_time now request = at (ticks_of now + request.delay) 0
 
 -- the event of a request with its send number
 abbrev pub sent_event : {P : Type 0} → ℕ → Time → ℕ × SendRequest P → Sent P
@@ -47,7 +47,7 @@ sent_events end lp now number requests =
 
 -- the records of these requests
 unfoldable pub requested_records : ℕ → Time → List RecordRequest → List Record
-requested_records lp now requests = map (λ r. record { time = now; lp = lp; kind = r.kind; value = r.value }) requests
+requested_records lp now requests = map (λ r. record { time = ticks_of now; priority = priority_of now; lp = lp; kind = r.kind; value = r.value }) requests
 
 -- an out after these requests
 abbrev pub with_requests : {P : Type 0} → Outgoing P → List (SendRequest P) → List RecordRequest → Outgoing P

@@ -2,7 +2,7 @@
 use Rattle.std.specs.Prelude.{◌≡◌, ℕ, ◌+◌, ◌%◌, ◌^◌, List, [], ◌∷◌, length, map}
 use Rattle.std.specs.List.{enumerate_from}
 use Rattle.vt_key.specs.Times.{Time}
-use Rattle.vt_key.specs.declared.order.Key.{Key}
+use Rattle.vt_key.specs.Keys.{Key}
 use Rattle.vt_model.specs.declared.rows.Record.{Record}
 use Rattle.vt_model.specs.declared.rows.Row.{Row}
 use Rattle.vt_model.specs.declared.sending.Sent.{Sent}
@@ -10,6 +10,7 @@ use Rattle.vt_model.specs.declared.settings.Config.{Config}
 use Rattle.vt_stream.specs.Words.{Stream, seed_key, word}
 use Rattle.vt_model.specs.Sends.{Outgoing, sent_events, requested_records}
 use Rattle.vt_model.specs.Handler.{Handlers, StartResult, ForwardResult}
+use Rattle.vt_model.specs.Settings.{end_of}
 
 -- where a process stands: its state, its next send number, and the position of its next random word
 pub record Triple (S : Type 0) : Type 0 where
@@ -67,9 +68,9 @@ module _ {S P : Type 0} where
   simulation_of handlers c = record {
     lps = c.lps;
     workers = c.workers;
-    end = c.end;
-    start = λ p. start_of c.end p (handlers.start c.lps p (words_at c.seed p 0));
-    fire = λ p t e. fire_of c.end p t e (handlers.forward c.lps p e.key.time e.payload t.state (words_at c.seed p t.place));
+    end = (end_of c);
+    start = λ p. start_of (end_of c) p (handlers.start c.lps p (words_at c.seed p 0));
+    fire = λ p t e. fire_of (end_of c) p t e (handlers.forward c.lps p e.key.time e.payload t.state (words_at c.seed p t.place));
     finish = handlers.finish;
   }
 

@@ -9,7 +9,7 @@ ghost use prog.Memory.{size, align};
 ghost use denote.Memory.{lone};
 
 use crate::{Bits, Draws, Out};
-use vt_key::Time;
+use vt_key::When;
 
 /// A model of a simulation: what its logical processes do at the start and at each event, and how an event is undone.
 ///
@@ -62,7 +62,7 @@ pub trait Model {
     fn forward(
         &self,
         lp: u32,
-        now: Time,
+        now: When,
         payload: Self::Payload,
         state: &mut Self::State,
         bits: &mut Bits,
@@ -87,7 +87,7 @@ pub trait Model {
     fn reverse(
         &self,
         lp: u32,
-        now: Time,
+        now: When,
         payload: Self::Payload,
         state: &mut Self::State,
         bits: Bits,

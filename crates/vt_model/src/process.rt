@@ -6,6 +6,7 @@ ghost use Rattle.vt_stream.specs.Words.{moved};
 ghost use Rattle.vt_model.specs.Handler.{IsFresh};
 ghost use Rattle.vt_model.specs.Simulation.{simulation_of, IsFiring};
 ghost use Rattle.vt_model.specs.Process.{triple_at, IsProcessStream};
+ghost use Rattle.vt_model.specs.Settings.{end_of};
 
 use crate::{Bits, Config, Draws, MAX_DRAWS, MAX_SENDS, Model as EventModel, Out, Sent};
 use vt_stream::LpStream;
@@ -37,7 +38,7 @@ impl<M: EventModel> Process<M> {
     /// is as [`Out::new`] gives it for this config and process at time 0, with 0 as the next send number.
     pub fn start(model: &M, config: Config, lp: u32, out: &mut Out<M::Payload>) -> Process<M>
         requires known { lp < config.lps }
-        requires fresh { out.old ≡ record { lps = config.lps; end = config.end; lp = lp; time = 0; first = 0; number = 0; sends = []; records = [] } }
+        requires fresh { out.old ≡ record { lps = config.lps; end = (end_of config); lp = lp; time = 0; first = 0; number = 0; sends = []; records = [] } }
         ensures triple { triple_at result.state result.number result.stream ≡ ((simulation_of (M.handlers model.now) config).start lp).triple }
         ensures sends { out.new.sends ≡ ((simulation_of (M.handlers model.now) config).start lp).sends }
         ensures stream { IsProcessStream config.seed lp result.stream }
@@ -68,7 +69,7 @@ impl<M: EventModel> Process<M> {
         requires known { event.dest < config.lps }
         requires stream { IsProcessStream config.seed event.dest self.old.stream }
         requires fresh { IsFresh out.old event.dest event.key.time }
-        requires whole { out.old ≡ record { lps = config.lps; end = config.end; lp = event.dest; time = event.key.time; first = self.old.number; number = self.old.number; sends = []; records = [] } }
+        requires whole { out.old ≡ record { lps = config.lps; end = (end_of config); lp = event.dest; time = event.key.time; first = self.old.number; number = self.old.number; sends = []; records = [] } }
         ensures number { self.new.number ≡ out.new.number }
         ensures fires { IsFiring ((simulation_of (M.handlers model.now) config).fire event.dest (triple_at self.old.state self.old.number self.old.stream) event) event.key self.new.state self.new.stream out.new }
         ensures stream { self.new.stream ≡ moved self.old.stream result.drawn }
@@ -81,7 +82,7 @@ impl<M: EventModel> Process<M> {
         let mut draws = Draws::new(&mut self.stream);
         let kept = model.forward(
             event.dest,
-            event.key.time,
+            event.key.when(),
             event.payload,
             &mut self.state,
             &mut bits,
@@ -111,7 +112,7 @@ impl<M: EventModel> Process<M> {
     {
         model.reverse(
             event.dest,
-            event.key.time,
+            event.key.when(),
             event.payload,
             &mut self.state,
             bits,

@@ -1,18 +1,32 @@
 //! Records, and the rows that order them.
 
-use vt_key::{Key, Time};
+ghost use Rattle.std.specs.Prelude.{◌≡◌};
+ghost use Rattle.vt_model.specs.Rows.{record_time};
+
+use vt_key::{Key, When};
 
 /// One entry of a simulation's output, made by a model while it executes an event.
 #[derive(Debug, Clone, Copy, Default, PartialEq, Eq, PartialOrd, Ord)]
 pub struct Record {
-    /// When the event was received, in ticks.
-    pub time: Time,
+    /// The tick at which the event was received.
+    pub time: u64,
+    /// The priority with which it was received, within its tick.
+    pub priority: u8,
     /// The logical process that executed it.
     pub lp: u32,
     /// What the value is: each model names its own kinds.
     pub kind: u32,
     /// The value.
     pub value: u64,
+}
+
+impl Record {
+    /// When the event was received.
+    pub fn when(&self) -> When
+        ensures { result ≡ record_time self.now }
+    {
+        When::new(self.time, self.priority)
+    }
 }
 
 /// A record with its place in the run: the key of its event, and its index among that event's records, from 0.

@@ -1,12 +1,13 @@
 //! What a handler sends and records.
 
 ghost use Rattle.std.specs.Prelude.{◌≡◌, ◌+◌, ◌^◌, ◌<◌, ◌≤◌, ◌↔◌, ◌++◌, [], ◌∷◌, length, IsTrue};
+ghost use Rattle.vt_model.specs.Settings.{end_of};
 
 use crate::{Config, MAX_RECORDS, MAX_SENDS, Record};
 use arrayvec::ArrayVec;
 use std::default::MadeWith;
 use std::marker::Model;
-use vt_key::{Key, MAX_COUNT, Time};
+use vt_key::{Key, MAX_COUNT, When};
 
 /// An event that a handler sent. It has no stamp: the model and its sequential run know none.
 #[derive(Debug, Clone, Copy)]
@@ -33,9 +34,9 @@ impl<P: Copy> MadeWith<Sent<P>> for Sent<P> {
 #[derive(Drop)]
 pub struct Out<P: Copy> {
     lps: u32,
-    end: Time,
+    end: When,
     lp: u32,
-    time: Time,
+    time: When,
     first: u64,
     number: u64,
     sends: Option<ArrayVec<Sent<P>, MAX_SENDS, Sent<P>>>,
@@ -69,17 +70,17 @@ impl<P: Copy> Out<P> {
     ghost use Rattle.vt_model.specs.Handler.{IsFresh};
 
     /// The `out` of a handler of process `lp` at time `now`, whose next send number is `number`. For simulators: `lp` is
-    /// below `config.lps`, `now` below `config.end`, and `number` at most 2^63.
-    pub fn new(config: Config, lp: u32, now: Time, number: u64) -> Self
+    /// below `config.lps`, `now` below `config.end()`, and `number` at most 2^63.
+    pub fn new(config: Config, lp: u32, now: When, number: u64) -> Self
         requires known { lp < config.lps }
-        requires early { now < config.end }
+        requires early { now < (end_of config) }
         requires numbered { number ≤ MAX_COUNT }
         ensures fresh { IsFresh result lp now }
-        ensures whole { result ≡ record { lps = config.lps; end = config.end; lp = lp; time = now; first = number; number = number; sends = []; records = [] } }
+        ensures whole { result ≡ record { lps = config.lps; end = (end_of config); lp = lp; time = now; first = number; number = number; sends = []; records = [] } }
     {
         Out {
             lps: config.lps,
-            end: config.end,
+            end: config.end(),
             lp,
             time: now,
             first: number,
@@ -130,12 +131,8 @@ impl<P: Copy> Out<P> {
     {
         let number = self.number;
         self.number = number + 1;
-        if delay < self.end - self.time {
-            let key = Key {
-                time: self.time + delay,
-                source: self.lp,
-                number,
-            };
+        if delay < self.end.ticks() - self.time.ticks() {
+            let key = Key::new(self.time.after(delay), self.lp, number);
             let sent = Sent { key, dest, payload };
             match &mut self.sends {
                 Some(sends) => sends.push(sent),
@@ -156,7 +153,8 @@ impl<P: Copy> Out<P> {
         ensures { self.new ≡ with_requests self.old [] (record { kind = kind; value = value } ∷ []) }
     {
         self.records.push(Record {
-            time: self.time,
+            time: self.time.ticks(),
+            priority: self.time.priority(),
             lp: self.lp,
             kind,
             value,

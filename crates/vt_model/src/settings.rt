@@ -3,9 +3,8 @@
 ghost use Rattle.std.specs.Prelude.{◌≡◌, ◌<◌, ◌≤◌, ◌%◌, None, IfOk, IfErr, IsSome};
 ghost use Rattle.vt_key.specs.Faults.{option_named};
 ghost use Rattle.vt_key.specs.declared.limits.TheConstants.{MAX_PROCESSES, MAX_WORKERS, MAX_END};
-ghost use Rattle.vt_model.specs.Settings.{first_bad_setting};
 
-use vt_key::{Fault, MAX_END, MAX_PROCESSES, MAX_WORKERS, Time};
+use vt_key::{Fault, MAX_END, MAX_PROCESSES, MAX_WORKERS, When};
 
 /// How many logical processes and workers there are, when the run ends, and the seed of its random words.
 #[derive(Debug, Clone, Copy, PartialEq, Eq)]
@@ -14,9 +13,9 @@ pub struct Config {
     pub lps: u32,
     /// The number of workers, from 1 to 64. They are named from 0.
     pub workers: u32,
-    /// The end of virtual time, in ticks, from 1 to 2^62: every event of the run has a time below it, and what would be
-    /// received at this time or later isn't sent.
-    pub end: Time,
+    /// The end of virtual time, in ticks, from 1 to 2^62: every event of the run is before this tick, and what would be
+    /// received at it or later isn't sent.
+    pub end: u64,
     /// The seed of all random words.
     pub seed: u64,
     ghost some_process: { 1 ≤ lps },
@@ -28,10 +27,12 @@ pub struct Config {
 }
 
 impl Config {
-    /// The config of these numbers.
+    ghost use Rattle.vt_model.specs.Settings.{first_bad_setting, end_of};
+
+    /// The config of these numbers. `end` is in ticks.
     ///
     /// [`Fault::BadOption`] names the first that is out of its range: `lps`, `workers` or `end`.
-    pub fn new(lps: u32, workers: u32, end: Time, seed: u64) -> Result<Config, Fault>
+    pub fn new(lps: u32, workers: u32, end: u64, seed: u64) -> Result<Config, Fault>
         ensures good { IfOk result (λ c. first_bad_setting lps workers end ≡ None) }
         ensures same { IfOk result (λ c. (c.lps ≡ lps) × (c.workers ≡ workers) × (c.end ≡ end) × (c.seed ≡ seed)) }
         ensures bad { IfErr result (λ fault. IsSome (first_bad_setting lps workers end)) }
@@ -52,6 +53,13 @@ impl Config {
             end,
             seed,
         })
+    }
+
+    /// The end of virtual time: the first time of tick `end`.
+    pub fn end(&self) -> When
+        ensures { result ≡ end_of self.now }
+    {
+        When::tick(self.end)
     }
 
     /// The worker that owns logical process `p`: `p` modulo the number of workers.

@@ -5,7 +5,7 @@ ghost use Rattle.vt_key.specs.Faults.{option_named};
 ghost use Rattle.vt_models.specs.declared.hop.TheConstants.{MAX_HOPS, MAX_STRIDE, MAX_DELAY};
 ghost use Rattle.vt_models.specs.Options.{first_bad_hop_option};
 
-use vt_key::{Fault, Time};
+use vt_key::{Fault, When};
 use vt_model::{Bits, Draws, Model as EventModel, Out};
 
 /// The most hops of a token.
@@ -99,7 +99,7 @@ impl EventModel for Hop {
     fn forward(
         &self,
         lp: u32,
-        _now: Time,
+        _now: When,
         payload: Token,
         state: &mut u64,
         _bits: &mut Bits,
@@ -121,7 +121,7 @@ impl EventModel for Hop {
     fn reverse(
         &self,
         _lp: u32,
-        _now: Time,
+        _now: When,
         payload: Token,
         state: &mut u64,
         _bits: Bits,

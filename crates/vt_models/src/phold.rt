@@ -5,7 +5,7 @@ ghost use Rattle.vt_key.specs.Faults.{option_named};
 ghost use Rattle.vt_models.specs.declared.phold.TheConstants.{MAX_POPULATION, MAX_REMOTE, MAX_LOOKAHEAD, MAX_SPAN};
 ghost use Rattle.vt_models.specs.Options.{first_bad_phold_option};
 
-use vt_key::{Fault, Time};
+use vt_key::{Fault, When};
 use vt_model::{Bits, Draws, MAX_SENDS, Model as EventModel, Out};
 
 /// The most events that a process starts with: as many as one handler may send.
@@ -106,7 +106,7 @@ impl EventModel for Phold {
     fn forward(
         &self,
         lp: u32,
-        _now: Time,
+        _now: When,
         _payload: (),
         state: &mut u64,
         bits: &mut Bits,
@@ -124,7 +124,7 @@ impl EventModel for Phold {
         out.send(dest, u64::from(self.lookahead) + wait, ());
     }
 
-    fn reverse(&self, _lp: u32, _now: Time, _payload: (), state: &mut u64, _bits: Bits, _kept: ()) {
+    fn reverse(&self, _lp: u32, _now: When, _payload: (), state: &mut u64, _bits: Bits, _kept: ()) {
         *state = state.wrapping_sub(1);
     }
 

@@ -8,7 +8,7 @@ ghost use Rattle.vt_model.specs.Sends.{with_requests};
 ghost use Rattle.vt_models.specs.declared.stations.TheConstants.{MAX_JOBS, MAX_SERVICE, MAX_TRAVEL};
 ghost use Rattle.vt_models.specs.Options.{first_bad_stations_option};
 
-use vt_key::{Fault, Time};
+use vt_key::{Fault, When};
 use vt_model::{Bits, Draws, Model as EventModel, Out};
 
 /// The most jobs that a station has at its start.
@@ -137,7 +137,7 @@ impl EventModel for Stations {
     fn forward(
         &self,
         lp: u32,
-        _now: Time,
+        _now: When,
         payload: JobEvent,
         state: &mut Server,
         bits: &mut Bits,
@@ -174,7 +174,7 @@ impl EventModel for Stations {
     fn reverse(
         &self,
         _lp: u32,
-        _now: Time,
+        _now: When,
         payload: JobEvent,
         state: &mut Server,
         bits: Bits,

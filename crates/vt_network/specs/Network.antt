@@ -1,5 +1,6 @@
 -- What the handlers of `Network` give.
 use Rattle.std.specs.Prelude.{ℕ, ◌+◌, ◌-◌, ◌%◌, ◌/◌, ◌^◌, ◌<◌, List, [], ◌∷◌, nat_eq, nat_lt, Option, Some, None, is_none, if◌then◌else◌}
+use Rattle.vt_key.specs.Times.{Time, ticks_of}
 use Rattle.vt_model.specs.Handler.{Handlers, StartResult, ForwardResult}
 use Rattle.vt_model.specs.Sends.{SendRequest, RecordRequest}
 use Rattle.vt_stream.specs.Drawn.{scaled}
@@ -42,8 +43,8 @@ abbrev pub next_made : ℕ → ℕ → SendRequest NetworkEvent
 next_made lp gap = record { dest = lp; delay = gap; payload = Generate }
 
 -- a new packet comes in a tick later
-abbrev pub new_packet : ℕ → ℕ → ℕ → SendRequest NetworkEvent
-new_packet lp now dest = record { dest = lp; delay = 1; payload = Arrive (record { source = lp; dest = dest; born = now }) }
+abbrev pub new_packet : ℕ → Time → ℕ → SendRequest NetworkEvent
+new_packet lp now dest = record { dest = lp; delay = 1; payload = Arrive (record { source = lp; dest = dest; born = ticks_of now }) }
 
 -- the router has served its first packet
 abbrev pub served : Network → ℕ → SendRequest NetworkEvent
@@ -79,15 +80,15 @@ arrived_sends m lp p s =
     if nat_eq p.dest lp then [] else (if is_full s.queue then [] else (if is_empty s.queue then (served m lp ∷ []) else []))
 
 -- the record of a packet that has reached its destination: how long it was on its way
-abbrev pub delivery : ℕ → Packet → RecordRequest
-delivery now p = record { kind = DELIVERED; value = (now + (2 ^ 64 - p.born)) % 2 ^ 64 }
+abbrev pub delivery : Time → Packet → RecordRequest
+delivery now p = record { kind = DELIVERED; value = (ticks_of now + (2 ^ 64 - p.born)) % 2 ^ 64 }
 
 -- the record of a packet that is lost: who had made it
 abbrev pub loss : Packet → RecordRequest
 loss p = record { kind = DROPPED; value = p.source }
 
 -- what is recorded then
-abbrev pub arrived_records : ℕ → ℕ → Packet → Router → List RecordRequest
+abbrev pub arrived_records : ℕ → Time → Packet → Router → List RecordRequest
 arrived_records lp now p s =
     if nat_eq p.dest lp then (delivery now p ∷ []) else (if is_full s.queue then (loss p ∷ []) else [])
 
@@ -127,17 +128,17 @@ drawn_by (Arrive p) = 0
 drawn_by Served = 0
 
 -- the sends of a host that makes a packet
-abbrev pub made_sends : ℕ → ℕ → ℕ → ℕ → List (SendRequest NetworkEvent)
+abbrev pub made_sends : ℕ → Time → ℕ → ℕ → List (SendRequest NetworkEvent)
 made_sends lp now gap dest = next_made lp gap ∷ new_packet lp now dest ∷ []
 
 -- what is sent
-abbrev pub sends_by : Network → ℕ → ℕ → ℕ → NetworkEvent → Router → (ℕ → ℕ) → List (SendRequest NetworkEvent)
+abbrev pub sends_by : Network → ℕ → ℕ → Time → NetworkEvent → Router → (ℕ → ℕ) → List (SendRequest NetworkEvent)
 sends_by m lps lp now Generate s words = made_sends lp now (1 + scaled (words 0) m.gap) (scaled (words 1) lps)
 sends_by m lps lp now (Arrive p) s words = arrived_sends m lp p s
 sends_by m lps lp now Served s words = gone_sends m lps lp s
 
 -- what is recorded
-abbrev pub records_by : ℕ → ℕ → NetworkEvent → Router → List RecordRequest
+abbrev pub records_by : ℕ → Time → NetworkEvent → Router → List RecordRequest
 records_by lp now Generate s = []
 records_by lp now (Arrive p) s = arrived_records lp now p s
 records_by lp now Served s = []
@@ -151,7 +152,7 @@ abbrev pub network_start : Network → ℕ → (ℕ → ℕ) → StartResult Rou
 network_start m lp words = record { state = empty; drawn = 1; send_requests = next_made lp (1 + scaled (words 0) m.gap) ∷ [] }
 
 -- an event
-abbrev pub network_forward : Network → ℕ → ℕ → ℕ → NetworkEvent → Router → (ℕ → ℕ) → ForwardResult Router NetworkEvent (Option Packet)
+abbrev pub network_forward : Network → ℕ → ℕ → Time → NetworkEvent → Router → (ℕ → ℕ) → ForwardResult Router NetworkEvent (Option Packet)
 network_forward m lps lp now e s words = record {
   state = after lp e s;
   kept = kept_by lp e s;

@@ -10,7 +10,7 @@ ghost use Rattle.vt_parts.specs.Ring.{first};
 ghost use Rattle.vt_network.specs.Options.{first_bad_option};
 
 use crate::packet::{BLANK, Buffer, Packet, ROOM};
-use vt_key::{Fault, MAX_PROCESSES, Time};
+use vt_key::{Fault, MAX_PROCESSES, When};
 use vt_model::{Bits, Draws, Model as EventModel, Out};
 
 /// The kind of a record of a packet that has arrived, by how long it was on its way.
@@ -130,7 +130,7 @@ impl Network {
     fn generate(
         &self,
         lp: u32,
-        now: Time,
+        now: When,
         gap: u64,
         dest: u32,
         router: &mut Router,
@@ -150,7 +150,7 @@ impl Network {
             NetworkEvent::Arrive(Packet {
                 source: lp,
                 dest,
-                born: now,
+                born: now.ticks(),
             }),
         );
     }
@@ -160,7 +160,7 @@ impl Network {
     fn arrive(
         &self,
         lp: u32,
-        now: Time,
+        now: When,
         packet: Packet,
         router: &mut Router,
         out: &mut Out<NetworkEvent>,
@@ -174,7 +174,7 @@ impl Network {
     {
         if packet.dest == lp {
             router.delivered = router.delivered.wrapping_add(1);
-            out.emit(DELIVERED, now.wrapping_sub(packet.born));
+            out.emit(DELIVERED, now.ticks().wrapping_sub(packet.born));
             return None;
         }
         if router.queue.is_full() {
@@ -235,7 +235,7 @@ impl EventModel for Network {
     fn forward(
         &self,
         lp: u32,
-        now: Time,
+        now: When,
         payload: NetworkEvent,
         state: &mut Router,
         _bits: &mut Bits,
@@ -257,7 +257,7 @@ impl EventModel for Network {
     fn reverse(
         &self,
         lp: u32,
-        _now: Time,
+        _now: When,
         payload: NetworkEvent,
         state: &mut Router,
         _bits: Bits,

@@ -1,13 +1,14 @@
--- Letters in 64 lists, by their times modulo 64.
+-- Letters in 64 lists, by their ticks modulo 64.
 use Rattle.std.specs.Prelude.{◌≡◌, ◌≢◌, ℕ, ◌%◌, ◌<◌, ◌↔◌, Bool, false, not, nat_eq, IsBitSet, List, [], ◌∷◌, filter, find, slice_get, Option, None, Some, if◌then◌else◌}
 use Rattle.vt_key.specs.Order.{rank_before}
+use Rattle.vt_key.specs.Times.{ticks_of}
 use Rattle.vt_key.specs.declared.order.Rank.{Rank}
 use Rattle.vt_key.specs.declared.letter.Letter.{Letter}
 use Rattle.vt_pending.specs.Letters.{letter_rank, insert_letter, IsRising}
 
 -- the number of the list where letters of this rank are
 abbrev pub bucket_of : Rank → ℕ
-bucket_of rank = rank.key.time % 64
+bucket_of rank = ticks_of rank.key.time % 64
 
 module _ {P : Type 0} where
   -- the letter belongs in list b
@@ -87,7 +88,7 @@ module _ {P : Type 0} where
       let b = bucket_of (letter_rank letter) in
       (list ≡ letter ∷ filter (in_bucket b) letters) × IsRow lists (filter (not_in_bucket b) letters)
 
-  -- a queue with these letters: list b has those with time b modulo 64 in rising rank, and bit b of the word says that it isn't
+  -- a queue with these letters: list b has those with tick b modulo 64 in rising rank, and bit b of the word says that it isn't
   -- empty
   pub record Buckets (mask : ℕ) (lists : List (List (Letter P))) (letters : List (Letter P)) : Type 0 where
     pub rising : IsRising letters

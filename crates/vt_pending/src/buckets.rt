@@ -10,12 +10,12 @@ use std::alloc::Global;
 use vt_key::{Letter, Rank};
 use vt_list::{IterLines, Line, Lines, Parcel, Predicate};
 
-/// The number of the list that holds letters of this rank: their time modulo 64.
+/// The number of the list that holds letters of this rank: the tick of their time modulo 64.
 pub(crate) fn bucket(rank: Rank) -> u32
     ensures value { result ≡ bucket_of rank }
     ensures within { result < 64 }
 {
-    (rank.key.time % 64) as u32
+    (rank.key.when().ticks() % 64) as u32
 }
 
 /// Whether there is a letter, and it has this rank.

@@ -5,7 +5,7 @@
 //! wait for their messages. A letter that is cancelled is found by its stamp. Contracts see a queue as the list of
 //! its letters, and say nothing of how they are kept.
 //!
-//! The letters lie in 64 lists, by their times modulo 64. The lists that aren't empty stand in a row, in the order of
+//! The letters lie in 64 lists, by their ticks modulo 64. The lists that aren't empty stand in a row, in the order of
 //! their first letters, and one word tells which they are. So the least letter is the first one of the first list,
 //! and a rank is looked up only in the list of its time.
 //!

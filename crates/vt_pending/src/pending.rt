@@ -15,7 +15,7 @@ use vt_list::{Lines, Parcel, Predicate};
 
 /// A queue of letters in strictly rising rank. Contracts see the list of them.
 ///
-/// The letters lie in 64 lists, by their times modulo 64, each in rising rank. The lists that aren't empty stand in a
+/// The letters lie in 64 lists, by their ticks modulo 64, each in rising rank. The lists that aren't empty stand in a
 /// row, in the order of their first letters. So the least letter of all is the first one of the first list.
 ///
 /// No call takes memory.
@@ -68,7 +68,7 @@ impl<P: Copy> Pending<P> {
         self.lists.is_empty()
     }
 
-    /// The times modulo 64 of the letters, as a set: bit b is set if some letter has time b modulo 64.
+    /// The ticks modulo 64 of the letters' times, as a set: bit b is set if some letter has tick b modulo 64.
     pub fn mask(&self) -> u64
         ensures { (b : ℕ) → b < 64 → IsBitSet result b ↔ IsTrue (list_any (in_bucket b) self.now) }
     {
@@ -172,12 +172,13 @@ impl<P: Copy> Pending<P> {
         ensures held { result ≡ holds_rank rank self.now }
         ensures rising { IsRising self.now }
     {
-        let number = bucket(rank);
+        let sought = NotBefore(rank);
+        let number = bucket(sought.0);
         if !self.mask.has(number) {
             return false;
         }
-        let found = find_in(self.lists.iter(), number, &NotBefore(rank));
-        has_rank(found, rank)
+        let found = find_in(self.lists.iter(), number, &sought);
+        has_rank(found, sought.0)
     }
 }
 

@@ -12,6 +12,7 @@ use Rattle.vt_model.specs.Handler.{Handlers}
 use Rattle.vt_model.specs.Histories.{IsLawful}
 use Rattle.vt_model.specs.Sequential.{seq_records}
 use Rattle.vt_model.specs.Simulation.{Simulation, simulation_of}
+use Rattle.vt_model.specs.Settings.{end_of}
 use Rattle.vt_steps.specs.World.{World, Board, Book, opening_world, least, book_floor, book_records}
 use Rattle.vt_steps.specs.Next.{reached}
 use Rattle.vt_steps.specs.StandsFor.{StandsFor}
@@ -84,9 +85,9 @@ are_sequential sim lawful serial steps replies end h =
     subst (λ (w : World _). AreSequential sim w) (sym (rightly_answered sim (opening_world sim serial) end steps replies h.answered).taken)
     (records-right sim lawful (reached sim serial taken) (reached-accounted sim lawful serial taken)).records
 
-shown_is : {M S P K : Type 0} (handlers : Handlers S P K) (held : HeldWorld M S P K) (end : World P) → StandsForWorld handlers held end → AreSequential (simulation_of handlers held.config) end → shown_of handlers held ≡ state_of held.config.end end
+shown_is : {M S P K : Type 0} (handlers : Handlers S P K) (held : HeldWorld M S P K) (end : World P) → StandsForWorld handlers held end → AreSequential (simulation_of handlers held.config) end → shown_of handlers held ≡ state_of (end_of held.config) end
 shown_is handlers held end stands records =
-    let e = held.config.end in
+    let e = end_of held.config in
     let seq : Time → List Record = λ t. seq_records (simulation_of handlers held.config) t in
     ap (λ (b : Board). state_text b.announced (floor_held held) (least_held held) (seq (floor_held held))) (sym stands.board)
     ∙ ap (λ (k : Book). state_text end.board.announced (book_floor e k) (least_held held) (seq (book_floor e k))) (sym stands.book)
@@ -141,7 +142,7 @@ module _ {M S P K : Type 0} (meaning : M → Handlers S P K) (m : M) (config : C
 
   module _ (lawful : IsLawful own) (final : HeldWorld M S P K) (model' : final.model ≡ first.model) (same' : final.config ≡ first.config) (old now : Option (List ℕ)) (none held : List ℕ) (empty : none ≡ [])
       (put : PutsReplies (meaning first.model) first.config (opening_world own serial) steps final old now none held) where
-    shown_at_end : shown_of (meaning final.model) final ≡ state_of first.config.end put.end
+    shown_at_end : shown_of (meaning final.model) final ≡ state_of (end_of first.config) put.end
     shown_at_end =
         let stands : StandsForWorld (meaning final.model) final put.end =
         subst (λ (x : M). StandsFor (simulation_of (meaning x) final.config) (world_memory (meaning x) final) put.end) (sym model')
@@ -149,7 +150,7 @@ module _ {M S P K : Type 0} (meaning : M → Handlers S P K) (m : M) (config : C
         let sequential : AreSequential (simulation_of (meaning final.model) final.config) put.end =
         subst (λ (x : M). AreSequential (simulation_of (meaning x) final.config) put.end) (sym model')
         (subst (λ (c : Config). AreSequential (simulation_of (meaning first.model) c) put.end) (sym same') (are_sequential own lawful serial steps put.replies put.end put.are)) in
-        shown_is (meaning final.model) final put.end stands sequential ∙ ap (λ (c : Config). state_of c.end put.end) same'
+        shown_is (meaning final.model) final put.end stands sequential ∙ ap (λ (c : Config). state_of (end_of c) put.end) same'
 
     lines : AppendsAllButHeld old now held (replies_text put.replies)
     lines = subst (λ (x : List ℕ). AppendsAllButHeld old now held (x ++ replies_text put.replies)) empty put.put
@@ -157,7 +158,7 @@ module _ {M S P K : Type 0} (meaning : M → Handlers S P K) (m : M) (config : C
     -- the whole output was written
     pub replay_written : (new : Option (List ℕ)) → Appends now new (held ++ shown_of (meaning final.model) final) → Writes (IsReplayText own serial steps) old new
     replay_written new h =
-        let shown = state_of first.config.end put.end in
+        let shown = state_of (end_of first.config) put.end in
         record {
           text = replies_text put.replies ++ shown;
           right = right own serial steps put.replies put.end put.are;
@@ -175,7 +176,7 @@ module _ {M S P K : Type 0} (meaning : M → Handlers S P K) (m : M) (config : C
     -- a beginning of it was written
     pub replay_begun : (new : Option (List ℕ)) → AppendsBeginning now new (held ++ shown_of (meaning final.model) final) → Begins (IsReplayText own serial steps) old new
     replay_begun new h =
-        let shown = state_of first.config.end put.end in
+        let shown = state_of (end_of first.config) put.end in
         record {
           text = replies_text put.replies ++ shown;
           right = right own serial steps put.replies put.end put.are;

@@ -11,6 +11,7 @@ use Rattle.vt_model.specs.Sequential.{seq_records}
 use Rattle.vt_models.specs.Hop.{hop_handlers}
 use Rattle.vt_models.specs.Phold.{phold_handlers}
 use Rattle.vt_models.specs.Stations.{stations_handlers}
+use Rattle.vt_model.specs.Settings.{end_of}
 use Rattle.vt_seq.specs.Limits.{PassesLimit}
 use Rattle.vt_text.specs.Records.{records_text}
 use Rattle.vt_text.specs.Writing.{AppendsBeginning}
@@ -26,7 +27,7 @@ text_below handlers config time = records_text (seq_records (simulation_of handl
 
 -- the records of a model's whole sequential run, as text
 abbrev pub run_text : {S P K : Type 0} → Handlers S P K → Config → List ℕ
-run_text handlers config = text_below handlers config config.end
+run_text handlers config = text_below handlers config (end_of config)
 
 -- the text of a run of this model with these options
 abbrev pub text_of_model : ModelName → Options → List ℕ

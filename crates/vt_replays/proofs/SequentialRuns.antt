@@ -15,7 +15,8 @@ use Rattle.vt_models.specs.declared.hop.Hop.{Hop}
 use Rattle.vt_models.specs.declared.hop.Token.{Token}
 use Rattle.vt_models.specs.Hop.{hop_handlers}
 use Rattle.vt_models.specs.HopLaws.{start_within, forward_within}
-use Rattle.vt_replays.specs.Replays.{HasRecords, EndsWith, two_hops, one_hop, two_further, one_worker, one_worker_to_4, two_workers, three_processes, two_hops_run, two_hops_run_to_4, three_processes_run, replayed, six_records, three_records, four_records, three_processes_records, below_3}
+use Rattle.vt_model.specs.Settings.{end_of}
+use Rattle.vt_replays.specs.Replays.{tick, HasRecords, EndsWith, two_hops, one_hop, two_further, one_worker, one_worker_to_4, two_workers, three_processes, two_hops_run, two_hops_run_to_4, three_processes_run, replayed, six_records, three_records, four_records, three_processes_records, below_3}
 
 hop_lawful : (hop : Hop) (config : Config) → IsLawful (simulation_of (hop_handlers hop) config)
 hop_lawful hop config = lawful_of (hop_handlers hop) config (start_within hop) (forward_within hop)
@@ -31,33 +32,33 @@ module _ (hop : Hop) (config : Config) (n : ℕ) (ended : (after_steps (simulati
   has_records t shown is = of_whole (λ es. records_of (rows_before t (rows_after (simulation_of (hop_handlers hop) config) [] es)) ≡ shown) is
 
   ends_with : (p state number : ℕ) →
-      (after (simulation_of (hop_handlers hop) config) p (events_before config.end (events_of p (after_steps (simulation_of (hop_handlers hop) config) n).executed))).state ≡ state →
-      (after (simulation_of (hop_handlers hop) config) p (events_before config.end (events_of p (after_steps (simulation_of (hop_handlers hop) config) n).executed))).number ≡ number →
+      (after (simulation_of (hop_handlers hop) config) p (events_before (end_of config) (events_of p (after_steps (simulation_of (hop_handlers hop) config) n).executed))).state ≡ state →
+      (after (simulation_of (hop_handlers hop) config) p (events_before (end_of config) (events_of p (after_steps (simulation_of (hop_handlers hop) config) n).executed))).number ≡ number →
       EndsWith (simulation_of (hop_handlers hop) config) p state number
   ends_with p state number state_is number_is = record {
-    state_is = of_whole (λ es. (after (simulation_of (hop_handlers hop) config) p (events_before config.end (events_of p es))).state ≡ state) state_is;
-    number_is = of_whole (λ es. (after (simulation_of (hop_handlers hop) config) p (events_before config.end (events_of p es))).number ≡ number) number_is;
+    state_is = of_whole (λ es. (after (simulation_of (hop_handlers hop) config) p (events_before (end_of config) (events_of p es))).state ≡ state) state_is;
+    number_is = of_whole (λ es. (after (simulation_of (hop_handlers hop) config) p (events_before (end_of config) (events_of p es))).number ≡ number) number_is;
   }
 
 pub computed :
-    HasRecords two_hops_run 10 six_records
+    HasRecords two_hops_run (tick 10) six_records
     × EndsWith two_hops_run 0 66049 3
     × EndsWith two_hops_run 1 131330 3
-    × HasRecords two_hops_run_to_4 4 three_records
+    × HasRecords two_hops_run_to_4 (tick 4) three_records
     × EndsWith two_hops_run_to_4 0 1 2
     × EndsWith two_hops_run_to_4 1 513 3
-    × HasRecords replayed 10 four_records
-    × HasRecords replayed 3 below_3
-    × HasRecords three_processes_run 3 three_processes_records
+    × HasRecords replayed (tick 10) four_records
+    × HasRecords replayed (tick 3) below_3
+    × HasRecords three_processes_run (tick 3) three_processes_records
 unfolding fired_after key_before key_same sent_events requested_records start_of fire_of rows_of
 computed = (
-  has_records two_hops one_worker 6 refl 10 six_records refl,
+  has_records two_hops one_worker 6 refl (tick 10) six_records refl,
   ends_with two_hops one_worker 6 refl 0 66049 3 refl refl,
   ends_with two_hops one_worker 6 refl 1 131330 3 refl refl,
-  has_records two_hops one_worker_to_4 3 refl 4 three_records refl,
+  has_records two_hops one_worker_to_4 3 refl (tick 4) three_records refl,
   ends_with two_hops one_worker_to_4 3 refl 0 1 2 refl refl,
   ends_with two_hops one_worker_to_4 3 refl 1 513 3 refl refl,
-  has_records one_hop two_workers 4 refl 10 four_records refl,
-  has_records one_hop two_workers 4 refl 3 below_3 refl,
-  has_records two_further three_processes 3 refl 3 three_processes_records refl,
+  has_records one_hop two_workers 4 refl (tick 10) four_records refl,
+  has_records one_hop two_workers 4 refl (tick 3) below_3 refl,
+  has_records two_further three_processes 3 refl (tick 3) three_processes_records refl,
 )

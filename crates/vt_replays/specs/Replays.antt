@@ -1,7 +1,7 @@
 -- Worked replays: lists of steps of the hop model, each step with its answer, and what the world shows after them.
 use Rattle.std.specs.Prelude.{◌≡◌, ◌≤◌, ℕ, List, [], ◌∷◌, ◌++◌, map, Result, Ok, Err}
 use Rattle.std.proofs.Common.{lit≤}
-use Rattle.vt_key.specs.Times.{Time}
+use Rattle.vt_key.specs.Times.{Time, at}
 use Rattle.vt_key.specs.declared.order.Stamp.{Stamp}
 use Rattle.vt_key.specs.declared.fault.Fault.{Fault}
 use Rattle.vt_key.specs.declared.fault.Fault.TheVariants.{NotLawful, Closed}
@@ -20,6 +20,10 @@ use Rattle.vt_steps.specs.declared.step.Reply.{Reply}
 use Rattle.vt_steps.specs.declared.step.Reply.TheVariants.{Done, Waiting, Again, Announced}
 use Rattle.vt_steps.specs.World.{World, opening_world, least, book_floor, book_records}
 use Rattle.vt_steps.specs.Next.{run, answers}
+
+-- the first time of a tick
+abbrev pub tick : ℕ → Time
+tick t = at t 0
 
 -- ---- what a replay says
 
@@ -79,8 +83,8 @@ hop_of hops stride delay few short some below = record {
   short_delay = below;
 }
 
--- a config of these numbers, with seed 0
-abbrev pub config_of : (lps workers : ℕ) (end : Time) → 1 ≤ lps → lps ≤ MAX_PROCESSES → 1 ≤ workers → workers ≤ MAX_WORKERS → 1 ≤ end → end ≤ MAX_END → Config
+-- a config of these numbers, with an end in ticks, and with seed 0
+abbrev pub config_of : (lps workers end : ℕ) → 1 ≤ lps → lps ≤ MAX_PROCESSES → 1 ≤ workers → workers ≤ MAX_WORKERS → 1 ≤ end → end ≤ MAX_END → Config
 config_of lps workers end some_lp few_lps some_worker few_workers some_time in_time = record {
   lps = lps;
   workers = workers;
@@ -114,9 +118,9 @@ one_worker = config_of 2 1 10 (lit≤ tt) (lit≤ tt) (lit≤ tt) (lit≤ tt) (l
 abbrev pub replayed : Simulation ℕ Token
 replayed = simulation_of (hop_handlers one_hop) two_workers
 
--- a record of the hop model: its kind is 1
-abbrev pub hop_record : Time → ℕ → ℕ → Record
-hop_record time p value = record { time = time; lp = p; kind = 1; value = value }
+-- a record of the hop model at a tick: its kind is 1
+abbrev pub hop_record : ℕ → ℕ → ℕ → Record
+hop_record time p value = record { time = time; priority = 0; lp = p; kind = 1; value = value }
 
 -- the stamp of a worker with this serial
 abbrev pub stamp : ℕ → ℕ → Stamp
@@ -142,7 +146,7 @@ in_order =
 
 -- a round, in which worker 1 reports last
 abbrev pub a_round : List Line
-a_round = ok (Cut 0) ∷ ok (Cut 1) ∷ replies (Report 0) Waiting ∷ replies (Report 1) (Announced 10) ∷ []
+a_round = ok (Cut 0) ∷ ok (Cut 1) ∷ replies (Report 0) Waiting ∷ replies (Report 1) (Announced (tick 10)) ∷ []
 
 -- worker 0 learns the announced time by a cut, both commit, and the book is closed
 abbrev pub to_the_close : List Line
@@ -158,7 +162,7 @@ four_records = hop_record 1 0 1 ∷ hop_record 2 1 1 ∷ hop_record 2 1 258 ∷ 
 
 -- the book is closed and shows the whole run
 abbrev pub whole_run_shown : Shown
-whole_run_shown = record { announced = 10; floor = 10; least = 10; records = four_records }
+whole_run_shown = record { announced = tick 10; floor = tick 10; least = tick 10; records = four_records }
 
 -- ---- an anti-message before its event
 
@@ -187,11 +191,11 @@ new_event_first =
 abbrev pub unequal_counts : List Line
 unequal_counts =
     ok (Home 0) ∷ ok (Home 1) ∷ ok (Execute 0) ∷ ok (Send 0 1) ∷ ok (Cut 0) ∷ ok (Cut 1) ∷ replies (Report 0) Waiting
-    ∷ replies (Report 1) Again ∷ ok (Fetch 1) ∷ replies (Report 0) Waiting ∷ replies (Report 1) (Announced 2) ∷ []
+    ∷ replies (Report 1) Again ∷ ok (Fetch 1) ∷ replies (Report 0) Waiting ∷ replies (Report 1) (Announced (tick 2)) ∷ []
 
 -- nothing is committed yet
 abbrev pub unequal_counts_shown : Shown
-unequal_counts_shown = record { announced = 2; floor = 0; least = 2; records = [] }
+unequal_counts_shown = record { announced = tick 2; floor = tick 0; least = tick 2; records = [] }
 
 -- ---- a travelling letter of the new colour is the least
 
@@ -199,7 +203,7 @@ unequal_counts_shown = record { announced = 2; floor = 0; least = 2; records = [
 abbrev pub travelling_least : List Line
 travelling_least =
     until_straggler
-    ++ ok (Cut 0) ∷ ok (Cut 1) ∷ ok (Send 1 0) ∷ replies (Report 0) Waiting ∷ replies (Report 1) (Announced 3)
+    ++ ok (Cut 0) ∷ ok (Cut 1) ∷ ok (Send 1 0) ∷ replies (Report 0) Waiting ∷ replies (Report 1) (Announced (tick 3))
     ∷ ok (Cut 0) ∷ ok (Commit 0) ∷ ok (Commit 1) ∷ not_lawful Close ∷ []
 
 -- the records of the run before 3
@@ -208,7 +212,7 @@ below_3 = hop_record 1 0 1 ∷ hop_record 2 1 1 ∷ hop_record 2 1 258 ∷ []
 
 -- what is before 3 is committed
 abbrev pub travelling_least_shown : Shown
-travelling_least_shown = record { announced = 3; floor = 3; least = 3; records = below_3 }
+travelling_least_shown = record { announced = tick 3; floor = tick 3; least = tick 3; records = below_3 }
 
 -- ---- a fetched letter is the least
 
@@ -217,12 +221,12 @@ travelling_least_shown = record { announced = 3; floor = 3; least = 3; records =
 abbrev pub fetched_least : List Line
 fetched_least =
     ok (Home 0) ∷ ok (Home 1) ∷ ok (Execute 1) ∷ ok (Execute 0) ∷ ok (Send 0 1) ∷ ok (Fetch 1)
-    ∷ not_lawful (Fetch 1) ∷ ok (Cut 0) ∷ ok (Cut 1) ∷ replies (Report 0) Waiting ∷ replies (Report 1) (Announced 2)
+    ∷ not_lawful (Fetch 1) ∷ ok (Cut 0) ∷ ok (Cut 1) ∷ replies (Report 0) Waiting ∷ replies (Report 1) (Announced (tick 2))
     ∷ ok (Commit 1) ∷ ok (Accept 1 0) ∷ not_lawful (Execute 1) ∷ ok (Undo 1) ∷ []
 
 -- nothing is committed yet
 abbrev pub fetched_least_shown : Shown
-fetched_least_shown = record { announced = 2; floor = 0; least = 2; records = [] }
+fetched_least_shown = record { announced = tick 2; floor = tick 0; least = tick 2; records = [] }
 
 -- ---- an anti-message of an executed event
 
@@ -241,14 +245,14 @@ anti_message_last =
 abbrev pub row_at_floor : List Line
 row_at_floor =
     until_straggler
-    ++ ok (Cut 0) ∷ ok (Cut 1) ∷ ok (Send 1 0) ∷ replies (Report 0) Waiting ∷ replies (Report 1) (Announced 3)
+    ++ ok (Cut 0) ∷ ok (Cut 1) ∷ ok (Send 1 0) ∷ replies (Report 0) Waiting ∷ replies (Report 1) (Announced (tick 3))
     ∷ ok (Cut 0) ∷ ok (Commit 0) ∷ ok (Commit 1) ∷ ok (Fetch 0) ∷ ok (Accept 0 0) ∷ ok (Accept 0 0) ∷ ok (Accept 0 0)
     ∷ ok (Cancel 0 (stamp 1 1)) ∷ ok (Execute 0) ∷ ok (Cut 1) ∷ replies (Report 1) Waiting
-    ∷ replies (Report 0) (Announced 10) ∷ ok (Commit 0) ∷ not_lawful Close ∷ []
+    ∷ replies (Report 0) (Announced (tick 10)) ∷ ok (Commit 0) ∷ not_lawful Close ∷ []
 
 -- the row at 3 is in the book and is not shown
 abbrev pub row_at_floor_shown : Shown
-row_at_floor_shown = record { announced = 10; floor = 3; least = 10; records = below_3 }
+row_at_floor_shown = record { announced = tick 10; floor = tick 3; least = tick 10; records = below_3 }
 
 -- worker 1 then learns the second announced time by a cut and commits: the whole run is in the book, and it is closed
 abbrev pub second_round_closes : List Line
@@ -261,12 +265,12 @@ second_round_closes = row_at_floor ++ ok (Cut 1) ∷ ok (Commit 1) ∷ ok Close 
 abbrev pub one_round : List Line
 one_round =
     not_lawful (Send 0 1) ∷ not_lawful (Report 0) ∷ ok (Cut 0) ∷ not_lawful (Cut 0) ∷ not_lawful (Report 0) ∷ not_lawful (Cut 2) ∷ ok (Cut 1)
-    ∷ replies (Report 0) Waiting ∷ not_lawful (Report 0) ∷ not_lawful (Report 2) ∷ replies (Report 1) (Announced 1)
+    ∷ replies (Report 0) Waiting ∷ not_lawful (Report 0) ∷ not_lawful (Report 2) ∷ replies (Report 1) (Announced (tick 1))
     ∷ not_lawful (Report 1) ∷ not_lawful (Execute 2) ∷ not_lawful (Send 0 2) ∷ not_lawful (Commit 2) ∷ []
 
 -- the first events of the processes are at 1 and 2
 abbrev pub one_round_shown : Shown
-one_round_shown = record { announced = 1; floor = 0; least = 1; records = [] }
+one_round_shown = record { announced = tick 1; floor = tick 0; least = tick 1; records = [] }
 
 -- ---- what one worker alone refuses
 
@@ -274,7 +278,7 @@ one_round_shown = record { announced = 1; floor = 0; least = 1; records = [] }
 abbrev pub alone : List Line
 alone =
     ok (Fetch 0) ∷ not_lawful (Accept 0 0) ∷ not_lawful (Send 0 0) ∷ not_lawful (Report 0) ∷ ok (Commit 0)
-    ∷ not_lawful Close ∷ ok (Cut 0) ∷ not_lawful (Cut 0) ∷ replies (Report 0) (Announced 1) ∷ not_lawful (Report 0) ∷ []
+    ∷ not_lawful Close ∷ ok (Cut 0) ∷ not_lawful (Cut 0) ∷ replies (Report 0) (Announced (tick 1)) ∷ not_lawful (Report 0) ∷ []
 
 -- ---- a run without events
 
@@ -284,11 +288,11 @@ until_one = simulation_of (hop_handlers two_hops) (config_of 2 1 1 (lit≤ tt) (
 
 -- one round, a commit and the close
 abbrev pub no_events : List Line
-no_events = ok (Cut 0) ∷ replies (Report 0) (Announced 1) ∷ ok (Commit 0) ∷ ok Close ∷ []
+no_events = ok (Cut 0) ∷ replies (Report 0) (Announced (tick 1)) ∷ ok (Commit 0) ∷ ok Close ∷ []
 
 -- the end of the run is reached
 abbrev pub no_events_shown : Shown
-no_events_shown = record { announced = 1; floor = 1; least = 1; records = [] }
+no_events_shown = record { announced = tick 1; floor = tick 1; least = tick 1; records = [] }
 
 -- ---- an undo without a cause
 
@@ -298,7 +302,7 @@ undo_without_cause = ok (Home 0) ∷ ok (Execute 0) ∷ not_lawful (Undo 0) ∷ 
 
 -- what process 0 sent and process 1 begins with, both at 2 or later, are left
 abbrev pub undo_without_cause_shown : Shown
-undo_without_cause_shown = record { announced = 0; floor = 0; least = 2; records = [] }
+undo_without_cause_shown = record { announced = tick 0; floor = tick 0; least = tick 2; records = [] }
 
 -- ---- an undo without a cause of its own
 
@@ -311,7 +315,7 @@ undo_without_cause_of_its_own =
     ∷ ok (Accept 0 1) ∷ not_lawful (Undo 0) ∷ ok (Accept 0 0) ∷ not_lawful (Undo 0) ∷ []
 
 abbrev pub undo_without_cause_of_its_own_shown : Shown
-undo_without_cause_of_its_own_shown = record { announced = 0; floor = 0; least = 3; records = [] }
+undo_without_cause_of_its_own_shown = record { announced = tick 0; floor = tick 0; least = tick 3; records = [] }
 
 -- ---- one worker commits alone
 
@@ -321,7 +325,7 @@ one_commits = in_order ++ a_round ++ ok (Commit 1) ∷ []
 
 -- worker 0 has handed in nothing
 abbrev pub one_commits_shown : Shown
-one_commits_shown = record { announced = 10; floor = 0; least = 10; records = [] }
+one_commits_shown = record { announced = tick 10; floor = tick 0; least = tick 10; records = [] }
 
 -- ---- a closed book
 

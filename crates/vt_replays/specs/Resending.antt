@@ -6,7 +6,7 @@ use Rattle.vt_model.specs.declared.sending.Sent.{Sent}
 use Rattle.vt_model.specs.Simulation.{Simulation, Triple, Fired}
 use Rattle.vt_steps.specs.declared.step.Step.TheVariants.{Execute, Undo, Cancel, Home, Send, Fetch, Accept, Cut, Report}
 use Rattle.vt_steps.specs.declared.step.Reply.TheVariants.{Waiting, Announced}
-use Rattle.vt_replays.specs.Replays.{Line, Shown, ok, replies, stamp}
+use Rattle.vt_replays.specs.Replays.{Line, Shown, tick, ok, replies, stamp}
 
 -- a send of a process with this number, to a process, which tells by its payload what to do
 abbrev pub send_of : ℕ → ℕ → Time → ℕ → ℕ → Sent ℕ
@@ -26,11 +26,11 @@ abbrev pub resending : Simulation ℕ ℕ
 resending = record {
   lps = 2;
   workers = 2;
-  end = 20;
-  start = λ p. sending (record { state = 0; number = 0; place = 0 }) (send_of p 0 (if nat_eq p 0 then 1 else 3) p 0);
+  end = tick 20;
+  start = λ p. sending (record { state = 0; number = 0; place = 0 }) (send_of p 0 (tick (if nat_eq p 0 then 1 else 3)) p 0);
   fire = λ p t e.
       if nat_eq e.payload 0
-      then sending t (send_of p t.number (e.key.time + (if nat_eq t.state 0 then 1 else 10)) (if nat_eq p 0 then 1 else 0) 1)
+      then sending t (send_of p t.number (e.key.time + tick (if nat_eq t.state 0 then 1 else 10)) (if nat_eq p 0 then 1 else 0) 1)
       else standing (record t { state = t.state + 1 });
   finish = λ p state. state;
 }
@@ -43,9 +43,9 @@ waiting_least =
     ok (Home 0) ∷ ok (Home 1) ∷ ok (Execute 1) ∷ ok (Send 1 0) ∷ ok (Fetch 0) ∷ ok (Accept 0 0) ∷ ok (Execute 0) ∷ ok (Execute 0)
     ∷ ok (Send 0 1) ∷ ok (Fetch 1) ∷ ok (Accept 1 0) ∷ ok (Undo 1) ∷ ok (Execute 1) ∷ ok (Execute 1)
     ∷ ok (Send 1 0) ∷ ok (Fetch 0) ∷ ok (Accept 0 0) ∷ ok (Accept 0 0)
-    ∷ ok (Cut 0) ∷ ok (Cut 1) ∷ replies (Report 0) Waiting ∷ replies (Report 1) (Announced 4)
+    ∷ ok (Cut 0) ∷ ok (Cut 1) ∷ replies (Report 0) Waiting ∷ replies (Report 1) (Announced (tick 4))
     ∷ ok (Undo 0) ∷ ok (Cancel 0 (stamp 1 1)) ∷ []
 
 -- the event for 13 is left
 abbrev pub waiting_least_shown : Shown
-waiting_least_shown = record { announced = 4; floor = 0; least = 13; records = [] }
+waiting_least_shown = record { announced = tick 4; floor = tick 0; least = tick 13; records = [] }

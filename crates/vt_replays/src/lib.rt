@@ -9,7 +9,7 @@ mod hop_runs;
 mod resending;
 
 ghost use Rattle.vt_replays.specs.Replays.{Replays, replayed, two_hops_run, straggler, whole_run_shown, anti_message_first, new_event_first, unequal_counts, unequal_counts_shown, travelling_least, travelling_least_shown, fetched_least, fetched_least_shown, anti_message_last, row_at_floor, row_at_floor_shown, second_round_closes, one_round, one_round_shown, alone, until_one, no_events, no_events_shown, undo_without_cause, undo_without_cause_shown, undo_without_cause_of_its_own, undo_without_cause_of_its_own_shown, one_commits, one_commits_shown, after_the_close};
-ghost use Rattle.vt_replays.specs.Replays.{HasRecords, EndsWith, two_hops_run_to_4, three_processes_run, six_records, three_records, four_records, three_processes_records, below_3};
+ghost use Rattle.vt_replays.specs.Replays.{tick, HasRecords, EndsWith, two_hops_run_to_4, three_processes_run, six_records, three_records, four_records, three_processes_records, below_3};
 
 pub use hop_runs::hop_histories;
 pub use resending::waiting_anti_message_is_the_least;
@@ -37,13 +37,13 @@ pub fn replays_as_worked()
 
 /// Worked sequential runs: their records before a time, and where they leave the processes.
 pub fn sequential_runs_as_worked()
-    ensures two_hops { HasRecords two_hops_run 10 six_records }
+    ensures two_hops { HasRecords two_hops_run (tick 10) six_records }
     ensures two_hops_leave_0 { EndsWith two_hops_run 0 66049 3 }
     ensures two_hops_leave_1 { EndsWith two_hops_run 1 131330 3 }
-    ensures sends_past_the_end { HasRecords two_hops_run_to_4 4 three_records }
+    ensures sends_past_the_end { HasRecords two_hops_run_to_4 (tick 4) three_records }
     ensures past_the_end_0 { EndsWith two_hops_run_to_4 0 1 2 }
     ensures past_the_end_1 { EndsWith two_hops_run_to_4 1 513 3 }
-    ensures one_hop { HasRecords replayed 10 four_records }
-    ensures one_hop_before_3 { HasRecords replayed 3 below_3 }
-    ensures keys_decide { HasRecords three_processes_run 3 three_processes_records }
+    ensures one_hop { HasRecords replayed (tick 10) four_records }
+    ensures one_hop_before_3 { HasRecords replayed (tick 3) below_3 }
+    ensures keys_decide { HasRecords three_processes_run (tick 3) three_processes_records }
 {}

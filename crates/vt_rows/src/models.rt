@@ -6,13 +6,13 @@
 use std::alloc::Global;
 use std::process::Abort;
 use std::rt::{self, HostRuntime};
-use vt_key::{Fault, Time};
+use vt_key::{Fault, When};
 use vt_model::stream::LpStream;
 use vt_model::{Bits, Config, Draws, Model as EventModel, Out, Record};
 use vt_models::{JobEvent, Phold, Server, Stations};
 use vt_seq::Sequential;
 
-type Line = (Time, u32, u32, u64);
+type Line = (u64, u32, u32, u64);
 
 // What is told of a process at the end: its final value, its send number and its place in its random words.
 type Ending = (u64, u64, u64);
@@ -215,7 +215,7 @@ fn a_departure_from_an_empty_station_does_nothing(rt: HostRuntime) {
     let config = Config::new(3, 1, 20, 258).expect(&rt, "config");
     let mut stream = LpStream::new(258, 1);
     let mut draws = Draws::new(&mut stream);
-    let mut out = Out::new(config, 1, 5, 0);
+    let mut out = Out::new(config, 1, When::tick(5), 0);
     let mut bits = Bits::new();
     let mut state = Server {
         length: 0,
@@ -223,7 +223,7 @@ fn a_departure_from_an_empty_station_does_nothing(rt: HostRuntime) {
     };
     model.forward(
         1,
-        5,
+        When::tick(5),
         JobEvent::Depart,
         &mut state,
         &mut bits,
@@ -236,7 +236,7 @@ fn a_departure_from_an_empty_station_does_nothing(rt: HostRuntime) {
     assert_eq!(rt; out.number(), 0);
     assert_eq!(rt; out.sends().len(), 0);
     assert_eq!(rt; out.records().len(), 0);
-    model.reverse(1, 5, JobEvent::Depart, &mut state, bits, ());
+    model.reverse(1, When::tick(5), JobEvent::Depart, &mut state, bits, ());
     assert_eq!(rt; (state.length, state.served), (0, 7));
 }
 
@@ -246,7 +246,7 @@ fn a_departure_is_undone(rt: HostRuntime) {
     let config = Config::new(3, 1, 20, 258).expect(&rt, "config");
     let mut stream = LpStream::new(258, 1);
     let mut draws = Draws::new(&mut stream);
-    let mut out = Out::new(config, 1, 5, 0);
+    let mut out = Out::new(config, 1, When::tick(5), 0);
     let mut bits = Bits::new();
     let mut state = Server {
         length: 2,
@@ -254,7 +254,7 @@ fn a_departure_is_undone(rt: HostRuntime) {
     };
     model.forward(
         1,
-        5,
+        When::tick(5),
         JobEvent::Depart,
         &mut state,
         &mut bits,
@@ -265,7 +265,7 @@ fn a_departure_is_undone(rt: HostRuntime) {
     assert!(rt; bits.get(1) && !bits.get(0) && !bits.get(2));
     assert_eq!(rt; draws.drawn(), 2);
     assert_eq!(rt; out.sends().len(), 2);
-    model.reverse(1, 5, JobEvent::Depart, &mut state, bits, ());
+    model.reverse(1, When::tick(5), JobEvent::Depart, &mut state, bits, ());
     assert_eq!(rt; (state.length, state.served), (2, u64::MAX));
 }
 

@@ -3,17 +3,13 @@
 use std::alloc::AllocError;
 use std::mem::size_of;
 use std::test::*;
-use vt_key::{Event, Key, Letter, Rank, Sign, Stamp};
+use vt_key::{Event, Key, Letter, Rank, Sign, Stamp, When};
 use vt_list::{Parcel, Predicate};
 use vt_pending::Pending;
 
 fn rank(key: (u64, u32, u64), stamp: (u32, u64)) -> Rank {
     Rank {
-        key: Key {
-            time: key.0,
-            source: key.1,
-            number: key.2,
-        },
+        key: Key::new(When::tick(key.0), key.1, key.2),
         stamp: Stamp {
             worker: stamp.0,
             serial: stamp.1,
@@ -119,17 +115,18 @@ fn of_one_stamp_the_least_rank_is_meant(rt: HostRuntime) -> Result<(), Fail> {
     Ok(())
 }
 
-// Passes a letter after this time.
+// Passes a letter after this tick.
 #[derive(Drop)]
 struct IsAfter(u64);
 
 impl Predicate<Letter<u64>> for IsAfter {
     ghost use Rattle.std.specs.Prelude.{nat_lt};
+    ghost use Rattle.vt_key.specs.Times.{ticks_of};
 
-    ghost passes = { λ t letter. nat_lt t.0 letter.event.rank.key.time };
+    ghost passes = { λ t letter. nat_lt t.0 (ticks_of letter.event.rank.key.time) };
 
     fn test(&self, letter: &Letter<u64>) -> bool {
-        letter.event.rank.key.time > self.0
+        letter.event.rank.key.when().ticks() > self.0
     }
 }
 
@@ -142,7 +139,9 @@ fn of_those_that_pass_the_least_rank_is_found(rt: HostRuntime) -> Result<(), Fai
     }
     let found = [(0, Some(2)), (2, Some(4)), (4, Some(7)), (9, None)];
     for (time, want) in found {
-        let least = queue.find(&IsAfter(time)).map(|l| l.event.rank.key.time);
+        let least = queue
+            .find(&IsAfter(time))
+            .map(|l| l.event.rank.key.when().ticks());
         assert_eq!(rt; least, want);
     }
     Ok(())
@@ -153,7 +152,7 @@ fn come_out(queue: &mut Pending<u64>, times: &[u64]) -> bool {
     for time in times {
         let least = queue
             .take_least()
-            .map(|p| p.into_value().event.rank.key.time);
+            .map(|p| p.into_value().event.rank.key.when().ticks());
         if least != Some(*time) {
             return false;
         }
@@ -276,7 +275,7 @@ impl Beside {
     fn agree(&self) -> bool {
         let mut mask = 0u64;
         for rank in self.sorted.iter() {
-            mask |= 1 << (rank.key.time % 64);
+            mask |= 1 << (rank.key.when().ticks() % 64);
         }
         let least = self.queue.least().map(|l| l.event.rank);
         self.queue.mask() == mask

@@ -2,17 +2,13 @@
 
 use std::process::Abort;
 use std::rt::{self, HostRuntime};
-use vt_key::{Colour, Event, Fault, Key, Letter, Rank, Ranked, Sign, Stamp};
+use vt_key::{Colour, Event, Fault, Key, Letter, Rank, Ranked, Sign, Stamp, When};
 use vt_model::stream::LpStream;
 use vt_model::{Bits, Config, Draws, Out, Record};
 
 fn rank(time: u64, source: u32, number: u64, worker: u32, serial: u64) -> Rank {
     Rank {
-        key: Key {
-            time,
-            source,
-            number,
-        },
+        key: Key::new(When::tick(time), source, number),
         stamp: Stamp { worker, serial },
     }
 }
@@ -153,7 +149,7 @@ fn a_handler_draws_sends_and_records(rt: HostRuntime) {
     // 1934686413 * 100 / 2^32 is 45.04..
     assert_eq!(rt; draws.below(100), 45);
     assert_eq!(rt; draws.drawn(), 2);
-    let mut out = Out::new(config, 1, 4, 7);
+    let mut out = Out::new(config, 1, When::tick(4), 7);
     assert_eq!(rt; out.lps(), 2);
     assert!(rt; out.room());
     assert!(rt; out.emit_room());
@@ -172,6 +168,7 @@ fn a_handler_draws_sends_and_records(rt: HostRuntime) {
     );
     let want = Record {
         time: 4,
+        priority: 0,
         lp: 1,
         kind: 3,
         value: 99,

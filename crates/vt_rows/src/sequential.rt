@@ -3,7 +3,7 @@
 use std::alloc::AllocGlobal;
 use std::process::Abort;
 use std::rt::{self, HostRuntime};
-use vt_key::{Fault, Time};
+use vt_key::{Fault, When};
 use vt_model::{Config, Record};
 use vt_models::Hop;
 use vt_seq::Sequential;
@@ -11,18 +11,19 @@ use vt_seq::Sequential;
 fn record(time: u64, lp: u32, kind: u32, value: u64) -> Record {
     Record {
         time,
+        priority: 0,
         lp,
         kind,
         value,
     }
 }
 
-// A run of the model by so many processes, up to this time.
+// A run of the model by so many processes, up to this tick.
 fn opened<'m>(
     rt: &(impl Abort + AllocGlobal),
     model: &'m Hop,
     lps: u32,
-    end: Time,
+    end: u64,
 ) -> Sequential<'m, Hop> {
     let config = Config::new(lps, 1, end, 0).expect(rt, "config");
     Sequential::new(rt.alloc(), model, config).expect(rt, "memory")
@@ -38,7 +39,7 @@ fn runs(rt: &(impl Abort + AllocGlobal), run: &mut Sequential<'_, Hop>, want: &[
 fn shows_below(
     rt: &(impl Abort + AllocGlobal),
     run: &Sequential<'_, Hop>,
-    time: Time,
+    time: When,
     want: &[Record],
 ) {
     let below = run.records_below(rt.alloc(), time).expect(rt, "records");
@@ -126,8 +127,8 @@ fn a_run_is_read_on_its_way(rt: HostRuntime) {
         steps(&rt, &mut run, true);
     }
     let all = [record(1, 0, 1, 1), record(2, 1, 1, 2), record(3, 1, 1, 513)];
-    shows_below(&rt, &run, 3, &all[..2]);
-    shows_below(&rt, &run, 10, &all);
+    shows_below(&rt, &run, When::tick(3), &all[..2]);
+    shows_below(&rt, &run, When::tick(10), &all);
     has_no_finals(&rt, &run);
     for _ in 3..6 {
         steps(&rt, &mut run, true);
@@ -164,9 +165,11 @@ fn step_or_again(rt: &impl Abort, run: &mut Sequential<'_, Hop>) {
 }
 
 fn has_six_records(rt: &(impl Abort + AllocGlobal), run: &Sequential<'_, Hop>) {
-    let records = match run.records_below(rt.alloc(), 10) {
+    let records = match run.records_below(rt.alloc(), When::tick(10)) {
         Ok(records) => records,
-        Err(_) => run.records_below(rt.alloc(), 10).expect(rt, "memory"),
+        Err(_) => run
+            .records_below(rt.alloc(), When::tick(10))
+            .expect(rt, "memory"),
     };
     assert_eq!(rt; records.len(), 6);
 }

@@ -1,16 +1,17 @@
 //! A tournament of five entries.
 
-ghost use Rattle.std.specs.Prelude.{◌<◌, length};
+ghost use Rattle.std.specs.Prelude.{◌≡◌, ◌<◌, length};
 ghost use Rattle.vt_tournament.specs.Contest.{IsTournamentOf};
 
 use std::rt::{self, HostRuntime};
-use vt_key::{Key, Rank, Stamp};
+use vt_key::{Key, Rank, Stamp, When};
 use vt_tournament::{Contestants, Tournament};
 
 // Five contestants, with the entries that the tournament asks for.
 #[derive(Drop)]
 struct Five {
     entries: [Option<Rank>; 5],
+    ghost five: { length entries ≡ 5 },
 }
 
 impl Contestants for Five {
@@ -36,11 +37,7 @@ fn enter(five: &mut Five, tournament: &mut Tournament, number: u32, entry: Optio
 }
 
 fn rank(time: u64, serial: u64) -> Rank {
-    let key = Key {
-        time,
-        source: 0,
-        number: 0,
-    };
+    let key = Key::new(When::tick(time), 0, 0);
     Rank {
         key,
         stamp: Stamp { worker: 0, serial },

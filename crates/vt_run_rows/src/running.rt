@@ -16,6 +16,7 @@ pub const TURNS: u64 = 10_000_000;
 pub fn record(time: u64, lp: u32, kind: u32, value: u64) -> Record {
     Record {
         time,
+        priority: 0,
         lp,
         kind,
         value,

@@ -2,7 +2,7 @@
 use Rattle.std.proofs.Common.{◌≡◌, ℕ, zero, suc, ◌<◌, ◌≤◌, List, [], ◌∷◌, Bool, true, false, ◌&&◌, map, length, Some, slice_get, slice_index_or, Result, Ok, Err, IfOk, IfErr, refl, ap, ◌∙◌, arith}
 use Rattle.std.proofs.Math.Logic.{∥∥₁_map}
 use Rattle.std.specs.List.{list_all}
-use Rattle.vt_key.specs.declared.order.Key.{Key}
+use Rattle.vt_key.specs.Keys.{Key}
 use Rattle.vt_key.specs.Order.{key_before}
 use Rattle.vt_key.proofs.OrderLemmas.{key_before-true, before-key_before}
 use Rattle.vt_model.specs.declared.process.Process.{Process}

@@ -6,7 +6,7 @@ use Rattle.std.proofs.lemmas.List.Sums.{sum_by-cons}
 use Rattle.std.proofs.lemmas.Bool.{eqb-true, eq-eqb}
 use Rattle.vt_key.specs.Times.{time_before, time_left}
 use Rattle.vt_key.specs.declared.limits.TheConstants.{MAX_COUNT}
-use Rattle.vt_key.specs.declared.order.Key.{Key}
+use Rattle.vt_key.specs.Keys.{Key}
 use Rattle.vt_key.specs.Order.{KeyBefore, key_same}
 use Rattle.vt_key.proofs.OrderLemmas.{key-irreflexive, key_same-true, same-key_same}
 use Rattle.vt_model.specs.declared.limits.TheConstants.{MAX_SENDS}
@@ -16,6 +16,7 @@ use Rattle.vt_model.specs.declared.sending.Sent.{Sent}
 use Rattle.vt_model.specs.Simulation.{Simulation, Fired, Triple, after}
 use Rattle.vt_model.specs.Sequential.{RunState, events_of, least_event, fired_after, with_event, next_state, after_steps, weight, whole_run, rows_after, seq_records}
 use Rattle.vt_model.specs.Histories.{Among, IsRising, sends_of, IsLawful}
+use Rattle.vt_model.specs.Rows.{record_time}
 use Rattle.vt_model.proofs.HistoryLemmas.{among-left, among-right, among-append, after-among}
 use Rattle.vt_model.proofs.RunLemmas.{tested, among-filter, filter-among, least-found, known_sent, lists_of, IsReached, reached, numbered-all, numbered-among, events_of-same, events_of-other, after-snoc}
 use Rattle.vt_model.proofs.EndLemmas.{least-none, no_step, sent-lighter, executed_all}
@@ -311,6 +312,6 @@ module _ {M S P K : Type 0} (sim : Simulation S P) (lawful : IsLawful sim) where
 
   -- the records below a time are those of the rows below it
   pub records_before : (n t : ℕ) (pending : List (Sent P)) (processes : List (Process M S P K)) (records : List Record) → StandsAt sim n pending processes records
-      → filter (λ (r : Record). time_before r.time t) records ≡ map (λ (r : Row). r.rec) (filter (λ (r : Row). nat_lt r.key.time t) (rows_after sim [] (after_steps sim n).executed))
+      → filter (λ (r : Record). time_before (record_time r) t) records ≡ map (λ (r : Row). r.rec) (filter (λ (r : Row). nat_lt r.key.time t) (rows_after sim [] (after_steps sim n).executed))
   records_before n t pending processes records st =
-      ap (filter (λ (r : Record). time_before r.time t)) st.recorded ∙ told_before sim lawful.rows t [] (after_steps sim n).executed
+      ap (filter (λ (r : Record). time_before (record_time r) t)) st.recorded ∙ told_before sim lawful.rows t [] (after_steps sim n).executed

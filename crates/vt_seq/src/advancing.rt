@@ -7,12 +7,13 @@ ghost use Rattle.vt_model.specs.declared.sending.Sent.{Sent};
 ghost use Rattle.vt_model.specs.Histories.{Among};
 ghost use Rattle.vt_model.specs.Process.{triple_at, IsProcessStream};
 ghost use Rattle.vt_model.specs.Simulation.{simulation_of};
+ghost use Rattle.vt_model.specs.Settings.{end_of};
 ghost use Rattle.vt_seq.specs.Letters.{event_of, IsPlain};
 ghost use Rattle.vt_seq.specs.Limits.{IsRefusal};
 ghost use Rattle.vt_seq.specs.StandsFor.{HasExecuted, HasStarted};
 
 use crate::pending::PendingEvents;
-use vt_key::{Fault, Letter, MAX_COUNT};
+use vt_key::{Fault, Letter, MAX_COUNT, When};
 use vt_list::List;
 use vt_model::stream::LpStream;
 use vt_model::{Config, Draws, Model as EventModel, Out, Process, Record, Sent, Undo};
@@ -23,35 +24,35 @@ pub(crate) fn advance<M: EventModel>(
     process: &mut Process<M>,
     model: &M,
     config: Config,
-    event: Sent<M::Payload>,
+    event: &Sent<M::Payload>,
     pending: &mut PendingEvents<M::Payload>,
     records: &mut Vec<Record>,
 ) -> Result<(), Fault>
-    requires known { event.dest < config.lps }
-    requires early { TimeBefore event.key.time config.end }
+    requires known { event.now.dest < config.lps }
+    requires early { TimeBefore event.now.key.time (end_of config) }
     requires numbered { process.old.number ≤ MAX_COUNT }
-    requires stream { IsProcessStream config.seed event.dest process.old.stream }
+    requires stream { IsProcessStream config.seed event.now.dest process.old.stream }
     requires processes { pending.old.processes ≡ config.lps }
     requires some { 0 < length pending.old.events }
-    requires earlier { (d : Sent _) → Among d pending.old.events → d.key.source ≡ event.dest → d.key.number < process.old.number }
-    ensures done { IfOk result (λ done. HasExecuted ((simulation_of (M.handlers model.now) config).fire event.dest (triple_at process.old.state process.old.number process.old.stream) event) pending.old.events records.old.items process.new.state process.new.number process.new.stream pending.new.events records.new.items) }
-    ensures stream { IsProcessStream config.seed event.dest process.new.stream }
+    requires earlier { (d : Sent _) → Among d pending.old.events → d.key.source ≡ event.now.dest → d.key.number < process.old.number }
+    ensures done { IfOk result (λ done. HasExecuted ((simulation_of (M.handlers model.now) config).fire event.now.dest (triple_at process.old.state process.old.number process.old.stream) event.now) pending.old.events records.old.items process.new.state process.new.number process.new.stream pending.new.events records.new.items) }
+    ensures stream { IsProcessStream config.seed event.now.dest process.new.stream }
     ensures numbered { process.new.number ≤ MAX_COUNT }
     ensures processes { pending.new.processes ≡ config.lps }
     ensures pending { IfErr result (λ fault. pending.new ≡ pending.old) }
     ensures records { IfErr result (λ fault. records.new.items ≡ records.old.items) }
     ensures process { M.IsState model.now process.old.state → IfErr result (λ fault. process.new ≡ process.old) }
-    ensures refused { IfErr result (λ fault. IsRefusal ((simulation_of (M.handlers model.now) config).fire event.dest (triple_at process.old.state process.old.number process.old.stream) event).triple.number fault) }
+    ensures refused { IfErr result (λ fault. IsRefusal ((simulation_of (M.handlers model.now) config).fire event.now.dest (triple_at process.old.state process.old.number process.old.stream) event.now).triple.number fault) }
 {
     let number = process.number;
-    let mut out = Out::new(config, event.dest, event.key.time, number);
-    let Undo { bits, kept, drawn } = process.execute_into(model, config, event, &mut out);
+    let mut out = Out::new(config, event.dest, event.key.when(), number);
+    let Undo { bits, kept, drawn } = process.execute_into(model, config, *event, &mut out);
     if out.number() > MAX_COUNT {
-        process.undo(model, event, bits, kept, drawn, number);
+        process.undo(model, *event, bits, kept, drawn, number);
         return Err(Fault::Exhausted);
     }
     let Some(others) = make_room(pending, records, &out) else {
-        process.undo(model, event, bits, kept, drawn, number);
+        process.undo(model, *event, bits, kept, drawn, number);
         return Err(Fault::Memory);
     };
     pending.replace_first(out.sends(), others);
@@ -76,7 +77,7 @@ pub(crate) fn start_process<M: EventModel>(
     ensures refused { IfErr result (λ fault. fault ≡ Fault.Memory) }
 {
     let mut stream = LpStream::new(config.seed, p);
-    let mut out = Out::new(config, p, 0, 0);
+    let mut out = Out::new(config, p, When::tick(0), 0);
     let mut draws = Draws::new(&mut stream);
     let state = model.start(p, &mut draws, &mut out);
     let number = out.number();

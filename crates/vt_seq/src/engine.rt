@@ -6,6 +6,7 @@ ghost use Rattle.vt_key.specs.declared.limits.TheConstants.{MAX_COUNT};
 ghost use Rattle.vt_model.specs.Process.{IsProcessStream};
 ghost use Rattle.vt_model.specs.Simulation.{simulation_of, after};
 ghost use Rattle.vt_model.specs.Sequential.{after_steps, whole_run, events_of, rows_after, rows_before, records_of, seq_records, weight, numbers_below};
+ghost use Rattle.vt_model.specs.Settings.{end_of};
 ghost use Rattle.vt_seq.specs.Limits.{IsStepRefusal, IsCountedWhole};
 ghost use Rattle.vt_seq.specs.Queue.{IsWithinRun};
 ghost use Rattle.vt_seq.specs.StandsFor.{StandsAt};
@@ -13,7 +14,7 @@ ghost use Rattle.vt_seq.specs.StandsFor.{StandsAt};
 use crate::advancing::{advance, start_process};
 use crate::pending::PendingEvents;
 use std::alloc::Global;
-use vt_key::{Fault, Time};
+use vt_key::{Fault, When};
 use vt_model::{Config, Model as EventModel, Process, Record};
 
 /// The fields of a sequential run. Clauses say by `StandsAt sim n` that they are the run's state after `n` steps. The type
@@ -25,7 +26,7 @@ pub(crate) struct Engine<'m, M: EventModel> {
     pub(crate) pending: PendingEvents<M::Payload>,
     pub(crate) processes: Vec<Process<M>>,
     pub(crate) records: Vec<Record>,
-    ghost within_run: { All (IsWithinRun config.lps config.end) pending.events },
+    ghost within_run: { All (IsWithinRun config.lps (end_of config)) pending.events },
     ghost queues: { pending.processes ≡ config.lps },
     ghost all_there: { vec_len processes ≡ config.lps },
     ghost numbered: { (p : ℕ) (d : _) → p < config.lps → (slice_index_or processes.items p d).number ≤ MAX_COUNT },
@@ -85,13 +86,13 @@ impl<'m, M: EventModel> Engine<'m, M> {
     /// The records of the events executed so far before time `t`, in the order of their rows.
     ///
     /// [`Fault::Memory`]: memory was refused.
-    pub(crate) fn records_below(&self, alloc: Global, t: Time) -> Result<Vec<Record>, Fault>
+    pub(crate) fn records_below(&self, alloc: Global, t: When) -> Result<Vec<Record>, Fault>
         ensures rows { let sim = simulation_of (M.handlers self.now.model.now) self.now.config in (n : ℕ) → StandsAt sim n self.now.pending.events self.now.processes.items self.now.records.items → IfOk result (λ v. v.items ≡ records_of (rows_before t (rows_after sim [] (after_steps sim n).executed))) }
         ensures refused { IfErr result (λ fault. fault ≡ Memory) }
     {
         let mut found = Vec::new(alloc);
         for record in &self.records {
-            if record.time < t {
+            if record.when() < t {
                 found.push(*record).map_err(|_| Fault::Memory)?;
             }
         }
@@ -122,7 +123,7 @@ impl<'m, M: EventModel> Engine<'m, M> {
             &mut self.processes[event.dest as usize],
             self.model,
             self.config,
-            event,
+            &event,
             &mut self.pending,
             &mut self.records,
         )?;
@@ -136,7 +137,7 @@ impl<'m, M: EventModel> Engine<'m, M> {
     pub(crate) fn complete(&mut self) -> Result<(), Fault>
         ensures model { self.new.model.now ≡ self.old.model.now }
         ensures config { self.new.config ≡ self.old.config }
-        ensures whole { IfOk result (λ _. self.new.records.items ≡ seq_records (simulation_of (M.handlers self.old.model.now) self.old.config) self.old.config.end) }
+        ensures whole { IfOk result (λ _. self.new.records.items ≡ seq_records (simulation_of (M.handlers self.old.model.now) self.old.config) (end_of self.old.config)) }
         ensures faults { IfErr result (λ fault. (fault ≡ Memory) ⊎ (fault ≡ Exhausted)) }
         ensures nothing_left { IfOk result (λ _. self.new.pending.events ≡ []) }
         ensures counted { IfOk result (λ _. IsCountedWhole (simulation_of (M.handlers self.old.model.now) self.old.config)) }
@@ -154,7 +155,7 @@ impl<'m, M: EventModel> Engine<'m, M> {
     pub(crate) fn run(&mut self, alloc: Global) -> Result<Vec<Record>, Fault>
         ensures model { self.new.model.now ≡ self.old.model.now }
         ensures config { self.new.config ≡ self.old.config }
-        ensures whole { IfOk result (λ v. v.items ≡ seq_records (simulation_of (M.handlers self.old.model.now) self.old.config) self.old.config.end) }
+        ensures whole { IfOk result (λ v. v.items ≡ seq_records (simulation_of (M.handlers self.old.model.now) self.old.config) (end_of self.old.config)) }
         ensures faults { IfErr result (λ fault. (fault ≡ Memory) ⊎ (fault ≡ Exhausted)) }
         ensures nothing_left { IfOk result (λ v. self.new.pending.events ≡ []) }
         ensures counted { IfOk result (λ v. IsCountedWhole (simulation_of (M.handlers self.old.model.now) self.old.config)) }

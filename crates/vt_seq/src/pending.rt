@@ -48,7 +48,7 @@ impl<P: Copy> PendingEvents<P> {
     /// [`Fault::Memory`]: memory was refused.
     pub(crate) fn new(alloc: Global, processes: u32) -> Result<PendingEvents<P>, Fault>
         requires some { 1 ≤ processes }
-        requires few { processes ≤ 2 ^ 31 }
+        requires few { processes ≤ 2 ^ 23 }
         ensures processes { IfOk result (λ events. events.processes ≡ processes) }
         ensures none { IfOk result (λ events. events.events ≡ []) }
         ensures refused { IfErr result (λ fault. fault ≡ Memory) }

@@ -3,13 +3,14 @@
 ghost use Rattle.std.specs.Prelude.{◌≡◌, ℕ, suc, ◌+◌, ◌<◌, ◌≤◌, ◌↔◌, ◌⊎◌, [], length, IfOk, IfErr, IsTrue, IfSome, IfNone, Err, false, true};
 ghost use Rattle.vt_model.specs.Simulation.{simulation_of, after};
 ghost use Rattle.vt_model.specs.Sequential.{after_steps, events_of, rows_after, rows_before, records_of, seq_records, seq_finals};
+ghost use Rattle.vt_model.specs.Settings.{end_of};
 ghost use Rattle.vt_seq.specs.Limits.{IsCounted, IsCountedWhole, IsStepRefusal};
 ghost use Rattle.vt_seq.specs.Progress.{IsAfter, IsReached};
 
 use crate::engine::Engine;
 use std::alloc::Global;
 use std::marker::Model;
-use vt_key::{Fault, Time};
+use vt_key::{Fault, When};
 use vt_model::{Config, Model as EventModel, Record};
 
 /// A sequential run of a model, from its first event to any later one.
@@ -76,7 +77,7 @@ impl<'m, M: EventModel> Sequential<'m, M> {
     /// The records of the events executed so far before time `t`, in the order of their rows.
     ///
     /// [`Fault::Memory`]: memory was refused.
-    pub fn records_below(&self, alloc: Global, t: Time) -> Result<Vec<Record>, Fault>
+    pub fn records_below(&self, alloc: Global, t: When) -> Result<Vec<Record>, Fault>
         ensures rows { let sim = simulation_of (M.handlers self.now.model) self.now.config in (n : ℕ) → IsAfter sim n self.now → IfOk result (λ v. v.items ≡ records_of (rows_before t (rows_after sim [] (after_steps sim n).executed))) }
         ensures reached { IsReached (M.handlers self.now.model) self.now }
         ensures refused { IfErr result (λ fault. fault ≡ Fault.Memory) }
@@ -110,7 +111,7 @@ impl<'m, M: EventModel> Sequential<'m, M> {
     pub fn complete(&mut self) -> Result<(), Fault>
         ensures model { self.new.model ≡ self.old.model }
         ensures config { self.new.config ≡ self.old.config }
-        ensures whole { let sim = simulation_of (M.handlers self.old.model) self.old.config in IfOk result (λ _. self.new.records ≡ seq_records sim self.old.config.end) }
+        ensures whole { let sim = simulation_of (M.handlers self.old.model) self.old.config in IfOk result (λ _. self.new.records ≡ seq_records sim (end_of self.old.config)) }
         ensures nothing_left { IfOk result (λ _. self.new.pending ≡ []) }
         ensures steps { let sim = simulation_of (M.handlers self.old.model) self.old.config in (n : ℕ) → IsAfter sim n self.old → (k : ℕ) × IsAfter sim (k + n) self.new }
         ensures reached { IsReached (M.handlers self.old.model) self.old }
@@ -136,7 +137,7 @@ impl<'m, M: EventModel> Sequential<'m, M> {
     pub fn run(&mut self, alloc: Global) -> Result<Vec<Record>, Fault>
         ensures model { self.new.model ≡ self.old.model }
         ensures config { self.new.config ≡ self.old.config }
-        ensures whole { let sim = simulation_of (M.handlers self.old.model) self.old.config in IfOk result (λ v. v.items ≡ seq_records sim self.old.config.end) }
+        ensures whole { let sim = simulation_of (M.handlers self.old.model) self.old.config in IfOk result (λ v. v.items ≡ seq_records sim (end_of self.old.config)) }
         ensures nothing_left { IfOk result (λ v. self.new.pending ≡ []) }
         ensures steps { let sim = simulation_of (M.handlers self.old.model) self.old.config in (n : ℕ) → IsAfter sim n self.old → (k : ℕ) × IsAfter sim (k + n) self.new }
         ensures reached { IsReached (M.handlers self.old.model) self.old }

@@ -7,6 +7,7 @@ use Rattle.vt_model.specs.declared.settings.Config.{Config}
 use Rattle.vt_model.specs.Handler.{Handlers}
 use Rattle.vt_model.specs.Histories.{IsLawful}
 use Rattle.vt_model.specs.Simulation.{Simulation, simulation_of}
+use Rattle.vt_model.specs.Settings.{end_of}
 use Rattle.vt_steps.specs.declared.step.Step.TheVariants.{Commit}
 use Rattle.vt_steps.specs.declared.step.Reply.TheVariants.{Done}
 use Rattle.vt_steps.specs.World.{Part, Book, book_floor}
@@ -45,14 +46,14 @@ module _ {S P K : Type 0} (handlers : Handlers S P K) (config : Config) (lawful 
   rows-own : (part : Part P) → rows_of_commit (simulation_of handlers k.config) k.worker part ≡ rows_of_commit sim v.worker part
   rows-own part = ap (λ (f : Config). rows_of_commit (simulation_of handlers f) k.worker part) r.config_is ∙ ap (λ w. rows_of_commit sim w part) r.worker
 
-  pub hand-lawful : (rows : List Row) (floor : Time) → floor ≡ k.floor → rows ≡ rows_of_commit (simulation_of handlers k.config) k.worker r.part → may_hand (record { end = config.end; book = book }) v.worker rows floor ≡ true
+  pub hand-lawful : (rows : List Row) (floor : Time) → floor ≡ k.floor → rows ≡ rows_of_commit (simulation_of handlers k.config) k.worker r.part → may_hand (record { end = (end_of config); book = book }) v.worker rows floor ≡ true
   hand-lawful rows floor is rows_are =
       refusal.commit-may sim v cell found known r.steps r.part r.led lawful rows floor (rows_are ∙ rows-own r.part) (r.stands.floor ∙ sym is)
 
   pub may-there : (rows : List Row) (floor : Time) → floor ≡ k.floor → rows ≡ rows_of_commit (simulation_of handlers k.config) k.worker r.part → may_commit (slice_get book.floors v.worker) k.floor ≡ true
   may-there rows floor is rows_are =
       ap (may_commit (slice_get book.floors v.worker)) (sym is)
-      ∙ (both_pass (may_commit (slice_get book.floors v.worker) floor) (time_at_most floor config.end && are_within (slice_get book.floors v.worker) floor rows) (hand-lawful rows floor is rows_are)).0
+      ∙ (both_pass (may_commit (slice_get book.floors v.worker) floor) (time_at_most floor (end_of config) && are_within (slice_get book.floors v.worker) floor rows) (hand-lawful rows floor is rows_are)).0
 
   pub commit-moves : (rows : List Row) (floor : Time) → book.is_closed ≡ false → floor ≡ k.floor →
       ((part : Part P) → StandsFor handlers k part → rows ≡ rows_of_commit (simulation_of handlers k.config) k.worker part) →
@@ -67,7 +68,7 @@ module _ {S P K : Type 0} (handlers : Handlers S P K) (config : Config) (lawful 
       } in a)))
 
   pub commit-left : (rows : List Row) (floor left : Time) → book.is_closed ≡ false → floor ≡ k.floor → rows ≡ rows_of_commit (simulation_of handlers k.config) k.worker r.part →
-      left ≡ book_floor config.end (with_rows v.worker rows floor book) → IsFloorLeft sim v (Commit v.worker) left
+      left ≡ book_floor (end_of config) (with_rows v.worker rows floor book) → IsFloorLeft sim v (Commit v.worker) left
   commit-left rows floor left open_is is rows_are left_is =
       refusal.commit-floor sim v cell found known r.steps r.part r.led lawful rows floor left (rows_are ∙ rows-own r.part) (r.stands.floor ∙ sym is) open_is
       (ap (may_commit (slice_get book.floors v.worker)) r.stands.floor ∙ may-there rows floor is rows_are) left_is
@@ -75,7 +76,7 @@ module _ {S P K : Type 0} (handlers : Handlers S P K) (config : Config) (lawful 
   may-own : may_commit (slice_get book.floors v.worker) r.part.floor ≡ true
   may-own =
       let rows = rows_of_commit sim v.worker r.part in
-      (both_pass (may_commit (slice_get book.floors v.worker) r.part.floor) (time_at_most r.part.floor config.end && are_within (slice_get book.floors v.worker) r.part.floor rows)
+      (both_pass (may_commit (slice_get book.floors v.worker) r.part.floor) (time_at_most r.part.floor (end_of config) && are_within (slice_get book.floors v.worker) r.part.floor rows)
       (refusal.commit-may sim v cell found known r.steps r.part r.led lawful rows r.part.floor refl refl)).0
 
   pub refused-closed : book.is_closed ≡ true → IsCommitRefusal sim v Closed

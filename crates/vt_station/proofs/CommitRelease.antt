@@ -7,6 +7,7 @@ use Rattle.vt_model.specs.Handler.{Handlers}
 use Rattle.vt_model.specs.Histories.{IsLawful}
 use Rattle.vt_model.specs.declared.settings.Config.{Config}
 use Rattle.vt_model.specs.Simulation.{simulation_of}
+use Rattle.vt_model.specs.Settings.{end_of}
 use Rattle.vt_steps.specs.declared.step.Step.TheVariants.{Commit}
 use Rattle.vt_steps.specs.declared.step.Reply.TheVariants.{Done}
 use Rattle.vt_steps.specs.World.{Part}
@@ -27,7 +28,7 @@ use Rattle.vt_station.proofs.Releases.{steps-lead, home-not_claimed, home-not_em
 module _ {S P K : Type 0} (handlers : Handlers S P K) (config : Config) where
   -- after local steps and a commit
   pub leaves-committed : IsLawful (simulation_of handlers config) → (slots id k : ℕ) (m : Sat P) (worker : ℕ) (seen : Time) (found now : Cell P) (lent : HeldWorker S P K) → k < cell_count config.workers
-      → worker ≡ m.0.worker → cell_at config.workers k ≡ book_cell → Holding config m k found now → CommitsTo handlers config worker lent found now → ShowsFloor config.end seen now → Reaches handlers config m.0 lent
+      → worker ≡ m.0.worker → cell_at config.workers k ≡ book_cell → Holding config m k found now → CommitsTo handlers config worker lent found now → ShowsFloor (end_of config) seen now → Reaches handlers config m.0 lent
       → Allows (Kept (simulation_of handlers config) config) slots id m (word_at k) (λ _. home_word) (λ _. (λ (n : ℕ) (after : Sat P). (after.1 ≡ []) × Commits handlers config m.0 worker lent seen after.0) home_word)
   leaves-committed lawful slots id k m worker seen found now lent near whose at h does sees way =
       let sim = simulation_of handlers config in
@@ -68,7 +69,7 @@ module _ {S P K : Type 0} (handlers : Handlers S P K) (config : Config) where
   -- once the kernel stands for the part without what was committed, the place was visited
   pub committed-visited : (v w : View P) (worker : ℕ) (lent left : HeldWorker S P K) (seen : Time) (after : View P) → WithHand v w → Commits handlers config w worker lent seen after →
       ((part : Part P) → StandsFor handlers lent part → StandsFor handlers left (part_after_commit part)) → left.worker ≡ lent.worker → left.config ≡ lent.config →
-      (visited : Visited handlers config v lent (Commit worker) Done left seen after) × ShowsFloor config.end seen visited.visits.at.now
+      (visited : Visited handlers config v lent (Commit worker) Done left seen after) × ShowsFloor (end_of config) seen visited.visits.at.now
   committed-visited v w worker lent left seen after h r forgets same_worker same_config =
       let x : Commits handlers config (record v { hand = h.0 }) worker lent seen after = subst (λ (y : View P). Commits handlers config y worker lent seen after) h.1 r in (
         record {

@@ -11,6 +11,7 @@ use Rattle.atomic_table.specs.Seated.{TableId}
 use Rattle.vt_key.specs.declared.letter.Mail.{Mail}
 use Rattle.vt_model.specs.declared.settings.Config.{Config}
 use Rattle.vt_model.specs.Simulation.{Simulation}
+use Rattle.vt_model.specs.Settings.{end_of}
 use Rattle.vt_steps.specs.World.{Part, opening_part, opening_world, opening_board, opening_book}
 use Rattle.vt_steps.specs.Cells.{inbox_of, board_cell, book_cell, in_inbox, on_board, in_book, content}
 use Rattle.vt_steps.specs.Marked.{Each}
@@ -59,7 +60,7 @@ module _ {S P : Type 0} (sim : Simulation S P) where
   opening-in_book = refl
 
   -- each slot holds what its cell holds in the opening world
-  pub slots-full : (config : Config) (slots : List (Slot P)) → sim.workers ≡ config.workers → sim.end ≡ config.end → AreSlots config slots → (k : ℕ) → k < cell_count sim.workers →
+  pub slots-full : (config : Config) (slots : List (Slot P)) → sim.workers ≡ config.workers → sim.end ≡ (end_of config) → AreSlots config slots → (k : ℕ) → k < cell_count sim.workers →
       (slot : Slot P) × (get_elem? (map some slots) k ≡ some (some slot)) × (content (opening_world sim 0) (cell_at sim.workers k) ≡ Some (held_in slot)) × IsSlotOf config k slot
   slots-full config slots same ends a k near =
       subst (λ l. (slot : Slot P) × (get_elem? (map some l) k ≡ some (some slot)) × (content (opening_world sim 0) (cell_at sim.workers k) ≡ Some (held_in slot)) × IsSlotOf config k slot) (sym a.all)

@@ -9,6 +9,7 @@ use Rattle.vt_model.specs.Handler.{Handlers}
 use Rattle.vt_model.specs.Histories.{IsLawful}
 use Rattle.vt_model.specs.declared.settings.Config.{Config}
 use Rattle.vt_model.specs.Simulation.{Simulation, simulation_of}
+use Rattle.vt_model.specs.Settings.{end_of}
 use Rattle.vt_steps.specs.declared.step.Step.{Step}
 use Rattle.vt_steps.specs.declared.step.Step.TheVariants.{Execute, Undo, Cancel, Home, Send, Fetch, Accept, Cut, Report, Commit, Close}
 use Rattle.vt_steps.specs.declared.step.Reply.{Reply}
@@ -85,14 +86,14 @@ may-see end t (Some now) cell h = inr h
 
 module _ {S P K : Type 0} (handlers : Handlers S P K) (config : Config) (lawful : IsLawful (simulation_of handlers config)) where
   -- without a step, and with the cell as it was
-  pub leaves-unvisited : (slots id k : ℕ) (m : Sat P) (seen : Option Time) (found : Cell P) → k < cell_count config.workers → Holding config m k found found → MaySee config.end seen found
+  pub leaves-unvisited : (slots id k : ℕ) (m : Sat P) (seen : Option Time) (found : Cell P) → k < cell_count config.workers → Holding config m k found found → MaySee (end_of config) seen found
       → Allows (Kept (simulation_of handlers config) config) slots id m (word_at k) (λ _. home_word) (λ _. (λ (n : ℕ) (after : Sat P). (after.1 ≡ []) × Unvisited m.0 (seen_or m.0.seen seen) after.0) home_word)
   leaves-unvisited slots id k m seen found near h sees =
       let sim = simulation_of handlers config in
       let same : Leads sim m.0.worker (cell_at sim.workers k) m.0.part found [] m.0.part (held_in h.slot) [] =
       subst (λ (c : Cell P). Leads sim m.0.worker (cell_at sim.workers k) m.0.part found [] m.0.part c []) (sym h.now_is) (leads-nowhere sim m.0.worker (cell_at sim.workers k) m.0.part found) in
       releases sim config lawful slots id k home_word m found h.slot [] m.0.part [] (seen_or m.0.seen seen) (λ (n : ℕ) (after : Sat P). (after.1 ≡ []) × Unvisited m.0 (seen_or m.0.seen seen) after.0) near home-not_claimed (λ e _. home-not_empty e) h.carried h.hand h.right same
-      (subst (λ (c : Cell P). TimeAtMost (seen_or m.0.seen seen) m.0.seen ⊎ ShowsFloor sim.end (seen_or m.0.seen seen) c) (sym h.now_is) (may-see config.end m.0.seen seen found sees))
+      (subst (λ (c : Cell P). TimeAtMost (seen_or m.0.seen seen) m.0.seen ⊎ ShowsFloor sim.end (seen_or m.0.seen seen) c) (sym h.now_is) (may-see (end_of config) m.0.seen seen found sees))
       (λ n known. (
         refl,
         record {
@@ -167,7 +168,7 @@ module _ {S P K : Type 0} (handlers : Handlers S P K) (config : Config) (lawful 
 
   -- after a close
   pub leaves-closed : (slots id k : ℕ) (m : Sat P) (seen : Time) (found now : Cell P) → k < cell_count config.workers → cell_at config.workers k ≡ book_cell → Holding config m k found now
-      → ((part : Part P) → act (simulation_of handlers config) Close part found ≡ record { part = part; cell = now; answer = Ok Done }) → ShowsFloor config.end seen now
+      → ((part : Part P) → act (simulation_of handlers config) Close part found ≡ record { part = part; cell = now; answer = Ok Done }) → ShowsFloor (end_of config) seen now
       → Allows (Kept (simulation_of handlers config) config) slots id m (word_at k) (λ _. home_word) (λ _. (λ (n : ℕ) (after : Sat P). (after.1 ≡ []) × Closes (simulation_of handlers config) m.0 seen after.0) home_word)
   leaves-closed slots id k m seen found now near at h does sees =
       let sim = simulation_of handlers config in

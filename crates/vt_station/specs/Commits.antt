@@ -4,6 +4,7 @@ use Rattle.vt_key.specs.Times.{Time}
 use Rattle.vt_model.specs.declared.settings.Config.{Config}
 use Rattle.vt_model.specs.Handler.{Handlers}
 use Rattle.vt_model.specs.Simulation.{simulation_of}
+use Rattle.vt_model.specs.Settings.{end_of}
 use Rattle.vt_steps.specs.declared.step.Step.{Step}
 use Rattle.vt_steps.specs.declared.step.Step.TheVariants.{Commit}
 use Rattle.vt_steps.specs.declared.step.Reply.TheVariants.{Done}
@@ -34,7 +35,7 @@ module _ {S P K : Type 0} (handlers : Handlers S P K) (config : Config) where
     pub gone : w.part ≡ part_after_commit part
     pub at : IsDoneAt (simulation_of handlers config) v steps part (Commit worker) Done w
     pub commits : CommitsTo worker k at.found at.now
-    pub shows : ShowsFloor config.end seen at.now
+    pub shows : ShowsFloor (end_of config) seen at.now
     pub same : IsSamePlace v w
     pub floor : w.seen ≡ seen
     pub rests : w.hand ≡ empty_hand

@@ -1,6 +1,7 @@
 -- The cells of a station: which cell of a world each is, and what its slot holds.
 use Rattle.std.specs.Prelude.{◌≡◌, ℕ, ◌+◌, ◌*◌, nat_lt, nat_eq, if◌then◌else◌}
 use Rattle.vt_model.specs.declared.settings.Config.{Config}
+use Rattle.vt_model.specs.Settings.{end_of}
 use Rattle.vt_steps.specs.Cells.{CellName, inbox_of, board_cell, book_cell, Cell, in_inbox, on_board, in_book}
 use Rattle.vt_kernel.specs.Held.{AllOwnMail}
 use Rattle.vt_station.specs.declared.slot.Slot.{Slot}
@@ -38,5 +39,5 @@ held_in (Book book) = in_book book.book
 -- what is known of the slot of cell k beside: its mail is for worker k, and its board or book is of the run
 abbrev pub IsSlotOf : {P : Type 0} → Config → ℕ → Slot P → Type 0
 IsSlotOf config k (Inbox mails) = AllOwnMail config k mails.items
-IsSlotOf config k (Board board) = board.end ≡ config.end
-IsSlotOf config k (Book book) = book.end ≡ config.end
+IsSlotOf config k (Board board) = board.end ≡ (end_of config)
+IsSlotOf config k (Book book) = book.end ≡ (end_of config)

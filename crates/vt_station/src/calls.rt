@@ -4,6 +4,7 @@ ghost use Rattle.std.specs.Prelude.{◌≡◌, ◌<◌, true, false, [], Err, If
 ghost use Rattle.vt_key.specs.Times.{Time as TimeValue};
 ghost use Rattle.vt_key.specs.declared.fault.Fault.TheVariants.{Busy, NotLawful};
 ghost use Rattle.vt_model.specs.Simulation.{simulation_of};
+ghost use Rattle.vt_model.specs.Settings.{end_of};
 ghost use Rattle.vt_steps.specs.declared.step.Step.TheVariants as step;
 ghost use Rattle.vt_steps.specs.declared.step.Reply.TheVariants as reply;
 ghost use Rattle.vt_steps.specs.World.{Part};
@@ -129,7 +130,7 @@ impl<M: EventModel> Station<M> {
         ensures same { (place_table place.new ≡ place_table place.old) × (place_worker place.new ≡ place_worker place.old) }
         ensures done { let handlers = M.handlers (station_model self.now) in let config = station_config self.now in MatchResult result
             (λ _. (shown : TimeValue) × (visited : Visited handlers config (place_view place.old) kernel.old (step.Commit (place_worker place.old)) reply.Done kernel.new shown (place_view place.new))
-            × ShowsFloor config.end shown visited.visits.at.now × IsFloorLeft (simulation_of handlers config) (place_view place.old) (step.Commit (place_worker place.old)) shown)
+            × ShowsFloor (end_of config) shown visited.visits.at.now × IsFloorLeft (simulation_of handlers config) (place_view place.old) (step.Commit (place_worker place.old)) shown)
             (λ _. Stays (place_view place.old) (place_view place.new) × (kernel.new ≡ kernel.old)) }
         ensures refused { IfErr result (λ fault. IsCommitRefusal (simulation_of (M.handlers (station_model self.now)) (station_config self.now)) (place_view place.old) fault) }
         ensures closed { IsRefusedOnceClosed (place_view place.old) result }
@@ -146,7 +147,7 @@ impl<M: EventModel> Station<M> {
     pub fn close(&self, place: &mut Place<M::Payload>) -> Result<(), Fault>
         requires own { place_table place.old ≡ station_table self.now }
         ensures same { (place_table place.new ≡ place_table place.old) × (place_worker place.new ≡ place_worker place.old) }
-        ensures done { let handlers = M.handlers (station_model self.now) in let config = station_config self.now in MatchResult result (λ _. Closes (simulation_of handlers config) (place_view place.old) config.end (place_view place.new)) (λ _. Stays (place_view place.old) (place_view place.new)) }
+        ensures done { let handlers = M.handlers (station_model self.now) in let config = station_config self.now in MatchResult result (λ _. Closes (simulation_of handlers config) (place_view place.old) (end_of config) (place_view place.new)) (λ _. Stays (place_view place.old) (place_view place.new)) }
         ensures refused { IfErr result (λ fault. IsCloseRefusal (simulation_of (M.handlers (station_model self.now)) (station_config self.now)) (place_view place.old) fault) }
         ensures alone { IsRefusedAlone (simulation_of (M.handlers (station_model self.now)) (station_config self.now)) (place_view place.old) [] step.Close result }
         ensures closed { IsRefusedOnceClosed (place_view place.old) result }

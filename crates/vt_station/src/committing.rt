@@ -6,6 +6,7 @@ ghost use Rattle.vt_key.specs.declared.fault.Fault.TheVariants.{Memory, Busy, Cl
 ghost use Rattle.vt_model.specs.declared.rows.Row.{Row as RowValue};
 ghost use Rattle.vt_model.specs.Handler.{Handlers};
 ghost use Rattle.vt_model.specs.Simulation.{simulation_of};
+ghost use Rattle.vt_model.specs.Settings.{end_of};
 ghost use Rattle.vt_steps.specs.declared.step.Step.TheVariants as step;
 ghost use Rattle.vt_steps.specs.declared.step.Reply.TheVariants as reply;
 ghost use Rattle.vt_steps.specs.World.{Part, Book as BookValue, book_floor, book_records};
@@ -26,7 +27,7 @@ use std::mem;
 use std::snapshot::Snapshot;
 use vt_book::Batch;
 use vt_kernel::Kernel;
-use vt_key::{Fault, Time};
+use vt_key::{Fault, When};
 use vt_model::{Model as EventModel, Record};
 
 /// What a kernel would hand in, made ready.
@@ -46,15 +47,15 @@ impl<M: EventModel> Station<M> {
         seat: &mut Seat<M>,
         worker: u32,
         batch: Result<Batch, Fault>,
-        floor: Time,
-    ) -> Result<Time, Fault>
+        floor: When,
+    ) -> Result<When, Fault>
         requires table { seat.old.table_id ≡ self.now.table.shared.table_id }
         requires held { let config = self.now.table.shared.key.config in (book : BookValue) × Holding config seat.old.me (self.now.workers + 1) (in_book book) (in_book book)
-            × (book.is_closed ≡ false → IfOk batch (λ rows. may_hand (record { end = config.end; book = book }) worker rows floor ≡ true)) }
+            × (book.is_closed ≡ false → IfOk batch (λ rows. may_hand (record { end = (end_of config); book = book }) worker rows floor ≡ true)) }
         ensures same { (seat.new.table_id ≡ seat.old.table_id) × (seat.new.id ≡ seat.old.id) × (seat.new.me.0 ≡ seat.old.me.0) }
         ensures done { let config = self.now.table.shared.key.config in (book : BookValue) × Holding config seat.old.me (self.now.workers + 1) (in_book book) (in_book book) × MatchResult result
             (λ shown. (handed : List RowValue) × MatchResult batch (λ rows. rows ≡ handed) (λ _. ⊥) × (book.is_closed ≡ false)
-            × Holding config seat.new.me (self.now.workers + 1) (in_book book) (in_book (with_rows worker handed floor book)) × (shown ≡ book_floor config.end (with_rows worker handed floor book)))
+            × Holding config seat.new.me (self.now.workers + 1) (in_book book) (in_book (with_rows worker handed floor book)) × (shown ≡ book_floor (end_of config) (with_rows worker handed floor book)))
             (λ fault. Holding config seat.new.me (self.now.workers + 1) (in_book book) (in_book book)
             × (((fault ≡ Closed) × (book.is_closed ≡ true)) ⊎ ((fault ≡ Memory) × (book.is_closed ≡ false)))) }
     {
@@ -77,14 +78,14 @@ impl<M: EventModel> Station<M> {
 
 impl<M: EventModel> Station<M> {
     /// Closes the claimed book, and tells its floor, which is the end of the run.
-    fn close_book(&self, seat: &mut Seat<M>) -> Result<Time, Fault>
+    fn close_book(&self, seat: &mut Seat<M>) -> Result<When, Fault>
         requires table { seat.old.table_id ≡ self.now.table.shared.table_id }
         requires held { let config = self.now.table.shared.key.config in (book : BookValue) × Holding config seat.old.me (self.now.workers + 1) (in_book book) (in_book book) }
         ensures same { (seat.new.table_id ≡ seat.old.table_id) × (seat.new.id ≡ seat.old.id) × (seat.new.me.0 ≡ seat.old.me.0) }
         ensures done { let config = self.now.table.shared.key.config in (book : BookValue) × Holding config seat.old.me (self.now.workers + 1) (in_book book) (in_book book) × MatchResult result
-            (λ floor. (book.is_closed ≡ false) × (may_close config.end book ≡ true) × Holding config seat.new.me (self.now.workers + 1) (in_book book) (in_book (closed_book book)) × (floor ≡ book_floor config.end book))
+            (λ floor. (book.is_closed ≡ false) × (may_close (end_of config) book ≡ true) × Holding config seat.new.me (self.now.workers + 1) (in_book book) (in_book (closed_book book)) × (floor ≡ book_floor (end_of config) book))
             (λ fault. Holding config seat.new.me (self.now.workers + 1) (in_book book) (in_book book)
-            × (((fault ≡ Closed) × (book.is_closed ≡ true)) ⊎ ((fault ≡ NotLawful) × (book.is_closed ≡ false) × (may_close config.end book ≡ false)))) }
+            × (((fault ≡ Closed) × (book.is_closed ≡ true)) ⊎ ((fault ≡ NotLawful) × (book.is_closed ≡ false) × (may_close (end_of config) book ≡ false)))) }
     {
         let held = seat.slot_mut(&self.table.shared, self.workers + 1);
         let Slot::Book(book) = held else {
@@ -97,12 +98,12 @@ impl<M: EventModel> Station<M> {
     }
 
     /// Copies the records that the claimed book shows, and tells its floor.
-    fn copy_records(&self, alloc: Global, seat: &mut Seat<M>) -> Result<(Vec<Record>, Time), Fault>
+    fn copy_records(&self, alloc: Global, seat: &mut Seat<M>) -> Result<(Vec<Record>, When), Fault>
         requires table { seat.old.table_id ≡ self.now.table.shared.table_id }
         requires held { let config = self.now.table.shared.key.config in (book : BookValue) × Holding config seat.old.me (self.now.workers + 1) (in_book book) (in_book book) }
         ensures same { (seat.new.table_id ≡ seat.old.table_id) × (seat.new.id ≡ seat.old.id) × (seat.new.me.0 ≡ seat.old.me.0) }
         ensures done { let config = self.now.table.shared.key.config in (book : BookValue) × Holding config seat.old.me (self.now.workers + 1) (in_book book) (in_book book)
-            × Holding config seat.new.me (self.now.workers + 1) (in_book book) (in_book book) × IfOk result (λ r. (r.0.items ≡ book_records config.end book) × (r.1 ≡ book_floor config.end book)) }
+            × Holding config seat.new.me (self.now.workers + 1) (in_book book) (in_book book) × IfOk result (λ r. (r.0.items ≡ book_records (end_of config) book) × (r.1 ≡ book_floor (end_of config) book)) }
         ensures refused { IfErr result (λ fault. fault ≡ Memory) }
     {
         let held = seat.slot_mut(&self.table.shared, self.workers + 1);
@@ -121,7 +122,7 @@ impl<M: EventModel> Station<M> {
     fn take_records(&self, alloc: Global, seat: &mut Seat<M>) -> Vec<Record>
         requires table { seat.old.table_id ≡ self.now.table.shared.table_id }
         requires held { let config = self.now.table.shared.key.config in (book : BookValue) × Holding config seat.old.me (self.now.workers + 1) (in_book book) (in_book book) }
-        ensures { let config = self.now.table.shared.key.config in (book : BookValue) × Holding config seat.old.me (self.now.workers + 1) (in_book book) (in_book book) × (result.items ≡ book_records config.end book) }
+        ensures { let config = self.now.table.shared.key.config in (book : BookValue) × Holding config seat.old.me (self.now.workers + 1) (in_book book) (in_book book) × (result.items ≡ book_records (end_of config) book) }
     {
         let held = seat.slot_mut(&self.table.shared, self.workers + 1);
         let Slot::Book(book) = mem::replace(held, Slot::Inbox(Vec::new(alloc))) else {
@@ -148,7 +149,7 @@ impl<M: EventModel> Station<M> {
         ensures same { (seat.new.table_id ≡ seat.old.table_id) × (seat.new.id ≡ seat.old.id) × Rests seat.new.me }
         ensures done { let key = self.now.table.shared.key in MatchResult result
             (λ _. (shown : TimeValue) × (visited : Visited (M.handlers key.model.value) key.config seat.old.me.0 kernel.old (step.Commit worker) reply.Done kernel.new shown seat.new.me.0)
-            × ShowsFloor key.config.end shown visited.visits.at.now × IsFloorLeft (simulation_of (M.handlers key.model.value) key.config) seat.old.me.0 (step.Commit worker) shown)
+            × ShowsFloor (end_of key.config) shown visited.visits.at.now × IsFloorLeft (simulation_of (M.handlers key.model.value) key.config) seat.old.me.0 (step.Commit worker) shown)
             (λ _. Stays seat.old.me.0 seat.new.me.0 × (kernel.new ≡ kernel.old)) }
         ensures refused { let key = self.now.table.shared.key in IfErr result (λ fault. IsCommitRefusal (simulation_of (M.handlers key.model.value) key.config) seat.old.me.0 fault) }
         ensures closed { IsRefusedOnceClosed seat.old.me.0 result }
@@ -183,7 +184,7 @@ impl<M: EventModel> Station<M> {
         requires table { seat.old.table_id ≡ self.now.table.shared.table_id }
         requires rests { Rests seat.old.me }
         ensures same { (seat.new.table_id ≡ seat.old.table_id) × (seat.new.id ≡ seat.old.id) × Rests seat.new.me }
-        ensures done { let key = self.now.table.shared.key in MatchResult result (λ _. Closes (simulation_of (M.handlers key.model.value) key.config) seat.old.me.0 key.config.end seat.new.me.0) (λ _. Stays seat.old.me.0 seat.new.me.0) }
+        ensures done { let key = self.now.table.shared.key in MatchResult result (λ _. Closes (simulation_of (M.handlers key.model.value) key.config) seat.old.me.0 (end_of key.config) seat.new.me.0) (λ _. Stays seat.old.me.0 seat.new.me.0) }
         ensures refused { let key = self.now.table.shared.key in IfErr result (λ fault. IsCloseRefusal (simulation_of (M.handlers key.model.value) key.config) seat.old.me.0 fault) }
         ensures closed { IsRefusedOnceClosed seat.old.me.0 result }
     {

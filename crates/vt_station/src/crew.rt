@@ -4,6 +4,7 @@ ghost use Rattle.std.specs.Prelude.{◌≡◌, ◌<◌, ◌⊎◌, [], true, fal
 ghost use Rattle.vt_key.specs.Times.{Time as TimeValue};
 ghost use Rattle.vt_model.specs.Simulation.{simulation_of};
 ghost use Rattle.vt_model.specs.Sequential.{seq_records};
+ghost use Rattle.vt_model.specs.Settings.{end_of};
 ghost use Rattle.vt_key.specs.declared.fault.Fault.TheVariants.{Memory, Busy, TurnsSpent};
 ghost use Rattle.vt_station.specs.declared.driver.Outcome.TheVariants.{Closed};
 ghost use Rattle.vt_station.specs.Told.{station_model, station_config, station_table};
@@ -140,7 +141,7 @@ impl<'a, M: EventModel> Job<'a, M> {
 impl<'a, M: EventModel> Job<'a, M> {
     /// The records that the worker's place shows, taken out of the book.
     fn into_records(self, alloc: Global) -> Result<Vec<Record>, Fault>
-        ensures shown { IfOk result (λ v. (floor : TimeValue) × (v.items ≡ seq_records (simulation_of (M.handlers self.entry.model) self.entry.config) floor) × (self.entry.outcome ≡ Some Closed → floor ≡ self.entry.config.end)) }
+        ensures shown { IfOk result (λ v. (floor : TimeValue) × (v.items ≡ seq_records (simulation_of (M.handlers self.entry.model) self.entry.config) floor) × (self.entry.outcome ≡ Some Closed → floor ≡ (end_of self.entry.config))) }
         ensures refused { IfErr result (λ fault. fault ≡ Busy) }
     {
         let Job { station, place, .. } = self;
@@ -261,7 +262,7 @@ fn answer_of<M: EventModel>(
     requires told { AllAt model.now config jobs.items }
     requires some { 0 < length jobs.items }
     ensures told { IfErr result (λ stopped. IsToldBy jobs.entry.items stopped.fault stopped.records.items) }
-    ensures whole { IfOk result (λ v. v.items ≡ seq_records (simulation_of (M.handlers model.now) config) config.end) }
+    ensures whole { IfOk result (λ v. v.items ≡ seq_records (simulation_of (M.handlers model.now) config) (end_of config)) }
     ensures begun { IfErr result (λ stopped. (t : TimeValue) × (stopped.records.items ≡ seq_records (simulation_of (M.handlers model.now) config) t)) }
     ensures fault { IfErr result (λ stopped. IsStop stopped.fault) }
 {
@@ -324,7 +325,7 @@ pub fn run_workers<R: Threads + Wait + Sync, M: EventModel + Sync, G: Gate + Syn
 where
     M::State: Send,
     M::Kept: Send,
-    ensures whole { IfOk result (λ v. v.items ≡ seq_records (simulation_of (M.handlers model.now) config) config.end) }
+    ensures whole { IfOk result (λ v. v.items ≡ seq_records (simulation_of (M.handlers model.now) config) (end_of config)) }
     ensures begun { IfErr result (λ stopped. (t : TimeValue) × (stopped.records.items ≡ seq_records (simulation_of (M.handlers model.now) config) t)) }
     ensures fault { IfErr result (λ stopped. IsStop stopped.fault) }
 {

@@ -3,6 +3,7 @@
 ghost use Rattle.std.specs.Prelude.{◌≡◌, ◌<◌, true, false, Some, Err, IfErr, MatchResult};
 ghost use Rattle.vt_key.specs.declared.fault.Fault.TheVariants.{NotLawful};
 ghost use Rattle.vt_model.specs.Simulation.{simulation_of};
+ghost use Rattle.vt_model.specs.Settings.{end_of};
 ghost use Rattle.vt_steps.specs.declared.step.Step.TheVariants as step;
 ghost use Rattle.vt_steps.specs.declared.step.Reply.TheVariants as reply;
 ghost use Rattle.vt_steps.specs.World.{Board as BoardValue};
@@ -17,19 +18,19 @@ use crate::station::{Seat, Station, Visit};
 use std::snapshot::Snapshot;
 use vt_board::Report;
 use vt_kernel::Kernel;
-use vt_key::{Fault, Time};
+use vt_key::{Fault, When};
 use vt_model::Model as EventModel;
 use vt_steps::{Reply, Step};
 
 impl<M: EventModel> Station<M> {
     /// Does a worker's cut on the board, which is claimed.
-    fn cut_board(&self, seat: &mut Seat<M>, worker: u32) -> Result<Time, Fault>
+    fn cut_board(&self, seat: &mut Seat<M>, worker: u32) -> Result<When, Fault>
         requires table { seat.old.table_id ≡ self.now.table.shared.table_id }
         requires held { (board : BoardValue) × Holding self.now.table.shared.key.config seat.old.me self.now.workers (on_board board) (on_board board) }
         ensures same { (seat.new.table_id ≡ seat.old.table_id) × (seat.new.id ≡ seat.old.id) × (seat.new.me.0 ≡ seat.old.me.0) }
         ensures done { let config = self.now.table.shared.key.config in (board : BoardValue) → Holding config seat.old.me self.now.workers (on_board board) (on_board board) → MatchResult result
-            (λ time. (new : BoardValue) × Holding config seat.new.me self.now.workers (on_board board) (on_board new) × (cut_board config.end worker board ≡ Some new) × (time ≡ board.announced))
-            (λ fault. Holding config seat.new.me self.now.workers (on_board board) (on_board board) × (cut_outcome config.end worker board ≡ Err fault)) }
+            (λ time. (new : BoardValue) × Holding config seat.new.me self.now.workers (on_board board) (on_board new) × (cut_board (end_of config) worker board ≡ Some new) × (time ≡ board.announced))
+            (λ fault. Holding config seat.new.me self.now.workers (on_board board) (on_board board) × (cut_outcome (end_of config) worker board ≡ Err fault)) }
     {
         let held = seat.slot_mut(&self.table.shared, self.workers);
         let Slot::Board(board) = held else {
@@ -87,16 +88,16 @@ impl<M: EventModel> Station<M> {
         worker: u32,
         sent: u64,
         got: u64,
-        least: Time,
-    ) -> Result<(Report, Time), Fault>
+        least: When,
+    ) -> Result<(Report, When), Fault>
         requires table { seat.old.table_id ≡ self.now.table.shared.table_id }
         requires held { (board : BoardValue) × Holding self.now.table.shared.key.config seat.old.me self.now.workers (on_board board) (on_board board) }
         ensures same { (seat.new.table_id ≡ seat.old.table_id) × (seat.new.id ≡ seat.old.id) × (seat.new.me.0 ≡ seat.old.me.0) }
         ensures done { let config = self.now.table.shared.key.config in (board : BoardValue) → Holding config seat.old.me self.now.workers (on_board board) (on_board board) → MatchResult result
-            (λ r. Holding config seat.new.me self.now.workers (on_board board) (on_board (board_after_report config.end (with_report worker sent got least board)))
-            × (takes_report config.end worker least board ≡ true) × (reply_of r.0 ≡ report_reply (with_report worker sent got least board))
-            × (r.1 ≡ (board_after_report config.end (with_report worker sent got least board)).announced))
-            (λ fault. Holding config seat.new.me self.now.workers (on_board board) (on_board board) × (takes_report config.end worker least board ≡ false) × (fault ≡ NotLawful)) }
+            (λ r. Holding config seat.new.me self.now.workers (on_board board) (on_board (board_after_report (end_of config) (with_report worker sent got least board)))
+            × (takes_report (end_of config) worker least board ≡ true) × (reply_of r.0 ≡ report_reply (with_report worker sent got least board))
+            × (r.1 ≡ (board_after_report (end_of config) (with_report worker sent got least board)).announced))
+            (λ fault. Holding config seat.new.me self.now.workers (on_board board) (on_board board) × (takes_report (end_of config) worker least board ≡ false) × (fault ≡ NotLawful)) }
     {
         let held = seat.slot_mut(&self.table.shared, self.workers);
         let Slot::Board(board) = held else {
@@ -132,15 +133,16 @@ impl<M: EventModel> Station<M> {
         let before = Snapshot::of(kernel);
         match self.report_board(seat, worker, sent, got, least) {
             Ok((report, announced)) => {
+                let report = &report;
                 kernel.set_floor(announced);
                 let visit = Visit {
                     step: Step::Report(worker),
-                    reply: reply_of(report),
+                    reply: reply_of(*report),
                     before,
                     left: Snapshot::of(kernel),
                 };
                 self.release_visit(seat, self.workers, &visit);
-                Ok(report)
+                Ok(*report)
             }
             Err(fault) => {
                 self.release_unchanged(seat, self.workers, None);

@@ -14,7 +14,7 @@ use std::hint::spin_loop;
 use std::sync::Wait;
 use std::thread::yield_now;
 use vt_board::Report;
-use vt_key::{Fault, Time};
+use vt_key::{Fault, When};
 use vt_model::Model as EventModel;
 
 /// How often in a row a worker tries again at once after it found a cell claimed by another place. Then it yields its
@@ -54,7 +54,7 @@ pub(crate) struct Driver<'a, M: EventModel> {
     // The processes that letters have reached since they were last settled.
     touched: Vec<u32>,
     // The worker's floor at its last hand-in.
-    handed: Time,
+    handed: When,
     pace: Pace,
     bells: &'a Bells,
     // How often the worker's own bell had been rung before this turn.
@@ -86,7 +86,7 @@ impl<'a, M: EventModel> Driver<'a, M> {
         Driver {
             worker,
             touched: Vec::new(alloc),
-            handed: 0,
+            handed: When::tick(0),
             pace,
             bells,
             heard: 0,
@@ -269,9 +269,10 @@ impl<'a, M: EventModel> Driver<'a, M> {
     fn report(&mut self) -> Result<(), Fault>
         ensures same { self.new.worker.table ≡ self.old.worker.table }
     {
-        match self.worker.report()? {
-            Report::Waiting => {}
-            Report::Again | Report::Announced(_) => self.bells.move_on(self.worker.number()),
+        match self.worker.report() {
+            Ok(Report::Waiting) => {}
+            Ok(Report::Again | Report::Announced(_)) => self.bells.move_on(self.worker.number()),
+            Err(fault) => return Err(fault),
         }
         self.has_cut = false;
         Ok(())
@@ -301,7 +302,7 @@ impl<'a, M: EventModel> Driver<'a, M> {
         ensures same { self.new.worker.table ≡ self.old.worker.table }
         ensures ended { IfSome result (HasEnded self.new.worker.view) }
     {
-        if self.worker.kernel().floor() < self.worker.config().end {
+        if self.worker.kernel().floor() < self.worker.config().end() {
             return None;
         }
         match self.worker.close() {

@@ -42,8 +42,8 @@ fn slots_for<M: EventModel>(
     for _ in 0..config.workers {
         slots.push(Slot::Inbox(Vec::new(alloc)))?;
     }
-    slots.push(Slot::Board(Board::new(config.workers, config.end)))?;
-    slots.push(Slot::Book(Book::new(alloc, config.workers, config.end)))?;
+    slots.push(Slot::Board(Board::new(config.workers, config.end())))?;
+    slots.push(Slot::Book(Book::new(alloc, config.workers, config.end())))?;
     Ok(slots)
 }
 

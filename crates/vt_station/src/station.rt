@@ -3,6 +3,7 @@
 ghost use Rattle.std.specs.Prelude.{◌≡◌, ◌<◌, ◌≤◌, [], true, false, Ok};
 ghost use Rattle.atomic_table.specs.Table.{Allows};
 ghost use Rattle.vt_model.specs.Simulation.{simulation_of};
+ghost use Rattle.vt_model.specs.Settings.{end_of};
 ghost use Rattle.vt_steps.specs.declared.step.Step.TheVariants.{Close};
 ghost use Rattle.vt_steps.specs.declared.step.Reply.TheVariants.{Done};
 ghost use Rattle.vt_steps.specs.World.{Part};
@@ -22,7 +23,7 @@ use std::alloc::Global;
 use std::marker::Brand;
 use std::snapshot::Snapshot;
 use vt_kernel::Kernel;
-use vt_key::Time;
+use vt_key::When;
 use vt_model::Model as EventModel;
 use vt_steps::{Reply, Step};
 
@@ -64,7 +65,7 @@ pub(crate) struct Visit<M: EventModel> {
 pub(crate) struct Lent<M: EventModel> {
     pub(crate) worker: u32,
     pub(crate) kernel: Snapshot<Kernel<M>>,
-    pub(crate) seen: Time,
+    pub(crate) seen: When,
 }
 
 /// The distance between the words of two neighbouring cells: two cache lines, since processors fetch lines in pairs.
@@ -197,14 +198,14 @@ impl<M: EventModel> Station<M> {
     }
 
     /// Gives a cell back unchanged; a floor of the book may have been shown.
-    pub(crate) fn release_unchanged(&self, seat: &mut Seat<M>, cell: usize, seen: Option<Time>)
+    pub(crate) fn release_unchanged(&self, seat: &mut Seat<M>, cell: usize, seen: Option<When>)
         requires table { seat.old.table_id ≡ self.now.table.shared.table_id }
         requires near { cell < cell_count self.now.workers }
-        requires held { let key = self.now.table.shared.key in (found : Cell _) × Holding key.config seat.old.me cell found found × MaySee key.config.end seen found }
+        requires held { let key = self.now.table.shared.key in (found : Cell _) × Holding key.config seat.old.me cell found found × MaySee (end_of key.config) seen found }
         ensures same { (seat.new.table_id ≡ seat.old.table_id) × (seat.new.id ≡ seat.old.id) × Rests seat.new.me }
         ensures stays { Unvisited seat.old.me.0 (seen_or seat.old.me.0.seen seen) seat.new.me.0 }
     {
-        store::<M, Brand, Option<Time>>(&self.table.shared, seat, cell, HOME, &seen);
+        store::<M, Brand, Option<When>>(&self.table.shared, seat, cell, HOME, &seen);
     }
 
     /// Gives the cell of the book back after a commit. The worker's steps are put behind all others in the list of steps,
@@ -215,7 +216,7 @@ impl<M: EventModel> Station<M> {
         requires book { cell_at self.now.table.shared.key.config.workers cell ≡ book_cell }
         requires worker { lent.now.worker ≡ seat.old.me.0.worker }
         requires held { let key = self.now.table.shared.key in (found : Cell _) × (now : Cell _) × Holding key.config seat.old.me cell found now
-            × CommitsTo (M.handlers key.model.value) key.config lent.now.worker lent.now.kernel.value found now × ShowsFloor key.config.end lent.now.seen now }
+            × CommitsTo (M.handlers key.model.value) key.config lent.now.worker lent.now.kernel.value found now × ShowsFloor (end_of key.config) lent.now.seen now }
         requires kernel { let key = self.now.table.shared.key in Reaches (M.handlers key.model.value) key.config seat.old.me.0 lent.now.kernel.value }
         ensures same { (seat.new.table_id ≡ seat.old.table_id) × (seat.new.id ≡ seat.old.id) × Rests seat.new.me }
         ensures done { let key = self.now.table.shared.key in Commits (M.handlers key.model.value) key.config seat.old.me.0 lent.now.worker lent.now.kernel.value lent.now.seen seat.new.me.0 }
@@ -224,15 +225,15 @@ impl<M: EventModel> Station<M> {
     }
 
     /// Gives the cell of the book back closed.
-    pub(crate) fn release_close(&self, seat: &mut Seat<M>, cell: usize, seen: Time)
+    pub(crate) fn release_close(&self, seat: &mut Seat<M>, cell: usize, seen: When)
         requires table { seat.old.table_id ≡ self.now.table.shared.table_id }
         requires near { cell < cell_count self.now.workers }
         requires book { cell_at self.now.table.shared.key.config.workers cell ≡ book_cell }
         requires held { let key = self.now.table.shared.key in (found : Cell _) × (now : Cell _) × Holding key.config seat.old.me cell found now
-            × ((part : Part _) → act (simulation_of (M.handlers key.model.value) key.config) Close part found ≡ record { part = part; cell = now; answer = Ok Done }) × ShowsFloor key.config.end seen now }
+            × ((part : Part _) → act (simulation_of (M.handlers key.model.value) key.config) Close part found ≡ record { part = part; cell = now; answer = Ok Done }) × ShowsFloor (end_of key.config) seen now }
         ensures same { (seat.new.table_id ≡ seat.old.table_id) × (seat.new.id ≡ seat.old.id) × Rests seat.new.me }
         ensures done { let key = self.now.table.shared.key in Closes (simulation_of (M.handlers key.model.value) key.config) seat.old.me.0 seen seat.new.me.0 }
     {
-        store::<M, Brand, Time>(&self.table.shared, seat, cell, HOME, &seen);
+        store::<M, Brand, When>(&self.table.shared, seat, cell, HOME, &seen);
     }
 }

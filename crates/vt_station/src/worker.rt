@@ -4,6 +4,7 @@ ghost use Rattle.std.specs.Prelude.{◌≡◌, ◌<◌, false, None, Err, IfOk, 
 ghost use Rattle.vt_key.specs.Times.{Time};
 ghost use Rattle.vt_key.specs.declared.fault.Fault.TheVariants.{Memory, NotLawful};
 ghost use Rattle.vt_model.specs.Simulation.{simulation_of};
+ghost use Rattle.vt_model.specs.Settings.{end_of};
 ghost use Rattle.vt_steps.specs.World.{Part, opening_part};
 ghost use Rattle.vt_steps.specs.Letters.{is_empty};
 ghost use Rattle.vt_steps.specs.Next.{may_send};
@@ -259,7 +260,7 @@ impl<'a, M: EventModel> Worker<'a, M> {
         ensures station { IsAtSameStation self.old self.new }
         ensures done { MatchResult result
             (λ _. (shown : Time) × (visited : Visited (M.handlers self.old.model) self.old.config self.old.view self.old.kernel (step.Commit self.old.kernel.worker) reply.Done self.new.kernel shown self.new.view)
-            × ShowsFloor self.old.config.end shown visited.visits.at.now × IsFloorLeft (simulation_of (M.handlers self.old.model) self.old.config) self.old.view (step.Commit self.old.kernel.worker) shown)
+            × ShowsFloor (end_of self.old.config) shown visited.visits.at.now × IsFloorLeft (simulation_of (M.handlers self.old.model) self.old.config) self.old.view (step.Commit self.old.kernel.worker) shown)
             (λ _. Stays self.old.view self.new.view × (self.new.kernel ≡ self.old.kernel)) }
         ensures refused { IfErr result (λ fault. IsCommitRefusal (simulation_of (M.handlers self.old.model) self.old.config) self.old.view fault) }
         ensures closed { IsRefusedOnceClosed self.old.view result }
@@ -273,7 +274,7 @@ impl<'a, M: EventModel> Worker<'a, M> {
     /// [`Fault`]: as [`Station::close`] says; the worker is unchanged.
     pub fn close(&mut self) -> Result<(), Fault>
         ensures station { IsAtSameStation self.old self.new }
-        ensures done { MatchResult result (λ _. Closes (simulation_of (M.handlers self.old.model) self.old.config) self.old.view self.old.config.end self.new.view) (λ _. Stays self.old.view self.new.view) }
+        ensures done { MatchResult result (λ _. Closes (simulation_of (M.handlers self.old.model) self.old.config) self.old.view (end_of self.old.config) self.new.view) (λ _. Stays self.old.view self.new.view) }
         ensures kernel { self.new.kernel ≡ self.old.kernel }
         ensures refused { IfErr result (λ fault. IsCloseRefusal (simulation_of (M.handlers self.old.model) self.old.config) self.old.view fault) }
         ensures closed { IsRefusedOnceClosed self.old.view result }

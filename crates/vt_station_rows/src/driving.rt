@@ -3,7 +3,7 @@
 use crate::hand::Hand;
 use std::process::Abort;
 use vt_board::Report;
-use vt_key::Stamp;
+use vt_key::{Stamp, When};
 use vt_model::Record;
 use vt_models::Hop;
 use vt_station::Worker;
@@ -22,6 +22,7 @@ pub(crate) fn all_records() -> [Record; 4] {
 pub(crate) fn record(time: u64, lp: u32, value: u64) -> Record {
     Record {
         time,
+        priority: 0,
         lp,
         kind: 1,
         value,
@@ -68,8 +69,9 @@ impl<'a> Crew<'a> {
     /// Both report, and the end of the run is announced. The first worker has cut already.
     pub(crate) fn agree(&mut self, rt: &impl Abort) {
         self.second.does(rt, Step::Cut(1));
-        self.first.reports(rt, Ok(Report::Waiting));
-        self.second.reports(rt, Ok(Report::Announced(10)));
+        self.first.reports(rt, &Ok(Report::Waiting));
+        self.second
+            .reports(rt, &Ok(Report::Announced(When::tick(10))));
     }
 
     /// The first worker learns the floor, both commit, and the book is closed.

@@ -104,8 +104,8 @@ impl<'a> Hand<'a> {
     }
 
     /// A report must be answered so.
-    pub(crate) fn reports(&mut self, rt: &impl Abort, want: Result<Report, Fault>) {
-        assert_eq!(rt; self.report(), want);
+    pub(crate) fn reports(&mut self, rt: &impl Abort, want: &Result<Report, Fault>) {
+        assert!(rt; self.report() == *want);
     }
 
     /// The book must show it exactly these records.

@@ -5,7 +5,7 @@ use crate::hand::Hand;
 use crate::workers_at;
 use std::process::Abort;
 use std::rt::{self, HostRuntime};
-use vt_key::{Colour, Fault, Time};
+use vt_key::{Colour, Fault};
 use vt_model::Config;
 use vt_models::Hop;
 use vt_station::Station;
@@ -13,11 +13,7 @@ use vt_steps::Step;
 
 /// What is told of a worker: the lengths of its outbox and of what arrived, its serial, its colour, its counts of mail, white
 /// and red, and its red minimum and floor.
-type Told = (
-    (usize, usize, u64),
-    (bool, u64, u64, u64, u64),
-    (Time, Time),
-);
+type Told = ((usize, usize, u64), (bool, u64, u64, u64, u64), (u64, u64));
 
 fn told(worker: &Hand<'_>) -> Told {
     let kernel = worker.kernel();
@@ -30,7 +26,7 @@ fn told(worker: &Hand<'_>) -> Told {
             kernel.got(Colour::White),
             kernel.got(Colour::Red),
         ),
-        (kernel.red_minimum(), kernel.floor()),
+        (kernel.red_minimum().ticks(), kernel.floor().ticks()),
     )
 }
 
@@ -65,7 +61,7 @@ fn refuses_mail(rt: &impl Abort, crew: &mut Crew<'_>) {
     tells(rt, &crew.second, ((1, 1, 2), (false, 0, 0, 1, 0), (10, 0)));
     crew.second.refuses(rt, Step::Fetch(1), Fault::NotLawful);
     tells(rt, &crew.second, ((1, 1, 2), (false, 0, 0, 1, 0), (10, 0)));
-    crew.second.reports(rt, Err(Fault::NotLawful));
+    crew.second.reports(rt, &Err(Fault::NotLawful));
 }
 
 fn refuses_a_cut(rt: &impl Abort, crew: &mut Crew<'_>) {
@@ -73,7 +69,7 @@ fn refuses_a_cut(rt: &impl Abort, crew: &mut Crew<'_>) {
     crew.first.does(rt, Step::Cut(0));
     tells(rt, &crew.first, ((0, 0, 2), (true, 1, 0, 3, 0), (10, 0)));
     crew.first.refuses(rt, Step::Cut(0), Fault::NotLawful);
-    crew.first.reports(rt, Err(Fault::NotLawful));
+    crew.first.reports(rt, &Err(Fault::NotLawful));
     tells(rt, &crew.first, ((0, 0, 2), (true, 1, 0, 3, 0), (10, 0)));
 }
 

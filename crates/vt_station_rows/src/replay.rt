@@ -6,7 +6,7 @@ use crate::workers_at;
 use std::process::Abort;
 use std::rt::HostRuntime;
 use vt_board::Report;
-use vt_key::Fault;
+use vt_key::{Fault, When};
 use vt_model::Config;
 use vt_models::Hop;
 use vt_station::Station;
@@ -54,7 +54,7 @@ fn runs_alone(rt: &impl Abort, worker: &mut Hand<'_>) {
     worker.does(rt, Step::Home(0));
     worker.does(rt, Step::Execute(0));
     worker.does(rt, Step::Cut(0));
-    worker.reports(rt, Ok(Report::Announced(2)));
+    worker.reports(rt, &Ok(Report::Announced(When::tick(2))));
     worker.refuses(rt, Step::Close, Fault::NotLawful);
     worker.reads(rt, &[]);
     worker.does(rt, Step::Commit(0));

@@ -2,7 +2,7 @@
 use Rattle.std.specs.Prelude.{ℕ, List, [], ◌∷◌, ◌++◌, length, Result, Ok, Err, codes}
 use Rattle.std.specs.List.{flat_map}
 use Rattle.std.specs.Fmt.{decimal}
-use Rattle.vt_key.specs.Times.{Time}
+use Rattle.vt_key.specs.Times.{Time, ticks_of}
 use Rattle.vt_key.specs.Faults.{fault_number}
 use Rattle.vt_key.specs.declared.fault.Fault.{Fault}
 use Rattle.vt_model.specs.declared.rows.Record.{Record}
@@ -10,9 +10,9 @@ use Rattle.vt_steps.specs.declared.step.Reply.{Reply}
 use Rattle.vt_steps.specs.declared.step.Reply.TheVariants.{Done, Waiting, Again, Announced}
 use Rattle.vt_text.specs.Records.{records_text}
 
--- a time as text
+-- a time as text: its tick
 abbrev pub time_text : Time → List ℕ
-time_text t = decimal t
+time_text t = decimal (ticks_of t)
 
 -- what a step was answered, as text: what was replied, or the number of the refusal
 abbrev pub answer_text : Result Reply Fault → List ℕ

@@ -8,7 +8,7 @@ ghost use Rattle.vt_text.specs.Records.{records_text};
 ghost use Rattle.vt_step_text.specs.Replies.{time_text, answer_text, reply_text, time_line, shown_text, state_text};
 
 use std::io::Write;
-use vt_key::{Fault, Time};
+use vt_key::{Fault, When};
 use vt_model::Record;
 use vt_steps::Reply;
 use vt_text::{NUMBER_LEN, RECORD_LEN, TextBuffer};
@@ -29,12 +29,12 @@ pub const REPLY_LEN: usize = NUMBER_LEN + ANSWER_LEN + 2;
 const SHOWN_LEN: usize = 4 * (WORD_LEN + TIME_LEN + 1);
 
 /// Adds a time.
-fn push_time(text: &mut TextBuffer, time: Time)
+fn push_time(text: &mut TextBuffer, time: When)
     requires room { length text.old + TIME_LEN ≤ TEXT_ROOM }
     ensures text { text.new ≡ text.old ++ time_text time }
     ensures len { length text.new ≤ length text.old + TIME_LEN }
 {
-    text.push_number(time);
+    text.push_number(time.ticks());
 }
 
 /// Adds the answer to a step.
@@ -71,7 +71,7 @@ fn push_reply(text: &mut TextBuffer, line: u64, answer: &Result<Reply, Fault>)
 }
 
 /// Adds a line with a word and a time.
-fn push_time_line(text: &mut TextBuffer, word: &[u8], time: Time)
+fn push_time_line(text: &mut TextBuffer, word: &[u8], time: When)
     requires short { length word.now ≤ WORD_LEN }
     requires room { length text.old + WORD_LEN + TIME_LEN + 1 ≤ TEXT_ROOM }
     ensures text { text.new ≡ text.old ++ time_line word.now time }
@@ -84,7 +84,7 @@ fn push_time_line(text: &mut TextBuffer, word: &[u8], time: Time)
 
 /// Adds the four lines at the end of a replay: announced time, floor, least time, and number of records.
 #[tactic(auto, unfolding(crate::specs::Replies::shown_text))]
-fn push_shown(text: &mut TextBuffer, announced: Time, floor: Time, least: Time, records: usize)
+fn push_shown(text: &mut TextBuffer, announced: When, floor: When, least: When, records: usize)
     requires room { length text.old + SHOWN_LEN ≤ TEXT_ROOM }
     ensures text { text.new ≡ text.old ++ shown_text announced floor least records }
     ensures len { length text.new ≤ length text.old + SHOWN_LEN }
@@ -155,9 +155,9 @@ fn put_records<W: Write>(
 pub fn put_state<W: Write>(
     text: &mut TextBuffer,
     writer: &mut W,
-    announced: Time,
-    floor: Time,
-    least: Time,
+    announced: When,
+    floor: When,
+    least: When,
     records: &[Record],
 ) -> Result<(), Fault>
     ensures ok { OnOk result (AppendsAllButHeld (W.contents writer.old) (W.contents writer.new) text.new
@@ -195,9 +195,9 @@ pub fn print_reply<W: Write>(
 /// [`Fault::Output`]: the writer failed or took nothing. A beginning of the text was written, but not all of it.
 pub fn print_state<W: Write>(
     writer: &mut W,
-    announced: Time,
-    floor: Time,
-    least: Time,
+    announced: When,
+    floor: When,
+    least: When,
     records: &[Record],
 ) -> Result<(), Fault>
     ensures ok { OnOk result (Appends (W.contents writer.old) (W.contents writer.new) (state_text announced floor least records.now)) }

@@ -8,7 +8,7 @@ use Rattle.std.proofs.lemmas.List.Elements.{filter-append}
 use Rattle.std.proofs.lemmas.List.Sums.{sum_by-cons, sum_by-append}
 use Rattle.vt_key.specs.Order.{KeyBefore, key_same}
 use Rattle.vt_key.specs.Times.{TimeBefore, opening_time, time_before}
-use Rattle.vt_key.specs.declared.order.Key.{Key}
+use Rattle.vt_key.specs.Keys.{Key}
 use Rattle.vt_key.proofs.OrderLemmas.{key-irreflexive, key-total, key_same-true, same-key_same}
 use Rattle.vt_model.specs.declared.rows.Row.{Row}
 use Rattle.vt_model.specs.declared.sending.Sent.{Sent}

@@ -1,6 +1,6 @@
 //! The steps of a run, and their replies.
 
-use vt_key::{Stamp, Time};
+use vt_key::{Stamp, When};
 
 /// One step of a run. Processes and workers are given by number, from 0; process `p` belongs to worker `p mod
 /// workers`.
@@ -44,5 +44,5 @@ pub enum Reply {
     /// All have reported, and letters of the old colour were still travelling: a new pass of the same round begins.
     Again,
     /// All have reported, no letter of the old colour was travelling, and this is the new global virtual time, in ticks.
-    Announced(Time),
+    Announced(When),
 }

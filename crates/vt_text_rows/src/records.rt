@@ -9,6 +9,7 @@ use vt_text::{RECORD_LEN, TEXT_ROOM, TextBuffer, print_records, read_number, wri
 /// The one record of a hop run of one process without hops.
 const FIRST: Record = Record {
     time: 1,
+    priority: 0,
     lp: 0,
     kind: 1,
     value: 1,
@@ -16,6 +17,7 @@ const FIRST: Record = Record {
 
 const LARGEST: Record = Record {
     time: u64::MAX,
+    priority: u8::MAX,
     lp: u32::MAX,
     kind: u32::MAX,
     value: u64::MAX,
@@ -153,6 +155,7 @@ fn many_records_take_few_writes(rt: HostRuntime) -> Result<(), Fail> {
         let value = time.wrapping_mul(0x9e37_79b9_7f4a_7c15);
         let row = Record {
             time,
+            priority: 0,
             lp: 7,
             kind: 1,
             value,

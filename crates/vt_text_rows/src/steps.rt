@@ -1,9 +1,10 @@
 //! Step texts that are read, and replies and states that are printed.
 
-use std::alloc::Global;
+use std::alloc::{AllocGlobal, Global};
 use std::io::{self, Error, ErrorKind, Read, Write};
+use std::process::Abort;
 use std::test::Fail;
-use vt_key::{Fault, Stamp};
+use vt_key::{Fault, Stamp, When};
 use vt_model::Record;
 use vt_step_text::{
     MAX_INPUT, NumberedStep, REPLY_LEN, print_reply, print_state, put_reply, put_state, read_input,
@@ -311,54 +312,63 @@ fn writer_with_room(rt: &HostRuntime, room: usize) -> Narrow {
     }
 }
 
+// The line of this answer must be this text.
+fn prints(
+    rt: &(impl Abort + AllocGlobal),
+    line: u64,
+    answer: &Result<Reply, Fault>,
+    expected: &str,
+) -> Result<(), Fail> {
+    let mut text = Vec::new(rt.alloc());
+    print_reply(&mut text, line, answer)?;
+    assert!(rt; text.as_slice() == expected.as_bytes(), "{expected}");
+    assert!(rt; text.len() <= REPLY_LEN);
+    Ok(())
+}
+
 #[test]
 fn prints_a_line_for_each_kind_of_answer(rt: HostRuntime) -> Result<(), Fail> {
+    prints(&rt, 1, &Ok(Reply::Done), "1 ok\n")?;
+    prints(&rt, 20, &Ok(Reply::Waiting), "20 waiting\n")?;
+    prints(&rt, 8, &Ok(Reply::Again), "8 again\n")?;
+    let announced = Ok(Reply::Announced(When::tick(10)));
+    prints(&rt, 21, &announced, "21 announced 10\n")?;
+    prints(&rt, 3, &Err(Fault::Memory), "3 refused 1\n")?;
+    prints(&rt, 3, &Err(Fault::NotLawful), "3 refused 2\n")?;
+    prints(&rt, 26, &Err(Fault::Closed), "26 refused 4\n")?;
+    prints(&rt, 2, &Err(Fault::Exhausted), "2 refused 5\n")?;
     let largest = u64::MAX;
-    for (line, answer, expected) in [
-        (1, Ok(Reply::Done), "1 ok\n"),
-        (20, Ok(Reply::Waiting), "20 waiting\n"),
-        (8, Ok(Reply::Again), "8 again\n"),
-        (21, Ok(Reply::Announced(10)), "21 announced 10\n"),
-        (3, Err(Fault::Memory), "3 refused 1\n"),
-        (3, Err(Fault::NotLawful), "3 refused 2\n"),
-        (26, Err(Fault::Closed), "26 refused 4\n"),
-        (2, Err(Fault::Exhausted), "2 refused 5\n"),
-        (
-            largest,
-            Ok(Reply::Announced(largest)),
-            "18446744073709551615 announced 18446744073709551615\n",
-        ),
-    ] {
-        let mut text = Vec::new(rt.alloc());
-        print_reply(&mut text, line, &answer)?;
-        assert!(rt; text.as_slice() == expected.as_bytes(), "{expected}");
-        assert!(rt; text.len() <= REPLY_LEN);
-    }
-    Ok(())
+    let announced = Ok(Reply::Announced(When::tick(largest)));
+    let expected = "18446744073709551615 announced 18446744073709551615\n";
+    prints(&rt, largest, &announced, expected)
 }
 
 /// The records of a straggler's run.
 static STRAGGLER_RECORDS: [Record; 4] = [
     Record {
         time: 1,
+        priority: 0,
         lp: 0,
         kind: 1,
         value: 1,
     },
     Record {
         time: 2,
+        priority: 0,
         lp: 1,
         kind: 1,
         value: 1,
     },
     Record {
         time: 2,
+        priority: 0,
         lp: 1,
         kind: 1,
         value: 258,
     },
     Record {
         time: 3,
+        priority: 0,
         lp: 0,
         kind: 1,
         value: 258,
@@ -371,11 +381,12 @@ const STRAGGLER_STATE: &str =
 
 #[test]
 fn prints_what_the_world_shows(rt: HostRuntime) -> Result<(), Fail> {
+    let end = When::tick(10);
     let mut text = Vec::new(rt.alloc());
-    print_state(&mut text, 10, 10, 10, &STRAGGLER_RECORDS)?;
+    print_state(&mut text, end, end, end, &STRAGGLER_RECORDS)?;
     assert!(rt; text.as_slice() == STRAGGLER_STATE.as_bytes());
     let mut early = Vec::new(rt.alloc());
-    print_state(&mut early, 3, 1, 2, &[])?;
+    print_state(&mut early, When::tick(3), When::tick(1), When::tick(2), &[])?;
     assert!(rt; early.as_slice() == b"announced 3\nfloor 1\nleast 2\nrecords 0\n".as_slice());
     Ok(())
 }
@@ -385,7 +396,8 @@ fn print_gathered(writer: &mut Narrow) -> Result<(), Fault> {
     let mut text = TextBuffer::new();
     put_reply(&mut text, writer, 1, &Ok(Reply::Done))?;
     put_reply(&mut text, writer, 2, &Err(Fault::NotLawful))?;
-    put_state(&mut text, writer, 10, 10, 10, &STRAGGLER_RECORDS)?;
+    let end = When::tick(10);
+    put_state(&mut text, writer, end, end, end, &STRAGGLER_RECORDS)?;
     text.flush(writer)
 }
 
@@ -412,7 +424,12 @@ fn many_replies_take_few_writes(rt: HostRuntime) -> Result<(), Fail> {
     let mut expected = Vec::new(rt.alloc());
     let mut text = TextBuffer::new();
     for line in 1..=10_000u64 {
-        put_reply(&mut text, &mut writer, line, &Ok(Reply::Announced(line)))?;
+        put_reply(
+            &mut text,
+            &mut writer,
+            line,
+            &Ok(Reply::Announced(When::tick(line))),
+        )?;
         writeln!(expected, "{line} announced {line}")?;
     }
     text.flush(&mut writer)?;

@@ -3,8 +3,7 @@ use Rattle.std.proofs.Common.{◌≡◌, ℕ, ◌+◌, ◌-◌, ◌/◌, ◌^◌
 use Rattle.std.proofs.lemmas.List.{get_or-set_other, length-set}
 use Rattle.std.proofs.lemmas.Bool.{cases_order}
 use Rattle.vt_key.specs.declared.order.Rank.{Rank}
-use Rattle.vt_tournament.specs.declared.node.Node.{Node}
-use Rattle.vt_tournament.specs.Contest.{is_ahead, is_ahead_by, contestant, node_of, Fits, inner_places, last_place, place, node, IsBelow, IsAbove, IsWinner, IsBest, AreWinners, WasTournamentOf}
+use Rattle.vt_tournament.specs.Contest.{Node, is_ahead, is_ahead_by, contestant, node_of, Fits, inner_places, last_place, place, node, IsBelow, IsAbove, IsWinner, IsBest, AreWinners, WasTournamentOf}
 use Rattle.vt_tournament.proofs.AheadLemmas.{NotBehind, not_behind-transitive, not_behind-same, behind-none}
 use Rattle.vt_tournament.proofs.NodeLemmas.{somebody, ranked-known}
 use Rattle.vt_tournament.proofs.PathLemmas.{above-self, above-low, above-next, above-transitive, between, upward}
@@ -73,7 +72,7 @@ module _ (ranks : List (Option Rank)) (number : ℕ) (entry : Option Rank) (know
 
   -- ---- where another one than the changed contestant wins at a place of its way as before
 
-  module _ (few : length ranks ≤ 2 ^ 31) (p : ℕ) (w : Node) (path : IsAbove p (place ranks number)) (won : IsWinner ranks p w) (had_won : IsWinner (slice_set ranks number entry) p w) (another : w.number ≡ number → ⊥) where
+  module _ (few : length ranks ≤ 2 ^ 23) (p : ℕ) (w : Node) (path : IsAbove p (place ranks number)) (won : IsWinner ranks p w) (had_won : IsWinner (slice_set ranks number entry) p w) (another : w.number ≡ number → ⊥) where
     -- the changed contestant won at no place above
     not_above : (k : ℕ) (v : Node) → k ≤ p → IsWinner (slice_set ranks number entry) k v → v.number ≡ number → ⊥
     not_above k v low had e =
@@ -115,7 +114,7 @@ pub record IsChanged (ranks : List (Option Rank)) (number at : ℕ) (nodes : Lis
 pub ended : (ranks : List (Option Rank)) (number : ℕ) (nodes : List Node) → IsChanged ranks number 0 nodes → AreWinners ranks nodes
 ended ranks number nodes c = record { full = c.full; won = λ k h. c.won k (omega arith) h }
 
-module _ (ranks : List (Option Rank)) (number : ℕ) (nodes : List Node) (few : length ranks ≤ 2 ^ 31) (known : number < length ranks) where
+module _ (ranks : List (Option Rank)) (number : ℕ) (nodes : List Node) (few : length ranks ≤ 2 ^ 23) (known : number < length ranks) where
   -- the place that is written has its winner, and all others stay
   written : (p : ℕ) (w : Node) (entry : Option Rank) → IsAbove p (place ranks number) → length nodes ≡ last_place (length ranks) + 1 → p ≤ last_place (length ranks) → IsWinner ranks p w → ((k : ℕ) → k < p → IsWinner (slice_set ranks number entry) k (node nodes k)) → ((k : ℕ) → p < k → k ≤ last_place (length ranks) → IsWinner ranks k (node nodes k)) → IsChanged ranks number p (slice_set nodes p w)
   written p w entry path full high here before after = record {

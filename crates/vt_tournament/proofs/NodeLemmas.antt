@@ -5,12 +5,11 @@ use Rattle.std.proofs.lemmas.List.{get_or_past}
 use Rattle.vt_key.specs.declared.order.Rank.{Rank}
 use Rattle.vt_key.specs.Order.{rank_before}
 use Rattle.vt_key.proofs.OrderLemmas.{before-rank_before}
-use Rattle.vt_tournament.specs.declared.node.Node.{Node}
-use Rattle.vt_tournament.specs.Contest.{Contestant, contestant, is_ahead, is_ahead_by, first_time, first_source, nobodys_number, number_of, node_of, packed, unpacked}
+use Rattle.vt_tournament.specs.Contest.{Node, Contestant, contestant, is_ahead, is_ahead_by, first_time, first_source, nobodys_number, number_of, node_of, packed, unpacked, IsSmall}
 use Rattle.vt_tournament.proofs.AheadLemmas.{tested, not_behind-ahead}
 
 -- whose time is earlier is ahead
-earlier : (a : Option Rank) (i : ℕ) (b : Option Rank) (j : ℕ) → first_time a < first_time b → first_time b < 2 ^ 64 → is_ahead_by a i b j ≡ true
+earlier : (a : Option Rank) (i : ℕ) (b : Option Rank) (j : ℕ) → first_time a < first_time b → first_time b < 2 ^ 72 → is_ahead_by a i b j ≡ true
 earlier (Some x) i (Some y) j h r = ap (λ (t : Bool). t || (not (rank_before y x) && nat_lt i j)) (before-rank_before x y (inl (inl h)))
 earlier (Some x) i None j h r = refl
 earlier None i (Some y) j h r = absurd (omega (arith, h, r))
@@ -23,9 +22,48 @@ lesser (Some x) i None j e h r = refl
 lesser None i (Some y) j e h r = absurd (omega (arith, h, r))
 lesser None i None j e h r = absurd (omega (arith, h))
 
+-- nodes with one time and one source begin alike
+pub begins-alike : (a b : Node) → a.time ≡ b.time → a.source ≡ b.source → (nat_eq a.time b.time && nat_eq a.source b.source) ≡ true
+begins-alike a b time source = λ i. eq-eqb a.time b.time time i && eq-eqb a.source b.source source i
+
+different : (x y : ℕ) → (x ≡ y → ⊥) → nat_eq x y ≡ false
+different x y h = elim (tested (nat_eq x y)) [ inl t ↦ absurd (h (eqb-true x y t)) | inr t ↦ t ]
+
+apart : (x y : ℕ) → nat_eq x y ≡ false → x ≡ y → ⊥
+apart x y h e = absurd (let w : true ≡ false = sym (eq-eqb x y e) ∙ h in cc)
+
+-- and their numbers without the last part tell it
+pub same-beginning : (a b : Node) → IsSmall a → IsSmall b → nat_eq (packed a / 2 ^ 24) (packed b / 2 ^ 24) ≡ (nat_eq a.time b.time && nat_eq a.source b.source)
+same-beginning a b small other_small =
+    let low : a.source < 2 ^ 32 = small.1 in
+    let few : a.number < 2 ^ 24 = small.2 in
+    let high : b.source < 2 ^ 32 = other_small.1 in
+    let other_few : b.number < 2 ^ 24 = other_small.2 in
+    elim (tested (nat_eq a.time b.time)) [
+      | inl e ↦
+          let time : a.time ≡ b.time = eqb-true a.time b.time e in
+          elim (tested (nat_eq a.source b.source)) [
+            | inl f ↦
+                let source : a.source ≡ b.source = eqb-true a.source b.source f in
+                eq-eqb (packed a / 2 ^ 24) (packed b / 2 ^ 24) (omega (arith, time, source, few, other_few)) ∙ sym (begins-alike a b time source)
+            | inr f ↦
+                different (packed a / 2 ^ 24) (packed b / 2 ^ 24) (λ s. apart a.source b.source f (omega (arith, s, time, few, other_few)))
+                ∙ sym (λ i. e i && f i)
+          ]
+      | inr e ↦
+          different (packed a / 2 ^ 24) (packed b / 2 ^ 24) (λ s. apart a.time b.time e (omega (arith, s, low, high, few, other_few)))
+          ∙ sym (λ i. e i && nat_eq a.source b.source)
+    ]
+
 -- so the packed nodes of two contestants decide, where they have one number if they begin alike
-pub by_packed : (a b : Contestant) (x y : Node) → x.time ≡ first_time a.rank → y.time ≡ first_time b.rank → x.source ≡ first_source a.rank → y.source ≡ first_source b.rank → (x.time ≡ y.time → x.source ≡ y.source → (x.number ≡ y.number) × (is_ahead a b ≡ false)) → x.time < 2 ^ 64 → y.time < 2 ^ 64 → x.source < 2 ^ 32 → y.source < 2 ^ 32 → x.number < 2 ^ 32 → y.number < 2 ^ 32 → nat_lt (packed x) (packed y) ≡ is_ahead a b
-by_packed a b x y at other_at from other_from alike early late low high few other_few =
+pub by_packed : (a b : Contestant) (x y : Node) → x.time ≡ first_time a.rank → y.time ≡ first_time b.rank → x.source ≡ first_source a.rank → y.source ≡ first_source b.rank → (x.time ≡ y.time → x.source ≡ y.source → (x.number ≡ y.number) × (is_ahead a b ≡ false)) → IsSmall x → IsSmall y → nat_lt (packed x) (packed y) ≡ is_ahead a b
+by_packed a b x y at other_at from other_from alike small other_small =
+    let early : x.time < 2 ^ 72 = small.0 in
+    let late : y.time < 2 ^ 72 = other_small.0 in
+    let low : x.source < 2 ^ 32 = small.1 in
+    let high : y.source < 2 ^ 32 = other_small.1 in
+    let few : x.number < 2 ^ 24 = small.2 in
+    let other_few : y.number < 2 ^ 24 = other_small.2 in
     elim (cases_order x.time y.time) [
       | inl e ↦
           let same : first_time a.rank ≡ first_time b.rank = sym at ∙ e ∙ other_at in
@@ -49,19 +87,21 @@ by_packed a b x y at other_at from other_from alike early late low high few othe
     ]
 
 -- what was packed is unpacked
-repacked : (n : Node) → n.source < 2 ^ 32 → n.number < 2 ^ 32 → unpacked (packed n) ≡ n
-repacked n low few =
-    let at : packed n / 2 ^ 64 ≡ n.time = omega (arith, low, few) in
-    let from : packed n / 2 ^ 32 % 2 ^ 32 ≡ n.source = omega (arith, low, few) in
-    let number : packed n % 2 ^ 32 ≡ n.number = omega (arith, low, few) in
+repacked : (n : Node) → IsSmall n → unpacked (packed n) ≡ n
+repacked n small =
+    let low : n.source < 2 ^ 32 = small.1 in
+    let few : n.number < 2 ^ 24 = small.2 in
+    let at : packed n / 2 ^ 56 ≡ n.time = omega (arith, low, few) in
+    let from : packed n / 2 ^ 24 % 2 ^ 32 ≡ n.source = omega (arith, low, few) in
+    let number : packed n % 2 ^ 24 ≡ n.number = omega (arith, low, few) in
     λ k. record { time = at k; source = from k; number = number k }
 
 -- and who is chosen of two by these numbers
-pub chosen : (a b : Node) → a.source < 2 ^ 32 → a.number < 2 ^ 32 → b.source < 2 ^ 32 → b.number < 2 ^ 32 → unpacked (if nat_lt (packed b) (packed a) then packed b else packed a) ≡ (if nat_lt (packed b) (packed a) then b else a)
-chosen a b low few other_low other_few = one (nat_lt (packed b) (packed a)) where
+pub chosen : (a b : Node) → IsSmall a → IsSmall b → unpacked (if nat_lt (packed b) (packed a) then packed b else packed a) ≡ (if nat_lt (packed b) (packed a) then b else a)
+chosen a b small other_small = one (nat_lt (packed b) (packed a)) where
   one : (t : Bool) → unpacked (if t then packed b else packed a) ≡ (if t then b else a)
-  one true = repacked b other_low other_few
-  one false = repacked a low few
+  one true = repacked b other_small
+  one false = repacked a small
 
 -- the node of who wins is chosen as its contestant is
 pub node-chosen : (t : Bool) (a b : Contestant) (x y : Node) → x ≡ node_of a → y ≡ node_of b → (if t then y else x) ≡ node_of (if t then b else a)
@@ -81,7 +121,7 @@ told_nobody n told = elim (tested (nat_eq n nobodys_number)) [
 ]
 
 -- there is no entry of nobody's number
-pub nobodys_rank : (ranks : List (Option Rank)) → length ranks ≤ 2 ^ 31 → slice_index_or ranks nobodys_number None ≡ None
+pub nobodys_rank : (ranks : List (Option Rank)) → length ranks ≤ 2 ^ 23 → slice_index_or ranks nobodys_number None ≡ None
 nobodys_rank ranks few = get_or_past ranks nobodys_number None (omega (arith, few))
 
 -- a contestant's node has its number or nobody's
@@ -92,7 +132,7 @@ number-one c = cases c.rank refl where
   cases None e = inr (ap (λ (x : Option Rank). number_of x c.number) e)
 
 -- a contestant's node says what the rank of the contestant in it begins with
-pub node-own : (ranks : List (Option Rank)) → length ranks ≤ 2 ^ 31 → (i : ℕ) → node_of (contestant ranks i) ≡ node_of (contestant ranks (node_of (contestant ranks i)).number)
+pub node-own : (ranks : List (Option Rank)) → length ranks ≤ 2 ^ 23 → (i : ℕ) → node_of (contestant ranks i) ≡ node_of (contestant ranks (node_of (contestant ranks i)).number)
 node-own ranks few i = cases (slice_index_or ranks i None) refl where
   cases : (r : Option Rank) → slice_index_or ranks i None ≡ r → node_of (contestant ranks i) ≡ node_of (contestant ranks (node_of (contestant ranks i)).number)
   cases (Some r) e =

@@ -6,8 +6,7 @@ use Rattle.std.proofs.lemmas.Bool.{cases_order}
 use Rattle.std.proofs.lemmas.Option.{slice_get-get_or, slice_get_past}
 use Rattle.vt_key.specs.declared.order.Rank.{Rank}
 use Rattle.vt_key.specs.Order.{RankBefore}
-use Rattle.vt_tournament.specs.declared.node.Node.{Node}
-use Rattle.vt_tournament.specs.Contest.{is_ahead, is_ahead_by, winner_of, contestant, nobodys_number, number_of, node_of, Fits, inner_places, last_place, place, node, IsBelow, beside, IsAbove, IsWinner, IsBest, AreWinners}
+use Rattle.vt_tournament.specs.Contest.{Node, is_ahead, is_ahead_by, winner_of, contestant, nobodys_number, number_of, node_of, Fits, inner_places, last_place, place, node, IsBelow, beside, IsAbove, IsWinner, IsBest, AreWinners}
 use Rattle.vt_tournament.specs.Least.{IsLeast}
 use Rattle.vt_tournament.proofs.AheadLemmas.{tested, NotBehind, winner-first, winner-second, not_behind-self, not_behind-ahead, not_behind-transitive, not_behind-rank, behind-none}
 use Rattle.vt_tournament.proofs.NodeLemmas.{nobodys_rank, node-own, number-one, somebody, ranked-known}
@@ -32,14 +31,14 @@ node-replicate n w k l = there n k l where
   there (suc m) (suc j) less = there m j (omega (arith, less))
 
 -- where nobody takes part, nobody's node is the winner's
-winner-nobody : (ranks : List (Option Rank)) → length ranks ≤ 2 ^ 31 → ((i : ℕ) → slice_index_or ranks i None ≡ None) → (k : ℕ) → IsWinner ranks k nobodys_node
+winner-nobody : (ranks : List (Option Rank)) → length ranks ≤ 2 ^ 23 → ((i : ℕ) → slice_index_or ranks i None ≡ None) → (k : ℕ) → IsWinner ranks k nobodys_node
 winner-nobody ranks few none k = record {
   fits = ap (λ (r : Option Rank). node_of (record { rank = r; number = nobodys_number })) (sym (none nobodys_number));
   placed = λ l. absurd (omega (arith, few, l));
   least = λ i rank is path. absurd (let w : None ≡ Some rank = sym (none i) ∙ is in cc);
 }
 
-pub nobodys_tree : (count : ℕ) → count ≤ 2 ^ 31 → AreWinners (replicate count None) (replicate (last_place count + 1) nobodys_node)
+pub nobodys_tree : (count : ℕ) → count ≤ 2 ^ 23 → AreWinners (replicate count None) (replicate (last_place count + 1) nobodys_node)
 nobodys_tree count few =
     let ranks : List (Option Rank) = replicate count None in
     let e : length ranks ≡ count = length-replicate count None in
@@ -63,7 +62,7 @@ pub node-set_other : (nodes : List Node) (p k : ℕ) (w : Node) → (k ≡ p →
 node-set_other nodes p k w other = get_or-set_other nodes p k w (record { time = 0; source = 0; number = 0 }) other
 
 -- a contestant's own node is the winner's at its place
-pub winner-own_place : (ranks : List (Option Rank)) (number : ℕ) → length ranks ≤ 2 ^ 31 → number < length ranks → IsWinner ranks (place ranks number) (node_of (contestant ranks number))
+pub winner-own_place : (ranks : List (Option Rank)) (number : ℕ) → length ranks ≤ 2 ^ 23 → number < length ranks → IsWinner ranks (place ranks number) (node_of (contestant ranks number))
 winner-own_place ranks number few known =
     let w : Node = node_of (contestant ranks number) in
     record {
@@ -82,7 +81,7 @@ winner-own_place ranks number few known =
     }
 
 -- where the node of who takes no part stands at a contestant's own place, it takes none
-pub own-nobody : (ranks : List (Option Rank)) (number : ℕ) (entry : Option Rank) (w : Node) → length ranks ≤ 2 ^ 31 → number < length ranks → IsWinner ranks (place ranks number) w → w ≡ node_of (record { rank = entry; number = number }) → w.number ≡ nobodys_number → slice_index_or ranks number None ≡ entry
+pub own-nobody : (ranks : List (Option Rank)) (number : ℕ) (entry : Option Rank) (w : Node) → length ranks ≤ 2 ^ 23 → number < length ranks → IsWinner ranks (place ranks number) w → w ≡ node_of (record { rank = entry; number = number }) → w.number ≡ nobodys_number → slice_index_or ranks number None ≡ entry
 own-nobody ranks number entry w few known won is nobodys = had (slice_index_or ranks number None) refl ∙ sym (new entry refl) where
   had : (r : Option Rank) → slice_index_or ranks number None ≡ r → slice_index_or ranks number None ≡ None
   had None e = e
@@ -160,7 +159,7 @@ winner-best ranks nodes at w high below best =
 
 -- ---- the first place
 
-module _ (ranks : List (Option Rank)) (w : Node) (few : length ranks ≤ 2 ^ 31) (won : IsWinner ranks 0 w) where
+module _ (ranks : List (Option Rank)) (w : Node) (few : length ranks ≤ 2 ^ 23) (won : IsWinner ranks 0 w) where
   -- an entry that there is
   entered : (i : ℕ) (r : Option Rank) → slice_get ranks i ≡ Some r → slice_index_or ranks i None ≡ r
   entered i r h = elim (cases_order i (length ranks)) [

@@ -3,11 +3,16 @@ use Rattle.std.specs.Prelude.{◌≡◌, ℕ, zero, suc, ◌+◌, ◌-◌, ◌*�
 use Rattle.vt_key.specs.declared.order.Rank.{Rank}
 use Rattle.vt_key.specs.Order.{rank_before}
 use Rattle.vt_key.specs.Times.{Time}
-use Rattle.vt_tournament.specs.declared.node.Node.{Node}
 
 -- a contestant: its rank, if it takes part, and its number
 pub record Contestant : Type 0 where
   pub rank : Option Rank
+  pub number : ℕ
+
+-- a node: the number of its winner, and the first part of the winner's rank
+pub record Node : Type 0 where
+  pub time : Time
+  pub source : ℕ
   pub number : ℕ
 
 -- one contestant is ahead of another, by their ranks and numbers: with equal ranks by number, and without a rank last
@@ -31,7 +36,7 @@ contestant ranks number = record { rank = slice_index_or ranks number None; numb
 -- the beginning of a rank; a contestant that takes no part has the last of all
 abbrev pub first_time : Option Rank → Time
 first_time (Some r) = r.key.time
-first_time None = 2 ^ 64 - 1
+first_time None = 2 ^ 72 - 1
 
 abbrev pub first_source : Option Rank → ℕ
 first_source (Some r) = r.key.source
@@ -39,7 +44,7 @@ first_source None = 2 ^ 32 - 1
 
 -- the number that stands for nobody
 abbrev pub nobodys_number : ℕ
-nobodys_number = 2 ^ 32 - 1
+nobodys_number = 2 ^ 24 - 1
 
 -- the number in a contestant's node: that of nobody if the contestant takes no part
 abbrev pub number_of : Option Rank → ℕ → ℕ
@@ -52,10 +57,14 @@ node_of c = record { time = first_time c.rank; source = first_source c.rank; num
 
 -- the fields of a node in one number, and the node with the fields in a number
 abbrev pub packed : Node → ℕ
-packed n = n.time * 2 ^ 64 + n.source * 2 ^ 32 + n.number
+packed n = n.time * 2 ^ 56 + n.source * 2 ^ 24 + n.number
 
 abbrev pub unpacked : ℕ → Node
-unpacked p = record { time = p / 2 ^ 64; source = p / 2 ^ 32 % 2 ^ 32; number = p % 2 ^ 32 }
+unpacked p = record { time = p / 2 ^ 56; source = p / 2 ^ 24 % 2 ^ 32; number = p % 2 ^ 24 }
+
+-- no field of a node passes its width
+abbrev pub IsSmall : Node → Type 0
+IsSmall n = (n.time < 2 ^ 72) × (n.source < 2 ^ 32) × (n.number < 2 ^ 24)
 
 -- a node has the beginning of its contestant's rank. No entry has nobody's number, so nobody has no rank
 abbrev pub Fits : List (Option Rank) → Node → Type 0
@@ -114,7 +123,7 @@ pub record AreWinners (ranks : List (Option Rank)) (nodes : List Node) : Type 0 
 -- nodes are a tournament of contestants with these entries
 pub record IsTournamentOf (ranks : List (Option Rank)) (nodes : List Node) : Type 0 where
   pub some : 1 ≤ length ranks
-  pub few : length ranks ≤ 2 ^ 31
+  pub few : length ranks ≤ 2 ^ 23
   pub tree : AreWinners ranks nodes
 
 -- the nodes were a tournament of the same entries, except that one contestant had this entry

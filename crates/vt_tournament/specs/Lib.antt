@@ -1,2 +1,3 @@
 pub mod Contest
+pub mod Fields
 pub mod Least

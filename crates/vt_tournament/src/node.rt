@@ -1,59 +1,92 @@
 //! A node of the tree, and the better of two nodes.
 
-ghost use Rattle.std.specs.Prelude.{◌≡◌, ◌≤◌, ◌^◌, not, nat_eq, nat_lt, if◌then◌else◌, length};
-ghost use Rattle.vt_tournament.specs.Contest.{is_ahead, winner_of, contestant, nobodys_number, node_of, packed, unpacked};
+ghost use Rattle.std.specs.Prelude.{◌≡◌, ◌≤◌, ◌<◌, ◌^◌, ◌&&◌, not, nat_eq, nat_lt, if◌then◌else◌, length};
+ghost use Rattle.vt_tournament.specs.Contest.{is_ahead, winner_of, contestant, nobodys_number, node_of, packed, unpacked, IsSmall};
 
 use crate::contestants::Contestants;
-use vt_key::{Rank, Time};
+use std::marker::Model;
+use vt_key::Rank;
 
-/// The time of a node that has no winner. No time is later.
-const LATEST: Time = Time::MAX;
-
-/// The number of a node that has no winner. There are at most 2^31 contestants, so no contestant has it.
-const NOBODY: u32 = u32::MAX;
+/// The number of a node that has no winner. There are at most 2^23 contestants, so no contestant has it.
+const NOBODY: u32 = 0xff_ffff;
 
 /// A node: the number of its winner and the first part of the winner's rank, which mostly decides between two nodes.
-/// It is small, since each change reads and writes many nodes. All nodes without a winner are equal.
+/// It has 16 bytes, since each change reads and writes many nodes: four of them share a line of the cache. All nodes
+/// without a winner are equal.
 #[derive(Clone, Copy)]
 pub(crate) struct Node {
-    pub(crate) time: Time,
-    pub(crate) source: u32,
-    pub(crate) number: u32,
+    /// The tick of the winner's time.
+    ticks: u64,
+    /// From the highest bits: the time's priority in 8 bits, the source in 32, and the number in 24.
+    rest: u64,
+}
+
+impl Model for Node {
+    ghost use Rattle.std.specs.Prelude.{◌<◌, ◌^◌};
+    ghost use Rattle.vt_tournament.specs.Contest.{Node};
+    ghost use Rattle.vt_tournament.specs.Fields.{node_in, ticks_in, rest_in, fields_again};
+
+    ghost Value = { Node };
+
+    ghost view = { λ n. node_in n.ticks n.rest };
+
+    ghost invariant = { λ n. (n.ticks < 2 ^ 64) × (n.rest < 2 ^ 64) };
+
+    ghost inverse = { λ v. record { ticks = ticks_in v; rest = rest_in v } };
+
+    ghost inverse_ok = { λ n h. fields_again n h };
 }
 
 impl Node {
     /// The leaf of a contestant. Without a rank the contestant takes no part, and the leaf has no winner.
     pub(crate) fn new(number: u32, rank: &Option<Rank>) -> Node
+        requires few { number < 2 ^ 24 }
         ensures { result ≡ node_of (record { rank = rank.now; number = number }) }
     {
         match rank {
             Some(rank) => Node {
-                time: rank.key.time,
-                source: rank.key.source,
-                number,
+                ticks: rank.key.when().ticks(),
+                rest: rank.key.when().priority() as u64 * 0x100_0000_0000_0000
+                    + rank.key.source() as u64 * 0x100_0000
+                    + number as u64,
             },
             None => Node {
-                time: LATEST,
-                source: u32::MAX,
-                number: NOBODY,
+                ticks: u64::MAX,
+                rest: u64::MAX,
             },
         }
+    }
+
+    /// The number of the winner.
+    pub(crate) fn number(&self) -> u32
+        ensures { result ≡ self.now.number }
+    {
+        (self.rest % 0x100_0000) as u32
     }
 
     /// Whether the node has a winner.
     pub(crate) fn takes_part(&self) -> bool
         ensures { result ≡ not (nat_eq self.now.number nobodys_number) }
     {
-        self.number != NOBODY
+        self.number() != NOBODY
+    }
+
+    /// Whether the first parts of the two ranks are equal. One comparison tells it: where times are often equal and sources are
+    /// not, a branch for each would be mispredicted.
+    fn begins_as(&self, other: &Node) -> bool
+        ensures { result ≡ (nat_eq self.now.time other.now.time && nat_eq self.now.source other.now.source) }
+    {
+        let own = self.packed();
+        let others = other.packed();
+        own / 0x100_0000 == others / 0x100_0000
     }
 
     /// The fields in one number. The order of these numbers is the order of the fields.
     fn packed(self) -> u128
-        ensures { result ≡ packed self }
+        ensures number { result ≡ packed self }
+        ensures small { IsSmall self }
     {
-        self.time as u128 * 0x1_0000_0000_0000_0000
-            + self.source as u128 * 0x1_0000_0000
-            + self.number as u128
+        self.ticks as u128 * 0x1_0000_0000_0000_0000 + self.rest as u128
     }
 
     /// The node whose fields are packed into this number.
@@ -61,16 +94,16 @@ impl Node {
         ensures { result ≡ unpacked fields }
     {
         Node {
-            time: (fields / 0x1_0000_0000_0000_0000) as u64,
-            source: (fields / 0x1_0000_0000 % 0x1_0000_0000) as u32,
-            number: (fields % 0x1_0000_0000) as u32,
+            ticks: (fields / 0x1_0000_0000_0000_0000) as u64,
+            rest: (fields % 0x1_0000_0000_0000_0000) as u64,
         }
     }
 
     /// The node whose fields come first, without a branch. The lesser of two numbers takes one instruction; comparing three
     /// fields takes branches, half of which would be mispredicted.
     fn earlier(self, other: Node) -> Node
-        ensures { result ≡ (if nat_lt (packed other) (packed self) then other else self) }
+        ensures first { result ≡ (if nat_lt (packed other) (packed self) then other else self) }
+        ensures small { IsSmall self × IsSmall other }
     {
         let own = self.packed();
         let others = other.packed();
@@ -80,16 +113,15 @@ impl Node {
     /// The better of two nodes: the lesser rank wins, and between equal ranks the lesser number. A node without a winner
     /// loses. Whole ranks are asked for only if the first parts are equal, which is rare.
     pub(crate) fn winner<C: Contestants>(self, other: Node, contestants: &C) -> Node
-        requires few { length (C.entries contestants.now) ≤ 2 ^ 31 }
+        requires few { length (C.entries contestants.now) ≤ 2 ^ 23 }
         requires fits { self ≡ node_of (contestant (C.entries contestants.now) self.number) }
         requires other_fits { other ≡ node_of (contestant (C.entries contestants.now) other.number) }
         ensures { result ≡ node_of (winner_of (contestant (C.entries contestants.now) self.number) (contestant (C.entries contestants.now) other.number)) }
     {
-        if self.time == other.time && self.source == other.source && self.number != other.number {
-            if is_ahead(contestants, other.number, self.number) {
-                return other;
-            }
-            return self;
+        let number = self.number();
+        let others = other.number();
+        if self.begins_as(&other) && number != others {
+            return by_whole_ranks(self, other, contestants);
         }
         self.earlier(other)
     }
@@ -100,6 +132,22 @@ fn lesser(number: u128, other: u128) -> u128
     ensures { result ≡ (if nat_lt other number then other else number) }
 {
     if other < number { other } else { number }
+}
+
+/// The better of two nodes, by the whole ranks of their winners. It answers a node and stands apart: so one choice is left in
+/// [`Node::winner`], and the compiler makes it without a branch.
+#[cold]
+#[inline(never)]
+fn by_whole_ranks<C: Contestants>(node: Node, other: Node, contestants: &C) -> Node
+    requires fits { node ≡ node_of (contestant (C.entries contestants.now) node.number) }
+    requires other_fits { other ≡ node_of (contestant (C.entries contestants.now) other.number) }
+    ensures { result ≡ node_of (winner_of (contestant (C.entries contestants.now) node.number) (contestant (C.entries contestants.now) other.number)) }
+{
+    if is_ahead(contestants, other.number(), node.number()) {
+        other
+    } else {
+        node
+    }
 }
 
 /// Whether the first contestant is ahead of the second, by their whole ranks.

@@ -22,7 +22,7 @@ pub struct Tournament {
 
 impl Model for Tournament {
     ghost use Rattle.std.specs.Prelude.{List, length, ◌<◌};
-    ghost use Rattle.vt_tournament.specs.declared.node.Node.{Node};
+    ghost use Rattle.vt_tournament.specs.Contest.{Node};
 
     ghost Value = { List Node };
 
@@ -32,12 +32,12 @@ impl Model for Tournament {
 }
 
 impl Tournament {
-    /// A tournament of `count` contestants, from 1 to 2^31, in which nobody takes part yet.
+    /// A tournament of `count` contestants, from 1 to 2^23, in which nobody takes part yet.
     ///
     /// [`Fault::Memory`]: memory was refused.
     pub fn new(alloc: Global, count: u32) -> Result<Tournament, Fault>
         requires some { 1 ≤ count }
-        requires few { count ≤ 2 ^ 31 }
+        requires few { count ≤ 2 ^ 23 }
         ensures nobody { IfOk result (IsTournamentOf (replicate count None)) }
         ensures refused { IfErr result (λ fault. fault ≡ Memory) }
     {
@@ -69,7 +69,7 @@ impl Tournament {
     {
         let first = self.nodes[0];
         if first.takes_part() {
-            Some(first.number)
+            Some(first.number())
         } else {
             None
         }
@@ -88,7 +88,7 @@ fn inner_places(count: usize) -> usize
 /// The nodes of a tree for `count` contestants, none of which takes part.
 fn nodes_of_nobody(alloc: Global, count: u32) -> Result<Vec<Node>, Fault>
     requires some { 1 ≤ count }
-    requires few { count ≤ 2 ^ 31 }
+    requires few { count ≤ 2 ^ 23 }
     ensures tree { IfOk result (λ nodes. AreWinners (replicate count None) nodes.items) }
     ensures refused { IfErr result (λ fault. fault ≡ Memory) }
 {
@@ -111,7 +111,7 @@ fn beside(at: usize) -> usize
 
 /// The better of node `at` and its sibling; `winner` is the content of node `at`.
 fn best_below<C: Contestants>(nodes: &[Node], contestants: &C, at: usize, winner: Node) -> Node
-    requires few { length (C.entries contestants.now) ≤ 2 ^ 31 }
+    requires few { length (C.entries contestants.now) ≤ 2 ^ 23 }
     requires below { 1 ≤ at }
     requires small { at < 2 ^ 63 }
     requires there { beside at < length nodes.now }
@@ -126,7 +126,7 @@ fn best_below<C: Contestants>(nodes: &[Node], contestants: &C, at: usize, winner
 /// a variable. If each level read what the level below has just written, it would wait for that write.
 fn decide_above<C: Contestants>(contestants: &C, nodes: &mut [Node], number: u32, node: Node)
     requires known { number < length (C.entries contestants.now) }
-    requires few { length (C.entries contestants.now) ≤ 2 ^ 31 }
+    requires few { length (C.entries contestants.now) ≤ 2 ^ 23 }
     requires was { WasTournamentOf number (C.entries contestants.now) nodes.old }
     requires own { node ≡ node_of (contestant (C.entries contestants.now) number) }
     ensures decided { AreWinners (C.entries contestants.now) nodes.new }
@@ -138,7 +138,7 @@ fn decide_above<C: Contestants>(contestants: &C, nodes: &mut [Node], number: u32
         winner = best_below(nodes, contestants, at, winner);
         at = (at - 1) / 2;
         // If another contestant wins here as before, nothing above changes.
-        if winner.number != number && winner.number == nodes[at].number {
+        if winner.number() != number && winner.number() == nodes[at].number() {
             return;
         }
         nodes[at] = winner;

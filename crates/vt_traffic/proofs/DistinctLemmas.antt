@@ -2,7 +2,7 @@
 use Rattle.std.proofs.Common.{◌≡◌, ℕ, zero, suc, ◌+◌, ◌<◌, ◌≤◌, inl, inr, List, [], ◌∷◌, ◌++◌, Bool, true, false, not, filter, flat_map, sum_by, Option, Some, None, refl, sym, subst, ap, ◌∙◌, arith, append-nil}
 use Rattle.std.proofs.lemmas.Grind.{flat_map-append}
 use Rattle.std.proofs.lemmas.List.Sums.{sum_by-cons}
-use Rattle.vt_key.specs.declared.order.Key.{Key}
+use Rattle.vt_key.specs.Keys.{Key}
 use Rattle.vt_key.specs.Order.{key_same}
 use Rattle.vt_key.proofs.OrderLemmas.{key_same-true, same-key_same}
 use Rattle.vt_model.specs.declared.sending.Sent.{Sent}

@@ -14,6 +14,7 @@ use Rattle.vt_model.specs.Sequential.{RunState, events_of, least_event, fired_af
 use Rattle.vt_model.specs.Histories.{Among, IsLawful}
 use Rattle.vt_model.proofs.LawLemmas.{lawful_of}
 use Rattle.vt_model.proofs.RunLemmas.{tested, after-snoc, events_of-same, events_of-other, known_sent, lists_of, least-found, IsReached, reached}
+use Rattle.vt_model.specs.Settings.{end_of}
 use Rattle.vt_traffic.specs.declared.grid.Traffic.{Traffic}
 use Rattle.vt_traffic.specs.declared.junction.Junction.{Junction}
 use Rattle.vt_traffic.specs.declared.junction.JunctionEvent.{JunctionEvent}
@@ -115,7 +116,7 @@ module _ (m : Traffic) (c : Config) where
 
   -- what an event sends past the end
   abbrev past_by : ℕ → Triple Junction → Sent JunctionEvent → ℕ
-  past_by p t e = cars_sent_past c.end e.key.time (traffic_forward m c.lps p e.payload t.state (words_at c.seed p t.place)).send_requests
+  past_by p t e = cars_sent_past (end_of c) e.key.time (traffic_forward m c.lps p e.payload t.state (words_at c.seed p t.place)).send_requests
 
   -- the cars of one event at a junction
   fire-cars : (p : ℕ) (t : Triple Junction) (e : Sent JunctionEvent) → cars_at t.state + 1 < 2 ^ 64
@@ -124,7 +125,7 @@ module _ (m : Traffic) (c : Config) where
   fire-cars p t e fits =
       let words = words_at c.seed p t.place in
       let asked = (traffic_forward m c.lps p e.payload t.state words).send_requests in
-      omega (arith, forward-cars m c.lps p e.payload t.state words fits, sent-cars c.end p e.key.time t.number asked)
+      omega (arith, forward-cars m c.lps p e.payload t.state words fits, sent-cars (end_of c) p e.key.time t.number asked)
 
   -- what a junction's events send past the end, with one more
   past-snoc : (p : ℕ) (t : Triple Junction) (es : List (Sent JunctionEvent)) (e : Sent JunctionEvent) → sent_past_from m c p t (es ++ e ∷ []) ≡ sent_past_from m c p t es + past_by p (after_from (grid m c) p t es) e
@@ -184,7 +185,7 @@ module _ (m : Traffic) (c : Config) where
   begins zero = omega arith
   begins (suc n) =
       let words = words_at c.seed n 0 in
-      let none = sent-cars c.end n 0 0 (traffic_start m n words).send_requests in
+      let none = sent-cars (end_of c) n 0 0 (traffic_start m n words).send_requests in
       let sends = flat-next (λ (p : ℕ). ((grid m c).start p).sends) n in
       let more = sum_by-append car_in (flat_map (λ p. ((grid m c).start p).sends) (numbers_below n)) ((grid m c).start n).sends in
       let product : 2 * m.cars * suc n ≡ 2 * m.cars * n + 2 * m.cars = grind arith in

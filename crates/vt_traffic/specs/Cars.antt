@@ -6,6 +6,7 @@ use Rattle.vt_model.specs.declared.settings.Config.{Config}
 use Rattle.vt_model.specs.Sends.{SendRequest, receive_time}
 use Rattle.vt_model.specs.Simulation.{Simulation, Triple, words_at, simulation_of, after}
 use Rattle.vt_model.specs.Sequential.{RunState, events_of, numbers_below}
+use Rattle.vt_model.specs.Settings.{end_of}
 use Rattle.vt_traffic.specs.declared.grid.Traffic.{Traffic}
 use Rattle.vt_traffic.specs.declared.junction.Road.{Road}
 use Rattle.vt_traffic.specs.declared.junction.Junction.{Junction}
@@ -57,7 +58,7 @@ module _ (m : Traffic) (c : Config) where
   abbrev pub sent_past_from : ℕ → Triple Junction → List (Sent JunctionEvent) → ℕ
   sent_past_from p t [] = 0
   sent_past_from p t (e ∷ es) =
-      cars_sent_past c.end e.key.time (traffic_forward m c.lps p e.payload t.state (words_at c.seed p t.place)).send_requests
+      cars_sent_past (end_of c) e.key.time (traffic_forward m c.lps p e.payload t.state (words_at c.seed p t.place)).send_requests
       + sent_past_from p (grid.fire p t e).triple es
 
   -- the cars that would arrive at or past the end

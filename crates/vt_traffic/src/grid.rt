@@ -10,7 +10,7 @@ ghost use Rattle.vt_traffic.specs.declared.grid.TheConstants.{MAX_CARS, MAX_GREE
 ghost use Rattle.vt_traffic.specs.Options.{first_bad_option};
 
 use crate::junction::{Junction, JunctionEvent, PASSED, Road, WAITING};
-use vt_key::{Fault, MAX_PROCESSES, Time};
+use vt_key::{Fault, MAX_PROCESSES, When};
 use vt_model::{Bits, Draws, Model as EventModel, Out};
 
 /// The most cars that wait on each road of a junction at the start.
@@ -196,7 +196,7 @@ impl EventModel for Traffic {
     fn forward(
         &self,
         lp: u32,
-        _now: Time,
+        _now: When,
         payload: JunctionEvent,
         state: &mut Junction,
         bits: &mut Bits,
@@ -226,7 +226,7 @@ impl EventModel for Traffic {
     fn reverse(
         &self,
         _lp: u32,
-        _now: Time,
+        _now: When,
         payload: JunctionEvent,
         state: &mut Junction,
         bits: Bits,

@@ -6,6 +6,7 @@ use Rattle.vt_key.specs.declared.fault.Fault.TheVariants.{Closed}
 use Rattle.vt_model.specs.Handler.{Handlers}
 use Rattle.vt_model.specs.Histories.{IsLawful}
 use Rattle.vt_model.specs.Simulation.{simulation_of}
+use Rattle.vt_model.specs.Settings.{end_of}
 use Rattle.vt_steps.specs.declared.step.Step.{Step}
 use Rattle.vt_steps.specs.declared.step.Reply.{Reply}
 use Rattle.vt_steps.specs.World.{World, Book, book_floor}
@@ -60,5 +61,5 @@ module _ {M S P K : Type 0} (handlers : Handlers S P K) (held : HeldWorld M S P 
     whole x = closed-whole (simulation_of handlers held.config) lawful x.0 x.1.0 (shut-there (reached (simulation_of handlers held.config) x.0 x.1.0) x.1.1)
 
     -- its floor is the end of the run
-    pub floor-end : (x : (serial : ℕ) × IsReached handlers serial held) → floor_held held ≡ held.config.end
-    floor-end x = subst (λ (b : Book). book_floor held.config.end b ≡ held.config.end) x.1.1.book (whole x).at_end
+    pub floor-end : (x : (serial : ℕ) × IsReached handlers serial held) → floor_held held ≡ (end_of held.config)
+    floor-end x = subst (λ (b : Book). book_floor (end_of held.config) b ≡ (end_of held.config)) x.1.1.book (whole x).at_end

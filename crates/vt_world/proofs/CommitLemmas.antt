@@ -11,6 +11,7 @@ use Rattle.vt_model.specs.declared.settings.Config.{Config}
 use Rattle.vt_model.specs.Handler.{Handlers}
 use Rattle.vt_model.specs.Histories.{IsLawful}
 use Rattle.vt_model.specs.Simulation.{Simulation, simulation_of}
+use Rattle.vt_model.specs.Settings.{end_of}
 use Rattle.vt_steps.specs.declared.step.Step.TheVariants.{Commit}
 use Rattle.vt_steps.specs.declared.step.Reply.TheVariants.{Done}
 use Rattle.vt_steps.specs.World.{Part, World, Board, Book}
@@ -63,7 +64,7 @@ module _ {M S P K : Type 0} (handlers : Handlers S P K) (held : HeldWorld M S P 
       ap (λ (b : Book). may_commit (slice_get b.floors w) k.floor) (sym x.1.1.book) ∙ ap (λ o. may_commit o k.floor) floor.1 ∙ test
 
   -- what it hands in is lawful
-  pub hand-may : (end : Time) (rows : List Row) → end ≡ held.config.end → ((part : Part P) → WorkerStandsFor handlers k part → rows ≡ rows_of_commit (simulation_of handlers k.config) k.worker part)
+  pub hand-may : (end : Time) (rows : List Row) → end ≡ (end_of held.config) → ((part : Part P) → WorkerStandsFor handlers k part → rows ≡ rows_of_commit (simulation_of handlers k.config) k.worker part)
       → (x : (serial : ℕ) × IsReached handlers serial held) → may_hand (record { end = end; book = held.book }) w rows k.floor ≡ true
   hand-may end rows same_end rows_are x =
       let sim = simulation_of handlers held.config in
@@ -75,7 +76,7 @@ module _ {M S P K : Type 0} (handlers : Handlers S P K) (held : HeldWorld M S P 
       let floor = get-within world.book.floors w (let a = slice_get_within world.parts w f.part f.there in omega (arith, a, size)) in
       let own : f.part.floor ≡ k.floor = f.stands.floor in
       let announced = s.floors.announced w f.part f.there in
-      let bounded : TimeAtMost world.board.announced held.config.end = s.floors.bounded in
+      let bounded : TimeAtMost world.board.announced (end_of held.config) = s.floors.bounded in
       let ends : TimeAtMost k.floor end = omega (arith, own, announced, bounded, same_end) in
       let test : time_at_most k.floor end ≡ true = grind (arith, nat_tests) in
       let here : slice_get held.book.floors w ≡ Some floor.0 = ap (λ (b : Book). slice_get b.floors w) (sym x.1.1.book) ∙ floor.1 in
@@ -88,7 +89,7 @@ module _ {M S P K : Type 0} (handlers : Handlers S P K) (held : HeldWorld M S P 
       (ap (λ o. are_within o k.floor rows) here ∙ all-within floor.0 k.floor rows between))
 
   -- so it is not refused
-  pub hand-unrefused : (end : Time) (rows : List Row) → end ≡ held.config.end → held.book.is_closed ≡ false
+  pub hand-unrefused : (end : Time) (rows : List Row) → end ≡ (end_of held.config) → held.book.is_closed ≡ false
       → ((part : Part P) → WorkerStandsFor handlers k part → rows ≡ rows_of_commit (simulation_of handlers k.config) k.worker part)
       → (x : (serial : ℕ) × IsReached handlers serial held) → refusal_of_hand (record { end = end; book = held.book }) w rows k.floor ≡ None
   hand-unrefused end rows same_end is_open rows_are x =

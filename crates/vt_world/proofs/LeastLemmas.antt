@@ -7,6 +7,7 @@ use Rattle.vt_key.specs.Times.{Time, earlier}
 use Rattle.vt_key.specs.declared.letter.Letter.{Letter}
 use Rattle.vt_key.specs.declared.letter.Mail.{Mail}
 use Rattle.vt_model.specs.declared.settings.Config.{Config}
+use Rattle.vt_model.specs.Settings.{end_of}
 use Rattle.vt_steps.specs.Letters.{least_time}
 use Rattle.vt_kernel.specs.Held.{HeldWorker}
 use Rattle.vt_kernel.proofs.TimeLemmas.{earlier_assoc, earlier_comm, least_time-append}
@@ -34,7 +35,7 @@ module _ {P : Type 0} where
 
 module _ {S P K : Type 0} where
   -- all workers know when the run ends
-  pub workers-end : (config : Config) (base : ℕ) (held : List (HeldWorker S P K)) → AreWorkers config base held → All (λ (k : HeldWorker S P K). k.config.end ≡ config.end) held
-  workers-end config base [] h = All-nil (λ (k : HeldWorker S P K). k.config.end ≡ config.end)
+  pub workers-end : (config : Config) (base : ℕ) (held : List (HeldWorker S P K)) → AreWorkers config base held → All (λ (k : HeldWorker S P K). (end_of k.config) ≡ (end_of config)) held
+  workers-end config base [] h = All-nil (λ (k : HeldWorker S P K). (end_of k.config) ≡ (end_of config))
   workers-end config base (x ∷ xs) h =
-      All-cons (λ (k : HeldWorker S P K). k.config.end ≡ config.end) x xs (ap (λ (f : Config). f.end) h.1) (workers-end config (base + 1) xs h.2)
+      All-cons (λ (k : HeldWorker S P K). (end_of k.config) ≡ (end_of config)) x xs (ap (λ (f : Config). (end_of f)) h.1) (workers-end config (base + 1) xs h.2)

@@ -6,6 +6,7 @@ use Rattle.vt_key.specs.declared.letter.Mail.{Mail}
 use Rattle.vt_model.specs.declared.settings.Config.{Config}
 use Rattle.vt_model.specs.Handler.{Handlers}
 use Rattle.vt_model.specs.Simulation.{Simulation, simulation_of}
+use Rattle.vt_model.specs.Settings.{end_of}
 use Rattle.vt_steps.specs.World.{Part, Board, Book, opening_part, opening_board, opening_book, opening_world}
 use Rattle.vt_steps.specs.Next.{run}
 use Rattle.vt_steps.specs.StandsFor.{StandsForPart, StandForParts}
@@ -42,7 +43,7 @@ inboxes-empty P config base (suc n) = (All-nil (IsOwnMail config base), inboxes-
 
 module _ {M S P K : Type 0} (handlers : Handlers S P K) (model : M) (config : Config) (serial : ℕ) (workers : List (HeldWorker S P K)) (inboxes : List (List (Mail P))) (board : Board) (book : Book)
     (parts : StandForParts (simulation_of handlers config) 0 (map (part_memory handlers) workers) (map (opening_part (simulation_of handlers config) serial) (range_with_len 0 config.workers)))
-    (boxes : inboxes ≡ replicate config.workers []) (board_is : board ≡ opening_board config.workers config.end) (book_is : book ≡ opening_book config.workers) where
+    (boxes : inboxes ≡ replicate config.workers []) (board_is : board ≡ opening_board config.workers (end_of config)) (book_is : book ≡ opening_book config.workers) where
   -- these stand for the opening world
   pub stands-opening : StandsForWorld handlers (inside_view model config workers inboxes board book) (opening_world (simulation_of handlers config) serial)
   unfolding opening_world

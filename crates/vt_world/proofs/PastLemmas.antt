@@ -12,6 +12,7 @@ use Rattle.vt_model.specs.Handler.{Handlers}
 use Rattle.vt_model.specs.Histories.{IsLawful}
 use Rattle.vt_model.specs.Sequential.{events_before}
 use Rattle.vt_model.specs.Simulation.{simulation_of}
+use Rattle.vt_model.specs.Settings.{end_of}
 use Rattle.vt_steps.specs.Letters.{unstamped}
 use Rattle.vt_steps.specs.World.{Entry, World, entry_events, least}
 use Rattle.vt_steps.specs.Next.{reached}
@@ -101,7 +102,7 @@ module _ {M S P K : Type 0} (handlers : Handlers S P K) (held : HeldWorld M S P 
       let world = reached sim x.0 x.1.0 in
       let here = past-in events is world x.1.1 in
       let first : List (Sent P) = entry_events here.process.done in
-      let low : TimeAtMost t (least held.config.end world) = subst (TimeAtMost t) (sym (least-same handlers held world x.1.1)) quiet in
+      let low : TimeAtMost t (least (end_of held.config) world) = subst (TimeAtMost t) (sym (least-same handlers held world x.1.1)) quiet in
       let right = (histories sim lawful x.0 x.1.0).histories t p here.process known low here.there in (
         events_before t first,
         sym right

@@ -9,6 +9,7 @@ use Rattle.vt_model.specs.Handler.{Handlers}
 use Rattle.vt_model.specs.Histories.{IsLawful}
 use Rattle.vt_model.specs.Sequential.{seq_records}
 use Rattle.vt_model.specs.Simulation.{Simulation, simulation_of}
+use Rattle.vt_model.specs.Settings.{end_of}
 use Rattle.vt_steps.specs.Letters.{least_time}
 use Rattle.vt_steps.specs.World.{LogicalProcess, Part, World, Board, Book, letters_in, all_letters, least, book_floor, book_records}
 use Rattle.vt_steps.specs.Next.{reached}
@@ -49,10 +50,10 @@ module _ {S P K : Type 0} (handlers : Handlers S P K) (sim : Simulation S P) whe
 
 module _ {M S P K : Type 0} (handlers : Handlers S P K) (held : HeldWorld M S P K) where
   -- the least time is that of each world that it stands for
-  pub least-same : (world : World P) → StandsForWorld handlers held world → least held.config.end world ≡ least_held held
+  pub least-same : (world : World P) → StandsForWorld handlers held world → least (end_of held.config) world ≡ least_held held
   least-same world h =
-      ap (λ ls. least_time held.config.end (ls ++ map (λ (mail : Mail P). mail.letter) (flat_map (λ inbox. inbox) world.inboxes))) (part-letters handlers (simulation_of handlers held.config) 0 held.workers world.parts h.parts)
-      ∙ ap (λ is. least_time held.config.end (flat_map held_letters held.workers ++ map (λ (mail : Mail P). mail.letter) (flat_map (λ inbox. inbox) is))) h.inboxes
+      ap (λ ls. least_time (end_of held.config) (ls ++ map (λ (mail : Mail P). mail.letter) (flat_map (λ inbox. inbox) world.inboxes))) (part-letters handlers (simulation_of handlers held.config) 0 held.workers world.parts h.parts)
+      ∙ ap (λ is. least_time (end_of held.config) (flat_map held_letters held.workers ++ map (λ (mail : Mail P). mail.letter) (flat_map (λ inbox. inbox) is))) h.inboxes
 
 module _ {M S P K : Type 0} (handlers : Handlers S P K) (held : HeldWorld M S P K) (lawful : IsLawful (simulation_of handlers held.config)) where
   floors : (x : (serial : ℕ) × IsReached handlers serial held) → AreFloorsRight (simulation_of handlers held.config) (reached (simulation_of handlers held.config) x.0 x.1.0)
@@ -62,7 +63,7 @@ module _ {M S P K : Type 0} (handlers : Handlers S P K) (held : HeldWorld M S P 
   pub floor-announced : (x : (serial : ℕ) × IsReached handlers serial held) → TimeAtMost (floor_held held) held.board.announced
   floor-announced x =
       subst (λ (b : Board). TimeAtMost (floor_held held) b.announced) x.1.1.board
-      (subst (λ (b : Book). TimeAtMost (book_floor held.config.end b) (reached (simulation_of handlers held.config) x.0 x.1.0).board.announced) x.1.1.book (floors x).floor)
+      (subst (λ (b : Book). TimeAtMost (book_floor (end_of held.config) b) (reached (simulation_of handlers held.config) x.0 x.1.0).board.announced) x.1.1.book (floors x).floor)
 
   -- and that at most the least time
   pub announced-least : (x : (serial : ℕ) × IsReached handlers serial held) → TimeAtMost held.board.announced (least_held held)
@@ -72,11 +73,11 @@ module _ {M S P K : Type 0} (handlers : Handlers S P K) (held : HeldWorld M S P 
 
   -- the book's records are the sequential run's below the floor
   pub records-sequential : (x : (serial : ℕ) × IsReached handlers serial held)
-      → book_records held.config.end held.book ≡ seq_records (simulation_of handlers held.config) (floor_held held)
+      → book_records (end_of held.config) held.book ≡ seq_records (simulation_of handlers held.config) (floor_held held)
   records-sequential x =
       let world = reached (simulation_of handlers held.config) x.0 x.1.0 in
       let right = records-right (simulation_of handlers held.config) lawful world (reached-accounted (simulation_of handlers held.config) lawful x.0 x.1.0) in
-      subst (λ (b : Book). book_records held.config.end b ≡ seq_records (simulation_of handlers held.config) (book_floor held.config.end b)) x.1.1.book right.records
+      subst (λ (b : Book). book_records (end_of held.config) b ≡ seq_records (simulation_of handlers held.config) (book_floor (end_of held.config) b)) x.1.1.book right.records
 
 -- what a contract sees of a world with these fields
 abbrev pub inside_view : {M S P K : Type 0} → M → Config → List (HeldWorker S P K) → List (List (Mail P)) → Board → Book → HeldWorld M S P K

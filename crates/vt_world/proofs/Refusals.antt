@@ -11,6 +11,7 @@ use Rattle.vt_key.specs.declared.fault.Fault.TheVariants.{NotLawful, Closed, Exh
 use Rattle.vt_model.specs.declared.settings.Config.{Config}
 use Rattle.vt_model.specs.Handler.{Handlers}
 use Rattle.vt_model.specs.Simulation.{Simulation, simulation_of}
+use Rattle.vt_model.specs.Settings.{end_of}
 use Rattle.vt_steps.specs.declared.step.Step.{Step}
 use Rattle.vt_steps.specs.declared.step.Step.TheVariants.{Send, Fetch, Cut}
 use Rattle.vt_steps.specs.declared.step.Reply.{Reply}
@@ -106,20 +107,20 @@ module _ {M S P K : Type 0} (handlers : Handlers S P K) (held : HeldWorld M S P 
   unfolding next cut
   cut-nobody w none world h =
       goes handlers held are world (Cut w) (refused world NotLawful) (Err NotLawful) held
-      (ap (λ q. done_or_refused world (cut (simulation_of handlers held.config) world w q (cut_board held.config.end w world.board))) (gone handlers held are world w h none)) refl refl h
+      (ap (λ q. done_or_refused world (cut (simulation_of handlers held.config) world w q (cut_board (end_of held.config) w world.board))) (gone handlers held are world w h none)) refl refl h
 
   -- why Cut is refused
-  pub cut-why : (board_end : Time) (w : ℕ) (fault : Fault) → board_end ≡ held.config.end → w < length held.workers → cut_outcome board_end w held.board ≡ Err fault
+  pub cut-why : (board_end : Time) (w : ℕ) (fault : Fault) → board_end ≡ (end_of held.config) → w < length held.workers → cut_outcome board_end w held.board ≡ Err fault
       → (world : World P) → StandsForWorld handlers held world → IsStepRefusal (simulation_of handlers held.config) (Cut w) world fault
   cut-why board_end w fault same below h world s =
       let k = some-at held.workers w below in
-      let outcome : counted (cut_board held.config.end w held.board) ≡ Err fault = ap (λ t. cut_outcome t w held.board) (sym same) ∙ h in
-      elim (counted-err (cut_board held.config.end w held.board) fault outcome) [
+      let outcome : counted (cut_board (end_of held.config) w held.board) ≡ Err fault = ap (λ t. cut_outcome t w held.board) (sym same) ∙ h in
+      elim (counted-err (cut_board (end_of held.config) w held.board) fault outcome) [
         | inl a ↦ inl ((cut-refused handlers held are w a.0 world s).0 ∙ ap Err (sym a.1))
         | inr a ↦
             (let f = found handlers held world w k.0 are s k.1 in
-            let next_is = next-cut (simulation_of handlers held.config) world w f.part a.0 f.there (ap (λ b. cut_board held.config.end w b) s.board ∙ a.1) in
-            exhausted world (Cut w) Done (record world { parts = slice_set world.parts w (part_after_cut held.config.end world.board.announced f.part); board = a.0 }) fault next_is a.2 a.3)
+            let next_is = next-cut (simulation_of handlers held.config) world w f.part a.0 f.there (ap (λ b. cut_board (end_of held.config) w b) s.board ∙ a.1) in
+            exhausted world (Cut w) Done (record world { parts = slice_set world.parts w (part_after_cut (end_of held.config) world.board.announced f.part); board = a.0 }) fault next_is a.2 a.3)
       ]
 
   -- how much of its colour a worker has sent after a send

@@ -7,6 +7,7 @@ use Rattle.vt_key.specs.declared.fault.Fault.{Fault}
 use Rattle.vt_key.specs.declared.fault.Fault.TheVariants.{NotLawful}
 use Rattle.vt_model.specs.Handler.{Handlers}
 use Rattle.vt_model.specs.Simulation.{Simulation, simulation_of}
+use Rattle.vt_model.specs.Settings.{end_of}
 use Rattle.vt_steps.specs.declared.step.Step.TheVariants.{Report}
 use Rattle.vt_steps.specs.declared.step.Reply.{Reply}
 use Rattle.vt_steps.specs.Letters.{least_time}
@@ -29,24 +30,24 @@ fails-first false b h k = refl
 module _ {M S P K : Type 0} (handlers : Handlers S P K) (held : HeldWorld M S P K) (are : AreWorkers held.config 0 held.workers) where
   -- a report that the board takes
   pub report-taken : (w : ℕ) (k new : HeldWorker S P K) (sent got : ℕ) (least : Time) (board : Board) (reply : Reply) → slice_get held.workers w ≡ Some k
-      → new.worker ≡ k.worker → new.config ≡ k.config → takes_report held.config.end w least held.board ≡ true
-      → board ≡ board_after_report held.config.end (with_report w sent got least held.board) → reply ≡ report_reply (with_report w sent got least held.board)
-      → ((part : Part P) → WorkerStandsFor handlers k part → (sent ≡ report_sent part) × (got ≡ report_got part) × (least ≡ report_least k.config.end part))
+      → new.worker ≡ k.worker → new.config ≡ k.config → takes_report (end_of held.config) w least held.board ≡ true
+      → board ≡ board_after_report (end_of held.config) (with_report w sent got least held.board) → reply ≡ report_reply (with_report w sent got least held.board)
+      → ((part : Part P) → WorkerStandsFor handlers k part → (sent ≡ report_sent part) × (got ≡ report_got part) × (least ≡ report_least (end_of k.config) part))
       → ((part : Part P) → WorkerStandsFor handlers k part → WorkerStandsFor handlers new (record part { floor = board.announced }))
       → GoesOn (simulation_of handlers held.config) (Report w) (Ok reply) (world_memory handlers held) (world_memory handlers (inside_view held.model held.config (slice_set held.workers w new) held.inboxes board held.book))
   report-taken w k new sent got least board reply at same_worker same_config takes board_is reply_is values stands =
-      let may = (both_pass (may_report w least held.board) (time_at_most least held.config.end) takes).0 in
+      let may = (both_pass (may_report w least held.board) (time_at_most least (end_of held.config)) takes).0 in
       let goes = report-done handlers held are w k new sent got least at may same_worker same_config
       (λ part s. (let v = values part s in (v.0, v.1, v.2, subst (λ (b : Board). WorkerStandsFor handlers new (record part { floor = b.announced })) board_is (stands part s)))) in
       subst (λ (b : Board). GoesOn (simulation_of handlers held.config) (Report w) (Ok reply) (world_memory handlers held) (world_memory handlers (inside_view held.model held.config (slice_set held.workers w new) held.inboxes b held.book)))
       (sym board_is)
       (subst (λ r. GoesOn (simulation_of handlers held.config) (Report w) (Ok r) (world_memory handlers held)
-      (world_memory handlers (inside_view held.model held.config (slice_set held.workers w new) held.inboxes (board_after_report held.config.end (with_report w sent got least held.board)) held.book))) (sym reply_is) goes)
+      (world_memory handlers (inside_view held.model held.config (slice_set held.workers w new) held.inboxes (board_after_report (end_of held.config) (with_report w sent got least held.board)) held.book))) (sym reply_is) goes)
 
   -- and one that it doesn't
-  pub report-untaken : (w : ℕ) (k : HeldWorker S P K) (least : Time) → slice_get held.workers w ≡ Some k → takes_report held.config.end w least held.board ≡ false → TimeAtMost least held.config.end
-      → ((part : Part P) → WorkerStandsFor handlers k part → least ≡ report_least k.config.end part)
+  pub report-untaken : (w : ℕ) (k : HeldWorker S P K) (least : Time) → slice_get held.workers w ≡ Some k → takes_report (end_of held.config) w least held.board ≡ false → TimeAtMost least (end_of held.config)
+      → ((part : Part P) → WorkerStandsFor handlers k part → least ≡ report_least (end_of k.config) part)
       → GoesOn (simulation_of handlers held.config) (Report w) (Err NotLawful) (world_memory handlers held) (world_memory handlers held)
   report-untaken w k least at takes ends value =
-      let test : time_at_most least held.config.end ≡ true = grind (arith, nat_tests) in
-      report-refused handlers held are w k least at (fails-first (may_report w least held.board) (time_at_most least held.config.end) takes test) value
+      let test : time_at_most least (end_of held.config) ≡ true = grind (arith, nat_tests) in
+      report-refused handlers held are w k least at (fails-first (may_report w least held.board) (time_at_most least (end_of held.config)) takes test) value

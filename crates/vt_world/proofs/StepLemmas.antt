@@ -12,6 +12,7 @@ use Rattle.vt_model.specs.declared.settings.Config.{Config}
 use Rattle.vt_model.specs.Handler.{Handlers}
 use Rattle.vt_model.specs.Histories.{IsLawful}
 use Rattle.vt_model.specs.Simulation.{Simulation, simulation_of}
+use Rattle.vt_model.specs.Settings.{end_of}
 use Rattle.vt_steps.specs.declared.step.Step.{Step}
 use Rattle.vt_steps.specs.declared.step.Step.TheVariants.{Close}
 use Rattle.vt_steps.specs.declared.step.Reply.{Reply}
@@ -42,9 +43,9 @@ rises handlers held new step answer lawful same_config goes x =
     let after = (goes world x.1.1).1 in
     let up = nothing-falls sim lawful (step ∷ []) world (reached-times sim lawful x.0 x.1.0) in (
       subst (λ (b : Board). TimeAtMost b.announced new.board.announced) x.1.1.board (subst (λ (b : Board). TimeAtMost world.board.announced b.announced) after.board up.1),
-      subst (λ (b : Book). TimeAtMost (book_floor held.config.end b) (floor_held new)) x.1.1.book
-          (subst (λ (c : Config). TimeAtMost (book_floor held.config.end world.book) (book_floor c.end new.book)) (sym same_config)
-          (subst (λ (b : Book). TimeAtMost (book_floor held.config.end world.book) (book_floor held.config.end b)) after.book up.0)),
+      subst (λ (b : Book). TimeAtMost (book_floor (end_of held.config) b) (floor_held new)) x.1.1.book
+          (subst (λ (c : Config). TimeAtMost (book_floor (end_of held.config) world.book) (book_floor (end_of c) new.book)) (sym same_config)
+          (subst (λ (b : Book). TimeAtMost (book_floor (end_of held.config) world.book) (book_floor (end_of held.config) b)) after.book up.0)),
     )
 
 module _ {M S P K : Type 0} (meaning : M → Handlers S P K) {held seen : HeldWorld M S P K} (seen_is : held ≡ seen) where
@@ -142,14 +143,14 @@ refusal-cases false false Taken Refused h = inr (inl (refl, refl, h))
 refusal-cases false true Taken Refused h = inr (inr (refl, refl, h))
 
 module _ {M S P K : Type 0} (handlers : Handlers S P K) (model : M) (config : Config) (workers : List (HeldWorker S P K)) (inboxes : List (List (Mail P))) (board : Board)
-    (of : RunBook) (same_end : of.end ≡ config.end) (are : AreWorkers config 0 workers) where
+    (of : RunBook) (same_end : of.end ≡ (end_of config)) (are : AreWorkers config 0 workers) where
   -- what the book refuses to close, the world does
   pub close-refuses : {X : Type 0} (new : RunBook) (result : Result X Fault) (x : X) (fault : Fault) (Kept : Type 0) → result ≡ Err fault
       → MatchOption (refusal_of_close of) ((result ≡ Ok x) × Kept) (λ f. (result ≡ Err f) × (new ≡ of))
       → (new ≡ of) × GoesOn (simulation_of handlers config) Close (Err fault) (world_memory handlers (inside_view model config workers inboxes board of.book)) (world_memory handlers (inside_view model config workers inboxes board of.book))
   close-refuses new result x fault Kept is h =
       let held = inside_view model config workers inboxes board of.book in
-      let lawful : may_close of.end of.book ≡ may_close config.end of.book = ap (λ t. may_close t of.book) same_end in
+      let lawful : may_close of.end of.book ≡ may_close (end_of config) of.book = ap (λ t. may_close t of.book) same_end in
       elim (refusal-cases of.book.is_closed (may_close of.end of.book) ((result ≡ Ok x) × Kept) (λ f. (result ≡ Err f) × (new ≡ of)) h) [
         | inl a ↦
             let e : Err fault ≡ Err Closed = sym is ∙ a.1.0 in
@@ -171,7 +172,7 @@ module _ {M S P K : Type 0} (handlers : Handlers S P K) (model : M) (config : Co
       × GoesOn (simulation_of handlers config) Close (Ok Done) (world_memory handlers (inside_view model config workers inboxes board of.book)) (world_memory handlers (inside_view model config workers inboxes board new.book))
   close-closes new result x y is h =
       let held = inside_view model config workers inboxes board of.book in
-      let lawful : may_close of.end of.book ≡ may_close config.end of.book = ap (λ t. may_close t of.book) same_end in
+      let lawful : may_close of.end of.book ≡ may_close (end_of config) of.book = ap (λ t. may_close t of.book) same_end in
       elim (refusal-cases of.book.is_closed (may_close of.end of.book) ((result ≡ Ok x) × (new ≡ record of { book = closed_book of.book })) (λ f. (result ≡ Err f) × (new ≡ of)) h) [
         | inl a ↦ absurd (let e : Ok y ≡ Err Closed = sym is ∙ a.1.0 in cc)
         | inr b ↦ elim b [

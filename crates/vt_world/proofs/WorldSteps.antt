@@ -8,6 +8,7 @@ use Rattle.vt_model.specs.declared.rows.Row.{Row}
 use Rattle.vt_model.specs.declared.settings.Config.{Config}
 use Rattle.vt_model.specs.Handler.{Handlers}
 use Rattle.vt_model.specs.Simulation.{Simulation, simulation_of}
+use Rattle.vt_model.specs.Settings.{end_of}
 use Rattle.vt_steps.specs.declared.step.Step.{Step}
 use Rattle.vt_steps.specs.declared.step.Step.TheVariants.{Home, Accept, Send, Fetch, Cut, Report, Commit, Close}
 use Rattle.vt_steps.specs.declared.step.Reply.{Reply}
@@ -105,40 +106,40 @@ module _ {M S P K : Type 0} (handlers : Handlers S P K) (held : HeldWorld M S P 
       let f = found handlers held world w k are h at in
       goes world (Fetch w) (refused world NotLawful) (Err NotLawful) held (next-not_fetch (simulation_of handlers held.config) world w f.part f.there (none f.part f.stands)) refl refl h
 
-  pub cut-done : (w : ℕ) (k new : HeldWorker S P K) (board : Board) → slice_get held.workers w ≡ Some k → cut_board held.config.end w held.board ≡ Some board
+  pub cut-done : (w : ℕ) (k new : HeldWorker S P K) (board : Board) → slice_get held.workers w ≡ Some k → cut_board (end_of held.config) w held.board ≡ Some board
       → new.worker ≡ k.worker → new.config ≡ k.config
-      → ((part : Part P) → WorkerStandsFor handlers k part → WorkerStandsFor handlers new (part_after_cut k.config.end held.board.announced part))
+      → ((part : Part P) → WorkerStandsFor handlers k part → WorkerStandsFor handlers new (part_after_cut (end_of k.config) held.board.announced part))
       → GoesOn (simulation_of handlers held.config) (Cut w) (Ok Done) (world_memory handlers held)
       (world_memory handlers (record held { workers = slice_set held.workers w new; board = board }))
   cut-done w k new board at cuts same_worker same_config done world h =
       let sim = simulation_of handlers held.config in
       let is = who w k at in
       let f = found handlers held world w k are h at in
-      let d = subst (λ (c : Config). WorkerStandsFor handlers new (part_after_cut c.end held.board.announced f.part)) is.1 (done f.part f.stands) in
-      let e = subst (λ (b : Board). WorkerStandsFor handlers new (part_after_cut held.config.end b.announced f.part)) (sym h.board) d in
-      goes world (Cut w) (replied (record world { parts = slice_set world.parts w (part_after_cut held.config.end world.board.announced f.part); board = board }) Done)
+      let d = subst (λ (c : Config). WorkerStandsFor handlers new (part_after_cut (end_of c) held.board.announced f.part)) is.1 (done f.part f.stands) in
+      let e = subst (λ (b : Board). WorkerStandsFor handlers new (part_after_cut (end_of held.config) b.announced f.part)) (sym h.board) d in
+      goes world (Cut w) (replied (record world { parts = slice_set world.parts w (part_after_cut (end_of held.config) world.board.announced f.part); board = board }) Done)
       (Ok Done) (record held { workers = slice_set held.workers w new; board = board })
-      (next-cut sim world w f.part board f.there (ap (λ b. cut_board held.config.end w b) h.board ∙ cuts)) refl refl
+      (next-cut sim world w f.part board f.there (ap (λ b. cut_board (end_of held.config) w b) h.board ∙ cuts)) refl refl
       (record {
-        parts = part-changed handlers held world w new (part_after_cut held.config.end world.board.announced f.part) h (same_worker ∙ is.0) (same_config ∙ is.1) e;
+        parts = part-changed handlers held world w new (part_after_cut (end_of held.config) world.board.announced f.part) h (same_worker ∙ is.0) (same_config ∙ is.1) e;
         inboxes = h.inboxes;
         board = refl;
         book = h.book;
       })
 
-  pub cut-refused : (w : ℕ) → cut_board held.config.end w held.board ≡ None
+  pub cut-refused : (w : ℕ) → cut_board (end_of held.config) w held.board ≡ None
       → GoesOn (simulation_of handlers held.config) (Cut w) (Err NotLawful) (world_memory handlers held) (world_memory handlers held)
   cut-refused w none world h =
       goes world (Cut w) (refused world NotLawful) (Err NotLawful) held
-      (next-not_cut (simulation_of handlers held.config) world w (ap (λ b. cut_board held.config.end w b) h.board ∙ none)) refl refl h
+      (next-not_cut (simulation_of handlers held.config) world w (ap (λ b. cut_board (end_of held.config) w b) h.board ∙ none)) refl refl h
 
   -- the world after a lawful report stands as the worker and the board do
   reported : (world : World P) (w : ℕ) (new : HeldWorker S P K) (part : Part P) (board : Board) → StandsForWorld handlers held world → new.worker ≡ w → new.config ≡ held.config
-      → WorkerStandsFor handlers new (record part { floor = (board_after_report held.config.end board).announced })
-      → StandsForWorld handlers (record held { workers = slice_set held.workers w new; board = board_after_report held.config.end board }) (report_lawful (simulation_of handlers held.config) world w part board).world
+      → WorkerStandsFor handlers new (record part { floor = (board_after_report (end_of held.config) board).announced })
+      → StandsForWorld handlers (record held { workers = slice_set held.workers w new; board = board_after_report (end_of held.config) board }) (report_lawful (simulation_of handlers held.config) world w part board).world
   unfolding report_lawful
   reported world w new part board h is of stands = record {
-    parts = part-changed handlers held world w new (record part { floor = (board_after_report held.config.end board).announced }) h is of stands;
+    parts = part-changed handlers held world w new (record part { floor = (board_after_report (end_of held.config) board).announced }) h is of stands;
     inboxes = h.inboxes;
     board = refl;
     book = h.book;
@@ -150,34 +151,34 @@ module _ {M S P K : Type 0} (handlers : Handlers S P K) (held : HeldWorld M S P 
 
   pub report-done : (w : ℕ) (k new : HeldWorker S P K) (sent got : ℕ) (least : Time) → slice_get held.workers w ≡ Some k
       → may_report w least held.board ≡ true → new.worker ≡ k.worker → new.config ≡ k.config
-      → ((part : Part P) → WorkerStandsFor handlers k part → (sent ≡ report_sent part) × (got ≡ report_got part) × (least ≡ report_least k.config.end part)
-      × WorkerStandsFor handlers new (record part { floor = (board_after_report held.config.end (with_report w sent got least held.board)).announced }))
+      → ((part : Part P) → WorkerStandsFor handlers k part → (sent ≡ report_sent part) × (got ≡ report_got part) × (least ≡ report_least (end_of k.config) part)
+      × WorkerStandsFor handlers new (record part { floor = (board_after_report (end_of held.config) (with_report w sent got least held.board)).announced }))
       → GoesOn (simulation_of handlers held.config) (Report w) (Ok (report_reply (with_report w sent got least held.board))) (world_memory handlers held)
-      (world_memory handlers (record held { workers = slice_set held.workers w new; board = board_after_report held.config.end (with_report w sent got least held.board) }))
+      (world_memory handlers (record held { workers = slice_set held.workers w new; board = board_after_report (end_of held.config) (with_report w sent got least held.board) }))
   report-done w k new sent got least at may same_worker same_config done world h =
       let sim = simulation_of handlers held.config in
       let is = who w k at in
       let f = found handlers held world w k are h at in
       let d = done f.part f.stands in
-      let value : report_least held.config.end f.part ≡ least = ap (λ (c : Config). report_least c.end f.part) (sym is.1) ∙ sym d.2 in
-      let lawful : may_report w (report_least held.config.end f.part) world.board ≡ true = ap (λ t. may_report w t world.board) value ∙ ap (may_report w least) h.board ∙ may in
-      let board : with_report w (report_sent f.part) (report_got f.part) (report_least held.config.end f.part) world.board ≡ with_report w sent got least held.board =
-      ap (λ n. with_report w n (report_got f.part) (report_least held.config.end f.part) world.board) (sym d.0)
-      ∙ ap (λ n. with_report w sent n (report_least held.config.end f.part) world.board) (sym d.1)
+      let value : report_least (end_of held.config) f.part ≡ least = ap (λ (c : Config). report_least (end_of c) f.part) (sym is.1) ∙ sym d.2 in
+      let lawful : may_report w (report_least (end_of held.config) f.part) world.board ≡ true = ap (λ t. may_report w t world.board) value ∙ ap (may_report w least) h.board ∙ may in
+      let board : with_report w (report_sent f.part) (report_got f.part) (report_least (end_of held.config) f.part) world.board ≡ with_report w sent got least held.board =
+      ap (λ n. with_report w n (report_got f.part) (report_least (end_of held.config) f.part) world.board) (sym d.0)
+      ∙ ap (λ n. with_report w sent n (report_least (end_of held.config) f.part) world.board) (sym d.1)
       ∙ ap (λ t. with_report w sent got t world.board) value
       ∙ ap (with_report w sent got least) h.board in
       goes world (Report w) (report_lawful sim world w f.part (with_report w sent got least held.board))
-      (Ok (report_reply (with_report w sent got least held.board))) (record held { workers = slice_set held.workers w new; board = board_after_report held.config.end (with_report w sent got least held.board) })
+      (Ok (report_reply (with_report w sent got least held.board))) (record held { workers = slice_set held.workers w new; board = board_after_report (end_of held.config) (with_report w sent got least held.board) })
       (next-report sim world w f.part f.there lawful ∙ ap (report_lawful sim world w f.part) board) (answered world w f.part (with_report w sent got least held.board)) refl
       (reported world w new f.part (with_report w sent got least held.board) h (same_worker ∙ is.0) (same_config ∙ is.1) d.3)
 
   pub report-refused : (w : ℕ) (k : HeldWorker S P K) (least : Time) → slice_get held.workers w ≡ Some k → may_report w least held.board ≡ false
-      → ((part : Part P) → WorkerStandsFor handlers k part → least ≡ report_least k.config.end part)
+      → ((part : Part P) → WorkerStandsFor handlers k part → least ≡ report_least (end_of k.config) part)
       → GoesOn (simulation_of handlers held.config) (Report w) (Err NotLawful) (world_memory handlers held) (world_memory handlers held)
   report-refused w k least at may none world h =
       let is = who w k at in
       let f = found handlers held world w k are h at in
-      let value : report_least held.config.end f.part ≡ least = ap (λ (c : Config). report_least c.end f.part) (sym is.1) ∙ sym (none f.part f.stands) in
+      let value : report_least (end_of held.config) f.part ≡ least = ap (λ (c : Config). report_least (end_of c) f.part) (sym is.1) ∙ sym (none f.part f.stands) in
       goes world (Report w) (refused world NotLawful) (Err NotLawful) held
       (next-not_report (simulation_of handlers held.config) world w f.part f.there (ap (λ t. may_report w t world.board) value ∙ ap (may_report w least) h.board ∙ may)) refl refl h
 
@@ -219,19 +220,19 @@ module _ {M S P K : Type 0} (handlers : Handlers S P K) (held : HeldWorld M S P 
   commit-closed w closed world h =
       goes world (Commit w) (refused world Closed) (Err Closed) held (next-commit_closed (simulation_of handlers held.config) world w (ap (λ (b : Book). b.is_closed) h.book ∙ closed)) refl refl h
 
-  pub close-done : held.book.is_closed ≡ false → may_close held.config.end held.book ≡ true
+  pub close-done : held.book.is_closed ≡ false → may_close (end_of held.config) held.book ≡ true
       → GoesOn (simulation_of handlers held.config) Close (Ok Done) (world_memory handlers held) (world_memory handlers (record held { book = closed_book held.book }))
   close-done is_open may world h =
       let sim = simulation_of handlers held.config in
       goes world Close (replied (record world { book = closed_book world.book }) Done) (Ok Done) (record held { book = closed_book held.book })
-      (next-close sim world (ap (λ (b : Book). b.is_closed) h.book ∙ is_open) (ap (may_close held.config.end) h.book ∙ may)) refl refl
+      (next-close sim world (ap (λ (b : Book). b.is_closed) h.book ∙ is_open) (ap (may_close (end_of held.config)) h.book ∙ may)) refl refl
       (record { parts = h.parts; inboxes = h.inboxes; board = h.board; book = ap closed_book h.book })
 
-  pub close-refused : held.book.is_closed ≡ false → may_close held.config.end held.book ≡ false
+  pub close-refused : held.book.is_closed ≡ false → may_close (end_of held.config) held.book ≡ false
       → GoesOn (simulation_of handlers held.config) Close (Err NotLawful) (world_memory handlers held) (world_memory handlers held)
   close-refused is_open may world h =
       goes world Close (refused world NotLawful) (Err NotLawful) held
-      (next-not_close (simulation_of handlers held.config) world (ap (λ (b : Book). b.is_closed) h.book ∙ is_open) (ap (may_close held.config.end) h.book ∙ may)) refl refl h
+      (next-not_close (simulation_of handlers held.config) world (ap (λ (b : Book). b.is_closed) h.book ∙ is_open) (ap (may_close (end_of held.config)) h.book ∙ may)) refl refl h
 
   pub close-closed : held.book.is_closed ≡ true
       → GoesOn (simulation_of handlers held.config) Close (Err Closed) (world_memory handlers held) (world_memory handlers held)

@@ -6,6 +6,7 @@ use Rattle.vt_key.specs.declared.fault.Fault.{Fault}
 use Rattle.vt_key.specs.declared.fault.Fault.TheVariants.{Closed}
 use Rattle.vt_model.specs.Handler.{Handlers}
 use Rattle.vt_model.specs.Simulation.{simulation_of}
+use Rattle.vt_model.specs.Settings.{end_of}
 use Rattle.vt_steps.specs.declared.step.Step.{Step}
 use Rattle.vt_steps.specs.declared.step.Reply.{Reply}
 use Rattle.vt_steps.specs.Letters.{least_time}
@@ -21,11 +22,11 @@ module _ {M S P K : Type 0} where
   -- the least time of all that is unprocessed or travelling: in outboxes, arrived, pending, waiting and in inboxes
   abbrev pub least_held : HeldWorld M S P K → Time
   least_held held =
-      least_time held.config.end (flat_map held_letters held.workers ++ map (λ mail. mail.letter) (flat_map (λ inbox. inbox) held.inboxes))
+      least_time (end_of held.config) (flat_map held_letters held.workers ++ map (λ mail. mail.letter) (flat_map (λ inbox. inbox) held.inboxes))
 
   -- the floor of the book
   abbrev pub floor_held : HeldWorld M S P K → Time
-  floor_held held = book_floor held.config.end held.book
+  floor_held held = book_floor (end_of held.config) held.book
 
 -- a closed book and a step: a commit or a close is refused as closed, and whatever the step is, the book stays as it is
 pub record LeavesClosedBook {M S P K : Type 0} (step : Step) (old new : HeldWorld M S P K) (result : Result Reply Fault) : Type 0 where

@@ -5,6 +5,7 @@ use Rattle.vt_key.specs.declared.letter.Mail.{Mail}
 use Rattle.vt_model.specs.declared.settings.Config.{Config}
 use Rattle.vt_model.specs.Handler.{Handlers}
 use Rattle.vt_model.specs.Simulation.{Simulation, simulation_of}
+use Rattle.vt_model.specs.Settings.{end_of}
 use Rattle.vt_steps.specs.World.{Board, Book, World}
 use Rattle.vt_steps.specs.StandsFor.{WorldMemory, StandsFor, StandsForReached}
 use Rattle.vt_kernel.specs.Held.{HeldWorker, part_memory, AllOwnMail}
@@ -57,6 +58,6 @@ pub record IsWorldInside {M S P K : Type 0} (handlers : Handlers S P K) (held : 
   pub own_workers : AreWorkers held.config 0 held.workers
   pub all_inboxes : length held.inboxes ≡ held.config.workers
   pub own_inboxes : AreInboxes held.config 0 held.inboxes
-  pub same_board_end : board_end ≡ held.config.end
-  pub same_book_end : book_end ≡ held.config.end
+  pub same_board_end : board_end ≡ (end_of held.config)
+  pub same_book_end : book_end ≡ (end_of held.config)
   pub is_reached : ∥ ((serial : ℕ) × IsReached handlers serial held) ∥₁

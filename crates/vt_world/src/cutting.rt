@@ -19,9 +19,13 @@ impl<'m, M: EventModel> World<'m, M> {
         if w >= self.config.workers {
             return Err(Fault::NotLawful);
         }
-        let announced = self.board.cut(w)?;
-        self.kernels[w as usize].turn(announced);
-        Ok(Reply::Done)
+        match self.board.cut(w) {
+            Ok(announced) => {
+                self.kernels[w as usize].turn(announced);
+                Ok(Reply::Done)
+            }
+            Err(fault) => Err(fault),
+        }
     }
 
     /// Worker `w` reports its counts and its least time to the board, and learns the announced time.
@@ -32,9 +36,13 @@ impl<'m, M: EventModel> World<'m, M> {
             return Err(Fault::NotLawful);
         }
         let (sent, got, least) = self.kernels[w as usize].report_values();
-        let report = self.board.report(w, sent, got, least)?;
-        self.kernels[w as usize].set_floor(self.board.announced());
-        Ok(reply_of(report))
+        match self.board.report(w, sent, got, least) {
+            Ok(report) => {
+                self.kernels[w as usize].set_floor(self.board.announced());
+                Ok(reply_of(report))
+            }
+            Err(fault) => Err(fault),
+        }
     }
 }
 

@@ -89,8 +89,8 @@ fn open<'m, M: EventModel>(
         config,
         kernels,
         inboxes,
-        board: Board::new(config.workers, config.end),
-        book: Book::new(alloc, config.workers, config.end),
+        board: Board::new(config.workers, config.end()),
+        book: Book::new(alloc, config.workers, config.end()),
     })
 }
 

@@ -5,6 +5,7 @@ ghost use Rattle.std.specs.List.{flat_map};
 ghost use Rattle.vt_key.specs.Times.{Time, TimeAtMost};
 ghost use Rattle.vt_key.specs.declared.fault.Fault.TheVariants.{Memory, NotLawful};
 ghost use Rattle.vt_model.specs.Simulation.{simulation_of};
+ghost use Rattle.vt_model.specs.Settings.{end_of};
 ghost use Rattle.vt_steps.specs.declared.step.Step.{Step};
 ghost use Rattle.vt_steps.specs.Letters.{least_time};
 ghost use Rattle.vt_steps.specs.World.{least};
@@ -19,21 +20,21 @@ use crate::inbox::Inbox;
 use crate::world::World;
 use std::alloc::Global;
 use vt_kernel::{Kernel, least_of_mail};
-use vt_key::{Event, Fault, Time};
+use vt_key::{Event, Fault, When};
 use vt_model::Model as EventModel;
 
 impl<'m, M: EventModel> World<'m, M> {
     /// The least time, in ticks, of all events and anti-messages that are unprocessed or travelling: in outboxes and
     /// inboxes, fetched, pending and waiting. The end of the run if there are none. It takes no memory.
-    pub fn least(&self) -> Time
+    pub fn least(&self) -> When
         ensures value { result ≡ least_held self.now }
-        ensures least { (world : _) → StandsForWorld (M.handlers self.now.model) self.now world → result ≡ least self.now.config.end world }
+        ensures least { (world : _) → StandsForWorld (M.handlers self.now.model) self.now world → result ≡ least (end_of self.now.config) world }
         ensures announced { TimeAtMost self.now.board.announced result }
     {
-        let end = self.config.end;
+        let end = self.config.end();
         let held = least_of_workers(&self.kernels, end);
         let travelling = least_of_inboxes(&self.inboxes, end);
-        held.min(travelling)
+        held.earlier(travelling)
     }
 
     /// The past events of process `lp`, which are executed and not committed, in the order of their execution. They are the
@@ -58,24 +59,24 @@ impl<'m, M: EventModel> World<'m, M> {
 }
 
 /// The least time of all letters that these workers have; the end of the run if there are none.
-fn least_of_workers<M: EventModel>(kernels: &[Kernel<M>], end: Time) -> Time
-    requires same_end { All (λ k. k.config.end ≡ end) kernels.now }
+fn least_of_workers<M: EventModel>(kernels: &[Kernel<M>], end: When) -> When
+    requires same_end { All (λ k. (end_of k.config) ≡ end) kernels.now }
     ensures { result ≡ least_time end (flat_map held_letters kernels.now) }
 {
     let mut least = end;
     for kernel in kernels {
-        least = least.min(kernel.least());
+        least = least.earlier(kernel.least());
     }
     least
 }
 
 /// The least time of the mail in these inboxes; the end of the run if there is none.
-fn least_of_inboxes<P: Copy>(inboxes: &[Inbox<P>], end: Time) -> Time
+fn least_of_inboxes<P: Copy>(inboxes: &[Inbox<P>], end: When) -> When
     ensures { result ≡ least_time end (map (λ mail. mail.letter) (flat_map (λ inbox. inbox) inboxes.now)) }
 {
     let mut least = end;
     for inbox in inboxes {
-        least = least.min(least_of_mail(&inbox.mail, end));
+        least = least.earlier(least_of_mail(&inbox.mail, end));
     }
     least
 }

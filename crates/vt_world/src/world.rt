@@ -5,6 +5,7 @@ ghost use Rattle.vt_key.specs.Times.{TimeAtMost};
 ghost use Rattle.vt_key.specs.declared.fault.Fault.TheVariants.{Memory};
 ghost use Rattle.vt_model.specs.Simulation.{simulation_of};
 ghost use Rattle.vt_model.specs.Sequential.{seq_records};
+ghost use Rattle.vt_model.specs.Settings.{end_of};
 ghost use Rattle.vt_world.specs.Calls.{least_held, floor_held};
 
 use crate::inbox::Inbox;
@@ -13,7 +14,7 @@ use std::marker::Model;
 use vt_board::Board;
 use vt_book::Book;
 use vt_kernel::Kernel;
-use vt_key::{Fault, Time};
+use vt_key::{Fault, When};
 use vt_model::{Config, Model as EventModel, Record};
 
 /// A Time Warp world in memory: the workers, the inboxes between them, the board and the book.
@@ -57,7 +58,7 @@ impl<'m, M: EventModel> Model for World<'m, M> {
 
 impl<'m, M: EventModel> World<'m, M> {
     /// The announced time, in ticks. No event or anti-message before it is unprocessed or travelling, now or later.
-    pub fn announced(&self) -> Time
+    pub fn announced(&self) -> When
         ensures value { result ≡ self.now.board.announced }
         ensures least { TimeAtMost result (least_held self.now) }
     {
@@ -66,10 +67,10 @@ impl<'m, M: EventModel> World<'m, M> {
 
     /// The floor of the book, in ticks: the book shows the records below it. It is at most the announced time. Once
     /// the book is closed, it is the end of the run.
-    pub fn floor(&self) -> Time
+    pub fn floor(&self) -> When
         ensures value { result ≡ floor_held self.now }
         ensures announced { TimeAtMost result self.now.board.announced }
-        ensures closed { IsTrue self.now.book.is_closed → result ≡ self.now.config.end }
+        ensures closed { IsTrue self.now.book.is_closed → result ≡ end_of self.now.config }
     {
         self.book.floor()
     }
@@ -80,7 +81,7 @@ impl<'m, M: EventModel> World<'m, M> {
     /// [`Fault::Memory`]: memory was refused.
     pub fn records(&self, alloc: Global) -> Result<Vec<Record>, Fault>
         ensures records { IfOk result (λ v. v.items ≡ seq_records (simulation_of (M.handlers self.now.model) self.now.config) (floor_held self.now)) }
-        ensures closed { IsTrue self.now.book.is_closed → IfOk result (λ v. v.items ≡ seq_records (simulation_of (M.handlers self.now.model) self.now.config) self.now.config.end) }
+        ensures closed { IsTrue self.now.book.is_closed → IfOk result (λ v. v.items ≡ seq_records (simulation_of (M.handlers self.now.model) self.now.config) (end_of self.now.config)) }
         ensures refused { IfErr result (λ fault. fault ≡ Memory) }
     {
         self.book.records(alloc)

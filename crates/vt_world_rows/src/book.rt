@@ -4,20 +4,17 @@ use std::alloc::{AllocError, AllocGlobal};
 use std::process::Abort;
 use std::test::*;
 use vt_book::{Batch, Book};
-use vt_key::{Fault, Key, Time};
+use vt_key::{Fault, Key, When};
 use vt_model::{Record, Row};
 
-// A row of the key (time, source, number), the first of its event.
-fn row(time: Time, source: u32, number: u64) -> Row {
+// A row of the key (time, source, number), the first of its event. The time is in ticks, as all below.
+fn row(time: u64, source: u32, number: u64) -> Row {
     Row {
-        key: Key {
-            time,
-            source,
-            number,
-        },
+        key: Key::new(When::tick(time), source, number),
         index: 0,
         rec: Record {
             time,
+            priority: 0,
             lp: 0,
             kind: 1,
             value: number,
@@ -51,10 +48,10 @@ fn hands(
     book: &mut Book,
     worker: u32,
     rows: &[Row],
-    floor: Time,
+    floor: u64,
     want: Result<(), Fault>,
 ) {
-    assert_eq!(rt; book.hand(worker, rows, floor), want);
+    assert_eq!(rt; book.hand(worker, rows, When::tick(floor)), want);
 }
 
 // This batch of a worker up to this floor must be answered so.
@@ -63,10 +60,10 @@ fn hands_batch(
     book: &mut Book,
     worker: u32,
     rows: Batch,
-    floor: Time,
+    floor: u64,
     want: Result<(), Fault>,
 ) {
-    assert_eq!(rt; book.hand_batch(worker, rows, floor), want);
+    assert_eq!(rt; book.hand_batch(worker, rows, When::tick(floor)), want);
 }
 
 fn closes(rt: &impl Abort, book: &mut Book, want: Result<(), Fault>) {
@@ -77,8 +74,8 @@ fn is_closed(rt: &impl Abort, book: &Book, want: bool) {
     assert_eq!(rt; book.is_closed(), want);
 }
 
-fn has_floor(rt: &impl Abort, book: &Book, want: Time) {
-    assert_eq!(rt; book.floor(), want);
+fn has_floor(rt: &impl Abort, book: &Book, want: u64) {
+    assert_eq!(rt; book.floor(), When::tick(want));
 }
 
 // The book must show exactly these rows.
@@ -101,21 +98,21 @@ fn batch(rt: &(impl Abort + AllocGlobal), rows: &[Row]) -> Batch {
 
 #[test]
 fn rows_below_the_least_floor_are_shown_in_order(rt: HostRuntime) {
-    let mut book = Book::new(rt.alloc(), 2, 10);
-    let [first, second, third] = [row(1, 0, 0), row(2, 0, 1), row(3, 0, 2)];
-    hands(&rt, &mut book, 1, &[second, third], 10, Ok(()));
+    let mut book = Book::new(rt.alloc(), 2, When::tick(10));
+    let by_time = [row(1, 0, 0), row(2, 0, 1), row(3, 0, 2)];
+    hands(&rt, &mut book, 1, &[by_time[1], by_time[2]], 10, Ok(()));
     has_floor(&rt, &book, 0);
     shows(&rt, &book, &[]);
-    hands(&rt, &mut book, 0, &[first], 3, Ok(()));
+    hands(&rt, &mut book, 0, &[by_time[0]], 3, Ok(()));
     has_floor(&rt, &book, 3);
-    shows(&rt, &book, &[first, second]);
+    shows(&rt, &book, &[by_time[0], by_time[1]]);
     closes(&rt, &mut book, Err(Fault::NotLawful));
     is_closed(&rt, &book, false);
 }
 
 #[test]
 fn hostile_hand_ins_are_refused(rt: HostRuntime) {
-    let mut book = Book::new(rt.alloc(), 2, 10);
+    let mut book = Book::new(rt.alloc(), 2, When::tick(10));
     hands(&rt, &mut book, 0, &[row(3, 0, 0)], 3, Err(Fault::NotLawful));
     hands(&rt, &mut book, 0, &[row(2, 0, 0)], 3, Ok(()));
     hands(&rt, &mut book, 0, &[row(2, 0, 0)], 4, Err(Fault::NotLawful));
@@ -129,36 +126,43 @@ fn hostile_hand_ins_are_refused(rt: HostRuntime) {
 
 #[test]
 fn rows_come_in_any_order_from_the_hand_in_floor_on(rt: HostRuntime) {
-    let mut book = Book::new(rt.alloc(), 1, 10);
-    let [early, middle, late] = [row(1, 0, 0), row(3, 0, 1), row(3, 0, 2)];
+    let mut book = Book::new(rt.alloc(), 1, When::tick(10));
+    let by_time = [row(1, 0, 0), row(3, 0, 1), row(3, 0, 2)];
     hands(&rt, &mut book, 0, &[], 1, Ok(()));
     // Unsorted, and one at the floor up to which the worker has handed in.
-    hands(&rt, &mut book, 0, &[late, early, middle], 4, Ok(()));
-    shows(&rt, &book, &[early, middle, late]);
+    hands(
+        &rt,
+        &mut book,
+        0,
+        &[by_time[2], by_time[0], by_time[1]],
+        4,
+        Ok(()),
+    );
+    shows(&rt, &book, &by_time);
     // The same rows once more are below that floor now; nothing at all, at the same floor, is lawful.
-    let again = &[late, early, middle];
+    let again = &[by_time[2], by_time[0], by_time[1]];
     hands(&rt, &mut book, 0, again, 4, Err(Fault::NotLawful));
     hands(&rt, &mut book, 0, again, 5, Err(Fault::NotLawful));
     hands(&rt, &mut book, 0, &[], 4, Ok(()));
     has_floor(&rt, &book, 4);
-    shows(&rt, &book, &[early, middle, late]);
+    shows(&rt, &book, &by_time);
 }
 
 #[test]
 fn batches_are_refused_as_rows_are(rt: HostRuntime) {
-    let mut book = Book::new(rt.alloc(), 2, 10);
-    let [early, middle, late] = [row(1, 0, 0), row(4, 0, 1), row(9, 0, 2)];
-    let all = batch(&rt, &[late, early, middle]);
+    let mut book = Book::new(rt.alloc(), 2, When::tick(10));
+    let by_time = [row(1, 0, 0), row(4, 0, 1), row(9, 0, 2)];
+    let all = batch(&rt, &[by_time[2], by_time[0], by_time[1]]);
     assert_eq!(rt; all.len(), 3);
     hands_batch(&rt, &mut book, 0, all, 9, Err(Fault::NotLawful));
-    let all = batch(&rt, &[middle, early, late]);
+    let all = batch(&rt, &[by_time[1], by_time[0], by_time[2]]);
     hands_batch(&rt, &mut book, 0, all, 10, Ok(()));
     hands_batch(&rt, &mut book, 1, batch(&rt, &[]), 5, Ok(()));
     hands_batch(
         &rt,
         &mut book,
         1,
-        batch(&rt, &[middle, late]),
+        batch(&rt, &[by_time[1], by_time[2]]),
         10,
         Err(Fault::NotLawful),
     );
@@ -170,36 +174,38 @@ fn batches_are_refused_as_rows_are(rt: HostRuntime) {
         10,
         Err(Fault::NotLawful),
     );
-    shows(&rt, &book, &[early, middle]);
+    shows(&rt, &book, &[by_time[0], by_time[1]]);
     hands(&rt, &mut book, 1, &[], 10, Ok(()));
     closes(&rt, &mut book, Ok(()));
     hands_batch(
         &rt,
         &mut book,
         1,
-        batch(&rt, &[late]),
+        batch(&rt, &[by_time[2]]),
         10,
         Err(Fault::Closed),
     );
-    shows(&rt, &book, &[early, middle, late]);
+    shows(&rt, &book, &by_time);
 }
 
 #[test]
 fn a_book_gives_out_the_records_that_it_shows(rt: HostRuntime) {
-    let mut book = Book::new(rt.alloc(), 2, 10);
-    let [early, middle, late] = [row(1, 0, 0), row(4, 0, 1), row(9, 0, 2)];
-    let rows = Vec::from_array(rt.alloc(), [late, early, middle]).expect(&rt, "memory");
+    let mut book = Book::new(rt.alloc(), 2, When::tick(10));
+    let by_time = [row(1, 0, 0), row(4, 0, 1), row(9, 0, 2)];
+    let rows = Vec::from_array(rt.alloc(), [by_time[2], by_time[0], by_time[1]]).expect(
+        &rt, "memory",
+    );
     hands_batch(&rt, &mut book, 0, Batch::of(rows), 10, Ok(()));
     hands(&rt, &mut book, 1, &[], 9, Ok(()));
-    gives_out(&rt, book, &[early, middle]);
+    gives_out(&rt, book, &[by_time[0], by_time[1]]);
 }
 
 #[test]
 fn a_closed_book_takes_nothing_more(rt: HostRuntime) {
-    let mut book = Book::new(rt.alloc(), 2, 10);
-    let [early, late] = [row(1, 1, 0), row(9, 0, 0)];
-    hands(&rt, &mut book, 0, &[late], 10, Ok(()));
-    hands(&rt, &mut book, 1, &[early], 9, Ok(()));
+    let mut book = Book::new(rt.alloc(), 2, When::tick(10));
+    let by_time = [row(1, 1, 0), row(9, 0, 0)];
+    hands(&rt, &mut book, 0, &[by_time[1]], 10, Ok(()));
+    hands(&rt, &mut book, 1, &[by_time[0]], 9, Ok(()));
     closes(&rt, &mut book, Err(Fault::NotLawful));
     hands(&rt, &mut book, 1, &[], 10, Ok(()));
     has_floor(&rt, &book, 10);
@@ -207,15 +213,15 @@ fn a_closed_book_takes_nothing_more(rt: HostRuntime) {
     is_closed(&rt, &book, true);
     closes(&rt, &mut book, Err(Fault::Closed));
     hands(&rt, &mut book, 0, &[], 10, Err(Fault::Closed));
-    hands(&rt, &mut book, 7, &[early], 11, Err(Fault::Closed));
+    hands(&rt, &mut book, 7, &[by_time[0]], 11, Err(Fault::Closed));
     has_floor(&rt, &book, 10);
-    shows(&rt, &book, &[early, late]);
+    shows(&rt, &book, &by_time);
 }
 
 // By time, then source, then number, then index: and a row that is handed in twice is there twice.
 #[test]
 fn rows_of_one_time_are_in_order_too(rt: HostRuntime) {
-    let mut book = Book::new(rt.alloc(), 3, 10);
+    let mut book = Book::new(rt.alloc(), 3, When::tick(10));
     let by_source = [row(2, 0, 1), row(2, 1, 0)];
     let by_number = [row(4, 0, 3), row(4, 0, 4)];
     let by_index = [
@@ -251,13 +257,13 @@ fn rows_of_one_time_are_in_order_too(rt: HostRuntime) {
 // it is tried again. (The other tests take memory to be there.)
 #[test]
 fn refused_hand_ins_change_nothing(rt: HostRuntime) {
-    let mut book = Book::new(rt.alloc(), 2, 1000);
+    let mut book = Book::new(rt.alloc(), 2, When::tick(1000));
     for n in 0..40 {
         let worker = n % 2;
         let floor = u64::from(n / 2) * 10 + 10;
         let rows = [row(floor - 1, worker, 0), row(floor - 10, worker, 1)];
         let before = (book.floor(), records(&rt, &book));
-        if book.hand(worker, &rows, floor) == Err(Fault::Memory) {
+        if book.hand(worker, &rows, When::tick(floor)) == Err(Fault::Memory) {
             assert!(rt; before == (book.floor(), records(&rt, &book)));
             hands(&rt, &mut book, worker, &rows, floor, Ok(()));
         }
@@ -284,8 +290,8 @@ impl Draws {
 fn random_rows(
     rt: &impl AllocGlobal,
     draws: &mut Draws,
-    from: Time,
-    to: Time,
+    from: u64,
+    to: u64,
 ) -> Result<Vec<Row>, AllocError> {
     let mut rows = Vec::new(rt.alloc());
     let ticks = to.wrapping_sub(from);
@@ -303,7 +309,7 @@ fn random_rows(
 #[test]
 fn what_is_shown_is_what_sorting_all_would_show(rt: HostRuntime) -> Result<(), Fail> {
     let mut draws = Draws(1);
-    let mut book = Book::new(rt.alloc(), 64, 100_000);
+    let mut book = Book::new(rt.alloc(), 64, When::tick(100_000));
     let mut floors = [0u64; 64];
     let mut all = Vec::new(rt.alloc());
     for _ in 0..400 {
@@ -318,7 +324,10 @@ fn what_is_shown_is_what_sorting_all_would_show(rt: HostRuntime) -> Result<(), F
         all.extend_from_slice(&rows)?;
         all.sort()?;
         let least = floors.iter().copied().min().unwrap_or(0);
-        let below = all.iter().filter(|row| row.key.time < least).count();
+        let below = all
+            .iter()
+            .filter(|row| row.key.when().ticks() < least)
+            .count();
         has_floor(&rt, &book, least);
         shows(&rt, &book, all.get(..below).unwrap_or(&[]));
     }
@@ -331,7 +340,7 @@ fn is_sent<T: Send>(value: T) -> T {
 
 #[test]
 fn a_book_may_go_to_another_thread(rt: HostRuntime) {
-    let book = is_sent(Book::new(rt.alloc(), 1, 1));
+    let book = is_sent(Book::new(rt.alloc(), 1, When::tick(1)));
     assert_eq!(rt; is_sent(batch(&rt, &[])).len(), 0);
     has_floor(&rt, &book, 0);
 }

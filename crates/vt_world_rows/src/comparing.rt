@@ -5,7 +5,7 @@ use crate::rounds::round;
 use std::alloc::AllocGlobal;
 use std::process::Abort;
 use std::rt;
-use vt_key::{Fault, Time};
+use vt_key::{Fault, When};
 use vt_model::{Config, Model as EventModel, Record};
 use vt_seq::Sequential;
 use vt_steps::{Reply, Step};
@@ -92,7 +92,7 @@ fn wander<M: EventModel>(
     seen: &mut Seen,
 ) {
     let mut dice = Dice { state: seed };
-    let mut announced = 0;
+    let mut announced = When::tick(0);
     for n in 0..STEPS {
         take(rt, world, dice.step(config), seen);
         if n % LOOK == 0 {
@@ -115,7 +115,7 @@ fn take<M: EventModel>(
 }
 
 // The announced time, which must be at least this.
-fn rises<M: EventModel>(rt: &impl Abort, world: &World<M>, announced: Time) -> Time {
+fn rises<M: EventModel>(rt: &impl Abort, world: &World<M>, announced: When) -> When {
     let now = world.announced();
     assert!(rt; announced <= now);
     now
@@ -136,7 +136,7 @@ fn look<M: EventModel>(rt: &(impl Abort + AllocGlobal), world: &World<M>, whole:
     assert!(rt; floor <= world.announced());
     assert!(rt; world.announced() <= world.least());
     let records = world.records(rt.alloc()).expect(rt, "memory");
-    let below = whole.iter().filter(|record| record.time < floor).count();
+    let below = whole.iter().filter(|record| record.when() < floor).count();
     assert!(rt; whole.get(..below) == Some(records.as_slice()));
 }
 

@@ -4,7 +4,7 @@
 use std::alloc::AllocGlobal;
 use std::process::Abort;
 use std::rt::{self, HostRuntime};
-use vt_key::{Fault, Key, MAX_COUNT, Rank, Stamp, Time};
+use vt_key::{Fault, Key, MAX_COUNT, Rank, Stamp, When};
 use vt_model::{Config, Model as EventModel, Record};
 use vt_models::Hop;
 use vt_steps::Step;
@@ -75,11 +75,7 @@ const OLD: Stamp = Stamp {
 
 fn rank(time: u64, source: u32, number: u64, worker: u32, serial: u64) -> Rank {
     Rank {
-        key: Key {
-            time,
-            source,
-            number,
-        },
+        key: Key::new(When::tick(time), source, number),
         stamp: Stamp { worker, serial },
     }
 }
@@ -87,6 +83,7 @@ fn rank(time: u64, source: u32, number: u64, worker: u32, serial: u64) -> Rank {
 fn record(time: u64, lp: u32, value: u64) -> Record {
     Record {
         time,
+        priority: 0,
         lp,
         kind: 1,
         value,
@@ -117,7 +114,10 @@ fn is_past<M: EventModel>(
 fn stands<M: EventModel>(rt: &(impl Abort + AllocGlobal), world: &World<M>) -> bool {
     let left = is_past(rt, world, 0, rank(1, 0, 0, 0, 0), rank(3, 1, 1, 1, 2));
     let right = is_past(rt, world, 1, rank(2, 0, 1, 0, 1), rank(2, 1, 0, 1, 0));
-    left && right && world.least() == 10 && world.announced() == 0 && world.floor() == 0
+    left && right
+        && world.least() == When::tick(10)
+        && world.announced() == When::tick(0)
+        && world.floor() == When::tick(0)
 }
 
 // These steps must be taken, and so many of them refused.
@@ -131,8 +131,8 @@ fn takes(
 }
 
 // The least time of all that is unprocessed or travels must be this.
-fn has_least(rt: &impl Abort, world: &World<'_, Hop>, want: Time) {
-    assert!(rt; world.least() == want);
+fn has_least(rt: &impl Abort, world: &World<'_, Hop>, want: u64) {
+    assert!(rt; world.least() == When::tick(want));
 }
 
 // Takes the rollback and then these steps, of which so many are refused, to the same end in whatever order.
@@ -193,9 +193,9 @@ fn tells_no_finals(rt: &(impl Abort + AllocGlobal), world: &World<'_, Hop>) {
     assert!(rt; matches!(world.finals(rt.alloc()), Err(Fault::NotLawful)));
 }
 
-fn is_closed_at(rt: &impl Abort, world: &World<'_, Hop>, floor: Time) {
+fn is_closed_at(rt: &impl Abort, world: &World<'_, Hop>, floor: u64) {
     assert!(rt; world.is_closed());
-    assert!(rt; world.floor() == floor);
+    assert!(rt; world.floor() == When::tick(floor));
 }
 
 // The records and final values of the whole run.

@@ -5,6 +5,6 @@ use Rattle.vt_book.proofs.floors.least.Given as goal
 
 abbrev pub invariant-loop-time : goal.invariant-loop-time
 invariant-loop-time l = record {
-  least : earlier l.least (least_floor l.end (drop l.time-index l.times)) ≡ least_floor l.end l.times;
-  ended : l.least ≤ l.end;
+  least : earlier l.least (least_floor l.fn.end (drop l.time-index l.times)) ≡ least_floor l.fn.end l.times;
+  ended : l.least ≤ l.fn.end;
 }

@@ -1,4 +1,4 @@
-use Rattle.std.proofs.Common.{rules, ◌≡◌, ◌∙◌, ◌<◌, length, slice_set, List, slice_get, ap, sym, subst}
+use Rattle.std.proofs.Common.{rules, ◌≡◌, ◌∙◌, length, slice_set, List, slice_get, ap, sym, subst}
 use Rattle.std.proofs.lemmas.List.{length-set, get_or-set_same}
 use Rattle.vt_tournament.specs.Contest.{IsTournamentOf}
 use Rattle.vt_steps.proofs.Places.{get-put_same}

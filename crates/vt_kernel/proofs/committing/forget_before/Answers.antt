@@ -1,5 +1,5 @@
 use Rattle.std.proofs.Common.{length, arith}
-use Rattle.vt_kernel.proofs.CommitLemmas.{HaveForgotten, forgotten-skip, forgotten-more}
+use Rattle.vt_kernel.proofs.CommitLemmas.{forgotten-skip, forgotten-more}
 use Rattle.vt_kernel.proofs.ProcessLemmas.{marked-within, unmarked-past}
 use Rattle.vt_kernel.proofs.committing.forget_before.Goals as goal
 

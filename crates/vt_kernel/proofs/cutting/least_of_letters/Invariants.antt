@@ -7,5 +7,5 @@ abbrev pub invariant-loop-letter : goal.invariant-loop-letter
 invariant-loop-letter g l =
     (goal.iterator-loop-letter g).can_next l.letter-iterator ×
     (goal.iterator-loop-letter g).is_finite l.letter-iterator ×
-    TimeAtMost l.least l.end ×
-    (earlier l.least (least_time l.end l.letter-iterator) ≡ least_time l.end l.fn.letters)
+    TimeAtMost l.least l.fn.end ×
+    (earlier l.least (least_time l.fn.end l.letter-iterator) ≡ least_time l.fn.end l.fn.letters)

@@ -21,9 +21,10 @@ loop-mail-preserved g c =
     let item = c.mail-item.result in
     let letters : List (Mail _) → List (Letter _) = map (λ (m : Mail _). m.letter) in
     let more = drop_more all i item c.loop-mail-test.true ∙ ap (λ (m : Mail _). m ∷ drop (i + 1) all) (sym c.mail-item.is) in
+    let lower = c.earlier-least.ensures ∙ ap (earlier c.loop-mail.least) c.when.ensures in
     record {
-      low = rw c.earlier-least.ensures (earlier_low c.loop-mail.least (letter_time item.letter) end c.loop-mail.invariant.low);
-      least = ap (λ (t : Time). earlier t (least_time end (letters (drop (i + 1) all)))) c.earlier-least.ensures
+      low = rw lower (earlier_low c.loop-mail.least (letter_time item.letter) end c.loop-mail.invariant.low);
+      least = ap (λ (t : Time). earlier t (least_time end (letters (drop (i + 1) all)))) lower
           ∙ earlier_assoc c.loop-mail.least (letter_time item.letter) (least_time end (letters (drop (i + 1) all)))
           ∙ ap (λ (ms : List (Mail _)). earlier c.loop-mail.least (least_time end (letters ms))) (sym more)
           ∙ c.loop-mail.invariant.least;

@@ -65,7 +65,7 @@ returns-clause-opening g c =
       colour = refl;
       sent = sym c.new-3.ensures;
       got = sym c.new-4.ensures;
-      red_minimum = refl;
-      floor = refl;
+      red_minimum = sym c.end.ensures;
+      floor = sym c.tick.ensures;
       serial = sym made.serial;
     }

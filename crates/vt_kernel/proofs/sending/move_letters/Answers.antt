@@ -1,10 +1,11 @@
-use Rattle.std.proofs.Common.{rules, ◌≡◌, ◌<◌, ◌∙◌, ◌++◌, ℕ, ◌%◌, ◌+◌, Bool, true, not, length, map, vec_len, [], ◌∷◌, List, sym, ap, arith, eq-eqb}
+use Rattle.std.proofs.Common.{rules, ◌≡◌, ◌<◌, ◌∙◌, ◌++◌, ℕ, ◌%◌, ◌+◌, Bool, true, not, length, map, vec_len, [], ◌∷◌, List, sym, ap, subst, arith, eq-eqb}
 use Rattle.std.proofs.lemmas.List.{append_assoc}
 use Rattle.std.specs.List.{filter}
 use Rattle.std.specs.Vec.{vec_capacity}
-use Rattle.vt_key.specs.Times.{earlier}
+use Rattle.vt_key.specs.Times.{Time, TimeAtMost, earlier}
 use Rattle.vt_key.specs.declared.letter.Letter.{Letter}
 use Rattle.vt_key.specs.declared.letter.Mail.{Mail}
+use Rattle.vt_model.specs.Settings.{end_of}
 use Rattle.vt_steps.specs.Letters.{letter_time, least_time}
 use Rattle.vt_kernel.specs.Guards.{is_for_worker, mailed}
 use Rattle.vt_kernel.proofs.PartingLemmas.{passes, passes-others}
@@ -20,14 +21,16 @@ loop-parcel-init g c =
       outbox = (λ j. (c.replace-letters.ensures.after ∙ c.new.ensures) j ++ filter (λ (letter : Letter _). not (test letter)) (letters j));
       mail = ap (λ (ls : List (Letter _)). c.args.mail.now.items ++ map (mailed c.args.colour) (filter test ls)) letters;
       room = rw letters c.requires.room;
-      least = ap (λ (ls : List (Letter _)). earlier c.args.config.end (least_time c.args.config.end (filter test ls))) letters ∙ earlier-end c.args.config.end (filter test all);
-      low = same_low c.args.config.end;
+      least = ap (λ (ls : List (Letter _)). earlier c.end-least.result (least_time (end_of c.args.config) (filter test ls))) letters
+          ∙ ap (λ (t : Time). earlier t (least_time (end_of c.args.config) (filter test all))) c.end-least.ensures
+          ∙ earlier-end (end_of c.args.config) (filter test all);
+      low = subst (λ (t : Time). TimeAtMost t (end_of c.args.config)) (sym c.end-least.ensures) (same_low (end_of c.args.config));
     }
 
 pub loop-parcel-preserved-then-owner-v : goal.loop-parcel-preserved-then-owner-v
 loop-parcel-preserved-then-owner-v g c =
     let inv = c.loop-parcel.invariant in
-    let end = c.args.config.end in
+    let end = end_of c.args.config in
     let p = c.in-Some.parcel in
     let x = c.get-letter.result.now in
     let rest = c.pop_front.new.self in
@@ -44,6 +47,7 @@ loop-parcel-preserved-then-owner-v g c =
     let same : x ≡ p = c.get-letter.ensures in
     let pushed : c.push.new.self.items ≡ c.loop-parcel.mail.items ++ m ∷ [] = search (rules, c.push.ensures.succeeds space) in
     let longer : vec_len c.push.new.self ≡ vec_len c.loop-parcel.mail + 1 = search (rules, c.push.ensures.succeeds space) in
+    let lower = c.earlier-least.ensures ∙ ap (earlier c.loop-parcel.least) c.when.ensures in
     record {
       outbox = ap (λ (ls : List (Letter _)). c.loop-parcel.outbox ++ ls) (sym left) ∙ inv.outbox;
       mail = ap (λ (xs : List (Mail _)). xs ++ map f (filter test rest)) pushed
@@ -52,11 +56,11 @@ loop-parcel-preserved-then-owner-v g c =
           ∙ ap (λ (ls : List (Letter _)). c.loop-parcel.mail.items ++ map f ls) (sym taken)
           ∙ inv.mail;
       room = omega (arith, longer, count, inv.room, c.push.ensures.capacity);
-      least = ap (λ (t : ℕ). earlier t (least_time end (filter test rest))) (c.earlier-least.ensures ∙ ap (λ (l : Letter _). earlier c.loop-parcel.least (letter_time l)) same)
+      least = ap (λ (t : ℕ). earlier t (least_time end (filter test rest))) (lower ∙ ap (λ (l : Letter _). earlier c.loop-parcel.least (letter_time l)) same)
           ∙ earlier_assoc c.loop-parcel.least (letter_time p) (least_time end (filter test rest))
           ∙ ap (λ (ls : List (Letter _)). earlier c.loop-parcel.least (least_time end ls)) (sym taken)
           ∙ inv.least;
-      low = rw c.earlier-least.ensures (earlier_low c.loop-parcel.least (letter_time x) end inv.low);
+      low = rw lower (earlier_low c.loop-parcel.least (letter_time x) end inv.low);
     }
 
 pub returns-clause-least : goal.returns-clause-least
@@ -64,5 +68,5 @@ returns-clause-least g c =
     let inv = c.loop-parcel.invariant in
     let test : Letter _ → Bool = is_for_worker c.args.config c.args.v in
     let none : c.loop-parcel.letters ≡ [] = c.in_default.ensures.0 in
-    sym (earlier_first c.loop-parcel.least c.args.config.end inv.low)
-    ∙ ap (λ (ls : List (Letter _)). earlier c.loop-parcel.least (least_time c.args.config.end (filter test ls))) (sym none) ∙ inv.least
+    sym (earlier_first c.loop-parcel.least (end_of c.args.config) inv.low)
+    ∙ ap (λ (ls : List (Letter _)). earlier c.loop-parcel.least (least_time (end_of c.args.config) (filter test ls))) (sym none) ∙ inv.least

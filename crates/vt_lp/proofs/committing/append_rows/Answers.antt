@@ -15,7 +15,7 @@ pub loop-record-preserved : goal.loop-record-preserved
 loop-record-preserved c =
     let i = c.loop-record.record-index in
     let records = c.args.records.now.items in
-    let d : Record = record { time = 0; lp = 0; kind = 0; value = 0 } in
+    let d : Record = record { time = 0; priority = 0; lp = 0; kind = 0; value = 0 } in
     let fine : is_ok c.push.result ≡ true = search rules in
     let row : List Record → Row = λ rs. record { key = c.args.key; index = c.loop-record.index; rec = get_or rs i d } in
     let pushed : c.push.new.self.items ≡ c.loop-record.rows.items ++ row records ∷ [] =

@@ -1,15 +1,18 @@
-use Rattle.std.proofs.Common.{◌<◌, ◌^◌, ◌∙◌, List, map, ap, sym, subst, refl, arith}
+use Rattle.std.proofs.Common.{◌<◌, ◌^◌, ◌∙◌, List, [], map, ap, sym, subst, refl, arith}
 use Rattle.std.specs.List.{All}
 use prog.Memory.{align, size}
 use denote.Memory.{lone}
+use Rattle.vt_key.specs.Times.{TimeBefore}
 use Rattle.vt_key.specs.declared.letter.Letter.{Letter}
 use Rattle.vt_key.specs.declared.letter.Sign.TheVariants.{Plus, Minus}
 use Rattle.vt_stream.specs.Words.{Stream}
 use Rattle.vt_model.specs.declared.sending.Sent.{Sent}
 use Rattle.vt_model.specs.declared.rows.Record.{Record}
+use Rattle.vt_model.specs.Handler.{IsFresh}
 use Rattle.vt_model.specs.Process.{triple_at}
 use Rattle.vt_model.specs.Simulation.{simulation_of, rows_of}
 use Rattle.vt_model.proofs.LawLemmas.{lawful_of}
+use Rattle.vt_model.specs.Settings.{end_of}
 use Rattle.vt_steps.specs.Letters.{unstamped, stamped, signed}
 use Rattle.vt_lp.specs.Held.{AllWithinRun, IsReady}
 use Rattle.vt_lp.proofs.Sizes.{payload_place, kept_place}
@@ -55,7 +58,8 @@ new-out-requires g c =
     let at = payload_place (align (lone g.row.M-Payload.mir)) bounds.0 bounds.1 in
     let al = at.whole in let place = at.place in
     let size_small : size (lone g.row.M-Payload.mir) < 2 ^ 32 = g.met.M.Model.payload_size in
-    (simp al (omega (arith, place, size_small)), (c.requires.known, (c.requires.early, c.requires.numbered)))
+    let early = subst (λ t. TimeBefore t (end_of c.args.config)) (sym c.when.ensures) c.requires.early in
+    (simp al (omega (arith, place, size_small)), (c.requires.known, (early, c.requires.numbered)))
 
 pub execute_into-drawn-requires-after_bounds : goal.execute_into-drawn-requires-after_bounds
 execute_into-drawn-requires-after_bounds g c κs within =
@@ -67,7 +71,10 @@ execute_into-drawn-requires-after_bounds g c κs within =
     let kept = kept_place (align (lone g.row.M-Kept.mir)) kept_bounds.0 kept_bounds.1 in
     let kept_al = kept.whole in let kept_at = kept.place in
     let kept_small : size (lone g.row.M-Kept.mir) < 2 ^ 32 = g.met.M.Model.kept_size in
-    (simp (al, kept_al) (omega (arith, place, size_small, kept_at, kept_small)), (c.requires.known, (c.requires.stream, (c.new-out.ensures.fresh, c.new-out.ensures.whole))))
+    let config = c.args.config in let event = c.args.event in let number = c.args.process.now.number in
+    let fresh = subst (IsFresh c.new-out.result event.dest) c.when.ensures c.new-out.ensures.fresh in
+    let whole = c.new-out.ensures.whole ∙ (λ j. record { lps = config.lps; end = end_of config; lp = event.dest; time = c.when.ensures j; first = number; number = number; sends = []; records = [] }) in
+    (simp (al, kept_al) (omega (arith, place, size_small, kept_at, kept_small)), (c.requires.known, (c.requires.stream, (fresh, whole))))
 
 pub returns-clause-remembered : goal.returns-clause-remembered
 returns-clause-remembered g c ok =
@@ -96,9 +103,9 @@ returns-clause-ready g c =
     let fired = sim.fire event.dest t (unstamped event) in
     let sends = c.sends-2.ensures ∙ c.execute_into-drawn.ensures.fires.sends in
     let lawful = lawful_of (g.M.Model.handlers c.args.model.now) config (g.met.M.Model.start_within c.args.model.now) (g.met.M.Model.forward_within c.args.model.now) in
-    subst (λ (xs : List (Letter _)). All (IsReady config.lps config.end) xs)
+    subst (λ (xs : List (Letter _)). All (IsReady config.lps (end_of config)) xs)
     (sym (c.in-Ok.ensures.anti_messages ∙ ap (λ (xs : List (Sent _)). map (signed Minus) (stamped c.owner-worker.result c.args.serial xs)) sends))
-    (letters-all (IsReady config.lps config.end) Minus c.owner-worker.result c.args.serial fired.sends
+    (letters-all (IsReady config.lps (end_of config)) Minus c.owner-worker.result c.args.serial fired.sends
     (λ e m. record {
       within = record { known = lawful.known event.dest t (unstamped event) (unstamped e) c.requires.known m; soon = lawful.ends event.dest t (unstamped event) (unstamped e) c.requires.known m };
       minus = refl;
@@ -116,5 +123,5 @@ returns-clause-within g c =
     let lawful = lawful_of (g.M.Model.handlers c.args.model.now) config (g.met.M.Model.start_within c.args.model.now) (g.met.M.Model.forward_within c.args.model.now) in
     subst (λ (xs : List (Letter _)). AllWithinRun config xs)
     (sym (c.in-Ok.ensures.messages ∙ ap (λ (xs : List (Sent _)). map (signed Plus) (stamped c.owner-worker.result c.args.serial xs)) sends))
-    (letters-within config.lps config.end Plus c.owner-worker.result c.args.serial fired.sends
+    (letters-within config.lps (end_of config) Plus c.owner-worker.result c.args.serial fired.sends
     (λ d m. lawful.known event.dest t (unstamped event) d c.requires.known m) (λ d m. lawful.ends event.dest t (unstamped event) d c.requires.known m))

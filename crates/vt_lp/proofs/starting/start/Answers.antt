@@ -1,4 +1,4 @@
-use Rattle.std.proofs.Common.{◌≡◌, ◌<◌, ◌^◌, ◌≤◌, ◌∙◌, List, map, length, ap, sym, subst, arith}
+use Rattle.std.proofs.Common.{◌≡◌, ◌<◌, ◌^◌, ◌≤◌, ◌∙◌, ℕ, List, [], map, length, ap, sym, subst, arith}
 use prog.Memory.{align, size}
 use denote.Memory.{lone}
 use Rattle.vt_key.specs.declared.letter.Letter.{Letter}
@@ -6,6 +6,7 @@ use Rattle.vt_key.specs.declared.letter.Sign.TheVariants.{Plus}
 use Rattle.vt_model.specs.declared.sending.Sent.{Sent}
 use Rattle.vt_model.specs.Simulation.{simulation_of}
 use Rattle.vt_model.proofs.LawLemmas.{lawful_of}
+use Rattle.vt_model.specs.Settings.{end_of}
 use Rattle.vt_steps.specs.Letters.{stamped, signed}
 use Rattle.vt_lp.specs.Held.{AllWithinRun}
 use Rattle.vt_lp.proofs.Sizes.{payload_place}
@@ -18,7 +19,7 @@ new-out-requires g c =
     let at = payload_place (align (lone g.row.M-Payload.mir)) bounds.0 bounds.1 in
     let al = at.whole in let place = at.place in
     let size_small : size (lone g.row.M-Payload.mir) < 2 ^ 32 = g.met.M.Model.payload_size in
-    (simp al (omega (arith, place, size_small)), (c.requires.known, (c.args.config.some_time, (let z : 0 ≤ 2 ^ 63 = omega arith in z))))
+    (simp al (omega (arith, place, size_small)), (c.requires.known, ((let early : c.tick.result < (end_of c.args.config) = omega (arith, c.args.config.some_time, c.tick.ensures) in early), (let z : 0 ≤ 2 ^ 63 = omega arith in z))))
 
 pub sends-requires : goal.sends-requires
 sends-requires g c =
@@ -42,7 +43,7 @@ start-process-requires-after_bounds g c κs within =
     let at = payload_place (align (lone g.row.M-Payload.mir)) bounds.0 bounds.1 in
     let al = at.whole in let place = at.place in
     let size_small : size (lone g.row.M-Payload.mir) < 2 ^ 32 = g.met.M.Model.payload_size in
-    (simp al (omega (arith, place, size_small)), (c.requires.known, c.new-out.ensures.whole))
+    (simp al (omega (arith, place, size_small)), (c.requires.known, c.new-out.ensures.whole ∙ ap (λ (t : ℕ). record { lps = c.args.config.lps; end = (end_of c.args.config); lp = c.args.lp; time = t; first = 0; number = 0; sends = []; records = [] }) c.tick.ensures))
 
 pub returns-in-Ok-clause-all : goal.returns-in-Ok-clause-all
 returns-in-Ok-clause-all g c =
@@ -56,5 +57,5 @@ returns-in-Ok-clause-within g c =
     let made : c.in-Ok.messages ≡ map (signed Plus) (stamped c.owner-worker.result c.args.serial (sim.start c.args.lp).sends) =
     c.in-Ok.ensures.letters ∙ ap (λ (xs : List (Sent _)). map (signed Plus) (stamped c.owner-worker.result c.args.serial xs)) (c.sends-2.ensures ∙ c.start-process.ensures.sends) in
     subst (λ (xs : List (Letter _)). AllWithinRun config xs) (sym made)
-    (letters-within config.lps config.end Plus c.owner-worker.result c.args.serial (sim.start c.args.lp).sends
+    (letters-within config.lps (end_of config) Plus c.owner-worker.result c.args.serial (sim.start c.args.lp).sends
     (λ d m. lawful.known_start c.args.lp d c.requires.known m) (λ d m. lawful.ends_start c.args.lp d c.requires.known m))

@@ -1,7 +1,8 @@
-use Rattle.std.proofs.Common.{◌≡◌, ℕ, List, sym, subst, ◌+◌, ◌<◌, ◌^◌, ◌≤◌, ◌∙◌, [], ap, arith, max, rules}
+use Rattle.std.proofs.Common.{◌≡◌, ℕ, List, sym, subst, ◌<◌, ◌+◌, ◌^◌, ◌≤◌, ◌∙◌, [], ap, arith, max, rules}
 use prog.Memory.{up, align, size}
 use denote.Memory.{lone}
 use Rattle.vt_stream.specs.Words.{word_of, moved}
+use Rattle.vt_model.specs.Handler.{IsFresh}
 use Rattle.vt_model.specs.Sends.{Outgoing, with_requests}
 use Rattle.vt_model.specs.Simulation.{words_at}
 use Rattle.vt_stream.proofs.WordLemmas.{word_below}
@@ -10,6 +11,7 @@ use Rattle.vt_model.specs.Histories.{Among}
 use Rattle.vt_model.specs.Simulation.{simulation_of}
 use Rattle.vt_model.proofs.FireLemmas.{starts}
 use Rattle.vt_model.proofs.LawLemmas.{lawful_of}
+use Rattle.vt_model.specs.Settings.{end_of}
 use Rattle.vt_seq.specs.Queue.{all_inserted}
 use Rattle.vt_seq.specs.Letters.{event_of, AreNew}
 use Rattle.vt_seq.proofs.InsertedLemmas.{are_new}
@@ -23,9 +25,9 @@ new-out-requires g c =
     let low : 1 ≤ align (lone g.row.M-Payload.mir) = bounds.0 in
     let high : align (lone g.row.M-Payload.mir) ≤ 8 = bounds.1 in
     let size_small : size (lone g.row.M-Payload.mir) < 2 ^ 32 = g.met.M.Model.payload_size in
-    let at : up (align (lone g.row.M-Payload.mir)) 28 ≤ 28 + 16 = up_le (align (lone g.row.M-Payload.mir)) 28 28 low (omega (arith, high)) (omega arith) in
+    let at : up (align (lone g.row.M-Payload.mir)) 36 ≤ 36 + 16 = up_le (align (lone g.row.M-Payload.mir)) 36 36 low (omega (arith, high)) (omega arith) in
     let al : max 8 (max 4 (max (align (lone g.row.M-Payload.mir)) 1)) ≡ 8 = omega (arith, high) in
-    (simp al (omega (arith, at, size_small)), (c.requires.known, (c.args.config.some_time, (let z : 0 ≤ 2 ^ 63 = omega arith in z))))
+    (simp al (omega (arith, at, size_small)), (c.requires.known, ((let early : c.tick.result < end_of c.args.config = omega (arith, c.args.config.some_time, c.tick.ensures) in early), (let z : 0 ≤ 2 ^ 63 = omega arith in z))))
 
 pub start-state-requires : goal.start-state-requires
 start-state-requires g c =
@@ -33,9 +35,9 @@ start-state-requires g c =
     let low : 1 ≤ align (lone g.row.M-Payload.mir) = bounds.0 in
     let high : align (lone g.row.M-Payload.mir) ≤ 8 = bounds.1 in
     let size_small : size (lone g.row.M-Payload.mir) < 2 ^ 32 = g.met.M.Model.payload_size in
-    let at : up (align (lone g.row.M-Payload.mir)) 28 ≤ 28 + 16 = up_le (align (lone g.row.M-Payload.mir)) 28 28 low (omega (arith, high)) (omega arith) in
+    let at : up (align (lone g.row.M-Payload.mir)) 36 ≤ 36 + 16 = up_le (align (lone g.row.M-Payload.mir)) 36 36 low (omega (arith, high)) (omega arith) in
     let al : max 8 (max 4 (max (align (lone g.row.M-Payload.mir)) 1)) ≡ 8 = omega (arith, high) in
-    (simp al (omega (arith, at, size_small)), (c.new-draws.ensures.undrawn, c.new-out.ensures.fresh))
+    (simp al (omega (arith, at, size_small)), (c.new-draws.ensures.undrawn, subst (IsFresh c.new-out.result c.args.p) c.tick.ensures c.new-out.ensures.fresh))
 
 pub number-number-requires : goal.number-number-requires
 number-number-requires g c =
@@ -43,7 +45,7 @@ number-number-requires g c =
     let low : 1 ≤ align (lone g.row.M-Payload.mir) = bounds.0 in
     let high : align (lone g.row.M-Payload.mir) ≤ 8 = bounds.1 in
     let size_small : size (lone g.row.M-Payload.mir) < 2 ^ 32 = g.met.M.Model.payload_size in
-    let at : up (align (lone g.row.M-Payload.mir)) 28 ≤ 28 + 16 = up_le (align (lone g.row.M-Payload.mir)) 28 28 low (omega (arith, high)) (omega arith) in
+    let at : up (align (lone g.row.M-Payload.mir)) 36 ≤ 36 + 16 = up_le (align (lone g.row.M-Payload.mir)) 36 36 low (omega (arith, high)) (omega arith) in
     let al : max 8 (max 4 (max (align (lone g.row.M-Payload.mir)) 1)) ≡ 8 = omega (arith, high) in
     simp al (omega (arith, at, size_small))
 
@@ -53,7 +55,7 @@ sends-requires g c =
     let low : 1 ≤ align (lone g.row.M-Payload.mir) = bounds.0 in
     let high : align (lone g.row.M-Payload.mir) ≤ 8 = bounds.1 in
     let size_small : size (lone g.row.M-Payload.mir) < 2 ^ 32 = g.met.M.Model.payload_size in
-    let at : up (align (lone g.row.M-Payload.mir)) 28 ≤ 28 + 16 = up_le (align (lone g.row.M-Payload.mir)) 28 28 low (omega (arith, high)) (omega arith) in
+    let at : up (align (lone g.row.M-Payload.mir)) 36 ≤ 36 + 16 = up_le (align (lone g.row.M-Payload.mir)) 36 36 low (omega (arith, high)) (omega arith) in
     let al : max 8 (max 4 (max (align (lone g.row.M-Payload.mir)) 1)) ≡ 8 = omega (arith, high) in
     simp al (omega (arith, at, size_small))
 
@@ -71,8 +73,8 @@ insert_all-requires-clause-known g c l m =
     let w = g.met.M.Model.start_within c.args.model.now c.args.config.lps c.args.p (words_at c.args.config.seed c.args.p 0)
     c.requires.known (λ i. word_below _ _ _) in
     let at = c.new-draws.ensures.stream ∙ c.new-stream.ensures in
-    let out = c.new-out.ensures.whole in
-    let r = starts c.args.config.seed c.args.config.end c.args.config.lps c.args.p (gives c.args.config.lps c.args.p) c.new-draws.result.stream.now c.start-state.new.draws.stream.now c.new-out.result c.start-state.new.out c.start-state.result
+    let out : c.new-out.result ≡ record { lps = c.args.config.lps; end = (end_of c.args.config); lp = c.args.p; time = 0; first = 0; number = 0; sends = []; records = [] } = c.new-out.ensures.whole ∙ (λ j. record { lps = c.args.config.lps; end = (end_of c.args.config); lp = c.args.p; time = c.tick.ensures j; first = 0; number = 0; sends = []; records = [] }) in
+    let r = starts c.args.config.seed (end_of c.args.config) c.args.config.lps c.args.p (gives c.args.config.lps c.args.p) c.new-draws.result.stream.now c.start-state.new.draws.stream.now c.new-out.result c.start-state.new.out c.start-state.result
     at out
     (c.start-state.ensures.state ∙ (λ j. (gives (out j).lps c.args.p (word_of c.new-draws.result.stream.now)).state))
     (c.start-state.ensures.stream ∙ (λ j. moved c.new-draws.result.stream.now (gives (out j).lps c.args.p (word_of c.new-draws.result.stream.now)).drawn))
@@ -90,8 +92,8 @@ insert_all-requires-clause-new g c =
     let w = g.met.M.Model.start_within c.args.model.now c.args.config.lps c.args.p (words_at c.args.config.seed c.args.p 0)
     c.requires.known (λ i. word_below _ _ _) in
     let at = c.new-draws.ensures.stream ∙ c.new-stream.ensures in
-    let out = c.new-out.ensures.whole in
-    let r = starts c.args.config.seed c.args.config.end c.args.config.lps c.args.p (gives c.args.config.lps c.args.p) c.new-draws.result.stream.now c.start-state.new.draws.stream.now c.new-out.result c.start-state.new.out c.start-state.result
+    let out : c.new-out.result ≡ record { lps = c.args.config.lps; end = (end_of c.args.config); lp = c.args.p; time = 0; first = 0; number = 0; sends = []; records = [] } = c.new-out.ensures.whole ∙ (λ j. record { lps = c.args.config.lps; end = (end_of c.args.config); lp = c.args.p; time = c.tick.ensures j; first = 0; number = 0; sends = []; records = [] }) in
+    let r = starts c.args.config.seed (end_of c.args.config) c.args.config.lps c.args.p (gives c.args.config.lps c.args.p) c.new-draws.result.stream.now c.start-state.new.draws.stream.now c.new-out.result c.start-state.new.out c.start-state.result
     at out
     (c.start-state.ensures.state ∙ (λ j. (gives (out j).lps c.args.p (word_of c.new-draws.result.stream.now)).state))
     (c.start-state.ensures.stream ∙ (λ j. moved c.new-draws.result.stream.now (gives (out j).lps c.args.p (word_of c.new-draws.result.stream.now)).drawn))
@@ -112,8 +114,8 @@ returns-clause-done g c =
     let w = g.met.M.Model.start_within c.args.model.now c.args.config.lps c.args.p (words_at c.args.config.seed c.args.p 0)
     c.requires.known (λ i. word_below _ _ _) in
     let at = c.new-draws.ensures.stream ∙ c.new-stream.ensures in
-    let out = c.new-out.ensures.whole in
-    let r = starts c.args.config.seed c.args.config.end c.args.config.lps c.args.p (gives c.args.config.lps c.args.p) c.new-draws.result.stream.now c.start-state.new.draws.stream.now c.new-out.result c.start-state.new.out c.start-state.result
+    let out : c.new-out.result ≡ record { lps = c.args.config.lps; end = (end_of c.args.config); lp = c.args.p; time = 0; first = 0; number = 0; sends = []; records = [] } = c.new-out.ensures.whole ∙ (λ j. record { lps = c.args.config.lps; end = (end_of c.args.config); lp = c.args.p; time = c.tick.ensures j; first = 0; number = 0; sends = []; records = [] }) in
+    let r = starts c.args.config.seed (end_of c.args.config) c.args.config.lps c.args.p (gives c.args.config.lps c.args.p) c.new-draws.result.stream.now c.start-state.new.draws.stream.now c.new-out.result c.start-state.new.out c.start-state.result
     at out
     (c.start-state.ensures.state ∙ (λ j. (gives (out j).lps c.args.p (word_of c.new-draws.result.stream.now)).state))
     (c.start-state.ensures.stream ∙ (λ j. moved c.new-draws.result.stream.now (gives (out j).lps c.args.p (word_of c.new-draws.result.stream.now)).drawn))

@@ -19,8 +19,7 @@ loop-inbox-preserved g c =
     take_more all i box c.loop-inbox-test.true ∙ ap (λ (x : List (Mail _)). take i all ++ x ∷ []) (sym c.inbox-item.is) in
     let here : c.least_of_mail.result ≡ least_time end (letters box) =
     c.least_of_mail.ensures ∙ ap (λ (ms : List (Mail _)). least_time end (letters ms)) (c.deref.ensures.value ∙ c.inbox.view_is) in
-    let lesser : c.min-least.result ≡ earlier c.loop-inbox.least c.least_of_mail.result = omega (arith, c.min-least.ensures) in
-    lesser
+    c.earlier-least.ensures
     ∙ (λ j. earlier (c.loop-inbox.invariant j) (here j))
     ∙ sym (least-more end letters (take i all) box)
     ∙ ap (λ (boxes : List (List (Mail _))). least_time end (flat_map letters boxes)) (sym more)

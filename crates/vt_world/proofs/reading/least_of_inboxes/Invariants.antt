@@ -5,4 +5,4 @@ use Rattle.vt_steps.specs.Letters.{least_time}
 use Rattle.vt_world.proofs.reading.least_of_inboxes.Given as goal
 
 abbrev pub invariant-loop-inbox : goal.invariant-loop-inbox
-invariant-loop-inbox g l = l.least ≡ least_time l.end (flat_map (λ (inbox : List (Mail _)). map (λ (mail : Mail _). mail.letter) inbox) (take l.inbox-index l.inboxes))
+invariant-loop-inbox g l = l.least ≡ least_time l.fn.end (flat_map (λ (inbox : List (Mail _)). map (λ (mail : Mail _). mail.letter) inbox) (take l.inbox-index l.inboxes))

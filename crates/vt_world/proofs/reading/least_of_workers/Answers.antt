@@ -2,6 +2,7 @@ use Rattle.std.proofs.Common.{◌≡◌, ◌∙◌, ◌+◌, List, [], ◌∷◌
 use Rattle.std.specs.List.{flat_map}
 use Rattle.std.proofs.lemmas.List.{take_more}
 use Rattle.vt_key.specs.Times.{Time, earlier}
+use Rattle.vt_model.specs.Settings.{end_of}
 use Rattle.vt_steps.specs.Letters.{least_time}
 use Rattle.vt_kernel.specs.Guards.{held_letters}
 use Rattle.vt_kernel.specs.Held.{HeldWorker}
@@ -16,10 +17,9 @@ loop-kernel-preserved g c =
     let k : HeldWorker _ _ _ = c.kernel-item.result in
     let more : take (i + 1) all ≡ take i all ++ k ∷ [] =
     take_more all i k c.loop-kernel-test.true ∙ ap (λ (x : HeldWorker _ _ _). take i all ++ x ∷ []) (sym c.kernel-item.is) in
-    let same_end : k.config.end ≡ end = ap (λ (x : HeldWorker _ _ _). x.config.end) c.kernel-item.is ∙ c.requires.same_end i k c.loop-kernel-test.true in
+    let same_end : (end_of k.config) ≡ end = ap (λ (x : HeldWorker _ _ _). (end_of x.config)) c.kernel-item.is ∙ c.requires.same_end i k c.loop-kernel-test.true in
     let here : c.least.result ≡ least_time end (held_letters k) = c.least.ensures ∙ ap (λ (t : Time). least_time t (held_letters k)) same_end in
-    let lesser : c.min-least.result ≡ earlier c.loop-kernel.least c.least.result = omega (arith, c.min-least.ensures) in
-    lesser
+    c.earlier-least.ensures
     ∙ (λ j. earlier (c.loop-kernel.invariant j) (here j))
     ∙ sym (least-more end held_letters (take i all) k)
     ∙ ap (λ (ks : List (HeldWorker _ _ _)). least_time end (flat_map held_letters ks)) (sym more)

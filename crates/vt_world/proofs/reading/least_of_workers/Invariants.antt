@@ -5,4 +5,4 @@ use Rattle.vt_kernel.specs.Guards.{held_letters}
 use Rattle.vt_world.proofs.reading.least_of_workers.Given as goal
 
 abbrev pub invariant-loop-kernel : goal.invariant-loop-kernel
-invariant-loop-kernel g l = l.least ≡ least_time l.end (flat_map held_letters (take l.kernel-index l.kernels))
+invariant-loop-kernel g l = l.least ≡ least_time l.fn.end (flat_map held_letters (take l.kernel-index l.kernels))

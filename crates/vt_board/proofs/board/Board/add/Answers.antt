@@ -15,8 +15,8 @@ invariant_of-self c =
     subst (λ (run : BoardOfRun). TimeAtMost run.board.announced c.args.least) (sym c.self.view_is) c.requires.not_past in
     let is : c.insert.new.self ≡ slice_set c.self.inside.has_reported c.args.w true = c.insert.ensures in
     record {
-      announced = omega (arith, held.announced, not_past, c.min-self-inside.ensures);
-      least = omega (arith, held.least, c.min-self-inside.ensures);
+      announced = omega (arith, held.announced, not_past, c.earlier-self-inside.ensures);
+      least = omega (arith, held.least, c.earlier-self-inside.ensures);
       few_workers = held.few_workers;
       same_workers = ap length is ∙ length-set c.self.inside.has_reported c.args.w true ∙ held.same_workers;
       sent = subst (λ (flags : List Bool). c.self.inside.sent + c.from.result ≤ most_summed flags) (sym is)

@@ -1,5 +1,6 @@
-use Rattle.std.proofs.Common.{rules, ◌≡◌, ◌/◌, ◌%◌, ◌<◌, ◌∙◌, length, slice_set, slice_index_or, None, List, [], sym, ap, subst, refl, arith, true, false, ◌+◌, ◌*◌}
+use Rattle.std.proofs.Common.{rules, ◌≡◌, ◌/◌, ◌%◌, ◌<◌, ◌≤◌, ◌∙◌, length, slice_set, slice_index_or, None, List, [], sym, ap, subst, refl, arith, true, false, ◌+◌, ◌*◌}
 use Rattle.std.proofs.lemmas.Bool.{ltb-true}
+use Rattle.std.proofs.lemmas.Option.{slice_get_past}
 use Rattle.std.proofs.Math.Nat.{div-add-mod'}
 use Rattle.vt_key.specs.Times.{TimeBefore}
 use Rattle.vt_key.specs.declared.fault.Fault.{Fault}
@@ -8,6 +9,7 @@ use Rattle.vt_key.specs.declared.letter.Letter.{Letter}
 use Rattle.vt_key.specs.declared.letter.Mail.{Mail}
 use Rattle.vt_model.specs.declared.settings.Config.{Config}
 use Rattle.vt_model.specs.Simulation.{simulation_of}
+use Rattle.vt_model.specs.Settings.{end_of}
 use Rattle.vt_steps.specs.ProcessSteps.{accept_process}
 use Rattle.vt_steps.specs.declared.step.Step.TheVariants as step
 use Rattle.vt_lp.specs.Held.{HeldProcess}
@@ -19,8 +21,17 @@ use Rattle.vt_kernel.proofs.ProcessLemmas.{process-at}
 use Rattle.vt_kernel.proofs.EnteringLemmas.{in-changed, was-entered}
 use Rattle.vt_kernel.proofs.LocalLemmas.{worker_view, index-get, place-within, inside-changed, written-same}
 use Rattle.vt_kernel.proofs.InsideLemmas.{inside-arrived}
-use Rattle.vt_kernel.proofs.DeliveryLemmas.{accept-done, accept-refused, accept-lawful, held-refused, get-all, removed-all}
+use Rattle.vt_kernel.proofs.DeliveryLemmas.{accept-done, accept-nothing, accept-refused, accept-lawful, held-refused, get-all, removed-all}
 use Rattle.vt_kernel.proofs.kernel.Kernel.accept.Goals as goal
+
+pub returns-in_default-clause-refused : goal.returns-in_default-clause-refused
+returns-in_default-clause-refused g c handlers part s =
+    let i = c.self.inside in
+    let held = worker_view i.worker i.config i.processes.items i.outbox i.arrived.items i.colour i.sent i.got i.red_minimum i.floor i.serial in
+    let stands = subst (λ (v : HeldWorker _ _ _). StandsFor handlers v part) (sym c.self.view_is) s in
+    let past : length i.arrived.items ≤ c.args.i = subst (λ (l : List (Mail _)). length l ≤ c.args.i) c.deref.ensures.value c.in_default.ensures.lookup.3 in
+    subst (λ (v : HeldWorker _ _ _). IsAcceptRefusal (local_step (simulation_of handlers v.config) v.worker (step.Accept v.worker c.args.i) part) NotLawful) c.self.view_is
+    (subst (λ x. IsAcceptRefusal x NotLawful) (sym (accept-nothing handlers held c.self.invariant.own_processes part stands c.args.i (slice_get_past i.arrived.items c.args.i past))) refl)
 
 pub index-requires : goal.index-requires
 index-requires g c =
@@ -108,7 +119,7 @@ accept-requires-clause-soon g c κs within =
     let old = c.index_mut.result.now in
     let at = index-get i.processes.items place old less (sym c.index_mut.ensures.value) in
     let who = process-at i.config i.worker 0 place i.processes.items old c.self.invariant.own_processes at in
-    subst (λ (l : Letter _). TimeBefore l.event.rank.key.time old.config.end) (sym made) (subst (λ (k : Config). TimeBefore letter.event.rank.key.time k.end) (sym who.1) own.within.soon)
+    subst (λ (l : Letter _). TimeBefore l.event.rank.key.time (end_of old.config)) (sym made) (subst (λ (k : Config). TimeBefore letter.event.rank.key.time (end_of k)) (sym who.1) own.within.soon)
 
 pub invariant_of-self-in-Err : goal.invariant_of-self-in-Err
 invariant_of-self-in-Err g c =

@@ -5,6 +5,7 @@ use Rattle.vt_key.specs.declared.letter.Letter.{Letter}
 use Rattle.vt_list.proofs.Firsts.{taken-first}
 use Rattle.vt_model.specs.declared.settings.Config.{Config}
 use Rattle.vt_model.specs.Simulation.{simulation_of}
+use Rattle.vt_model.specs.Settings.{end_of}
 use Rattle.vt_steps.specs.declared.step.Step.TheVariants as step
 use Rattle.vt_lp.specs.Held.{AllWithinRun, IsWithinRun}
 use Rattle.std.proofs.Math.Nat.{div-add-mod'}
@@ -72,7 +73,7 @@ accept-requires-clause-soon g c κs within =
     let old = c.index_mut.result.now in
     let at = index-get i.processes.items place old less (sym c.index_mut.ensures.value) in
     let who = process-at i.config i.worker 0 place i.processes.items old c.self.invariant.own_processes at in
-    subst (λ (l : Letter _). TimeBefore l.event.rank.key.time old.config.end) c.get.ensures (subst (λ (k : Config). TimeBefore letter.event.rank.key.time k.end) (sym who.1) own.1.soon)
+    subst (λ (l : Letter _). TimeBefore l.event.rank.key.time (end_of old.config)) c.get.ensures (subst (λ (k : Config). TimeBefore letter.event.rank.key.time (end_of k)) (sym who.1) own.1.soon)
 
 pub returns-in-Err-clause-refused : goal.returns-in-Err-clause-refused
 returns-in-Err-clause-refused g c handlers part s =
@@ -152,7 +153,7 @@ invariant_of-self-2 g c =
     let at = index-get i.processes.items place old less (sym c.index_mut.ensures.value) in
     let new = c.accept.new.self in
     let same = c.in_default-accept.ensures.same in
-    let within = without-all (IsWithinRun i.config.lps i.config.end) test i.outbox c.self.invariant.sendable in
+    let within = without-all (IsWithinRun i.config.lps (end_of i.config)) test i.outbox c.self.invariant.sendable in
     inside-changed c.self.invariant place old new c.append-2.new.self i.serial c.deref.result.now c.enter.new.ready c.enter.new.unready c.enter.new.marked at same.0 same.1 c.deref.ensures.value
     c.enter.ensures.ready c.enter.ensures.unready c.enter.ensures.marked c.enter.ensures.told
     (subst (λ (ls : List (Letter _)). AllWithinRun i.config ls) (sym (c.append-2.ensures.0 ∙ off.1)) within) c.self.invariant.few_made

@@ -3,6 +3,7 @@ use Rattle.std.specs.List.{flat_map}
 use Rattle.vt_key.specs.Times.{Time, earlier}
 use Rattle.vt_key.specs.declared.letter.Letter.{Letter}
 use Rattle.vt_key.specs.declared.letter.Mail.{Mail}
+use Rattle.vt_model.specs.Settings.{end_of}
 use Rattle.vt_steps.specs.Letters.{least_time}
 use Rattle.vt_kernel.specs.Held.{HeldWorker}
 use Rattle.vt_kernel.specs.Guards.{held_letters}
@@ -13,13 +14,13 @@ use Rattle.vt_kernel.proofs.kernel.Kernel.least.Goals as goal
 pub returns : goal.returns
 returns g c =
     let k = c.self.inside in
-    let end = k.config.end in
+    let end = end_of k.config in
     let letters : List (Mail _) → List (Letter _) = map (λ (m : Mail _). m.letter) in
-    let arrived : c.least_of_mail-arrived.result ≡ least_time end (letters k.arrived.items) = c.least_of_mail-arrived.ensures ∙ ap (λ (ms : List (Mail _)). least_time end (letters ms)) c.deref.ensures.value in
-    let kept : c.least_of_processes.result ≡ least_time end (flat_map kept_letters k.processes.items) = c.least_of_processes.ensures ∙ ap (λ (v : HeldWorker _ _ _). least_time v.config.end (flat_map kept_letters v.processes)) (sym c.self.view_is) in
-    let first : c.earlier.result ≡ earlier (least_time end k.outbox) (least_time end (letters k.arrived.items)) = c.earlier.ensures ∙ (λ j. earlier (c.least_of_letters-unsent.ensures j) (arrived j)) in
+    let arrived : c.least_of_mail-arrived.result ≡ least_time c.end-end.result (letters k.arrived.items) = c.least_of_mail-arrived.ensures ∙ ap (λ (ms : List (Mail _)). least_time c.end-end.result (letters ms)) c.deref.ensures.value in
+    let kept : c.least_of_processes.result ≡ least_time end (flat_map kept_letters k.processes.items) = c.least_of_processes.ensures ∙ ap (λ (v : HeldWorker _ _ _). least_time (end_of v.config) (flat_map kept_letters v.processes)) (sym c.self.view_is) in
+    let first : c.earlier.result ≡ earlier (least_time end k.outbox) (least_time end (letters k.arrived.items)) = c.earlier.ensures ∙ (λ j. earlier (c.least_of_letters-unsent.ensures j) (arrived j)) ∙ ap (λ (t : Time). earlier (least_time t k.outbox) (least_time t (letters k.arrived.items))) c.end-end.ensures in
     c.earlier-2.ensures
     ∙ (λ j. earlier (first j) (kept j))
     ∙ ap (λ (t : Time). earlier t (least_time end (flat_map kept_letters k.processes.items))) (sym (least_time-append end k.outbox (letters k.arrived.items)))
     ∙ sym (least_time-append end (k.outbox ++ letters k.arrived.items) (flat_map kept_letters k.processes.items))
-    ∙ ap (λ (v : HeldWorker _ _ _). least_time v.config.end (held_letters v)) c.self.view_is
+    ∙ ap (λ (v : HeldWorker _ _ _). least_time (end_of v.config) (held_letters v)) c.self.view_is

@@ -1,12 +1,14 @@
-use Rattle.std.proofs.Common.{◌≡◌, ◌<◌, ◌≤◌, ◌+◌, ◌++◌, ◌∙◌, Bool, false, nat_eq, not, length, map, List, sym, ap, subst, rules, arith}
+use Rattle.std.proofs.Common.{◌≡◌, ◌<◌, ◌≤◌, ◌+◌, ◌++◌, ◌∙◌, Bool, true, false, inl, refl, nat_eq, not, length, map, List, sym, ap, subst, rules, arith}
 use Rattle.std.proofs.lemmas.Bool.Decides.{nat_tests}
 use Rattle.std.proofs.lemmas.List.Elements.{All-filter}
 use Rattle.std.specs.List.{filter}
 use Rattle.vt_key.specs.Times.{earlier}
 use Rattle.vt_key.specs.declared.fault.Fault.{Fault}
+use Rattle.vt_key.specs.declared.fault.Fault.TheVariants.{NotLawful}
 use Rattle.vt_key.specs.declared.letter.Letter.{Letter}
 use Rattle.vt_key.specs.declared.limits.TheConstants.{MAX_COUNT}
 use Rattle.vt_model.specs.Simulation.{simulation_of}
+use Rattle.vt_model.specs.Settings.{end_of}
 use Rattle.vt_steps.specs.Letters.{least_time, raised, count_of}
 use Rattle.vt_steps.specs.PartSteps.{letters_for}
 use Rattle.vt_lp.specs.Held.{AllWithinRun, IsWithinRun}
@@ -14,8 +16,14 @@ use Rattle.vt_kernel.specs.Held.{HeldWorker, AllOwnMail, AreCounted}
 use Rattle.vt_kernel.specs.Guards.{is_for_worker, mailed, IsSendRefusal}
 use Rattle.vt_kernel.proofs.InsideLemmas.{inside-outbox}
 use Rattle.vt_kernel.proofs.PartLemmas.{stands-send, mail-sent}
-use Rattle.vt_kernel.proofs.SendLemmas.{count_of-counted, counted-raised, refused-send, own_mail-sent, count_sent, may_send-yes, if_err}
+use Rattle.vt_kernel.proofs.SendLemmas.{count_of-counted, counted-raised, refused-send, own_mail-sent, count_sent, may_send-own, may_send-yes, if_err}
 use Rattle.vt_kernel.proofs.kernel.Kernel.letters_for.Goals as goal
+
+pub returns-then-v-self-clause-refused : goal.returns-then-v-self-clause-refused
+returns-then-v-self-clause-refused g c handlers part s =
+    let test : nat_eq c.self.inside.worker c.args.v ≡ true = grind (arith, nat_tests) in
+    subst (λ (k : HeldWorker _ _ _). IsSendRefusal (simulation_of handlers k.config) k.worker c.args.v part NotLawful) c.self.view_is
+    (inl (refl, may_send-own (simulation_of handlers c.self.inside.config) c.self.inside.worker c.args.v part test))
 
 pub returns-in_err-count-clause-refused : goal.returns-in_err-count-clause-refused
 returns-in_err-count-clause-refused g c handlers part s =
@@ -37,7 +45,7 @@ invariant_of-self g c =
     let count = c.in_ok-count.ensures.count in
     let few : count_of k.sent k.colour + c.in_ok-count.count ≤ MAX_COUNT = omega (arith, c.room-room.ensures, count.1) in
     inside-outbox c.move_letters-least.new.outbox c.raise.new.self
-    (subst (AllWithinRun k.config) (sym letters) (All-filter (λ (l : Letter _). not (test l)) (IsWithinRun k.config.lps k.config.end) k.outbox inv.sendable))
+    (subst (AllWithinRun k.config) (sym letters) (All-filter (λ (l : Letter _). not (test l)) (IsWithinRun k.config.lps (end_of k.config)) k.outbox inv.sendable))
     (rw c.raise.ensures (counted-raised k.sent k.colour c.in_ok-count.count inv.few_sent few))
     inv
 
@@ -49,10 +57,10 @@ returns-clause-sent g c =
     let after : HeldWorker _ _ _ → HeldWorker _ _ _ = λ v. record v {
       outbox = others v;
       sent = raised v.sent v.colour (length (theirs v));
-      red_minimum = earlier v.red_minimum (least_time v.config.end (theirs v));
+      red_minimum = earlier v.red_minimum (least_time (end_of v.config) (theirs v));
     } in
     let sent : c.raise.new.self ≡ raised k.sent k.colour (length (filter (is_for_worker k.config c.args.v) k.outbox)) = c.raise.ensures ∙ ap (raised k.sent k.colour) c.in_ok-count.ensures.count.0 in
-    let red : c.earlier-self-inside.result ≡ earlier k.red_minimum (least_time k.config.end (filter (is_for_worker k.config c.args.v) k.outbox)) = c.earlier-self-inside.ensures ∙ ap (earlier k.red_minimum) c.move_letters-least.ensures.least in
+    let red : c.earlier-self-inside.result ≡ earlier k.red_minimum (least_time (end_of k.config) (filter (is_for_worker k.config c.args.v) k.outbox)) = c.earlier-self-inside.ensures ∙ ap (earlier k.red_minimum) c.move_letters-least.ensures.least in
     (λ j. record {
       worker = k.worker;
       config = k.config;
@@ -86,7 +94,7 @@ pub returns-clause-done : goal.returns-clause-done
 returns-clause-done g c handlers part s =
     let k = c.self.inside in
     let sent : c.raise.new.self ≡ raised k.sent k.colour (length (filter (is_for_worker k.config c.args.v) k.outbox)) = c.raise.ensures ∙ ap (raised k.sent k.colour) c.in_ok-count.ensures.count.0 in
-    let red : c.earlier-self-inside.result ≡ earlier k.red_minimum (least_time k.config.end (filter (is_for_worker k.config c.args.v) k.outbox)) = c.earlier-self-inside.ensures ∙ ap (earlier k.red_minimum) c.move_letters-least.ensures.least in
+    let red : c.earlier-self-inside.result ≡ earlier k.red_minimum (least_time (end_of k.config) (filter (is_for_worker k.config c.args.v) k.outbox)) = c.earlier-self-inside.ensures ∙ ap (earlier k.red_minimum) c.move_letters-least.ensures.least in
     let own : nat_eq k.worker c.args.v ≡ false = grind (arith, nat_tests) in
     let other : nat_eq c.args.self.now.worker c.args.v ≡ false = ap (λ (v : HeldWorker _ _ _). nat_eq v.worker c.args.v) (sym c.self.view_is) ∙ own in
     let number = count_sent c.self.view_is handlers c.args.v part s in

@@ -6,6 +6,7 @@ use Rattle.vt_key.specs.declared.letter.Sign.{Sign}
 use Rattle.vt_key.specs.declared.letter.Sign.TheVariants.{Plus, Minus}
 use Rattle.vt_key.specs.Times.{TimeBefore}
 use Rattle.vt_model.specs.Process.{triple_at}
+use Rattle.vt_model.specs.Settings.{end_of}
 use Rattle.vt_steps.specs.Letters.{has_rank}
 use Rattle.vt_steps.specs.ProcessSteps.{accept_process}
 use Rattle.vt_lp.specs.declared.entry.PastEvent.{PastEvent}
@@ -33,7 +34,7 @@ invariant_of-self g c =
     let own : c.get.result.now ≡ x = c.get.ensures in
     let sign : x.sign ≡ Plus = ap (λ (l : Letter _). l.sign) (sym own) ∙ c.in-Plus-2.is in
     let dest = c.requires.dest ∙ ap (λ (v : HeldProcess _ _ _). v.lp) (sym c.self.view_is) in
-    let soon = subst (λ (v : HeldProcess _ _ _). TimeBefore x.event.rank.key.time v.config.end) (sym c.self.view_is) c.requires.soon in
+    let soon = subst (λ (v : HeldProcess _ _ _). TimeBefore x.event.rank.key.time (end_of v.config)) (sym c.self.view_is) c.requires.soon in
     let executed : Letter _ → Bool = λ l. list_any (λ (e : PastEvent _ _). rank_same e.letter.event.rank l.event.rank) inside.past in
     let not_past : executed x ≡ false = ap executed (sym own) ∙ sym c.has_executed.ensures ∙ c.if-has_executed.false in
     let put = c.insert_new-put in
@@ -50,7 +51,7 @@ invariant_of-self-in-Minus g c =
     let x = c.args.letter in
     let sign : x.sign ≡ Minus = ap (λ (l : Letter _). l.sign) (sym c.get.ensures) ∙ c.in-Minus.is in
     let dest = c.requires.dest ∙ ap (λ (v : HeldProcess _ _ _). v.lp) (sym c.self.view_is) in
-    let soon = subst (λ (v : HeldProcess _ _ _). TimeBefore x.event.rank.key.time v.config.end) (sym c.self.view_is) c.requires.soon in
+    let soon = subst (λ (v : HeldProcess _ _ _). TimeBefore x.event.rank.key.time (end_of v.config)) (sym c.self.view_is) c.requires.soon in
     let put = c.insert_new-put-in-Minus in
     let new = put.new.self in
     either put.result

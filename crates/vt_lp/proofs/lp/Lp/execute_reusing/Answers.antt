@@ -9,6 +9,7 @@ use Rattle.vt_stream.specs.Words.{Stream}
 use Rattle.vt_model.specs.Process.{triple_at}
 use Rattle.vt_model.specs.Simulation.{Triple, simulation_of}
 use Rattle.vt_model.proofs.LawLemmas.{after_state}
+use Rattle.vt_model.specs.Settings.{end_of}
 use Rattle.vt_steps.specs.Letters.{unstamped, stamped, signed}
 use Rattle.vt_steps.specs.World.{entry_events}
 use Rattle.vt_steps.specs.ProcessSteps.{execute_process}
@@ -37,7 +38,7 @@ advance-requires-clause-known g c =
     let l = c.self.inside in
     let inside = c.self.invariant in
     let event = c.in-Some.event in
-    let own = ready-own l.lp l.config.end l.pending l.past event inside.own_pending c.in-Some.ensures.event in
+    let own = ready-own l.lp (end_of l.config) l.pending l.past event inside.own_pending c.in-Some.ensures.event in
     let at = own.0 in
     omega (arith, at, inside.known)
 
@@ -46,7 +47,7 @@ advance-requires-clause-early g c κs within =
     let l = c.self.inside in
     let inside = c.self.invariant in
     let event = c.in-Some.event in
-    let own = ready-own l.lp l.config.end l.pending l.past event inside.own_pending c.in-Some.ensures.event in
+    let own = ready-own l.lp (end_of l.config) l.pending l.past event inside.own_pending c.in-Some.ensures.event in
     own.1
 
 pub advance-requires-clause-stream : goal.advance-requires-clause-stream
@@ -54,7 +55,7 @@ advance-requires-clause-stream g c κs within =
     let l = c.self.inside in
     let inside = c.self.invariant in
     let event = c.in-Some.event in
-    let own = ready-own l.lp l.config.end l.pending l.past event inside.own_pending c.in-Some.ensures.event in
+    let own = ready-own l.lp (end_of l.config) l.pending l.past event inside.own_pending c.in-Some.ensures.event in
     record { key = inside.own_stream.key; process = inside.own_stream.process ∙ sym own.0 }
 
 pub invariant_of-self : goal.invariant_of-self
@@ -62,7 +63,7 @@ invariant_of-self g c =
     let l = c.self.inside in
     let inside = c.self.invariant in
     let event = c.in-Some.event in
-    let own = ready-own l.lp l.config.end l.pending l.past event inside.own_pending c.in-Some.ensures.event in
+    let own = ready-own l.lp (end_of l.config) l.pending l.past event inside.own_pending c.in-Some.ensures.event in
     inside-at l.config l.lp l.process.number _ l.process.stream _ l.past l.pending l.waiting l.pending l.past inside c.advance.ensures.numbered
     (record { key = c.advance.ensures.stream.key; process = c.advance.ensures.stream.process ∙ own.0 }) refl refl
 
@@ -74,7 +75,7 @@ returns-in-Err-clause-refused g c h s =
     let held : HeldProcess _ _ _ = record { lp = l.lp; config = l.config; triple = triple_at l.process.state l.process.number l.process.stream; past = l.past; pending = l.pending; waiting = l.waiting } in
     let w = l.lp % l.config.workers in
     let event = c.in-Some.event in
-    let own = ready-own l.lp l.config.end l.pending l.past event inside.own_pending c.in-Some.ensures.event in
+    let own = ready-own l.lp (end_of l.config) l.pending l.past event inside.own_pending c.in-Some.ensures.event in
     let now = subst (λ (v : HeldProcess _ _ _). StandsFor handlers v h) (sym c.self.view_is) s in
     subst (λ (v : HeldProcess _ _ _). IsExecuteRefusal (simulation_of handlers v.config) v.lp c.args.serial.now (execute_process (simulation_of handlers v.config) v.lp (v.lp % v.config.workers) c.args.serial.now h) c.in-Err.fault) c.self.view_is
     (refuses handlers held w c.args.serial.now h event.dest event c.in-Err.fault now c.in-Some.ensures.event own.0 c.in-Err.ensures.refused)
@@ -100,7 +101,7 @@ invariant_of-self-in-Err-keep g c =
     let l = c.self.inside in
     let inside = c.self.invariant in
     let event = c.in-Some.event in
-    let own = ready-own l.lp l.config.end l.pending l.past event inside.own_pending c.in-Some.ensures.event in
+    let own = ready-own l.lp (end_of l.config) l.pending l.past event inside.own_pending c.in-Some.ensures.event in
     let left = c.in-Err-keep.ensures.unchanged in
     inside-at l.config l.lp l.process.number _ l.process.stream _ l.past l.pending l.waiting c.keep.new.pending c.keep.new.past inside
     (subst (λ n. n ≤ MAX_COUNT) (sym c.undo.ensures.number) c.in-Ok.ensures.few_sends)
@@ -117,7 +118,7 @@ returns-in-Err-keep-clause-refused g c h s =
     let held : HeldProcess _ _ _ = record { lp = l.lp; config = l.config; triple = triple_at l.process.state l.process.number l.process.stream; past = l.past; pending = l.pending; waiting = l.waiting } in
     let w = l.lp % l.config.workers in
     let event = c.in-Some.event in
-    let own = ready-own l.lp l.config.end l.pending l.past event inside.own_pending c.in-Some.ensures.event in
+    let own = ready-own l.lp (end_of l.config) l.pending l.past event inside.own_pending c.in-Some.ensures.event in
     let now = subst (λ (v : HeldProcess _ _ _). StandsFor handlers v h) (sym c.self.view_is) s in
     subst (λ (v : HeldProcess _ _ _). IsExecuteRefusal (simulation_of handlers v.config) v.lp c.args.serial.now (execute_process (simulation_of handlers v.config) v.lp (v.lp % v.config.workers) c.args.serial.now h) c.in-Err-keep.fault) c.self.view_is
     (refuses handlers held w c.args.serial.now h event.dest event c.in-Err-keep.fault now c.in-Some.ensures.event own.0
@@ -131,7 +132,7 @@ returns-in-Err-keep-clause-unchanged g c h s =
     let held : HeldProcess _ _ _ = record { lp = l.lp; config = l.config; triple = triple_at l.process.state l.process.number l.process.stream; past = l.past; pending = l.pending; waiting = l.waiting } in
     let w = l.lp % l.config.workers in
     let event = c.in-Some.event in
-    let own = ready-own l.lp l.config.end l.pending l.past event inside.own_pending c.in-Some.ensures.event in
+    let own = ready-own l.lp (end_of l.config) l.pending l.past event inside.own_pending c.in-Some.ensures.event in
     let now = subst (λ (v : HeldProcess _ _ _). StandsFor handlers v h) (sym c.self.view_is) s in
     let ok = subst (λ (t : Triple _). g.M.Model.IsState c.args.model.now t.state) (is_where (simulation_of handlers l.config) l.lp (process_memory handlers held) h now)
     (after_state handlers l.config (g.M.Model.IsState c.args.model.now) (g.met.M.Model.start_state c.args.model.now) (g.met.M.Model.forward_state c.args.model.now) l.lp (entry_events (h.done ++ h.past))) in
@@ -147,7 +148,7 @@ invariant_of-self-in_default-keep g c =
     let l = c.self.inside in
     let inside = c.self.invariant in
     let event = c.in-Some.event in
-    let own = ready-own l.lp l.config.end l.pending l.past event inside.own_pending c.in-Some.ensures.event in
+    let own = ready-own l.lp (end_of l.config) l.pending l.past event inside.own_pending c.in-Some.ensures.event in
     let k = c.in_default-keep.ensures.kept in
     inside-more l.config l.lp l.process.number _ l.process.stream _ l.past l.pending l.waiting event k.0 c.keep.new.pending c.in-Ok.advanced.0 c.keep.new.past inside
     c.in-Some.ensures.rising k.1 c.in-Some.ensures.event c.advance.ensures.numbered
@@ -181,7 +182,7 @@ returns-clause-within g c =
     let l = c.self.inside in
     subst (λ (v : HeldProcess _ _ _). AllWithinRun v.config c.args.outbox.now → AllWithinRun v.config c.append.new.self) c.self.view_is
     (λ all. subst (λ (xs : List (Letter _)). AllWithinRun l.config xs) (sym c.append.ensures.0)
-    (All-append (IsWithinRun l.config.lps l.config.end) c.args.outbox.now c.in-Ok.advanced.1 all c.in-Ok.ensures.within))
+    (All-append (IsWithinRun l.config.lps (end_of l.config)) c.args.outbox.now c.in-Ok.advanced.1 all c.in-Ok.ensures.within))
 
 pub returns-clause-done : goal.returns-clause-done
 returns-clause-done g c h s =
@@ -191,7 +192,7 @@ returns-clause-done g c h s =
     let held : HeldProcess _ _ _ = record { lp = l.lp; config = l.config; triple = triple_at l.process.state l.process.number l.process.stream; past = l.past; pending = l.pending; waiting = l.waiting } in
     let w = l.lp % l.config.workers in
     let event = c.in-Some.event in
-    let own = ready-own l.lp l.config.end l.pending l.past event inside.own_pending c.in-Some.ensures.event in
+    let own = ready-own l.lp (end_of l.config) l.pending l.past event inside.own_pending c.in-Some.ensures.event in
     let now = subst (λ (v : HeldProcess _ _ _). StandsFor handlers v h) (sym c.self.view_is) s in
     let ok = subst (λ (t : Triple _). g.M.Model.IsState c.args.model.now t.state) (is_where (simulation_of handlers l.config) l.lp (process_memory handlers held) h now)
     (after_state handlers l.config (g.M.Model.IsState c.args.model.now) (g.met.M.Model.start_state c.args.model.now) (g.met.M.Model.forward_state c.args.model.now) l.lp (entry_events (h.done ++ h.past))) in
@@ -199,12 +200,12 @@ returns-clause-done g c h s =
     let after = c.advance.new.process in
     let fired = (simulation_of handlers l.config).fire event.dest held.triple (unstamped event) in
     let all : length c.in-Ok.advanced.1 ≡ length ((simulation_of handlers l.config).fire event.dest held.triple (unstamped event)).sends = ap length c.in-Ok.ensures.messages ∙ length-letters Plus _ _ _ in
-    let mine : All (IsOwnLetter l.lp l.config.end Plus) (k.0 ∷ c.keep.new.pending) = subst (λ (xs : List (Letter _)). All (IsOwnLetter l.lp l.config.end Plus) xs) k.1 inside.own_pending in
+    let mine : All (IsOwnLetter l.lp (end_of l.config) Plus) (k.0 ∷ c.keep.new.pending) = subst (λ (xs : List (Letter _)). All (IsOwnLetter l.lp (end_of l.config) Plus) xs) k.1 inside.own_pending in
     let new : HeldProcess _ _ _ = record { lp = l.lp; config = l.config; triple = triple_at after.state after.number after.stream; past = c.keep.new.past; pending = c.keep.new.pending; waiting = l.waiting } in
     subst (λ (v : HeldProcess _ _ _). IsDone handlers new (execute_process (simulation_of handlers v.config) v.lp (v.lp % v.config.workers) c.args.serial.now h) c.args.outbox.now c.append.new.self c.args.serial.now (c.args.serial.now + c.len.result)) c.self.view_is
     (executes handlers held w c.args.serial.now h k.0 c.keep.new.pending event.dest event (triple_at after.state after.number after.stream) c.in-Ok.advanced.0
     c.keep.new.past c.args.outbox.now c.append.new.self c.in-Ok.advanced.1 (c.args.serial.now + c.len.result)
-    now k.1 c.in-Some.ensures.event (All-head (IsOwnLetter l.lp l.config.end Plus) k.0 c.keep.new.pending mine).signed own.0 k.2 c.in-Ok.ensures.triple (c.in-Ok.ensures.remembered ok)
+    now k.1 c.in-Some.ensures.event (All-head (IsOwnLetter l.lp (end_of l.config) Plus) k.0 c.keep.new.pending mine).signed own.0 k.2 c.in-Ok.ensures.triple (c.in-Ok.ensures.remembered ok)
     (c.in-Ok.ensures.anti_messages ∙ (λ j. map (signed Minus) (stamped (own.0 j % l.config.workers) c.args.serial.now fired.sends)))
     (c.in-Ok.ensures.messages ∙ (λ j. map (signed Plus) (stamped (own.0 j % l.config.workers) c.args.serial.now fired.sends)))
     c.append.ensures.0

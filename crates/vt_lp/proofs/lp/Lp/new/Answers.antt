@@ -1,6 +1,7 @@
 use Rattle.std.proofs.Common.{List, sym, subst, arith}
 use Rattle.std.proofs.lemmas.List.Elements.{All-append}
 use Rattle.vt_key.specs.declared.letter.Letter.{Letter}
+use Rattle.vt_model.specs.Settings.{end_of}
 use Rattle.vt_lp.specs.Held.{IsWithinRun, AllWithinRun}
 use Rattle.vt_lp.proofs.lp.Lp.new.Goals as goal
 
@@ -17,4 +18,4 @@ pub returns-clause-within : goal.returns-clause-within
 returns-clause-within g c all =
     let config = c.args.config in
     subst (λ (xs : List (Letter _)). AllWithinRun config xs) (sym c.append.ensures.0)
-    (All-append (IsWithinRun config.lps config.end) c.args.outbox.now c.in-Ok.started.1 all c.in-Ok.ensures.within)
+    (All-append (IsWithinRun config.lps (end_of config)) c.args.outbox.now c.in-Ok.started.1 all c.in-Ok.ensures.within)

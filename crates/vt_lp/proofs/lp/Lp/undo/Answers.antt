@@ -5,6 +5,7 @@ use Rattle.vt_key.specs.declared.limits.TheConstants.{MAX_COUNT}
 use Rattle.vt_key.specs.declared.letter.Letter.{Letter}
 use Rattle.vt_stream.specs.Words.{Stream}
 use Rattle.vt_model.specs.Process.{triple_at}
+use Rattle.vt_model.specs.Settings.{end_of}
 use Rattle.vt_lp.specs.declared.entry.PastEvent.{PastEvent}
 use Rattle.vt_lp.specs.Held.{HeldProcess, StandsFor, AllWithinRun, IsWithinRun, IsOwnEvent, IsNotPending}
 use Rattle.vt_lp.proofs.UndoLemmas.{undo-none, undoes, inside-less, All-front, ready-within, length-push, length-insert}
@@ -76,7 +77,7 @@ returns-clause-within g c =
     let mine = (All-front (IsOwnEvent l.config l.lp) c.pop_back.new.self e (subst (λ (xs : List (PastEvent _ _)). All (IsOwnEvent l.config l.lp) xs) longer inside.own_past)).1 in
     subst (λ (v : HeldProcess _ _ _). AllWithinRun v.config c.args.outbox.now → AllWithinRun v.config c.append.new.self) c.self.view_is
     (λ all. subst (λ (xs : List (Letter _)). AllWithinRun l.config xs) (sym c.append.ensures.0)
-    (All-append (IsWithinRun l.config.lps l.config.end) c.args.outbox.now e.anti_messages all (ready-within l.config.lps l.config.end e.anti_messages mine.ready)))
+    (All-append (IsWithinRun l.config.lps (end_of l.config)) c.args.outbox.now e.anti_messages all (ready-within l.config.lps (end_of l.config) e.anti_messages mine.ready)))
 
 pub returns-clause-shorter : goal.returns-clause-shorter
 returns-clause-shorter g c =

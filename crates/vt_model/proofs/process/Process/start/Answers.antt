@@ -1,17 +1,18 @@
-use Rattle.std.proofs.Common.{◌≡◌, ◌+◌, ◌≤◌, ◌∙◌, [], ap, arith, rules}
+use Rattle.std.proofs.Common.{◌≡◌, ◌∙◌, [], ap, arith, rules}
 use Rattle.vt_stream.specs.Words.{Stream, seed_key, word_of, moved}
 use Rattle.vt_stream.proofs.WordLemmas.{word_below}
 use Rattle.vt_model.specs.Sends.{Outgoing, with_requests}
 use Rattle.vt_model.specs.Simulation.{words_at}
 use Rattle.vt_model.proofs.FireLemmas.{starts}
 use Rattle.vt_model.proofs.process.Process.start.Goals as goal
+use Rattle.vt_model.specs.Settings.{end_of}
 
 pub returns-clause-triple : goal.returns-clause-triple
 returns-clause-triple g c =
     let gives = (g.M.Model.handlers c.args.model.now).start in
     let w = g.met.M.Model.start_within c.args.model.now c.args.config.lps c.args.lp (words_at c.args.config.seed c.args.lp 0) c.requires.known (λ i. word_below _ _ _) in
     let out = c.requires.fresh in
-    let r = starts c.args.config.seed c.args.config.end c.args.config.lps c.args.lp (gives c.args.config.lps c.args.lp) c.new-draws.result.stream.now c.start-state.new.draws.stream.now c.args.out.now c.start-state.new.out c.start-state.result
+    let r = starts c.args.config.seed (end_of c.args.config) c.args.config.lps c.args.lp (gives c.args.config.lps c.args.lp) c.new-draws.result.stream.now c.start-state.new.draws.stream.now c.args.out.now c.start-state.new.out c.start-state.result
     (c.new-draws.ensures.stream ∙ c.new-stream.ensures) out
     (c.start-state.ensures.state ∙ (λ j. (gives (out j).lps c.args.lp (word_of c.new-draws.result.stream.now)).state))
     (c.start-state.ensures.stream ∙ (λ j. moved c.new-draws.result.stream.now (gives (out j).lps c.args.lp (word_of c.new-draws.result.stream.now)).drawn))
@@ -25,7 +26,7 @@ returns-clause-sends g c =
     let gives = (g.M.Model.handlers c.args.model.now).start in
     let w = g.met.M.Model.start_within c.args.model.now c.args.config.lps c.args.lp (words_at c.args.config.seed c.args.lp 0) c.requires.known (λ i. word_below _ _ _) in
     let out = c.requires.fresh in
-    (starts c.args.config.seed c.args.config.end c.args.config.lps c.args.lp (gives c.args.config.lps c.args.lp) c.new-draws.result.stream.now c.start-state.new.draws.stream.now c.args.out.now c.start-state.new.out c.start-state.result
+    (starts c.args.config.seed (end_of c.args.config) c.args.config.lps c.args.lp (gives c.args.config.lps c.args.lp) c.new-draws.result.stream.now c.start-state.new.draws.stream.now c.args.out.now c.start-state.new.out c.start-state.result
     (c.new-draws.ensures.stream ∙ c.new-stream.ensures) out
     (c.start-state.ensures.state ∙ (λ j. (gives (out j).lps c.args.lp (word_of c.new-draws.result.stream.now)).state))
     (c.start-state.ensures.stream ∙ (λ j. moved c.new-draws.result.stream.now (gives (out j).lps c.args.lp (word_of c.new-draws.result.stream.now)).drawn))

@@ -7,6 +7,7 @@ use Rattle.vt_model.proofs.LawLemmas.{lawful_of}
 use Rattle.vt_model.specs.declared.process.Process.{Process}
 use Rattle.vt_model.specs.declared.rows.Record.{Record}
 use Rattle.vt_model.specs.declared.sending.Sent.{Sent}
+use Rattle.vt_model.specs.Settings.{end_of}
 use Rattle.vt_seq.specs.Letters.{HeldEvents}
 use Rattle.vt_seq.specs.Limits.{IsStepRefusal, IsCountedWhole}
 use Rattle.vt_seq.specs.StandsFor.{StandsAt}
@@ -46,7 +47,7 @@ returns-clause-whole g c =
     let lawful = lawful_of (g.M.Model.handlers m) config (g.met.M.Model.start_within m) (g.met.M.Model.forward_within m) in
     let none : later.pending.events ≡ [] = nil_of later.pending.events (search rules) in
     ∥∥₁_elim later.stands (Prim.hlevel props) (λ x. whole_records sim lawful x.0 later.pending.events later.processes.items later.records.items x.1 none)
-    ∙ (λ j. seq_records (simulation_of (g.M.Model.handlers (model j)) (cfg j)) (cfg j).end)
+    ∙ (λ j. seq_records (simulation_of (g.M.Model.handlers (model j)) (cfg j)) (end_of (cfg j)))
 
 pub returns-clause-counted : goal.returns-clause-counted
 returns-clause-counted g c =

@@ -4,6 +4,7 @@ use Rattle.vt_key.specs.Times.{Time}
 use Rattle.vt_model.specs.declared.settings.Config.{Config}
 use Rattle.vt_model.specs.Simulation.{simulation_of}
 use Rattle.vt_model.specs.Sequential.{seq_records}
+use Rattle.vt_model.specs.Settings.{end_of}
 use Rattle.vt_station.specs.declared.place.Place.{Place}
 use Rattle.vt_station.specs.declared.driver.Outcome.TheVariants.{Closed}
 use Rattle.vt_station.specs.Crew.{AtJob, IsLeft}
@@ -22,6 +23,6 @@ returns-clause-shown g c =
     let left = subst (λ (p : Place g.row.M-Payload.Denot). IsLeft sim i.station.now.table.shared.table_id i.worker i.outcome p) same inv.left in
     let shown = records-left (simulation_of (H key.model.value) key.config) (λ v. v.items) c.take_out.result place.seat.me.0 i.outcome
     (closed-left sim i.station.now.table.shared.table_id i.worker i.outcome place left) c.take_out.ensures.shown in
-    let of-model = subst (λ (m : g.row.M.Denot). IfOk c.take_out.result (λ v. (floor : Time) × (v.items ≡ seq_records (simulation_of (H m) key.config) floor) × (i.outcome ≡ Some Closed → floor ≡ key.config.end))) inv.model_is shown in
-    let of-config = subst (λ (k : Config). IfOk c.take_out.result (λ v. (floor : Time) × (v.items ≡ seq_records (simulation_of (H i.model.now) k) floor) × (i.outcome ≡ Some Closed → floor ≡ k.end))) inv.config_is of-model in
-    subst (λ (j : AtJob g.row.M.Denot g.row.M-Payload.Denot). IfOk c.take_out.result (λ v. (floor : Time) × (v.items ≡ seq_records (simulation_of (H j.model) j.config) floor) × (j.outcome ≡ Some Closed → floor ≡ j.config.end))) c.self.view_is of-config
+    let of-model = subst (λ (m : g.row.M.Denot). IfOk c.take_out.result (λ v. (floor : Time) × (v.items ≡ seq_records (simulation_of (H m) key.config) floor) × (i.outcome ≡ Some Closed → floor ≡ (end_of key.config)))) inv.model_is shown in
+    let of-config = subst (λ (k : Config). IfOk c.take_out.result (λ v. (floor : Time) × (v.items ≡ seq_records (simulation_of (H i.model.now) k) floor) × (i.outcome ≡ Some Closed → floor ≡ (end_of k)))) inv.config_is of-model in
+    subst (λ (j : AtJob g.row.M.Denot g.row.M-Payload.Denot). IfOk c.take_out.result (λ v. (floor : Time) × (v.items ≡ seq_records (simulation_of (H j.model) j.config) floor) × (j.outcome ≡ Some Closed → floor ≡ (end_of j.config)))) c.self.view_is of-config

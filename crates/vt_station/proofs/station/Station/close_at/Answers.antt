@@ -1,6 +1,7 @@
 use Rattle.std.proofs.Common.{◌≡◌, ◌+◌, inl, inr, [], true, false, refl, sym, ap, subst, ◌∙◌, arith}
 use Rattle.vt_model.specs.Simulation.{simulation_of}
 use Rattle.vt_model.proofs.LawLemmas.{lawful_of}
+use Rattle.vt_model.specs.Settings.{end_of}
 use Rattle.vt_steps.specs.World.{Book}
 use Rattle.vt_steps.specs.BookSteps.{may_close, closed_book}
 use Rattle.vt_steps.specs.Cells.{in_book}
@@ -67,7 +68,7 @@ returns-in-Err-clause-refused g c =
     let closed = ap (λ (b : Book). b.is_closed) same in
     elim d.2.1 [
       | inl x ↦ subst (IsCloseRefusal sim v) (sym x.0) (refusal.close-closed sim v cell _ t.known [] v.part refl lawful (closed ∙ x.1))
-      | inr x ↦ subst (IsCloseRefusal sim v) (sym x.0) (refusal.close-unlawful sim v cell _ t.known [] v.part refl lawful (closed ∙ x.1) (ap (may_close key.config.end) same ∙ x.2))
+      | inr x ↦ subst (IsCloseRefusal sim v) (sym x.0) (refusal.close-unlawful sim v cell _ t.known [] v.part refl lawful (closed ∙ x.1) (ap (may_close (end_of key.config)) same ∙ x.2))
     ]
 
 pub returns-in-Err-clause-closed : goal.returns-in-Err-clause-closed
@@ -94,4 +95,4 @@ returns-in-Ok-clause-done g c =
     let t = c.if-not-claim.ensures.claimed refl in
     let place = took-place sim key.config c.args.seat.now.me c.claim.new.seat.me (c.args.self.now.workers + 1) c.requires.rests t in
     let d = c.in-Ok.ensures.done in
-    closes-there sim c.args.seat.now.me.0 c.close_book.new.seat.me.0 c.in-Ok.floor key.config.end c.release_close.new.seat.me.0 (place.0, c.in-Ok.ensures.same.2 ∙ place.1) (d.2.3 ∙ ends-closed key.config.end d.0 d.2.1) c.release_close.ensures.done
+    closes-there sim c.args.seat.now.me.0 c.close_book.new.seat.me.0 c.in-Ok.floor (end_of key.config) c.release_close.new.seat.me.0 (place.0, c.in-Ok.ensures.same.2 ∙ place.1) (d.2.3 ∙ ends-closed (end_of key.config) d.0 d.2.1) c.release_close.ensures.done

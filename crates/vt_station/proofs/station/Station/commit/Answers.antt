@@ -3,6 +3,7 @@ use Rattle.atomic_table.specs.Seated.{TableId}
 use Rattle.vt_key.specs.Times.{Time}
 use Rattle.vt_model.proofs.LawLemmas.{lawful_of}
 use Rattle.vt_model.specs.Simulation.{simulation_of}
+use Rattle.vt_model.specs.Settings.{end_of}
 use Rattle.vt_steps.specs.declared.step.Step.TheVariants.{Commit}
 use Rattle.vt_steps.specs.declared.step.Reply.TheVariants.{Done}
 use Rattle.vt_station.specs.Calls.{Visited, ShowsFloor, IsFloorLeft, Stays, IsRefusedAlone}
@@ -27,7 +28,7 @@ returns-clause-alone g c r =
     let known : v.worker < key.config.workers = omega arith in
     subst (λ (u : ℕ). IsRefusedAlone sim v r.steps (Commit u) c.commit_at.result) own
     (commit-alone H key.config v w k left r (Stays v w × (left ≡ k)) c.commit_at.result
-    (λ _. (shown : Time) × (visited : Visited H key.config v k (Commit v.worker) Done left shown w) × ShowsFloor key.config.end shown visited.visits.at.now × IsFloorLeft sim v (Commit v.worker) shown)
+    (λ _. (shown : Time) × (visited : Visited H key.config v k (Commit v.worker) Done left shown w) × ShowsFloor (end_of key.config) shown visited.visits.at.now × IsFloorLeft sim v (Commit v.worker) shown)
     (lawful_of H key.config (g.met.M.Model.start_within m) (g.met.M.Model.forward_within m)) known (λ x d. (d.0, d.1))
-    (subst (λ (u : ℕ). MatchResult c.commit_at.result (λ _. (shown : Time) × (visited : Visited H key.config v k (Commit u) Done left shown w) × ShowsFloor key.config.end shown visited.visits.at.now × IsFloorLeft sim v (Commit u) shown) (λ _. Stays v w × (left ≡ k))) (sym own) c.commit_at.ensures.done)
+    (subst (λ (u : ℕ). MatchResult c.commit_at.result (λ _. (shown : Time) × (visited : Visited H key.config v k (Commit u) Done left shown w) × ShowsFloor (end_of key.config) shown visited.visits.at.now × IsFloorLeft sim v (Commit u) shown) (λ _. Stays v w × (left ≡ k))) (sym own) c.commit_at.ensures.done)
     c.commit_at.ensures.refused)

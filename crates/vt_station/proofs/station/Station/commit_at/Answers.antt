@@ -1,6 +1,7 @@
 use Rattle.std.proofs.Common.{◌≡◌, ◌+◌, inl, inr, ℕ, true, false, refl, sym, ap, subst, ◌∙◌, arith}
 use Rattle.vt_model.specs.Simulation.{simulation_of}
 use Rattle.vt_model.proofs.LawLemmas.{lawful_of}
+use Rattle.vt_model.specs.Settings.{end_of}
 use Rattle.vt_steps.specs.declared.step.Step.TheVariants.{Commit}
 use Rattle.vt_steps.specs.declared.step.Reply.TheVariants.{Done}
 use Rattle.vt_steps.specs.World.{Part, Book, book_floor}
@@ -33,8 +34,8 @@ hand_in-requires-clause-held g c κs within =
     let book = (shown sim t.known.log).book in (
       book,
       took-book sim key.config c.args.seat.now.me c.claim.new.seat.me (c.args.self.now.workers + 1) c.requires.rests t (omega arith),
-      λ open_is. ok-more c.batch_of-batch.result (λ x. x ≡ rows_of_commit (simulation_of H k.config) k.worker r.part) (λ x. may_hand (record { end = key.config.end; book = book }) c.args.worker x c.floor-floor.result ≡ true)
-          (λ x is. ap (λ w. may_hand (record { end = key.config.end; book = book }) w x c.floor-floor.result) (sym c.requires.worker)
+      λ open_is. ok-more c.batch_of-batch.result (λ x. x ≡ rows_of_commit (simulation_of H k.config) k.worker r.part) (λ x. may_hand (record { end = (end_of key.config); book = book }) c.args.worker x c.floor-floor.result ≡ true)
+          (λ x is. ap (λ w. may_hand (record { end = (end_of key.config); book = book }) w x c.floor-floor.result) (sym c.requires.worker)
           ∙ hand-lawful H key.config lawful v (c.args.self.now.workers + 1) _ t.known k r x c.floor-floor.result c.floor-floor.ensures is)
           (c.batch_of-batch.ensures.rows H r.part r.stands),
     )
@@ -99,14 +100,14 @@ returns-in-Ok-clause-done g c =
     let visited = committed-visited H key.config v c.hand_in.new.seat.me.0 w lent left c.in-Ok.shown after (place.0, c.in-Ok.ensures.same.2 ∙ place.1) c.release_commit.ensures.done stands
     (ap (λ (h : HeldWorker _ _ _). h.worker) (c.fossil.ensures.others) ∙ ap (λ (h : HeldWorker _ _ _). h.worker) (sym c.of.ensures))
     (ap (λ (h : HeldWorker _ _ _). h.config) (c.fossil.ensures.others) ∙ ap (λ (h : HeldWorker _ _ _). h.config) (sym c.of.ensures)) in
-    let both = subst (λ (h : HeldWorker _ _ _). (r : Visited H key.config v h (Commit w) Done left c.in-Ok.shown after) × ShowsFloor key.config.end c.in-Ok.shown r.visits.at.now) c.of.ensures visited in (
+    let both = subst (λ (h : HeldWorker _ _ _). (r : Visited H key.config v h (Commit w) Done left c.in-Ok.shown after) × ShowsFloor (end_of key.config) c.in-Ok.shown r.visits.at.now) c.of.ensures visited in (
       c.in-Ok.shown,
       both.0,
       both.1,
       subst (λ (u : ℕ). IsFloorLeft sim v (Commit u) c.in-Ok.shown) c.requires.worker
           (commit-left H key.config lawful v cell _ t.known k r rows floor c.in-Ok.shown (ap (λ (b : Book). b.is_closed) same ∙ d.2.2) c.floor-floor.ensures
           (handed-is c.batch_of-batch.result (λ x. x) rows (rows_of_commit (simulation_of H k.config) k.worker r.part) d.2.1 (c.batch_of-batch.ensures.rows H r.part r.stands))
-          (d.2.4 ∙ (λ i. book_floor key.config.end (with_rows (sym c.requires.worker i) rows floor (sym same i))))),
+          (d.2.4 ∙ (λ i. book_floor (end_of key.config) (with_rows (sym c.requires.worker i) rows floor (sym same i))))),
     )
 
 pub returns-in-Ok-clause-closed : goal.returns-in-Ok-clause-closed

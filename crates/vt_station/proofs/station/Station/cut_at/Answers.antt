@@ -2,6 +2,7 @@ use Rattle.std.proofs.Common.{◌≡◌, refl, sym, ap, subst, ◌∙◌}
 use Rattle.vt_model.specs.declared.settings.Config.{Config}
 use Rattle.vt_model.specs.Simulation.{simulation_of}
 use Rattle.vt_model.proofs.LawLemmas.{lawful_of}
+use Rattle.vt_model.specs.Settings.{end_of}
 use Rattle.vt_steps.specs.declared.step.Step.TheVariants.{Cut}
 use Rattle.vt_steps.specs.declared.step.Reply.TheVariants.{Done}
 use Rattle.vt_steps.specs.Cells.{on_board}
@@ -35,13 +36,13 @@ release_visit-requires-clause-held g c κs within =
     let took = took-board sim key.config c.args.seat.now.me c.claim.new.seat.me c.args.self.now.workers c.requires.rests t (sym counted) in
     let d = c.in-Ok.ensures.done board took in
     let same : k.config ≡ key.config = c.requires.kernel.config_is in
-    let end : k.config.end ≡ key.config.end = ap (λ (f : Config). f.end) same in
+    let end : (end_of k.config) ≡ (end_of key.config) = ap (λ (f : Config). (end_of f)) same in
     let acts : Acts H key.config (Cut c.args.worker) Done k (on_board board) c.turn.new.self (on_board d.0) = record {
       acts = λ part s. (
-        part_after_cut key.config.end board.announced part,
+        part_after_cut (end_of key.config) board.announced part,
         act-cut sim c.args.worker part board d.0 d.2,
         subst (λ t. StandsFor H c.turn.new.self (part_after_cut t board.announced part)) end
-            (subst (λ t. StandsFor H c.turn.new.self (part_after_cut k.config.end t part)) d.3 (c.turn.ensures.stands H part s)),
+            (subst (λ t. StandsFor H c.turn.new.self (part_after_cut (end_of k.config) t part)) d.3 (c.turn.ensures.stands H part s)),
       );
       worker = ap (λ (h : HeldWorker _ _ _). h.worker) c.turn.ensures.turned;
       config_is = ap (λ (h : HeldWorker _ _ _). h.config) c.turn.ensures.turned;
@@ -66,7 +67,7 @@ returns-in-Err-clause-refused g c =
     let d = c.in-Err.ensures.done board took in
     let r = c.requires.kernel in
     cut-refused sim c.args.seat.now.me.0 c.args.self.now.workers _ t.known r.steps r.part r.led (lawful_of H key.config (g.met.M.Model.start_within m) (g.met.M.Model.forward_within m)) c.in-Err.fault
-    (ap (λ w. cut_outcome key.config.end w board) c.requires.worker ∙ d.1)
+    (ap (λ w. cut_outcome (end_of key.config) w board) c.requires.worker ∙ d.1)
 
 pub returns-in-Ok-clause-done : goal.returns-in-Ok-clause-done
 returns-in-Ok-clause-done g c =

@@ -1,6 +1,7 @@
 use Rattle.std.proofs.Common.{◌≡◌, ◌+◌, [], refl, sym, ap, ◌∙◌, arith}
 use Rattle.vt_model.specs.Simulation.{simulation_of}
 use Rattle.vt_model.proofs.LawLemmas.{lawful_of}
+use Rattle.vt_model.specs.Settings.{end_of}
 use Rattle.vt_steps.specs.World.{book_floor, book_records}
 use Rattle.vt_steps.specs.Marked.{shown}
 use Rattle.vt_station.proofs.HeldLemmas.{held-book}
@@ -33,6 +34,6 @@ returns-in-Ok-clause-done g c =
     let same : book ≡ d.0 = held-book key.config c.claim.new.seat.me cell book d.0 _ _ took d.1 in
     let place = took-place sim key.config c.args.seat.now.me c.claim.new.seat.me cell c.requires.rests t in (
       c.in-Ok.floor,
-      refusal.records-shown sim v cell _ t.known [] v.part refl lawful c.in-Ok.floor c.in-Ok.records.items (d.3.1 ∙ ap (book_floor key.config.end) (sym same)) (d.3.0 ∙ ap (book_records key.config.end) (sym same)),
+      refusal.records-shown sim v cell _ t.known [] v.part refl lawful c.in-Ok.floor c.in-Ok.records.items (d.3.1 ∙ ap (book_floor (end_of key.config)) (sym same)) (d.3.0 ∙ ap (book_records (end_of key.config)) (sym same)),
       unvisited-held v c.copy_records.new.seat.me.0 c.in-Ok.floor c.release_unchanged.new.seat.me.0 (place.0, c.in-Ok.ensures.same.2 ∙ place.1) c.release_unchanged.ensures.stays,
     )

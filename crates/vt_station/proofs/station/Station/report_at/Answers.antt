@@ -2,6 +2,7 @@ use Rattle.std.proofs.Common.{◌≡◌, true, refl, sym, ap, subst, ◌∙◌, 
 use Rattle.vt_key.specs.Times.{TimeAtMost, time_at_most}
 use Rattle.vt_model.specs.declared.settings.Config.{Config}
 use Rattle.vt_model.specs.Simulation.{simulation_of}
+use Rattle.vt_model.specs.Settings.{end_of}
 use Rattle.vt_steps.specs.declared.step.Step.TheVariants.{Report}
 use Rattle.vt_steps.specs.declared.step.Reply.{Reply}
 use Rattle.vt_steps.specs.BoardSteps.{may_report, with_report, board_after_report}
@@ -43,15 +44,15 @@ release_visit-requires-clause-held g c κs within =
     let took = took-board sim key.config c.args.seat.now.me c.claim.new.seat.me c.args.self.now.workers c.requires.rests t (sym counted) in
     let d = c.in-Ok.ensures.done board took in
     let with_its = with_report w sent got least board in
-    let new = board_after_report key.config.end with_its in
-    let end : k.config.end ≡ key.config.end = ap (λ (f : Config). f.end) c.requires.kernel.config_is in
-    let may : may_report w least board ≡ true = (both_pass (may_report w least board) (time_at_most least key.config.end) d.1).0 in
+    let new = board_after_report (end_of key.config) with_its in
+    let end : (end_of k.config) ≡ (end_of key.config) = ap (λ (f : Config). (end_of f)) c.requires.kernel.config_is in
+    let may : may_report w least board ≡ true = (both_pass (may_report w least board) (time_at_most least (end_of key.config)) d.1).0 in
     let left = c.set_floor.new.self in
     let acts : Acts H key.config (Report w) c.reply_of.result k (on_board board) left (on_board new) = record {
       acts = λ part s.
           (let v = c.report_values-sent.ensures.reports H part s in
-          let value : least ≡ report_least key.config.end part = v.2 ∙ ap (λ e. report_least e part) end in
-          let same : with_report w (report_sent part) (report_got part) (report_least key.config.end part) board ≡ with_its = (λ i. with_report w (sym v.0 i) (sym v.1 i) (sym value i) board) in (
+          let value : least ≡ report_least (end_of key.config) part = v.2 ∙ ap (λ e. report_least e part) end in
+          let same : with_report w (report_sent part) (report_got part) (report_least (end_of key.config) part) board ≡ with_its = (λ i. with_report w (sym v.0 i) (sym v.1 i) (sym value i) board) in (
             record part { floor = new.announced },
             act-report sim w part board (ap (λ t. may_report w t board) (sym value) ∙ may)
                 ∙ ap (act_report sim part) same
@@ -81,14 +82,14 @@ returns-in-Err-clause-refused g c =
     let took = took-board sim key.config c.args.seat.now.me c.claim.new.seat.me c.args.self.now.workers c.requires.rests t (sym counted) in
     let d = c.in-Err.ensures.done board took in
     let r = c.requires.kernel in
-    let end : k.config.end ≡ key.config.end = ap (λ (f : Config). f.end) r.config_is in
+    let end : (end_of k.config) ≡ (end_of key.config) = ap (λ (f : Config). (end_of f)) r.config_is in
     let v = c.report_values-sent.ensures.reports H r.part r.stands in
-    let bound = least-ends k.config.end (held_letters k) in
+    let bound = least-ends (end_of k.config) (held_letters k) in
     let value = c.report_values-sent.ensures.least in
-    let ends : TimeAtMost least key.config.end = omega (arith, bound, value, end) in
+    let ends : TimeAtMost least (end_of key.config) = omega (arith, bound, value, end) in
     subst (IsReportRefusal sim c.args.seat.now.me.0) (sym d.2)
     (report-refused sim c.args.seat.now.me.0 c.args.self.now.workers _ t.known r.steps r.part r.led least (v.2 ∙ ap (λ e. report_least e r.part) end)
-    (ap (λ w. takes_report key.config.end w least board) c.requires.worker ∙ d.1) ends)
+    (ap (λ w. takes_report (end_of key.config) w least board) c.requires.worker ∙ d.1) ends)
 
 pub returns-in-Ok-clause-done : goal.returns-in-Ok-clause-done
 returns-in-Ok-clause-done g c =

@@ -1,6 +1,7 @@
 use Rattle.std.proofs.Common.{◌≡◌, ◌+◌, [], refl, sym, ap, ◌∙◌, arith}
 use Rattle.vt_model.specs.Simulation.{simulation_of}
 use Rattle.vt_model.proofs.LawLemmas.{lawful_of}
+use Rattle.vt_model.specs.Settings.{end_of}
 use Rattle.vt_steps.specs.World.{book_floor, book_records}
 use Rattle.vt_steps.specs.Marked.{shown}
 use Rattle.vt_station.proofs.HeldLemmas.{held-book}
@@ -31,5 +32,5 @@ returns-clause-shown g c =
     let took = took-book sim key.config c.args.place.seat.me c.claim.new.seat.me cell c.args.place.rests t (omega arith) in
     let d = c.take_records.ensures in
     let same : book ≡ d.0 = held-book key.config c.claim.new.seat.me cell book d.0 _ _ took d.1 in
-    let floor = book_floor key.config.end book in
-    (floor, refusal.records-shown sim v cell _ t.known [] v.part refl lawful floor c.take_records.result.items refl (d.2 ∙ ap (book_records key.config.end) (sym same)))
+    let floor = book_floor (end_of key.config) book in
+    (floor, refusal.records-shown sim v cell _ t.known [] v.part refl lawful floor c.take_records.result.items refl (d.2 ∙ ap (book_records (end_of key.config)) (sym same)))

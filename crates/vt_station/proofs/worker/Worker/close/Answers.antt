@@ -1,5 +1,6 @@
 use Rattle.std.proofs.Common.{sym, ◌∙◌}
 use Rattle.vt_model.specs.Simulation.{simulation_of}
+use Rattle.vt_model.specs.Settings.{end_of}
 use Rattle.vt_station.proofs.ReachLemmas.{reaches-closed}
 use Rattle.vt_station.proofs.worker.Worker.close.Goals as goal
 
@@ -13,7 +14,7 @@ invariant_of-self g c =
       config_is = before.config_is;
       table_is = before.table_is ∙ sym after.ensures.same.0;
       model_is = before.model_is;
-      reaches = reaches-closed H i.station.now.table.shared.key.config i.place.seat.me.0 after.new.place.seat.me.0 i.kernel before.reaches (simulation_of (g.M.Model.handlers i.station.now.table.shared.key.model.value) i.station.now.table.shared.key.config) i.station.now.table.shared.key.config.end after.result after.ensures.done;
+      reaches = reaches-closed H i.station.now.table.shared.key.config i.place.seat.me.0 after.new.place.seat.me.0 i.kernel before.reaches (simulation_of (g.M.Model.handlers i.station.now.table.shared.key.model.value) i.station.now.table.shared.key.config) (end_of i.station.now.table.shared.key.config) after.result after.ensures.done;
     }
 
 pub close-requires-clause-own : goal.close-requires-clause-own

@@ -1,6 +1,7 @@
 use Rattle.std.proofs.Common.{◌≡◌, ℕ, sym, ◌∙◌, subst, MatchResult}
 use Rattle.vt_key.specs.Times.{Time}
 use Rattle.vt_model.specs.Simulation.{simulation_of}
+use Rattle.vt_model.specs.Settings.{end_of}
 use Rattle.vt_steps.specs.declared.step.Step.TheVariants.{Commit}
 use Rattle.vt_steps.specs.declared.step.Reply.TheVariants.{Done}
 use Rattle.vt_station.specs.AtWork.{AtWork}
@@ -37,8 +38,8 @@ returns-clause-done g c =
     let w = after.new.place.seat.me.0 in
     let left = after.new.kernel in
     let there = subst (λ (z : g.row.M.Denot × ℕ). MatchResult after.result
-    (λ _. (shown : Time) × (visited : Visited (g.M.Model.handlers z.0) key.config v i.kernel (Commit z.1) Done left shown w) × ShowsFloor key.config.end shown visited.visits.at.now × IsFloorLeft (simulation_of (g.M.Model.handlers z.0) key.config) v (Commit z.1) shown)
+    (λ _. (shown : Time) × (visited : Visited (g.M.Model.handlers z.0) key.config v i.kernel (Commit z.1) Done left shown w) × ShowsFloor (end_of key.config) shown visited.visits.at.now × IsFloorLeft (simulation_of (g.M.Model.handlers z.0) key.config) v (Commit z.1) shown)
     (λ _. Stays v w × (left ≡ i.kernel))) (λ j. (before.model_is j, (sym i.place.own ∙ sym before.reaches.worker) j)) after.ensures.done in
     subst (λ (o : AtWork g.row.M.Denot g.row.M-State.Denot g.row.M-Payload.Denot g.row.M-Kept.Denot). MatchResult after.result
-    (λ _. (shown : Time) × (visited : Visited (g.M.Model.handlers o.model) o.config o.view o.kernel (Commit o.kernel.worker) Done left shown w) × ShowsFloor o.config.end shown visited.visits.at.now × IsFloorLeft (simulation_of (g.M.Model.handlers o.model) o.config) o.view (Commit o.kernel.worker) shown)
+    (λ _. (shown : Time) × (visited : Visited (g.M.Model.handlers o.model) o.config o.view o.kernel (Commit o.kernel.worker) Done left shown w) × ShowsFloor (end_of o.config) shown visited.visits.at.now × IsFloorLeft (simulation_of (g.M.Model.handlers o.model) o.config) o.view (Commit o.kernel.worker) shown)
     (λ _. Stays o.view w × (left ≡ o.kernel))) c.self.view_is there

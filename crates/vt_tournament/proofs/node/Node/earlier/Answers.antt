@@ -1,17 +1,12 @@
-use Rattle.std.proofs.Common.{◌<◌, ◌^◌, ◌∙◌, nat_lt, if◌then◌else◌, ap, arith}
-use Rattle.vt_tournament.specs.declared.node.Node.{Node}
-use Rattle.vt_tournament.specs.Contest.{unpacked}
+use Rattle.std.proofs.Common.{nat_lt, if◌then◌else◌, ap, ◌∙◌}
+use Rattle.vt_tournament.specs.Contest.{Node, unpacked}
 use Rattle.vt_tournament.proofs.NodeLemmas.{chosen}
 use Rattle.vt_tournament.proofs.node.Node.earlier.Goals as goal
 
-pub returns : goal.returns
-returns c =
+pub returns-clause-first : goal.returns-clause-first
+returns-clause-first c =
     let a : Node = c.args.self in
     let b : Node = c.args.other in
-    let low : a.source < 2 ^ 32 = omega arith in
-    let few : a.number < 2 ^ 32 = omega arith in
-    let other_low : b.source < 2 ^ 32 = omega arith in
-    let other_few : b.number < 2 ^ 32 = omega arith in
     c.unpacked.ensures ∙ ap unpacked c.lesser.ensures
-    ∙ (λ k. unpacked (if nat_lt (c.packed-others.ensures k) (c.packed-own.ensures k) then c.packed-others.ensures k else c.packed-own.ensures k))
-    ∙ chosen a b low few other_low other_few
+    ∙ (λ k. unpacked (if nat_lt (c.packed-others.ensures.number k) (c.packed-own.ensures.number k) then c.packed-others.ensures.number k else c.packed-own.ensures.number k))
+    ∙ chosen a b c.packed-own.ensures.small c.packed-others.ensures.small

@@ -10,6 +10,7 @@ use Rattle.vt_kernel.specs.Held.{HeldWorker, StandsFor}
 use Rattle.vt_board.specs.BoardOfRun.{BoardOfRun}
 use Rattle.vt_board.specs.Calls.{cut_outcome}
 use Rattle.vt_model.proofs.LawLemmas.{lawful_of}
+use Rattle.vt_model.specs.Settings.{end_of}
 use Rattle.vt_world.proofs.ReachedLemmas.{inside_view}
 use Rattle.vt_world.proofs.StepLemmas.{step-done, step-refused, step-unlawful, inside-same}
 use Rattle.vt_world.proofs.Places.{inside-worker}
@@ -28,27 +29,27 @@ returns-then-w-self g c =
     step-unlawful (g.M.Model.handlers) c.self.view_is c.self.invariant c.args.self.now (Cut c.args.w) NotLawful (Err NotLawful) refl (sym c.self.view_is)
     (cut-nobody (g.M.Model.handlers m) held c.self.invariant.own_workers c.args.w (slice_get_past i.kernels.items c.args.w past))
 
-pub invariant_of-self : goal.invariant_of-self
-invariant_of-self g c =
+pub invariant_of-self-in-Err : goal.invariant_of-self-in-Err
+invariant_of-self-in-Err g c =
     let i = c.self.inside in
     let m = i.model.now in
     let held = inside_view m i.config i.kernels.items i.inboxes.items i.board.board i.book.book in
     inside-same (g.M.Model.handlers m) held c.self.invariant (inside_view m i.config i.kernels.items i.inboxes.items c.cut.new.self.board i.book.book)
-    (ap (λ (b : BoardOfRun). inside_view m i.config i.kernels.items i.inboxes.items b.board i.book.book) c.in_err-announced.ensures.kept) (ap (λ (b : BoardOfRun). b.end) c.in_err-announced.ensures.kept) refl
+    (ap (λ (b : BoardOfRun). inside_view m i.config i.kernels.items i.inboxes.items b.board i.book.book) c.in-Err.ensures.kept) (ap (λ (b : BoardOfRun). b.end) c.in-Err.ensures.kept) refl
 
-pub returns-in_err-announced : goal.returns-in_err-announced
-returns-in_err-announced g c =
+pub returns-in-Err : goal.returns-in-Err
+returns-in-Err g c =
     let i = c.self.inside in
     let m = i.model.now in
     let held = inside_view m i.config i.kernels.items i.inboxes.items i.board.board i.book.book in
     let many = c.self.invariant.all_workers in
     let below : c.args.w < length i.kernels.items = omega (arith, many, c.if-w-self.false) in
-    step-refused (g.M.Model.handlers) c.self.view_is c.self.invariant (inside_view m i.config i.kernels.items i.inboxes.items c.cut.new.self.board i.book.book) (Cut c.args.w) c.in_err-announced.field-0.0 c.from_residual.result (search rules)
-    (ap (λ (b : BoardOfRun). inside_view m i.config i.kernels.items i.inboxes.items b.board i.book.book) c.in_err-announced.ensures.kept)
-    (cut-why (g.M.Model.handlers m) held c.self.invariant.own_workers i.board.end c.args.w c.in_err-announced.field-0.0 c.self.invariant.same_board_end below c.in_err-announced.ensures.refused)
+    step-refused (g.M.Model.handlers) c.self.view_is c.self.invariant (inside_view m i.config i.kernels.items i.inboxes.items c.cut.new.self.board i.book.book) (Cut c.args.w) c.in-Err.fault (Err c.in-Err.fault) refl
+    (ap (λ (b : BoardOfRun). inside_view m i.config i.kernels.items i.inboxes.items b.board i.book.book) c.in-Err.ensures.kept)
+    (cut-why (g.M.Model.handlers m) held c.self.invariant.own_workers i.board.end c.args.w c.in-Err.fault c.self.invariant.same_board_end below c.in-Err.ensures.refused)
 
-pub invariant_of-self-2 : goal.invariant_of-self-2
-invariant_of-self-2 g c =
+pub invariant_of-self : goal.invariant_of-self
+invariant_of-self g c =
     let i = c.self.inside in
     let m = i.model.now in
     let H = g.M.Model.handlers m in
@@ -57,16 +58,16 @@ invariant_of-self-2 g c =
     let many = c.self.invariant.all_workers in
     let below : c.args.w < length i.kernels.items = omega (arith, many, c.if-w-self.false) in
     let at : slice_get i.kernels.items c.args.w ≡ Some k = slice_get_read i.kernels.items (length i.kernels.items) c.args.w k refl below c.index_mut.ensures.value in
-    let cuts : cut_board i.config.end c.args.w i.board.board ≡ Some c.cut.new.self.board =
-    ap (λ t. cut_board t c.args.w i.board.board) (sym c.self.invariant.same_board_end) ∙ counted-ok (cut_board i.board.end c.args.w i.board.board) c.cut.new.self.board c.in_ok-announced.ensures.cut in
+    let cuts : cut_board (end_of i.config) c.args.w i.board.board ≡ Some c.cut.new.self.board =
+    ap (λ t. cut_board t c.args.w i.board.board) (sym c.self.invariant.same_board_end) ∙ counted-ok (cut_board i.board.end c.args.w i.board.board) c.cut.new.self.board c.in-Ok.ensures.cut in
     let same_worker = ap (λ (x : HeldWorker _ _ _). x.worker) c.turn.ensures.turned in
     let same_config = ap (λ (x : HeldWorker _ _ _). x.config) c.turn.ensures.turned in
-    inside-worker H held c.self.invariant (Cut c.args.w) Done c.args.w k c.turn.new.self c.cut.new.self.board i.book.book at same_worker same_config c.in_ok-announced.ensures.same_end refl
+    inside-worker H held c.self.invariant (Cut c.args.w) Done c.args.w k c.turn.new.self c.cut.new.self.board i.book.book at same_worker same_config c.in-Ok.ensures.same_end refl
     (cut-done H held c.self.invariant.own_workers c.args.w k c.turn.new.self c.cut.new.self.board at cuts same_worker same_config
-    (λ part s. subst (λ (t : Time). StandsFor H c.turn.new.self (part_after_cut k.config.end t part)) c.in_ok-announced.ensures.announced (c.turn.ensures.stands H part s)))
+    (λ part s. subst (λ (t : Time). StandsFor H c.turn.new.self (part_after_cut (end_of k.config) t part)) c.in-Ok.ensures.announced (c.turn.ensures.stands H part s)))
 
-pub returns : goal.returns
-returns g c =
+pub returns-in-Ok : goal.returns-in-Ok
+returns-in-Ok g c =
     let i = c.self.inside in
     let m = i.model.now in
     let H = g.M.Model.handlers m in
@@ -75,12 +76,12 @@ returns g c =
     let many = c.self.invariant.all_workers in
     let below : c.args.w < length i.kernels.items = omega (arith, many, c.if-w-self.false) in
     let at : slice_get i.kernels.items c.args.w ≡ Some k = slice_get_read i.kernels.items (length i.kernels.items) c.args.w k refl below c.index_mut.ensures.value in
-    let cuts : cut_board i.config.end c.args.w i.board.board ≡ Some c.cut.new.self.board =
-    ap (λ t. cut_board t c.args.w i.board.board) (sym c.self.invariant.same_board_end) ∙ counted-ok (cut_board i.board.end c.args.w i.board.board) c.cut.new.self.board c.in_ok-announced.ensures.cut in
+    let cuts : cut_board (end_of i.config) c.args.w i.board.board ≡ Some c.cut.new.self.board =
+    ap (λ t. cut_board t c.args.w i.board.board) (sym c.self.invariant.same_board_end) ∙ counted-ok (cut_board i.board.end c.args.w i.board.board) c.cut.new.self.board c.in-Ok.ensures.cut in
     let same_worker = ap (λ (x : HeldWorker _ _ _). x.worker) c.turn.ensures.turned in
     let same_config = ap (λ (x : HeldWorker _ _ _). x.config) c.turn.ensures.turned in
     step-done (g.M.Model.handlers) c.self.view_is c.self.invariant (lawful_of (g.M.Model.handlers m) i.config (g.met.M.Model.start_within m) (g.met.M.Model.forward_within m)) (inside_view m i.config (slice_set i.kernels.items c.args.w c.turn.new.self) i.inboxes.items c.cut.new.self.board i.book.book) (Cut c.args.w) Done
     (cut-done H held c.self.invariant.own_workers c.args.w k c.turn.new.self c.cut.new.self.board at cuts same_worker same_config
-    (λ part s. subst (λ (t : Time). StandsFor H c.turn.new.self (part_after_cut k.config.end t part)) c.in_ok-announced.ensures.announced (c.turn.ensures.stands H part s))) refl refl
+    (λ part s. subst (λ (t : Time). StandsFor H c.turn.new.self (part_after_cut (end_of k.config) t part)) c.in-Ok.ensures.announced (c.turn.ensures.stands H part s))) refl refl
     (cut-within H (inside_view m i.config (slice_set i.kernels.items c.args.w c.turn.new.self) i.inboxes.items c.cut.new.self.board i.book.book) c.args.w
-    (counted-few (cut_board i.board.end c.args.w i.board.board) c.cut.new.self.board c.in_ok-announced.ensures.cut))
+    (counted-few (cut_board i.board.end c.args.w i.board.board) c.cut.new.self.board c.in-Ok.ensures.cut))

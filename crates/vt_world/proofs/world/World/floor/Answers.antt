@@ -5,6 +5,7 @@ use Rattle.std.proofs.Props.{props}
 use Rattle.vt_key.specs.Times.{TimeAtMost}
 use Rattle.vt_steps.specs.World.{book_floor}
 use Rattle.vt_model.proofs.LawLemmas.{lawful_of}
+use Rattle.vt_model.specs.Settings.{end_of}
 use Rattle.vt_world.specs.Calls.{floor_held}
 use Rattle.vt_world.specs.Held.{HeldWorld}
 use Rattle.vt_world.proofs.ClosedLemmas.{floor-end}
@@ -35,5 +36,5 @@ returns-clause-closed g c =
     let held = inside_view m i.config i.kernels.items i.inboxes.items i.board.board i.book.book in
     let lawful = lawful_of (g.M.Model.handlers m) i.config (g.met.M.Model.start_within m) (g.met.M.Model.forward_within m) in
     let value = c.floor.ensures ∙ ap (λ t. book_floor t i.book.book) c.self.invariant.same_book_end in
-    subst (λ (v : HeldWorld _ _ _ _). IsTrue v.book.is_closed → c.floor.result ≡ v.config.end) c.self.view_is
+    subst (λ (v : HeldWorld _ _ _ _). IsTrue v.book.is_closed → c.floor.result ≡ (end_of v.config)) c.self.view_is
     (λ shut. value ∙ ∥∥₁_elim c.self.invariant.is_reached (Prim.hlevel props) (floor-end (g.M.Model.handlers m) held shut lawful))

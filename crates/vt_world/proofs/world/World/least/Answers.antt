@@ -1,10 +1,11 @@
-use Rattle.std.proofs.Common.{◌≡◌, ◌∙◌, List, map, sym, ap, subst, arith}
+use Rattle.std.proofs.Common.{◌≡◌, ℕ, ◌∙◌, List, map, sym, ap, subst, arith}
 use Rattle.std.specs.List.{All, flat_map}
 use Rattle.std.proofs.Math.Logic.{∥∥₁_elim}
 use Rattle.std.proofs.Props.{props}
 use Rattle.vt_key.specs.Times.{TimeAtMost, earlier}
 use Rattle.vt_key.specs.declared.letter.Mail.{Mail}
 use Rattle.vt_model.proofs.LawLemmas.{lawful_of}
+use Rattle.vt_model.specs.Settings.{end_of}
 use Rattle.vt_steps.specs.Letters.{least_time}
 use Rattle.vt_kernel.specs.Guards.{held_letters}
 use Rattle.vt_kernel.specs.Held.{HeldWorker}
@@ -18,19 +19,19 @@ use Rattle.vt_world.proofs.world.World.least.Goals as goal
 pub least_of_workers-held-requires-clause-same_end : goal.least_of_workers-held-requires-clause-same_end
 least_of_workers-held-requires-clause-same_end g c κs within =
     let i = c.self.inside in
-    subst (All (λ (k : HeldWorker _ _ _). k.config.end ≡ i.config.end)) (sym c.deref.ensures.value) (workers-end i.config 0 i.kernels.items c.self.invariant.own_workers)
+    subst (λ (t : ℕ). All (λ (k : HeldWorker _ _ _). end_of k.config ≡ t) c.deref.result.now) (sym c.end-end.ensures)
+    (subst (All (λ (k : HeldWorker _ _ _). end_of k.config ≡ end_of i.config)) (sym c.deref.ensures.value) (workers-end i.config 0 i.kernels.items c.self.invariant.own_workers))
 
 pub returns-clause-value : goal.returns-clause-value
 returns-clause-value g c =
     let i = c.self.inside in
-    let end = i.config.end in
+    let end = end_of i.config in
     let held = inside_view i.model.now i.config i.kernels.items i.inboxes.items i.board.board i.book.book in
     let at_workers : c.least_of_workers-held.result ≡ least_time end (flat_map held_letters i.kernels.items) =
-    c.least_of_workers-held.ensures ∙ ap (λ (ks : List (HeldWorker _ _ _)). least_time end (flat_map held_letters ks)) c.deref.ensures.value in
+    c.least_of_workers-held.ensures ∙ (λ j. least_time (c.end-end.ensures j) (flat_map held_letters (c.deref.ensures.value j))) in
     let travelling : c.least_of_inboxes-travelling.result ≡ least_time end (map (λ (mail : Mail _). mail.letter) (flat_map (λ inbox. inbox) i.inboxes.items)) =
-    c.least_of_inboxes-travelling.ensures ∙ ap (λ (boxes : List (List (Mail _))). least_time end (map (λ (mail : Mail _). mail.letter) (flat_map (λ inbox. inbox) boxes))) c.deref-2.ensures.value in
-    let lesser : c.min.result ≡ earlier c.least_of_workers-held.result c.least_of_inboxes-travelling.result = omega (arith, c.min.ensures) in
-    lesser
+    c.least_of_inboxes-travelling.ensures ∙ (λ j. least_time (c.end-end.ensures j) (map (λ (mail : Mail _). mail.letter) (flat_map (λ inbox. inbox) (c.deref-2.ensures.value j)))) in
+    c.earlier.ensures
     ∙ (λ j. earlier (at_workers j) (travelling j))
     ∙ sym (least_time-append end (flat_map held_letters i.kernels.items) (map (λ (mail : Mail _). mail.letter) (flat_map (λ inbox. inbox) i.inboxes.items)))
     ∙ ap (λ (v : HeldWorld _ _ _ _). least_held v) c.self.view_is

@@ -6,6 +6,7 @@ use Rattle.vt_model.specs.Simulation.{simulation_of}
 use Rattle.vt_model.specs.Sequential.{seq_records}
 use Rattle.vt_steps.specs.World.{book_records}
 use Rattle.vt_model.proofs.LawLemmas.{lawful_of}
+use Rattle.vt_model.specs.Settings.{end_of}
 use Rattle.vt_world.specs.Calls.{floor_held}
 use Rattle.vt_world.specs.Held.{HeldWorld}
 use Rattle.vt_world.proofs.ClosedLemmas.{floor-end}
@@ -30,5 +31,5 @@ returns-clause-closed g c =
     let lawful = lawful_of (g.M.Model.handlers m) i.config (g.met.M.Model.start_within m) (g.met.M.Model.forward_within m) in
     let right = ∥∥₁_elim c.self.invariant.is_reached (Prim.hlevel props) (records-sequential (g.M.Model.handlers m) held lawful) in
     let at_end = λ (shut : IsTrue held.book.is_closed). ∥∥₁_elim c.self.invariant.is_reached (Prim.hlevel props) (floor-end (g.M.Model.handlers m) held shut lawful) in
-    subst (λ (v : HeldWorld _ _ _ _). IsTrue v.book.is_closed → IfOk c.records.result (λ r. r.items ≡ seq_records (simulation_of (g.M.Model.handlers v.model) v.config) v.config.end)) c.self.view_is
+    subst (λ (v : HeldWorld _ _ _ _). IsTrue v.book.is_closed → IfOk c.records.result (λ r. r.items ≡ seq_records (simulation_of (g.M.Model.handlers v.model) v.config) (end_of v.config))) c.self.view_is
     (λ shut. if_ok-more c.records.result (λ r is. is ∙ ap (λ t. book_records t i.book.book) c.self.invariant.same_book_end ∙ right ∙ ap (seq_records (simulation_of (g.M.Model.handlers m) i.config)) (at_end shut)) c.records.ensures.records)

@@ -1,0 +1,15 @@
+-- The name of an event in virtual time.
+use Rattle.std.specs.Prelude.{ℕ}
+use Rattle.std.specs.declared.cmp.Ordering.{Ordering}
+use Rattle.std.specs.Ordering.{nat_cmp, on, then_cmp}
+use Rattle.vt_key.specs.Times.{Time}
+
+-- when the event is received, who sent it, and how many events the sender had sent before it
+pub record Key : Type 0 where
+  pub time : Time
+  pub source : ℕ
+  pub number : ℕ
+
+-- how two keys compare: by the time, then by the source, then by the number
+abbrev pub key_cmp : Key → Key → Ordering
+key_cmp = then_cmp (on (λ k. k.time) nat_cmp) (then_cmp (on (λ k. k.source) nat_cmp) (on (λ k. k.number) nat_cmp))
