@@ -4,7 +4,7 @@
 pub const MAX_PROCESSES: u32 = 65_536;
 
 /// The most workers of a run.
-pub const MAX_WORKERS: u32 = 64;
+pub const MAX_WORKERS: u32 = 256;
 
 /// The latest end of a run, in ticks: 2^62.
 pub const MAX_END: u64 = 1 << 62;

@@ -113,12 +113,12 @@ impl When {
         self.priority
     }
 
-    /// The first time of the tick that is `delay` ticks later.
-    pub fn after(self, delay: u64) -> When
+    /// The time of this priority in the tick that is `delay` ticks later.
+    pub fn after(self, delay: u64, priority: u8) -> When
         requires { ticks_of self + delay < 2 ^ 64 }
-        ensures { result ≡ at (ticks_of self + delay) 0 }
+        ensures { result ≡ at (ticks_of self + delay) priority }
     {
-        When::tick(self.time + delay)
+        When::new(self.time + delay, priority)
     }
 
     /// The earlier of two times.

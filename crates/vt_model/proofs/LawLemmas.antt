@@ -41,19 +41,18 @@ module _ {P : Type 0} (end p now : ℕ) where
     later : now < d.key.time
     ends : d.key.time < end
 
-  sending : (lps n : ℕ) (os : List (SendRequest P)) (d : Sent P) → All (IsSendable lps) os → Among d (sent_events end p now n os) → IsSending lps d
+  sending : (lps n : ℕ) (os : List (SendRequest P)) (d : Sent P) → All (IsSendable lps now) os → Among d (sent_events end p now n os) → IsSending lps d
   sending lps n [] d a m = absurd (subst (Among d) (sent-nil n) m)
   sending lps n (o ∷ os) d a m =
       elim (either (receive_time now o) end) [
         | inl l ↦
             elim (let k : Among d (sent_event p now (n, o) ∷ sent_events end p now (n + 1) os) = subst (Among d) (sent-yes n o os l) m in k) [
               | inl at ↦
-                  let first : IsSendable lps o = All-head (IsSendable lps) o os a in
-                  let lead : now < receive_time now o = omega (arith, first.later) in
-                  subst (IsSending lps) (sym at) (record { known = first.known; later = lead; ends = l })
-              | inr k ↦ sending lps (n + 1) os d (All-tail (IsSendable lps) o os a) k
+                  let first : IsSendable lps now o = All-head (IsSendable lps now) o os a in
+                  subst (IsSending lps) (sym at) (record { known = first.known; later = first.later; ends = l })
+              | inr k ↦ sending lps (n + 1) os d (All-tail (IsSendable lps now) o os a) k
             ]
-        | inr l ↦ sending lps (n + 1) os d (All-tail (IsSendable lps) o os a) (subst (Among d) (sent-no n o os l) m)
+        | inr l ↦ sending lps (n + 1) os d (All-tail (IsSendable lps now) o os a) (subst (Among d) (sent-no n o os l) m)
       ]
 
   lower : (lo low hi : ℕ) (es : List (Sent P)) → low ≤ lo → AreNumbered p lo hi es → AreNumbered p low hi es
@@ -77,10 +76,10 @@ module _ {P : Type 0} (end p now : ℕ) where
       elim (either (receive_time now o) end) [ inl l ↦ rw (sent-yes n o os l) (omega (arith, ih)) | inr l ↦ rw (sent-no n o os l) (omega (arith, ih)) ]
 
 module _ {S P K : Type 0} (handlers : Handlers S P K) (c : Config)
-    (start_within : (lps lp : ℕ) (words : ℕ → ℕ) → lp < lps → AreWords words → IsWithinLimits lps (handlers.start lps lp words).drawn (handlers.start lps lp words).send_requests [])
+    (start_within : (lps lp : ℕ) (words : ℕ → ℕ) → lp < lps → AreWords words → IsWithinLimits lps 0 (handlers.start lps lp words).drawn (handlers.start lps lp words).send_requests [])
     (forward_within : (lps lp now : ℕ) (p : P) (s : S) (words : ℕ → ℕ) → lp < lps → AreWords words
-    → IsWithinLimits lps (handlers.forward lps lp now p s words).drawn (handlers.forward lps lp now p s words).send_requests (handlers.forward lps lp now p s words).record_requests) where
-  started : (p : ℕ) → p < c.lps → IsWithinLimits c.lps (handlers.start c.lps p (words_at c.seed p 0)).drawn (handlers.start c.lps p (words_at c.seed p 0)).send_requests []
+    → IsWithinLimits lps now (handlers.forward lps lp now p s words).drawn (handlers.forward lps lp now p s words).send_requests (handlers.forward lps lp now p s words).record_requests) where
+  started : (p : ℕ) → p < c.lps → IsWithinLimits c.lps 0 (handlers.start c.lps p (words_at c.seed p 0)).drawn (handlers.start c.lps p (words_at c.seed p 0)).send_requests []
   started p is = start_within c.lps p (words_at c.seed p 0) is (are_words c.seed p 0)
 
   pub lawful_of : IsLawful (simulation_of handlers c)

@@ -20,20 +20,20 @@ module _ {P : Type 0} where
   unfolding sent_events requested_records
   told o kind value = simp (add-zero, append-nil)
 
-  pub sent_one : (o : Outgoing P) (dest delay : ℕ) (payload : P) → delay < ticks_of o.end - ticks_of o.time
-      → with_requests o (record { dest = dest; delay = delay; payload = payload } ∷ []) []
-      ≡ record o { number = o.number + 1; sends = o.sends ++ record { key = record { time = at (ticks_of o.time + delay) 0; source = o.lp; number = o.number }; dest = dest; payload = payload } ∷ [] }
+  pub sent_one : (o : Outgoing P) (dest delay priority : ℕ) (payload : P) → priority < 256 → delay < ticks_of o.end - ticks_of o.time
+      → with_requests o (record { dest = dest; delay = delay; priority = priority; payload = payload } ∷ []) []
+      ≡ record o { number = o.number + 1; sends = o.sends ++ record { key = record { time = at (ticks_of o.time + delay) priority; source = o.lp; number = o.number }; dest = dest; payload = payload } ∷ [] }
   unfolding sent_events requested_records
-  sent_one o dest delay payload early =
-      let e : time_before (at (ticks_of o.time + delay) 0) o.end ≡ true = lt-ltb _ _ (omega (arith, early)) in
+  sent_one o dest delay priority payload small early =
+      let e : time_before (at (ticks_of o.time + delay) priority) o.end ≡ true = lt-ltb _ _ (omega (arith, small, early)) in
       simp (e, append-nil)
 
-  pub sent_none : (o : Outgoing P) (dest delay : ℕ) (payload : P) → priority_of o.end ≡ 0 → o.time < o.end → ticks_of o.end - ticks_of o.time ≤ delay
-      → with_requests o (record { dest = dest; delay = delay; payload = payload } ∷ []) [] ≡ record o { number = o.number + 1 }
+  pub sent_none : (o : Outgoing P) (dest delay priority : ℕ) (payload : P) → priority_of o.end ≡ 0 → o.time < o.end → ticks_of o.end - ticks_of o.time ≤ delay
+      → with_requests o (record { dest = dest; delay = delay; priority = priority; payload = payload } ∷ []) [] ≡ record o { number = o.number + 1 }
   unfolding sent_events requested_records
-  sent_none o dest delay payload whole soon late =
-      let low : o.end ≤ at (ticks_of o.time + delay) 0 = omega (arith, whole, soon, late) in
-      let e : time_before (at (ticks_of o.time + delay) 0) o.end ≡ false = le-ltb _ _ low in
+  sent_none o dest delay priority payload whole soon late =
+      let low : o.end ≤ at (ticks_of o.time + delay) priority = omega (arith, whole, soon, late) in
+      let e : time_before (at (ticks_of o.time + delay) priority) o.end ≡ false = le-ltb _ _ low in
       simp (e, append-nil)
 
   pub with_requests-append : (o : Outgoing P) (xs ys : List (SendRequest P)) (ms ns : List RecordRequest) → with_requests (with_requests o xs ms) ys ns ≡ with_requests o (xs ++ ys) (ms ++ ns)

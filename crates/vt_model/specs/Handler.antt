@@ -5,7 +5,7 @@ use Rattle.vt_key.specs.declared.limits.TheConstants.{MAX_PROCESSES, MAX_END, MA
 use Rattle.vt_model.specs.declared.flags.Bits.{Bits}
 use Rattle.vt_model.specs.declared.limits.TheConstants.{MAX_DRAWS, MAX_SENDS, MAX_RECORDS}
 use Rattle.vt_stream.specs.Words.{Stream}
-use Rattle.vt_model.specs.Sends.{SendRequest, RecordRequest, Outgoing}
+use Rattle.vt_model.specs.Sends.{SendRequest, RecordRequest, Outgoing, receive_time}
 
 -- what a start gives: the first state, how many words it drew, and what it asks to be sent
 pub record StartResult (S P : Type 0) : Type 0 where
@@ -34,17 +34,18 @@ pub record Handlers (S P K : Type 0) : Type 0 where
   pub reverse : ℕ → Time → P → S → Bits → K → S
   pub finish : ℕ → S → ℕ
 
--- a request to send to a known process, later
-pub record IsSendable {P : Type 0} (lps : ℕ) (request : SendRequest P) : Type 0 where
+-- a request at a time to send to a known process, to be received later than that
+pub record IsSendable {P : Type 0} (lps : ℕ) (now : Time) (request : SendRequest P) : Type 0 where
   pub known : request.dest < lps
-  pub later : 1 ≤ request.delay
+  pub some_priority : request.priority < 256
+  pub later : TimeBefore now (receive_time now request)
 
 -- the limits of one handler
-pub record IsWithinLimits {P : Type 0} (lps drawn : ℕ) (send_requests : List (SendRequest P)) (record_requests : List RecordRequest) : Type 0 where
+pub record IsWithinLimits {P : Type 0} (lps : ℕ) (now : Time) (drawn : ℕ) (send_requests : List (SendRequest P)) (record_requests : List RecordRequest) : Type 0 where
   pub few_words : drawn ≤ MAX_DRAWS
   pub few_sends : length send_requests ≤ MAX_SENDS
   pub few_records : length record_requests ≤ MAX_RECORDS
-  pub sendable : All (IsSendable lps) send_requests
+  pub sendable : All (IsSendable lps now) send_requests
 
 -- words are below 2 ^ 32
 abbrev pub AreWords : (ℕ → ℕ) → Type 0

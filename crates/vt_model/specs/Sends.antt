@@ -9,6 +9,7 @@ use Rattle.vt_model.specs.declared.rows.Record.{Record}
 pub record SendRequest (P : Type 0) : Type 0 where
   pub dest : ℕ
   pub delay : ℕ
+  pub priority : ℕ
   pub payload : P
 
 -- a record as a handler asks for it
@@ -28,9 +29,9 @@ pub record Outgoing (P : Type 0) : Type 0 where
   pub sends : List (Sent P)
   pub records : List Record
 
--- when a send is received: so many ticks after the time of its handler, with priority 0
+-- when a send is received: so many ticks after the tick of its handler, with its own priority
 abbrev pub receive_time : {P : Type 0} → Time → SendRequest P → Time
-receive_time now request = at (ticks_of now + request.delay) 0
+receive_time now request = at (ticks_of now + request.delay) request.priority
 
 -- the event of a request with its send number
 abbrev pub sent_event : {P : Type 0} → ℕ → Time → ℕ × SendRequest P → Sent P

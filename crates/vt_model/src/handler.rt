@@ -37,7 +37,7 @@ pub trait Model {
     /// handler requires it.
     ghost IsState: { Self → Self.State → Type 0 };
 
-    /// Makes the state of process `lp` at time 0 and sends its first events, which are received at time 1 or later. It makes
+    /// Makes the state of process `lp` at time 0 and sends its first events, which are received after time 0 with priority 0. It makes
     /// no records, and is never undone.
     ///
     /// `draws` and `out` are as their `new` gives them, and `lp` is below `out.lps()`.
@@ -101,11 +101,11 @@ pub trait Model {
 
     /// A start keeps the limits of a handler.
     ghost start_within: { (m : Self) (lps lp : ℕ) (words : ℕ → ℕ) → lp < lps → AreWords words
-        → IsWithinLimits lps ((handlers m).start lps lp words).drawn ((handlers m).start lps lp words).send_requests [] };
+        → IsWithinLimits lps 0 ((handlers m).start lps lp words).drawn ((handlers m).start lps lp words).send_requests [] };
 
     /// An event keeps the limits of a handler.
     ghost forward_within: { (m : Self) (lps lp : ℕ) (now : Time) (p : Self.Payload) (s : Self.State) (words : ℕ → ℕ) → lp < lps → AreWords words
-        → IsWithinLimits lps ((handlers m).forward lps lp now p s words).drawn ((handlers m).forward lps lp now p s words).send_requests ((handlers m).forward lps lp now p s words).record_requests };
+        → IsWithinLimits lps now ((handlers m).forward lps lp now p s words).drawn ((handlers m).forward lps lp now p s words).send_requests ((handlers m).forward lps lp now p s words).record_requests };
 
     /// A process can be in the state that its start makes.
     ghost start_state: { (m : Self) (lps lp : ℕ) (words : ℕ → ℕ) → IsState m ((handlers m).start lps lp words).state };

@@ -1,7 +1,7 @@
 //! The limits of one handler, each named once.
 
 /// The most events that one handler may send. One that has more to send goes on in an event to its own process.
-pub const MAX_SENDS: usize = 8;
+pub const MAX_SENDS: usize = 16;
 
 /// The most records that one handler may make.
 pub const MAX_RECORDS: usize = 4;

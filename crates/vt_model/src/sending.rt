@@ -1,6 +1,7 @@
 //! What a handler sends and records.
 
 ghost use Rattle.std.specs.Prelude.{◌≡◌, ◌+◌, ◌^◌, ◌<◌, ◌≤◌, ◌↔◌, ◌++◌, [], ◌∷◌, length, IsTrue};
+ghost use Rattle.vt_key.specs.Times.{TimeBefore, at, ticks_of};
 ghost use Rattle.vt_model.specs.Settings.{end_of};
 
 use crate::{Config, MAX_RECORDS, MAX_SENDS, Record};
@@ -118,21 +119,29 @@ impl<P: Copy> Out<P> {
         self.records.len() < MAX_RECORDS
     }
 
+    /// Whether a time is later than now: `delay` ticks from now, with this priority. It is where the delay is 1 or more, and
+    /// within the present tick where the priority is higher than now's.
+    pub fn later(&self, delay: u64, priority: u8) -> bool
+        ensures { IsTrue result ↔ TimeBefore self.now.time (at (ticks_of self.now.time + delay) priority) }
+    {
+        delay > 0 || priority > self.time.priority()
+    }
+
     #[tactic(auto, using(crate::proofs::SendLemmas::sent_one, crate::proofs::SendLemmas::sent_none))]
-    /// Sends `payload` to process `dest`, to be received `delay` ticks from now; in a start, at time `delay`. A send takes
-    /// the next send number. If it would be received at the end of the run or later, it isn't sent. `dest` is below
-    /// [`Out::lps`] and may be the handler's own process. `delay` is at least 1, without an upper limit. There must be room
-    /// ([`Out::room`]).
-    pub fn send(&mut self, dest: u32, delay: u64, payload: P)
+    /// Sends `payload` to process `dest`, to be received `delay` ticks from now, with this priority; in a start, at tick
+    /// `delay`. A send takes the next send number. If it would be received at the end of the run or later, it isn't sent.
+    /// `dest` is below [`Out::lps`] and may be the handler's own process. The time of receipt is later than now
+    /// ([`Out::later`]); `delay` has no upper limit. There must be room ([`Out::room`]).
+    pub fn send(&mut self, dest: u32, delay: u64, priority: u8, payload: P)
         requires known { dest < self.old.lps }
-        requires later { 1 ≤ delay }
+        requires later { TimeBefore self.old.time (at (ticks_of self.old.time + delay) priority) }
         requires room { self.old.number < self.old.first + MAX_SENDS }
-        ensures { self.new ≡ with_requests self.old (record { dest = dest; delay = delay; payload = payload } ∷ []) [] }
+        ensures { self.new ≡ with_requests self.old (record { dest = dest; delay = delay; priority = priority; payload = payload } ∷ []) [] }
     {
         let number = self.number;
         self.number = number + 1;
         if delay < self.end.ticks() - self.time.ticks() {
-            let key = Key::new(self.time.after(delay), self.lp, number);
+            let key = Key::new(self.time.after(delay, priority), self.lp, number);
             let sent = Sent { key, dest, payload };
             match &mut self.sends {
                 Some(sends) => sends.push(sent),
