@@ -53,7 +53,7 @@ fn answer(words: &[String]) -> Result<(), Refusal> {
 /// Simulates the model and prints its records.
 fn run<M: Model>(model: &M, options: &Options) -> io::Result<()> {
     let config = Config { lps: options.lps, end: options.end, seed: options.seed };
-    let mut records = RecordWriter::new(io::stdout().lock());
+    let mut records = RecordWriter::new(io::stdout().lock(), options.text);
     match (options.synch, options.queue) {
         (Synch::Sequential, QueueName::Heap) => sequential::run(model, &config, HeapQueue::new(), &mut records)?,
         (Synch::Sequential, QueueName::Wheel) => sequential::run(model, &config, WheelQueue::new(), &mut records)?,

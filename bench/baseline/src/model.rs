@@ -3,7 +3,7 @@
 use crate::words::WordStream;
 
 /// At most so many sends of one handler.
-pub const MOST_SENDS: usize = 8;
+pub const MOST_SENDS: usize = 16;
 
 /// At most so many sends of one event: only the start of a process sends more.
 pub const MOST_SENDS_OF_EVENT: usize = 2;
@@ -12,26 +12,65 @@ pub const MOST_SENDS_OF_EVENT: usize = 2;
 pub struct Config {
     /// The number of logical processes.
     pub lps: u32,
-    /// Only events before this time are executed.
+    /// Only events before this tick are executed.
     pub end: u64,
     /// The seed of all random words.
     pub seed: u64,
 }
 
-/// Events are executed in the order of their keys: by receive time, then by the process that sent the event, then by
-/// that process's send number.
+/// A virtual time: a tick, and the priority within it. The lower priority comes first.
+#[derive(Clone, Copy, Default, PartialEq, Eq, PartialOrd, Ord)]
+pub struct When {
+    pub tick: u64,
+    pub priority: u8,
+}
+
+impl When {
+    /// The tick itself, which is before all that has a higher priority.
+    pub const fn tick(tick: u64) -> When {
+        When { tick, priority: 0 }
+    }
+}
+
+/// A priority and the process that sent, in one number whose order is theirs: there are fewer than 2^24 processes.
+#[derive(Clone, Copy, Default, PartialEq, Eq, PartialOrd, Ord)]
+pub struct Origin(u32);
+
+const BITS_OF_SOURCE: u32 = 24;
+
+impl Origin {
+    #[inline(always)]
+    pub fn new(priority: u8, source: u32) -> Origin {
+        Origin(u32::from(priority) << BITS_OF_SOURCE | source)
+    }
+
+    #[inline(always)]
+    pub fn priority(self) -> u8 {
+        (self.0 >> BITS_OF_SOURCE) as u8
+    }
+}
+
+/// Events are executed in the order of their keys: by receive time (tick, then priority), then by the process that sent
+/// the event, then by that process's send number.
 #[derive(Clone, Copy, Default, PartialEq, Eq, PartialOrd, Ord)]
 pub struct Key {
-    pub time: u64,
-    pub source: u32,
+    pub tick: u64,
+    pub origin: Origin,
     pub number: u64,
+}
+
+impl Key {
+    #[inline(always)]
+    pub fn when(&self) -> When {
+        When { tick: self.tick, priority: self.origin.priority() }
+    }
 }
 
 /// An event: its key, its receiver and what it carries. The key's parts stand here one by one, which takes less room.
 #[derive(Clone, Copy, Default)]
 pub struct Event<P> {
-    pub time: u64,
-    pub source: u32,
+    pub tick: u64,
+    pub origin: Origin,
     pub number: u64,
     pub dest: u32,
     pub payload: P,
@@ -40,13 +79,18 @@ pub struct Event<P> {
 impl<P> Event<P> {
     #[inline(always)]
     pub fn key(&self) -> Key {
-        Key { time: self.time, source: self.source, number: self.number }
+        Key { tick: self.tick, origin: self.origin, number: self.number }
+    }
+
+    #[inline(always)]
+    pub fn when(&self) -> When {
+        self.key().when()
     }
 }
 
 #[derive(Clone, Copy, Default)]
 pub struct Record {
-    pub time: u64,
+    pub when: When,
     pub lp: u32,
     pub kind: u32,
     pub value: u64,
@@ -71,7 +115,7 @@ pub struct Outgoing<P> {
     lps: u32,
     end: u64,
     lp: u32,
-    now: u64,
+    now: When,
     number: u64,
     sends: [Event<P>; MOST_SENDS],
     sent: usize,
@@ -84,7 +128,7 @@ impl<P: Copy + Default> Outgoing<P> {
             lps: config.lps,
             end: config.end,
             lp: 0,
-            now: 0,
+            now: When::tick(0),
             number: 0,
             sends: [Event::default(); MOST_SENDS],
             sent: 0,
@@ -94,7 +138,7 @@ impl<P: Copy + Default> Outgoing<P> {
 
     /// Makes it ready for a handler of the process, whose next send has that number.
     #[inline(always)]
-    pub fn begin(&mut self, lp: u32, now: u64, number: u64) {
+    pub fn begin(&mut self, lp: u32, now: When, number: u64) {
         self.lp = lp;
         self.now = now;
         self.number = number;
@@ -108,13 +152,26 @@ impl<P: Copy + Default> Outgoing<P> {
         self.lps
     }
 
-    /// Sends an event. One at or past the end takes its number, and is not sent.
+    /// The time of the event that is executed.
+    #[inline(always)]
+    pub fn now(&self) -> When {
+        self.now
+    }
+
+    /// Sends an event with priority 0, after a delay that is not 0.
     #[inline(always)]
     pub fn send(&mut self, dest: u32, delay: u64, payload: P) {
+        self.send_with(dest, delay, 0, payload);
+    }
+
+    /// Sends an event, whose time is later than now. One at or past the end takes its number, and is not sent.
+    #[inline(always)]
+    pub fn send_with(&mut self, dest: u32, delay: u64, priority: u8, payload: P) {
         let number = self.number;
         self.number += 1;
-        if delay < self.end - self.now {
-            self.sends[self.sent] = Event { time: self.now + delay, source: self.lp, number, dest, payload };
+        if delay < self.end - self.now.tick {
+            let (tick, origin) = (self.now.tick + delay, Origin::new(priority, self.lp));
+            self.sends[self.sent] = Event { tick, origin, number, dest, payload };
             self.sent += 1;
         }
     }
@@ -122,7 +179,7 @@ impl<P: Copy + Default> Outgoing<P> {
     /// Makes the handler's record: an event of these models makes at most one.
     #[inline(always)]
     pub fn emit(&mut self, kind: u32, value: u64) {
-        self.record = Some(Record { time: self.now, lp: self.lp, kind, value });
+        self.record = Some(Record { when: self.now, lp: self.lp, kind, value });
     }
 
     /// The number of the process's next send.

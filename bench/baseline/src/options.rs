@@ -1,6 +1,7 @@
 //! The words of the command line.
 
 use crate::models::{Hop, Phold, Stations};
+use crate::text::Version;
 use std::fmt;
 use std::ops::RangeInclusive;
 
@@ -12,7 +13,7 @@ Its own option is --queue, the sequential simulator's queue of pending events: h
 ";
 
 /// The options in the order in which they are tested.
-const NAMES: [&str; 18] = [
+const NAMES: [&str; 20] = [
     "model",
     "synch",
     "workers",
@@ -22,6 +23,7 @@ const NAMES: [&str; 18] = [
     "hops",
     "stride",
     "delay",
+    "rise",
     "population",
     "remote",
     "lookahead",
@@ -30,6 +32,7 @@ const NAMES: [&str; 18] = [
     "service",
     "travel",
     "turns",
+    "text",
     "queue",
 ];
 
@@ -96,6 +99,7 @@ pub struct Options {
     pub hop: Hop,
     pub phold: Phold,
     pub stations: Stations,
+    pub text: Version,
     pub queue: QueueName,
 }
 
@@ -193,6 +197,13 @@ impl Given {
         }
     }
 
+    fn version(&self) -> Result<Version, Refusal> {
+        match self.number("text", 1..=2, 2)? {
+            1 => Ok(Version::One),
+            _ => Ok(Version::Two),
+        }
+    }
+
     fn queue(&self) -> Result<QueueName, Refusal> {
         match self.text("queue") {
             None | Some("heap") => Ok(QueueName::Heap),
@@ -206,7 +217,7 @@ impl Given {
         let options = Options {
             model: self.model()?,
             synch: self.synch()?,
-            workers: self.small("workers", 1..=64, 1)?,
+            workers: self.small("workers", 1..=256, 1)?,
             lps: self.small("lps", 1..=65_536, 2)?,
             end: self.number("end", 1..=1 << 62, 10)?,
             seed: self.number("seed", 0..=u64::MAX, 0)?,
@@ -214,9 +225,10 @@ impl Given {
                 hops: self.small("hops", 0..=1_000_000, 2)?,
                 stride: self.small("stride", 0..=65_535, 1)?,
                 delay: self.number("delay", 1..=1_000_000, 2)?,
+                rise: self.small("rise", 0..=255, 0)?,
             },
             phold: Phold {
-                population: self.small("population", 0..=8, 1)?,
+                population: self.small("population", 0..=16, 1)?,
                 remote: self.number("remote", 0..=100, 0)?,
                 lookahead: self.number("lookahead", 1..=1_000_000, 1)?,
                 span: self.number("span", 1..=1_000_000, 1)?,
@@ -226,11 +238,12 @@ impl Given {
                 service: self.number("service", 1..=1_000_000, 1)?,
                 travel: self.number("travel", 1..=1_000_000, 1)?,
             },
-            queue: {
+            text: {
                 // Workers take turns in twarp alone.
                 self.number("turns", 1..=1 << 63, 10_000_000)?;
-                self.queue()?
+                self.version()?
             },
+            queue: self.queue()?,
         };
         Ok(options)
     }

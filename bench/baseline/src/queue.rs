@@ -54,10 +54,10 @@ impl<P> HeapQueue<P> {
         HeapQueue { heap: BinaryHeap::new() }
     }
 
-    /// The time of the event of least key.
+    /// The tick of the event of least key.
     #[inline(always)]
-    fn least_time(&self) -> Option<u64> {
-        self.heap.peek().map(|Reverse(event)| event.0.time)
+    fn least_tick(&self) -> Option<u64> {
+        self.heap.peek().map(|Reverse(event)| event.0.tick)
     }
 }
 
@@ -76,10 +76,10 @@ impl<P> EventQueue<P> for HeapQueue<P> {
 /// The number of the wheel's slots.
 const SLOTS: u64 = 1 << 12;
 
-/// A timing wheel: a slot for each of the next times, which is sorted when its time comes, and a heap for later events.
+/// A timing wheel: a slot for each of the next ticks, which is sorted when its tick comes, and a heap for later events.
 pub struct WheelQueue<P> {
     now: u64,
-    /// The events of the present time, in the order of their keys; those before `next` have been taken.
+    /// The events of the present tick, in the order of their keys; those before `next` have been taken.
     present: Vec<Event<P>>,
     next: usize,
     slots: Vec<Vec<Event<P>>>,
@@ -94,23 +94,30 @@ impl<P: Copy> WheelQueue<P> {
         WheelQueue { now: 0, present: Vec::new(), next: 0, slots, count: 0, later: HeapQueue::new() }
     }
 
-    fn slot(&mut self, time: u64) -> &mut Vec<Event<P>> {
-        &mut self.slots[(time % SLOTS) as usize]
+    fn slot(&mut self, tick: u64) -> &mut Vec<Event<P>> {
+        &mut self.slots[(tick % SLOTS) as usize]
     }
 
-    /// Goes on to the next time, or where no slot has an event to the least time of the later ones, if there is one.
+    /// Puts an event of the present tick where its key belongs: its time is past that of the event taken last.
+    #[cold]
+    fn push_present(&mut self, event: Event<P>) {
+        let at = self.next + self.present[self.next..].partition_point(|other| other.key() < event.key());
+        self.present.insert(at, event);
+    }
+
+    /// Goes on to the next tick, or where no slot has an event to the least tick of the later ones, if there is one.
     fn advance(&mut self) -> Option<()> {
-        self.now = if self.count == 0 { self.later.least_time()? } else { self.now + 1 };
-        while self.later.least_time().is_some_and(|time| time - self.now < SLOTS) {
+        self.now = if self.count == 0 { self.later.least_tick()? } else { self.now + 1 };
+        while self.later.least_tick().is_some_and(|tick| tick - self.now < SLOTS) {
             let event = self.later.pop()?;
-            self.slot(event.time).push(event);
+            self.slot(event.tick).push(event);
             self.count += 1;
         }
         self.present.clear();
         self.next = 0;
         std::mem::swap(&mut self.present, &mut self.slots[(self.now % SLOTS) as usize]);
         self.count -= self.present.len();
-        self.present.sort_unstable_by_key(|event| (event.source, event.number));
+        self.present.sort_unstable_by_key(|event| (event.origin, event.number));
         Some(())
     }
 }
@@ -118,8 +125,10 @@ impl<P: Copy> WheelQueue<P> {
 impl<P: Copy> EventQueue<P> for WheelQueue<P> {
     #[inline(always)]
     fn push(&mut self, event: Event<P>) {
-        if event.time - self.now < SLOTS {
-            self.slot(event.time).push(event);
+        if event.tick == self.now {
+            self.push_present(event);
+        } else if event.tick - self.now < SLOTS {
+            self.slot(event.tick).push(event);
             self.count += 1;
         } else {
             self.later.push(event);

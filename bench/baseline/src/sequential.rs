@@ -1,6 +1,6 @@
 //! The sequential simulator: it executes the pending event of least key until none is left.
 
-use crate::model::{Bits, Config, Model, Outgoing};
+use crate::model::{Bits, Config, Model, Outgoing, When};
 use crate::queue::EventQueue;
 use crate::text::RecordWriter;
 use crate::words::WordStream;
@@ -24,7 +24,7 @@ pub fn run<M: Model, W: Write>(
     let mut processes = start(model, config, &mut pending, &mut out);
     while let Some(event) = pending.pop() {
         let process = &mut processes[event.dest as usize];
-        out.begin(event.dest, event.time, process.number);
+        out.begin(event.dest, event.when(), process.number);
         let mut bits = Bits::default();
         model.forward(event.dest, event.payload, &mut process.state, &mut bits, &mut process.words, &mut out);
         process.number = out.number();
@@ -48,7 +48,7 @@ fn start<M: Model>(
     let mut processes = Vec::with_capacity(config.lps as usize);
     for lp in 0..config.lps {
         let mut words = WordStream::new(config.seed, lp);
-        out.begin(lp, 0, 0);
+        out.begin(lp, When::tick(0), 0);
         let state = model.start(lp, &mut words, out);
         for sent in out.sends() {
             pending.push(*sent);

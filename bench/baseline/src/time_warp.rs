@@ -3,7 +3,7 @@
 //! Inboxes are vectors behind locks. Global virtual time is found in rounds over shared memory: each worker reports the
 //! least time of its pending events and of what it has sent since the round began.
 
-use crate::model::{Bits, Config, Event, Key, Model, Outgoing, Record, MOST_SENDS_OF_EVENT};
+use crate::model::{Bits, Config, Event, Key, Model, Origin, Outgoing, Record, When, MOST_SENDS_OF_EVENT};
 use crate::text::RecordWriter;
 use crate::words::WordStream;
 use std::cmp::{Ordering, Reverse};
@@ -66,7 +66,8 @@ impl<P> Ord for Message<P> {
 /// What an anti-message needs of an event that was sent.
 #[derive(Clone, Copy)]
 struct Sent {
-    time: u64,
+    tick: u64,
+    origin: Origin,
     number: u64,
     dest: u32,
     stamp: Stamp,
@@ -90,17 +91,18 @@ struct Process<M: Model> {
     past: VecDeque<Entry<M::Payload>>,
 }
 
-/// A record, and what of its event's key is not in it.
+/// What a record has, and its event's key.
 struct Row {
-    source: u32,
-    number: u64,
-    record: Record,
+    key: Key,
+    lp: u32,
+    kind: u32,
+    value: u64,
 }
 
 impl Row {
     #[inline(always)]
-    fn key(&self) -> Key {
-        Key { time: self.record.time, source: self.source, number: self.number }
+    fn record(&self) -> Record {
+        Record { when: self.key.when(), lp: self.lp, kind: self.kind, value: self.value }
     }
 }
 
@@ -109,11 +111,12 @@ struct Inbox<P> {
     mail: Mutex<Vec<Message<P>>>,
 }
 
-/// The round in which global virtual time is found.
+/// The round in which global virtual time is found, and what the rounds before it found.
 struct Round {
     is_open: bool,
     reports: u32,
-    least: u64,
+    least: Option<When>,
+    global_virtual_time: When,
 }
 
 /// What the workers share.
@@ -121,7 +124,8 @@ struct Shared<P> {
     inboxes: Vec<Inbox<P>>,
     round_number: AtomicU64,
     round: Mutex<Round>,
-    global_virtual_time: AtomicU64,
+    /// How many rounds have ended.
+    ended: AtomicU64,
 }
 
 struct Worker<'a, M: Model> {
@@ -142,8 +146,10 @@ struct Worker<'a, M: Model> {
     /// The round in which it reported last.
     reported: u64,
     /// The least time sent since the present round began, where it has not reported in it.
-    least_sent: u64,
-    global_virtual_time: u64,
+    least_sent: Option<When>,
+    /// How many rounds had ended when it looked last.
+    seen: u64,
+    global_virtual_time: When,
     /// The number of entries in all pasts.
     uncommitted: u64,
     committed: Vec<Row>,
@@ -160,8 +166,8 @@ pub fn run<M: Model, W: Write>(
     let shared = Shared {
         inboxes: (0..workers).map(inbox).collect(),
         round_number: AtomicU64::new(0),
-        round: Mutex::new(Round { is_open: false, reports: 0, least: u64::MAX }),
-        global_virtual_time: AtomicU64::new(0),
+        round: Mutex::new(Round { is_open: false, reports: 0, least: None, global_virtual_time: When::tick(0) }),
+        ended: AtomicU64::new(0),
     };
     let committed: Vec<Vec<Row>> = thread::scope(|scope| {
         let shared = &shared;
@@ -175,11 +181,16 @@ pub fn run<M: Model, W: Write>(
 /// Merges the rows of the workers, which are in order for each worker.
 fn write_in_order<W: Write>(committed: Vec<Vec<Row>>, records: &mut RecordWriter<W>) -> io::Result<()> {
     let mut rest: Vec<&[Row]> = committed.iter().map(Vec::as_slice).collect();
-    while let Some(least) = rest.iter_mut().filter(|rows| !rows.is_empty()).min_by_key(|rows| rows[0].key()) {
-        records.put(&least[0].record)?;
+    while let Some(least) = rest.iter_mut().filter(|rows| !rows.is_empty()).min_by_key(|rows| rows[0].key) {
+        records.put(&least[0].record())?;
         *least = &least[1..];
     }
     Ok(())
+}
+
+/// The earlier of two times, where None is later than all.
+fn earlier(one: Option<When>, other: Option<When>) -> Option<When> {
+    one.into_iter().chain(other).min()
 }
 
 impl<'a, M: Model> Worker<'a, M> {
@@ -199,8 +210,9 @@ impl<'a, M: Model> Worker<'a, M> {
             out: Outgoing::new(config),
             serial: 0,
             reported: 0,
-            least_sent: u64::MAX,
-            global_virtual_time: 0,
+            least_sent: None,
+            seen: 0,
+            global_virtual_time: When::tick(0),
             uncommitted: 0,
             committed: Vec::new(),
         };
@@ -213,7 +225,7 @@ impl<'a, M: Model> Worker<'a, M> {
     /// Starts a process, which sends events to itself alone.
     fn start(&mut self, lp: u32) {
         let mut words = WordStream::new(self.config.seed, lp);
-        self.out.begin(lp, 0, 0);
+        self.out.begin(lp, When::tick(0), 0);
         let state = self.model.start(lp, &mut words, &mut self.out);
         for at in 0..self.out.sends().len() {
             let message = self.stamped(self.out.sends()[at]);
@@ -233,7 +245,7 @@ impl<'a, M: Model> Worker<'a, M> {
     fn run(mut self) -> Vec<Row> {
         let interval = LEAST_INTERVAL.max(self.processes.len() as u64).max(self.pending.len() as u64);
         let mut since_round = 0;
-        while self.global_virtual_time < self.config.end {
+        while self.global_virtual_time < When::tick(self.config.end) {
             let has_received = self.fetch();
             let executed = self.execute_batch(INTERVALS_AHEAD * interval);
             self.send();
@@ -312,9 +324,8 @@ impl<'a, M: Model> Worker<'a, M> {
         process.words.seek(entry.place);
         process.number = entry.number;
         self.uncommitted -= 1;
-        let source = entry.message.event.dest;
-        for Sent { time, number, dest, stamp } in entry.sent.into_iter().flatten() {
-            let event = Event { time, source, number, dest, payload: M::Payload::default() };
+        for Sent { tick, origin, number, dest, stamp } in entry.sent.into_iter().flatten() {
+            let event = Event { tick, origin, number, dest, payload: M::Payload::default() };
             self.route(Message { event, stamp, is_anti: true });
         }
         entry.message
@@ -322,10 +333,10 @@ impl<'a, M: Model> Worker<'a, M> {
 
     /// The time of the least pending event, after those before it that were annihilated have gone.
     #[inline(always)]
-    fn least_pending(&mut self) -> Option<u64> {
+    fn least_pending(&mut self) -> Option<When> {
         while let Some(Reverse(least)) = self.pending.peek() {
             if self.annihilated.is_empty() || !self.annihilated.remove(&least.stamp) {
-                return Some(least.event.time);
+                return Some(least.event.when());
             }
             self.pending.pop();
         }
@@ -337,7 +348,7 @@ impl<'a, M: Model> Worker<'a, M> {
     fn execute_batch(&mut self, most_uncommitted: u64) -> u64 {
         for executed in 0..BATCH {
             match self.least_pending() {
-                Some(time) if self.uncommitted < most_uncommitted || time <= self.global_virtual_time => self.execute(),
+                Some(when) if self.uncommitted < most_uncommitted || when <= self.global_virtual_time => self.execute(),
                 _ => return executed,
             }
         }
@@ -350,20 +361,20 @@ impl<'a, M: Model> Worker<'a, M> {
         let Some(Reverse(message)) = self.pending.pop() else {
             return;
         };
-        let Event { time, dest, payload, .. } = message.event;
+        let Event { dest, payload, .. } = message.event;
         let at = (dest / self.workers) as usize;
         let process = &mut self.processes[at];
         let (place, number) = (process.words.place(), process.number);
         let mut bits = Bits::default();
-        self.out.begin(dest, time, number);
+        self.out.begin(dest, message.event.when(), number);
         self.model.forward(dest, payload, &mut process.state, &mut bits, &mut process.words, &mut self.out);
         process.number = self.out.number();
         let record = self.out.record().map(|record| (record.kind, record.value));
         let mut sent = [None; MOST_SENDS_OF_EVENT];
         for (at, kept) in sent.iter_mut().enumerate().take(self.out.sends().len()) {
             let message = self.stamped(self.out.sends()[at]);
-            let Event { time, number, dest, .. } = message.event;
-            *kept = Some(Sent { time, number, dest, stamp: message.stamp });
+            let Event { tick, origin, number, dest, .. } = message.event;
+            *kept = Some(Sent { tick, origin, number, dest, stamp: message.stamp });
             self.route(message);
         }
         self.processes[at].past.push_back(Entry { message, place, number, bits, record, sent });
@@ -374,13 +385,13 @@ impl<'a, M: Model> Worker<'a, M> {
     /// Puts what is for other workers into their inboxes.
     fn send(&mut self) {
         for (outbox, inbox) in self.outboxes.iter_mut().zip(&self.shared.inboxes) {
-            let Some(least) = outbox.iter().map(|message| message.event.time).min() else {
+            let Some(least) = outbox.iter().map(|message| message.event.when()).min() else {
                 continue;
             };
             inbox.mail.lock().unwrap_or_else(PoisonError::into_inner).append(outbox);
             inbox.has_mail.store(true, SeqCst);
             if self.shared.round_number.load(SeqCst) != self.reported {
-                self.least_sent = self.least_sent.min(least);
+                self.least_sent = earlier(self.least_sent, Some(least));
             }
         }
     }
@@ -391,7 +402,7 @@ impl<'a, M: Model> Worker<'a, M> {
         if round.is_open || self.shared.round_number.load(SeqCst) != self.reported {
             return false;
         }
-        *round = Round { is_open: true, reports: 0, least: u64::MAX };
+        *round = Round { is_open: true, reports: 0, least: None, ..*round };
         self.shared.round_number.fetch_add(1, SeqCst);
         true
     }
@@ -400,35 +411,40 @@ impl<'a, M: Model> Worker<'a, M> {
     fn report(&mut self) {
         self.fetch();
         self.send();
-        let least = self.least_pending().unwrap_or(self.config.end).min(self.least_sent);
-        self.least_sent = u64::MAX;
+        let least = earlier(self.least_pending(), self.least_sent.take());
         let mut round = self.shared.round.lock().unwrap_or_else(PoisonError::into_inner);
         self.reported = self.shared.round_number.load(SeqCst);
-        round.least = round.least.min(least);
+        round.least = earlier(round.least, least);
         round.reports += 1;
         if round.reports == self.workers {
             round.is_open = false;
-            self.shared.global_virtual_time.store(round.least, SeqCst);
+            round.global_virtual_time = round.least.unwrap_or(When::tick(self.config.end));
+            self.shared.ended.fetch_add(1, SeqCst);
         }
     }
 
     /// Commits what was executed before global virtual time, and frees its entries.
     fn commit(&mut self) {
-        let floor = self.shared.global_virtual_time.load(SeqCst);
+        let ended = self.shared.ended.load(SeqCst);
+        if ended == self.seen {
+            return;
+        }
+        self.seen = ended;
+        let floor = self.shared.round.lock().unwrap_or_else(PoisonError::into_inner).global_virtual_time;
         if floor <= self.global_virtual_time {
             return;
         }
         self.global_virtual_time = floor;
         let first = self.committed.len();
         for process in &mut self.processes {
-            while process.past.front().is_some_and(|entry| entry.message.event.time < floor) {
+            while process.past.front().is_some_and(|entry| entry.message.event.when() < floor) {
                 let entry = process.past.pop_front().expect("the entry just seen");
                 self.uncommitted -= 1;
-                let Event { time, source, number, dest: lp, .. } = entry.message.event;
-                let row = |(kind, value)| Row { source, number, record: Record { time, lp, kind, value } };
+                let event = &entry.message.event;
+                let row = |(kind, value)| Row { key: event.key(), lp: event.dest, kind, value };
                 self.committed.extend(entry.record.map(row));
             }
         }
-        self.committed[first..].sort_unstable_by_key(Row::key);
+        self.committed[first..].sort_unstable_by_key(|row| row.key);
     }
 }

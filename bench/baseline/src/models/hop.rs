@@ -8,8 +8,10 @@ pub struct Hop {
     pub hops: u32,
     /// How many processes further a token hops.
     pub stride: u32,
-    /// The time that a hop takes.
+    /// The ticks that a hop takes.
     pub delay: u64,
+    /// By how much the priority rises at a hop that takes no tick: at most 255, and 0 where every hop takes its ticks.
+    pub rise: u32,
 }
 
 #[derive(Clone, Copy, Default)]
@@ -41,7 +43,11 @@ impl Model for Hop {
         out.emit(1, *sum);
         if token.hops_left != 0 {
             let dest = (lp + self.stride) % out.lps();
-            out.send(dest, self.delay, Token { hops_left: token.hops_left - 1, ..token });
+            let token = Token { hops_left: token.hops_left - 1, ..token };
+            match u8::try_from(u32::from(out.now().priority) + self.rise) {
+                Ok(priority) if self.rise != 0 => out.send_with(dest, 0, priority, token),
+                _ => out.send(dest, self.delay, token),
+            }
         }
     }
 
