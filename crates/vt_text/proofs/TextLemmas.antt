@@ -18,6 +18,9 @@ length_step n lo hi = (ap length (decimal_step n lo hi) ∙ length-append _ _, d
 pub length_most : (n : ℕ) → n < 2 ^ 64 → length (decimal n) ≤ 20
 length_most n h = length-decimal-le 20 n (omega arith) (omega arith) h
 
+pub length_small : (n : ℕ) → n < 256 → length (decimal n) ≤ 3
+length_small n h = length-decimal-le 3 n (omega arith) (omega arith) (omega arith)
+
 pub rest_is : (i : ℕ) (xs : List ℕ) → take (length xs - i) (drop i xs) ≡ drop i xs
 rest_is i xs = take_all (length xs - i) (drop i xs) (omega (arith, length-drop i xs))
 
@@ -30,6 +33,14 @@ pushed old now held text more g = record {
   sent = g.sent;
   appends = g.appends;
   whole = ap (λ l. l ++ more) g.whole ∙ append_assoc g.sent held more;
+}
+
+-- some of what was held was written
+pub made_room : (old now new : Option (List ℕ)) (held held' text : List ℕ) → AppendsAllButHeld old now held text → AppendsAllButHeld now new held' held → AppendsAllButHeld old new held' text
+made_room old now new held held' text g h = record {
+  sent = g.sent ++ h.sent;
+  whole = g.whole ∙ ap (λ l. g.sent ++ l) h.whole ∙ sym (append_assoc g.sent h.sent held');
+  appends = Appends-trans old now new _ _ g.appends h.appends;
 }
 
 -- all that was held is written
@@ -71,6 +82,15 @@ put_fails old now new held text more g h = record {
   appends = Appends-trans old now new _ _ g.appends h.appends;
 }
 
+-- some text was put, and then more text
+pub then_put : (old now new : Option (List ℕ)) (held held' text first rest : List ℕ) → AppendsAllButHeld old now held (text ++ first) → AppendsAllButHeld now new held' (held ++ rest) → AppendsAllButHeld old new held' (text ++ (first ++ rest))
+then_put old now new held held' text first rest g h =
+    subst (λ (l : List ℕ). AppendsAllButHeld old new held' l) (append_assoc text first rest) (put_on old now new held held' (text ++ first) rest g h)
+
+pub then_stops : (old now new : Option (List ℕ)) (held text first rest : List ℕ) → AppendsAllButHeld old now held (text ++ first) → AppendsBeginning now new (held ++ rest) → AppendsBeginning old new (text ++ (first ++ rest))
+then_stops old now new held text first rest g h =
+    subst (λ (l : List ℕ). AppendsBeginning old new l) (append_assoc text first rest) (put_fails old now new held (text ++ first) rest g h)
+
 -- a beginning of a text is one of a longer text
 pub of_longer : (old new : Option (List ℕ)) (text rest : List ℕ) → AppendsBeginning old new text → AppendsBeginning old new (text ++ rest)
 of_longer old new text rest h = record {
@@ -81,6 +101,9 @@ of_longer old new text rest h = record {
   appends = h.appends;
 }
 
+pub first_stops : (old new : Option (List ℕ)) (text first rest : List ℕ) → AppendsBeginning old new (text ++ first) → AppendsBeginning old new (text ++ (first ++ rest))
+first_stops old new text first rest h = subst (λ (l : List ℕ). AppendsBeginning old new l) (append_assoc text first rest) (of_longer old new (text ++ first) rest h)
+
 -- what was held is written in part
 pub flush_fails : (old now new : Option (List ℕ)) (held text : List ℕ) → AppendsAllButHeld old now held text → AppendsBeginning now new held → AppendsBeginning old new text
 flush_fails old now new held text g h = subst (λ (l : List ℕ). AppendsBeginning old new l) (append-nil text) (stopped old now new held text [] g h)
@@ -88,10 +111,6 @@ flush_fails old now new held text g h = subst (λ (l : List ℕ). AppendsBeginni
 -- the lines up to i, and those from i on
 pub lines_split : {X : Type 0} (f : X → List ℕ) (xs : List X) (i : ℕ) → flat_map f xs ≡ flat_map f (take i xs) ++ flat_map f (drop i xs)
 lines_split f xs i = ap (flat_map f) (sym (take-append-drop i xs)) ∙ flat_map-append f (take i xs) (drop i xs)
-
-pub stopped_at : {X : Type 0} (f : X → List ℕ) (xs : List X) (i : ℕ) (old now new : Option (List ℕ)) (held : List ℕ) → AppendsAllButHeld old now held (flat_map f (take i xs)) → AppendsBeginning now new held → AppendsBeginning old new (flat_map f xs)
-stopped_at f xs i old now new held g h =
-    subst (λ (l : List ℕ). AppendsBeginning old new l) (sym (lines_split f xs i)) (stopped old now new held (flat_map f (take i xs)) (flat_map f (drop i xs)) g h)
 
 pub on_err : {T E P : Type 0} (r : Result T E) → P → OnErr r P
 on_err (Ok x) p = tt

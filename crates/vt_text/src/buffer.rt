@@ -1,12 +1,12 @@
 //! Text that is gathered before it is written.
 
-ghost use Rattle.std.specs.Prelude.{◌≡◌, ◌+◌, ◌≤◌, ◌↔◌, [], ◌∷◌, ◌++◌, length, drop, IsTrue, OnOk, IfErr, OnErr};
+ghost use Rattle.std.specs.Prelude.{◌≡◌, ◌+◌, ◌*◌, ◌≤◌, ◌<◌, ◌↔◌, [], ◌∷◌, ◌++◌, length, drop, IsTrue, OnOk, IfErr, OnErr};
 ghost use Rattle.std.specs.Fmt.{decimal};
 ghost use Rattle.std.specs.Io.KnownBytes.{Appends};
-ghost use Rattle.vt_text.specs.Records.{record_text};
+ghost use Rattle.vt_text.specs.Records.{record_text, tail_text};
 ghost use Rattle.vt_text.specs.Writing.{AppendsBeginning, AppendsAllButHeld};
 
-use crate::{NUMBER_LEN, write_bytes};
+use crate::{NUMBER_LEN, PRIORITY_LEN, Version, write_bytes};
 use std::io::Write;
 use std::marker::Model;
 use vt_key::Fault;
@@ -15,14 +15,15 @@ use vt_model::Record;
 /// How many bytes a [`TextBuffer`] holds.
 pub const TEXT_ROOM: usize = 8_192;
 
-/// The most bytes of a record's line: four numbers, three spaces and a newline.
-pub const RECORD_LEN: usize = 4 * NUMBER_LEN + 4;
+/// The most bytes of a record's line in either version: four numbers and a priority, four spaces and a newline.
+pub const RECORD_LEN: usize = 4 * NUMBER_LEN + PRIORITY_LEN + 5;
 
 /// Puts the digits of a number before index `end`, and returns the index where they begin.
 fn put_number(n: u64, text: &mut [u8], end: usize) -> usize
     requires room { NUMBER_LEN ≤ end }
     requires within { end ≤ length text.old }
     ensures short { end ≤ result + NUMBER_LEN }
+    ensures small { n < 256 → end ≤ result + PRIORITY_LEN }
     ensures before { result ≤ end }
     ensures written { drop result text.new ≡ decimal n ++ drop end text.old }
 {
@@ -37,19 +38,35 @@ fn put_number(n: u64, text: &mut [u8], end: usize) -> usize
     at
 }
 
-/// Puts the line of a record at the end, and answers where it begins.
-fn put_record(row: &Record, text: &mut [u8; RECORD_LEN]) -> usize
+/// Puts what ends the line of a record, which is its process, kind and value, at the end, and answers where it begins.
+fn put_tail(row: &Record, text: &mut [u8; RECORD_LEN]) -> usize
     ensures within { result ≤ RECORD_LEN }
-    ensures written { drop result text.new ≡ record_text row.now }
+    ensures short { RECORD_LEN ≤ result + 3 * NUMBER_LEN + 3 }
+    ensures written { drop result text.new ≡ tail_text row.now }
 {
     text[RECORD_LEN - 1] = b'\n';
     let value = put_number(row.value, text, RECORD_LEN - 1);
     text[value - 1] = b' ';
     let kind = put_number(u64::from(row.kind), text, value - 1);
     text[kind - 1] = b' ';
-    let lp = put_number(u64::from(row.lp), text, kind - 1);
-    text[lp - 1] = b' ';
-    put_number(row.time, text, lp - 1)
+    put_number(u64::from(row.lp), text, kind - 1)
+}
+
+/// Puts the line of a record at the end, and answers where it begins.
+fn put_record(row: &Record, version: Version, text: &mut [u8; RECORD_LEN]) -> usize
+    ensures within { result ≤ RECORD_LEN }
+    ensures written { drop result text.new ≡ record_text version row.now }
+{
+    let tail = put_tail(row, text);
+    text[tail - 1] = b' ';
+    match version {
+        Version::One => put_number(row.time, text, tail - 1),
+        Version::Two => {
+            let priority = put_number(u64::from(row.priority), text, tail - 1);
+            text[priority - 1] = b' ';
+            put_number(row.time, text, priority - 1)
+        }
+    }
 }
 
 /// Text that is gathered before it is written, so that many short lines go out in few writes. Contracts see the bytes that
@@ -111,15 +128,43 @@ impl TextBuffer {
         self.push_bytes(&digits[start..]);
     }
 
-    /// Adds the line of a record. There must be room for [`RECORD_LEN`] bytes.
-    pub fn push_record(&mut self, row: &Record)
+    /// Adds the decimal digits of a priority. There must be room for [`PRIORITY_LEN`] bytes.
+    pub fn push_priority(&mut self, priority: u8)
+        requires room { length self.old + PRIORITY_LEN ≤ TEXT_ROOM }
+        ensures text { self.new ≡ self.old ++ decimal priority }
+        ensures len { length self.new ≤ length self.old + PRIORITY_LEN }
+    {
+        let mut digits = [0; NUMBER_LEN];
+        let start = put_number(u64::from(priority), &mut digits, NUMBER_LEN);
+        self.push_bytes(&digits[start..]);
+    }
+
+    /// Adds the line of a record in a version of the text. There must be room for [`RECORD_LEN`] bytes.
+    pub fn push_record(&mut self, row: &Record, version: Version)
         requires room { length self.old + RECORD_LEN ≤ TEXT_ROOM }
-        ensures text { self.new ≡ self.old ++ record_text row.now }
+        ensures text { self.new ≡ self.old ++ record_text version row.now }
         ensures len { length self.new ≤ length self.old + RECORD_LEN }
     {
         let mut line = [0; RECORD_LEN];
-        let start = put_record(row, &mut line);
+        let start = put_record(row, version, &mut line);
         self.push_bytes(&line[start..]);
+    }
+
+    /// Makes room for `count` bytes: where there is none, what the buffer holds is written, and it holds nothing.
+    ///
+    /// [`Fault::Output`] where the writer failed: then a beginning of what the buffer held was written.
+    pub fn make_room<W: Write>(&mut self, writer: &mut W, count: usize) -> Result<(), Fault>
+        requires { count ≤ TEXT_ROOM }
+        ensures room { OnOk result (length self.new + count ≤ TEXT_ROOM) }
+        ensures ok { OnOk result (AppendsAllButHeld (W.contents writer.old) (W.contents writer.new) self.new self.old) }
+        ensures err { OnErr result (AppendsBeginning (W.contents writer.old) (W.contents writer.new) self.old) }
+        ensures fault { IfErr result (λ fault. fault ≡ Fault.Output) }
+    {
+        if self.has_room(count) {
+            Ok(())
+        } else {
+            self.flush(writer)
+        }
     }
 
     /// Adds bytes at the end, however many: where there is no room for them, what the buffer holds and then the bytes are

@@ -6,9 +6,11 @@
 mod buffer;
 mod number;
 mod printing;
+mod version;
 mod writing;
 
 pub use buffer::{RECORD_LEN, TEXT_ROOM, TextBuffer};
-pub use number::{NUMBER_LEN, numbers_are_read_back, read_number};
-pub use printing::print_records;
+pub use number::{NUMBER_LEN, PRIORITY_LEN, numbers_are_read_back, read_number};
+pub use printing::{print_records, put_records};
+pub use version::Version;
 pub use writing::write_bytes;

@@ -7,6 +7,9 @@ ghost use Rattle.vt_text.specs.Numbers.{number_of};
 /// The most digits of a number.
 pub const NUMBER_LEN: usize = 20;
 
+/// The most digits of a priority.
+pub const PRIORITY_LEN: usize = 3;
+
 /// The number that a text of 1 to 20 decimal digits has, where it is below 2^64; else `None`. Nothing but digits is taken:
 /// no sign, no space, no separator.
 pub fn read_number(text: &[u8]) -> Option<u64>

@@ -1,7 +1,7 @@
 use Rattle.std.proofs.Common.{◌≡◌, ◌+◌, ◌-◌, arith, append_assoc}
 use Rattle.std.proofs.lemmas.Fmt.{decimal_digit, decimal_step}
 use Rattle.std.proofs.lemmas.List.{drop-set}
-use Rattle.vt_text.proofs.TextLemmas.{length_one, length_step, length_most}
+use Rattle.vt_text.proofs.TextLemmas.{length_one, length_step, length_most, length_small}
 use Rattle.vt_text.proofs.buffer.put_number.Goals as goal
 
 pub overflow_sub-at-in-loop-left : goal.overflow_sub-at-in-loop-left
@@ -21,6 +21,9 @@ loop-left-preserved c =
 
 pub returns-clause-short : goal.returns-clause-short
 returns-clause-short c = omega (arith, length_most c.args.n c.ranges.n.fits, length_one c.loop-left.left c.loop-left-test.false)
+
+pub returns-clause-small : goal.returns-clause-small
+returns-clause-small c small = omega (arith, length_small c.args.n small, length_one c.loop-left.left c.loop-left-test.false)
 
 pub returns-clause-written : goal.returns-clause-written
 returns-clause-written c =

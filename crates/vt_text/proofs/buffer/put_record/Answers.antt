@@ -1,15 +1,20 @@
-use Rattle.std.proofs.Common.{◌≡◌, ◌+◌, ◌-◌, List, ℕ, ◌++◌, ◌∷◌, ap, rules, arith}
-use Rattle.std.specs.Fmt.{decimal}
-use Rattle.std.proofs.lemmas.List.{drop-set, drop_all}
+use Rattle.std.proofs.Common.{◌≡◌, ◌+◌, ◌-◌, ap, sym, arith}
+use Rattle.std.proofs.lemmas.List.{drop-set}
+use Rattle.vt_text.specs.Records.{record_text}
 use Rattle.vt_text.proofs.buffer.put_record.Goals as goal
 
-pub returns-clause-written : goal.returns-clause-written
-returns-clause-written c =
-    let value = c.put_number-value in
-    let kind = c.put_number-kind in
-    let lp = c.put_number-lp in
-    let a : value.result - 1 + 1 ≡ value.result = omega arith in
-    let b : kind.result - 1 + 1 ≡ kind.result = omega arith in
-    let d : lp.result - 1 + 1 ≡ lp.result = omega arith in
-    rw (c.put_number.ensures.written, drop-set lp.new.text (lp.result - 1) _ (omega arith), d, lp.ensures.written, drop-set kind.new.text (kind.result - 1) _ (omega arith), b, kind.ensures.written, drop-set value.new.text (value.result - 1) _ (omega arith), a, value.ensures.written, c.from-2.ensures, c.from.ensures)
-    (rw (drop-set c.args.text.now 83 10 (search rules)) (ap (λ (l : List ℕ). decimal c.args.row.now.time ++ 32 ∷ (decimal c.args.row.now.lp ++ 32 ∷ (decimal c.args.row.now.kind ++ 32 ∷ (decimal c.args.row.now.value ++ 10 ∷ l)))) (drop_all 84 c.args.text.now (search rules))))
+pub returns-in-One-clause-written : goal.returns-in-One-clause-written
+returns-in-One-clause-written c =
+    let tail = c.put_tail-tail in
+    let a : tail.result - 1 + 1 ≡ tail.result = omega arith in
+    rw (c.put_number.ensures.written, drop-set tail.new.text (tail.result - 1) _ (omega arith), a, tail.ensures.written)
+    (sym (ap (λ version. record_text version c.args.row.now) c.in-One.is))
+
+pub returns-in-Two-clause-written : goal.returns-in-Two-clause-written
+returns-in-Two-clause-written c =
+    let tail = c.put_tail-tail in
+    let priority = c.put_number-priority in
+    let a : tail.result - 1 + 1 ≡ tail.result = omega arith in
+    let b : priority.result - 1 + 1 ≡ priority.result = omega arith in
+    rw (c.put_number-in-Two.ensures.written, drop-set priority.new.text (priority.result - 1) _ (omega arith), b, priority.ensures.written, drop-set tail.new.text (tail.result - 1) _ (omega arith), a, tail.ensures.written, c.from.ensures)
+    (sym (ap (λ version. record_text version c.args.row.now) c.in-Two.is))

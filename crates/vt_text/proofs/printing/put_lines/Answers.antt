@@ -1,0 +1,12 @@
+use Rattle.vt_text.proofs.TextLemmas.{on_err}
+use Rattle.vt_text.proofs.LineLemmas.{record_put, records_stop}
+use Rattle.vt_text.proofs.printing.put_lines.Goals as goal
+
+pub returns-in_err-make_room-clause-err : goal.returns-in_err-make_room-clause-err
+returns-in_err-make_room-clause-err g c =
+    on_err c.from_residual.result (records_stop c.args.version c.args.text.now c.args.records.now c.loop-row.row-index _ _ _ _ c.loop-row.invariant c.in_err-make_room.ensures.err)
+
+pub loop-row-preserved : goal.loop-row-preserved
+loop-row-preserved g c =
+    rw c.push_record.ensures.text
+    (record_put c.args.version c.args.text.now c.args.records.now c.loop-row.row-index _ _ _ _ _ _ c.loop-row-test.true c.loop-row.invariant c.in_ok-make_room.ensures.ok)
