@@ -54,7 +54,7 @@ impl Model for Board {
 }
 
 impl Board {
-    /// The board of a run of `workers` workers, from 1 to 64, that ends at `end`, from 1 to 2^62 ticks. No round is open, and
+    /// The board of a run of `workers` workers, from 1 to 256, that ends at `end`, from 1 to 2^62 ticks. No round is open, and
     /// the announced time is 0.
     pub fn new(workers: u32, end: When) -> Board
         requires some_worker { 1 ≤ workers }

@@ -50,7 +50,7 @@ impl Model for Book {
 }
 
 impl Book {
-    /// An open book without rows, for a run of `workers` workers, up to 64, that ends at `end`. It takes no memory.
+    /// An open book without rows, for a run of `workers` workers, up to 256, that ends at `end`. It takes no memory.
     pub fn new(alloc: Global, workers: u32, end: When) -> Book
         requires { workers ≤ MAX_WORKERS }
         ensures end { result.end ≡ end }
