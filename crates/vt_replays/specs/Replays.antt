@@ -10,7 +10,7 @@ use Rattle.vt_model.specs.declared.settings.Config.{Config}
 use Rattle.vt_model.specs.Simulation.{Simulation, simulation_of, after}
 use Rattle.vt_model.specs.Sequential.{seq_events, seq_records}
 use Rattle.vt_key.specs.declared.limits.TheConstants.{MAX_PROCESSES, MAX_WORKERS, MAX_END}
-use Rattle.vt_models.specs.declared.hop.TheConstants.{MAX_HOPS, MAX_STRIDE, MAX_DELAY}
+use Rattle.vt_models.specs.declared.hop.TheConstants.{MAX_HOPS, MAX_STRIDE, MAX_DELAY, MAX_RISE}
 use Rattle.vt_models.specs.declared.hop.Hop.{Hop}
 use Rattle.vt_models.specs.declared.hop.Token.{Token}
 use Rattle.vt_models.specs.Hop.{hop_handlers}
@@ -72,15 +72,17 @@ pub record Replays {S P : Type 0} (sim : Simulation S P) (lines : List Line) (sh
 -- ---- the hop model of the replays
 
 -- a hop model of these options
-abbrev pub hop_of : (hops stride delay : ℕ) → hops ≤ MAX_HOPS → stride ≤ MAX_STRIDE → 1 ≤ delay → delay ≤ MAX_DELAY → Hop
-hop_of hops stride delay few short some below = record {
+abbrev pub hop_of : (hops stride delay rise : ℕ) → hops ≤ MAX_HOPS → stride ≤ MAX_STRIDE → 1 ≤ delay → delay ≤ MAX_DELAY → rise ≤ MAX_RISE → Hop
+hop_of hops stride delay rise few short some below low = record {
   hops = hops;
   stride = stride;
   delay = delay;
+  rise = rise;
   few_hops = few;
   short_stride = short;
   some_delay = some;
   short_delay = below;
+  low_rise = low;
 }
 
 -- a config of these numbers, with an end in ticks, and with seed 0
@@ -100,11 +102,11 @@ config_of lps workers end some_lp few_lps some_worker few_workers some_time in_t
 
 -- one hop for each token, to the next process, in one tick
 abbrev pub one_hop : Hop
-one_hop = hop_of 1 1 1 (lit≤ tt) (lit≤ tt) (lit≤ tt) (lit≤ tt)
+one_hop = hop_of 1 1 1 0 (lit≤ tt) (lit≤ tt) (lit≤ tt) (lit≤ tt) (lit≤ tt)
 
 -- two hops for each token, to the next process, in two ticks
 abbrev pub two_hops : Hop
-two_hops = hop_of 2 1 2 (lit≤ tt) (lit≤ tt) (lit≤ tt) (lit≤ tt)
+two_hops = hop_of 2 1 2 0 (lit≤ tt) (lit≤ tt) (lit≤ tt) (lit≤ tt) (lit≤ tt)
 
 -- two processes on two workers, and a run that ends at 10
 abbrev pub two_workers : Config
@@ -118,9 +120,13 @@ one_worker = config_of 2 1 10 (lit≤ tt) (lit≤ tt) (lit≤ tt) (lit≤ tt) (l
 abbrev pub replayed : Simulation ℕ Token
 replayed = simulation_of (hop_handlers one_hop) two_workers
 
--- a record of the hop model at a tick: its kind is 1
+-- a record of the hop model: its kind is 1
+abbrev pub prior_record : ℕ → ℕ → ℕ → ℕ → Record
+prior_record time priority p value = record { time = time; priority = priority; lp = p; kind = 1; value = value }
+
+-- the same at the first time of a tick
 abbrev pub hop_record : ℕ → ℕ → ℕ → Record
-hop_record time p value = record { time = time; priority = 0; lp = p; kind = 1; value = value }
+hop_record time p value = prior_record time 0 p value
 
 -- the stamp of a worker with this serial
 abbrev pub stamp : ℕ → ℕ → Stamp
@@ -333,6 +339,27 @@ one_commits_shown = record { announced = tick 10; floor = tick 0; least = tick 1
 abbrev pub after_the_close : List Line
 after_the_close = straggler ++ closed (Commit 0) ∷ closed Close ∷ []
 
+-- ---- a straggler within a tick
+
+-- one hop for each token, within the tick and with a priority higher by 100
+abbrev pub one_rise : Hop
+one_rise = hop_of 1 1 2 100 (lit≤ tt) (lit≤ tt) (lit≤ tt) (lit≤ tt) (lit≤ tt)
+
+-- one hop within the tick, on two workers
+abbrev pub risen : Simulation ℕ Token
+risen = simulation_of (hop_handlers one_rise) two_workers
+
+-- process 1 executes its own event at (2, 0) before the one that process 0 sends it for (1, 100): so this comes as a straggler.
+-- The announced time is that pair, and what is before it is committed
+abbrev pub straggler_within_a_tick : List Line
+straggler_within_a_tick =
+    ok (Home 0) ∷ ok (Home 1) ∷ ok (Execute 1) ∷ ok (Execute 0) ∷ ok (Send 0 1) ∷ ok (Fetch 1) ∷ ok (Accept 1 0) ∷ ok (Undo 1)
+    ∷ ok (Cut 0) ∷ ok (Cut 1) ∷ replies (Report 0) Waiting ∷ replies (Report 1) (Announced (at 1 100))
+    ∷ ok (Commit 1) ∷ ok (Cut 0) ∷ ok (Commit 0) ∷ not_lawful Close ∷ []
+
+abbrev pub straggler_within_a_tick_shown : Shown
+straggler_within_a_tick_shown = record { announced = at 1 100; floor = at 1 100; least = at 1 100; records = hop_record 1 0 1 ∷ [] }
+
 -- ---- sequential runs
 
 -- the sequential run of a simulation has these records before a time
@@ -358,7 +385,7 @@ two_hops_run_to_4 = simulation_of (hop_handlers two_hops) one_worker_to_4
 
 -- one hop, two processes further, in one tick
 abbrev pub two_further : Hop
-two_further = hop_of 1 2 1 (lit≤ tt) (lit≤ tt) (lit≤ tt) (lit≤ tt)
+two_further = hop_of 1 2 1 0 (lit≤ tt) (lit≤ tt) (lit≤ tt) (lit≤ tt) (lit≤ tt)
 
 -- three processes, and an end at 3
 abbrev pub three_processes : Config
@@ -381,3 +408,44 @@ three_records = hop_record 1 0 1 ∷ hop_record 2 1 2 ∷ hop_record 3 1 513 ∷
 -- at time 2 the event of process 2 is before that of process 1, since its source is lower: keys decide, not receivers
 abbrev pub three_processes_records : List Record
 three_processes_records = hop_record 1 0 1 ∷ hop_record 2 2 1 ∷ hop_record 2 1 2 ∷ []
+
+-- two hops for each token, each within the tick and with a priority higher by 100
+abbrev pub two_rises : Hop
+two_rises = hop_of 2 1 2 100 (lit≤ tt) (lit≤ tt) (lit≤ tt) (lit≤ tt) (lit≤ tt)
+
+-- the run of them, to the end at 10
+abbrev pub two_rises_run : Simulation ℕ Token
+two_rises_run = simulation_of (hop_handlers two_rises) one_worker
+
+-- each token hops twice within the tick at which it starts
+abbrev pub risen_records : List Record
+risen_records =
+    hop_record 1 0 1 ∷ prior_record 1 100 1 1 ∷ prior_record 1 200 0 257 ∷ hop_record 2 1 258 ∷ prior_record 2 100 0 65794
+    ∷ prior_record 2 200 1 66050 ∷ []
+
+-- one process, whose token comes back to it three times
+abbrev pub three_rises : Hop
+three_rises = hop_of 3 0 2 100 (lit≤ tt) (lit≤ tt) (lit≤ tt) (lit≤ tt) (lit≤ tt)
+
+-- one process, and an end at 10
+abbrev pub one_process : Config
+one_process = config_of 1 1 10 (lit≤ tt) (lit≤ tt) (lit≤ tt) (lit≤ tt) (lit≤ tt) (lit≤ tt)
+
+-- one process, and an end at 2
+abbrev pub one_process_to_2 : Config
+one_process_to_2 = config_of 1 1 2 (lit≤ tt) (lit≤ tt) (lit≤ tt) (lit≤ tt) (lit≤ tt) (lit≤ tt)
+
+-- the run of that process to the end at 10
+abbrev pub three_rises_run : Simulation ℕ Token
+three_rises_run = simulation_of (hop_handlers three_rises) one_process
+
+-- and to the end at 2
+abbrev pub three_rises_run_to_2 : Simulation ℕ Token
+three_rises_run_to_2 = simulation_of (hop_handlers three_rises) one_process_to_2
+
+-- the third hop would have a priority of 300, which there isn't, so it takes the delay
+abbrev pub records_to_2 : List Record
+records_to_2 = hop_record 1 0 1 ∷ prior_record 1 100 0 257 ∷ prior_record 1 200 0 65793 ∷ []
+
+abbrev pub records_to_10 : List Record
+records_to_10 = records_to_2 ++ hop_record 3 0 16843009 ∷ []

@@ -48,3 +48,6 @@ returns-clause-second_round_closes c = computed.14
 
 pub returns-clause-undo_without_cause_of_its_own : goal.returns-clause-undo_without_cause_of_its_own
 returns-clause-undo_without_cause_of_its_own c = computed.15
+
+pub returns-clause-straggler_within_a_tick : goal.returns-clause-straggler_within_a_tick
+returns-clause-straggler_within_a_tick c = computed.16

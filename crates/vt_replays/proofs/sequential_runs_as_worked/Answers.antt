@@ -27,3 +27,18 @@ returns-clause-one_hop_before_3 c = computed.7
 
 pub returns-clause-keys_decide : goal.returns-clause-keys_decide
 returns-clause-keys_decide c = computed.8
+
+pub returns-clause-hops_within_a_tick : goal.returns-clause-hops_within_a_tick
+returns-clause-hops_within_a_tick c = computed.9
+
+pub returns-clause-hops_past_the_last_priority : goal.returns-clause-hops_past_the_last_priority
+returns-clause-hops_past_the_last_priority c = computed.10
+
+pub returns-clause-past_the_last_priority : goal.returns-clause-past_the_last_priority
+returns-clause-past_the_last_priority c = computed.11
+
+pub returns-clause-hops_to_the_end : goal.returns-clause-hops_to_the_end
+returns-clause-hops_to_the_end c = computed.12
+
+pub returns-clause-past_the_end_within_a_tick : goal.returns-clause-past_the_end_within_a_tick
+returns-clause-past_the_end_within_a_tick c = computed.13
