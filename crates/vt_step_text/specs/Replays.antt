@@ -8,6 +8,7 @@ use Rattle.vt_steps.specs.declared.step.Step.{Step}
 use Rattle.vt_steps.specs.declared.step.Reply.{Reply}
 use Rattle.vt_steps.specs.World.{World, opening_world, least, book_floor, book_records}
 use Rattle.vt_steps.specs.Next.{next, run, answers}
+use Rattle.vt_text.specs.declared.version.Version.{Version}
 use Rattle.vt_step_text.specs.declared.reading.NumberedStep.{NumberedStep}
 use Rattle.vt_step_text.specs.Replies.{Answered, replay_text}
 
@@ -41,16 +42,16 @@ module _ {S P : Type 0} (sim : Simulation S P) where
       if is_no_step reply.answer then steps_taken steps replies else step.step ∷ steps_taken steps replies
   steps_taken _ _ = []
 
-  -- the output of a replay that was answered so and ended in this world
-  abbrev pub output_of : List Answered → World P → List ℕ
-  output_of replies end = replay_text replies end.board.announced (book_floor sim.end end.book) (least sim.end end) (book_records sim.end end.book)
+  -- the output of a replay, with a version of the text of records, that was answered so and ended in this world
+  abbrev pub output_of : Version → List Answered → World P → List ℕ
+  output_of version replies end = replay_text version replies end.board.announced (book_floor sim.end end.book) (least sim.end end) (book_records sim.end end.book)
 
   -- a text may be the output of a replay of these steps from the opening world with these first serials
-  pub record IsOutput (serial : ℕ) (steps : List NumberedStep) (text : List ℕ) : Type 0 where
+  pub record IsOutput (version : Version) (serial : ℕ) (steps : List NumberedStep) (text : List ℕ) : Type 0 where
     pub replies : List Answered
     pub end : World P
     pub answered : AreAnswered (opening_world sim serial) steps replies end
-    pub output : text ≡ output_of replies end
+    pub output : text ≡ output_of version replies end
 
   -- what holds of steps that were answered so: the world at the end is that after the steps taken; and where each answer
   -- stands for a step, all steps were taken, and the answers are theirs

@@ -2,17 +2,18 @@
 use Rattle.std.specs.Prelude.{ℕ, List, [], ◌∷◌, ◌++◌, length, Result, Ok, Err, codes}
 use Rattle.std.specs.List.{flat_map}
 use Rattle.std.specs.Fmt.{decimal}
-use Rattle.vt_key.specs.Times.{Time, ticks_of}
+use Rattle.vt_key.specs.Times.{Time, ticks_of, priority_of}
 use Rattle.vt_key.specs.Faults.{fault_number}
 use Rattle.vt_key.specs.declared.fault.Fault.{Fault}
 use Rattle.vt_model.specs.declared.rows.Record.{Record}
 use Rattle.vt_steps.specs.declared.step.Reply.{Reply}
 use Rattle.vt_steps.specs.declared.step.Reply.TheVariants.{Done, Waiting, Again, Announced}
+use Rattle.vt_text.specs.declared.version.Version.{Version}
 use Rattle.vt_text.specs.Records.{records_text}
 
--- a time as text: its tick
+-- a time as text: its tick, a space (32) and its priority
 abbrev pub time_text : Time → List ℕ
-time_text t = decimal (ticks_of t)
+time_text t = decimal (ticks_of t) ++ 32 ∷ decimal (priority_of t)
 
 -- what a step was answered, as text: what was replied, or the number of the refusal
 abbrev pub answer_text : Result Reply Fault → List ℕ
@@ -48,10 +49,10 @@ shown_text announced floor least records =
     ++ (time_line (codes "least ") least
     ++ (codes "records " ++ (decimal records ++ 10 ∷ []))))
 
--- what the world shows at the end, and a line for each of its records
-abbrev pub state_text : Time → Time → Time → List Record → List ℕ
-state_text announced floor least records = shown_text announced floor least (length records) ++ records_text records
+-- what the world shows at the end, and the text of its records in a version
+abbrev pub state_text : Version → Time → Time → Time → List Record → List ℕ
+state_text version announced floor least records = shown_text announced floor least (length records) ++ records_text version records
 
 -- the output of a replay: a line for each answer, and then what the world shows
-abbrev pub replay_text : List Answered → Time → Time → Time → List Record → List ℕ
-replay_text replies announced floor least records = replies_text replies ++ state_text announced floor least records
+abbrev pub replay_text : Version → List Answered → Time → Time → Time → List Record → List ℕ
+replay_text version replies announced floor least records = replies_text replies ++ state_text version announced floor least records

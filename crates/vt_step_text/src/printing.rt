@@ -4,17 +4,16 @@ ghost use Rattle.std.specs.Prelude.{◌≡◌, ◌≤◌, ◌+◌, ◌*◌, ◌+
 ghost use Rattle.std.specs.Io.KnownBytes.{Appends};
 ghost use Rattle.vt_text.specs.Writing.{AppendsAllButHeld, AppendsBeginning};
 ghost use Rattle.vt_text.specs.declared.buffer.TheConstants.{TEXT_ROOM};
-ghost use Rattle.vt_text.specs.Records.{records_text};
 ghost use Rattle.vt_step_text.specs.Replies.{time_text, answer_text, reply_text, time_line, shown_text, state_text};
 
 use std::io::Write;
 use vt_key::{Fault, When};
 use vt_model::Record;
 use vt_steps::Reply;
-use vt_text::{NUMBER_LEN, RECORD_LEN, TextBuffer};
+use vt_text::{NUMBER_LEN, PRIORITY_LEN, TextBuffer, Version, put_records};
 
-/// The most bytes of a time.
-const TIME_LEN: usize = NUMBER_LEN;
+/// The most bytes of a time: its tick, a space and its priority.
+const TIME_LEN: usize = NUMBER_LEN + 1 + PRIORITY_LEN;
 
 /// The most bytes of a word before a number, with the space between them.
 const WORD_LEN: usize = 10;
@@ -28,13 +27,15 @@ pub const REPLY_LEN: usize = NUMBER_LEN + ANSWER_LEN + 2;
 /// The most bytes of the four lines at the end of a replay: three times and the number of records.
 const SHOWN_LEN: usize = 4 * (WORD_LEN + TIME_LEN + 1);
 
-/// Adds a time.
+/// Adds a time: its tick, a space and its priority.
 fn push_time(text: &mut TextBuffer, time: When)
     requires room { length text.old + TIME_LEN ≤ TEXT_ROOM }
     ensures text { text.new ≡ text.old ++ time_text time }
     ensures len { length text.new ≤ length text.old + TIME_LEN }
 {
     text.push_number(time.ticks());
+    text.push_bytes(b" ");
+    text.push_priority(time.priority());
 }
 
 /// Adds the answer to a step.
@@ -97,21 +98,6 @@ fn push_shown(text: &mut TextBuffer, announced: When, floor: When, least: When, 
     text.push_bytes(b"\n");
 }
 
-/// Makes room for `count` bytes. If there is none, it writes the buffer first.
-fn make_room<W: Write>(text: &mut TextBuffer, writer: &mut W, count: usize) -> Result<(), Fault>
-    requires { count ≤ TEXT_ROOM }
-    ensures room { OnOk result (length text.new + count ≤ TEXT_ROOM) }
-    ensures ok { OnOk result (AppendsAllButHeld (W.contents writer.old) (W.contents writer.new) text.new text.old) }
-    ensures err { OnErr result (AppendsBeginning (W.contents writer.old) (W.contents writer.new) text.old) }
-    ensures fault { IfErr result (λ fault. fault ≡ Fault.Output) }
-{
-    if text.has_room(count) {
-        Ok(())
-    } else {
-        text.flush(writer)
-    }
-}
-
 /// Adds the line of a reply to the buffer. If there is no room for the line, it writes the buffer first.
 ///
 /// [`Fault::Output`]: the writer failed. A beginning of the buffer was written.
@@ -125,31 +111,14 @@ pub fn put_reply<W: Write>(
     ensures err { OnErr result (AppendsBeginning (W.contents writer.old) (W.contents writer.new) (text.old ++ reply_text line answer.now)) }
     ensures fault { IfErr result (λ fault. fault ≡ Fault.Output) }
 {
-    make_room(text, writer, REPLY_LEN)?;
+    text.make_room(writer, REPLY_LEN)?;
     push_reply(text, line, answer);
-    Ok(())
-}
-
-/// Adds the lines of records to the buffer. It writes the buffer whenever there is no room for a line.
-fn put_records<W: Write>(
-    text: &mut TextBuffer,
-    writer: &mut W,
-    records: &[Record],
-) -> Result<(), Fault>
-    ensures ok { OnOk result (AppendsAllButHeld (W.contents writer.old) (W.contents writer.new) text.new (text.old ++ records_text records.now)) }
-    ensures err { OnErr result (AppendsBeginning (W.contents writer.old) (W.contents writer.new) (text.old ++ records_text records.now)) }
-    ensures fault { IfErr result (λ fault. fault ≡ Fault.Output) }
-{
-    for row in records {
-        make_room(text, writer, RECORD_LEN)?;
-        text.push_record(row);
-    }
     Ok(())
 }
 
 /// Adds what the world shows at the end of a replay to the buffer, and writes the buffer whenever there is no room.
 /// These are the announced time, the floor of the book, the least time, the number of records that the book shows,
-/// and a line for each record.
+/// and the text of these records in a version.
 ///
 /// [`Fault::Output`]: the writer failed. A beginning of the buffer and of these lines was written.
 pub fn put_state<W: Write>(
@@ -159,20 +128,21 @@ pub fn put_state<W: Write>(
     floor: When,
     least: When,
     records: &[Record],
+    version: Version,
 ) -> Result<(), Fault>
     ensures ok { OnOk result (AppendsAllButHeld (W.contents writer.old) (W.contents writer.new) text.new
-        (text.old ++ state_text announced floor least records.now)) }
+        (text.old ++ state_text version announced floor least records.now)) }
     ensures err { OnErr result (AppendsBeginning (W.contents writer.old) (W.contents writer.new)
-        (text.old ++ state_text announced floor least records.now)) }
+        (text.old ++ state_text version announced floor least records.now)) }
     ensures fault { IfErr result (λ fault. fault ≡ Fault.Output) }
 {
-    make_room(text, writer, SHOWN_LEN)?;
+    text.make_room(writer, SHOWN_LEN)?;
     push_shown(text, announced, floor, least, records.len());
-    put_records(text, writer, records)
+    put_records(text, writer, records, version)
 }
 
-/// Writes the line of a reply: the number of the step's line, a space, and `ok`, `waiting`, `again`, `announced T` or
-/// `refused N`. For many replies [`put_reply`] needs fewer writes.
+/// Writes the line of a reply: the number of the step's line, a space, and `ok`, `waiting`, `again`, `announced T P` or
+/// `refused N`. A time is its tick `T` and its priority `P`. For many replies [`put_reply`] needs fewer writes.
 ///
 /// [`Fault::Output`]: the writer failed or took nothing. A beginning of the line was written, but not all of it.
 pub fn print_reply<W: Write>(
@@ -189,8 +159,10 @@ pub fn print_reply<W: Write>(
     text.flush(writer)
 }
 
-/// Writes what the world shows at the end of a replay: the lines `announced T`, `floor T`, `least T` and `records N`,
-/// and a line for each record.
+/// Writes what the world shows at the end of a replay: the lines `announced T P`, `floor T P`, `least T P` and
+/// `records N`, and the text of the records in a version, as [`print_records`](vt_text::print_records) has it.
+///
+/// A time is its tick `T` and its priority `P`.
 ///
 /// [`Fault::Output`]: the writer failed or took nothing. A beginning of the text was written, but not all of it.
 pub fn print_state<W: Write>(
@@ -199,12 +171,13 @@ pub fn print_state<W: Write>(
     floor: When,
     least: When,
     records: &[Record],
+    version: Version,
 ) -> Result<(), Fault>
-    ensures ok { OnOk result (Appends (W.contents writer.old) (W.contents writer.new) (state_text announced floor least records.now)) }
-    ensures err { OnErr result (AppendsBeginning (W.contents writer.old) (W.contents writer.new) (state_text announced floor least records.now)) }
+    ensures ok { OnOk result (Appends (W.contents writer.old) (W.contents writer.new) (state_text version announced floor least records.now)) }
+    ensures err { OnErr result (AppendsBeginning (W.contents writer.old) (W.contents writer.new) (state_text version announced floor least records.now)) }
     ensures fault { IfErr result (λ fault. fault ≡ Fault.Output) }
 {
     let mut text = TextBuffer::new();
-    put_state(&mut text, writer, announced, floor, least, records)?;
+    put_state(&mut text, writer, announced, floor, least, records, version)?;
     text.flush(writer)
 }

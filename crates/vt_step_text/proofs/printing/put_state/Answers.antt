@@ -9,10 +9,10 @@ pub returns-clause-ok : goal.returns-clause-ok
 returns-clause-ok g c =
     let a = c.args in
     let shown = shown_text a.announced a.floor a.least (length a.records.now) in
-    on_ok_weaker c.put_records.result (λ h. both_put _ _ _ c.make_room.new.text _ a.text.now shown (records_text a.records.now) c.in_ok-make_room.ensures.ok (rw c.push_shown.ensures.text at h)) c.put_records.ensures.ok
+    on_ok_weaker c.put_records.result (λ h. both_put _ _ _ c.make_room.new.self _ a.text.now shown (records_text a.version a.records.now) c.in_ok-make_room.ensures.ok (rw c.push_shown.ensures.text at h)) c.put_records.ensures.ok
 
 pub returns-clause-err : goal.returns-clause-err
 returns-clause-err g c =
     let a = c.args in
     let shown = shown_text a.announced a.floor a.least (length a.records.now) in
-    on_err_weaker c.put_records.result (λ h. second_stops _ _ _ c.make_room.new.text a.text.now shown (records_text a.records.now) c.in_ok-make_room.ensures.ok (rw c.push_shown.ensures.text at h)) c.put_records.ensures.err
+    on_err_weaker c.put_records.result (λ h. second_stops _ _ _ c.make_room.new.self a.text.now shown (records_text a.version a.records.now) c.in_ok-make_room.ensures.ok (rw c.push_shown.ensures.text at h)) c.put_records.ensures.err
