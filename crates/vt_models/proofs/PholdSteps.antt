@@ -12,7 +12,7 @@ module _ (m : Phold) (lps lp s : ℕ) (words : ℕ → ℕ) where
   -- an out after one scheduled and the record of the count
   abbrev pub with_event : Outgoing (Unit {0}) → ℕ → ℕ → Outgoing (Unit {0})
   with_event o dest delay =
-      with_requests o (record { dest = dest; delay = delay; payload = tt } ∷ []) (record { kind = 2; value = counted s } ∷ [])
+      with_requests o (record { dest = dest; delay = delay; priority = 0; payload = tt } ∷ []) (record { kind = 2; value = counted s } ∷ [])
 
   -- an out after what an event gives
   abbrev with_result : Outgoing (Unit {0}) → ForwardResult ℕ (Unit {0}) (Unit {0}) → Outgoing (Unit {0})

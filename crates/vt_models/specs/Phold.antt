@@ -10,7 +10,7 @@ use Rattle.vt_stream.specs.Drawn.{scaled}
 -- an event that is scheduled at a process, for which this word was drawn: it is received after the lookahead and a number
 -- below the span
 abbrev pub scheduled : Phold → ℕ → ℕ → SendRequest (Unit {0})
-scheduled m dest w = record { dest = dest; delay = m.lookahead + scaled w m.span; payload = tt }
+scheduled m dest w = record { dest = dest; delay = m.lookahead + scaled w m.span; priority = 0; payload = tt }
 
 -- the first events of a process, at the process itself, a word for each
 abbrev pub first_events : Phold → ℕ → (ℕ → ℕ) → ℕ → List (SendRequest (Unit {0}))

@@ -9,59 +9,59 @@ use Rattle.vt_stream.specs.Drawn.{scaled}
 use Rattle.vt_stream.specs.DrawnLaws.{scaled_below}
 use Rattle.vt_models.specs.Phold.{scheduled, first_events, phold_start, phold_forward, forward_remote, forward_local, is_remote, counted, uncounted}
 
-scheduled_ok : (m : Phold) (lps dest w : ℕ) → dest < lps → IsSendable lps (scheduled m dest w)
-scheduled_ok m lps dest w known = record { known = known; later = omega (arith, m.some_lookahead) }
+scheduled_ok : (m : Phold) (lps now dest w : ℕ) → dest < lps → IsSendable lps now (scheduled m dest w)
+scheduled_ok m lps now dest w known = record { known = known; some_priority = omega arith; later = omega (arith, m.some_lookahead) }
 
-one_event : (m : Phold) (lps dest w : ℕ) → dest < lps → All (IsSendable lps) (scheduled m dest w ∷ [])
-one_event m lps dest w known = All-cons (IsSendable lps) (scheduled m dest w) [] (scheduled_ok m lps dest w known) (All-nil (IsSendable lps))
+one_event : (m : Phold) (lps now dest w : ℕ) → dest < lps → All (IsSendable lps now) (scheduled m dest w ∷ [])
+one_event m lps now dest w known = All-cons (IsSendable lps now) (scheduled m dest w) [] (scheduled_ok m lps now dest w known) (All-nil (IsSendable lps now))
 
 -- one scheduled more
 pub first_events-suc : (m : Phold) (lp : ℕ) (words : ℕ → ℕ) (n : ℕ) → first_events m lp words (suc n) ≡ first_events m lp words n ++ scheduled m lp (words n) ∷ []
 first_events-suc m lp words n = map-append (λ (i : ℕ). scheduled m lp (words i)) (numbers_below n) (n ∷ [])
 
-pub first_events_ok : (m : Phold) (lps lp : ℕ) (words : ℕ → ℕ) (n : ℕ) → lp < lps → (length (first_events m lp words n) ≡ n) × All (IsSendable lps) (first_events m lp words n)
-first_events_ok m lps lp words zero known = (refl, All-nil (IsSendable lps))
-first_events_ok m lps lp words (suc n) known =
-    let before = first_events_ok m lps lp words n known in
+pub first_events_ok : (m : Phold) (lps now lp : ℕ) (words : ℕ → ℕ) (n : ℕ) → lp < lps → (length (first_events m lp words n) ≡ n) × All (IsSendable lps now) (first_events m lp words n)
+first_events_ok m lps now lp words zero known = (refl, All-nil (IsSendable lps now))
+first_events_ok m lps now lp words (suc n) known =
+    let before = first_events_ok m lps now lp words n known in
     let next = first_events-suc m lp words n in (
       ap length next ∙ length-append (first_events m lp words n) (scheduled m lp (words n) ∷ []) ∙ omega (arith, before.0),
-      subst (All (IsSendable lps)) (sym next) (All-append (IsSendable lps) (first_events m lp words n) (scheduled m lp (words n) ∷ []) before.1 (one_event m lps lp (words n) known)),
+      subst (All (IsSendable lps now)) (sym next) (All-append (IsSendable lps now) (first_events m lp words n) (scheduled m lp (words n) ∷ []) before.1 (one_event m lps now lp (words n) known)),
     )
 
 pub start_within : (m : Phold) (lps lp : ℕ) (words : ℕ → ℕ) → lp < lps → AreWords words
-    → IsWithinLimits lps (phold_start m lp words).drawn (phold_start m lp words).send_requests []
+    → IsWithinLimits lps 0 (phold_start m lp words).drawn (phold_start m lp words).send_requests []
 start_within m lps lp words known w = record {
   few_words = omega (arith, m.few_events);
-  few_sends = omega (arith, m.few_events, (first_events_ok m lps lp words m.population known).0);
+  few_sends = omega (arith, m.few_events, (first_events_ok m lps 0 lp words m.population known).0);
   few_records = omega arith;
-  sendable = (first_events_ok m lps lp words m.population known).1;
+  sendable = (first_events_ok m lps 0 lp words m.population known).1;
 }
 
 -- what an event gives is within the limits
-abbrev AreWithin : ℕ → ForwardResult ℕ (Unit {0}) (Unit {0}) → Type 0
-AreWithin lps f = IsWithinLimits lps f.drawn f.send_requests f.record_requests
+abbrev AreWithin : ℕ → ℕ → ForwardResult ℕ (Unit {0}) (Unit {0}) → Type 0
+AreWithin lps now f = IsWithinLimits lps now f.drawn f.send_requests f.record_requests
 
-remote_within : (m : Phold) (lps lp s : ℕ) (words : ℕ → ℕ) → lp < lps → AreWords words → AreWithin lps (forward_remote m lps s words)
-remote_within m lps lp s words known w = record {
+remote_within : (m : Phold) (lps now lp s : ℕ) (words : ℕ → ℕ) → lp < lps → AreWords words → AreWithin lps now (forward_remote m lps s words)
+remote_within m lps now lp s words known w = record {
   few_words = omega arith;
   few_sends = omega arith;
   few_records = omega arith;
-  sendable = one_event m lps (scaled (words 1) lps) (words 2) (scaled_below (words 1) lps (w 1) (omega arith));
+  sendable = one_event m lps now (scaled (words 1) lps) (words 2) (scaled_below (words 1) lps (w 1) (omega arith));
 }
 
-local_within : (m : Phold) (lps lp s : ℕ) (words : ℕ → ℕ) → lp < lps → AreWithin lps (forward_local m lp s words)
-local_within m lps lp s words known = record {
+local_within : (m : Phold) (lps now lp s : ℕ) (words : ℕ → ℕ) → lp < lps → AreWithin lps now (forward_local m lp s words)
+local_within m lps now lp s words known = record {
   few_words = omega arith;
   few_sends = omega arith;
   few_records = omega arith;
-  sendable = one_event m lps lp (words 1) known;
+  sendable = one_event m lps now lp (words 1) known;
 }
 
 pub forward_within : (m : Phold) (lps lp now : ℕ) (p : Unit {0}) (s : ℕ) (words : ℕ → ℕ) → lp < lps → AreWords words
-    → IsWithinLimits lps (phold_forward m lps lp s words).drawn (phold_forward m lps lp s words).send_requests (phold_forward m lps lp s words).record_requests
+    → IsWithinLimits lps now (phold_forward m lps lp s words).drawn (phold_forward m lps lp s words).send_requests (phold_forward m lps lp s words).record_requests
 forward_within m lps lp now p s words known w =
-    elim (is_remote m (words 0)) as (λ b. AreWithin lps (if b then forward_remote m lps s words else forward_local m lp s words))
-    [ true ↦ remote_within m lps lp s words known w | false ↦ local_within m lps lp s words known ]
+    elim (is_remote m (words 0)) as (λ b. AreWithin lps now (if b then forward_remote m lps s words else forward_local m lp s words))
+    [ true ↦ remote_within m lps now lp s words known w | false ↦ local_within m lps now lp s words known ]
 
 -- wherever the next event goes, this one is counted
 one_more : (m : Phold) (lps lp s : ℕ) (words : ℕ → ℕ) → (phold_forward m lps lp s words).state ≡ counted s

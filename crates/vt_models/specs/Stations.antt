@@ -12,11 +12,11 @@ use Rattle.vt_stream.specs.Drawn.{scaled}
 
 -- the end of a service that begins now, for which this word was drawn
 abbrev pub departure : Stations → ℕ → ℕ → SendRequest JobEvent
-departure m lp w = record { dest = lp; delay = 1 + scaled w m.service; payload = Depart }
+departure m lp w = record { dest = lp; delay = 1 + scaled w m.service; priority = 0; payload = Depart }
 
 -- a job on its way to the station that a word names
 abbrev pub passage : Stations → ℕ → ℕ → SendRequest JobEvent
-passage m lps w = record { dest = scaled w lps; delay = m.travel; payload = Arrive }
+passage m lps w = record { dest = scaled w lps; delay = m.travel; priority = 0; payload = Arrive }
 
 -- the first state of a station
 abbrev pub filled : Stations → Server

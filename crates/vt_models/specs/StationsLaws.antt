@@ -11,57 +11,57 @@ use Rattle.vt_models.specs.declared.stations.JobEvent.TheVariants.{Arrive, Depar
 use Rattle.vt_stream.specs.DrawnLaws.{scaled_below}
 use Rattle.vt_models.specs.Stations.{departure, passage, start_idle, start_busy, stations_start, one_more, arrival_begins, arrival_waits, arrival, one_served, nothing_departs, last_departs, next_follows, service_end, stations_forward, one_fewer, one_back, stations_reverse, AreSums}
 
-no_sends : (lps : ℕ) → All {X = SendRequest JobEvent} (IsSendable lps) []
-no_sends lps = All-nil (IsSendable lps)
+no_sends : (lps now : ℕ) → All {X = SendRequest JobEvent} (IsSendable lps now) []
+no_sends lps now = All-nil (IsSendable lps now)
 
-departure_ok : (m : Stations) (lps lp w : ℕ) → lp < lps → IsSendable lps (departure m lp w)
-departure_ok m lps lp w known = record { known = known; later = omega arith }
+departure_ok : (m : Stations) (lps now lp w : ℕ) → lp < lps → IsSendable lps now (departure m lp w)
+departure_ok m lps now lp w known = record { known = known; some_priority = omega arith; later = omega arith }
 
-passage_ok : (m : Stations) (lps w : ℕ) → 0 < lps → w < 2 ^ 32 → IsSendable lps (passage m lps w)
-passage_ok m lps w some small = record { known = scaled_below w lps small some; later = m.some_travel }
+passage_ok : (m : Stations) (lps now w : ℕ) → 0 < lps → w < 2 ^ 32 → IsSendable lps now (passage m lps w)
+passage_ok m lps now w some small = record { known = scaled_below w lps small some; some_priority = omega arith; later = omega (arith, m.some_travel) }
 
-one_departure : (m : Stations) (lps lp w : ℕ) → lp < lps → All (IsSendable lps) (departure m lp w ∷ [])
-one_departure m lps lp w known = All-cons (IsSendable lps) (departure m lp w) [] (departure_ok m lps lp w known) (no_sends lps)
+one_departure : (m : Stations) (lps now lp w : ℕ) → lp < lps → All (IsSendable lps now) (departure m lp w ∷ [])
+one_departure m lps now lp w known = All-cons (IsSendable lps now) (departure m lp w) [] (departure_ok m lps now lp w known) (no_sends lps now)
 
 -- a start is within the limits
 abbrev StartsWithin : ℕ → StartResult Server JobEvent → Type 0
-StartsWithin lps f = IsWithinLimits lps f.drawn f.send_requests []
+StartsWithin lps f = IsWithinLimits lps 0 f.drawn f.send_requests []
 
 pub start_within : (m : Stations) (lps lp : ℕ) (words : ℕ → ℕ) → lp < lps → AreWords words
-    → IsWithinLimits lps (stations_start m lp words).drawn (stations_start m lp words).send_requests []
+    → IsWithinLimits lps 0 (stations_start m lp words).drawn (stations_start m lp words).send_requests []
 start_within m lps lp words known w =
     elim (nat_eq m.jobs 0) as (λ b. StartsWithin lps (if b then start_idle m else start_busy m lp words)) [
-      | true ↦ record { few_words = omega arith; few_sends = omega arith; few_records = omega arith; sendable = no_sends lps }
-      | false ↦ record { few_words = omega arith; few_sends = omega arith; few_records = omega arith; sendable = one_departure m lps lp (words 0) known }
+      | true ↦ record { few_words = omega arith; few_sends = omega arith; few_records = omega arith; sendable = no_sends lps 0 }
+      | false ↦ record { few_words = omega arith; few_sends = omega arith; few_records = omega arith; sendable = one_departure m lps 0 lp (words 0) known }
     ]
 
 -- what an event gives is within the limits
-abbrev AreWithin : ℕ → ForwardResult Server JobEvent (Unit {0}) → Type 0
-AreWithin lps f = IsWithinLimits lps f.drawn f.send_requests f.record_requests
+abbrev AreWithin : ℕ → ℕ → ForwardResult Server JobEvent (Unit {0}) → Type 0
+AreWithin lps now f = IsWithinLimits lps now f.drawn f.send_requests f.record_requests
 
-arrival_within : (m : Stations) (lps lp : ℕ) (s : Server) (words : ℕ → ℕ) → lp < lps → AreWithin lps (arrival m lp s words)
-arrival_within m lps lp s words known =
-    elim (nat_eq (one_more s).length 1) as (λ b. AreWithin lps (if b then arrival_begins m lp s words else arrival_waits s)) [
-      | true ↦ record { few_words = omega arith; few_sends = omega arith; few_records = omega arith; sendable = one_departure m lps lp (words 0) known }
-      | false ↦ record { few_words = omega arith; few_sends = omega arith; few_records = omega arith; sendable = no_sends lps }
+arrival_within : (m : Stations) (lps now lp : ℕ) (s : Server) (words : ℕ → ℕ) → lp < lps → AreWithin lps now (arrival m lp s words)
+arrival_within m lps now lp s words known =
+    elim (nat_eq (one_more s).length 1) as (λ b. AreWithin lps now (if b then arrival_begins m lp s words else arrival_waits s)) [
+      | true ↦ record { few_words = omega arith; few_sends = omega arith; few_records = omega arith; sendable = one_departure m lps now lp (words 0) known }
+      | false ↦ record { few_words = omega arith; few_sends = omega arith; few_records = omega arith; sendable = no_sends lps now }
     ]
 
-service_end_within : (m : Stations) (lps lp : ℕ) (s : Server) (words : ℕ → ℕ) → lp < lps → AreWords words → AreWithin lps (service_end m lps lp s words)
-service_end_within m lps lp s words known w =
+service_end_within : (m : Stations) (lps now lp : ℕ) (s : Server) (words : ℕ → ℕ) → lp < lps → AreWords words → AreWithin lps now (service_end m lps lp s words)
+service_end_within m lps now lp s words known w =
     let some : 0 < lps = omega arith in
-    let leaves = passage_ok m lps (words 0) some (w 0) in
-    elim (nat_eq (one_served s).length 0) as (λ b. AreWithin lps (if b then last_departs m lps s words else next_follows m lps lp s words)) [
-      | true ↦ record { few_words = omega arith; few_sends = omega arith; few_records = omega arith; sendable = All-cons (IsSendable lps) (passage m lps (words 0)) [] leaves (no_sends lps) }
-      | false ↦ record { few_words = omega arith; few_sends = omega arith; few_records = omega arith; sendable = All-cons (IsSendable lps) (passage m lps (words 0)) (departure m lp (words 1) ∷ []) leaves (one_departure m lps lp (words 1) known) }
+    let leaves = passage_ok m lps now (words 0) some (w 0) in
+    elim (nat_eq (one_served s).length 0) as (λ b. AreWithin lps now (if b then last_departs m lps s words else next_follows m lps lp s words)) [
+      | true ↦ record { few_words = omega arith; few_sends = omega arith; few_records = omega arith; sendable = All-cons (IsSendable lps now) (passage m lps (words 0)) [] leaves (no_sends lps now) }
+      | false ↦ record { few_words = omega arith; few_sends = omega arith; few_records = omega arith; sendable = All-cons (IsSendable lps now) (passage m lps (words 0)) (departure m lp (words 1) ∷ []) leaves (one_departure m lps now lp (words 1) known) }
     ]
 
 pub forward_within : (m : Stations) (lps lp now : ℕ) (p : JobEvent) (s : Server) (words : ℕ → ℕ) → lp < lps → AreWords words
-    → IsWithinLimits lps (stations_forward m lps lp p s words).drawn (stations_forward m lps lp p s words).send_requests (stations_forward m lps lp p s words).record_requests
-forward_within m lps lp now Arrive s words known w = arrival_within m lps lp s words known
+    → IsWithinLimits lps now (stations_forward m lps lp p s words).drawn (stations_forward m lps lp p s words).send_requests (stations_forward m lps lp p s words).record_requests
+forward_within m lps lp now Arrive s words known w = arrival_within m lps now lp s words known
 forward_within m lps lp now Depart s words known w =
-    elim (nat_eq s.length 0) as (λ b. AreWithin lps (if b then nothing_departs s else service_end m lps lp s words)) [
-      | true ↦ record { few_words = omega arith; few_sends = omega arith; few_records = omega arith; sendable = no_sends lps }
-      | false ↦ service_end_within m lps lp s words known w
+    elim (nat_eq s.length 0) as (λ b. AreWithin lps now (if b then nothing_departs s else service_end m lps lp s words)) [
+      | true ↦ record { few_words = omega arith; few_sends = omega arith; few_records = omega arith; sendable = no_sends lps now }
+      | false ↦ service_end_within m lps now lp s words known w
     ]
 
 pub start_state : (m : Stations) (lps lp : ℕ) (words : ℕ → ℕ) → AreSums (stations_start m lp words).state

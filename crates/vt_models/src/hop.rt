@@ -2,7 +2,7 @@
 
 ghost use Rattle.std.specs.Prelude.{◌≡◌, ◌≤◌, None, IfOk, IfErr, IsSome};
 ghost use Rattle.vt_key.specs.Faults.{option_named};
-ghost use Rattle.vt_models.specs.declared.hop.TheConstants.{MAX_HOPS, MAX_STRIDE, MAX_DELAY};
+ghost use Rattle.vt_models.specs.declared.hop.TheConstants.{MAX_HOPS, MAX_STRIDE, MAX_DELAY, MAX_RISE};
 ghost use Rattle.vt_models.specs.Options.{first_bad_hop_option};
 
 use vt_key::{Fault, When};
@@ -16,6 +16,9 @@ pub const MAX_STRIDE: u32 = 65_535;
 
 /// The longest delay of a hop, in ticks.
 pub const MAX_DELAY: u32 = 1_000_000;
+
+/// The highest rise of a hop's priority.
+pub const MAX_RISE: u32 = u8::MAX as u32;
 
 /// A token on its way.
 #[derive(Debug, Clone, Copy, PartialEq, Eq)]
@@ -31,27 +34,34 @@ pub struct Token {
 /// The state of a process is a 64-bit sum, at first 0. A token's arrival turns the sum left by 8 bits, mixes the token's
 /// tag in by exclusive or, and records the sum under kind 1: so the records tell in which order tokens came. The final
 /// value of a process is its sum. The model draws no random words.
+///
+/// A token goes on after `delay` ticks with priority 0. With a `rise` it first goes on within the tick, each time with a
+/// priority that is so much higher, until that would be above 255.
 #[derive(Debug, Clone, Copy, PartialEq, Eq)]
 pub struct Hop {
     hops: u32,
     stride: u32,
     delay: u32,
+    rise: u32,
     ghost few_hops: { hops ≤ MAX_HOPS },
     ghost short_stride: { stride ≤ MAX_STRIDE },
     ghost some_delay: { 1 ≤ delay },
     ghost short_delay: { delay ≤ MAX_DELAY },
+    ghost low_rise: { rise ≤ MAX_RISE },
 }
 
 impl Hop {
-    /// The model in which each token hops `hops` times (0 to 1,000,000), by `stride` processes (0 to 65,535), once in
-    /// `delay` ticks (1 to 1,000,000).
+    ghost use Rattle.vt_models.specs.Hop.{risen};
+
+    /// The model in which each token hops `hops` times (0 to 1,000,000), by `stride` processes (0 to 65,535), after
+    /// `delay` ticks (1 to 1,000,000), or within the tick where its priority can rise by `rise` (0 to 255; 0 is no rise).
     ///
-    /// [`Fault::BadOption`] names the first that is out of its range: `hops`, `stride` or `delay`.
-    pub fn new(hops: u32, stride: u32, delay: u32) -> Result<Hop, Fault>
-        ensures good { IfOk result (λ m. first_bad_hop_option hops stride delay ≡ None) }
-        ensures same { IfOk result (λ m. (m.hops ≡ hops) × (m.stride ≡ stride) × (m.delay ≡ delay)) }
-        ensures bad { IfErr result (λ fault. IsSome (first_bad_hop_option hops stride delay)) }
-        ensures named { IfErr result (λ fault. option_named fault ≡ first_bad_hop_option hops stride delay) }
+    /// [`Fault::BadOption`] names the first that is out of its range: `hops`, `stride`, `delay` or `rise`.
+    pub fn new(hops: u32, stride: u32, delay: u32, rise: u32) -> Result<Hop, Fault>
+        ensures good { IfOk result (λ m. first_bad_hop_option hops stride delay rise ≡ None) }
+        ensures same { IfOk result (λ m. (m.hops ≡ hops) × (m.stride ≡ stride) × (m.delay ≡ delay) × (m.rise ≡ rise)) }
+        ensures bad { IfErr result (λ fault. IsSome (first_bad_hop_option hops stride delay rise)) }
+        ensures named { IfErr result (λ fault. option_named fault ≡ first_bad_hop_option hops stride delay rise) }
     {
         if hops > MAX_HOPS {
             return Err(Fault::BadOption("hops"));
@@ -62,11 +72,25 @@ impl Hop {
         if delay < 1 || delay > MAX_DELAY {
             return Err(Fault::BadOption("delay"));
         }
+        if rise > MAX_RISE {
+            return Err(Fault::BadOption("rise"));
+        }
         Ok(Hop {
             hops,
             stride,
             delay,
+            rise,
         })
+    }
+
+    // The priority with which a token that arrives now goes on in the same tick, where it does.
+    fn risen(&self, now: When) -> Option<u8>
+        ensures { result ≡ risen self.now now }
+    {
+        if self.rise == 0 {
+            return None;
+        }
+        now.priority().checked_add(self.rise as u8)
     }
 }
 
@@ -91,7 +115,7 @@ impl EventModel for Hop {
             tag: lp + 1,
             left: self.hops,
         };
-        out.send(lp, u64::from(lp) + 1, token);
+        out.send(lp, u64::from(lp) + 1, 0, token);
         0
     }
 
@@ -99,7 +123,7 @@ impl EventModel for Hop {
     fn forward(
         &self,
         lp: u32,
-        _now: When,
+        now: When,
         payload: Token,
         state: &mut u64,
         _bits: &mut Bits,
@@ -114,7 +138,10 @@ impl EventModel for Hop {
                 tag: payload.tag,
                 left: payload.left - 1,
             };
-            out.send(dest, u64::from(self.delay), token);
+            match self.risen(now) {
+                Some(priority) => out.send(dest, 0, priority, token),
+                None => out.send(dest, u64::from(self.delay), 0, token),
+            }
         }
     }
 

@@ -5,6 +5,6 @@ mod hop;
 mod phold;
 mod stations;
 
-pub use hop::{Hop, MAX_DELAY, MAX_HOPS, MAX_STRIDE, Token};
+pub use hop::{Hop, MAX_DELAY, MAX_HOPS, MAX_RISE, MAX_STRIDE, Token};
 pub use phold::{MAX_LOOKAHEAD, MAX_POPULATION, MAX_REMOTE, MAX_SPAN, Phold};
 pub use stations::{JobEvent, MAX_JOBS, MAX_SERVICE, MAX_TRAVEL, Server, Stations};

@@ -47,7 +47,7 @@ pub struct Phold {
 }
 
 impl Phold {
-    /// The model in which each process starts with `population` events (0 to 8), `remote` percent of all events (0 to 100)
+    /// The model in which each process starts with `population` events (0 to 16), `remote` percent of all events (0 to 100)
     /// go to a drawn process, and each is received after `lookahead` ticks (1 to 1,000,000) and a draw below `span` ticks
     /// (1 to 1,000,000).
     ///
@@ -98,7 +98,7 @@ impl EventModel for Phold {
     fn start(&self, lp: u32, draws: &mut Draws<'_>, out: &mut Out<()>) -> u64 {
         'events: for _event in 0..self.population {
             let wait = draws.below(u64::from(self.span));
-            out.send(lp, u64::from(self.lookahead) + wait, ());
+            out.send(lp, u64::from(self.lookahead) + wait, 0, ());
         }
         0
     }
@@ -121,7 +121,7 @@ impl EventModel for Phold {
         let wait = draws.below(u64::from(self.span));
         *state = state.wrapping_add(1);
         out.emit(2, *state);
-        out.send(dest, u64::from(self.lookahead) + wait, ());
+        out.send(dest, u64::from(self.lookahead) + wait, 0, ());
     }
 
     fn reverse(&self, _lp: u32, _now: When, _payload: (), state: &mut u64, _bits: Bits, _kept: ()) {

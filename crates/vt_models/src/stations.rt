@@ -105,7 +105,7 @@ impl Stations {
         ensures out { out.new ≡ with_requests out.old (departure self.now lp (word_of draws.old.stream.now 0) ∷ []) [] }
     {
         let wait = draws.below(u64::from(self.service));
-        out.send(lp, 1 + wait, JobEvent::Depart);
+        out.send(lp, 1 + wait, 0, JobEvent::Depart);
     }
 }
 
@@ -162,7 +162,7 @@ impl EventModel for Stations {
                 state.served = state.served.wrapping_add(1);
                 out.emit(4, state.served);
                 let dest = draws.below(u64::from(out.lps())) as u32;
-                out.send(dest, u64::from(self.travel), JobEvent::Arrive);
+                out.send(dest, u64::from(self.travel), 0, JobEvent::Arrive);
                 if state.length != 0 {
                     bits.set(GOES_ON);
                     self.serve(lp, draws, out);

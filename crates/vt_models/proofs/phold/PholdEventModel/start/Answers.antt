@@ -18,7 +18,7 @@ events-init c = record {
 pub send-requires : goal.send-requires
 send-requires c =
     let words = word_of c.args.draws.now.stream.now in
-    let many = (first_events_ok c.args.self.now c.args.out.now.lps c.args.lp words c.events._event c.requires.fresh.known).0 in
+    let many = (first_events_ok c.args.self.now c.args.out.now.lps 0 c.args.lp words c.events._event c.requires.fresh.known).0 in
     let lps : c.events.out.lps ≡ c.args.out.now.lps = ap (λ (o : Outgoing (Unit {0})). o.lps) c.events.invariant.out in
     let first : c.events.out.first ≡ c.args.out.now.first = ap (λ (o : Outgoing (Unit {0})). o.first) c.events.invariant.out in
     let number : c.events.out.number ≡ c.args.out.now.number + length (first_events c.args.self.now c.args.lp words c.events._event) = ap (λ (o : Outgoing (Unit {0})). o.number) c.events.invariant.out in
@@ -34,8 +34,8 @@ events-preserved c =
     let delay : c.from-in-events.result + c.below-wait.result ≡ (scheduled c.args.self.now c.args.lp (words c.events._event)).delay = cc in
     let longer : first_events c.args.self.now c.args.lp words (c.events._event + 1) ≡ first_events c.args.self.now c.args.lp words c.events._event ++ scheduled c.args.self.now c.args.lp (words c.events._event) ∷ []
     = rw add-one (first_events-suc c.args.self.now c.args.lp words c.events._event) in
-    let sent : with_requests c.events.out (record { dest = c.args.lp; delay = c.from-in-events.result + c.below-wait.result; payload = tt } ∷ []) [] ≡ with_requests c.events.out (scheduled c.args.self.now c.args.lp (words c.events._event) ∷ []) []
-    = λ j. with_requests c.events.out (record { dest = c.args.lp; delay = delay j; payload = tt } ∷ []) [] in
+    let sent : with_requests c.events.out (record { dest = c.args.lp; delay = c.from-in-events.result + c.below-wait.result; priority = 0; payload = tt } ∷ []) [] ≡ with_requests c.events.out (scheduled c.args.self.now c.args.lp (words c.events._event) ∷ []) []
+    = λ j. with_requests c.events.out (record { dest = c.args.lp; delay = delay j; priority = 0; payload = tt } ∷ []) [] in
     record {
       drawn = omega arith;
       same_reference = search rules;

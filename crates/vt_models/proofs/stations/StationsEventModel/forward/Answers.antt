@@ -19,7 +19,7 @@ with_result o f = with_requests o f.send_requests f.record_requests
 -- an out after a job has left
 abbrev after_passage : Outgoing JobEvent → ℕ → ℕ → ℕ → Outgoing JobEvent
 after_passage o dest delay served =
-    with_requests o (record { dest = dest; delay = delay; payload = Arrive } ∷ []) (record { kind = 4; value = served } ∷ [])
+    with_requests o (record { dest = dest; delay = delay; priority = 0; payload = Arrive } ∷ []) (record { kind = 4; value = served } ∷ [])
 
 pub returns-then-state-eq0-clause-out : goal.returns-then-state-eq0-clause-out
 returns-then-state-eq0-clause-out c =
