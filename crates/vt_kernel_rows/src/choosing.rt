@@ -12,7 +12,7 @@ use vt_models::{Hop, Token};
 #[test]
 fn the_least_event_is_next(rt: HostRuntime) {
     // Process p's own token is at p + 1; it hops on by three processes after one tick.
-    let model = Hop::new(1, 3, 1).expect(&rt, "options");
+    let model = Hop::new(1, 3, 1, 0).expect(&rt, "options");
     let config = Config::new(6, 2, 10, 0).expect(&rt, "config");
     let mut worker = Kernel::new(rt.alloc(), &model, config, 1).expect(&rt, "memory");
     assert_eq!(rt; (worker.next(), worker.outbox_len()), (None, 3));
@@ -53,7 +53,7 @@ fn does_not_know(rt: &impl Abort, worker: &Kernel<Hop>, p: u32) {
 
 #[test]
 fn a_process_of_another_worker_is_not_touched(rt: HostRuntime) {
-    let model = Hop::new(1, 1, 1).expect(&rt, "options");
+    let model = Hop::new(1, 1, 1, 0).expect(&rt, "options");
     let config = Config::new(2, 2, 10, 0).expect(&rt, "config");
     let mut worker = Kernel::new(rt.alloc(), &model, config, 1).expect(&rt, "memory");
     for p in [0, 2, 3] {
@@ -81,7 +81,7 @@ fn sends(
 #[test]
 fn only_letters_for_that_worker_leave(rt: HostRuntime) {
     // Worker 0 has processes 0 and 3. The token of 0 hops to 2, which is worker 2's, that of 3 to 1, which is worker 1's.
-    let model = Hop::new(1, 2, 1).expect(&rt, "options");
+    let model = Hop::new(1, 2, 1, 0).expect(&rt, "options");
     let config = Config::new(4, 3, 10, 0).expect(&rt, "config");
     let mut worker = Kernel::new(rt.alloc(), &model, config, 0).expect(&rt, "memory");
     for p in [0, 3] {

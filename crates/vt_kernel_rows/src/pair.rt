@@ -185,7 +185,7 @@ pub(crate) struct Pair {
 impl Pair {
     /// Both workers at the opening.
     pub(crate) fn new(rt: &(impl Abort + AllocGlobal)) -> Result<Pair, Fault> {
-        let model = Hop::new(1, 1, 1)?;
+        let model = Hop::new(1, 1, 1, 0)?;
         let config = Config::new(2, 2, 10, 0)?;
         let first = Worker::new(rt, model, config, 0)?;
         let second = Worker::new(rt, model, config, 1)?;

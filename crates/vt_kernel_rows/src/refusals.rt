@@ -36,7 +36,7 @@ fn whole(worker: &Kernel<Hop>) -> Whole {
 /// when it is tried again.
 #[test]
 fn a_refused_execute_is_taken_back(rt: HostRuntime) {
-    let model = Hop::new(1, 0, 1).expect(&rt, "options");
+    let model = Hop::new(1, 0, 1, 0).expect(&rt, "options");
     let config = Config::new(1, 1, 10, 0).expect(&rt, "config");
     let Ok(mut worker) = Kernel::new(rt.alloc(), &model, config, 0) else {
         return;
@@ -57,7 +57,7 @@ fn a_refused_execute_is_taken_back(rt: HostRuntime) {
 #[test]
 fn serials_end_at_their_limit(rt: HostRuntime) {
     let limit = 1 << 63;
-    let model = Hop::new(1, 0, 1).expect(&rt, "options");
+    let model = Hop::new(1, 0, 1, 0).expect(&rt, "options");
     let config = Config::new(1, 1, 10, 0).expect(&rt, "config");
     let refused = Kernel::with_serial(rt.alloc(), &model, config, 0, limit);
     assert_eq!(rt; refused.err(), Some(Fault::Exhausted));

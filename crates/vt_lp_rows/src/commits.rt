@@ -9,7 +9,7 @@ use vt_models::{Hop, Token};
 
 #[test]
 fn events_below_the_floor_are_committed(rt: HostRuntime) {
-    let model = Hop::new(1, 1, 1).expect(&rt, "options");
+    let model = Hop::new(1, 1, 1, 0).expect(&rt, "options");
     let mut stage = Stage::of_two(&rt, &model);
     stage.accepts_own(&rt);
     let payload = Token { tag: 1, left: 0 };

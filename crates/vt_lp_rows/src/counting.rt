@@ -109,7 +109,7 @@ fn has_sum(rt: &impl Abort, stage: &Stage<Counting<Hop>>, sum: u64) {
 #[test]
 fn an_undo_is_one_reverse(rt: HostRuntime) {
     let model = Counting {
-        model: Hop::new(1, 1, 1).expect(&rt, "options"),
+        model: Hop::new(1, 1, 1, 0).expect(&rt, "options"),
         starts: Cell::new(0),
         forwards: Cell::new(0),
         reverses: Cell::new(0),

@@ -14,7 +14,7 @@ use vt_models::{Hop, Token};
 /// when it is tried again.
 #[test]
 fn a_refused_execute_is_taken_back(rt: HostRuntime) {
-    let model = Hop::new(1, 0, 1).expect(&rt, "options");
+    let model = Hop::new(1, 0, 1, 0).expect(&rt, "options");
     let config = Config::new(1, 1, 10, 0).expect(&rt, "config");
     let Ok(mut stage) = Stage::new(rt.alloc(), &model, config, 0, 0) else {
         return;
@@ -44,7 +44,7 @@ fn is_as_before(rt: &impl Abort, stage: &Stage<Hop>, serial: u64) {
 #[test]
 fn serials_end_at_their_limit(rt: HostRuntime) {
     let limit = 1 << 63;
-    let model = Hop::new(1, 0, 1).expect(&rt, "options");
+    let model = Hop::new(1, 0, 1, 0).expect(&rt, "options");
     let config = Config::new(1, 1, 10, 0).expect(&rt, "config");
     is_refused(&rt, &model, config, 0, limit, Fault::Exhausted);
     let mut stage = Stage::new(rt.alloc(), &model, config, 0, limit - 1).expect(&rt, "memory");
@@ -73,7 +73,7 @@ fn is_refused(
 /// the one of execute at the end, and all calls before it go on.
 #[test]
 fn what_takes_no_memory_goes_on_without_it(rt: HostRuntime) {
-    let model = Hop::new(1, 1, 1).expect(&rt, "options");
+    let model = Hop::new(1, 1, 1, 0).expect(&rt, "options");
     let config = Config::new(2, 2, 10, 0).expect(&rt, "config");
     let Ok(mut stage) = Stage::new(rt.alloc(), &model, config, 1, 0) else {
         return;

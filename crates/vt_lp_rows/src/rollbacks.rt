@@ -20,7 +20,7 @@ const PAYLOAD: Token = Token { tag: 1, left: 0 };
 
 #[test]
 fn a_straggler_rolls_a_token_back(rt: HostRuntime) {
-    let model = Hop::new(1, 1, 1).expect(&rt, "options");
+    let model = Hop::new(1, 1, 1, 0).expect(&rt, "options");
     let mut stage = Stage::of_two(&rt, &model);
     executes_its_token(&rt, &mut stage, &model);
     has_nothing_to_undo(&rt, &mut stage, &model);

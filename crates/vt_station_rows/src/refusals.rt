@@ -37,7 +37,7 @@ fn tells(rt: &impl Abort, worker: &Hand<'_>, want: Told) {
 
 #[test]
 fn what_is_not_lawful_changes_nothing(rt: HostRuntime) {
-    let model = Hop::new(1, 1, 1).expect(&rt, "options");
+    let model = Hop::new(1, 1, 1, 0).expect(&rt, "options");
     let config = Config::new(2, 2, 10, 0).expect(&rt, "config");
     let (station, places) = Station::new(rt.alloc(), &model, config).expect(&rt, "memory");
     let workers = workers_at(rt.alloc(), &station, &model, config, places).expect(&rt, "memory");
@@ -75,7 +75,7 @@ fn refuses_a_cut(rt: &impl Abort, crew: &mut Crew<'_>) {
 
 #[test]
 fn there_are_no_records_before_any_visit(rt: HostRuntime) {
-    let model = Hop::new(1, 1, 1).expect(&rt, "options");
+    let model = Hop::new(1, 1, 1, 0).expect(&rt, "options");
     let config = Config::new(2, 2, 10, 0).expect(&rt, "config");
     let (station, places) = Station::new(rt.alloc(), &model, config).expect(&rt, "memory");
     let workers = workers_at(rt.alloc(), &station, &model, config, places).expect(&rt, "memory");
@@ -86,7 +86,7 @@ fn there_are_no_records_before_any_visit(rt: HostRuntime) {
 
 #[test]
 fn nothing_is_taken_out_before_any_visit(rt: HostRuntime) {
-    let model = Hop::new(1, 1, 1).expect(&rt, "options");
+    let model = Hop::new(1, 1, 1, 0).expect(&rt, "options");
     let config = Config::new(2, 2, 10, 0).expect(&rt, "config");
     let (station, places) = Station::new(rt.alloc(), &model, config).expect(&rt, "memory");
     let mut places = places;

@@ -14,7 +14,7 @@ use vt_steps::Step;
 
 #[test]
 fn a_straggler_is_rolled_back_and_all_is_committed(rt: HostRuntime) {
-    let model = Hop::new(1, 1, 1).expect(&rt, "options");
+    let model = Hop::new(1, 1, 1, 0).expect(&rt, "options");
     let config = Config::new(2, 2, 10, 0).expect(&rt, "config");
     let (station, places) = Station::new(rt.alloc(), &model, config).expect(&rt, "memory");
     let workers = workers_at(rt.alloc(), &station, &model, config, places).expect(&rt, "memory");
@@ -39,7 +39,7 @@ fn commits_all(rt: &impl Abort, crew: &mut Crew<'_>) {
 
 #[test]
 fn one_worker_alone(rt: HostRuntime) {
-    let model = Hop::new(0, 1, 2).expect(&rt, "options");
+    let model = Hop::new(0, 1, 2, 0).expect(&rt, "options");
     let config = Config::new(1, 1, 2, 0).expect(&rt, "config");
     let (station, places) = Station::new(rt.alloc(), &model, config).expect(&rt, "memory");
     let mut workers = workers_at(rt.alloc(), &station, &model, config, places).expect(
@@ -65,7 +65,7 @@ fn runs_alone(rt: &impl Abort, worker: &mut Hand<'_>) {
 
 #[test]
 fn nothing_is_committed_while_one_worker_has_not_committed(rt: HostRuntime) {
-    let model = Hop::new(1, 1, 1).expect(&rt, "options");
+    let model = Hop::new(1, 1, 1, 0).expect(&rt, "options");
     let config = Config::new(2, 2, 10, 0).expect(&rt, "config");
     let (station, places) = Station::new(rt.alloc(), &model, config).expect(&rt, "memory");
     let workers = workers_at(rt.alloc(), &station, &model, config, places).expect(&rt, "memory");
