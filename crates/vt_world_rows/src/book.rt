@@ -4,7 +4,7 @@ use std::alloc::{AllocError, AllocGlobal};
 use std::process::Abort;
 use std::test::*;
 use vt_book::{Batch, Book};
-use vt_key::{Fault, Key, When};
+use vt_key::{Fault, Key, MAX_WORKERS, When};
 use vt_model::{Record, Row};
 
 // A row of the key (time, source, number), the first of its event. The time is in ticks, as all below.
@@ -216,6 +216,19 @@ fn a_closed_book_takes_nothing_more(rt: HostRuntime) {
     hands(&rt, &mut book, 7, &[by_time[0]], 11, Err(Fault::Closed));
     has_floor(&rt, &book, 10);
     shows(&rt, &book, &by_time);
+}
+
+#[test]
+fn the_most_workers_hand_in_rows(rt: HostRuntime) {
+    let mut book = Book::new(rt.alloc(), MAX_WORKERS, When::tick(10));
+    for w in 1..MAX_WORKERS {
+        hands(&rt, &mut book, w, &[row(1, w, 0)], 10, Ok(()));
+    }
+    hands(&rt, &mut book, MAX_WORKERS, &[], 10, Err(Fault::NotLawful));
+    has_floor(&rt, &book, 0);
+    hands(&rt, &mut book, 0, &[], 9, Ok(()));
+    has_floor(&rt, &book, 9);
+    assert_eq!(rt; records(&rt, &book).len(), 255);
 }
 
 // By time, then source, then number, then index: and a row that is handed in twice is there twice.

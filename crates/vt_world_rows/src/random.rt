@@ -1,11 +1,12 @@
 //! Pseudo-random lists of steps, the same at each run.
 
 use crate::comparing::{Seen, compare};
+use crate::dice::Dice;
 use std::alloc::AllocGlobal;
 use std::process::Abort;
 use std::rt::{self, HostRuntime};
 use vt_model::Config;
-use vt_models::{Hop, Phold, Stations};
+use vt_models::{Hop, MAX_RISE, Phold, Stations};
 
 // How many worlds of each model are driven.
 const WORLDS: u64 = 12;
@@ -28,7 +29,19 @@ fn enough(rt: &(impl Abort + AllocGlobal), seen: Seen) {
 fn hop_worlds_show_the_sequential_run(rt: HostRuntime) {
     let mut seen = Seen::nothing();
     for n in 0..WORLDS {
-        let model = Hop::new(5, 1 + (n % 3) as u32, 1 + (n % 2) as u32).expect(&rt, "options");
+        let model = Hop::new(5, 1 + (n % 3) as u32, 1 + (n % 2) as u32, 0).expect(&rt, "options");
+        compare(&rt, &model, config(&rt, n, 14), n, &mut seen);
+    }
+    enough(&rt, seen);
+}
+
+#[test]
+fn hop_worlds_with_priorities_show_the_sequential_run(rt: HostRuntime) {
+    let mut seen = Seen::nothing();
+    let mut dice = Dice { state: 1 };
+    for n in 0..WORLDS {
+        let rise = dice.below(MAX_RISE + 1);
+        let model = Hop::new(5, 1 + (n % 3) as u32, 1, rise).expect(&rt, "options");
         compare(&rt, &model, config(&rt, n, 14), n, &mut seen);
     }
     enough(&rt, seen);

@@ -8,7 +8,7 @@ use vt_steps::Step;
 // How many letters of a place, and how many stamps of a worker, a round goes through.
 const LETTERS: u32 = 40;
 
-const SERIALS: u64 = 400;
+const SERIALS: u64 = 600;
 
 /// One round: every worker takes its mail in, every process rolls back where it has to, annihilates and executes, and every
 /// worker sends, cuts, reports and commits. Most of these steps aren't lawful, and change nothing.

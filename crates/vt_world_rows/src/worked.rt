@@ -137,7 +137,7 @@ fn has_least(rt: &impl Abort, world: &World<'_, Hop>, want: u64) {
 
 // Takes the rollback and then these steps, of which so many are refused, to the same end in whatever order.
 fn accepts(rt: &(impl Abort + AllocGlobal), steps: &[Step], refused: u64) {
-    let model = Hop::new(1, 1, 1).expect(rt, "options");
+    let model = Hop::new(1, 1, 1, 0).expect(rt, "options");
     let mut world = world(rt, &model);
     takes(rt, &mut world, &ROLLBACK, 0);
     takes(rt, &mut world, steps, refused);
@@ -161,7 +161,7 @@ fn an_event_sent_again_outlives_the_anti_message(rt: HostRuntime) {
 
 #[test]
 fn a_travelling_letter_is_the_least(rt: HostRuntime) {
-    let model = Hop::new(1, 1, 1).expect(&rt, "options");
+    let model = Hop::new(1, 1, 1, 0).expect(&rt, "options");
     let mut world = world(&rt, &model);
     has_least(&rt, &world, 1);
     takes(&rt, &mut world, &ROLLBACK[..10], 0);
@@ -177,7 +177,7 @@ fn takes_one(rt: &(impl Abort + AllocGlobal), world: &mut World<'_, Hop>, step: 
 
 #[test]
 fn a_closed_world_holds_the_whole_run(rt: HostRuntime) {
-    let model = Hop::new(1, 1, 1).expect(&rt, "options");
+    let model = Hop::new(1, 1, 1, 0).expect(&rt, "options");
     let mut world = world(&rt, &model);
     takes(&rt, &mut world, &ROLLBACK, 0);
     takes(&rt, &mut world, &IN_ORDER, 0);
@@ -218,7 +218,7 @@ fn does_not_know(rt: &(impl Abort + AllocGlobal), world: &World<'_, Hop>, lp: u3
 
 #[test]
 fn spent_serials_stop_a_run(rt: HostRuntime) {
-    let model = Hop::new(1, 0, 1).expect(&rt, "options");
+    let model = Hop::new(1, 0, 1, 0).expect(&rt, "options");
     let config = Config::new(1, 1, 10, 0).expect(&rt, "config");
     is_spent(&rt, &model, config);
     let last = World::with_serial(rt.alloc(), &model, config, MAX_COUNT - 1);
