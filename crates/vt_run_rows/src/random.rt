@@ -3,8 +3,9 @@
 use crate::dice::Dice;
 use crate::running::agrees;
 use std::rt::HostRuntime;
+use vt_key::MAX_WORKERS;
 use vt_model::Config;
-use vt_models::{Hop, Phold, Stations};
+use vt_models::{Hop, MAX_RISE, Phold, Stations};
 
 // How many runs of each model are made.
 const RUNS: u32 = 150;
@@ -13,7 +14,18 @@ const RUNS: u32 = 150;
 fn hop_runs_agree(rt: HostRuntime) {
     let mut dice = Dice { state: 1 };
     for _ in 0..RUNS {
-        let model = Hop::new(dice.below(12), dice.below(50), dice.from_one(5));
+        let model = Hop::new(dice.below(12), dice.below(50), dice.from_one(5), 0);
+        let config = dice.config(&rt, 30);
+        agrees(&rt, &model.expect(&rt, "options"), config);
+    }
+}
+
+#[test]
+fn hop_runs_with_priorities_agree(rt: HostRuntime) {
+    let mut dice = Dice { state: 4 };
+    for _ in 0..RUNS {
+        let (hops, stride) = (dice.below(12), dice.below(50));
+        let model = Hop::new(hops, stride, dice.from_one(5), dice.below(MAX_RISE + 1));
         let config = dice.config(&rt, 30);
         agrees(&rt, &model.expect(&rt, "options"), config);
     }
@@ -44,7 +56,7 @@ fn station_runs_agree(rt: HostRuntime) {
 #[test]
 fn many_workers_agree(rt: HostRuntime) {
     let model = Phold::new(1, 50, 2, 8).expect(&rt, "options");
-    let config = Config::new(64, 64, 60, 5).expect(&rt, "config");
+    let config = Config::new(1_024, MAX_WORKERS, 20, 5).expect(&rt, "config");
     agrees(&rt, &model, config);
 }
 

@@ -25,7 +25,7 @@ pub fn record(time: u64, lp: u32, kind: u32, value: u64) -> Record {
 
 /// Two tokens of two hops, with a delay of two.
 pub fn two_hops(rt: &impl Abort) -> Hop {
-    Hop::new(2, 1, 2).expect(rt, "options")
+    Hop::new(2, 1, 2, 0).expect(rt, "options")
 }
 
 /// All that the run with two hops commits before 10.

@@ -6,7 +6,7 @@ use std::process::Abort;
 use std::rt::{self, HostRuntime};
 use std::sync::Wait;
 use std::thread::Threads;
-use vt_key::Fault;
+use vt_key::{Fault, MAX_WORKERS};
 use vt_model::{Config, Record};
 use vt_station::{Open, Stopped, run_workers};
 
@@ -58,7 +58,7 @@ fn two_workers_commit_a_beginning_in_few_turns(rt: HostRuntime) {
 
 #[test]
 fn many_workers_stop_once_one_has_left(rt: HostRuntime) {
-    match run(&rt, 64, 3) {
+    match run(&rt, MAX_WORKERS, 3) {
         Ok(records) => assert!(rt; records.as_slice() == &all_records()[..]),
         Err(stopped) => {
             assert!(rt; stopped.fault == Fault::TurnsSpent);

@@ -14,7 +14,7 @@ fn two_tokens_hop_twice(rt: HostRuntime) {
 
 #[test]
 fn keys_decide_at_one_time(rt: HostRuntime) {
-    let model = Hop::new(1, 1, 1).expect(&rt, "options");
+    let model = Hop::new(1, 1, 1, 0).expect(&rt, "options");
     let want = [
         record(1, 0, 1, 1),
         record(2, 1, 1, 1),
@@ -26,14 +26,14 @@ fn keys_decide_at_one_time(rt: HostRuntime) {
 
 #[test]
 fn keys_and_not_receivers_decide(rt: HostRuntime) {
-    let model = Hop::new(1, 2, 1).expect(&rt, "options");
+    let model = Hop::new(1, 2, 1, 0).expect(&rt, "options");
     let want = [record(1, 0, 1, 1), record(2, 2, 1, 1), record(2, 1, 1, 2)];
     gives_on_few(&rt, &model, 3, 3, &want);
 }
 
 #[test]
 fn one_event_at_one_process(rt: HostRuntime) {
-    let model = Hop::new(0, 1, 2).expect(&rt, "options");
+    let model = Hop::new(0, 1, 2, 0).expect(&rt, "options");
     gives_on_few(&rt, &model, 1, 2, &[record(1, 0, 1, 1)]);
 }
 
