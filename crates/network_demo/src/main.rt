@@ -7,7 +7,7 @@ use vt_model::Config;
 use vt_network::Network;
 use vt_seq::Sequential;
 use vt_station::{Open, run_workers};
-use vt_text::print_records;
+use vt_text::{Version, print_records};
 
 // How many routers further a chord leads.
 const COLUMNS: u32 = 4;
@@ -47,15 +47,15 @@ fn main(rt: HostRuntime) -> Result<(), anyhow::Error> {
     if workers == 0 {
         let config = Config::new(routers, 1, end, SEED)?;
         let records = Sequential::new(rt.alloc(), &model, config)?.run(rt.alloc())?;
-        print_records(&mut rt.stdout(), records.as_slice())?;
+        print_records(&mut rt.stdout(), records.as_slice(), Version::Two)?;
         return Ok(());
     }
     let config = Config::new(routers, workers, end, SEED)?;
     match run_workers(&rt, rt.alloc(), config, &model, &Open, MOST_TURNS) {
-        Ok(records) => print_records(&mut rt.stdout(), records.as_slice())?,
+        Ok(records) => print_records(&mut rt.stdout(), records.as_slice(), Version::Two)?,
         Err(stopped) => {
             // What was committed is a beginning of the records; why the run stopped is the program's error.
-            print_records(&mut rt.stdout(), stopped.records.as_slice())?;
+            print_records(&mut rt.stdout(), stopped.records.as_slice(), Version::Two)?;
             return Err(stopped.fault.into());
         }
     }

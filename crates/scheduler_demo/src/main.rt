@@ -7,7 +7,7 @@ use vt_key::{Fault, Stamp};
 use vt_model::Config;
 use vt_models::Hop;
 use vt_steps::Step;
-use vt_text::print_records;
+use vt_text::{Version, print_records};
 use vt_world::World;
 
 // Logical processes: process p belongs to worker p mod WORKERS.
@@ -97,7 +97,7 @@ impl<'m> Run<'m> {
 
 fn main(rt: HostRuntime) -> Result<(), anyhow::Error> {
     let alloc = rt.alloc();
-    let model = Hop::new(6, 1, 1)?;
+    let model = Hop::new(6, 1, 1, 0)?;
     let config = Config::new(LPS, WORKERS, END, 0)?;
     let mut run = Run {
         world: World::new(alloc, &model, config)?,
@@ -112,7 +112,7 @@ fn main(rt: HostRuntime) -> Result<(), anyhow::Error> {
             break;
         }
     }
-    print_records(&mut rt.stdout(), run.world.records(alloc)?.as_slice())?;
+    print_records(&mut rt.stdout(), run.world.records(alloc)?.as_slice(), Version::Two)?;
     if run.undone > 0 {
         println!(rt; "events were undone on the way")?;
     }

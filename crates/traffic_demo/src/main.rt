@@ -7,7 +7,7 @@ mod tests;
 
 use vt_model::Config;
 use vt_seq::Sequential;
-use vt_text::print_records;
+use vt_text::{Version, print_records};
 use vt_traffic::Traffic;
 
 // The junctions of a row.
@@ -39,6 +39,6 @@ fn main(rt: HostRuntime) -> Result<(), anyhow::Error> {
     let config = Config::new(COLUMNS * ROWS, 1, END, SEED)?;
     let mut run = Sequential::new(rt.alloc(), &model, config)?;
     let records = run.run(rt.alloc())?;
-    print_records(&mut rt.stdout(), records.as_slice())?;
+    print_records(&mut rt.stdout(), records.as_slice(), Version::Two)?;
     Ok(())
 }

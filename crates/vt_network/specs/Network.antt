@@ -40,19 +40,19 @@ one_fewer n = (n + (2 ^ 64 - 1)) % 2 ^ 64
 
 -- the host makes its next packet after so many ticks
 abbrev pub next_made : ℕ → ℕ → SendRequest NetworkEvent
-next_made lp gap = record { dest = lp; delay = gap; payload = Generate }
+next_made lp gap = record { dest = lp; delay = gap; priority = 0; payload = Generate }
 
 -- a new packet comes in a tick later
 abbrev pub new_packet : ℕ → Time → ℕ → SendRequest NetworkEvent
-new_packet lp now dest = record { dest = lp; delay = 1; payload = Arrive (record { source = lp; dest = dest; born = ticks_of now }) }
+new_packet lp now dest = record { dest = lp; delay = 1; priority = 0; payload = Arrive (record { source = lp; dest = dest; born = ticks_of now }) }
 
 -- the router has served its first packet
 abbrev pub served : Network → ℕ → SendRequest NetworkEvent
-served m lp = record { dest = lp; delay = m.service; payload = Served }
+served m lp = record { dest = lp; delay = m.service; priority = 0; payload = Served }
 
 -- a packet goes on
 abbrev pub forwarded : Network → ℕ → ℕ → Packet → SendRequest NetworkEvent
-forwarded m lps lp p = record { dest = next_hop m lps lp p.dest; delay = m.link; payload = Arrive p }
+forwarded m lps lp p = record { dest = next_hop m lps lp p.dest; delay = m.link; priority = 0; payload = Arrive p }
 
 -- the packet is at its destination
 abbrev pub with_delivery : Router → Router

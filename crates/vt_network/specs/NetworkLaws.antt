@@ -17,61 +17,61 @@ use Rattle.vt_network.specs.declared.network.NetworkEvent.TheVariants.{Generate,
 use Rattle.vt_network.specs.Network.{ahead, step, hop, one_more, one_fewer, next_made, new_packet, served, forwarded, with_delivery, lost_with, taken, arrived, arrived_kept, arrived_sends, delivery, loss, arrived_records, sent_on, drawn_by, sends_by, records_by, network_start, network_forward, untaken, network_reverse, IsRouter}
 
 -- few requests, which are sendable
-abbrev AreFew : ℕ → ℕ → List (SendRequest NetworkEvent) → Type 0
-AreFew lps most xs = (length xs ≤ most) × All (IsSendable lps) xs
+abbrev AreFew : ℕ → ℕ → ℕ → List (SendRequest NetworkEvent) → Type 0
+AreFew lps now most xs = (length xs ≤ most) × All (IsSendable lps now) xs
 
-none_ok : (lps most : ℕ) → AreFew lps most []
-none_ok lps most = (omega arith, All-nil (IsSendable lps))
+none_ok : (lps now most : ℕ) → AreFew lps now most []
+none_ok lps now most = (omega arith, All-nil (IsSendable lps now))
 
-one_ok : (lps most : ℕ) (x : SendRequest NetworkEvent) → 0 < most → IsSendable lps x → AreFew lps most (x ∷ [])
-one_ok lps most x some ok = (omega (arith, some), All-cons (IsSendable lps) x [] ok (All-nil (IsSendable lps)))
+one_ok : (lps now most : ℕ) (x : SendRequest NetworkEvent) → 0 < most → IsSendable lps now x → AreFew lps now most (x ∷ [])
+one_ok lps now most x some ok = (omega (arith, some), All-cons (IsSendable lps now) x [] ok (All-nil (IsSendable lps now)))
 
-two_ok : (lps : ℕ) (x y : SendRequest NetworkEvent) → IsSendable lps x → IsSendable lps y → AreFew lps 2 (x ∷ y ∷ [])
-two_ok lps x y ok too = (omega arith, All-cons (IsSendable lps) x (y ∷ []) ok (All-cons (IsSendable lps) y [] too (All-nil (IsSendable lps))))
+two_ok : (lps now : ℕ) (x y : SendRequest NetworkEvent) → IsSendable lps now x → IsSendable lps now y → AreFew lps now 2 (x ∷ y ∷ [])
+two_ok lps now x y ok too = (omega arith, All-cons (IsSendable lps now) x (y ∷ []) ok (All-cons (IsSendable lps now) y [] too (All-nil (IsSendable lps now))))
 
-served_ok : (m : Network) (lps lp : ℕ) → lp < lps → IsSendable lps (served m lp)
-served_ok m lps lp known = record { known = known; later = m.some_service }
+served_ok : (m : Network) (lps lp now : ℕ) → lp < lps → IsSendable lps now (served m lp)
+served_ok m lps lp now known = record { known = known; some_priority = omega arith; later = omega (arith, m.some_service) }
 
 hop_known : (m : Network) (lps lp left : ℕ) → 0 < lps → hop m lps lp left < lps
 hop_known m lps lp left some =
     elim (nat_lt (lps / 2) left) as (λ b. (if b then (lp + lps - step m (lps - left)) % lps else (lp + step m left) % lps) < lps)
     [ true ↦ mod-lt (lp + lps - step m (lps - left)) some | false ↦ mod-lt (lp + step m left) some ]
 
-forwarded_ok : (m : Network) (lps lp : ℕ) (p : Packet) → lp < lps → IsSendable lps (forwarded m lps lp p)
-forwarded_ok m lps lp p known = record { known = hop_known m lps lp (ahead lps lp p.dest) (omega (arith, known)); later = m.some_link }
+forwarded_ok : (m : Network) (lps lp now : ℕ) (p : Packet) → lp < lps → IsSendable lps now (forwarded m lps lp p)
+forwarded_ok m lps lp now p known = record { known = hop_known m lps lp (ahead lps lp p.dest) (omega (arith, known)); some_priority = omega arith; later = omega (arith, m.some_link) }
 
 pub start_within : (m : Network) (lps lp : ℕ) (words : ℕ → ℕ) → lp < lps → AreWords words
-    → IsWithinLimits lps (network_start m lp words).drawn (network_start m lp words).send_requests []
+    → IsWithinLimits lps 0 (network_start m lp words).drawn (network_start m lp words).send_requests []
 start_within m lps lp words known w =
-    let ok = one_ok lps 1 (next_made lp (1 + scaled (words 0) m.gap)) (omega arith) (record { known = known; later = omega arith }) in
+    let ok = one_ok lps 0 1 (next_made lp (1 + scaled (words 0) m.gap)) (omega arith) (record { known = known; some_priority = omega arith; later = omega arith }) in
     record { few_words = omega arith; few_sends = omega (arith, ok.0); few_records = omega arith; sendable = ok.1 }
 
-arrived_ok : (m : Network) (lps lp : ℕ) (p : Packet) (s : Router) → lp < lps → AreFew lps 2 (arrived_sends m lp p s)
-arrived_ok m lps lp p s known =
-    elim (nat_eq p.dest lp) as (λ b. AreFew lps 2 (if b then [] else (if is_full s.queue then [] else (if is_empty s.queue then (served m lp ∷ []) else [])))) [
-      | true ↦ none_ok lps 2
-      | false ↦ elim (is_full s.queue) as (λ b. AreFew lps 2 (if b then [] else (if is_empty s.queue then (served m lp ∷ []) else []))) [
-        | true ↦ none_ok lps 2
-        | false ↦ elim (is_empty s.queue) as (λ b. AreFew lps 2 (if b then (served m lp ∷ []) else [])) [
-          | true ↦ one_ok lps 2 (served m lp) (omega arith) (served_ok m lps lp known)
-          | false ↦ none_ok lps 2
+arrived_ok : (m : Network) (lps lp now : ℕ) (p : Packet) (s : Router) → lp < lps → AreFew lps now 2 (arrived_sends m lp p s)
+arrived_ok m lps lp now p s known =
+    elim (nat_eq p.dest lp) as (λ b. AreFew lps now 2 (if b then [] else (if is_full s.queue then [] else (if is_empty s.queue then (served m lp ∷ []) else [])))) [
+      | true ↦ none_ok lps now 2
+      | false ↦ elim (is_full s.queue) as (λ b. AreFew lps now 2 (if b then [] else (if is_empty s.queue then (served m lp ∷ []) else []))) [
+        | true ↦ none_ok lps now 2
+        | false ↦ elim (is_empty s.queue) as (λ b. AreFew lps now 2 (if b then (served m lp ∷ []) else [])) [
+          | true ↦ one_ok lps now 2 (served m lp) (omega arith) (served_ok m lps lp now known)
+          | false ↦ none_ok lps now 2
         ]
       ]
     ]
 
-gone_ok : (m : Network) (lps lp : ℕ) (q : Ring Packet ROOM) (p : Option Packet) → lp < lps → AreFew lps 2 (sent_on m lps lp q p)
-gone_ok m lps lp q None known = none_ok lps 2
-gone_ok m lps lp q (Some p) known =
-    elim (is_empty q) as (λ b. AreFew lps 2 (forwarded m lps lp p ∷ (if b then [] else (served m lp ∷ [])))) [
-      | true ↦ one_ok lps 2 (forwarded m lps lp p) (omega arith) (forwarded_ok m lps lp p known)
-      | false ↦ two_ok lps (forwarded m lps lp p) (served m lp) (forwarded_ok m lps lp p known) (served_ok m lps lp known)
+gone_ok : (m : Network) (lps lp now : ℕ) (q : Ring Packet ROOM) (p : Option Packet) → lp < lps → AreFew lps now 2 (sent_on m lps lp q p)
+gone_ok m lps lp now q None known = none_ok lps now 2
+gone_ok m lps lp now q (Some p) known =
+    elim (is_empty q) as (λ b. AreFew lps now 2 (forwarded m lps lp p ∷ (if b then [] else (served m lp ∷ [])))) [
+      | true ↦ one_ok lps now 2 (forwarded m lps lp p) (omega arith) (forwarded_ok m lps lp now p known)
+      | false ↦ two_ok lps now (forwarded m lps lp p) (served m lp) (forwarded_ok m lps lp now p known) (served_ok m lps lp now known)
     ]
 
-sends_ok : (m : Network) (lps lp now : ℕ) (e : NetworkEvent) (s : Router) (words : ℕ → ℕ) → lp < lps → AreFew lps 2 (sends_by m lps lp now e s words)
+sends_ok : (m : Network) (lps lp now : ℕ) (e : NetworkEvent) (s : Router) (words : ℕ → ℕ) → lp < lps → AreFew lps now 2 (sends_by m lps lp now e s words)
 sends_ok m lps lp now Generate s words known =
-    two_ok lps (next_made lp (1 + scaled (words 0) m.gap)) (new_packet lp now (scaled (words 1) lps)) (record { known = known; later = omega arith }) (record { known = known; later = omega arith })
-sends_ok m lps lp now (Arrive p) s words known = arrived_ok m lps lp p s known
-sends_ok m lps lp now Served s words known = gone_ok m lps lp (popped s.queue) (first s.queue) known
+    two_ok lps now (next_made lp (1 + scaled (words 0) m.gap)) (new_packet lp now (scaled (words 1) lps)) (record { known = known; some_priority = omega arith; later = omega arith }) (record { known = known; some_priority = omega arith; later = omega arith })
+sends_ok m lps lp now (Arrive p) s words known = arrived_ok m lps lp now p s known
+sends_ok m lps lp now Served s words known = gone_ok m lps lp now (popped s.queue) (first s.queue) known
 
 few_words : (e : NetworkEvent) → drawn_by e ≤ 2
 few_words Generate = omega arith
@@ -91,7 +91,7 @@ few_records lp now (Arrive p) s = arrived_few lp now p s
 few_records lp now Served s = omega arith
 
 pub forward_within : (m : Network) (lps lp now : ℕ) (e : NetworkEvent) (s : Router) (words : ℕ → ℕ) → lp < lps → AreWords words
-    → IsWithinLimits lps (network_forward m lps lp now e s words).drawn (network_forward m lps lp now e s words).send_requests (network_forward m lps lp now e s words).record_requests
+    → IsWithinLimits lps now (network_forward m lps lp now e s words).drawn (network_forward m lps lp now e s words).send_requests (network_forward m lps lp now e s words).record_requests
 forward_within m lps lp now e s words known w =
     let ok = sends_ok m lps lp now e s words known in
     record {

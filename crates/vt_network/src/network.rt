@@ -143,10 +143,11 @@ impl Network {
         ensures out { out.new ≡ with_requests out.old (made_sends lp now gap dest) [] }
     {
         router.made = router.made.wrapping_add(1);
-        out.send(lp, gap, NetworkEvent::Generate);
+        out.send(lp, gap, 0, NetworkEvent::Generate);
         out.send(
             lp,
             1,
+            0,
             NetworkEvent::Arrive(Packet {
                 source: lp,
                 dest,
@@ -181,7 +182,7 @@ impl Network {
             router.dropped = router.dropped.wrapping_add(1);
             out.emit(DROPPED, u64::from(packet.source));
         } else if router.queue.is_empty() {
-            out.send(lp, u64::from(self.service), NetworkEvent::Served);
+            out.send(lp, u64::from(self.service), 0, NetworkEvent::Served);
         }
         router.queue.push(packet)
     }
@@ -198,9 +199,9 @@ impl Network {
     {
         let packet = router.queue.pop()?;
         let next = self.next_hop(lp, packet.dest, out.lps());
-        out.send(next, u64::from(self.link), NetworkEvent::Arrive(packet));
+        out.send(next, u64::from(self.link), 0, NetworkEvent::Arrive(packet));
         if !router.queue.is_empty() {
-            out.send(lp, u64::from(self.service), NetworkEvent::Served);
+            out.send(lp, u64::from(self.service), 0, NetworkEvent::Served);
         }
         Some(packet)
     }
@@ -223,7 +224,7 @@ impl EventModel for Network {
 
     fn start(&self, lp: u32, draws: &mut Draws<'_>, out: &mut Out<NetworkEvent>) -> Router {
         let first = 1 + draws.below(u64::from(self.gap));
-        out.send(lp, first, NetworkEvent::Generate);
+        out.send(lp, first, 0, NetworkEvent::Generate);
         Router {
             queue: Buffer::new(BLANK),
             made: 0,

@@ -62,7 +62,7 @@ entered j = if can_enter j then with_car j else j
 
 -- the end of a crossing that begins now
 abbrev pub leave : ℕ → SendRequest JunctionEvent
-leave lp = record { dest = lp; delay = CROSSING; payload = Leave }
+leave lp = record { dest = lp; delay = CROSSING; priority = 0; payload = Leave }
 
 -- what is sent where the first car at green enters
 abbrev pub entry : ℕ → Junction → List (SendRequest JunctionEvent)

@@ -25,7 +25,7 @@ next_junction m lps lp Southward = (lp + m.columns) % lps
 
 -- a car's passage by a road to the lights of the next junction, which takes as long as a word says
 abbrev pub passage : Traffic → ℕ → ℕ → Road → ℕ → SendRequest JunctionEvent
-passage m lps lp r w = record { dest = next_junction m lps lp r; delay = m.travel + scaled w m.travel; payload = Arrive r }
+passage m lps lp r w = record { dest = next_junction m lps lp r; delay = m.travel + scaled w m.travel; priority = 0; payload = Arrive r }
 
 -- a car that came by this road goes on: its first word says by which road, the second how fast
 abbrev pub departure : Traffic → ℕ → ℕ → Road → (ℕ → ℕ) → SendRequest JunctionEvent
@@ -33,7 +33,7 @@ departure m lps lp r words = passage m lps lp (onward m r (words 0)) (words 1)
 
 -- the next change of the lights
 abbrev pub change_after : ℕ → ℕ → SendRequest JunctionEvent
-change_after lp delay = record { dest = lp; delay = delay; payload = Change }
+change_after lp delay = record { dest = lp; delay = delay; priority = 0; payload = Change }
 
 -- a junction at the start
 abbrev pub filled : Traffic → Junction

@@ -15,32 +15,32 @@ use Rattle.vt_traffic.specs.Junction.{is_same_road, joined, unjoined, can_enter,
 use Rattle.vt_traffic.specs.Traffic.{next_junction, departure, filled, after_event, own_sends, own_records, words_drawn, entry_bits, before_entry, before_leave, before_event, traffic_start, traffic_forward, traffic_reverse}
 
 -- few requests, which are sendable
-abbrev AreFew : ℕ → ℕ → List (SendRequest JunctionEvent) → Type 0
-AreFew lps most xs = (length xs ≤ most) × All (IsSendable lps) xs
+abbrev AreFew : ℕ → ℕ → ℕ → List (SendRequest JunctionEvent) → Type 0
+AreFew lps now most xs = (length xs ≤ most) × All (IsSendable lps now) xs
 
-none_ok : (lps : ℕ) → All {X = SendRequest JunctionEvent} (IsSendable lps) []
-none_ok lps = All-nil (IsSendable lps)
+none_ok : (lps now : ℕ) → All {X = SendRequest JunctionEvent} (IsSendable lps now) []
+none_ok lps now = All-nil (IsSendable lps now)
 
-one_ok : (lps : ℕ) (x : SendRequest JunctionEvent) → IsSendable lps x → All (IsSendable lps) (x ∷ [])
-one_ok lps x ok = All-cons (IsSendable lps) x [] ok (none_ok lps)
+one_ok : (lps now : ℕ) (x : SendRequest JunctionEvent) → IsSendable lps now x → All (IsSendable lps now) (x ∷ [])
+one_ok lps now x ok = All-cons (IsSendable lps now) x [] ok (none_ok lps now)
 
 -- a car that enters asks for one send at most
-entry_ok : (lps lp : ℕ) (j : Junction) → lp < lps → AreFew lps 1 (entry lp j)
-entry_ok lps lp j known =
-    elim (can_enter j) as (λ b. AreFew lps 1 (if b then (leave lp ∷ []) else [])) [
-      | true ↦ (omega arith, one_ok lps (leave lp) (record { known = known; later = omega arith }))
-      | false ↦ (omega arith, none_ok lps)
+entry_ok : (lps lp now : ℕ) (j : Junction) → lp < lps → AreFew lps now 1 (entry lp j)
+entry_ok lps lp now j known =
+    elim (can_enter j) as (λ b. AreFew lps now 1 (if b then (leave lp ∷ []) else [])) [
+      | true ↦ (omega arith, one_ok lps now (leave lp) (record { known = known; some_priority = omega arith; later = omega arith }))
+      | false ↦ (omega arith, none_ok lps now)
     ]
 
 pub start_within : (m : Traffic) (lps lp : ℕ) (words : ℕ → ℕ) → lp < lps → AreWords words
-    → IsWithinLimits lps (traffic_start m lp words).drawn (traffic_start m lp words).send_requests []
+    → IsWithinLimits lps 0 (traffic_start m lp words).drawn (traffic_start m lp words).send_requests []
 start_within m lps lp words known w =
-    let enters = entry_ok lps lp (filled m) known in
+    let enters = entry_ok lps lp 0 (filled m) known in
     record {
       few_words = omega arith;
       few_sends = omega (arith, enters.0);
       few_records = omega arith;
-      sendable = All-cons (IsSendable lps) _ _ (record { known = known; later = omega arith }) enters.1;
+      sendable = All-cons (IsSendable lps 0) _ _ (record { known = known; some_priority = omega arith; later = omega arith }) enters.1;
     }
 
 -- roads lead to known junctions
@@ -48,15 +48,15 @@ next_known : (m : Traffic) (lps lp : ℕ) (r : Road) → 0 < lps → next_juncti
 next_known m lps lp Eastward some = mod-lt (lp + 1) some
 next_known m lps lp Southward some = mod-lt (lp + m.columns) some
 
-departure_ok : (m : Traffic) (lps lp : ℕ) (r : Road) (words : ℕ → ℕ) → 0 < lps → IsSendable lps (departure m lps lp r words)
-departure_ok m lps lp r words some = record { known = next_known m lps lp _ some; later = omega (arith, m.some_travel) }
+departure_ok : (m : Traffic) (lps lp now : ℕ) (r : Road) (words : ℕ → ℕ) → 0 < lps → IsSendable lps now (departure m lps lp r words)
+departure_ok m lps lp now r words some = record { known = next_known m lps lp _ some; some_priority = omega arith; later = omega (arith, m.some_travel) }
 
 -- an event asks for one send of its own at most
-own_ok : (m : Traffic) (lps lp : ℕ) (p : JunctionEvent) (k : Option Road) (words : ℕ → ℕ) → lp < lps → AreFew lps 1 (own_sends m lps lp p k words)
-own_ok m lps lp (Arrive r) k words known = (omega arith, none_ok lps)
-own_ok m lps lp Leave None words known = (omega arith, none_ok lps)
-own_ok m lps lp Leave (Some r) words known = (omega arith, one_ok lps _ (departure_ok m lps lp r words (omega arith)))
-own_ok m lps lp Change k words known = (omega arith, one_ok lps _ (record { known = known; later = m.some_green }))
+own_ok : (m : Traffic) (lps lp now : ℕ) (p : JunctionEvent) (k : Option Road) (words : ℕ → ℕ) → lp < lps → AreFew lps now 1 (own_sends m lps lp p k words)
+own_ok m lps lp now (Arrive r) k words known = (omega arith, none_ok lps now)
+own_ok m lps lp now Leave None words known = (omega arith, none_ok lps now)
+own_ok m lps lp now Leave (Some r) words known = (omega arith, one_ok lps now _ (departure_ok m lps lp now r words (omega arith)))
+own_ok m lps lp now Change k words known = (omega arith, one_ok lps now _ (record { known = known; some_priority = omega arith; later = omega (arith, m.some_green) }))
 
 few_words : (p : JunctionEvent) (k : Option Road) → words_drawn p k ≤ 2
 few_words (Arrive r) k = omega arith
@@ -71,15 +71,15 @@ few_records Leave (Some r) j = omega arith
 few_records Change k j = omega arith
 
 pub forward_within : (m : Traffic) (lps lp now : ℕ) (p : JunctionEvent) (j : Junction) (words : ℕ → ℕ) → lp < lps → AreWords words
-    → IsWithinLimits lps (traffic_forward m lps lp p j words).drawn (traffic_forward m lps lp p j words).send_requests (traffic_forward m lps lp p j words).record_requests
+    → IsWithinLimits lps now (traffic_forward m lps lp p j words).drawn (traffic_forward m lps lp p j words).send_requests (traffic_forward m lps lp p j words).record_requests
 forward_within m lps lp now p j words known w =
-    let own = own_ok m lps lp p j.crossing words known in
-    let enters = entry_ok lps lp (after_event p j) known in
+    let own = own_ok m lps lp now p j.crossing words known in
+    let enters = entry_ok lps lp now (after_event p j) known in
     record {
       few_words = omega (arith, few_words p j.crossing);
       few_sends = simp length-append (omega (arith, own.0, enters.0));
       few_records = simp length-append (omega (arith, few_records p j.crossing (after_event p j)));
-      sendable = All-append (IsSendable lps) (own_sends m lps lp p j.crossing words) (entry lp (after_event p j)) own.1 enters.1;
+      sendable = All-append (IsSendable lps now) (own_sends m lps lp p j.crossing words) (entry lp (after_event p j)) own.1 enters.1;
     }
 
 -- numbers stay below 2 ^ 64 where a car enters

@@ -159,7 +159,7 @@ impl Traffic {
         let next = self.next_junction(lp, out.lps(), onward);
         let travel = u64::from(self.travel);
         let delay = travel + draws.below(travel);
-        out.send(next, delay, JunctionEvent::Arrive(onward));
+        out.send(next, delay, 0, JunctionEvent::Arrive(onward));
     }
 }
 
@@ -188,7 +188,7 @@ impl EventModel for Traffic {
             passed: 0,
         };
         let first = 1 + draws.below(u64::from(self.green));
-        out.send(lp, first, JunctionEvent::Change);
+        out.send(lp, first, 0, JunctionEvent::Change);
         junction.enter(lp, out);
         junction
     }
@@ -213,7 +213,7 @@ impl EventModel for Traffic {
             }
             JunctionEvent::Change => {
                 state.change();
-                out.send(lp, u64::from(self.green), JunctionEvent::Change);
+                out.send(lp, u64::from(self.green), 0, JunctionEvent::Change);
             }
         }
         if state.enter(lp, out) {

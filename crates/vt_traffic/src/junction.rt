@@ -120,7 +120,7 @@ impl Junction {
         if enters {
             self.at_green -= 1;
             self.crossing = Some(self.green);
-            out.send(lp, CROSSING, JunctionEvent::Leave);
+            out.send(lp, CROSSING, 0, JunctionEvent::Leave);
         }
         enters
     }

@@ -8,4 +8,4 @@ use Rattle.vt_network.proofs.network.Network.generate.Goals as goal
 pub returns-clause-out : goal.returns-clause-out
 returns-clause-out c =
     sent_after _ _ _ _ _ _ c.send.ensures c.send-2.ensures
-    ∙ (λ i. with_requests c.args.out.now (next_made c.args.lp c.args.gap ∷ record { dest = c.args.lp; delay = 1; payload = Arrive (record { source = c.args.lp; dest = c.args.dest; born = c.ticks.ensures i }) } ∷ []) [])
+    ∙ (λ i. with_requests c.args.out.now (next_made c.args.lp c.args.gap ∷ record { dest = c.args.lp; delay = 1; priority = 0; payload = Arrive (record { source = c.args.lp; dest = c.args.dest; born = c.ticks.ensures i }) } ∷ []) [])

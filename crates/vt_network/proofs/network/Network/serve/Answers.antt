@@ -21,6 +21,6 @@ returns-then-not-is_empty-clause-out c =
     let more : false ≡ is_empty (popped q) = sym some ∙ c.is_empty.ensures ∙ ap (λ (r : Ring Packet ROOM). is_empty r) c.pop.ensures.ring in
     let next : c.next_hop-next.result ≡ next_hop m o.lps lp packet.dest = c.next_hop-next.ensures ∙ (λ i. next_hop m (c.lps.ensures i) lp packet.dest) in
     sent_after _ _ _ _ _ _ c.send.ensures c.send-then-not-is_empty.ensures
-    ∙ (λ i. with_requests o (record { dest = next i; delay = c.from.ensures i; payload = Arrive packet } ∷ record { dest = lp; delay = c.from-then-not-is_empty.ensures i; payload = Served } ∷ []) [])
+    ∙ (λ i. with_requests o (record { dest = next i; delay = c.from.ensures i; priority = 0; payload = Arrive packet } ∷ record { dest = lp; delay = c.from-then-not-is_empty.ensures i; priority = 0; payload = Served } ∷ []) [])
     ∙ (λ i. with_requests o (forwarded m o.lps lp packet ∷ (if more i then [] else (served m lp ∷ []))) [])
     ∙ (λ i. with_requests o (sent_on m o.lps lp (popped q) (item i)) [])

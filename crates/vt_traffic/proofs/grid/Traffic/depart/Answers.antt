@@ -24,5 +24,5 @@ returns-clause-out c =
     let next : c.next_junction-next.result ≡ next_junction m o.lps c.args.lp road = c.next_junction-next.ensures ∙ ap (λ (n : ℕ). next_junction m n c.args.lp road) lps in
     let asked = λ (r : Road). passage m o.lps c.args.lp r (words 1) in
     recorded_then_sent _ _ _ _ _ c.emit.ensures c.send.ensures
-    ∙ (λ i. with_requests o (record { dest = next i; delay = delay i; payload = Arrive road } ∷ []) (departed left ∷ []))
+    ∙ (λ i. with_requests o (record { dest = next i; delay = delay i; priority = 0; payload = Arrive road } ∷ []) (departed left ∷ []))
     ∙ ap (λ (r : Road). with_requests o (asked r ∷ []) (departed left ∷ [])) c.onward-onward.ensures.road
