@@ -112,7 +112,11 @@ fn main(rt: HostRuntime) -> Result<(), anyhow::Error> {
             break;
         }
     }
-    print_records(&mut rt.stdout(), run.world.records(alloc)?.as_slice(), Version::Two)?;
+    print_records(
+        &mut rt.stdout(),
+        run.world.records(alloc)?.as_slice(),
+        Version::Two,
+    )?;
     if run.undone > 0 {
         println!(rt; "events were undone on the way")?;
     }

@@ -73,6 +73,31 @@ fn two_events_stay_at_one_process(rt: HostRuntime) {
 }
 
 #[test]
+fn sixteen_events_of_one_tick_go_by_number(rt: HostRuntime) {
+    let model = Phold::new(16, 0, 3, 1).expect(&rt, "options");
+    let config = Config::new(1, 1, 4, 0).expect(&rt, "config");
+    let lines = [
+        (3, 0, 2, 1),
+        (3, 0, 2, 2),
+        (3, 0, 2, 3),
+        (3, 0, 2, 4),
+        (3, 0, 2, 5),
+        (3, 0, 2, 6),
+        (3, 0, 2, 7),
+        (3, 0, 2, 8),
+        (3, 0, 2, 9),
+        (3, 0, 2, 10),
+        (3, 0, 2, 11),
+        (3, 0, 2, 12),
+        (3, 0, 2, 13),
+        (3, 0, 2, 14),
+        (3, 0, 2, 15),
+        (3, 0, 2, 16),
+    ];
+    expect_run(&rt, rt.alloc(), &model, config, &lines, &[(16, 32, 48)]);
+}
+
+#[test]
 fn remote_events_draw_three_words(rt: HostRuntime) {
     let model = Phold::new(1, 100, 3, 1).expect(&rt, "options");
     let config = Config::new(1, 1, 10, 0).expect(&rt, "config");
@@ -281,13 +306,13 @@ fn bad_option<T: Drop>(made: Result<T, Fault>) -> &'static str {
 fn options_have_ranges(rt: HostRuntime) {
     let phold = [
         (0, 0, 1, 1, ""),
-        (8, 100, 1_000_000, 1_000_000, ""),
-        (9, 101, 0, 0, "population"),
-        (8, 101, 0, 0, "remote"),
-        (8, 100, 0, 0, "lookahead"),
-        (8, 100, 1_000_001, 0, "lookahead"),
-        (8, 100, 1, 0, "span"),
-        (8, 100, 1, 1_000_001, "span"),
+        (16, 100, 1_000_000, 1_000_000, ""),
+        (17, 101, 0, 0, "population"),
+        (16, 101, 0, 0, "remote"),
+        (16, 100, 0, 0, "lookahead"),
+        (16, 100, 1_000_001, 0, "lookahead"),
+        (16, 100, 1, 0, "span"),
+        (16, 100, 1, 1_000_001, "span"),
     ];
     for (population, remote, lookahead, span, bad) in phold {
         assert!(rt; bad_option(Phold::new(population, remote, lookahead, span)) == bad);

@@ -70,11 +70,11 @@ fn faults_have_their_numbers(rt: HostRuntime) {
 fn settings_have_limits(rt: HostRuntime) {
     let table = [
         (1, 1, 1, None),
-        (65_536, 64, 1 << 62, None),
+        (65_536, 256, 1 << 62, None),
         (0, 0, 0, Some("lps")),
         (65_537, 1, 10, Some("lps")),
         (2, 0, 0, Some("workers")),
-        (2, 65, 10, Some("workers")),
+        (2, 257, 10, Some("workers")),
         (2, 1, 0, Some("end")),
         (2, 1, (1 << 62) + 1, Some("end")),
     ];
@@ -154,9 +154,9 @@ fn a_handler_draws_sends_and_records(rt: HostRuntime) {
     assert!(rt; out.room());
     assert!(rt; out.emit_room());
     out.emit(3, 99);
-    out.send(0, 5, 'a');
-    out.send(1, 6, 'b');
-    out.send(1, 1, 'c');
+    out.send(0, 5, 0, 'a');
+    out.send(1, 6, 0, 'b');
+    out.send(1, 1, 0, 'c');
     assert_eq!(rt; out.number(), 10);
     let sent = out.sends();
     assert_eq!(rt; sent.len(), 2);
@@ -174,4 +174,34 @@ fn a_handler_draws_sends_and_records(rt: HostRuntime) {
         value: 99,
     };
     assert_eq!(rt; out.records(), &[want][..]);
+}
+
+#[test]
+fn a_handler_sends_later_than_now(rt: HostRuntime) {
+    let config = Config::new(2, 1, 10, 0).expect(&rt, "config");
+    let mut out = Out::new(config, 1, When::new(4, 100), 7);
+    assert!(rt; !out.later(0, 99) && !out.later(0, 100));
+    assert!(rt; out.later(0, 101) && out.later(1, 0));
+    out.send(0, 0, 101, 'a');
+    assert!(rt; out.sends()[0].key == Key::new(When::new(4, 101), 1, 7));
+}
+
+// Sends once more, where there is room: whether there was.
+fn sends_once_more(out: &mut Out<char>) -> bool {
+    if out.lps() == 0 || !out.room() || !out.later(1, 0) {
+        return false;
+    }
+    out.send(0, 1, 0, 'a');
+    true
+}
+
+#[test]
+fn a_handler_sends_sixteen_times(rt: HostRuntime) {
+    let config = Config::new(2, 1, 10, 0).expect(&rt, "config");
+    let mut out = Out::new(config, 1, When::tick(4), 7);
+    for _ in 0..16 {
+        assert!(rt; sends_once_more(&mut out));
+    }
+    assert!(rt; !sends_once_more(&mut out));
+    assert_eq!(rt; out.sends().len(), 16);
 }

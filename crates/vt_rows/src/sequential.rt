@@ -68,7 +68,7 @@ fn has_number(rt: &impl Abort, run: &Sequential<'_, Hop>, lp: u32, want: Option<
 
 #[test]
 fn two_tokens_hop_twice(rt: HostRuntime) {
-    let model = Hop::new(2, 1, 2).expect(&rt, "options");
+    let model = Hop::new(2, 1, 2, 0).expect(&rt, "options");
     let mut run = opened(&rt, &model, 2, 10);
     let want = [
         record(1, 0, 1, 1),
@@ -84,7 +84,7 @@ fn two_tokens_hop_twice(rt: HostRuntime) {
 
 #[test]
 fn events_of_one_time_go_by_key(rt: HostRuntime) {
-    let model = Hop::new(1, 1, 1).expect(&rt, "options");
+    let model = Hop::new(1, 1, 1, 0).expect(&rt, "options");
     let want = [
         record(1, 0, 1, 1),
         record(2, 1, 1, 1),
@@ -96,14 +96,14 @@ fn events_of_one_time_go_by_key(rt: HostRuntime) {
 
 #[test]
 fn sources_break_ties_and_not_receivers(rt: HostRuntime) {
-    let model = Hop::new(1, 2, 1).expect(&rt, "options");
+    let model = Hop::new(1, 2, 1, 0).expect(&rt, "options");
     let want = [record(1, 0, 1, 1), record(2, 2, 1, 1), record(2, 1, 1, 2)];
     runs(&rt, &mut opened(&rt, &model, 3, 3), &want);
 }
 
 #[test]
 fn sends_past_the_end_take_numbers(rt: HostRuntime) {
-    let model = Hop::new(2, 1, 2).expect(&rt, "options");
+    let model = Hop::new(2, 1, 2, 0).expect(&rt, "options");
     let mut run = opened(&rt, &model, 2, 4);
     let want = [record(1, 0, 1, 1), record(2, 1, 1, 2), record(3, 1, 1, 513)];
     runs(&rt, &mut run, &want);
@@ -111,9 +111,54 @@ fn sends_past_the_end_take_numbers(rt: HostRuntime) {
     has_number(&rt, &run, 1, Some(3));
 }
 
+// The same within a tick.
+fn prior(time: u64, priority: u8, lp: u32, value: u64) -> Record {
+    Record {
+        time,
+        priority,
+        lp,
+        kind: 1,
+        value,
+    }
+}
+
+#[test]
+fn tokens_hop_within_a_tick(rt: HostRuntime) {
+    let model = Hop::new(2, 1, 2, 100).expect(&rt, "options");
+    let want = [
+        prior(1, 0, 0, 1),
+        prior(1, 100, 1, 1),
+        prior(1, 200, 0, 257),
+        prior(2, 0, 1, 258),
+        prior(2, 100, 0, 65_794),
+        prior(2, 200, 1, 66_050),
+    ];
+    runs(&rt, &mut opened(&rt, &model, 2, 10), &want);
+}
+
+// One process, whose token comes back three times: the third time there is no higher priority, and it takes the delay.
+fn three_rises(rt: &(impl Abort + AllocGlobal), end: u64, want: &[Record]) {
+    let model = Hop::new(3, 0, 2, 100).expect(rt, "options");
+    let mut run = opened(rt, &model, 1, end);
+    runs(rt, &mut run, want);
+    has_number(rt, &run, 0, Some(4));
+}
+
+#[test]
+fn past_the_last_priority_the_delay_counts(rt: HostRuntime) {
+    let want = [
+        prior(1, 0, 0, 1),
+        prior(1, 100, 0, 257),
+        prior(1, 200, 0, 65_793),
+        prior(3, 0, 0, 16_843_009),
+    ];
+    three_rises(&rt, 10, &want);
+    three_rises(&rt, 2, &want[..3]);
+}
+
 #[test]
 fn nothing_happens_before_time_one(rt: HostRuntime) {
-    let model = Hop::new(2, 1, 2).expect(&rt, "options");
+    let model = Hop::new(2, 1, 2, 0).expect(&rt, "options");
     let mut run = opened(&rt, &model, 2, 1);
     steps(&rt, &mut run, false);
     runs(&rt, &mut run, &[]);
@@ -121,7 +166,7 @@ fn nothing_happens_before_time_one(rt: HostRuntime) {
 
 #[test]
 fn a_run_is_read_on_its_way(rt: HostRuntime) {
-    let model = Hop::new(2, 1, 2).expect(&rt, "options");
+    let model = Hop::new(2, 1, 2, 0).expect(&rt, "options");
     let mut run = opened(&rt, &model, 2, 10);
     for _ in 0..3 {
         steps(&rt, &mut run, true);
@@ -142,7 +187,7 @@ fn a_run_is_read_on_its_way(rt: HostRuntime) {
 /// succeeds when it is tried again.
 #[test]
 fn refused_steps_are_taken_back(rt: HostRuntime) {
-    let model = Hop::new(2, 1, 2).expect(&rt, "options");
+    let model = Hop::new(2, 1, 2, 0).expect(&rt, "options");
     let config = Config::new(2, 1, 10, 0).expect(&rt, "config");
     let Ok(mut run) = Sequential::new(rt.alloc(), &model, config) else {
         return;
