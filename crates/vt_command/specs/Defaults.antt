@@ -8,6 +8,7 @@ use Rattle.vt_command.specs.declared.choices.Options.{Options}
 use Rattle.vt_command.specs.declared.choices.ReplayOptions.{ReplayOptions}
 use Rattle.vt_command.specs.declared.choices.ModelName.TheVariants as name
 use Rattle.vt_command.specs.declared.choices.Synch.TheVariants as synch
+use Rattle.vt_text.specs.declared.version.Version.TheVariants as version
 
 abbrev pub default_config : Config
 default_config = record {
@@ -28,10 +29,12 @@ default_hop = record {
   hops = 2;
   stride = 1;
   delay = 2;
+  rise = 0;
   few_hops = lit≤ tt;
   short_stride = lit≤ tt;
   some_delay = lit≤ tt;
   short_delay = lit≤ tt;
+  low_rise = lit≤ tt;
 }
 
 abbrev pub default_phold : Phold
@@ -60,7 +63,7 @@ default_stations = record {
   short_travel = lit≤ tt;
 }
 
--- two processes, one worker, times below 10 and seed 0; a hop model of two hops by one process in two ticks, PHOLD with
+-- two processes, one worker, times below 10 and seed 0; a hop model of two hops by one process in two ticks, with no rise, PHOLD with
 -- one event for each process that stays there and comes each tick, and stations with one job, whose services and ways
 -- take one tick
 abbrev pub default_options : Options
@@ -72,6 +75,7 @@ default_options = record {
   phold = default_phold;
   stations = default_stations;
   turns = 10000000;
+  text = version.Two;
 }
 
 -- the same options for a replay, with serials from 0
@@ -83,4 +87,5 @@ default_replay_options = record {
   phold = default_phold;
   stations = default_stations;
   serial = 0;
+  text = version.Two;
 }

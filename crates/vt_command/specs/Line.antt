@@ -14,19 +14,19 @@ with_options app names = fold (λ a name. with_rule a (option_rule name)) app na
 abbrev pub run_options : List Text
 run_options =
     codes "model" ∷ codes "synch" ∷ codes "workers" ∷ codes "lps" ∷ codes "end" ∷ codes "seed"
-    ∷ codes "hops" ∷ codes "stride" ∷ codes "delay"
+    ∷ codes "hops" ∷ codes "stride" ∷ codes "delay" ∷ codes "rise"
     ∷ codes "population" ∷ codes "remote" ∷ codes "lookahead" ∷ codes "span"
     ∷ codes "jobs" ∷ codes "service" ∷ codes "travel"
-    ∷ codes "turns" ∷ []
+    ∷ codes "turns" ∷ codes "text" ∷ []
 
 -- the options of `replay`, in the order in which they are tested
 abbrev pub replay_options : List Text
 replay_options =
     codes "model" ∷ codes "workers" ∷ codes "lps" ∷ codes "end" ∷ codes "seed"
-    ∷ codes "hops" ∷ codes "stride" ∷ codes "delay"
+    ∷ codes "hops" ∷ codes "stride" ∷ codes "delay" ∷ codes "rise"
     ∷ codes "population" ∷ codes "remote" ∷ codes "lookahead" ∷ codes "span"
     ∷ codes "jobs" ∷ codes "service" ∷ codes "travel"
-    ∷ codes "serial" ∷ []
+    ∷ codes "serial" ∷ codes "text" ∷ []
 
 -- the program's command line, as its parser reads it: two subcommands, `run` and `replay`
 abbrev pub twarp_app : App

@@ -7,7 +7,7 @@ use Rattle.vt_models.specs.declared.stations.Stations.{Stations}
 use Rattle.vt_command.specs.declared.choices.Options.{Options}
 use Rattle.vt_command.specs.declared.choices.ReplayOptions.{ReplayOptions}
 use Rattle.vt_command.specs.Table
-use Rattle.vt_command.specs.Table.{Given, value_in, model_in, synch_in, first_bad, first_bad_of_replay}
+use Rattle.vt_command.specs.Table.{Given, value_in, model_in, synch_in, version_in, first_bad, first_bad_of_replay}
 
 -- the config that the texts give
 pub record GiveConfig (given : Given) (c : Config) : Type 0 where
@@ -21,6 +21,7 @@ pub record GiveHop (given : Given) (m : Hop) : Type 0 where
   pub hops : value_in given Table.hops ≡ Some m.hops
   pub stride : value_in given Table.stride ≡ Some m.stride
   pub delay : value_in given Table.delay ≡ Some m.delay
+  pub rise : value_in given Table.rise ≡ Some m.rise
 
 -- the PHOLD model that the texts give
 pub record GivePhold (given : Given) (m : Phold) : Type 0 where
@@ -44,6 +45,7 @@ pub record GiveOptions (given : Given) (o : Options) : Type 0 where
   pub phold : GivePhold given o.phold
   pub stations : GiveStations given o.stations
   pub turns : value_in given Table.turns ≡ Some o.turns
+  pub text : version_in (given (codes "text")) ≡ Some o.text
   pub all_good : first_bad given ≡ None
 
 -- the options of a replay that the texts give
@@ -54,4 +56,5 @@ pub record GiveReplayOptions (given : Given) (o : ReplayOptions) : Type 0 where
   pub phold : GivePhold given o.phold
   pub stations : GiveStations given o.stations
   pub serial : value_in given Table.serial ≡ Some o.serial
+  pub text : version_in (given (codes "text")) ≡ Some o.text
   pub all_good : first_bad_of_replay given ≡ None

@@ -3,10 +3,12 @@ use Rattle.std.specs.Prelude.{ℕ, ◌==◌, ◌-◌, ◌^◌, List, [], ◌∷�
 use Rattle.std.specs.Str.{bytes_eq}
 use Rattle.vt_key.specs.declared.limits.TheConstants.{MAX_WORKERS, MAX_PROCESSES, MAX_END, MAX_COUNT}
 use Rattle.vt_model.specs.Settings.{is_between}
-use Rattle.vt_models.specs.declared.hop.TheConstants.{MAX_HOPS, MAX_STRIDE, MAX_DELAY}
+use Rattle.vt_models.specs.declared.hop.TheConstants.{MAX_HOPS, MAX_STRIDE, MAX_DELAY, MAX_RISE}
 use Rattle.vt_models.specs.declared.phold.TheConstants.{MAX_POPULATION, MAX_REMOTE, MAX_LOOKAHEAD, MAX_SPAN}
 use Rattle.vt_models.specs.declared.stations.TheConstants.{MAX_JOBS, MAX_SERVICE, MAX_TRAVEL}
 use Rattle.vt_text.specs.Numbers.{number_of}
+use Rattle.vt_text.specs.declared.version.Version.{Version}
+use Rattle.vt_text.specs.declared.version.Version.TheVariants.{One, Two}
 use Rattle.vt_command.specs.declared.choices.ModelName.{ModelName}
 use Rattle.vt_command.specs.declared.choices.ModelName.TheVariants.{Hop, Phold, Stations}
 use Rattle.vt_command.specs.declared.choices.Synch.{Synch}
@@ -48,6 +50,9 @@ stride = option (codes "stride") 0 MAX_STRIDE 1
 
 abbrev pub delay : NumberOption
 delay = option (codes "delay") 1 MAX_DELAY 2
+
+abbrev pub rise : NumberOption
+rise = option (codes "rise") 0 MAX_RISE 0
 
 abbrev pub population : NumberOption
 population = option (codes "population") 0 MAX_POPULATION 1
@@ -111,6 +116,15 @@ abbrev pub synch_in : Option (List ℕ) → Option Synch
 synch_in None = Some Sequential
 synch_in (Some text) = option_and_then synch_numbered (number_of text)
 
+-- the version of the text of records that a number names
+abbrev pub version_numbered : ℕ → Option Version
+version_numbered n = if n == 1 then Some One else if n == 2 then Some Two else None
+
+-- the version that a text names: 2 if there is no text
+abbrev pub version_in : Option (List ℕ) → Option Version
+version_in None = Some Two
+version_in (Some text) = option_and_then version_numbered (number_of text)
+
 -- the name, where there is no value
 abbrev pub bad : {A : Type 0} → List ℕ → Option A → Option (List ℕ)
 bad name (Some value) = None
@@ -136,7 +150,7 @@ abbrev pub config_table : List NumberOption
 config_table = workers ∷ lps ∷ end ∷ seed ∷ []
 
 abbrev pub hop_table : List NumberOption
-hop_table = hops ∷ stride ∷ delay ∷ []
+hop_table = hops ∷ stride ∷ delay ∷ rise ∷ []
 
 abbrev pub phold_table : List NumberOption
 phold_table = population ∷ remote ∷ lookahead ∷ span ∷ []
@@ -153,7 +167,8 @@ first_bad given = first_name (
     ∷ first_bad_of given hop_table
     ∷ first_bad_of given phold_table
     ∷ first_bad_of given stations_table
-    ∷ bad_number given turns ∷ [])
+    ∷ bad_number given turns
+    ∷ bad (codes "text") (version_in (given (codes "text"))) ∷ [])
 
 -- the first option of `replay` that has no value
 abbrev pub first_bad_of_replay : Given → Option (List ℕ)
@@ -163,4 +178,5 @@ first_bad_of_replay given = first_name (
     ∷ first_bad_of given hop_table
     ∷ first_bad_of given phold_table
     ∷ first_bad_of given stations_table
-    ∷ bad_number given serial ∷ [])
+    ∷ bad_number given serial
+    ∷ bad (codes "text") (version_in (given (codes "text"))) ∷ [])

@@ -2,6 +2,7 @@
 
 use vt_model::Config;
 use vt_models::{Hop, Phold, Stations};
+use vt_text::Version;
 
 /// The models that can be run.
 #[derive(Debug, Clone, Copy, PartialEq, Eq)]
@@ -41,6 +42,8 @@ pub struct Options {
     pub stations: Stations,
     /// The most turns of each worker, from 1 to 2^63. A sequential run doesn't use it.
     pub turns: u64,
+    /// The version of the text in which the records are printed.
+    pub text: Version,
 }
 
 /// The options of a replay. Each is in its range, also those that the replay doesn't use.
@@ -58,4 +61,6 @@ pub struct ReplayOptions {
     pub stations: Stations,
     /// The serial of the first event that each worker makes, from 0 to 2^63.
     pub serial: u64,
+    /// The version of the text in which the records are printed.
+    pub text: Version,
 }

@@ -57,4 +57,10 @@ pub fn first_bad_is_of_the_table()
     ensures serial { HasBadOption (codes "twarp" ∷ codes "replay" ∷ codes "--serial" ∷ codes "9223372036854775809" ∷ []) (codes "serial") }
     ensures last { HasBadOption (codes "twarp" ∷ codes "replay" ∷ codes "--serial" ∷ codes "x" ∷ codes "--travel" ∷ codes "0" ∷ []) (codes "travel") }
     ensures unused { HasBadOption (codes "twarp" ∷ codes "run" ∷ codes "--travel" ∷ codes "0" ∷ []) (codes "travel") }
+    ensures workers { HasBadOption (codes "twarp" ∷ codes "run" ∷ codes "--lps" ∷ codes "0" ∷ codes "--workers" ∷ codes "257" ∷ []) (codes "workers") }
+    ensures before_rise { HasBadOption (codes "twarp" ∷ codes "run" ∷ codes "--rise" ∷ codes "256" ∷ codes "--delay" ∷ codes "0" ∷ []) (codes "delay") }
+    ensures rise { HasBadOption (codes "twarp" ∷ codes "run" ∷ codes "--population" ∷ codes "17" ∷ codes "--rise" ∷ codes "256" ∷ []) (codes "rise") }
+    ensures text { HasBadOption (codes "twarp" ∷ codes "run" ∷ codes "--text" ∷ codes "3" ∷ []) (codes "text") }
+    ensures before_text { HasBadOption (codes "twarp" ∷ codes "run" ∷ codes "--text" ∷ codes "0" ∷ codes "--turns" ∷ codes "0" ∷ []) (codes "turns") }
+    ensures text_of_replay { HasBadOption (codes "twarp" ∷ codes "replay" ∷ codes "--text" ∷ codes "x" ∷ codes "--serial" ∷ codes "x" ∷ []) (codes "serial") }
 {}

@@ -7,20 +7,20 @@ ghost use Rattle.vt_command.specs.Line.{option_rule, with_options, twarp_app};
 
 use crate::texts::{
     DELAY, END, HOPS, JOBS, LOOKAHEAD, LPS, MODEL, OptionText, POPULATION, REMOTE, REPLAY_WORKERS,
-    SEED, SERIAL, SERVICE, SPAN, STRIDE, SYNCH, TRAVEL, TURNS, WORKERS,
+    RISE, SEED, SERIAL, SERVICE, SPAN, STRIDE, SYNCH, TEXT, TRAVEL, TURNS, WORKERS,
 };
 use clap::{Arg, ArgMatches, Command, Error};
 use std::alloc::{AllocError, Global};
 use std::convert::AsStr;
 
 /// The options of `run`, in the order in which they are tested.
-static RUN_OPTIONS: [OptionText; 17] = [
-    MODEL, SYNCH, WORKERS, LPS, END, SEED, HOPS, STRIDE, DELAY, POPULATION, REMOTE, LOOKAHEAD,
-    SPAN, JOBS, SERVICE, TRAVEL, TURNS,
+static RUN_OPTIONS: [OptionText; 19] = [
+    MODEL, SYNCH, WORKERS, LPS, END, SEED, HOPS, STRIDE, DELAY, RISE, POPULATION, REMOTE,
+    LOOKAHEAD, SPAN, JOBS, SERVICE, TRAVEL, TURNS, TEXT,
 ];
 
 /// The options of `replay`, in the order in which they are tested.
-static REPLAY_OPTIONS: [OptionText; 16] = [
+static REPLAY_OPTIONS: [OptionText; 18] = [
     MODEL,
     REPLAY_WORKERS,
     LPS,
@@ -29,6 +29,7 @@ static REPLAY_OPTIONS: [OptionText; 16] = [
     HOPS,
     STRIDE,
     DELAY,
+    RISE,
     POPULATION,
     REMOTE,
     LOOKAHEAD,
@@ -37,6 +38,7 @@ static REPLAY_OPTIONS: [OptionText; 16] = [
     SERVICE,
     TRAVEL,
     SERIAL,
+    TEXT,
 ];
 
 /// The usage line of the program: it needs a command.
@@ -48,17 +50,19 @@ A first run: twarp run (six records of two processes). README.md tells more, doc
 how to write a model of your own.
 
 Options with ranges and defaults (twarp run --help and twarp replay --help say what they are):
-  every model  --model hop|phold|stations [hop]  --workers 1..64 [1]  --lps 1..65536 [2]
+  every model  --model hop|phold|stations [hop]  --workers 1..256 [1]  --lps 1..65536 [2]
                --end 1..4611686018427387904 [10]  --seed 0..18446744073709551615 [0]
+               --text 1|2 [2]
   hop          --hops 0..1000000 [2]  --stride 0..65535 [1]  --delay 1..1000000 [2]
-  phold        --population 0..8 [1]  --remote 0..100 [0]  --lookahead 1..1000000 [1]
+               --rise 0..255 [0]
+  phold        --population 0..16 [1]  --remote 0..100 [0]  --lookahead 1..1000000 [1]
                --span 1..1000000 [1]
   stations     --jobs 0..1000 [1]  --service 1..1000000 [1]  --travel 1..1000000 [1]
   run alone    --synch 1|3 [1]  --turns 1..9223372036854775808 [10000000]
   replay alone --serial 0..9223372036854775808 [0]";
 
 const RUN_ABOUT: &str =
-    "Simulates a model, and prints its records, a line for each: TIME PROCESS KIND VALUE";
+    "Simulates a model, and prints its records, one a line: TIME PRIORITY PROCESS KIND VALUE";
 
 const REPLAY_ABOUT: &str =
     "Reads the steps of a Time Warp run, a line for each, and prints what they are answered";

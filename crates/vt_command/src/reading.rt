@@ -4,7 +4,7 @@ ghost use Rattle.std.specs.Prelude.{◌≡◌, ◌≤◌, ◌<◌, ◌^◌, ℕ,
 ghost use Rattle.clap.specs.Words.{first_value, found_of};
 ghost use Rattle.vt_key.specs.Faults.{fault_number, option_named};
 ghost use Rattle.vt_model.specs.Settings.{is_between};
-ghost use Rattle.vt_command.specs.Table.{number_in, model_in, synch_in, bad, bad_number, first_bad_of, first_bad, first_bad_of_replay, config_table, hop_table, phold_table, stations_table};
+ghost use Rattle.vt_command.specs.Table.{number_in, model_in, synch_in, version_in, bad, bad_number, first_bad_of, first_bad, first_bad_of_replay, config_table, hop_table, phold_table, stations_table};
 ghost use Rattle.vt_command.specs.Options.{GiveConfig, GiveHop, GivePhold, GiveStations, GiveOptions, GiveReplayOptions};
 
 use crate::{MAX_TURNS, ModelName, Options, ReplayOptions, Synch};
@@ -12,10 +12,10 @@ use clap::ArgMatches;
 use vt_key::{Fault, MAX_COUNT, MAX_END, MAX_PROCESSES, MAX_WORKERS};
 use vt_model::Config;
 use vt_models::{
-    Hop, MAX_DELAY, MAX_HOPS, MAX_JOBS, MAX_LOOKAHEAD, MAX_POPULATION, MAX_REMOTE, MAX_SERVICE,
-    MAX_SPAN, MAX_STRIDE, MAX_TRAVEL, Phold, Stations,
+    Hop, MAX_DELAY, MAX_HOPS, MAX_JOBS, MAX_LOOKAHEAD, MAX_POPULATION, MAX_REMOTE, MAX_RISE,
+    MAX_SERVICE, MAX_SPAN, MAX_STRIDE, MAX_TRAVEL, Phold, Stations,
 };
-use vt_text::read_number;
+use vt_text::{Version, read_number};
 
 /// An option that is a number of up to 64 bits, from `least` to `most`; `default` if it isn't given.
 fn number_option(
@@ -93,6 +93,21 @@ fn synch_option(matches: &ArgMatches) -> Result<Synch, Fault>
     }
 }
 
+fn text_option(matches: &ArgMatches) -> Result<Version, Fault>
+    ensures ok { IfOk result (λ version. version_in (first_value (found_of matches.now) (codes "text")) ≡ Some version) }
+    ensures err { IfErr result (λ fault. fault_number fault ≡ 7) }
+    ensures bad { IfErr result (λ fault. option_named fault ≡ bad (codes "text") (version_in (first_value (found_of matches.now) (codes "text")))) }
+{
+    let Some(text) = matches.get_str("text") else {
+        return Ok(Version::Two);
+    };
+    match read_number(text.as_bytes()) {
+        Some(1) => Ok(Version::One),
+        Some(2) => Ok(Version::Two),
+        _ => Err(Fault::BadOption("text")),
+    }
+}
+
 fn config_options(matches: &ArgMatches) -> Result<Config, Fault>
     ensures ok { IfOk result (λ c. GiveConfig (first_value (found_of matches.now)) c) }
     ensures good { IfOk result (λ _. first_bad_of (first_value (found_of matches.now)) config_table ≡ None) }
@@ -115,7 +130,8 @@ fn hop_options(matches: &ArgMatches) -> Result<Hop, Fault>
     let hops = small_option(matches, "hops", 0, MAX_HOPS, 2)?;
     let stride = small_option(matches, "stride", 0, MAX_STRIDE, 1)?;
     let delay = small_option(matches, "delay", 1, MAX_DELAY, 2)?;
-    Hop::new(hops, stride, delay)
+    let rise = small_option(matches, "rise", 0, MAX_RISE, 0)?;
+    Hop::new(hops, stride, delay, rise)
 }
 
 fn phold_options(matches: &ArgMatches) -> Result<Phold, Fault>
@@ -146,7 +162,7 @@ fn stations_options(matches: &ArgMatches) -> Result<Stations, Fault>
 /// The options of a run. Each is in its range; an option that isn't given has its default.
 ///
 /// [`Fault::BadOption`] names the first option, in the order of the table, that is no number in its range, or no
-/// known model or way of running. Options of models that aren't run are tested too.
+/// known model, way of running or version. Options of models that aren't run are tested too.
 pub(crate) fn read_options(matches: &ArgMatches) -> Result<Options, Fault>
     ensures ok { IfOk result (λ o. GiveOptions (first_value (found_of matches.now)) o) }
     ensures err { IfErr result (λ fault. fault_number fault ≡ 7) }
@@ -159,6 +175,7 @@ pub(crate) fn read_options(matches: &ArgMatches) -> Result<Options, Fault>
     let phold = phold_options(matches)?;
     let stations = stations_options(matches)?;
     let turns = number_option(matches, "turns", 1, MAX_TURNS, 10_000_000)?;
+    let text = text_option(matches)?;
     Ok(Options {
         model,
         synch,
@@ -167,13 +184,14 @@ pub(crate) fn read_options(matches: &ArgMatches) -> Result<Options, Fault>
         phold,
         stations,
         turns,
+        text,
     })
 }
 
 /// The options of a replay. Each is in its range; an option that isn't given has its default.
 ///
 /// [`Fault::BadOption`] names the first option, in the order of the table, that is no number in its range, or no
-/// known model. Options of models that aren't replayed are tested too.
+/// known model or version. Options of models that aren't replayed are tested too.
 pub(crate) fn read_replay_options(matches: &ArgMatches) -> Result<ReplayOptions, Fault>
     ensures ok { IfOk result (λ o. GiveReplayOptions (first_value (found_of matches.now)) o) }
     ensures err { IfErr result (λ fault. fault_number fault ≡ 7) }
@@ -186,5 +204,6 @@ pub(crate) fn read_replay_options(matches: &ArgMatches) -> Result<ReplayOptions,
         phold: phold_options(matches)?,
         stations: stations_options(matches)?,
         serial: number_option(matches, "serial", 0, MAX_COUNT, 0)?,
+        text: text_option(matches)?,
     })
 }

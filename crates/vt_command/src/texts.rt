@@ -35,14 +35,14 @@ pub(crate) const WORKERS: OptionText = OptionText {
     name: "workers",
     value: "N",
     heading: GENERAL,
-    help: "Worker threads, 1 to 64; not used with --synch 1 [default: 1]",
+    help: "Worker threads, 1 to 256; not used with --synch 1 [default: 1]",
 };
 
 pub(crate) const REPLAY_WORKERS: OptionText = OptionText {
     name: "workers",
     value: "N",
     heading: GENERAL,
-    help: "Workers, 1 to 64: process P belongs to worker P mod N [default: 1]",
+    help: "Workers, 1 to 256: process P belongs to worker P mod N [default: 1]",
 };
 
 pub(crate) const LPS: OptionText = OptionText {
@@ -87,11 +87,18 @@ pub(crate) const DELAY: OptionText = OptionText {
     help: "Ticks that a hop takes, 1 to 1000000 [default: 2]",
 };
 
+pub(crate) const RISE: OptionText = OptionText {
+    name: "rise",
+    value: "N",
+    heading: HOP,
+    help: "What a hop adds to the priority in place of the delay, 0 to 255 [default: 0]",
+};
+
 pub(crate) const POPULATION: OptionText = OptionText {
     name: "population",
     value: "N",
     heading: PHOLD,
-    help: "Events that each process starts with, 0 to 8 [default: 1]",
+    help: "Events that each process starts with, 0 to 16 [default: 1]",
 };
 
 pub(crate) const REMOTE: OptionText = OptionText {
@@ -148,4 +155,11 @@ pub(crate) const SERIAL: OptionText = OptionText {
     value: "N",
     heading: GENERAL,
     help: "First serial of each worker's events, 0 to 9223372036854775808 [default: 0]",
+};
+
+pub(crate) const TEXT: OptionText = OptionText {
+    name: "text",
+    value: "N",
+    heading: GENERAL,
+    help: "Version of the text of records: 1 has no priorities, 2 has them [default: 2]",
 };

@@ -11,10 +11,11 @@ returns c = record {
       model = refl;
       synch = refl;
       config = record { workers = refl; lps = refl; end = refl; seed = refl };
-      hop = record { hops = refl; stride = refl; delay = refl };
+      hop = record { hops = refl; stride = refl; delay = refl; rise = refl };
       phold = record { population = refl; remote = refl; lookahead = refl; span = refl };
       stations = record { jobs = refl; service = refl; travel = refl };
       turns = refl;
+      text = refl;
       all_good = refl;
     };
   };
@@ -23,10 +24,11 @@ returns c = record {
     options = record {
       model = refl;
       config = record { workers = refl; lps = refl; end = refl; seed = refl };
-      hop = record { hops = refl; stride = refl; delay = refl };
+      hop = record { hops = refl; stride = refl; delay = refl; rise = refl };
       phold = record { population = refl; remote = refl; lookahead = refl; span = refl };
       stations = record { jobs = refl; service = refl; travel = refl };
       serial = refl;
+      text = refl;
       all_good = refl;
     };
   };

@@ -11,4 +11,10 @@ returns c = record {
   serial = inr (record { replay = record { accepted = refl; subcommand = refl }; bad = refl });
   last = inr (record { replay = record { accepted = refl; subcommand = refl }; bad = refl });
   unused = inl (record { run = record { accepted = refl; subcommand = refl }; bad = refl });
+  workers = inl (record { run = record { accepted = refl; subcommand = refl }; bad = refl });
+  before_rise = inl (record { run = record { accepted = refl; subcommand = refl }; bad = refl });
+  rise = inl (record { run = record { accepted = refl; subcommand = refl }; bad = refl });
+  text = inl (record { run = record { accepted = refl; subcommand = refl }; bad = refl });
+  before_text = inl (record { run = record { accepted = refl; subcommand = refl }; bad = refl });
+  text_of_replay = inr (record { replay = record { accepted = refl; subcommand = refl }; bad = refl });
 }
