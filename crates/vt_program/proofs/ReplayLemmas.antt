@@ -22,6 +22,7 @@ use Rattle.vt_world.specs.Held.{HeldWorld, world_memory, StandsForWorld}
 use Rattle.vt_world.specs.Calls.{floor_held, least_held}
 use Rattle.vt_world.specs.Answers.{PassesAtStart, IsOpeningRefusal}
 use Rattle.vt_world.proofs.ReachedLemmas.{least-same}
+use Rattle.vt_text.specs.declared.version.Version.{Version}
 use Rattle.vt_text.specs.Records.{records_text}
 use Rattle.vt_text.specs.Writing.{AppendsAllButHeld, AppendsBeginning}
 use Rattle.vt_text.proofs.TextLemmas.{pushed, written, flush_fails, of_longer}
@@ -38,10 +39,10 @@ shown_some : (announced floor least : Time) (records : ℕ) → 0 < length (show
 unfolding shown_text
 shown_some announced floor least records = omega arith
 
-pub state_some : (announced floor least : Time) (records : List Record) → 0 < length (state_text announced floor least records)
-state_some announced floor least records =
+pub state_some : (version : Version) (announced floor least : Time) (records : List Record) → 0 < length (state_text version announced floor least records)
+state_some version announced floor least records =
     let some = shown_some announced floor least (length records) in
-    omega (arith, some, length-append (shown_text announced floor least (length records)) (records_text records))
+    omega (arith, some, length-append (shown_text announced floor least (length records)) (records_text version records))
 
 -- all that was gathered was written, and nothing of what the world shows
 pub gathered_alone : (old new : Option (List ℕ)) (held state : List ℕ) → Appends old new held → 0 < length state → AppendsBeginning old new (held ++ state)
@@ -72,9 +73,9 @@ shown_flushed old first put new held none held' state h e k l = shown_in_part ol
 
 -- ---- what is shown is what the definition says
 
--- what a world of the definitions shows, in a run that ends then
-abbrev state_of : {P : Type 0} → Time → World P → List ℕ
-state_of end world = state_text world.board.announced (book_floor end world.book) (least end world) (book_records end world.book)
+-- what a world of the definitions shows, with a version of the text of records, in a run that ends then
+abbrev state_of : {P : Type 0} → Version → Time → World P → List ℕ
+state_of version end world = state_text version world.board.announced (book_floor end world.book) (least end world) (book_records end world.book)
 
 abbrev AreSequential : {S P : Type 0} → Simulation S P → World P → Type 0
 AreSequential sim world = book_records sim.end world.book ≡ seq_records sim (book_floor sim.end world.book)
@@ -85,48 +86,48 @@ are_sequential sim lawful serial steps replies end h =
     subst (λ (w : World _). AreSequential sim w) (sym (rightly_answered sim (opening_world sim serial) end steps replies h.answered).taken)
     (records-right sim lawful (reached sim serial taken) (reached-accounted sim lawful serial taken)).records
 
-shown_is : {M S P K : Type 0} (handlers : Handlers S P K) (held : HeldWorld M S P K) (end : World P) → StandsForWorld handlers held end → AreSequential (simulation_of handlers held.config) end → shown_of handlers held ≡ state_of (end_of held.config) end
-shown_is handlers held end stands records =
+shown_is : (version : Version) {M S P K : Type 0} (handlers : Handlers S P K) (held : HeldWorld M S P K) (end : World P) → StandsForWorld handlers held end → AreSequential (simulation_of handlers held.config) end → shown_of version handlers held ≡ state_of version (end_of held.config) end
+shown_is version handlers held end stands records =
     let e = end_of held.config in
     let seq : Time → List Record = λ t. seq_records (simulation_of handlers held.config) t in
-    ap (λ (b : Board). state_text b.announced (floor_held held) (least_held held) (seq (floor_held held))) (sym stands.board)
-    ∙ ap (λ (k : Book). state_text end.board.announced (book_floor e k) (least_held held) (seq (book_floor e k))) (sym stands.book)
-    ∙ ap (λ (t : Time). state_text end.board.announced (book_floor e end.book) t (seq (book_floor e end.book))) (sym (least-same handlers held end stands))
-    ∙ ap (λ (rs : List Record). state_text end.board.announced (book_floor e end.book) (least e end) rs) (sym records)
+    ap (λ (b : Board). state_text version b.announced (floor_held held) (least_held held) (seq (floor_held held))) (sym stands.board)
+    ∙ ap (λ (k : Book). state_text version end.board.announced (book_floor e k) (least_held held) (seq (book_floor e k))) (sym stands.book)
+    ∙ ap (λ (t : Time). state_text version end.board.announced (book_floor e end.book) t (seq (book_floor e end.book))) (sym (least-same handlers held end stands))
+    ∙ ap (λ (rs : List Record). state_text version end.board.announced (book_floor e end.book) (least e end) rs) (sym records)
 
 -- ---- a whole replay
 
-module _ {S P : Type 0} (sim : Simulation S P) (serial : ℕ) (steps : List NumberedStep) where
-  right : (replies : List Answered) (end : World P) → AreReplies sim (opening_world sim serial) steps replies end → IsReplayText sim serial steps (replies_text replies ++ state_of sim.end end)
+module _ (version : Version) {S P : Type 0} (sim : Simulation S P) (serial : ℕ) (steps : List NumberedStep) where
+  right : (replies : List Answered) (end : World P) → AreReplies sim (opening_world sim serial) steps replies end → IsReplayText sim version serial steps (replies_text replies ++ state_of version sim.end end)
   right replies end h = record {
     output = record { replies = replies; end = end; answered = h.answered; output = refl };
     exact = h.exact;
   }
 
   -- no world was made
-  pub opening_stops : (out : Option (List ℕ)) (fault : Fault) → IsOpeningRefusal sim serial fault → StopsReplay (IsReplayText sim serial steps) (IsRepliesText sim serial steps) (PassesAtStart sim serial) out out fault
-  opening_stops out fault (inl h) = subst (λ (f : Fault). StopsReplay (IsReplayText sim serial steps) (IsRepliesText sim serial steps) (PassesAtStart sim serial) out out f) (sym h.0) (h.1, Keeps-refl out)
-  opening_stops out fault (inr h) = subst (λ (f : Fault). StopsReplay (IsReplayText sim serial steps) (IsRepliesText sim serial steps) (PassesAtStart sim serial) out out f) (sym h.0) (inl (Keeps-refl out))
+  pub opening_stops : (out : Option (List ℕ)) (fault : Fault) → IsOpeningRefusal sim serial fault → StopsReplay (IsReplayText sim version serial steps) (IsRepliesText sim serial steps) (PassesAtStart sim serial) out out fault
+  opening_stops out fault (inl h) = subst (λ (f : Fault). StopsReplay (IsReplayText sim version serial steps) (IsRepliesText sim serial steps) (PassesAtStart sim serial) out out f) (sym h.0) (h.1, Keeps-refl out)
+  opening_stops out fault (inr h) = subst (λ (f : Fault). StopsReplay (IsReplayText sim version serial steps) (IsRepliesText sim serial steps) (PassesAtStart sim serial) out out f) (sym h.0) (inl (Keeps-refl out))
 
   -- the lines of the answers were written in part
-  pub replies_begun : (old new : Option (List ℕ)) (none : List ℕ) → none ≡ [] → StopsReplies sim (opening_world sim serial) steps old new none → Begins (IsReplayText sim serial steps) old new
+  pub replies_begun : (old new : Option (List ℕ)) (none : List ℕ) → none ≡ [] → StopsReplies sim (opening_world sim serial) steps old new none → Begins (IsReplayText sim version serial steps) old new
   replies_begun old new none e h = record {
-    text = replies_text h.replies ++ state_of sim.end h.end;
+    text = replies_text h.replies ++ state_of version sim.end h.end;
     right = right h.replies h.end h.are;
-    begun = of_longer old new (replies_text h.replies) (state_of sim.end h.end) (subst (λ (x : List ℕ). AppendsBeginning old new (x ++ replies_text h.replies)) e h.begun);
+    begun = of_longer old new (replies_text h.replies) (state_of version sim.end h.end) (subst (λ (x : List ℕ). AppendsBeginning old new (x ++ replies_text h.replies)) e h.begun);
   }
 
-  pub output_stops : (old new : Option (List ℕ)) (fault : Fault) → fault ≡ Output → Begins (IsReplayText sim serial steps) old new → StopsReplay (IsReplayText sim serial steps) (IsRepliesText sim serial steps) (PassesAtStart sim serial) old new fault
-  output_stops old new fault e h = subst (λ (f : Fault). StopsReplay (IsReplayText sim serial steps) (IsRepliesText sim serial steps) (PassesAtStart sim serial) old new f) (sym e) h
+  pub output_stops : (old new : Option (List ℕ)) (fault : Fault) → fault ≡ Output → Begins (IsReplayText sim version serial steps) old new → StopsReplay (IsReplayText sim version serial steps) (IsRepliesText sim serial steps) (PassesAtStart sim serial) old new fault
+  output_stops old new fault e h = subst (λ (f : Fault). StopsReplay (IsReplayText sim version serial steps) (IsRepliesText sim serial steps) (PassesAtStart sim serial) old new f) (sym e) h
 
   -- what the world shows could not be copied, or the writer failed
-  pub show_stops : (old now new : Option (List ℕ)) (held : List ℕ) (fault : Fault) → ((fault ≡ Memory) × Appends now new held) ⊎ (fault ≡ Output) → Begins (IsReplayText sim serial steps) old new
-      → (Appends now new held → Writes (IsRepliesText sim serial steps) old new) → StopsReplay (IsReplayText sim serial steps) (IsRepliesText sim serial steps) (PassesAtStart sim serial) old new fault
+  pub show_stops : (old now new : Option (List ℕ)) (held : List ℕ) (fault : Fault) → ((fault ≡ Memory) × Appends now new held) ⊎ (fault ≡ Output) → Begins (IsReplayText sim version serial steps) old new
+      → (Appends now new held → Writes (IsRepliesText sim serial steps) old new) → StopsReplay (IsReplayText sim version serial steps) (IsRepliesText sim serial steps) (PassesAtStart sim serial) old new fault
   show_stops old now new held fault (inl h) begun lines =
-      subst (λ (f : Fault). StopsReplay (IsReplayText sim serial steps) (IsRepliesText sim serial steps) (PassesAtStart sim serial) old new f) (sym h.0) (inr (lines h.1))
+      subst (λ (f : Fault). StopsReplay (IsReplayText sim version serial steps) (IsRepliesText sim serial steps) (PassesAtStart sim serial) old new f) (sym h.0) (inr (lines h.1))
   show_stops old now new held fault (inr e) begun lines = output_stops old new fault e begun
 
-module _ {M S P K : Type 0} (meaning : M → Handlers S P K) (m : M) (config : Config) (serial : ℕ) (steps : List NumberedStep) (first : HeldWorld M S P K) (model : first.model ≡ m) (same : first.config ≡ config) where
+module _ (version : Version) {M S P K : Type 0} (meaning : M → Handlers S P K) (m : M) (config : Config) (serial : ℕ) (steps : List NumberedStep) (first : HeldWorld M S P K) (model : first.model ≡ m) (same : first.config ≡ config) where
   abbrev own : Simulation S P
   own = simulation_of (meaning first.model) first.config
 
@@ -142,7 +143,7 @@ module _ {M S P K : Type 0} (meaning : M → Handlers S P K) (m : M) (config : C
 
   module _ (lawful : IsLawful own) (final : HeldWorld M S P K) (model' : final.model ≡ first.model) (same' : final.config ≡ first.config) (old now : Option (List ℕ)) (none held : List ℕ) (empty : none ≡ [])
       (put : PutsReplies (meaning first.model) first.config (opening_world own serial) steps final old now none held) where
-    shown_at_end : shown_of (meaning final.model) final ≡ state_of (end_of first.config) put.end
+    shown_at_end : shown_of version (meaning final.model) final ≡ state_of version (end_of first.config) put.end
     shown_at_end =
         let stands : StandsForWorld (meaning final.model) final put.end =
         subst (λ (x : M). StandsFor (simulation_of (meaning x) final.config) (world_memory (meaning x) final) put.end) (sym model')
@@ -150,18 +151,18 @@ module _ {M S P K : Type 0} (meaning : M → Handlers S P K) (m : M) (config : C
         let sequential : AreSequential (simulation_of (meaning final.model) final.config) put.end =
         subst (λ (x : M). AreSequential (simulation_of (meaning x) final.config) put.end) (sym model')
         (subst (λ (c : Config). AreSequential (simulation_of (meaning first.model) c) put.end) (sym same') (are_sequential own lawful serial steps put.replies put.end put.are)) in
-        shown_is (meaning final.model) final put.end stands sequential ∙ ap (λ (c : Config). state_of (end_of c) put.end) same'
+        shown_is version (meaning final.model) final put.end stands sequential ∙ ap (λ (c : Config). state_of version (end_of c) put.end) same'
 
     lines : AppendsAllButHeld old now held (replies_text put.replies)
     lines = subst (λ (x : List ℕ). AppendsAllButHeld old now held (x ++ replies_text put.replies)) empty put.put
 
     -- the whole output was written
-    pub replay_written : (new : Option (List ℕ)) → Appends now new (held ++ shown_of (meaning final.model) final) → Writes (IsReplayText own serial steps) old new
+    pub replay_written : (new : Option (List ℕ)) → Appends now new (held ++ shown_of version (meaning final.model) final) → Writes (IsReplayText own version serial steps) old new
     replay_written new h =
-        let shown = state_of (end_of first.config) put.end in
+        let shown = state_of version (end_of first.config) put.end in
         record {
           text = replies_text put.replies ++ shown;
-          right = right own serial steps put.replies put.end put.are;
+          right = right version own serial steps put.replies put.end put.are;
           written = written old now new (held ++ shown) (replies_text put.replies ++ shown) (pushed old now held (replies_text put.replies) shown lines) (subst (λ (x : List ℕ). Appends now new (held ++ x)) shown_at_end h);
         }
 
@@ -174,12 +175,12 @@ module _ {M S P K : Type 0} (meaning : M → Handlers S P K) (m : M) (config : C
     }
 
     -- a beginning of it was written
-    pub replay_begun : (new : Option (List ℕ)) → AppendsBeginning now new (held ++ shown_of (meaning final.model) final) → Begins (IsReplayText own serial steps) old new
+    pub replay_begun : (new : Option (List ℕ)) → AppendsBeginning now new (held ++ shown_of version (meaning final.model) final) → Begins (IsReplayText own version serial steps) old new
     replay_begun new h =
-        let shown = state_of (end_of first.config) put.end in
+        let shown = state_of version (end_of first.config) put.end in
         record {
           text = replies_text put.replies ++ shown;
-          right = right own serial steps put.replies put.end put.are;
+          right = right version own serial steps put.replies put.end put.are;
           begun = flush_fails old now new (held ++ shown) (replies_text put.replies ++ shown) (pushed old now held (replies_text put.replies) shown lines) (subst (λ (x : List ℕ). AppendsBeginning now new (held ++ x)) shown_at_end h);
         }
 

@@ -1,5 +1,5 @@
 -- What a run in threads writes that stops: what comes before a time begins the text of the whole run.
-use Rattle.std.proofs.Common.{◌≡◌, ◌∙◌, ◌++◌, ◌<◌, ◌≤◌, ◌⊎◌, ℕ, suc, true, false, refl, List, [], Option, inl, inr, sym, ap, subst, map, nat_lt, append-nil, arith}
+use Rattle.std.proofs.Common.{◌≡◌, ◌∙◌, ◌++◌, ◌<◌, ◌≤◌, ◌⊎◌, ℕ, suc, true, false, refl, List, [], Option, inl, inr, sym, ap, subst, map, nat_lt, append-nil, append_assoc, arith}
 use Rattle.std.specs.Io.KnownBytes.{Appends}
 use Rattle.std.proofs.KnownBytes.{Keeps-refl}
 use Rattle.std.proofs.lemmas.Bool.{ltb-true, ltb-false}
@@ -20,7 +20,8 @@ use Rattle.vt_model.proofs.RunLemmas.{known_sent, lists_of, reached}
 use Rattle.vt_steps.proofs.SequentialRows.{seq_records-begin}
 use Rattle.vt_seq.specs.Limits.{IsStepRefusal}
 use Rattle.vt_station.specs.Crew.{IsStop}
-use Rattle.vt_text.specs.Records.{record_text, records_text}
+use Rattle.vt_text.specs.declared.version.Version.{Version}
+use Rattle.vt_text.specs.Records.{first_line, record_text, record_lines, records_text}
 use Rattle.vt_text.specs.Writing.{AppendsBeginning}
 use Rattle.vt_text.proofs.TextLemmas.{of_longer}
 use Rattle.vt_program.specs.Runs.{text_below, run_text, PassesInRun, WritesBelow, StopsRun, StopsWork}
@@ -51,29 +52,34 @@ module _ {S P : Type 0} (sim : Simulation S P) (lawful : IsLawful sim) where
     | inr late ↦ ([], sym (append-nil (seq_records sim t) ∙ late-same t late))
   ]
 
-module _ {S P K : Type 0} (handlers : Handlers S P K) (config : Config) (lawful : IsLawful (simulation_of handlers config)) where
+module _ (version : Version) {S P K : Type 0} (handlers : Handlers S P K) (config : Config) (lawful : IsLawful (simulation_of handlers config)) where
+  -- the text of records begins that of more records
+  records_text-append : (records more : List Record) → records_text version (records ++ more) ≡ records_text version records ++ record_lines version more
+  records_text-append records more =
+      ap (λ l. first_line version ++ l) (flat_map-append (record_text version) records more) ∙ sym (append_assoc (first_line version) (record_lines version records) (record_lines version more))
+
   -- the text below any time begins that of the whole run
-  text-begins : (t : Time) → (rest : List ℕ) × (run_text handlers config ≡ text_below handlers config t ++ rest)
+  text-begins : (t : Time) → (rest : List ℕ) × (run_text version handlers config ≡ text_below version handlers config t ++ rest)
   text-begins t =
       let sim = simulation_of handlers config in
       let r = records-begin sim lawful t in
-      (records_text r.0, ap records_text r.1 ∙ flat_map-append record_text (seq_records sim t) r.0)
+      (record_lines version r.0, ap (records_text version) r.1 ∙ records_text-append (seq_records sim t) r.0)
 
   module _ (stopped : List Record) (is : (t : Time) × (stopped ≡ seq_records (simulation_of handlers config) t)) (old new : Option (List ℕ)) where
     -- records of a run that stopped were written
-    part_written : Appends old new (records_text stopped) → WritesBelow (text_below handlers config) (run_text handlers config) old new
+    part_written : Appends old new (records_text version stopped) → WritesBelow (text_below version handlers config) (run_text version handlers config) old new
     part_written h = record {
       time = is.0;
-      written = subst (λ (l : List Record). Appends old new (records_text l)) is.1 h;
+      written = subst (λ (l : List Record). Appends old new (records_text version l)) is.1 h;
       rest = (text-begins is.0).0;
       begins = (text-begins is.0).1;
     }
 
     -- with any of the reasons for which a run stops
-    pub work_stops : (fault : Fault) → IsStop fault → Appends old new (records_text stopped) → StopsWork (text_below handlers config) (run_text handlers config) old new fault
+    pub work_stops : (fault : Fault) → IsStop fault → Appends old new (records_text version stopped) → StopsWork (text_below version handlers config) (run_text version handlers config) old new fault
     work_stops fault stop h =
-        let below = text_below handlers config in
-        let whole = run_text handlers config in
+        let below = text_below version handlers config in
+        let whole = run_text version handlers config in
         elim stop [
           | inl (inl e) ↦ subst (StopsWork below whole old new) (sym e) (part_written h)
           | inl (inr e) ↦ subst (StopsWork below whole old new) (sym e) (part_written h)
@@ -82,11 +88,11 @@ module _ {S P K : Type 0} (handlers : Handlers S P K) (config : Config) (lawful 
         ]
 
     -- a beginning of these records was written
-    pub part_begun : AppendsBeginning old new (records_text stopped) → AppendsBeginning old new (run_text handlers config)
+    pub part_begun : AppendsBeginning old new (records_text version stopped) → AppendsBeginning old new (run_text version handlers config)
     part_begun h =
         let begins = text-begins is.0 in
         subst (λ (l : List ℕ). AppendsBeginning old new l) (sym begins.1)
-        (of_longer old new (text_below handlers config is.0) begins.0 (subst (λ (l : List Record). AppendsBeginning old new (records_text l)) is.1 h))
+        (of_longer old new (text_below version handlers config is.0) begins.0 (subst (λ (l : List Record). AppendsBeginning old new (records_text version l)) is.1 h))
 
 -- where the writer failed, a beginning of the text was written
 pub output_begun : (below : Time → List ℕ) (whole : List ℕ) (old new : Option (List ℕ)) (fault : Fault) → fault ≡ Output → AppendsBeginning old new whole → StopsWork below whole old new fault

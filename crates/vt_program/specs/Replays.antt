@@ -15,6 +15,7 @@ use Rattle.vt_steps.specs.Next.{next}
 use Rattle.vt_steps.specs.World.{World, opening_world}
 use Rattle.vt_kernel.specs.Refusals.{IsSpent, PassesLimit}
 use Rattle.vt_world.specs.Answers.{PassesAtStart}
+use Rattle.vt_text.specs.declared.version.Version.{Version}
 use Rattle.vt_text.specs.Writing.{AppendsBeginning}
 use Rattle.vt_step_text.specs.declared.limits.TheConstants.{MAX_INPUT}
 use Rattle.vt_step_text.specs.declared.reading.NumberedStep.{NumberedStep}
@@ -45,9 +46,10 @@ module _ {S P : Type 0} (sim : Simulation S P) where
     pub answered : AreAnswered sim world steps replies end
     pub exact : AreExact world steps replies
 
-  -- a text may be the output of a replay of these steps from the opening world with these first serials
-  pub record IsReplayText (serial : ℕ) (steps : List NumberedStep) (text : List ℕ) : Type 0 where
-    pub output : IsOutput sim serial steps text
+  -- a text may be the output of a replay of these steps, with a version of the text of records, from the opening world with
+  -- these first serials
+  pub record IsReplayText (version : Version) (serial : ℕ) (steps : List NumberedStep) (text : List ℕ) : Type 0 where
+    pub output : IsOutput sim version serial steps text
     pub exact : AreExact (opening_world sim serial) steps output.replies
 
   -- a text may be the lines of the answers in such an output, without what the world shows
@@ -57,14 +59,14 @@ module _ {S P : Type 0} (sim : Simulation S P) where
     pub are : AreReplies (opening_world sim serial) steps replies end
     pub lines : text ≡ replies_text replies
 
--- a text may be the output of a replay of a model
-abbrev pub IsReplayOf : {S P K : Type 0} → Handlers S P K → Config → ℕ → List NumberedStep → List ℕ → Type 0
-IsReplayOf handlers config serial steps text = IsReplayText (simulation_of handlers config) serial steps text
+-- a text may be the output of a replay of a model, with a version of the text of records
+abbrev pub IsReplayOf : {S P K : Type 0} → Version → Handlers S P K → Config → ℕ → List NumberedStep → List ℕ → Type 0
+IsReplayOf version handlers config serial steps text = IsReplayText (simulation_of handlers config) version serial steps text
 
 abbrev pub IsReplayOfModel : ModelName → ReplayOptions → List NumberedStep → List ℕ → Type 0
-IsReplayOfModel Hop o steps text = IsReplayOf (hop_handlers o.hop) o.config o.serial steps text
-IsReplayOfModel Phold o steps text = IsReplayOf (phold_handlers o.phold) o.config o.serial steps text
-IsReplayOfModel Stations o steps text = IsReplayOf (stations_handlers o.stations) o.config o.serial steps text
+IsReplayOfModel Hop o steps text = IsReplayOf o.text (hop_handlers o.hop) o.config o.serial steps text
+IsReplayOfModel Phold o steps text = IsReplayOf o.text (phold_handlers o.phold) o.config o.serial steps text
+IsReplayOfModel Stations o steps text = IsReplayOf o.text (stations_handlers o.stations) o.config o.serial steps text
 
 -- a text may be the output of the replay of these steps that options ask for
 abbrev pub IsReplay : ReplayOptions → List NumberedStep → List ℕ → Type 0

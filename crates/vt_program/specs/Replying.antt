@@ -8,6 +8,7 @@ use Rattle.vt_steps.specs.World.{World}
 use Rattle.vt_steps.specs.StandsFor.{StandsFor}
 use Rattle.vt_world.specs.Held.{HeldWorld, world_memory}
 use Rattle.vt_world.specs.Calls.{floor_held, least_held}
+use Rattle.vt_text.specs.declared.version.Version.{Version}
 use Rattle.vt_text.specs.Writing.{AppendsAllButHeld, AppendsBeginning}
 use Rattle.vt_step_text.specs.declared.reading.NumberedStep.{NumberedStep}
 use Rattle.vt_step_text.specs.Replies.{Answered, replies_text, state_text}
@@ -29,7 +30,7 @@ pub record StopsReplies {S P : Type 0} (sim : Simulation S P) (from : World P) (
   pub are : AreReplies sim from steps replies end
   pub begun : AppendsBeginning old new (held ++ replies_text replies)
 
--- what a world in memory shows
-abbrev pub shown_of : {M S P K : Type 0} → Handlers S P K → HeldWorld M S P K → List ℕ
-shown_of handlers held =
-    state_text held.board.announced (floor_held held) (least_held held) (seq_records (simulation_of handlers held.config) (floor_held held))
+-- what a world in memory shows, with a version of the text of records
+abbrev pub shown_of : {M S P K : Type 0} → Version → Handlers S P K → HeldWorld M S P K → List ℕ
+shown_of version handlers held =
+    state_text version held.board.announced (floor_held held) (least_held held) (seq_records (simulation_of handlers held.config) (floor_held held))

@@ -13,6 +13,7 @@ use Rattle.vt_models.specs.Phold.{phold_handlers}
 use Rattle.vt_models.specs.Stations.{stations_handlers}
 use Rattle.vt_model.specs.Settings.{end_of}
 use Rattle.vt_seq.specs.Limits.{PassesLimit}
+use Rattle.vt_text.specs.declared.version.Version.{Version}
 use Rattle.vt_text.specs.Records.{records_text}
 use Rattle.vt_text.specs.Writing.{AppendsBeginning}
 use Rattle.vt_command.specs.declared.choices.Options.{Options}
@@ -21,19 +22,19 @@ use Rattle.vt_command.specs.declared.choices.ModelName.TheVariants.{Hop, Phold, 
 use Rattle.vt_command.specs.declared.choices.Synch.{Synch}
 use Rattle.vt_command.specs.declared.choices.Synch.TheVariants.{Sequential, Optimistic}
 
--- the records of a model's sequential run below a time, as text
-abbrev pub text_below : {S P K : Type 0} → Handlers S P K → Config → Time → List ℕ
-text_below handlers config time = records_text (seq_records (simulation_of handlers config) time)
+-- the records of a model's sequential run below a time, as text of a version
+abbrev pub text_below : {S P K : Type 0} → Version → Handlers S P K → Config → Time → List ℕ
+text_below version handlers config time = records_text version (seq_records (simulation_of handlers config) time)
 
--- the records of a model's whole sequential run, as text
-abbrev pub run_text : {S P K : Type 0} → Handlers S P K → Config → List ℕ
-run_text handlers config = text_below handlers config (end_of config)
+-- the records of a model's whole sequential run, as text of a version
+abbrev pub run_text : {S P K : Type 0} → Version → Handlers S P K → Config → List ℕ
+run_text version handlers config = text_below version handlers config (end_of config)
 
 -- the text of a run of this model with these options
 abbrev pub text_of_model : ModelName → Options → List ℕ
-text_of_model Hop o = run_text (hop_handlers o.hop) o.config
-text_of_model Phold o = run_text (phold_handlers o.phold) o.config
-text_of_model Stations o = run_text (stations_handlers o.stations) o.config
+text_of_model Hop o = run_text o.text (hop_handlers o.hop) o.config
+text_of_model Phold o = run_text o.text (phold_handlers o.phold) o.config
+text_of_model Stations o = run_text o.text (stations_handlers o.stations) o.config
 
 -- the text of the run that options ask for
 abbrev pub text_of_run : Options → List ℕ
@@ -41,9 +42,9 @@ text_of_run o = text_of_model o.model o
 
 -- the text of a run of this model with these options, below a time
 abbrev pub text_of_model_below : ModelName → Options → Time → List ℕ
-text_of_model_below Hop o time = text_below (hop_handlers o.hop) o.config time
-text_of_model_below Phold o time = text_below (phold_handlers o.phold) o.config time
-text_of_model_below Stations o time = text_below (stations_handlers o.stations) o.config time
+text_of_model_below Hop o time = text_below o.text (hop_handlers o.hop) o.config time
+text_of_model_below Phold o time = text_below o.text (phold_handlers o.phold) o.config time
+text_of_model_below Stations o time = text_below o.text (stations_handlers o.stations) o.config time
 
 -- the text of the run that options ask for, below a time
 abbrev pub text_of_run_below : Options → Time → List ℕ

@@ -50,23 +50,23 @@ fn answer<H: Threads + Wait + Sync, S: AsStr, R: Read, O: Write>(
 
 /// The whole program: does what the words ask for, and returns the exit status. The first word is the program's name.
 ///
-/// Status 0: `out` got all that the words ask for, and nothing else. This is the help, or a line for each record of a
-/// run. For a replay of the step text from `reader`, it is a line for each step's answer, and then what the world
-/// shows.
+/// Status 0: `out` got all that the words ask for, and nothing else. This is the help, or the records of a run, in the
+/// version of their text that `--text` names. For a replay of the step text from `reader`, it is a line for each step's
+/// answer, and then what the world shows, with its records in that version.
 ///
 /// Any other status comes with one line `twarp: refused N TEXT` on `err`, or a beginning of it if `err` fails. The
 /// status depends on N alone: 2 for 7, 3 for 8, and 1 for the others. The committed records of a run in threads are
-/// those below some time.
+/// those below some time. They are written in the version that `--text` names: in version 2 the first line is written
+/// even if there are none.
 ///
 /// - N = 1: memory was refused. Nothing was written to `out`; or of a replay, the lines of all answers; or of a run in
-///   threads, the lines of the committed records. If memory is refused to a step of a replay, its answer says so, and
+///   threads, the committed records. If memory is refused to a step of a replay, its answer says so, and
 ///   the replay goes on.
-/// - N = 3: the committed records of a run in threads couldn't be read. The lines of those below some time were
-///   written to `out`.
+/// - N = 3: the committed records of a run in threads couldn't be read. Those below some time were written to `out`.
 /// - N = 5: a send number of a run would pass 2^63, or a serial of a run in threads or at the starts of a replay.
-///   Nothing was written to `out`; or of a run in threads, the lines of the committed records.
-/// - N = 6: a worker of a run in threads made all its turns before the end of the run. The lines of the committed
-///   records were written to `out`.
+///   Nothing was written to `out`; or of a run in threads, the committed records.
+/// - N = 6: a worker of a run in threads made all its turns before the end of the run. The committed records were
+///   written to `out`.
 /// - N = 7: the words or the input are refused, and nothing was written to `out`. TEXT names the first bad option in
 ///   the order of the table. It names `command-line` if the words have no meaning. It names `input` if a read failed
 ///   or was interrupted, or if the input is longer than a step text may be.

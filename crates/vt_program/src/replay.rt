@@ -17,7 +17,7 @@ use vt_command::{ModelName, ReplayOptions};
 use vt_key::Fault;
 use vt_model::{Config, Model as EventModel};
 use vt_step_text::{NumberedStep, put_reply, put_state, read_input, read_steps};
-use vt_text::TextBuffer;
+use vt_text::{TextBuffer, Version};
 use vt_world::World;
 
 /// Reads the steps of the text that a reader gives.
@@ -56,18 +56,19 @@ fn put_replies<M: EventModel, O: Write>(
     Ok(())
 }
 
-/// Writes the gathered lines, and then what the world shows.
+/// Writes the gathered lines, and then what the world shows, with a version of the text of records.
 ///
 /// [`Fault::Memory`]: the records couldn't be copied, and only the gathered lines were written. [`Fault::Output`]:
 /// the writer failed.
 fn show<M: EventModel, O: Write>(
     alloc: Global,
     world: &World<'_, M>,
+    version: Version,
     text: &mut TextBuffer,
     out: &mut O,
 ) -> Result<(), Fault>
-    ensures ok { OnOk result (Appends (O.contents out.old) (O.contents out.new) (text.old ++ shown_of (M.handlers world.now.model) world.now)) }
-    ensures err { OnErr result (AppendsBeginning (O.contents out.old) (O.contents out.new) (text.old ++ shown_of (M.handlers world.now.model) world.now)) }
+    ensures ok { OnOk result (Appends (O.contents out.old) (O.contents out.new) (text.old ++ shown_of version (M.handlers world.now.model) world.now)) }
+    ensures err { OnErr result (AppendsBeginning (O.contents out.old) (O.contents out.new) (text.old ++ shown_of version (M.handlers world.now.model) world.now)) }
     ensures fault { IfErr result (λ fault. ((fault ≡ Fault.Memory) × Appends (O.contents out.old) (O.contents out.new) text.old) ⊎ (fault ≡ Fault.Output)) }
 {
     text.flush(out)?;
@@ -79,27 +80,28 @@ fn show<M: EventModel, O: Write>(
         world.floor(),
         world.least(),
         records.as_slice(),
+        version,
     )?;
     text.flush(out)
 }
 
-/// Replays steps of a model, and writes the output.
+/// Replays steps of a model, and writes the output. Of the options it uses the config, the first serial and the version
+/// of the text of records.
 fn print_replay<M: EventModel, O: Write>(
     alloc: Global,
     model: &M,
-    config: Config,
-    serial: u64,
+    options: &ReplayOptions,
     steps: &[NumberedStep],
     out: &mut O,
 ) -> Result<(), Fault>
-    requires counted { serial ≤ MAX_COUNT }
-    ensures ok { OnOk result (Writes (IsReplayOf (M.handlers model.now) config serial steps.now) (O.contents out.old) (O.contents out.new)) }
-    ensures err { IfErr result (StopsReplay (IsReplayOf (M.handlers model.now) config serial steps.now) (AreRepliesOf (M.handlers model.now) config serial steps.now) (PassesAtStart (simulation_of (M.handlers model.now) config) serial) (O.contents out.old) (O.contents out.new)) }
+    requires counted { options.now.serial ≤ MAX_COUNT }
+    ensures ok { OnOk result (Writes (IsReplayOf options.now.text (M.handlers model.now) options.now.config options.now.serial steps.now) (O.contents out.old) (O.contents out.new)) }
+    ensures err { IfErr result (StopsReplay (IsReplayOf options.now.text (M.handlers model.now) options.now.config options.now.serial steps.now) (AreRepliesOf (M.handlers model.now) options.now.config options.now.serial steps.now) (PassesAtStart (simulation_of (M.handlers model.now) options.now.config) options.now.serial) (O.contents out.old) (O.contents out.new)) }
 {
-    let mut world = World::with_serial(alloc, model, config, serial)?;
+    let mut world = World::with_serial(alloc, model, options.config, options.serial)?;
     let mut text = TextBuffer::new();
     put_replies(alloc, &mut world, steps, &mut text, out)?;
-    show(alloc, &world, &mut text, out)
+    show(alloc, &world, options.text, &mut text, out)
 }
 
 /// Replays steps of the model that the options name.
@@ -113,12 +115,10 @@ fn print_steps<O: Write>(
     ensures ok { OnOk result (Writes (IsReplay options.now steps.now) (O.contents out.old) (O.contents out.new)) }
     ensures err { IfErr result (StopsReplay (IsReplay options.now steps.now) (AreRepliesOfReplay options.now steps.now) (OpensTooLate options.now) (O.contents out.old) (O.contents out.new)) }
 {
-    let config = options.config;
-    let serial = options.serial;
     match options.model {
-        ModelName::Hop => print_replay(alloc, &options.hop, config, serial, steps, out),
-        ModelName::Phold => print_replay(alloc, &options.phold, config, serial, steps, out),
-        ModelName::Stations => print_replay(alloc, &options.stations, config, serial, steps, out),
+        ModelName::Hop => print_replay(alloc, &options.hop, options, steps, out),
+        ModelName::Phold => print_replay(alloc, &options.phold, options, steps, out),
+        ModelName::Stations => print_replay(alloc, &options.stations, options, steps, out),
     }
 }
 
