@@ -7,6 +7,7 @@ use vt_command::{ModelName, Options, ReplayOptions, Request, Synch, read_request
 use vt_key::Fault;
 use vt_model::Config;
 use vt_models::{Hop, Phold, Stations};
+use vt_text::Version;
 
 /// An option with the ends of its range, a text beyond each end, and its default.
 #[derive(Clone, Copy)]
@@ -18,11 +19,11 @@ struct Range {
 }
 
 /// The options of `run` that are numbers, in the order in which they are tested.
-static RANGES: [Range; 15] = [
+static RANGES: [Range; 17] = [
     Range {
         name: "workers",
-        ends: ["1", "64"],
-        beyond: ["0", "65"],
+        ends: ["1", "256"],
+        beyond: ["0", "257"],
         default: "1",
     },
     Range {
@@ -62,9 +63,15 @@ static RANGES: [Range; 15] = [
         default: "2",
     },
     Range {
+        name: "rise",
+        ends: ["0", "255"],
+        beyond: ["-1", "256"],
+        default: "0",
+    },
+    Range {
         name: "population",
-        ends: ["0", "8"],
-        beyond: ["1.5", "9"],
+        ends: ["0", "16"],
+        beyond: ["1.5", "17"],
         default: "1",
     },
     Range {
@@ -109,9 +116,18 @@ static RANGES: [Range; 15] = [
         beyond: ["0", "9223372036854775809"],
         default: "10000000",
     },
+    TEXT,
 ];
 
-/// The last option of `replay`, which has the others of `run` but `synch` and `turns`.
+/// The last option of both.
+const TEXT: Range = Range {
+    name: "text",
+    ends: ["1", "2"],
+    beyond: ["0", "3"],
+    default: "2",
+};
+
+/// The option of `replay` before the last, which has the others of `run` but `synch` and `turns`.
 const SERIAL: Range = Range {
     name: "serial",
     ends: ["0", "9223372036854775808"],
@@ -122,8 +138,9 @@ const SERIAL: Range = Range {
 /// The options of `replay` that are numbers, in the order in which they are tested.
 fn replay_ranges(alloc: Global) -> Result<Vec<Range>, AllocError> {
     let mut ranges = Vec::new(alloc);
-    ranges.extend_from_slice(&RANGES[..14])?;
+    ranges.extend_from_slice(&RANGES[..15])?;
     ranges.push(SERIAL)?;
+    ranges.push(TEXT)?;
     Ok(ranges)
 }
 
@@ -269,19 +286,21 @@ fn options_have_defaults(rt: HostRuntime) -> Result<(), Fail> {
         model: ModelName::Hop,
         synch: Synch::Sequential,
         config: Config::new(2, 1, 10, 0)?,
-        hop: Hop::new(2, 1, 2)?,
+        hop: Hop::new(2, 1, 2, 0)?,
         phold: Phold::new(1, 0, 1, 1)?,
         stations: Stations::new(1, 1, 1)?,
         turns: 10_000_000,
+        text: Version::Two,
     };
     assert_eq!(rt; options_of(rt.alloc(), &["twarp", "run"]), Some(expected));
     let expected = ReplayOptions {
         model: ModelName::Hop,
         config: Config::new(2, 1, 10, 0)?,
-        hop: Hop::new(2, 1, 2)?,
+        hop: Hop::new(2, 1, 2, 0)?,
         phold: Phold::new(1, 0, 1, 1)?,
         stations: Stations::new(1, 1, 1)?,
         serial: 0,
+        text: Version::Two,
     };
     assert_eq!(rt;
         replay_options_of(rt.alloc(), &["twarp", "replay"]),
@@ -295,6 +314,7 @@ fn given_options_are_taken(rt: HostRuntime) -> Result<(), Fail> {
     let words = [
         "twarp",
         "run",
+        "--text=1",
         "--turns",
         "5",
         "--travel=14",
@@ -307,6 +327,7 @@ fn given_options_are_taken(rt: HostRuntime) -> Result<(), Fail> {
         "--remote",
         "19",
         "--population=6",
+        "--rise=8",
         "--delay=7",
         "--stride",
         "3",
@@ -325,10 +346,11 @@ fn given_options_are_taken(rt: HostRuntime) -> Result<(), Fail> {
         model: ModelName::Stations,
         synch: Synch::Optimistic,
         config: Config::new(12, 4, 64, 258)?,
-        hop: Hop::new(9, 3, 7)?,
+        hop: Hop::new(9, 3, 7, 8)?,
         phold: Phold::new(6, 19, 18, 17)?,
         stations: Stations::new(16, 15, 14)?,
         turns: 5,
+        text: Version::One,
     };
     assert_eq!(rt; options_of(rt.alloc(), &words), Some(expected));
     Ok(())
@@ -337,16 +359,17 @@ fn given_options_are_taken(rt: HostRuntime) -> Result<(), Fail> {
 #[test]
 fn given_options_of_a_replay_are_taken(rt: HostRuntime) -> Result<(), Fail> {
     let line =
-        "twarp replay --serial=5 --travel 14 --service=15 --jobs 16 --span=17 --lookahead 18 --remote=19 \
-        --population 6 --delay=7 --stride 3 --hops=9 --seed 258 --end=64 --lps 12 --workers=4 --model phold";
+        "twarp replay --text 1 --serial=5 --travel 14 --service=15 --jobs 16 --span=17 --lookahead 18 --remote=19 \
+        --population 6 --rise=8 --delay=7 --stride 3 --hops=9 --seed 258 --end=64 --lps 12 --workers=4 --model phold";
     let words: Vec<&str> = line.split_ascii_whitespace().collect(rt.alloc())?;
     let expected = ReplayOptions {
         model: ModelName::Phold,
         config: Config::new(12, 4, 64, 258)?,
-        hop: Hop::new(9, 3, 7)?,
+        hop: Hop::new(9, 3, 7, 8)?,
         phold: Phold::new(6, 19, 18, 17)?,
         stations: Stations::new(16, 15, 14)?,
         serial: 5,
+        text: Version::One,
     };
     assert_eq!(rt;
         replay_options_of(rt.alloc(), words.as_slice()),
@@ -394,7 +417,7 @@ fn line_with<'a>(text: &'a str, part: &str) -> &'a str {
 }
 
 /// Asserts that these options stand in the help of a subcommand, each with its own range and default, and in that of the program in
-/// short.
+/// short. The help of `--text` says what each of its two values means.
 fn expect_help(
     rt: &(impl Abort + AllocGlobal),
     subcommand: &str,
@@ -419,15 +442,16 @@ fn expect_help(
             );
         }
     }
+    assert!(rt; line_with(long.as_str(), "--text <N> ").contains("[default: 2]"));
     assert!(rt; help_of(alloc, &["twarp", "help", subcommand]).as_str() == long.as_str());
     Ok(())
 }
 
 #[test]
 fn help_shows_every_option(rt: HostRuntime) -> Result<(), Fail> {
-    expect_help(&rt, "run", &RANGES)?;
+    expect_help(&rt, "run", &RANGES[..16])?;
     let ranges = replay_ranges(rt.alloc())?;
-    expect_help(&rt, "replay", ranges.as_slice())?;
+    expect_help(&rt, "replay", &ranges.as_slice()[..16])?;
     let short = help_of(rt.alloc(), &["twarp", "--help"]);
     for word in ["-h", "help"] {
         assert!(rt;

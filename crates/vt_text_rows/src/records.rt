@@ -1,10 +1,14 @@
 //! Records that are printed, numbers that are read, and bytes that are written.
 
+use std::alloc::AllocGlobal;
 use std::io::{self, Error, ErrorKind, Write};
+use std::process::Abort;
 use std::test::Fail;
 use vt_key::Fault;
 use vt_model::Record;
-use vt_text::{RECORD_LEN, TEXT_ROOM, TextBuffer, print_records, read_number, write_bytes};
+use vt_text::{
+    RECORD_LEN, TEXT_ROOM, TextBuffer, Version, print_records, read_number, write_bytes,
+};
 
 /// The one record of a hop run of one process without hops.
 const FIRST: Record = Record {
@@ -82,7 +86,7 @@ impl Write for Narrow {
     }
 }
 
-fn writer_with_room(rt: &HostRuntime, room: usize) -> Narrow {
+fn writer_with_room(rt: &impl AllocGlobal, room: usize) -> Narrow {
     Narrow {
         taken: Vec::new(rt.alloc()),
         room,
@@ -96,14 +100,17 @@ fn printed(rt: &HostRuntime, calls: [Call; 3]) -> (Result<(), Fault>, Vec<u8>) {
         calls,
         at: 0,
     };
-    let result = print_records(&mut writer, &[FIRST]);
+    let result = print_records(&mut writer, &[FIRST], Version::One);
     (result, writer.taken)
 }
 
 #[test]
 fn prints_a_line_for_each_record(rt: HostRuntime) {
     let mut text = Vec::new(rt.alloc());
-    assert_eq!(rt; print_records(&mut text, &[FIRST, LARGEST]), Ok(()));
+    assert_eq!(rt;
+        print_records(&mut text, &[FIRST, LARGEST], Version::One),
+        Ok(())
+    );
     assert!(rt;
         text.as_slice()
             == b"1 0 1 1\n18446744073709551615 4294967295 4294967295 18446744073709551615\n".as_slice()
@@ -113,8 +120,85 @@ fn prints_a_line_for_each_record(rt: HostRuntime) {
 #[test]
 fn prints_nothing_of_no_records(rt: HostRuntime) {
     let mut writer = writer_with_room(&rt, 0);
-    assert_eq!(rt; print_records(&mut writer, &[]), Ok(()));
+    assert_eq!(rt; print_records(&mut writer, &[], Version::One), Ok(()));
     assert_eq!(rt; writer.calls, 0);
+}
+
+/// The records of two tokens that hop twice.
+const HOP: [Record; 6] = [
+    FIRST,
+    Record {
+        time: 2,
+        priority: 0,
+        lp: 1,
+        kind: 1,
+        value: 2,
+    },
+    Record {
+        time: 3,
+        priority: 0,
+        lp: 1,
+        kind: 1,
+        value: 513,
+    },
+    Record {
+        time: 4,
+        priority: 0,
+        lp: 0,
+        kind: 1,
+        value: 258,
+    },
+    Record {
+        time: 5,
+        priority: 0,
+        lp: 0,
+        kind: 1,
+        value: 66_049,
+    },
+    Record {
+        time: 6,
+        priority: 0,
+        lp: 1,
+        kind: 1,
+        value: 131_330,
+    },
+];
+
+/// Their text in version 2.
+const HOP_TEXT: &str =
+    "twarp-records 2\n1 0 0 1 1\n2 0 1 1 2\n3 0 1 1 513\n4 0 0 1 258\n5 0 0 1 66049\n6 0 1 1 131330\n";
+
+// Prints them into a writer with so much room: the result must be this, and what was taken a beginning of the text.
+fn takes_a_beginning(rt: &(impl Abort + AllocGlobal), room: usize, expected: Result<(), Fault>) {
+    let mut writer = writer_with_room(rt, room);
+    assert_eq!(rt; print_records(&mut writer, &HOP, Version::Two), expected);
+    assert!(rt; writer.taken.as_slice() == &HOP_TEXT.as_bytes()[..room]);
+}
+
+#[test]
+fn version_2_has_a_first_line_and_priorities(rt: HostRuntime) {
+    assert_eq!(rt; HOP_TEXT.len(), 89);
+    takes_a_beginning(&rt, 89, Ok(()));
+    for room in 0..89 {
+        takes_a_beginning(&rt, room, Err(Fault::Output));
+    }
+}
+
+#[test]
+fn version_2_prints_the_largest_numbers(rt: HostRuntime) {
+    let mut text = Vec::new(rt.alloc());
+    assert_eq!(rt; print_records(&mut text, &[LARGEST], Version::Two), Ok(()));
+    assert!(rt;
+        text.as_slice()
+            == b"twarp-records 2\n18446744073709551615 255 4294967295 4294967295 18446744073709551615\n".as_slice()
+    );
+}
+
+#[test]
+fn version_2_has_its_first_line_without_records(rt: HostRuntime) {
+    let mut text = Vec::new(rt.alloc());
+    assert_eq!(rt; print_records(&mut text, &[], Version::Two), Ok(()));
+    assert!(rt; text.as_slice() == b"twarp-records 2\n".as_slice());
 }
 
 #[test]
@@ -164,13 +248,16 @@ fn many_records_take_few_writes(rt: HostRuntime) -> Result<(), Fail> {
         writeln!(expected, "{time} 7 1 {value}")?;
     }
     let mut writer = writer_with_room(&rt, 1_000_000);
-    assert_eq!(rt; print_records(&mut writer, records.as_slice()), Ok(()));
+    assert_eq!(rt;
+        print_records(&mut writer, records.as_slice(), Version::One),
+        Ok(())
+    );
     assert!(rt; writer.taken.as_slice() == expected.as_slice());
     assert!(rt; writer.calls <= 1 + expected.len() / (TEXT_ROOM - RECORD_LEN));
 
     let mut full = writer_with_room(&rt, 50_000);
     assert_eq!(rt;
-        print_records(&mut full, records.as_slice()),
+        print_records(&mut full, records.as_slice(), Version::One),
         Err(Fault::Output)
     );
     assert!(rt; full.taken.len() == 50_000 && expected.starts_with(full.taken.as_slice()));

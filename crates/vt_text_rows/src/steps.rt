@@ -11,7 +11,7 @@ use vt_step_text::{
     read_steps,
 };
 use vt_steps::{Reply, Step};
-use vt_text::TextBuffer;
+use vt_text::{TextBuffer, Version};
 
 /// A straggler at equal time: the steps up to the close of the book.
 const STRAGGLER: &str = "\
@@ -160,14 +160,14 @@ fn numbers_may_be_as_large_as_they_fit(rt: HostRuntime) -> Result<(), Fail> {
     let alloc = rt.alloc();
     let largest = u64::MAX;
     let text =
-        b"accept 0 18446744073709551615\ncancel 65535 63 18446744073709551615\nexecute 00000000000000065535\n";
-    let steps = read_steps(alloc, text, 65_536, 64)?;
+        b"accept 0 18446744073709551615\ncancel 65535 255 18446744073709551615\nexecute 00000000000000065535\n";
+    let steps = read_steps(alloc, text, 65_536, 256)?;
     let expected = [
         Step::Accept(0, largest),
         Step::Cancel(
             65_535,
             Stamp {
-                worker: 63,
+                worker: 255,
                 serial: largest,
             },
         ),
@@ -179,7 +179,7 @@ fn numbers_may_be_as_large_as_they_fit(rt: HostRuntime) -> Result<(), Fail> {
             .map(|step| step.step)
             .eq(expected.iter().copied())
     );
-    let beyond = read_steps(alloc, b"execute 65536\n", 65_536, 64).err();
+    let beyond = read_steps(alloc, b"execute 65536\n", 65_536, 256).err();
     assert_eq!(rt; beyond, Some(Fault::BadStep(1)));
     Ok(())
 }
@@ -331,15 +331,15 @@ fn prints_a_line_for_each_kind_of_answer(rt: HostRuntime) -> Result<(), Fail> {
     prints(&rt, 1, &Ok(Reply::Done), "1 ok\n")?;
     prints(&rt, 20, &Ok(Reply::Waiting), "20 waiting\n")?;
     prints(&rt, 8, &Ok(Reply::Again), "8 again\n")?;
-    let announced = Ok(Reply::Announced(When::tick(10)));
-    prints(&rt, 21, &announced, "21 announced 10\n")?;
+    let announced = Ok(Reply::Announced(When::new(10, 7)));
+    prints(&rt, 21, &announced, "21 announced 10 7\n")?;
     prints(&rt, 3, &Err(Fault::Memory), "3 refused 1\n")?;
     prints(&rt, 3, &Err(Fault::NotLawful), "3 refused 2\n")?;
     prints(&rt, 26, &Err(Fault::Closed), "26 refused 4\n")?;
     prints(&rt, 2, &Err(Fault::Exhausted), "2 refused 5\n")?;
     let largest = u64::MAX;
-    let announced = Ok(Reply::Announced(When::tick(largest)));
-    let expected = "18446744073709551615 announced 18446744073709551615\n";
+    let announced = Ok(Reply::Announced(When::new(largest, 255)));
+    let expected = "18446744073709551615 announced 18446744073709551615 255\n";
     prints(&rt, largest, &announced, expected)
 }
 
@@ -377,17 +377,21 @@ static STRAGGLER_RECORDS: [Record; 4] = [
 
 /// What the world shows at the end of it.
 const STRAGGLER_STATE: &str =
-    "announced 10\nfloor 10\nleast 10\nrecords 4\n1 0 1 1\n2 1 1 1\n2 1 1 258\n3 0 1 258\n";
+    "announced 10 0\nfloor 10 0\nleast 10 0\nrecords 4\n1 0 1 1\n2 1 1 1\n2 1 1 258\n3 0 1 258\n";
 
 #[test]
 fn prints_what_the_world_shows(rt: HostRuntime) -> Result<(), Fail> {
     let end = When::tick(10);
     let mut text = Vec::new(rt.alloc());
-    print_state(&mut text, end, end, end, &STRAGGLER_RECORDS)?;
+    print_state(&mut text, end, end, end, &STRAGGLER_RECORDS, Version::One)?;
     assert!(rt; text.as_slice() == STRAGGLER_STATE.as_bytes());
     let mut early = Vec::new(rt.alloc());
-    print_state(&mut early, When::tick(3), When::tick(1), When::tick(2), &[])?;
-    assert!(rt; early.as_slice() == b"announced 3\nfloor 1\nleast 2\nrecords 0\n".as_slice());
+    let times = [When::new(3, 5), When::new(1, 6), When::new(2, 7)];
+    print_state(&mut early, times[0], times[1], times[2], &[], Version::Two)?;
+    assert!(rt;
+        early.as_slice()
+            == b"announced 3 5\nfloor 1 6\nleast 2 7\nrecords 0\ntwarp-records 2\n".as_slice()
+    );
     Ok(())
 }
 
@@ -397,7 +401,15 @@ fn print_gathered(writer: &mut Narrow) -> Result<(), Fault> {
     put_reply(&mut text, writer, 1, &Ok(Reply::Done))?;
     put_reply(&mut text, writer, 2, &Err(Fault::NotLawful))?;
     let end = When::tick(10);
-    put_state(&mut text, writer, end, end, end, &STRAGGLER_RECORDS)?;
+    put_state(
+        &mut text,
+        writer,
+        end,
+        end,
+        end,
+        &STRAGGLER_RECORDS,
+        Version::One,
+    )?;
     text.flush(writer)
 }
 
@@ -407,7 +419,7 @@ fn a_failed_write_leaves_a_beginning(rt: HostRuntime) {
     assert_eq!(rt; print_gathered(&mut whole), Ok(()));
     assert_eq!(rt; whole.calls, 1);
     let expected = whole.taken;
-    assert!(rt; expected.starts_with(b"1 ok\n2 refused 2\nannounced 10\n"));
+    assert!(rt; expected.starts_with(b"1 ok\n2 refused 2\nannounced 10 0\n"));
     assert!(rt; expected.ends_with(STRAGGLER_STATE.as_bytes()));
     assert_eq!(rt; expected.len(), 17 + STRAGGLER_STATE.len());
     for room in 0..expected.len() {
@@ -430,7 +442,7 @@ fn many_replies_take_few_writes(rt: HostRuntime) -> Result<(), Fail> {
             line,
             &Ok(Reply::Announced(When::tick(line))),
         )?;
-        writeln!(expected, "{line} announced {line}")?;
+        writeln!(expected, "{line} announced {line} 0")?;
     }
     text.flush(&mut writer)?;
     assert!(rt; writer.taken.as_slice() == expected.as_slice());
