@@ -2,23 +2,30 @@
 
 use crate::cases::straggler;
 use crate::running::{Full, Narrow, Outcome, run_into, writer_with_room};
-use crate::runs::SIX_LINES;
+use crate::runs::{SIX_LINES, SIX_RECORDS};
 use std::alloc::{AllocError, Global};
 use std::process::Abort;
 use std::sync::Wait;
 use std::test::Fail;
 use std::thread::Threads;
 
-const TWO_WORKERS: &str = "twarp replay --hops 1 --delay 1 --workers 2";
+const TWO_WORKERS: &str = "twarp replay --hops 1 --delay 1 --workers 2 --text 1";
 
 const OUTPUT: &[u8] = b"twarp: refused 9 output\n";
 
 /// What the straggler's world shows at the end.
 const STRAGGLER_SHOWN: &str =
-    "announced 10\nfloor 10\nleast 10\nrecords 4\n1 0 1 1\n2 1 1 1\n2 1 1 258\n3 0 1 258\n";
+    "announced 10 0\nfloor 10 0\nleast 10 0\nrecords 4\n1 0 1 1\n2 1 1 1\n2 1 1 258\n3 0 1 258\n";
+
+/// What it shows with the second version of the text of records.
+const STRAGGLER_SHOWN_IN_VERSION_2: &str = "announced 10 0\nfloor 10 0\nleast 10 0\nrecords 4\n\
+    twarp-records 2\n1 0 0 1 1\n2 0 1 1 1\n2 0 1 1 258\n3 0 0 1 258\n";
 
 /// What two turns of a single worker commit of the default run.
 const FOUR_LINES: &str = "1 0 1 1\n2 1 1 2\n3 1 1 513\n4 0 1 258\n";
+
+/// The same in the second version of the text of records.
+const FOUR_RECORDS: &str = "twarp-records 2\n1 0 0 1 1\n2 0 1 1 2\n3 0 1 1 513\n4 0 0 1 258\n";
 
 /// A command line, the text that is read, what is written, and how a whole run ends.
 #[derive(Drop)]
@@ -93,12 +100,17 @@ fn joined(alloc: Global, first: &str, second: &str) -> Result<Vec<u8>, AllocErro
 
 #[test]
 fn a_full_writer_leaves_a_beginning_of_a_run(rt: HostRuntime) -> Result<(), Fail> {
-    assert_eq!(rt; SIX_LINES.len(), 61);
-    for line in ["twarp run --synch 1", "twarp run --synch 3 --workers 2"] {
+    assert_eq!(rt; (SIX_LINES.len(), SIX_RECORDS.len()), (61, 89));
+    for (line, records) in [
+        ("twarp run --synch 1 --text 1", SIX_LINES),
+        ("twarp run --synch 3 --workers 2 --text 1", SIX_LINES),
+        ("twarp run", SIX_RECORDS),
+        ("twarp run --synch 3 --workers 2", SIX_RECORDS),
+    ] {
         let case = Written {
             line,
             input: b"unread",
-            output: SIX_LINES.as_bytes(),
+            output: records.as_bytes(),
             status: 0,
         };
         writes_each_beginning(&rt, &case)?;
@@ -108,25 +120,47 @@ fn a_full_writer_leaves_a_beginning_of_a_run(rt: HostRuntime) -> Result<(), Fail
 
 #[test]
 fn a_full_writer_leaves_a_beginning_of_a_stopped_run(rt: HostRuntime) -> Result<(), Fail> {
-    let case = Written {
-        line: "twarp run --synch 3 --workers 1 --turns 2",
-        input: b"unread",
-        output: FOUR_LINES.as_bytes(),
-        status: 1,
-    };
-    writes_each_beginning(&rt, &case)
+    for (line, records) in [
+        (
+            "twarp run --synch 3 --workers 1 --turns 2 --text 1",
+            FOUR_LINES,
+        ),
+        ("twarp run --synch 3 --workers 1 --turns 2", FOUR_RECORDS),
+        (
+            "twarp run --synch 3 --workers 2 --turns 1",
+            "twarp-records 2\n",
+        ),
+    ] {
+        let case = Written {
+            line,
+            input: b"unread",
+            output: records.as_bytes(),
+            status: 1,
+        };
+        writes_each_beginning(&rt, &case)?;
+    }
+    Ok(())
 }
 
 #[test]
 fn a_full_writer_leaves_a_beginning_of_a_replay(rt: HostRuntime) -> Result<(), Fail> {
-    let output = joined(rt.alloc(), straggler().1, STRAGGLER_SHOWN)?;
-    let case = Written {
-        line: TWO_WORKERS,
-        input: straggler().0.as_bytes(),
-        output: output.as_slice(),
-        status: 0,
-    };
-    writes_each_beginning(&rt, &case)
+    for (line, shown) in [
+        (TWO_WORKERS, STRAGGLER_SHOWN),
+        (
+            "twarp replay --hops 1 --delay 1 --workers 2",
+            STRAGGLER_SHOWN_IN_VERSION_2,
+        ),
+    ] {
+        let output = joined(rt.alloc(), straggler().1, shown)?;
+        let case = Written {
+            line,
+            input: straggler().0.as_bytes(),
+            output: output.as_slice(),
+            status: 0,
+        };
+        writes_each_beginning(&rt, &case)?;
+    }
+    Ok(())
 }
 
 // With so many calls that take all they are given, what was written and how it ended.
@@ -192,10 +226,10 @@ fn fetches(alloc: Global, count: u32) -> Result<(Vec<u8>, String), Fail> {
 fn a_failed_write_call_ends_a_replay_that_fills_the_buffer(rt: HostRuntime) -> Result<(), Fail> {
     let (steps, replies) = fetches(rt.alloc(), 1_500)?;
     assert_eq!(rt; replies.len(), 10_893);
-    let shown = "announced 0\nfloor 0\nleast 1\nrecords 0\n";
+    let shown = "announced 0 0\nfloor 0 0\nleast 1 0\nrecords 0\n";
     let output = joined(rt.alloc(), replies.as_str(), shown)?;
     let case = Written {
-        line: "twarp replay",
+        line: "twarp replay --text 1",
         input: steps.as_slice(),
         output: output.as_slice(),
         status: 0,

@@ -52,7 +52,7 @@ const STRAGGLER_REPLIES: &str = "\
 18 ok
 19 ok
 20 waiting
-21 announced 10
+21 announced 10 0
 22 ok
 23 ok
 24 ok
@@ -79,7 +79,7 @@ pub(crate) fn straggler() -> (&'static str, &'static str) {
     (STRAGGLER, STRAGGLER_REPLIES)
 }
 
-pub(crate) static CASES: [Case; 23] = [
+pub(crate) static CASES: [Case; 25] = [
     Case {
         name: "a straggler at equal time",
         options: "--hops 1 --delay 1 --workers 2",
@@ -87,9 +87,9 @@ pub(crate) static CASES: [Case; 23] = [
         steps: "",
         replies: "",
         shown: "\
-announced 10
-floor 10
-least 10
+announced 10 0
+floor 10 0
+least 10 0
 records 4
 1 0 1 1
 2 1 1 1
@@ -127,16 +127,16 @@ close
 19 ok
 20 ok
 21 waiting
-22 announced 10
+22 announced 10 0
 23 ok
 24 ok
 25 ok
 26 ok
 ",
         shown: "\
-announced 10
-floor 10
-least 10
+announced 10 0
+floor 10 0
+least 10 0
 records 4
 1 0 1 1
 2 1 1 1
@@ -174,16 +174,16 @@ close
 19 ok
 20 ok
 21 waiting
-22 announced 10
+22 announced 10 0
 23 ok
 24 ok
 25 ok
 26 ok
 ",
         shown: "\
-announced 10
-floor 10
-least 10
+announced 10 0
+floor 10 0
+least 10 0
 records 4
 1 0 1 1
 2 1 1 1
@@ -219,12 +219,12 @@ report 1
 8 again
 9 ok
 10 waiting
-11 announced 2
+11 announced 2 0
 ",
         shown: "\
-announced 2
-floor 0
-least 2
+announced 2 0
+floor 0 0
+least 2 0
 records 0
 ",
     },
@@ -248,16 +248,16 @@ close
 12 ok
 13 ok
 14 waiting
-15 announced 3
+15 announced 3 0
 16 ok
 17 ok
 18 ok
 19 refused 2
 ",
         shown: "\
-announced 3
-floor 3
-least 3
+announced 3 0
+floor 3 0
+least 3 0
 records 3
 1 0 1 1
 2 1 1 1
@@ -271,9 +271,9 @@ records 3
         steps: "",
         replies: "",
         shown: "\
-announced 0
-floor 0
-least 3
+announced 0 0
+floor 0 0
+least 3 0
 records 0
 ",
     },
@@ -284,9 +284,9 @@ records 0
         steps: "",
         replies: "",
         shown: "\
-announced 0
-floor 0
-least 10
+announced 0 0
+floor 0 0
+least 10 0
 records 0
 ",
     },
@@ -311,9 +311,9 @@ execute 0
 18 ok
 ",
         shown: "\
-announced 0
-floor 0
-least 10
+announced 0 0
+floor 0 0
+least 10 0
 records 0
 ",
     },
@@ -338,9 +338,9 @@ execute 0
 18 ok
 ",
         shown: "\
-announced 0
-floor 0
-least 10
+announced 0 0
+floor 0 0
+least 10 0
 records 0
 ",
     },
@@ -351,9 +351,9 @@ records 0
         steps: "",
         replies: "",
         shown: "\
-announced 10
-floor 0
-least 10
+announced 10 0
+floor 0 0
+least 10 0
 records 0
 ",
     },
@@ -374,13 +374,13 @@ cut 0
 12 ok
 13 ok
 14 waiting
-15 announced 3
+15 announced 3 0
 16 ok
 ",
         shown: "\
-announced 3
-floor 0
-least 3
+announced 3 0
+floor 0 0
+least 3 0
 records 0
 ",
     },
@@ -395,9 +395,9 @@ commit 1
 22 ok
 ",
         shown: "\
-announced 10
-floor 0
-least 10
+announced 10 0
+floor 0 0
+least 10 0
 records 0
 ",
     },
@@ -414,9 +414,9 @@ close
 27 refused 4
 ",
         shown: "\
-announced 10
-floor 10
-least 10
+announced 10 0
+floor 10 0
+least 10 0
 records 4
 1 0 1 1
 2 1 1 1
@@ -431,9 +431,9 @@ records 4
         steps: "",
         replies: "",
         shown: "\
-announced 0
-floor 0
-least 1
+announced 0 0
+floor 0 0
+least 1 0
 records 0
 ",
     },
@@ -452,9 +452,9 @@ undo 0
 3 refused 2
 ",
         shown: "\
-announced 0
-floor 0
-least 2
+announced 0 0
+floor 0 0
+least 2 0
 records 0
 ",
     },
@@ -470,14 +470,14 @@ close
 ",
         replies: "\
 1 ok
-2 announced 1
+2 announced 1 0
 3 ok
 4 ok
 ",
         shown: "\
-announced 1
-floor 1
-least 1
+announced 1 0
+floor 1 0
+least 1 0
 records 0
 ",
     },
@@ -506,13 +506,13 @@ report 0
 6 refused 2
 7 ok
 8 refused 2
-9 announced 1
+9 announced 1 0
 10 refused 2
 ",
         shown: "\
-announced 1
-floor 0
-least 1
+announced 1 0
+floor 0 0
+least 1 0
 records 0
 ",
     },
@@ -527,9 +527,9 @@ accept 0 18446744073709551615
 1 refused 2
 ",
         shown: "\
-announced 0
-floor 0
-least 1
+announced 0 0
+floor 0 0
+least 1 0
 records 0
 ",
     },
@@ -546,9 +546,9 @@ execute 0
 2 refused 5
 ",
         shown: "\
-announced 0
-floor 0
-least 1
+announced 0 0
+floor 0 0
+least 1 0
 records 0
 ",
     },
@@ -569,9 +569,9 @@ execute 0
 4 refused 5
 ",
         shown: "\
-announced 0
-floor 0
-least 2
+announced 0 0
+floor 0 0
+least 2 0
 records 0
 ",
     },
@@ -600,9 +600,9 @@ execute 1
 8 refused 5
 ",
         shown: "\
-announced 0
-floor 0
-least 2
+announced 0 0
+floor 0 0
+least 2 0
 records 0
 ",
     },
@@ -642,14 +642,14 @@ close
 11 ok
 12 ok
 13 ok
-14 announced 10
+14 announced 10 0
 15 ok
 16 ok
 ",
         shown: "\
-announced 10
-floor 10
-least 10
+announced 10 0
+floor 10 0
+least 10 0
 records 6
 3 0 2 1
 3 1 2 1
@@ -689,19 +689,70 @@ close
 8 ok
 9 refused 2
 10 ok
-11 announced 5
+11 announced 5 0
 12 ok
 13 ok
 ",
         shown: "\
-announced 5
-floor 5
-least 5
+announced 5 0
+floor 5 0
+least 5 0
 records 4
 1 0 4 1
 2 0 3 1
 3 0 4 2
 4 0 3 1
+",
+    },
+    Case {
+        name: "a straggler in the tick of its cause",
+        options: "--hops 1 --rise 100 --workers 2",
+        begins: 8,
+        steps: "\
+cut 0
+cut 1
+report 0
+report 1
+commit 1
+cut 0
+commit 0
+close
+",
+        replies: "\
+9 ok
+10 ok
+11 waiting
+12 announced 1 100
+13 ok
+14 ok
+15 ok
+16 refused 2
+",
+        shown: "\
+announced 1 100
+floor 1 100
+least 1 100
+records 1
+1 0 1 1
+",
+    },
+    Case {
+        name: "the last of the most workers",
+        options: "--workers 256",
+        begins: 0,
+        steps: "\
+cut 255
+report 255
+",
+        replies: "\
+1 ok
+2 refused 2
+",
+        shown: "\
+announced 0 0
+floor 0 0
+least 1 0
+records 0
 ",
     },
 ];

@@ -8,7 +8,7 @@ use std::sync::Wait;
 use std::test::Fail;
 use std::thread::Threads;
 
-const TWO_WORKERS: &str = "twarp replay --hops 1 --delay 1 --workers 2";
+const TWO_WORKERS: &str = "twarp replay --hops 1 --delay 1 --workers 2 --text 1";
 
 /// Texts with a bad line, of two processes on one worker, and the first bad line of each.
 static BAD_TEXTS: [(&str, &str); 20] = [
@@ -66,6 +66,25 @@ fn faults_come_in_their_order(rt: HostRuntime) -> Result<(), Fail> {
             2,
             "7 bad option serial",
         ),
+        (
+            "twarp replay --text 3 --serial x",
+            "home",
+            2,
+            "7 bad option serial",
+        ),
+        (
+            "twarp replay --text x --serial 0",
+            "home",
+            2,
+            "7 bad option text",
+        ),
+        ("twarp replay --text 0", "home", 2, "7 bad option text"),
+        (
+            "twarp replay --workers 256",
+            "cut 255\ncut 256\n",
+            3,
+            "8 bad step at line 2",
+        ),
         (late, "home 0\nhome", 3, "8 bad step at line 2"),
         (late, "home 0\n", 1, "5 exhausted"),
         (late, "", 1, "5 exhausted"),
@@ -89,8 +108,9 @@ fn faults_come_in_their_order(rt: HostRuntime) -> Result<(), Fail> {
         b"",
         b"twarp: refused 7 bad option input\n",
     )?;
-    let no_letter = "twarp replay --model phold --population 0 --serial 9223372036854775808";
-    let output = b"announced 0\nfloor 0\nleast 10\nrecords 0\n";
+    let no_letter =
+        "twarp replay --model phold --population 0 --serial 9223372036854775808 --text 1";
+    let output = b"announced 0 0\nfloor 0 0\nleast 10 0\nrecords 0\n";
     expect(&rt, no_letter, &mut b"".as_slice(), 0, output, b"")
 }
 

@@ -8,9 +8,21 @@ use std::thread::Threads;
 use vt_key::Fault;
 use vt_program::{program, tell_refusal};
 
-/// What `twarp run` prints.
+/// What `twarp run --text 1` prints.
 pub(crate) const SIX_LINES: &str =
     "1 0 1 1\n2 1 1 2\n3 1 1 513\n4 0 1 258\n5 0 1 66049\n6 1 1 131330\n";
+
+/// What `twarp run` prints.
+pub(crate) const SIX_RECORDS: &str = "twarp-records 2\n\
+    1 0 0 1 1\n2 0 1 1 2\n3 0 1 1 513\n4 0 0 1 258\n5 0 0 1 66049\n6 0 1 1 131330\n";
+
+/// What `twarp run --rise 100 --text 1` prints.
+pub(crate) const RISING_LINES: &str =
+    "1 0 1 1\n1 1 1 1\n1 0 1 257\n2 1 1 258\n2 0 1 65794\n2 1 1 66050\n";
+
+/// What `twarp run --rise 100` prints.
+pub(crate) const RISING_RECORDS: &str = "twarp-records 2\n\
+    1 0 0 1 1\n1 100 1 1 1\n1 200 0 1 257\n2 0 1 1 258\n2 100 0 1 65794\n2 200 1 1 66050\n";
 
 /// A writer that has room for a number of bytes and then fails, and counts its calls.
 #[derive(Drop)]
@@ -100,11 +112,11 @@ pub(crate) fn expect(
 
 #[test]
 fn prints_the_records_of_the_default_run(rt: HostRuntime) -> Result<(), Fail> {
-    expect(&rt, "twarp run", 0, SIX_LINES, "")?;
-    expect(&rt, "twarp run --synch 1", 0, SIX_LINES, "")?;
+    expect(&rt, "twarp run --text 1", 0, SIX_LINES, "")?;
+    expect(&rt, "twarp run --text 1 --synch 1", 0, SIX_LINES, "")?;
     expect(
         &rt,
-        "twarp run --synch 1 --workers 64 --turns 1 --seed 7",
+        "twarp run --text 1 --synch 1 --workers 256 --turns 1 --seed 7",
         0,
         SIX_LINES,
         "",
@@ -115,12 +127,12 @@ fn prints_the_records_of_the_default_run(rt: HostRuntime) -> Result<(), Fail> {
 fn keys_decide_among_events_of_one_time(rt: HostRuntime) -> Result<(), Fail> {
     expect(
         &rt,
-        "twarp run --hops 1 --delay 1",
+        "twarp run --text 1 --hops 1 --delay 1",
         0,
         "1 0 1 1\n2 1 1 1\n2 1 1 258\n3 0 1 258\n",
         "",
     )?;
-    let three = "twarp run --hops 1 --delay 1 --lps 3 --stride 2 --end 3";
+    let three = "twarp run --text 1 --hops 1 --delay 1 --lps 3 --stride 2 --end 3";
     expect(&rt, three, 0, "1 0 1 1\n2 2 1 1\n2 1 1 2\n", "")
 }
 
@@ -128,12 +140,13 @@ fn keys_decide_among_events_of_one_time(rt: HostRuntime) -> Result<(), Fail> {
 fn events_of_phold_schedule_each_other(rt: HostRuntime) -> Result<(), Fail> {
     expect(
         &rt,
-        "twarp run --model phold --lookahead 3",
+        "twarp run --text 1 --model phold --lookahead 3",
         0,
         "3 0 2 1\n3 1 2 1\n6 0 2 2\n6 1 2 2\n9 0 2 3\n9 1 2 3\n",
         "",
     )?;
-    let two_events = "twarp run --model phold --lps 1 --population 2 --lookahead 3 --end 7";
+    let two_events =
+        "twarp run --text 1 --model phold --lps 1 --population 2 --lookahead 3 --end 7";
     expect(
         &rt,
         two_events,
@@ -141,14 +154,29 @@ fn events_of_phold_schedule_each_other(rt: HostRuntime) -> Result<(), Fail> {
         "3 0 2 1\n3 0 2 2\n6 0 2 3\n6 0 2 4\n",
         "",
     )?;
-    let remote = "twarp run --model phold --lps 1 --lookahead 3 --remote 100";
+    let remote = "twarp run --text 1 --model phold --lps 1 --lookahead 3 --remote 100";
     expect(&rt, remote, 0, "3 0 2 1\n6 0 2 2\n9 0 2 3\n", "")?;
-    expect(&rt, "twarp run --model phold --population 0", 0, "", "")
+    let most = "twarp run --text 1 --model phold --lps 1 --population 16 --lookahead 3 --end 4";
+    expect(
+        &rt,
+        most,
+        0,
+        "3 0 2 1\n3 0 2 2\n3 0 2 3\n3 0 2 4\n3 0 2 5\n3 0 2 6\n3 0 2 7\n3 0 2 8\n\
+        3 0 2 9\n3 0 2 10\n3 0 2 11\n3 0 2 12\n3 0 2 13\n3 0 2 14\n3 0 2 15\n3 0 2 16\n",
+        "",
+    )?;
+    expect(
+        &rt,
+        "twarp run --text 1 --model phold --population 0",
+        0,
+        "",
+        "",
+    )
 }
 
 #[test]
 fn jobs_queue_at_stations(rt: HostRuntime) -> Result<(), Fail> {
-    let two_jobs = "twarp run --model stations --lps 1 --jobs 2 --end 5";
+    let two_jobs = "twarp run --text 1 --model stations --lps 1 --jobs 2 --end 5";
     expect(
         &rt,
         two_jobs,
@@ -156,9 +184,15 @@ fn jobs_queue_at_stations(rt: HostRuntime) -> Result<(), Fail> {
         "1 0 4 1\n2 0 3 2\n2 0 4 2\n3 0 3 2\n3 0 4 3\n4 0 3 2\n4 0 4 4\n",
         "",
     )?;
-    let one_job = "twarp run --model stations --lps 1 --jobs 1 --end 5";
+    let one_job = "twarp run --text 1 --model stations --lps 1 --jobs 1 --end 5";
     expect(&rt, one_job, 0, "1 0 4 1\n2 0 3 1\n3 0 4 2\n4 0 3 1\n", "")?;
-    expect(&rt, "twarp run --model stations --jobs 0", 0, "", "")
+    expect(
+        &rt,
+        "twarp run --text 1 --model stations --jobs 0",
+        0,
+        "",
+        "",
+    )
 }
 
 /// Drawn receivers and delays: as `crates/vt_rows/expected/models.py` prints them for `phold 3 6 258 2 40 2 5` and for
@@ -166,7 +200,7 @@ fn jobs_queue_at_stations(rt: HostRuntime) -> Result<(), Fail> {
 #[test]
 fn drawn_runs_are_those_of_another_program(rt: HostRuntime) -> Result<(), Fail> {
     let phold =
-        "twarp run --model phold --lps 3 --end 6 --seed 258 --population 2 --remote 40 --lookahead 2 --span 5";
+        "twarp run --text 1 --model phold --lps 3 --end 6 --seed 258 --population 2 --remote 40 --lookahead 2 --span 5";
     expect(
         &rt,
         phold,
@@ -175,7 +209,7 @@ fn drawn_runs_are_those_of_another_program(rt: HostRuntime) -> Result<(), Fail> 
         "",
     )?;
     let stations =
-        "twarp run --model stations --lps 3 --end 6 --seed 258 --jobs 2 --service 4 --travel 3";
+        "twarp run --text 1 --model stations --lps 3 --end 6 --seed 258 --jobs 2 --service 4 --travel 3";
     expect(
         &rt,
         stations,
@@ -189,118 +223,92 @@ fn drawn_runs_are_those_of_another_program(rt: HostRuntime) -> Result<(), Fail> 
 fn ends_at_the_end_of_virtual_time(rt: HostRuntime) -> Result<(), Fail> {
     expect(
         &rt,
-        "twarp run --end 4",
+        "twarp run --text 1 --end 4",
         0,
         "1 0 1 1\n2 1 1 2\n3 1 1 513\n",
         "",
     )?;
-    expect(&rt, "twarp run --end 1", 0, "", "")?;
+    expect(&rt, "twarp run --text 1 --end 1", 0, "", "")?;
     expect(
         &rt,
-        "twarp run --lps 1 --hops 0 --end 2",
+        "twarp run --text 1 --lps 1 --hops 0 --end 2",
         0,
         "1 0 1 1\n",
         "",
     )
 }
 
+/// Words of runs, and what they print in the second version of the text of records, which is the one by default.
+static SECOND_VERSION: [(&str, &str); 7] = [
+    ("run", SIX_RECORDS),
+    ("run --text 2", SIX_RECORDS),
+    ("run --rise 0 --population 16", SIX_RECORDS),
+    ("run --rise 100", RISING_RECORDS),
+    ("run --rise 100 --synch 3 --workers 2", RISING_RECORDS),
+    ("run --end 1", "twarp-records 2\n"),
+    ("run --end 1 --synch 3 --workers 2", "twarp-records 2\n"),
+];
+
 #[test]
-fn refuses_bad_options_by_name(rt: HostRuntime) -> Result<(), Fail> {
-    expect(
-        &rt,
-        "twarp run --synch 2",
-        2,
-        "",
-        "twarp: refused 7 bad option synch\n",
-    )?;
-    expect(
-        &rt,
-        "twarp run --workers 0",
-        2,
-        "",
-        "twarp: refused 7 bad option workers\n",
-    )?;
-    expect(
-        &rt,
-        "twarp run --end 0",
-        2,
-        "",
-        "twarp: refused 7 bad option end\n",
-    )?;
-    expect(
-        &rt,
-        "twarp run --lps 65537",
-        2,
-        "",
-        "twarp: refused 7 bad option lps\n",
-    )?;
-    expect(
-        &rt,
-        "twarp run --population 9",
-        2,
-        "",
-        "twarp: refused 7 bad option population\n",
-    )?;
-    expect(
-        &rt,
-        "twarp run --model phold --travel 0",
-        2,
-        "",
-        "twarp: refused 7 bad option travel\n",
-    )?;
-    expect(
-        &rt,
-        "twarp run --end 0 --lps 65537",
-        2,
-        "",
-        "twarp: refused 7 bad option lps\n",
-    )
+fn prints_the_second_version_by_default(rt: HostRuntime) -> Result<(), Fail> {
+    for (words, records) in &SECOND_VERSION {
+        let line = format!(in rt.alloc(); "twarp {words}")?;
+        expect(&rt, line.as_str(), 0, records, "")?;
+    }
+    Ok(())
 }
 
 #[test]
-fn refuses_what_is_not_there_yet(rt: HostRuntime) -> Result<(), Fail> {
-    expect(
-        &rt,
-        "twarp run --model token",
-        2,
-        "",
-        "twarp: refused 7 bad option model\n",
-    )?;
-    expect(
-        &rt,
-        "twarp run --synch 4",
-        2,
-        "",
-        "twarp: refused 7 bad option synch\n",
-    )?;
-    expect(
-        &rt,
-        "twarp replay --synch 1",
-        2,
-        "",
-        "twarp: refused 7 bad option command-line\n",
-    )?;
-    expect(
-        &rt,
-        "twarp run --serial 0",
-        2,
-        "",
-        "twarp: refused 7 bad option command-line\n",
-    )?;
-    expect(
-        &rt,
-        "twarp replay --lps 0",
-        2,
-        "",
-        "twarp: refused 7 bad option lps\n",
-    )?;
-    expect(
-        &rt,
-        "twarp",
-        2,
-        "",
-        "twarp: refused 7 bad option command-line\n",
-    )
+fn tokens_hop_within_a_tick(rt: HostRuntime) -> Result<(), Fail> {
+    let own = "twarp run --text 1 --lps 1 --hops 3 --stride 0 --rise 100";
+    for (options, out) in [
+        ("", "1 0 1 1\n1 0 1 257\n1 0 1 65793\n3 0 1 16843009\n"),
+        ("--end 2", "1 0 1 1\n1 0 1 257\n1 0 1 65793\n"),
+    ] {
+        let line = format!(in rt.alloc(); "{own} {options}")?;
+        expect(&rt, line.as_str(), 0, out, "")?;
+    }
+    expect(&rt, "twarp run --text 1 --rise 100", 0, RISING_LINES, "")
+}
+
+/// Words with a bad option, which has this name, the first in the order of the table.
+static BAD_OPTIONS: [(&str, &str); 26] = [
+    ("run --synch 2", "synch"),
+    ("run --synch 4", "synch"),
+    ("run --workers 0", "workers"),
+    ("run --workers 257", "workers"),
+    ("run --end 0", "end"),
+    ("run --lps 65537", "lps"),
+    ("run --population 17", "population"),
+    ("run --population 17 --rise 256", "rise"),
+    ("run --rise 256", "rise"),
+    ("run --rise 256 --delay 0", "delay"),
+    ("run --model phold --travel 0", "travel"),
+    ("run --model token", "model"),
+    ("run --end 0 --lps 65537", "lps"),
+    ("run --text 3", "text"),
+    ("run --text 0", "text"),
+    ("run --text x --turns 1", "text"),
+    ("run --text 3 --turns 0", "turns"),
+    ("run --text 3 --synch 2", "synch"),
+    ("replay --lps 0", "lps"),
+    ("replay --workers 257", "workers"),
+    ("replay --rise 256", "rise"),
+    ("replay --text 3", "text"),
+    ("replay --text x --serial 0", "text"),
+    ("replay --synch 1", "command-line"),
+    ("run --serial 0", "command-line"),
+    ("", "command-line"),
+];
+
+#[test]
+fn refuses_bad_options_by_name(rt: HostRuntime) -> Result<(), Fail> {
+    for (words, name) in &BAD_OPTIONS {
+        let line = format!(in rt.alloc(); "twarp {words}")?;
+        let refusal = format!(in rt.alloc(); "twarp: refused 7 bad option {name}\n")?;
+        expect(&rt, line.as_str(), 2, "", refusal.as_str())?;
+    }
+    Ok(())
 }
 
 #[test]

@@ -1,6 +1,6 @@
 //! Runs on workers through the whole program.
 
-use crate::runs::{SIX_LINES, expect, run_within};
+use crate::runs::{RISING_LINES, SIX_LINES, expect, run_within};
 use std::process::Abort;
 use std::sync::Wait;
 use std::test::Fail;
@@ -19,7 +19,7 @@ fn expect_same(
     out: &str,
 ) -> Result<(), Fail> {
     for synch in ["1", "3 --workers 1", "3 --workers 2", "3 --workers 3"] {
-        let line = format!(in rt.alloc(); "twarp run {options} --synch {synch}")?;
+        let line = format!(in rt.alloc(); "twarp run --text 1 {options} --synch {synch}")?;
         expect(rt, line.as_str(), 0, out, "")?;
     }
     Ok(())
@@ -28,7 +28,8 @@ fn expect_same(
 #[test]
 fn threads_print_the_records_of_the_default_run(rt: HostRuntime) -> Result<(), Fail> {
     expect_same(&rt, "", SIX_LINES)?;
-    expect_same(&rt, "--seed 7 --turns 1000", SIX_LINES)
+    expect_same(&rt, "--seed 7 --turns 1000", SIX_LINES)?;
+    expect_same(&rt, "--rise 100", RISING_LINES)
 }
 
 #[test]
@@ -61,12 +62,14 @@ fn jobs_queue_at_stations_in_threads(rt: HostRuntime) -> Result<(), Fail> {
 #[test]
 fn one_turn_commits_nothing(rt: HostRuntime) -> Result<(), Fail> {
     let line = "twarp run --synch 3 --workers 2 --turns 1";
+    expect(&rt, line, 1, "twarp-records 2\n", TURNS_SPENT)?;
+    let line = "twarp run --synch 3 --workers 2 --turns 1 --text 1";
     expect(&rt, line, 1, "", TURNS_SPENT)
 }
 
 #[test]
 fn two_turns_commit_four_records(rt: HostRuntime) -> Result<(), Fail> {
-    let line = "twarp run --synch 3 --workers 1 --turns 2";
+    let line = "twarp run --synch 3 --workers 1 --turns 2 --text 1";
     expect(&rt, line, 1, FOUR_LINES, TURNS_SPENT)
 }
 
@@ -74,7 +77,9 @@ fn two_turns_commit_four_records(rt: HostRuntime) -> Result<(), Fail> {
 fn turns_that_are_spent_leave_a_beginning(rt: HostRuntime) -> Result<(), Fail> {
     let lines = SIX_LINES.as_bytes();
     for turns in 1..51 {
-        let line = format!(in rt.alloc(); "twarp run --synch 3 --workers 2 --turns {turns}")?;
+        let line = format!(in rt.alloc();
+            "twarp run --text 1 --synch 3 --workers 2 --turns {turns}"
+        )?;
         let outcome = run_within(&rt, line.as_str(), 100_000, 100_000)?;
         let out = outcome.out.as_slice();
         if outcome.status == 0 {
@@ -88,5 +93,24 @@ fn turns_that_are_spent_leave_a_beginning(rt: HostRuntime) -> Result<(), Fail> {
             assert!(rt; outcome.err.as_slice() == TURNS_SPENT.as_bytes(), "{turns}");
         }
     }
+    Ok(())
+}
+
+#[test]
+fn more_workers_than_a_word_has_bits(rt: HostRuntime) -> Result<(), Fail> {
+    let line =
+        "twarp run --text 1 --synch 3 --workers 65 --lps 65 --hops 0 --end 3 --turns 1000000000";
+    expect(&rt, line, 0, "1 0 1 1\n2 1 1 2\n", "")
+}
+
+#[test]
+fn the_most_workers_print_what_one_thread_prints(rt: HostRuntime) -> Result<(), Fail> {
+    let run = "twarp run --model phold --lps 1024 --remote 10 --span 16 --end 10";
+    let sequential = run_within(&rt, run, 100_000, 100_000)?;
+    assert_eq!(rt; sequential.status, 0);
+    let line = format!(in rt.alloc(); "{run} --synch 3 --workers 256 --turns 1000000000")?;
+    let outcome = run_within(&rt, line.as_str(), 100_000, 100_000)?;
+    assert_eq!(rt; outcome.status, 0);
+    assert!(rt; outcome.out.as_slice() == sequential.out.as_slice());
     Ok(())
 }

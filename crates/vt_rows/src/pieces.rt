@@ -183,7 +183,9 @@ fn a_handler_sends_later_than_now(rt: HostRuntime) {
     assert!(rt; !out.later(0, 99) && !out.later(0, 100));
     assert!(rt; out.later(0, 101) && out.later(1, 0));
     out.send(0, 0, 101, 'a');
-    assert!(rt; out.sends()[0].key == Key::new(When::new(4, 101), 1, 7));
+    let sent = out.sends();
+    assert_eq!(rt; sent.len(), 1);
+    assert!(rt; sent[0].key == Key::new(When::new(4, 101), 1, 7));
 }
 
 // Sends once more, where there is room: whether there was.
