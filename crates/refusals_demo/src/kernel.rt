@@ -273,7 +273,7 @@ const CALLS: [Call; 21] = [
 
 /// The second worker runs ahead, is overtaken by a straggler, and rolls back.
 pub(crate) fn straggler(rt: &HostRuntime) -> io::Result<()> {
-    let (Ok(model), Ok(config)) = (Hop::new(1, 1, 1), Config::new(2, 2, 10, 0)) else {
+    let (Ok(model), Ok(config)) = (Hop::new(1, 1, 1, 0), Config::new(2, 2, 10, 0)) else {
         return Ok(());
     };
     let Some(first) = opened(rt, &model, config, 0)? else {
@@ -293,7 +293,7 @@ pub(crate) fn straggler(rt: &HostRuntime) -> io::Result<()> {
 
 // One process, one token: three parcels for its event.
 fn alone(rt: &HostRuntime) -> io::Result<()> {
-    let (Ok(model), Ok(config)) = (Hop::new(1, 0, 1), Config::new(1, 1, 10, 0)) else {
+    let (Ok(model), Ok(config)) = (Hop::new(1, 0, 1, 0), Config::new(1, 1, 10, 0)) else {
         return Ok(());
     };
     let Some(first) = opened(rt, &model, config, 0)? else {

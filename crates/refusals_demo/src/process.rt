@@ -150,7 +150,7 @@ const CALLS: [Call; 7] = [
 
 /// A token that hops once, to its own process.
 pub(crate) fn events(rt: &HostRuntime) -> io::Result<()> {
-    let (Ok(model), Ok(config)) = (Hop::new(1, 0, 1), Config::new(1, 1, 10, 0)) else {
+    let (Ok(model), Ok(config)) = (Hop::new(1, 0, 1, 0), Config::new(1, 1, 10, 0)) else {
         return Ok(());
     };
     let Some(mut stage) = opened(rt, model, config)? else {

@@ -151,7 +151,7 @@ const CALLS: [Call; 9] = [
 
 /// Two tokens that hop twice: event by event, then at once.
 pub(crate) fn events(rt: &HostRuntime) -> io::Result<()> {
-    let (Ok(model), Ok(config)) = (Hop::new(2, 1, 2), Config::new(2, 1, 10, 0)) else {
+    let (Ok(model), Ok(config)) = (Hop::new(2, 1, 2, 0), Config::new(2, 1, 10, 0)) else {
         return Ok(());
     };
     if let Some(run) = opened(rt, &model, config)? {

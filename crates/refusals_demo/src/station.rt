@@ -143,7 +143,7 @@ fn drive(rt: &HostRuntime, model: &Hop, config: Config) -> io::Result<Result<(),
 
 /// A straggler and its rollback, step by step.
 pub(crate) fn straggler(rt: &HostRuntime) -> io::Result<()> {
-    let (Ok(model), Ok(config)) = (Hop::new(1, 1, 1), Config::new(2, 2, 10, 0)) else {
+    let (Ok(model), Ok(config)) = (Hop::new(1, 1, 1, 0), Config::new(2, 2, 10, 0)) else {
         return Ok(());
     };
     opened(rt, &model, config)?;

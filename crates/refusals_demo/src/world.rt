@@ -183,7 +183,7 @@ const READERS: [Call; 2] = [Call::Records, Call::Finals];
 
 /// A straggler and its rollback, step by step, and one event of a world of one process.
 pub(crate) fn straggler(rt: &HostRuntime) -> io::Result<()> {
-    let (Ok(model), Ok(config)) = (Hop::new(1, 1, 1), Config::new(2, 2, 10, 0)) else {
+    let (Ok(model), Ok(config)) = (Hop::new(1, 1, 1, 0), Config::new(2, 2, 10, 0)) else {
         return Ok(());
     };
     let Some(world) = opened(rt, &model, config, true)? else {
@@ -203,7 +203,7 @@ pub(crate) fn straggler(rt: &HostRuntime) -> io::Result<()> {
 
 // One process, one token: three parcels for its event.
 fn alone(rt: &HostRuntime) -> io::Result<()> {
-    let (Ok(model), Ok(config)) = (Hop::new(1, 0, 1), Config::new(1, 1, 10, 0)) else {
+    let (Ok(model), Ok(config)) = (Hop::new(1, 0, 1, 0), Config::new(1, 1, 10, 0)) else {
         return Ok(());
     };
     let Some(world) = opened(rt, &model, config, false)? else {
@@ -234,7 +234,7 @@ fn none_refused(answer: Result<u64, Stop>) -> Result<(), Fault> {
 
 /// A list of steps. Where it stops, the steps before are done, and the rest of the list follows.
 pub(crate) fn list_of_steps(rt: &HostRuntime) -> io::Result<()> {
-    let (Ok(model), Ok(config)) = (Hop::new(1, 0, 1), Config::new(1, 1, 10, 0)) else {
+    let (Ok(model), Ok(config)) = (Hop::new(1, 0, 1, 0), Config::new(1, 1, 10, 0)) else {
         return Ok(());
     };
     let Some(mut world) = opened(rt, &model, config, false)? else {
