@@ -427,6 +427,9 @@ fn expect_help(
     let short = help_of(alloc, &["twarp", "--help"]);
     let long = help_of(alloc, &["twarp", subcommand, "--help"]);
     for range in ranges {
+        if range.name == TEXT.name {
+            continue;
+        }
         let [least, most] = range.ends;
         let in_short = format!(in alloc; "--{} {least}..{most} [{}]", range.name, range.default)?;
         assert!(rt; short.contains(in_short.as_str()), "{in_short}");
@@ -449,9 +452,9 @@ fn expect_help(
 
 #[test]
 fn help_shows_every_option(rt: HostRuntime) -> Result<(), Fail> {
-    expect_help(&rt, "run", &RANGES[..16])?;
+    expect_help(&rt, "run", &RANGES)?;
     let ranges = replay_ranges(rt.alloc())?;
-    expect_help(&rt, "replay", &ranges.as_slice()[..16])?;
+    expect_help(&rt, "replay", ranges.as_slice())?;
     let short = help_of(rt.alloc(), &["twarp", "--help"]);
     for word in ["-h", "help"] {
         assert!(rt;

@@ -172,7 +172,8 @@ const HOP_TEXT: &str =
 fn takes_a_beginning(rt: &(impl Abort + AllocGlobal), room: usize, expected: Result<(), Fault>) {
     let mut writer = writer_with_room(rt, room);
     assert_eq!(rt; print_records(&mut writer, &HOP, Version::Two), expected);
-    assert!(rt; writer.taken.as_slice() == &HOP_TEXT.as_bytes()[..room]);
+    assert_eq!(rt; writer.taken.len(), room);
+    assert!(rt; HOP_TEXT.as_bytes().starts_with(writer.taken.as_slice()));
 }
 
 #[test]
