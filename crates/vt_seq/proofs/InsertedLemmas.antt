@@ -8,8 +8,7 @@ use Rattle.vt_key.proofs.OrderLemmas.{key-transitive, key-total, key_before-true
 use Rattle.vt_model.specs.declared.sending.Sent.{Sent}
 use Rattle.vt_model.specs.Histories.{Among, AllAfter, IsRising, AreNumbered}
 use Rattle.vt_model.proofs.RunLemmas.{tested}
-use Rattle.vt_seq.specs.Queue.{inserted, all_inserted}
-use Rattle.vt_seq.specs.Letters.{AreNew}
+use Rattle.vt_seq.specs.Queue.{inserted, all_inserted, AreNew}
 use Rattle.vt_seq.proofs.InsertLemmas.{inserted-here, inserted-later}
 
 module _ {P : Type 0} where
@@ -22,7 +21,7 @@ module _ {P : Type 0} where
   inserted-after k e (d ∷ ds) b a =
       elim (tested (key_before e.key d.key)) [ inl y ↦ rw (inserted-here e d ds y) (b, (a.0, a.1)) | inr y ↦ rw (inserted-later e d ds y) (a.0, inserted-after k e ds b a.1) ]
 
-  inserted-rising : (e : Sent P) (ds : List (Sent P)) → IsRising ds → ((d : Sent P) → Among d ds → d.key ≡ e.key → ⊥) → IsRising (inserted e ds)
+  pub inserted-rising : (e : Sent P) (ds : List (Sent P)) → IsRising ds → ((d : Sent P) → Among d ds → d.key ≡ e.key → ⊥) → IsRising (inserted e ds)
   inserted-rising e [] r new = (tt, tt)
   inserted-rising e (d ∷ ds) r new =
       elim (tested (key_before e.key d.key)) [
@@ -102,7 +101,7 @@ module _ {P : Type 0} where
       )
 
   -- a sum over events put into their places
-  inserted-sum : (f : Sent P → ℕ) (e : Sent P) (ds : List (Sent P)) → sum_by f (inserted e ds) ≡ f e + sum_by f ds
+  pub inserted-sum : (f : Sent P → ℕ) (e : Sent P) (ds : List (Sent P)) → sum_by f (inserted e ds) ≡ f e + sum_by f ds
   inserted-sum f e [] = sum_by-cons f e []
   inserted-sum f e (d ∷ ds) =
       let ih = inserted-sum f e ds in

@@ -3,5 +3,5 @@ pub mod Sizes
 pub mod StartLemmas
 pub mod InsertedLemmas
 pub mod StepLemmas
-pub mod PendingLemmas
+pub mod HeapLemmas
 pub mod ProgressLemmas

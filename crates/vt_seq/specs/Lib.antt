@@ -1,4 +1,4 @@
-pub mod Letters
+pub mod Entries
 pub mod Limits
 pub mod Progress
 pub mod Queue

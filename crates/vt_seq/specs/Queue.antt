@@ -1,8 +1,9 @@
 -- Pending events in the order of their keys.
-use Rattle.std.specs.Prelude.{ℕ, ◌<◌, List, [], ◌∷◌, if◌then◌else◌}
+use Rattle.std.specs.Prelude.{◌≡◌, ℕ, ◌<◌, List, [], ◌∷◌, if◌then◌else◌}
 use Rattle.vt_key.specs.Times.{Time, TimeBefore}
 use Rattle.vt_key.specs.Order.{key_before}
 use Rattle.vt_model.specs.declared.sending.Sent.{Sent}
+use Rattle.vt_model.specs.Histories.{Among}
 
 -- events with one more, before the first of greater key
 abbrev pub inserted : {P : Type 0} → Sent P → List (Sent P) → List (Sent P)
@@ -13,6 +14,11 @@ inserted e (d ∷ ds) = if key_before e.key d.key then (e ∷ d ∷ ds) else (d 
 abbrev pub all_inserted : {P : Type 0} → List (Sent P) → List (Sent P) → List (Sent P)
 all_inserted [] ds = ds
 all_inserted (e ∷ es) ds = all_inserted es (inserted e ds)
+
+-- events that are inserted one after the other, each with a key that isn't there
+abbrev pub AreNew : {P : Type 0} → List (Sent P) → List (Sent P) → Type 0
+AreNew [] ds = Unit {0}
+AreNew (e ∷ es) ds = ((d : Sent _) → Among d ds → d.key ≡ e.key → ⊥) × AreNew es (inserted e ds)
 
 -- an event that some process of the run may execute
 pub record IsWithinRun {P : Type 0} (lps : ℕ) (end : Time) (e : Sent P) : Type 0 where

@@ -26,12 +26,11 @@ pub(crate) struct Engine<'m, M: EventModel> {
     pub(crate) pending: PendingEvents<M::Payload>,
     pub(crate) processes: Vec<Process<M>>,
     pub(crate) records: Vec<Record>,
-    ghost within_run: { All (IsWithinRun config.lps (end_of config)) pending.events },
-    ghost queues: { pending.processes ≡ config.lps },
+    ghost within_run: { All (IsWithinRun config.lps (end_of config)) pending },
     ghost all_there: { vec_len processes ≡ config.lps },
     ghost numbered: { (p : ℕ) (d : _) → p < config.lps → (slice_index_or processes.items p d).number ≤ MAX_COUNT },
     ghost streams: { (p : ℕ) (d : _) → p < config.lps → IsProcessStream config.seed p (slice_index_or processes.items p d).stream },
-    ghost stands: { ∥ ((n : ℕ) × StandsAt (simulation_of (M.handlers model.now) config) n pending.events processes.items records.items) ∥₁ },
+    ghost stands: { ∥ ((n : ℕ) × StandsAt (simulation_of (M.handlers model.now) config) n pending processes.items records.items) ∥₁ },
 }
 
 impl<'m, M: EventModel> Engine<'m, M> {
@@ -41,10 +40,10 @@ impl<'m, M: EventModel> Engine<'m, M> {
     pub(crate) fn new(alloc: Global, model: &'m M, config: Config) -> Result<Engine<'m, M>, Fault>
         ensures model { IfOk result (λ run. run.model.now ≡ model.now) }
         ensures config { IfOk result (λ run. run.config ≡ config) }
-        ensures stands { IfOk result (λ run. StandsAt (simulation_of (M.handlers model.now) config) 0 run.pending.events run.processes.items run.records.items) }
+        ensures stands { IfOk result (λ run. StandsAt (simulation_of (M.handlers model.now) config) 0 run.pending run.processes.items run.records.items) }
         ensures refused { IfErr result (λ fault. fault ≡ Memory) }
     {
-        let mut pending = PendingEvents::new(alloc, config.lps)?;
+        let mut pending = PendingEvents::new(alloc);
         let mut processes = Vec::with_capacity(alloc, config.lps as usize).map_err(
             |_| Fault::Memory,
         )?;
@@ -66,7 +65,7 @@ impl<'m, M: EventModel> Engine<'m, M> {
     /// None where there is no such process.
     pub(crate) fn number(&self, p: u32) -> Option<u64>
         ensures unknown { IfNone result (self.now.config.lps ≤ p) }
-        ensures value { let sim = simulation_of (M.handlers self.now.model.now) self.now.config in (n : ℕ) → StandsAt sim n self.now.pending.events self.now.processes.items self.now.records.items → IfSome result (λ v. (p < self.now.config.lps) × (v ≡ (after sim p (events_of p (after_steps sim n).executed)).number)) }
+        ensures value { let sim = simulation_of (M.handlers self.now.model.now) self.now.config in (n : ℕ) → StandsAt sim n self.now.pending self.now.processes.items self.now.records.items → IfSome result (λ v. (p < self.now.config.lps) × (v ≡ (after sim p (events_of p (after_steps sim n).executed)).number)) }
     {
         let process = self.processes.get(p as usize)?;
         Some(process.number)
@@ -77,7 +76,7 @@ impl<'m, M: EventModel> Engine<'m, M> {
     /// None where there is no such process.
     pub(crate) fn place(&self, p: u32) -> Option<u64>
         ensures unknown { IfNone result (self.now.config.lps ≤ p) }
-        ensures value { let sim = simulation_of (M.handlers self.now.model.now) self.now.config in (n : ℕ) → StandsAt sim n self.now.pending.events self.now.processes.items self.now.records.items → IfSome result (λ v. (p < self.now.config.lps) × (v ≡ (after sim p (events_of p (after_steps sim n).executed)).place)) }
+        ensures value { let sim = simulation_of (M.handlers self.now.model.now) self.now.config in (n : ℕ) → StandsAt sim n self.now.pending self.now.processes.items self.now.records.items → IfSome result (λ v. (p < self.now.config.lps) × (v ≡ (after sim p (events_of p (after_steps sim n).executed)).place)) }
     {
         let process = self.processes.get(p as usize)?;
         Some(process.stream.place())
@@ -87,7 +86,7 @@ impl<'m, M: EventModel> Engine<'m, M> {
     ///
     /// [`Fault::Memory`]: memory was refused.
     pub(crate) fn records_below(&self, alloc: Global, t: When) -> Result<Vec<Record>, Fault>
-        ensures rows { let sim = simulation_of (M.handlers self.now.model.now) self.now.config in (n : ℕ) → StandsAt sim n self.now.pending.events self.now.processes.items self.now.records.items → IfOk result (λ v. v.items ≡ records_of (rows_before t (rows_after sim [] (after_steps sim n).executed))) }
+        ensures rows { let sim = simulation_of (M.handlers self.now.model.now) self.now.config in (n : ℕ) → StandsAt sim n self.now.pending self.now.processes.items self.now.records.items → IfOk result (λ v. v.items ≡ records_of (rows_before t (rows_after sim [] (after_steps sim n).executed))) }
         ensures refused { IfErr result (λ fault. fault ≡ Memory) }
     {
         let mut found = Vec::new(alloc);
@@ -106,14 +105,14 @@ impl<'m, M: EventModel> Engine<'m, M> {
     pub(crate) fn step(&mut self) -> Result<bool, Fault>
         ensures model { self.new.model.now ≡ self.old.model.now }
         ensures config { self.new.config ≡ self.old.config }
-        ensures more { IfOk result (λ more. IsTrue more ↔ (0 < length self.old.pending.events)) }
+        ensures more { IfOk result (λ more. IsTrue more ↔ (0 < length self.old.pending)) }
         ensures idle { IfOk result (λ more. more ≡ false → self.new ≡ self.old) }
-        ensures steps { let sim = simulation_of (M.handlers self.old.model.now) self.old.config in (n : ℕ) → StandsAt sim n self.old.pending.events self.old.processes.items self.old.records.items → IfOk result (λ more. StandsAt sim (suc n) self.new.pending.events self.new.processes.items self.new.records.items) }
-        ensures falls { let sim = simulation_of (M.handlers self.old.model.now) self.old.config in IfOk result (λ more. IsTrue more → weight sim self.new.pending.events < weight sim self.old.pending.events) }
+        ensures steps { let sim = simulation_of (M.handlers self.old.model.now) self.old.config in (n : ℕ) → StandsAt sim n self.old.pending self.old.processes.items self.old.records.items → IfOk result (λ more. StandsAt sim (suc n) self.new.pending self.new.processes.items self.new.records.items) }
+        ensures falls { let sim = simulation_of (M.handlers self.old.model.now) self.old.config in IfOk result (λ more. IsTrue more → weight sim self.new.pending < weight sim self.old.pending) }
         ensures pending { IfErr result (λ fault. self.new.pending ≡ self.old.pending) }
         ensures records { IfErr result (λ fault. self.new.records.items ≡ self.old.records.items) }
         ensures processes { IfErr result (λ fault. self.new.processes.items ≡ self.old.processes.items) }
-        ensures refused { let sim = simulation_of (M.handlers self.old.model.now) self.old.config in (n : ℕ) → StandsAt sim n self.old.pending.events self.old.processes.items self.old.records.items → IfErr result (IsStepRefusal sim n) }
+        ensures refused { let sim = simulation_of (M.handlers self.old.model.now) self.old.config in (n : ℕ) → StandsAt sim n self.old.pending self.old.processes.items self.old.records.items → IfErr result (IsStepRefusal sim n) }
         ensures faults { IfErr result (λ fault. (fault ≡ Memory) ⊎ (fault ≡ Exhausted)) }
     {
         let Some(event) = self.pending.first() else {
@@ -139,10 +138,10 @@ impl<'m, M: EventModel> Engine<'m, M> {
         ensures config { self.new.config ≡ self.old.config }
         ensures whole { IfOk result (λ _. self.new.records.items ≡ seq_records (simulation_of (M.handlers self.old.model.now) self.old.config) (end_of self.old.config)) }
         ensures faults { IfErr result (λ fault. (fault ≡ Memory) ⊎ (fault ≡ Exhausted)) }
-        ensures nothing_left { IfOk result (λ _. self.new.pending.events ≡ []) }
+        ensures nothing_left { IfOk result (λ _. self.new.pending ≡ []) }
         ensures counted { IfOk result (λ _. IsCountedWhole (simulation_of (M.handlers self.old.model.now) self.old.config)) }
-        ensures stands { let sim = simulation_of (M.handlers self.old.model.now) self.old.config in (n : ℕ) → StandsAt sim n self.old.pending.events self.old.processes.items self.old.records.items → (k : ℕ) × StandsAt sim (k + n) self.new.pending.events self.new.processes.items self.new.records.items }
-        ensures refused { let sim = simulation_of (M.handlers self.old.model.now) self.old.config in (n : ℕ) → StandsAt sim n self.old.pending.events self.old.processes.items self.old.records.items → IfErr result (λ fault. (k : ℕ) × StandsAt sim (k + n) self.new.pending.events self.new.processes.items self.new.records.items × IsStepRefusal sim (k + n) fault) }
+        ensures stands { let sim = simulation_of (M.handlers self.old.model.now) self.old.config in (n : ℕ) → StandsAt sim n self.old.pending self.old.processes.items self.old.records.items → (k : ℕ) × StandsAt sim (k + n) self.new.pending self.new.processes.items self.new.records.items }
+        ensures refused { let sim = simulation_of (M.handlers self.old.model.now) self.old.config in (n : ℕ) → StandsAt sim n self.old.pending self.old.processes.items self.old.records.items → IfErr result (λ fault. (k : ℕ) × StandsAt sim (k + n) self.new.pending self.new.processes.items self.new.records.items × IsStepRefusal sim (k + n) fault) }
     {
         while self.step()? {}
         Ok(())
@@ -157,10 +156,10 @@ impl<'m, M: EventModel> Engine<'m, M> {
         ensures config { self.new.config ≡ self.old.config }
         ensures whole { IfOk result (λ v. v.items ≡ seq_records (simulation_of (M.handlers self.old.model.now) self.old.config) (end_of self.old.config)) }
         ensures faults { IfErr result (λ fault. (fault ≡ Memory) ⊎ (fault ≡ Exhausted)) }
-        ensures nothing_left { IfOk result (λ v. self.new.pending.events ≡ []) }
+        ensures nothing_left { IfOk result (λ v. self.new.pending ≡ []) }
         ensures counted { IfOk result (λ v. IsCountedWhole (simulation_of (M.handlers self.old.model.now) self.old.config)) }
-        ensures stands { let sim = simulation_of (M.handlers self.old.model.now) self.old.config in (n : ℕ) → StandsAt sim n self.old.pending.events self.old.processes.items self.old.records.items → (k : ℕ) × StandsAt sim (k + n) self.new.pending.events self.new.processes.items self.new.records.items }
-        ensures refused { let sim = simulation_of (M.handlers self.old.model.now) self.old.config in (n : ℕ) → StandsAt sim n self.old.pending.events self.old.processes.items self.old.records.items → IfErr result (λ fault. (k : ℕ) × StandsAt sim (k + n) self.new.pending.events self.new.processes.items self.new.records.items × IsStepRefusal sim (k + n) fault) }
+        ensures stands { let sim = simulation_of (M.handlers self.old.model.now) self.old.config in (n : ℕ) → StandsAt sim n self.old.pending self.old.processes.items self.old.records.items → (k : ℕ) × StandsAt sim (k + n) self.new.pending self.new.processes.items self.new.records.items }
+        ensures refused { let sim = simulation_of (M.handlers self.old.model.now) self.old.config in (n : ℕ) → StandsAt sim n self.old.pending self.old.processes.items self.old.records.items → IfErr result (λ fault. (k : ℕ) × StandsAt sim (k + n) self.new.pending self.new.processes.items self.new.records.items × IsStepRefusal sim (k + n) fault) }
     {
         self.complete()?;
         let Ok(records) = Vec::from_slice(alloc, &self.records) else {
@@ -174,9 +173,9 @@ impl<'m, M: EventModel> Engine<'m, M> {
     /// [`Fault::NotLawful`]: an event is pending still. [`Fault::Memory`]: none is, and memory was refused.
     pub(crate) fn finals(&self, alloc: Global) -> Result<Vec<u64>, Fault>
         ensures values { let sim = simulation_of (M.handlers self.now.model.now) self.now.config in IfOk result (λ v. v.items ≡ map (λ p. (M.handlers self.now.model.now).finish p (after sim p (events_of p (whole_run sim))).state) (numbers_below self.now.config.lps)) }
-        ensures nothing_left { IfOk result (λ v. self.now.pending.events ≡ []) }
-        ensures not_lawful { 0 < length self.now.pending.events → result ≡ Err NotLawful }
-        ensures refused { self.now.pending.events ≡ [] → IfErr result (λ fault. fault ≡ Memory) }
+        ensures nothing_left { IfOk result (λ v. self.now.pending ≡ []) }
+        ensures not_lawful { 0 < length self.now.pending → result ≡ Err NotLawful }
+        ensures refused { self.now.pending ≡ [] → IfErr result (λ fault. fault ≡ Memory) }
     {
         let None = self.pending.first() else {
             return Err(Fault::NotLawful);

@@ -4,6 +4,7 @@
 
 mod advancing;
 mod engine;
+mod entry;
 mod pending;
 mod run;
 

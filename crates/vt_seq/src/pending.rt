@@ -1,242 +1,108 @@
-//! The events that are pending: a queue for each process, and a tournament over the queues' fronts.
+//! The events that are pending, in a heap.
 
-ghost use Rattle.std.specs.Prelude.{◌≡◌, ◌<◌, ◌≤◌, ◌^◌, [], false, length, drop, map, slice_get, IfOk, IfErr, IfSome, IfNone};
+ghost use Rattle.std.specs.Prelude.{◌≡◌, ◌+◌, ◌<◌, ◌≤◌, [], length, drop, slice_get, IfOk, IfErr};
+ghost use Rattle.std.specs.BinaryHeap.{heap_items, heap_len, heap_capacity};
 ghost use Rattle.vt_key.specs.declared.fault.Fault.TheVariants.{Memory};
-ghost use Rattle.vt_model.specs.declared.sending.Sent.{Sent};
-ghost use Rattle.vt_model.specs.Histories.{Among};
-ghost use Rattle.vt_pending.specs.Letters.{insert_letter};
-ghost use Rattle.vt_seq.specs.Queue.{inserted, all_inserted};
-ghost use Rattle.vt_seq.specs.Letters.{event_of, front_rank, AreNew, IsPlain};
+ghost use Rattle.vt_seq.specs.Queue.{all_inserted, AreNew};
+ghost use Rattle.vt_seq.specs.Entries.{in_order, IsQueue};
 
+use crate::entry::Entry;
 use std::alloc::Global;
+use std::collections::BinaryHeap;
 use std::marker::Model;
-use vt_key::{Event, Fault, Letter, Rank, Sign, Stamp};
-use vt_list::{List, Parcel};
+use vt_key::Fault;
 use vt_model::Sent;
-use vt_pending::Pending;
-use vt_tournament::{Contestants, Tournament};
 
-/// The events that were sent and not yet executed. Each process has a queue of those that it receives, and a tournament
-/// over the fronts of the queues tells the first of all, so that an event goes in and out at a cost that grows with the
-/// logarithm of the number of processes and with the length of one queue.
+/// The events that were sent and not yet executed, in a heap whose top is the event of least key. An event goes in or out
+/// at a cost that grows with the logarithm of how many there are.
 ///
-/// Contracts see the number of processes, and the events in the order of their keys.
+/// Contracts see the events in the order of their keys.
 #[derive(Drop)]
 pub(crate) struct PendingEvents<P: Copy> {
-    alloc: Global,
-    queues: Vec<Pending<P>>,
-    fronts: Tournament,
+    heap: BinaryHeap<Entry<P>>,
 }
 
 impl<P: Copy> Model for PendingEvents<P> {
-    ghost use Rattle.std.specs.Prelude.{length};
-    ghost use Rattle.vt_seq.specs.Letters.{HeldEvents, in_order, AreQueues};
+    ghost use Rattle.std.specs.Prelude.{List};
+    ghost use Rattle.std.specs.BinaryHeap.{heap_items};
+    ghost use Rattle.vt_model.specs.declared.sending.Sent.{Sent};
+    ghost use Rattle.vt_seq.specs.Entries.{in_order, IsQueue};
 
-    ghost Value = { HeldEvents P };
+    ghost Value = { List (Sent P) };
 
-    ghost view = { λ s. record {
-      processes = length s.queues.items;
-      events = in_order s.queues.items;
-    } };
+    ghost view = { λ s. in_order (heap_items s.heap) };
 
-    ghost invariant = { λ s. AreQueues s.queues.items s.fronts };
+    ghost invariant = { λ s. IsQueue (heap_items s.heap) };
 }
 
 impl<P: Copy> PendingEvents<P> {
-    /// No events, and a queue for each of `processes` processes.
-    ///
-    /// [`Fault::Memory`]: memory was refused.
-    pub(crate) fn new(alloc: Global, processes: u32) -> Result<PendingEvents<P>, Fault>
-        requires some { 1 ≤ processes }
-        requires few { processes ≤ 2 ^ 23 }
-        ensures processes { IfOk result (λ events. events.processes ≡ processes) }
-        ensures none { IfOk result (λ events. events.events ≡ []) }
-        ensures refused { IfErr result (λ fault. fault ≡ Memory) }
+    /// No events.
+    pub(crate) fn new(alloc: Global) -> PendingEvents<P>
+        ensures { result ≡ [] }
     {
-        let mut queues = Vec::with_capacity(alloc, processes as usize).map_err(|_| Fault::Memory)?;
-        for _ in 0..processes {
-            queues.push(Pending::new(alloc)).map_err(|_| Fault::Memory)?;
+        PendingEvents {
+            heap: BinaryHeap::new(alloc),
         }
-        let fronts = Tournament::new(alloc, processes)?;
-        Ok(PendingEvents {
-            alloc,
-            queues,
-            fronts,
-        })
     }
 
     /// The event of least key.
     pub(crate) fn first(&self) -> Option<Sent<P>>
-        ensures { result ≡ slice_get self.now.events 0 }
+        ensures { result ≡ slice_get self.now 0 }
     {
-        let Some(p) = self.fronts.winner() else {
+        let Some(entry) = self.heap.peek() else {
             return None;
         };
-        let Some(letter) = self.queues[p as usize].least() else {
-            return None;
-        };
-        Some(event_of(letter))
+        Some(entry.event)
     }
 
-    /// Takes out the letter of the event of least key; None where no event is pending, which changes nothing.
-    pub(crate) fn take_first(&mut self) -> Option<Parcel<Letter<P>>>
-        ensures none { IfNone result (self.old.events ≡ []) }
-        ensures processes { self.new.processes ≡ self.old.processes }
-        ensures events { self.new.events ≡ drop 1 self.old.events }
+    /// Replaces the first event by what it sent. An event must be pending.
+    ///
+    /// [`Fault::Memory`]: memory was refused, and nothing changes.
+    pub(crate) fn replace_first(&mut self, sends: &[Sent<P>]) -> Result<(), Fault>
+        requires some { 0 < length self.old }
+        requires new { AreNew sends.now (drop 1 self.old) }
+        ensures events { IfOk result (λ _. self.new ≡ all_inserted sends.now (drop 1 self.old)) }
+        ensures unchanged { IfErr result (λ _. self.new ≡ self.old) }
+        ensures refused { IfErr result (λ fault. fault ≡ Memory) }
     {
-        let Some(p) = self.fronts.winner() else {
-            return None;
+        let Ok(()) = self.heap.reserve(sends.len().saturating_sub(1)) else {
+            return Err(Fault::Memory);
         };
-        let first = self.queues[p as usize].take_least();
-        let fronts = Fronts {
-            queues: self.queues.as_slice(),
+        let Some(_) = self.heap.pop() else {
+            unreachable!();
         };
-        self.fronts.set(p, &fronts);
-        first
+        push_all(&mut self.heap, sends);
+        Ok(())
     }
 
-    /// Replaces the first event by what it sent. The first send reuses its letter, and `others` bring the rest. It takes no
-    /// memory. An event must be pending.
-    pub(crate) fn replace_first(&mut self, sends: &[Sent<P>], others: List<Letter<P>>)
-        requires some { 0 < length self.old.events }
-        requires others { map event_of others ≡ drop 1 sends.now }
-        requires plain { (l : _) → Among l others → IsPlain l }
-        requires known { (e : Sent _) → Among e sends.now → e.dest < self.old.processes }
-        requires new { AreNew sends.now (drop 1 self.old.events) }
-        ensures processes { self.new.processes ≡ self.old.processes }
-        ensures events { self.new.events ≡ all_inserted sends.now (drop 1 self.old.events) }
+    /// Inserts events.
+    ///
+    /// [`Fault::Memory`]: memory was refused, and nothing changes.
+    pub(crate) fn insert_all(&mut self, events: &[Sent<P>]) -> Result<(), Fault>
+        requires { AreNew events.now self.old }
+        ensures events { IfOk result (λ _. self.new ≡ all_inserted events.now self.old) }
+        ensures unchanged { IfErr result (λ _. self.new ≡ self.old) }
+        ensures refused { IfErr result (λ fault. fault ≡ Memory) }
     {
-        let Some(mut letter) = self.take_first() else {
-            unreachable!()
+        let Ok(()) = self.heap.reserve(events.len()) else {
+            return Err(Fault::Memory);
         };
-        if let Some(first) = sends.first() {
-            *letter.get_mut() = letter_of(*first);
-            self.insert(letter);
-        }
-        self.insert_all(others);
-    }
-
-    /// Inserts the event that a letter brings, before the first of greater key. It takes no memory.
-    pub(crate) fn insert(&mut self, letter: Parcel<Letter<P>>)
-        requires known { letter.event.dest < self.old.processes }
-        requires plain { IsPlain letter }
-        requires new { (d : Sent _) → Among d self.old.events → d.key ≡ letter.event.rank.key → ⊥ }
-        ensures processes { self.new.processes ≡ self.old.processes }
-        ensures events { self.new.events ≡ inserted (event_of letter) self.old.events }
-    {
-        let brought = letter.get();
-        let dest = brought.event.dest;
-        let queue = &mut self.queues[dest as usize];
-        let leads = comes_first(brought, queue);
-        queue.insert(letter);
-        // If it isn't the front of its queue, no entry of the tournament changes.
-        if !leads {
-            return;
-        }
-        let fronts = Fronts {
-            queues: self.queues.as_slice(),
-        };
-        self.fronts.set(dest, &fronts);
-    }
-
-    /// Inserts the events that letters bring, one after the other. It takes no memory.
-    pub(crate) fn insert_all(&mut self, letters: List<Letter<P>>)
-        requires known { (l : _) → Among l letters → l.event.dest < self.old.processes }
-        requires plain { (l : _) → Among l letters → IsPlain l }
-        requires new { AreNew (map event_of letters) self.old.events }
-        ensures processes { self.new.processes ≡ self.old.processes }
-        ensures events { self.new.events ≡ all_inserted (map event_of letters) self.old.events }
-    {
-        let mut letters = letters;
-        while let Some(letter) = letters.pop_front() {
-            self.insert(letter);
-        }
-    }
-
-    /// Letters for these events, to be inserted; None where memory is refused.
-    pub(crate) fn letters(&self, events: &[Sent<P>]) -> Option<List<Letter<P>>>
-        ensures events { IfSome result (λ letters. map event_of letters ≡ events.now) }
-        ensures plain { IfSome result (λ letters. (l : _) → Among l letters → IsPlain l) }
-    {
-        let mut letters = List::new(self.alloc);
-        for event in events {
-            let Ok(letter) = Parcel::new(self.alloc, letter_of(*event)) else {
-                return None;
-            };
-            letters.push_back(letter);
-        }
-        Some(letters)
+        push_all(&mut self.heap, events);
+        Ok(())
     }
 }
 
-/// The fronts of the queues, as the contestants of their tournament: the rank of each queue's first letter.
-#[derive(Drop)]
-struct Fronts<'a, P: Copy> {
-    queues: &'a [Pending<P>],
-}
-
-impl<'a, P: Copy> Contestants for Fronts<'a, P> {
-    ghost use Rattle.std.specs.Prelude.{map};
-    ghost use Rattle.vt_seq.specs.Letters.{front_rank};
-
-    ghost entries = { λ t. map front_rank t.queues.now };
-
-    fn count(&self) -> usize {
-        self.queues.len()
-    }
-
-    fn rank(&self, number: u32) -> Option<Rank> {
-        let queue = self.queues.get(number as usize)?;
-        front_rank(queue)
-    }
-}
-
-/// The rank of the first letter of a queue.
-fn front_rank<P: Copy>(queue: &Pending<P>) -> Option<Rank>
-    ensures { result ≡ front_rank queue.now }
+/// Pushes events, for which there must be room.
+fn push_all<P: Copy>(heap: &mut BinaryHeap<Entry<P>>, events: &[Sent<P>])
+    requires room { heap_len heap.old + length events.now ≤ heap_capacity heap.old }
+    requires queue { IsQueue (heap_items heap.old) }
+    requires new { AreNew events.now (in_order (heap_items heap.old)) }
+    ensures events { in_order (heap_items heap.new) ≡ all_inserted events.now (in_order (heap_items heap.old)) }
+    ensures queue { IsQueue (heap_items heap.new) }
 {
-    let letter = queue.least()?;
-    Some(letter.event.rank)
-}
-
-/// Whether a letter comes before all those of a queue. If not, the queue keeps its front when the letter is inserted.
-fn comes_first<P: Copy>(letter: &Letter<P>, queue: &Pending<P>) -> bool
-    ensures { result ≡ false → front_rank (insert_letter letter.now queue.now) ≡ front_rank queue.now }
-{
-    match queue.least() {
-        Some(front) => letter.event.rank.is_before(&front.event.rank),
-        None => true,
-    }
-}
-
-/// The event that a letter brings.
-fn event_of<P: Copy>(letter: &Letter<P>) -> Sent<P>
-    ensures { result ≡ event_of letter.now }
-{
-    Sent {
-        key: letter.event.rank.key,
-        dest: letter.event.dest,
-        payload: letter.event.payload,
-    }
-}
-
-/// The letter that brings an event. An event is made only once here, so its stamp is the first.
-fn letter_of<P: Copy>(event: Sent<P>) -> Letter<P>
-    ensures event { event_of result ≡ event }
-    ensures plain { IsPlain result }
-{
-    Letter {
-        event: Event {
-            rank: Rank {
-                key: event.key,
-                stamp: Stamp {
-                    worker: 0,
-                    serial: 0,
-                },
-            },
-            dest: event.dest,
-            payload: event.payload,
-        },
-        sign: Sign::Plus,
+    for event in events {
+        let Ok(()) = heap.push(Entry { event: *event }) else {
+            unreachable!();
+        };
     }
 }

@@ -33,7 +33,7 @@ impl<'m, M: EventModel> Model for Sequential<'m, M> {
     ghost view = { λ s. record {
       model = s.engine.model.now;
       config = s.engine.config;
-      pending = s.engine.pending.events;
+      pending = s.engine.pending;
       triples = map (λ q. triple_at q.state q.number q.stream) s.engine.processes.items;
       records = s.engine.records.items;
     } };

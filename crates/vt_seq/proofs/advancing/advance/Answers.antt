@@ -1,4 +1,4 @@
-use Rattle.std.proofs.Common.{◌≡◌, ℕ, subst, ◌+◌, ◌<◌, ◌^◌, ◌≤◌, ◌∙◌, ◌++◌, List, [], drop, map, ap, sym, arith, max}
+use Rattle.std.proofs.Common.{◌≡◌, subst, ◌+◌, ◌<◌, ◌^◌, ◌≤◌, ◌∙◌, ◌++◌, List, [], drop, map, ap, sym, arith, max}
 use prog.Memory.{up, align, size}
 use denote.Memory.{lone}
 use Rattle.vt_key.specs.Times.{TimeBefore}
@@ -7,12 +7,10 @@ use Rattle.vt_model.specs.Handler.{IsFresh}
 use Rattle.vt_model.specs.declared.rows.Record.{Record}
 use Rattle.vt_model.specs.declared.rows.Row.{Row}
 use Rattle.vt_model.specs.declared.sending.Sent.{Sent}
-use Rattle.vt_model.specs.Histories.{Among}
 use Rattle.vt_model.specs.Process.{triple_at}
 use Rattle.vt_model.specs.Simulation.{simulation_of}
 use Rattle.vt_model.proofs.LawLemmas.{lawful_of}
-use Rattle.vt_seq.specs.Queue.{all_inserted}
-use Rattle.vt_seq.specs.Letters.{AreNew}
+use Rattle.vt_seq.specs.Queue.{all_inserted, AreNew}
 use Rattle.vt_seq.proofs.InsertedLemmas.{are_new}
 use Rattle.vt_seq.proofs.StepLemmas.{drop-among}
 use Rattle.vt_seq.proofs.Sizes.{up_le}
@@ -29,26 +27,6 @@ number-requires g c =
     let al : max 8 (max 4 (max (align (lone g.row.M-Payload.mir)) 1)) ≡ 8 = omega (arith, high) in
     simp al (omega (arith, at, size_small))
 
-pub make_room-requires : goal.make_room-requires
-make_room-requires g c =
-    let bounds = g.met.M.Model.payload_align in
-    let low : 1 ≤ align (lone g.row.M-Payload.mir) = bounds.0 in
-    let high : align (lone g.row.M-Payload.mir) ≤ 8 = bounds.1 in
-    let size_small : size (lone g.row.M-Payload.mir) < 2 ^ 32 = g.met.M.Model.payload_size in
-    let at : up (align (lone g.row.M-Payload.mir)) 36 ≤ 36 + 16 = up_le (align (lone g.row.M-Payload.mir)) 36 36 low (omega (arith, high)) (omega arith) in
-    let al : max 8 (max 4 (max (align (lone g.row.M-Payload.mir)) 1)) ≡ 8 = omega (arith, high) in
-    simp al (omega (arith, at, size_small))
-
-pub keep_records-requires : goal.keep_records-requires
-keep_records-requires g c =
-    let bounds = g.met.M.Model.payload_align in
-    let low : 1 ≤ align (lone g.row.M-Payload.mir) = bounds.0 in
-    let high : align (lone g.row.M-Payload.mir) ≤ 8 = bounds.1 in
-    let size_small : size (lone g.row.M-Payload.mir) < 2 ^ 32 = g.met.M.Model.payload_size in
-    let at : up (align (lone g.row.M-Payload.mir)) 36 ≤ 36 + 16 = up_le (align (lone g.row.M-Payload.mir)) 36 36 low (omega (arith, high)) (omega arith) in
-    let al : max 8 (max 4 (max (align (lone g.row.M-Payload.mir)) 1)) ≡ 8 = omega (arith, high) in
-    (simp al (omega (arith, at, size_small)), c.in-Some.ensures.record_room)
-
 pub new-out-requires : goal.new-out-requires
 new-out-requires g c =
     let bounds = g.met.M.Model.payload_align in
@@ -59,42 +37,6 @@ new-out-requires g c =
     let al : max 8 (max 4 (max (align (lone g.row.M-Payload.mir)) 1)) ≡ 8 = omega (arith, high) in
     let early = subst (λ t. TimeBefore t (end_of c.args.config)) (sym c.when.ensures) c.requires.early in
     (simp al (omega (arith, at, size_small)), (c.requires.known, (early, c.requires.numbered)))
-
-pub sends-requires : goal.sends-requires
-sends-requires g c =
-    let bounds = g.met.M.Model.payload_align in
-    let low : 1 ≤ align (lone g.row.M-Payload.mir) = bounds.0 in
-    let high : align (lone g.row.M-Payload.mir) ≤ 8 = bounds.1 in
-    let size_small : size (lone g.row.M-Payload.mir) < 2 ^ 32 = g.met.M.Model.payload_size in
-    let at : up (align (lone g.row.M-Payload.mir)) 36 ≤ 36 + 16 = up_le (align (lone g.row.M-Payload.mir)) 36 36 low (omega (arith, high)) (omega arith) in
-    let al : max 8 (max 4 (max (align (lone g.row.M-Payload.mir)) 1)) ≡ 8 = omega (arith, high) in
-    simp al (omega (arith, at, size_small))
-
-pub replace_first-requires-clause-known : goal.replace_first-requires-clause-known
-replace_first-requires-clause-known g c e m =
-    let model = c.args.model.now in
-    let config = c.args.config in
-    let event = c.args.event.now in
-    let lawful = lawful_of (g.M.Model.handlers model) config (g.met.M.Model.start_within model) (g.met.M.Model.forward_within model) in
-    let p = c.args.process.now in
-    let sends = c.sends.ensures ∙ c.execute_into-kept.ensures.fires.sends in
-    subst (λ (n : ℕ). e.dest < n) (sym c.requires.processes)
-    (lawful.known event.dest (triple_at p.state p.number p.stream) event e c.requires.known (subst (Among e) sends m))
-
-pub replace_first-requires-clause-new : goal.replace_first-requires-clause-new
-replace_first-requires-clause-new g c =
-    let model = c.args.model.now in
-    let config = c.args.config in
-    let event = c.args.event.now in
-    let sim = simulation_of (g.M.Model.handlers model) config in
-    let lawful = lawful_of (g.M.Model.handlers model) config (g.met.M.Model.start_within model) (g.met.M.Model.forward_within model) in
-    let p = c.args.process.now in
-    let t = triple_at p.state p.number p.stream in
-    let fired = sim.fire event.dest t event in
-    let events = c.args.pending.now.events in
-    let sends = c.sends.ensures ∙ c.execute_into-kept.ensures.fires.sends in
-    let new : AreNew fired.sends (drop 1 events) = are_new event.dest p.number fired.triple.number fired.sends (drop 1 events) (lawful.numbered event.dest t event c.requires.known) (λ d m source. c.requires.earlier d (drop-among d events m) source) in
-    subst (λ (es : List (Sent _)). AreNew es (drop 1 events)) (sym sends) new
 
 pub execute_into-kept-requires-after_bounds : goal.execute_into-kept-requires-after_bounds
 execute_into-kept-requires-after_bounds g c κs within =
@@ -115,12 +57,31 @@ execute_into-kept-requires-after_bounds g c κs within =
     let whole = c.new-out.ensures.whole ∙ (λ j. record { lps = config.lps; end = end_of config; lp = event.dest; time = c.when.ensures j; first = number; number = number; sends = []; records = [] }) in
     (simp (al, kept_al) (omega (arith, at, size_small, kept_at, kept_small)), (c.requires.known, (c.requires.stream, (fresh, whole))))
 
-pub returns-clause-done : goal.returns-clause-done
-returns-clause-done g c =
+pub join-requires : goal.join-requires
+join-requires g c =
+    let bounds = g.met.M.Model.payload_align in
+    let low : 1 ≤ align (lone g.row.M-Payload.mir) = bounds.0 in
+    let high : align (lone g.row.M-Payload.mir) ≤ 8 = bounds.1 in
+    let size_small : size (lone g.row.M-Payload.mir) < 2 ^ 32 = g.met.M.Model.payload_size in
+    let at : up (align (lone g.row.M-Payload.mir)) 36 ≤ 36 + 16 = up_le (align (lone g.row.M-Payload.mir)) 36 36 low (omega (arith, high)) (omega arith) in
+    let al : max 8 (max 4 (max (align (lone g.row.M-Payload.mir)) 1)) ≡ 8 = omega (arith, high) in
+    let model = c.args.model.now in
+    let config = c.args.config in
+    let event = c.args.event.now in
+    let sim = simulation_of (g.M.Model.handlers model) config in
+    let lawful = lawful_of (g.M.Model.handlers model) config (g.met.M.Model.start_within model) (g.met.M.Model.forward_within model) in
+    let p = c.args.process.now in
+    let t = triple_at p.state p.number p.stream in
+    let fired = sim.fire event.dest t event in
+    let events = c.args.pending.now in
+    let new : AreNew fired.sends (drop 1 events) = are_new event.dest p.number fired.triple.number fired.sends (drop 1 events) (lawful.numbered event.dest t event c.requires.known) (λ d m source. c.requires.earlier d (drop-among d events m) source) in
+    (simp al (omega (arith, at, size_small)), (c.requires.some, subst (λ (es : List (Sent _)). AreNew es (drop 1 events)) (sym c.execute_into-kept.ensures.fires.sends) new))
+
+pub returns-in-Ok-clause-done : goal.returns-in-Ok-clause-done
+returns-in-Ok-clause-done g c =
     let f = c.execute_into-kept.ensures.fires in
-    let sends = c.sends.ensures ∙ f.sends in
     record {
       triple = (λ j. record { state = c.execute_into-kept.new.self.state; number = c.execute_into-kept.ensures.number j; place = c.execute_into-kept.new.self.stream.place }) ∙ f.triple;
-      pending = c.replace_first.ensures.events ∙ (λ j. all_inserted (sends j) (drop 1 c.args.pending.now.events));
-      records = c.keep_records.ensures ∙ (λ j. c.make_room.ensures.records j ++ c.execute_into-kept.new.out.records) ∙ ap (λ (xs : List Record). c.args.records.now.items ++ xs) (sym (told_rows c.args.event.now.key c.execute_into-kept.new.out.records) ∙ ap (map (λ (r : Row). r.rec)) f.rows);
+      pending = c.in-Ok.ensures.pending ∙ ap (λ (es : List (Sent _)). all_inserted es (drop 1 c.args.pending.now)) f.sends;
+      records = c.in-Ok.ensures.records ∙ ap (λ (xs : List Record). c.args.records.now.items ++ xs) (sym (told_rows c.args.event.now.key c.execute_into-kept.new.out.records) ∙ ap (map (λ (r : Row). r.rec)) f.rows);
     }

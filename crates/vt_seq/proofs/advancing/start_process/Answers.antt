@@ -1,4 +1,4 @@
-use Rattle.std.proofs.Common.{◌≡◌, ℕ, List, sym, subst, ◌<◌, ◌+◌, ◌^◌, ◌≤◌, ◌∙◌, [], ap, arith, max, rules}
+use Rattle.std.proofs.Common.{◌≡◌, List, sym, subst, ◌<◌, ◌+◌, ◌^◌, ◌≤◌, ◌∙◌, [], ap, arith, max, rules}
 use prog.Memory.{up, align, size}
 use denote.Memory.{lone}
 use Rattle.vt_stream.specs.Words.{word_of, moved}
@@ -7,15 +7,12 @@ use Rattle.vt_model.specs.Sends.{Outgoing, with_requests}
 use Rattle.vt_model.specs.Simulation.{words_at}
 use Rattle.vt_stream.proofs.WordLemmas.{word_below}
 use Rattle.vt_model.specs.declared.sending.Sent.{Sent}
-use Rattle.vt_model.specs.Histories.{Among}
 use Rattle.vt_model.specs.Simulation.{simulation_of}
 use Rattle.vt_model.proofs.FireLemmas.{starts}
 use Rattle.vt_model.proofs.LawLemmas.{lawful_of}
 use Rattle.vt_model.specs.Settings.{end_of}
-use Rattle.vt_seq.specs.Queue.{all_inserted}
-use Rattle.vt_seq.specs.Letters.{event_of, AreNew}
+use Rattle.vt_seq.specs.Queue.{all_inserted, AreNew}
 use Rattle.vt_seq.proofs.InsertedLemmas.{are_new}
-use Rattle.vt_seq.proofs.PendingLemmas.{among-map}
 use Rattle.vt_seq.proofs.Sizes.{up_le}
 use Rattle.vt_seq.proofs.advancing.start_process.Goals as goal
 
@@ -67,27 +64,8 @@ returns-clause-numbered g c =
     let first : c.new-out.result.number ≡ 0 = ap (λ (o : Outgoing g.row.M-Payload.Denot). o.number) c.new-out.ensures.whole in
     omega (arith, w.few_sends, number, first, c.number-number.ensures)
 
-pub insert_all-requires-clause-known : goal.insert_all-requires-clause-known
-insert_all-requires-clause-known g c l m =
-    let gives = (g.M.Model.handlers c.args.model.now).start in
-    let w = g.met.M.Model.start_within c.args.model.now c.args.config.lps c.args.p (words_at c.args.config.seed c.args.p 0)
-    c.requires.known (λ i. word_below _ _ _) in
-    let at = c.new-draws.ensures.stream ∙ c.new-stream.ensures in
-    let out : c.new-out.result ≡ record { lps = c.args.config.lps; end = (end_of c.args.config); lp = c.args.p; time = 0; first = 0; number = 0; sends = []; records = [] } = c.new-out.ensures.whole ∙ (λ j. record { lps = c.args.config.lps; end = (end_of c.args.config); lp = c.args.p; time = c.tick.ensures j; first = 0; number = 0; sends = []; records = [] }) in
-    let r = starts c.args.config.seed (end_of c.args.config) c.args.config.lps c.args.p (gives c.args.config.lps c.args.p) c.new-draws.result.stream.now c.start-state.new.draws.stream.now c.new-out.result c.start-state.new.out c.start-state.result
-    at out
-    (c.start-state.ensures.state ∙ (λ j. (gives (out j).lps c.args.p (word_of c.new-draws.result.stream.now)).state))
-    (c.start-state.ensures.stream ∙ (λ j. moved c.new-draws.result.stream.now (gives (out j).lps c.args.p (word_of c.new-draws.result.stream.now)).drawn))
-    w.few_words
-    (c.start-state.ensures.out ∙ (λ j. with_requests c.new-out.result (gives (out j).lps c.args.p (word_of c.new-draws.result.stream.now)).send_requests [])) in
-    let model = c.args.model.now in
-    let config = c.args.config in
-    let lawful = lawful_of (g.M.Model.handlers model) config (g.met.M.Model.start_within model) (g.met.M.Model.forward_within model) in
-    subst (λ (n : ℕ). l.event.dest < n) (sym c.requires.processes)
-    (lawful.known_start c.args.p (event_of l) c.requires.known (subst (Among (event_of l)) (c.in-Some.ensures.events ∙ c.sends.ensures ∙ r.sends) (among-map l c.in-Some.letters m)))
-
-pub insert_all-requires-clause-new : goal.insert_all-requires-clause-new
-insert_all-requires-clause-new g c =
+pub insert_all-requires : goal.insert_all-requires
+insert_all-requires g c =
     let gives = (g.M.Model.handlers c.args.model.now).start in
     let w = g.met.M.Model.start_within c.args.model.now c.args.config.lps c.args.p (words_at c.args.config.seed c.args.p 0)
     c.requires.known (λ i. word_below _ _ _) in
@@ -104,8 +82,8 @@ insert_all-requires-clause-new g c =
     let sim = simulation_of (g.M.Model.handlers model) config in
     let lawful = lawful_of (g.M.Model.handlers model) config (g.met.M.Model.start_within model) (g.met.M.Model.forward_within model) in
     let fired = sim.start c.args.p in
-    subst (λ (es : List (Sent _)). AreNew es c.args.pending.now.events) (sym (c.in-Some.ensures.events ∙ c.sends.ensures ∙ r.sends))
-    (are_new c.args.p 0 fired.triple.number fired.sends c.args.pending.now.events (lawful.numbered_start c.args.p c.requires.known)
+    subst (λ (es : List (Sent _)). AreNew es c.args.pending.now) (sym (c.sends.ensures ∙ r.sends))
+    (are_new c.args.p 0 fired.triple.number fired.sends c.args.pending.now (lawful.numbered_start c.args.p c.requires.known)
     (λ d a source. let less : d.key.source < c.args.p = c.requires.others d a in absurd (omega (arith, less, source))))
 
 pub returns-clause-done : goal.returns-clause-done
@@ -123,5 +101,5 @@ returns-clause-done g c =
     (c.start-state.ensures.out ∙ (λ j. with_requests c.new-out.result (gives (out j).lps c.args.p (word_of c.new-draws.result.stream.now)).send_requests [])) in
     record {
       triple = search (rules, r.triple, c.number-number.ensures);
-      pending = c.insert_all.ensures.events ∙ ap (λ (es : List (Sent _)). all_inserted es c.args.pending.now.events) (c.in-Some.ensures.events ∙ c.sends.ensures ∙ r.sends);
+      pending = c.in_ok-insert_all.ensures.events ∙ ap (λ (es : List (Sent _)). all_inserted es c.args.pending.now) (c.sends.ensures ∙ r.sends);
     }

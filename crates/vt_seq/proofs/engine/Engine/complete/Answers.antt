@@ -1,4 +1,4 @@
-use Rattle.std.proofs.Common.{rules, ◌≡◌, ℕ, suc, ◌+◌, ◌∙◌, [], List, length, sym, ap, subst, arith}
+use Rattle.std.proofs.Common.{rules, ◌≡◌, ℕ, suc, ◌+◌, ◌∙◌, [], List, length, sym, subst, arith}
 use Rattle.std.proofs.Math.Logic.{∥∥₁_elim}
 use Rattle.std.proofs.Props.{props}
 use Rattle.vt_model.specs.Simulation.{simulation_of, Simulation}
@@ -8,7 +8,6 @@ use Rattle.vt_model.specs.declared.process.Process.{Process}
 use Rattle.vt_model.specs.declared.rows.Record.{Record}
 use Rattle.vt_model.specs.declared.sending.Sent.{Sent}
 use Rattle.vt_model.specs.Settings.{end_of}
-use Rattle.vt_seq.specs.Letters.{HeldEvents}
 use Rattle.vt_seq.specs.Limits.{IsStepRefusal, IsCountedWhole}
 use Rattle.vt_seq.specs.StandsFor.{StandsAt}
 use Rattle.vt_seq.proofs.StepLemmas.{whole_records, counted_whole, nil_of, if_err}
@@ -30,9 +29,9 @@ loop-preserved g c =
           let k : ℕ = r.0 in
           let up : suc (k + n) ≡ suc k + n = omega arith in (
             suc k,
-            subst (λ (i : ℕ). StandsAt (simulation_of (g.M.Model.handlers c.args.self.now.model.now) c.args.self.now.config) i later.pending.events later.processes.items later.records.items) up
-                (subst (λ (s : Simulation _ _). StandsAt s (suc (k + n)) later.pending.events later.processes.items later.records.items) same
-                (c.in_ok-step.ensures.steps (k + n) (subst (λ (s : Simulation _ _). StandsAt s (k + n) before.pending.events before.processes.items before.records.items) (sym same) r.1))),
+            subst (λ (i : ℕ). StandsAt (simulation_of (g.M.Model.handlers c.args.self.now.model.now) c.args.self.now.config) i later.pending later.processes.items later.records.items) up
+                (subst (λ (s : Simulation _ _). StandsAt s (suc (k + n)) later.pending later.processes.items later.records.items) same
+                (c.in_ok-step.ensures.steps (k + n) (subst (λ (s : Simulation _ _). StandsAt s (k + n) before.pending before.processes.items before.records.items) (sym same) r.1))),
           );
     }
 
@@ -45,8 +44,8 @@ returns-clause-whole g c =
     let config = later.config in
     let sim = simulation_of (g.M.Model.handlers m) config in
     let lawful = lawful_of (g.M.Model.handlers m) config (g.met.M.Model.start_within m) (g.met.M.Model.forward_within m) in
-    let none : later.pending.events ≡ [] = nil_of later.pending.events (search rules) in
-    ∥∥₁_elim later.stands (Prim.hlevel props) (λ x. whole_records sim lawful x.0 later.pending.events later.processes.items later.records.items x.1 none)
+    let none : later.pending ≡ [] = nil_of later.pending (search rules) in
+    ∥∥₁_elim later.stands (Prim.hlevel props) (λ x. whole_records sim lawful x.0 later.pending later.processes.items later.records.items x.1 none)
     ∙ (λ j. seq_records (simulation_of (g.M.Model.handlers (model j)) (cfg j)) (end_of (cfg j)))
 
 pub returns-clause-counted : goal.returns-clause-counted
@@ -57,9 +56,9 @@ returns-clause-counted g c =
     let sim = simulation_of (g.M.Model.handlers later.model.now) later.config in
     let lawful = lawful_of (g.M.Model.handlers later.model.now) later.config (g.met.M.Model.start_within later.model.now) (g.met.M.Model.forward_within later.model.now) in
     let there : length later.processes.items ≡ sim.lps = search (rules, later.all_there) in
-    let none : later.pending.events ≡ [] = nil_of later.pending.events (search rules) in
+    let none : later.pending ≡ [] = nil_of later.pending (search rules) in
     let counted : IsCountedWhole sim = λ p is. ∥∥₁_elim later.stands (Prim.hlevel props) (λ x.
-    counted_whole sim lawful x.0 later.pending.events later.processes.items later.records.items x.1 there later.numbered none p is) in
+    counted_whole sim lawful x.0 later.pending later.processes.items later.records.items x.1 there later.numbered none p is) in
     subst (λ (s : Simulation _ _). IsCountedWhole s) (λ j. simulation_of (g.M.Model.handlers (model j)) (cfg j)) counted
 
 -- the step was refused where the run stands
@@ -74,12 +73,12 @@ returns-in_err-step-clause-refused g c n st =
     let r = c.loop.invariant.stands n st in
     let m : ℕ = r.0 + n in
     let stood = r.1 in
-    let why = c.in_err-step.ensures.refused m (subst (λ (s : Simulation _ _). StandsAt s m before.pending.events before.processes.items before.records.items) (sym same) stood) in
-    if_err (λ fault. (k : ℕ) × StandsAt own (k + n) later.pending.events later.processes.items later.records.items × IsStepRefusal own (k + n) fault)
+    let why = c.in_err-step.ensures.refused m (subst (λ (s : Simulation _ _). StandsAt s m before.pending before.processes.items before.records.items) (sym same) stood) in
+    if_err (λ fault. (k : ℕ) × StandsAt own (k + n) later.pending later.processes.items later.records.items × IsStepRefusal own (k + n) fault)
     c.from_residual.result c.in_err-step.field-0.0 c.from_residual.ensures.1 (
       r.0,
-      subst (λ (l : List (Sent _)). StandsAt own m l later.processes.items later.records.items) (sym (ap (λ (v : HeldEvents _). v.events) c.in_err-step.ensures.pending))
-          (subst (λ (l : List (Process _ _ _ _)). StandsAt own m before.pending.events l later.records.items) (sym c.in_err-step.ensures.processes)
-          (subst (λ (l : List Record). StandsAt own m before.pending.events before.processes.items l) (sym c.in_err-step.ensures.records) stood)),
+      subst (λ (l : List (Sent _)). StandsAt own m l later.processes.items later.records.items) (sym c.in_err-step.ensures.pending)
+          (subst (λ (l : List (Process _ _ _ _)). StandsAt own m before.pending l later.records.items) (sym c.in_err-step.ensures.processes)
+          (subst (λ (l : List Record). StandsAt own m before.pending before.processes.items l) (sym c.in_err-step.ensures.records) stood)),
       subst (λ (s : Simulation _ _). IsStepRefusal s m c.in_err-step.field-0.0) same why,
     )

@@ -14,7 +14,7 @@ returns-clause-values g c =
     let config = c.args.self.now.config in
     let sim = simulation_of (g.M.Model.handlers m) config in
     let lawful = lawful_of (g.M.Model.handlers m) config (g.met.M.Model.start_within m) (g.met.M.Model.forward_within m) in
-    let items = c.args.self.now.pending.events in
+    let items = c.args.self.now.pending in
     let processes = c.args.self.now.processes.items in
     let records = c.args.self.now.records.items in
     let none : items ≡ [] = none_there items c.in-None.ensures in
@@ -26,4 +26,4 @@ returns-clause-values g c =
     c.loop-p.invariant x.0 x.1 ∙ (λ j. map (λ (p : ℕ). (g.M.Model.handlers m).finish p (after sim p (events_of p (all j))).state) (numbers_below (at j))))
 
 pub returns-clause-nothing_left : goal.returns-clause-nothing_left
-returns-clause-nothing_left g c = none_there c.args.self.now.pending.events c.in-None.ensures
+returns-clause-nothing_left g c = none_there c.args.self.now.pending c.in-None.ensures

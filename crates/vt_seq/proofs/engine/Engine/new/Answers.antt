@@ -18,14 +18,10 @@ loop-p-init g c =
     let lawful = lawful_of (g.M.Model.handlers m) config (g.met.M.Model.start_within m) (g.met.M.Model.forward_within m) in
     let empty : c.in_ok-processes.processes.items ≡ [] = search rules in
     record {
-      queues = c.in_ok-pending.ensures.processes;
-      started = none_started sim lawful c.in_ok-pending.pending.events c.in_ok-processes.processes.items c.in_ok-pending.ensures.none empty;
+      started = none_started sim lawful c.new-pending.result c.in_ok-processes.processes.items c.new-pending.ensures empty;
       numbered = λ r d l. absurd (omega (arith, l));
       streams = λ r d l. absurd (omega (arith, l));
     }
-
-pub start_process-requires-clause-processes : goal.start_process-requires-clause-processes
-start_process-requires-clause-processes g c κs within = c.loop-p.invariant.queues
 
 pub start_process-requires-clause-others : goal.start_process-requires-clause-others
 start_process-requires-clause-others g c κs within =
@@ -33,7 +29,7 @@ start_process-requires-clause-others g c κs within =
     let config = c.args.config in
     let sim = simulation_of (g.M.Model.handlers m) config in
     let lawful = lawful_of (g.M.Model.handlers m) config (g.met.M.Model.start_within m) (g.met.M.Model.forward_within m) in
-    sources_below sim lawful c.loop-p.p c.loop-p.pending.events c.loop-p.processes.items c.loop-p.invariant.started c.loop-p-test.true
+    sources_below sim lawful c.loop-p.p c.loop-p.pending c.loop-p.processes.items c.loop-p.invariant.started c.loop-p-test.true
 
 pub loop-p-preserved : goal.loop-p-preserved
 loop-p-preserved g c =
@@ -48,9 +44,8 @@ loop-p-preserved g c =
     let h = c.loop-p.invariant.started in
     let known : p < sim.lps = c.loop-p-test.true in
     record {
-      queues = c.start_process.ensures.processes;
-      started = subst (λ (l : List (Process _ _ _ _)). AllStarted sim (p + 1) c.start_process.new.pending.events l) (sym pushed)
-          (started_next sim lawful p c.loop-p.pending.events c.start_process.new.pending.events processes q h known c.in_ok-process.ensures.done);
+      started = subst (λ (l : List (Process _ _ _ _)). AllStarted sim (p + 1) c.start_process.new.pending l) (sym pushed)
+          (started_next sim lawful p c.loop-p.pending c.start_process.new.pending processes q h known c.in_ok-process.ensures.done);
       numbered = subst (λ (l : List (Process _ _ _ _)). (r : ℕ) (d : Process _ _ _ _) → r < p + 1 → (slice_index_or l r d).number ≤ MAX_COUNT) (sym pushed)
           (all_more (λ (r : ℕ) (o : Process _ _ _ _). o.number ≤ MAX_COUNT) processes q p h.there c.in_ok-process.ensures.numbered c.loop-p.invariant.numbered);
       streams = subst (λ (l : List (Process _ _ _ _)). (r : ℕ) (d : Process _ _ _ _) → r < p + 1 → IsProcessStream config.seed r (slice_index_or l r d).stream) (sym pushed)
@@ -66,14 +61,13 @@ invariant_of-result g c =
     let high = c.loop-p-test.false in
     let low = c.loop-p.auto.p-end in
     let at : c.loop-p.p ≡ config.lps = omega (arith, high, low) in
-    let started : AllStarted sim sim.lps c.loop-p.pending.events c.loop-p.processes.items = subst (λ (k : ℕ). AllStarted sim k c.loop-p.pending.events c.loop-p.processes.items) at c.loop-p.invariant.started in
+    let started : AllStarted sim sim.lps c.loop-p.pending c.loop-p.processes.items = subst (λ (k : ℕ). AllStarted sim k c.loop-p.pending c.loop-p.processes.items) at c.loop-p.invariant.started in
     let none : c.new-records.result.items ≡ [] = c.new-records.ensures.items in
-    let stands : StandsAt sim 0 c.loop-p.pending.events c.loop-p.processes.items c.new-records.result.items =
-    subst (λ (l : List Record). StandsAt sim 0 c.loop-p.pending.events c.loop-p.processes.items l) (sym none) (stands_start sim lawful c.loop-p.pending.events c.loop-p.processes.items started) in
+    let stands : StandsAt sim 0 c.loop-p.pending c.loop-p.processes.items c.new-records.result.items =
+    subst (λ (l : List Record). StandsAt sim 0 c.loop-p.pending c.loop-p.processes.items l) (sym none) (stands_start sim lawful c.loop-p.pending c.loop-p.processes.items started) in
     let len : length c.loop-p.processes.items ≡ vec_len c.loop-p.processes = search rules in
     record {
-      within_run = λ k d l. let t = taken sim lawful 0 c.loop-p.pending.events c.loop-p.processes.items c.new-records.result.items stands (slice_index_or c.loop-p.pending.events k d) (among-at c.loop-p.pending.events k d l) in record { known = t.0; soon = t.1 };
-      queues = c.loop-p.invariant.queues;
+      within_run = λ k d l. let t = taken sim lawful 0 c.loop-p.pending c.loop-p.processes.items c.new-records.result.items stands (slice_index_or c.loop-p.pending k d) (among-at c.loop-p.pending k d l) in record { known = t.0; soon = t.1 };
       all_there = sym len ∙ started.there;
       numbered = λ r d l. c.loop-p.invariant.numbered r d (omega (arith, l, at));
       streams = λ r d l. c.loop-p.invariant.streams r d (omega (arith, l, at));
@@ -89,8 +83,8 @@ returns-clause-stands g c =
     let high = c.loop-p-test.false in
     let low = c.loop-p.auto.p-end in
     let at : c.loop-p.p ≡ config.lps = omega (arith, high, low) in
-    let started : AllStarted sim sim.lps c.loop-p.pending.events c.loop-p.processes.items = subst (λ (k : ℕ). AllStarted sim k c.loop-p.pending.events c.loop-p.processes.items) at c.loop-p.invariant.started in
+    let started : AllStarted sim sim.lps c.loop-p.pending c.loop-p.processes.items = subst (λ (k : ℕ). AllStarted sim k c.loop-p.pending c.loop-p.processes.items) at c.loop-p.invariant.started in
     let none : c.new-records.result.items ≡ [] = c.new-records.ensures.items in
-    let stands : StandsAt sim 0 c.loop-p.pending.events c.loop-p.processes.items c.new-records.result.items =
-    subst (λ (l : List Record). StandsAt sim 0 c.loop-p.pending.events c.loop-p.processes.items l) (sym none) (stands_start sim lawful c.loop-p.pending.events c.loop-p.processes.items started) in
+    let stands : StandsAt sim 0 c.loop-p.pending c.loop-p.processes.items c.new-records.result.items =
+    subst (λ (l : List Record). StandsAt sim 0 c.loop-p.pending c.loop-p.processes.items l) (sym none) (stands_start sim lawful c.loop-p.pending c.loop-p.processes.items started) in
     stands

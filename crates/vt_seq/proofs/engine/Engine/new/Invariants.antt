@@ -1,4 +1,4 @@
-use Rattle.std.proofs.Common.{◌≡◌, ℕ, ◌<◌, ◌≤◌, slice_index_or}
+use Rattle.std.proofs.Common.{ℕ, ◌<◌, ◌≤◌, slice_index_or}
 use Rattle.vt_model.specs.Simulation.{simulation_of}
 use Rattle.vt_key.specs.declared.limits.TheConstants.{MAX_COUNT}
 use Rattle.vt_model.specs.Process.{IsProcessStream}
@@ -7,8 +7,7 @@ use Rattle.vt_seq.proofs.engine.Engine.new.Given as goal
 
 abbrev pub invariant-loop-p : goal.invariant-loop-p
 invariant-loop-p g l = record {
-  queues : l.pending.processes ≡ l.config.lps;
-  started : AllStarted (simulation_of (g.M.Model.handlers l.model) l.config) l.p l.pending.events l.processes.items;
+  started : AllStarted (simulation_of (g.M.Model.handlers l.model) l.config) l.p l.pending l.processes.items;
   numbered : (r : ℕ) (d : _) → r < l.p → (slice_index_or l.processes.items r d).number ≤ MAX_COUNT;
   streams : (r : ℕ) (d : _) → r < l.p → IsProcessStream l.config.seed r (slice_index_or l.processes.items r d).stream;
 }

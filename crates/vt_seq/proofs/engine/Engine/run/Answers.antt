@@ -16,5 +16,5 @@ returns-in_default-clause-refused g c n st =
     let m : ℕ = r.0 + n in
     let there : length later.processes.items ≡ own.lps = search (rules, later.all_there, c.complete.ensures.config) in
     let counted : AreCounted own.lps later.processes.items = subst (λ (lps : ℕ). AreCounted lps later.processes.items) (ap (λ (f : Config). f.lps) c.complete.ensures.config) later.numbered in
-    let none : later.pending.events ≡ [] = search rules in
-    (r.0, r.1, inr (refl, counted_on own lawful m later.pending.events later.processes.items later.records.items r.1 there counted none))
+    let none : later.pending ≡ [] = search rules in
+    (r.0, r.1, inr (refl, counted_on own lawful m later.pending later.processes.items later.records.items r.1 there counted none))

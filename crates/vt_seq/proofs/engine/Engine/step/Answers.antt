@@ -14,7 +14,6 @@ use Rattle.vt_model.proofs.EndLemmas.{no_step}
 use Rattle.vt_model.specs.Process.{triple_at, IsProcessStream}
 use Rattle.vt_seq.specs.Limits.{IsStepRefusal}
 use Rattle.vt_seq.specs.StandsFor.{StandsFor, StandsAt}
-use Rattle.vt_seq.specs.Letters.{HeldEvents}
 use Rattle.vt_seq.specs.Queue.{IsWithinRun}
 use Rattle.vt_model.specs.declared.process.Process.{Process}
 use Rattle.vt_seq.proofs.StepLemmas.{stands_step, either_way, taken_next, falls, counted_next, among-at, at-among, nothing_left, set_same, in_err, set_all, first_there, none_there, numbers_below_next, next_triple, if_err}
@@ -26,7 +25,7 @@ returns-in_default-clause-steps g c n st =
     let config = c.args.self.now.config in
     let sim = simulation_of (g.M.Model.handlers m) config in
     let lawful = lawful_of (g.M.Model.handlers m) config (g.met.M.Model.start_within m) (g.met.M.Model.forward_within m) in
-    let items = c.args.self.now.pending.events in
+    let items = c.args.self.now.pending in
     let processes = c.args.self.now.processes.items in
     let none : items ≡ [] = none_there items c.in_default.ensures in
     subst (λ (x : _). StandsFor sim x items processes c.args.self.now.records.items) (sym (no_step sim lawful n (nothing_left sim lawful n items processes c.args.self.now.records.items st none))) st
@@ -37,7 +36,7 @@ advance-requires-clause-earlier g c κs within d m source =
     let config = c.args.self.now.config in
     let sim = simulation_of (g.M.Model.handlers model) config in
     let lawful = lawful_of (g.M.Model.handlers model) config (g.met.M.Model.start_within model) (g.met.M.Model.forward_within model) in
-    let items = c.args.self.now.pending.events in
+    let items = c.args.self.now.pending in
     let processes = c.args.self.now.processes.items in
     let e = c.in-Some.event in
     let p = c.index_mut.result.now in
@@ -52,7 +51,7 @@ returns-clause-falls g c is =
     let config = c.args.self.now.config in
     let sim = simulation_of (g.M.Model.handlers m) config in
     let lawful = lawful_of (g.M.Model.handlers m) config (g.met.M.Model.start_within m) (g.met.M.Model.forward_within m) in
-    let items = c.args.self.now.pending.events in
+    let items = c.args.self.now.pending in
     let processes = c.args.self.now.processes.items in
     let e = c.in-Some.event in
     let p = c.index_mut.result.now in
@@ -72,7 +71,7 @@ returns-clause-steps g c n st =
     let config = c.args.self.now.config in
     let sim = simulation_of (g.M.Model.handlers m) config in
     let lawful = lawful_of (g.M.Model.handlers m) config (g.met.M.Model.start_within m) (g.met.M.Model.forward_within m) in
-    let items = c.args.self.now.pending.events in
+    let items = c.args.self.now.pending in
     let processes = c.args.self.now.processes.items in
     let e = c.in-Some.event in
     let p = c.index_mut.result.now in
@@ -83,7 +82,7 @@ returns-clause-steps g c n st =
     let at : slice_index_or processes e.dest p ≡ p = sym c.index_mut.ensures.value in
     let there : length processes ≡ sim.lps = search (rules, c.args.self.now.all_there) in
     let taken = at-among (IsWithinRun sim.lps sim.end) items c.args.self.now.within_run e (subst (λ (d : Sent _). Among d items) first (among-at items 0 e some)) in
-    stands_step sim lawful n e items c.advance.new.pending.events processes c.args.self.now.records.items c.advance.new.records.items p q st there taken.known some first at c.in_ok-advance.ensures.done
+    stands_step sim lawful n e items c.advance.new.pending processes c.args.self.now.records.items c.advance.new.records.items p q st there taken.known some first at c.in_ok-advance.ensures.done
 
 pub returns-in_err-advance-clause-processes : goal.returns-in_err-advance-clause-processes
 returns-in_err-advance-clause-processes g c =
@@ -91,7 +90,7 @@ returns-in_err-advance-clause-processes g c =
     let config = c.args.self.now.config in
     let sim = simulation_of (g.M.Model.handlers m) config in
     let lawful = lawful_of (g.M.Model.handlers m) config (g.met.M.Model.start_within m) (g.met.M.Model.forward_within m) in
-    let items = c.args.self.now.pending.events in
+    let items = c.args.self.now.pending in
     let processes = c.args.self.now.processes.items in
     let e = c.in-Some.event in
     let p = c.index_mut.result.now in
@@ -113,7 +112,7 @@ returns-in_err-advance-clause-refused g c n st =
     let config = c.args.self.now.config in
     let sim = simulation_of (g.M.Model.handlers m) config in
     let lawful = lawful_of (g.M.Model.handlers m) config (g.met.M.Model.start_within m) (g.met.M.Model.forward_within m) in
-    let items = c.args.self.now.pending.events in
+    let items = c.args.self.now.pending in
     let processes = c.args.self.now.processes.items in
     let e = c.in-Some.event in
     let p = c.index_mut.result.now in
@@ -142,7 +141,7 @@ invariant_of-self g c =
     let config = c.args.self.now.config in
     let sim = simulation_of (g.M.Model.handlers m) config in
     let lawful = lawful_of (g.M.Model.handlers m) config (g.met.M.Model.start_within m) (g.met.M.Model.forward_within m) in
-    let items = c.args.self.now.pending.events in
+    let items = c.args.self.now.pending in
     let processes = c.args.self.now.processes.items in
     let e = c.in-Some.event in
     let p = c.index_mut.result.now in
@@ -161,17 +160,16 @@ invariant_of-self g c =
       within_run = λ k d l.
           either_way c.advance.result c.advance.ensures.done c.advance.ensures.pending c.advance.ensures.records c.advance.ensures.records
           (λ done. subst (λ (xs : List (Sent _)). k < length xs → IsWithinRun sim.lps sim.end (slice_index_or xs k d)) (sym done.pending) (taken_next sim lawful items e (triple_at p.state p.number p.stream) taken.known c.args.self.now.within_run k d) l)
-          (λ pending records more. subst (λ (xs : List (Sent _)). k < length xs → IsWithinRun sim.lps sim.end (slice_index_or xs k d)) (sym (ap (λ (v : HeldEvents _). v.events) pending)) (c.args.self.now.within_run k d) l);
-      queues = c.advance.ensures.processes;
+          (λ pending records more. subst (λ (xs : List (Sent _)). k < length xs → IsWithinRun sim.lps sim.end (slice_index_or xs k d)) (sym pending) (c.args.self.now.within_run k d) l);
       all_there = c.args.self.now.all_there;
       numbered = set_all (λ (r : ℕ) (o : Process _ _ _ _). o.number ≤ MAX_COUNT) sim.lps processes e.dest q inside c.advance.ensures.numbered c.args.self.now.numbered;
       streams = set_all (λ (r : ℕ) (o : Process _ _ _ _). IsProcessStream config.seed r o.stream) sim.lps processes e.dest q inside c.advance.ensures.stream c.args.self.now.streams;
       stands = ∥∥₁_map c.args.self.now.stands (λ x.
           either_way c.advance.result c.advance.ensures.done c.advance.ensures.pending c.advance.ensures.records (c.advance.ensures.process (state x.0 x.1))
-          (λ done. (suc x.0, stands_step sim lawful x.0 e items c.advance.new.pending.events processes c.args.self.now.records.items c.advance.new.records.items p q x.1 there taken.known some first at done))
+          (λ done. (suc x.0, stands_step sim lawful x.0 e items c.advance.new.pending processes c.args.self.now.records.items c.advance.new.records.items p q x.1 there taken.known some first at done))
           (λ pending records process. (
             x.0,
-            subst (λ (l : List (Sent _)). StandsAt sim x.0 l (slice_set processes e.dest q) c.advance.new.records.items) (sym (ap (λ (v : HeldEvents _). v.events) pending))
+            subst (λ (l : List (Sent _)). StandsAt sim x.0 l (slice_set processes e.dest q) c.advance.new.records.items) (sym pending)
                 (subst (λ (l : List Record). StandsAt sim x.0 items (slice_set processes e.dest q) l) (sym records)
                 (subst (λ (l : List (Process _ _ _ _)). StandsAt sim x.0 items l c.args.self.now.records.items) (sym (set_same processes e.dest p q at process)) x.1)),
           )));

@@ -8,4 +8,4 @@ returns-clause-opening g c =
     let e = c.in_ok-engine.engine in
     let sim = simulation_of (g.M.Model.handlers c.args.model.now) c.args.config in
     let there : sim.lps ≤ length e.processes.items = search (rules, arith, e.all_there, c.in_ok-engine.ensures.config) in
-    stands-after sim e.model.now e.config 0 e.pending.events e.processes.items e.records.items there c.in_ok-engine.ensures.stands
+    stands-after sim e.model.now e.config 0 e.pending e.processes.items e.records.items there c.in_ok-engine.ensures.stands

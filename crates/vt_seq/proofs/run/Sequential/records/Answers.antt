@@ -8,4 +8,4 @@ returns-clause-reached g c =
     let e = c.self.inside.engine in
     let there : e.config.lps ≤ length e.processes.items = search (rules, arith, e.all_there) in
     subst (λ (v : Progress _ _ _). IsReached (g.M.Model.handlers v.model) v) c.self.view_is
-    (seen-reached (g.M.Model.handlers e.model.now) e.model.now e.config e.pending.events e.processes.items e.records.items there e.stands)
+    (seen-reached (g.M.Model.handlers e.model.now) e.model.now e.config e.pending e.processes.items e.records.items there e.stands)

@@ -14,41 +14,41 @@ pub returns-clause-steps : goal.returns-clause-steps
 returns-clause-steps g c =
     let e = c.self.inside.engine in
     let sim = simulation_of (g.M.Model.handlers e.model.now) e.config in
-    let rises : are_rising e.pending.events ≡ true = ∥∥₁_elim e.stands (Prim.hlevel props) (λ x. rising-tested e.pending.events x.1.rising) in
+    let rises : are_rising e.pending ≡ true = ∥∥₁_elim e.stands (Prim.hlevel props) (λ x. rising-tested e.pending x.1.rising) in
     let f = c.step.new.self in
-    let later = seen sim f.model.now f.config f.pending.events f.processes.items f.records.items in
+    let later = seen sim f.model.now f.config f.pending f.processes.items f.records.items in
     let there : sim.lps ≤ length f.processes.items = search (rules, arith, f.all_there, c.step.ensures.config) in
     subst (λ (v : Progress _ _ _). (n : ℕ) → IsAfter (simulation_of (g.M.Model.handlers v.model) v.config) n v → IfOk c.step.result (λ more. IsAfter (simulation_of (g.M.Model.handlers v.model) v.config) (suc n) later))
     c.self.view_is
-    (λ n is. if_ok-map _ _ c.step.result (c.step.ensures.steps n (after-stands sim e.model.now e.config n e.pending.events e.processes.items e.records.items rises is))
-    (λ more st. stands-after sim f.model.now f.config (suc n) f.pending.events f.processes.items f.records.items there st))
+    (λ n is. if_ok-map _ _ c.step.result (c.step.ensures.steps n (after-stands sim e.model.now e.config n e.pending e.processes.items e.records.items rises is))
+    (λ more st. stands-after sim f.model.now f.config (suc n) f.pending f.processes.items f.records.items there st))
 
 pub returns-clause-refused : goal.returns-clause-refused
 returns-clause-refused g c =
     let e = c.self.inside.engine in
     let sim = simulation_of (g.M.Model.handlers e.model.now) e.config in
-    let rises : are_rising e.pending.events ≡ true = ∥∥₁_elim e.stands (Prim.hlevel props) (λ x. rising-tested e.pending.events x.1.rising) in
+    let rises : are_rising e.pending ≡ true = ∥∥₁_elim e.stands (Prim.hlevel props) (λ x. rising-tested e.pending x.1.rising) in
     subst (λ (v : Progress _ _ _). (n : ℕ) → IsAfter (simulation_of (g.M.Model.handlers v.model) v.config) n v → IfErr c.step.result (IsStepRefusal (simulation_of (g.M.Model.handlers v.model) v.config) n))
     c.self.view_is
-    (λ n is. c.step.ensures.refused n (after-stands sim e.model.now e.config n e.pending.events e.processes.items e.records.items rises is))
+    (λ n is. c.step.ensures.refused n (after-stands sim e.model.now e.config n e.pending e.processes.items e.records.items rises is))
 
 pub returns-clause-counted : goal.returns-clause-counted
 returns-clause-counted g c =
     let e = c.self.inside.engine in
     let sim = simulation_of (g.M.Model.handlers e.model.now) e.config in
-    let rises : are_rising e.pending.events ≡ true = ∥∥₁_elim e.stands (Prim.hlevel props) (λ x. rising-tested e.pending.events x.1.rising) in
+    let rises : are_rising e.pending ≡ true = ∥∥₁_elim e.stands (Prim.hlevel props) (λ x. rising-tested e.pending x.1.rising) in
     let f = c.step.new.self in
     let there : length f.processes.items ≡ sim.lps = search (rules, arith, f.all_there, c.step.ensures.config) in
     let numbered : AreCounted sim.lps f.processes.items = subst (λ (lps : ℕ). AreCounted lps f.processes.items) (ap (λ (d : Config). d.lps) c.step.ensures.config) f.numbered in
     let lawful = lawful_of (g.M.Model.handlers e.model.now) e.config (g.met.M.Model.start_within e.model.now) (g.met.M.Model.forward_within e.model.now) in
     subst (λ (v : Progress _ _ _). (n : ℕ) → IsAfter (simulation_of (g.M.Model.handlers v.model) v.config) n v → IfOk c.step.result (λ more. IsCounted (simulation_of (g.M.Model.handlers v.model) v.config) (suc n)))
     c.self.view_is
-    (λ n is. if_ok-map _ _ c.step.result (c.step.ensures.steps n (after-stands sim e.model.now e.config n e.pending.events e.processes.items e.records.items rises is))
-    (λ more st. counted_at sim lawful (suc n) f.pending.events f.processes.items f.records.items st there numbered))
+    (λ n is. if_ok-map _ _ c.step.result (c.step.ensures.steps n (after-stands sim e.model.now e.config n e.pending e.processes.items e.records.items rises is))
+    (λ more st. counted_at sim lawful (suc n) f.pending f.processes.items f.records.items st there numbered))
 
 pub returns-clause-reached : goal.returns-clause-reached
 returns-clause-reached g c =
     let e = c.self.inside.engine in
     let there : e.config.lps ≤ length e.processes.items = search (rules, arith, e.all_there) in
     subst (λ (v : Progress _ _ _). IsReached (g.M.Model.handlers v.model) v) c.self.view_is
-    (seen-reached (g.M.Model.handlers e.model.now) e.model.now e.config e.pending.events e.processes.items e.records.items there e.stands)
+    (seen-reached (g.M.Model.handlers e.model.now) e.model.now e.config e.pending e.processes.items e.records.items there e.stands)

@@ -1,0 +1,206 @@
+-- The events of a heap in the order of their keys, when one is put in, and when the top is taken out.
+use Rattle.std.proofs.Common.{◌≡◌, ℕ, zero, suc, ◌+◌, ◌<◌, ◌≤◌, inl, inr, List, [], ◌∷◌, Bool, true, false, length, slice_index_or, drop, slice_get, Some, if◌then◌else◌, refl, sym, subst, ap, ◌∙◌, arith}
+use Rattle.std.specs.List.{Contains}
+use Rattle.std.specs.List.Sorted.{IsPermutation}
+use Rattle.std.specs.BinaryHeap.{IsHeap, IsUpperBound}
+use Rattle.std.specs.declared.cmp.Ordering.TheVariants.{Less, Equal}
+use Rattle.std.specs.Ordering.{is_lt, nat_cmp, ordering_then}
+use Rattle.std.specs.Cmp.{nat_cmp_is}
+use Rattle.std.proofs.lemmas.List.Sums.{sum_by-cons}
+use Rattle.std.proofs.lemmas.List.Sorted.{Contains-permutation, IsPermutation-map, IsPermutation-sym, sum_by-IsPermutation}
+use Rattle.vt_key.specs.Keys.{Key, key_cmp}
+use Rattle.vt_key.specs.Order.{KeyBefore, key_before, key_same}
+use Rattle.vt_key.proofs.OrderLemmas.{key-asymmetric, key-transitive, key-total, key_before-true, before-key_before, key_same-true, same-key_same}
+use Rattle.vt_model.specs.declared.sending.Sent.{Sent}
+use Rattle.vt_model.specs.Histories.{Among, IsRising}
+use Rattle.vt_model.proofs.HistoryLemmas.{rising-same}
+use Rattle.vt_model.proofs.RunLemmas.{tested}
+use Rattle.vt_seq.specs.declared.entry.Entry.{Entry}
+use Rattle.vt_seq.specs.Queue.{inserted, all_inserted}
+use Rattle.vt_seq.specs.Entries.{entry_cmp, events_in, in_order, held, AreApart, IsQueue}
+use Rattle.vt_seq.proofs.InsertLemmas.{inserted-here, inserted-later}
+use Rattle.vt_seq.proofs.InsertedLemmas.{inserted-rising, inserted-sum, all_inserted-among, among-all_inserted}
+
+-- ---- how keys compare
+
+-- a key that is before another compares as less
+pub less-key : (a b : Key) → KeyBefore a b → key_cmp a b ≡ Less
+less-key a b (inl l) = sym (λ j. ordering_then (nat_cmp_is a.time b.time Less l j) (ordering_then (nat_cmp a.source b.source) (nat_cmp a.number b.number)))
+less-key a b (inr h) = elim h.1 [
+  | inl l ↦ sym (λ j. ordering_then (nat_cmp_is a.time b.time Equal h.0 j) (ordering_then (nat_cmp_is a.source b.source Less l j) (nat_cmp a.number b.number)))
+  | inr k ↦ sym (λ j. ordering_then (nat_cmp_is a.time b.time Equal h.0 j) (ordering_then (nat_cmp_is a.source b.source Equal k.0 j) (nat_cmp_is a.number b.number Less k.1 j)))
+]
+
+-- a key that is after another isn't before it
+not-before : (a b : Key) → (KeyBefore a b → ⊥) → key_before a b ≡ false
+not-before a b never = elim (tested (key_before a b)) [ inl y ↦ absurd (never (key_before-true a b y)) | inr y ↦ y ]
+
+module _ {P : Type 0} where
+  -- ---- the order in which events are inserted
+
+  swap : (e d : Sent P) (xs : List (Sent P)) → KeyBefore e.key d.key → inserted e (inserted d xs) ≡ inserted d (inserted e xs)
+  swap e d [] h = inserted-here e d [] (before-key_before e.key d.key h) ∙ sym (inserted-later d e [] (not-before d.key e.key (λ k. key-asymmetric e.key d.key h k)))
+  swap e d (x ∷ xs) h =
+      let y : key_before e.key d.key ≡ true = before-key_before e.key d.key h in
+      let n : key_before d.key e.key ≡ false = not-before d.key e.key (λ k. key-asymmetric e.key d.key h k) in
+      elim (tested (key_before d.key x.key)) [
+        | inl z ↦
+            let w : key_before e.key x.key ≡ true = before-key_before e.key x.key (key-transitive e.key d.key x.key h (key_before-true d.key x.key z)) in
+            ap (inserted e) (inserted-here d x xs z) ∙ inserted-here e d (x ∷ xs) y
+            ∙ sym (ap (inserted d) (inserted-here e x xs w) ∙ inserted-later d e (x ∷ xs) n ∙ ap (λ (ys : List (Sent P)). e ∷ ys) (inserted-here d x xs z))
+        | inr z ↦ elim (tested (key_before e.key x.key)) [
+          | inl w ↦ ap (inserted e) (inserted-later d x xs z) ∙ inserted-here e x (inserted d xs) w
+              ∙ sym (ap (inserted d) (inserted-here e x xs w) ∙ inserted-later d e (x ∷ xs) n ∙ ap (λ (ys : List (Sent P)). e ∷ ys) (inserted-later d x xs z))
+          | inr w ↦ ap (inserted e) (inserted-later d x xs z) ∙ inserted-later e x (inserted d xs) w ∙ ap (λ (ys : List (Sent P)). x ∷ ys) (swap e d xs h)
+              ∙ sym (ap (inserted d) (inserted-later e x xs w) ∙ inserted-later d x (inserted e xs) z)
+        ]
+      ]
+
+  -- two events of different keys are inserted in either order
+  either_order : (e d : Sent P) (xs : List (Sent P)) → (d.key ≡ e.key → ⊥) → inserted e (inserted d xs) ≡ inserted d (inserted e xs)
+  either_order e d xs apart = elim (key-total e.key d.key) [
+    | inl b ↦ swap e d xs b
+    | inr u ↦ elim u [ inl same ↦ absurd (apart (sym same)) | inr b ↦ sym (swap d e xs b) ]
+  ]
+
+  -- an event of another key than these is inserted before them or after them
+  past : (e : Sent P) (es ds : List (Sent P)) → ((d : Sent P) → Among d es → d.key ≡ e.key → ⊥) → all_inserted es (inserted e ds) ≡ inserted e (all_inserted es ds)
+  past e [] ds apart = refl
+  past e (d ∷ es) ds apart = ap (all_inserted es) (sym (either_order e d ds (apart d (inl refl)))) ∙ past e es (inserted d ds) (λ f m. apart f (inr m))
+
+  -- events of which none is before the first of a list leave it first
+  all_later : (e : Sent P) (es ds : List (Sent P)) → ((d : Sent P) → Among d es → KeyBefore d.key e.key → ⊥) → all_inserted es (e ∷ ds) ≡ e ∷ all_inserted es ds
+  all_later e [] ds h = refl
+  all_later e (d ∷ es) ds h = ap (all_inserted es) (inserted-later d e ds (not-before d.key e.key (h d (inl refl)))) ∙ all_later e es (inserted d ds) (λ f m. h f (inr m))
+
+  -- ---- events of different keys
+
+  abbrev one_held : Key → Sent P → ℕ
+  one_held k e = if key_same e.key k then 1 else 0
+
+  held-one : (k : Key) (e : Sent P) → e.key ≡ k → one_held k e ≡ 1
+  held-one k e same = ap (λ (b : Bool). if b then 1 else 0) (ap (λ (l : Key). key_same l k) same ∙ same-key_same k)
+
+  -- an event that is among others is held
+  some-held : (k : Key) (d : Sent P) (es : List (Sent P)) → Among d es → d.key ≡ k → 1 ≤ held k es
+  some-held k d [] m same = absurd m
+  some-held k d (e ∷ es) (inl at) same =
+      let one : one_held k e ≡ 1 = held-one k e (ap (λ (x : Sent P). x.key) (sym at) ∙ same) in
+      let both : held k (e ∷ es) ≡ one_held k e + held k es = sum_by-cons (one_held k) e es in omega (arith, one, both)
+  some-held k d (e ∷ es) (inr m) same =
+      let more : 1 ≤ held k es = some-held k d es m same in
+      let both : held k (e ∷ es) ≡ one_held k e + held k es = sum_by-cons (one_held k) e es in omega (arith, more, both)
+
+  -- events of different keys, inserted among others, rise
+  rising-apart : (es ds : List (Sent P)) → IsRising ds → ((k : Key) → held k es + held k ds ≤ 1) → IsRising (all_inserted es ds)
+  rising-apart [] ds r apart = r
+  rising-apart (e ∷ es) ds r apart =
+      let once : IsRising (inserted e ds) = inserted-rising e ds r (λ d m same.
+      let there : 1 ≤ held e.key ds = some-held e.key d ds m same in
+      let here : one_held e.key e ≡ 1 = held-one e.key e refl in
+      let both : held e.key (e ∷ es) ≡ one_held e.key e + held e.key es = sum_by-cons (one_held e.key) e es in
+      omega (arith, there, here, both, apart e.key)) in
+      rising-apart es (inserted e ds) once (λ k.
+      let both : held k (e ∷ es) ≡ one_held k e + held k es = sum_by-cons (one_held k) e es in
+      let put : held k (inserted e ds) ≡ one_held k e + held k ds = inserted-sum (one_held k) e ds in
+      omega (arith, both, put, apart k))
+
+  rising-all : (es : List (Sent P)) → AreApart es → IsRising (all_inserted es [])
+  rising-all es apart = rising-apart es [] tt (λ k. let a : held k es ≤ 1 = apart k in omega (arith, a))
+
+  among-contains : (d : Sent P) (es : List (Sent P)) → Among d es → Contains es d
+  among-contains d [] m = absurd m
+  among-contains d (e ∷ es) (inl at) = (0, (let z : 0 < length (e ∷ es) = omega arith in z), sym at)
+  among-contains d (e ∷ es) (inr m) = let r = among-contains d es m in let k : ℕ = r.0 in let less : k < length es = r.1 in (suc k, (let z : suc k < length (e ∷ es) = omega (arith, less) in z), r.2)
+
+  contains-among : (d : Sent P) (es : List (Sent P)) (k : ℕ) → k < length es → slice_index_or es k d ≡ d → Among d es
+  contains-among d [] k l at = absurd (omega (arith, l))
+  contains-among d (e ∷ es) zero l at = inl (sym at)
+  contains-among d (e ∷ es) (suc k) l at = inr (contains-among d es k (omega (arith, l)) at)
+
+  among-permuted : (xs ys : List (Sent P)) → IsPermutation xs ys → (d : Sent P) → Among d xs → Among d ys
+  among-permuted xs ys h d m = let r = Contains-permutation xs ys d h (among-contains d xs m) in contains-among d ys r.0 r.1 r.2
+
+  apart-permuted : (xs ys : List (Sent P)) → IsPermutation xs ys → AreApart xs → AreApart ys
+  apart-permuted xs ys h apart k = let same : held k ys ≡ held k xs = sum_by-IsPermutation (one_held k) xs ys h in let a : held k xs ≤ 1 = apart k in omega (arith, same, a)
+
+  -- the same events in another order are the same in the order of their keys
+  same-order : (xs ys : List (Sent P)) → IsPermutation xs ys → AreApart xs → all_inserted xs [] ≡ all_inserted ys []
+  same-order xs ys h apart =
+      rising-same (all_inserted xs []) (all_inserted ys []) (rising-all xs apart) (rising-all ys (apart-permuted xs ys h apart))
+      (λ d m. among-all_inserted ys [] d (inl (among-permuted xs ys h d (from xs d m))))
+      (λ d m. among-all_inserted xs [] d (inl (among-permuted ys xs (IsPermutation-sym xs ys h) d (from ys d m)))) where
+        from : (es : List (Sent P)) (d : Sent P) → Among d (all_inserted es []) → Among d es
+        from es d m = elim (all_inserted-among es [] d m) [ inl a ↦ a | inr never ↦ absurd never ]
+
+  -- ---- the heap
+
+  -- no key is before that of an entry that is an upper bound
+  top-least : (x : Entry P) (xs : List (Entry P)) → IsUpperBound entry_cmp x xs → (d : Sent P) → Among d (events_in xs) → KeyBefore d.key x.event.key → ⊥
+  top-least x [] h d m before = absurd m
+  top-least x (y ∷ ys) h d (inl at) before =
+      let less : is_lt (entry_cmp x y) ≡ true = ap is_lt (less-key y.event.key x.event.key (subst (λ (e : Sent P). KeyBefore e.key x.event.key) at before)) in
+      let both : true ≡ false = sym less ∙ h.0 in absurd (cc)
+  top-least x (y ∷ ys) h d (inr m) before = top-least x ys h.1 d m before
+
+  -- none of these events has a key
+  none-held : (k : Key) (es : List (Sent P)) → ((d : Sent P) → Among d es → d.key ≡ k → ⊥) → held k es ≡ 0
+  none-held k [] h = refl
+  none-held k (e ∷ es) h =
+      let rest : held k es ≡ 0 = none-held k es (λ d m. h d (inr m)) in
+      let both : held k (e ∷ es) ≡ one_held k e + held k es = sum_by-cons (one_held k) e es in
+      elim (tested (key_same e.key k)) [
+        | inl y ↦ absurd (h e (inl refl) (key_same-true e.key k y))
+        | inr y ↦ let one : one_held k e ≡ 0 = ap (λ (b : Bool). if b then 1 else 0) y in omega (arith, rest, both, one)
+      ]
+
+  -- with an event of another key than these, they still have different keys
+  apart-more : (e : Sent P) (es : List (Sent P)) → AreApart es → ((d : Sent P) → Among d es → d.key ≡ e.key → ⊥) → AreApart (e ∷ es)
+  apart-more e es apart new k =
+      let both : held k (e ∷ es) ≡ one_held k e + held k es = sum_by-cons (one_held k) e es in
+      let few : held k es ≤ 1 = apart k in
+      elim (tested (key_same e.key k)) [
+        | inl y ↦
+            let one : one_held k e ≡ 1 = ap (λ (b : Bool). if b then 1 else 0) y in
+            let none : held k es ≡ 0 = none-held k es (λ d m same. new d m (same ∙ sym (key_same-true e.key k y))) in
+            omega (arith, both, one, none)
+        | inr y ↦ let one : one_held k e ≡ 0 = ap (λ (b : Bool). if b then 1 else 0) y in omega (arith, both, one, few)
+      ]
+
+  -- the top is the first event
+  pub top-first : (x : Entry P) (xs : List (Entry P)) → 0 < length xs → x ≡ slice_index_or xs 0 x → IsUpperBound entry_cmp x xs → slice_get (in_order xs) 0 ≡ Some x.event
+  top-first x [] some at h = absurd (omega (arith, some))
+  top-first x (y ∷ ys) some at h =
+      ap (λ (es : List (Sent P)). slice_get es 0) (all_later y.event (events_in ys) [] (subst (λ (z : Entry P). (d : Sent P) → Among d (events_in ys) → KeyBefore d.key z.event.key → ⊥) at (top-least x ys h.1)))
+      ∙ ap (λ (z : Entry P). Some z.event) (sym at)
+
+  pub none-first : (xs : List (Entry P)) → length xs ≡ 0 → in_order xs ≡ []
+  none-first [] h = refl
+  none-first (x ∷ xs) h = absurd (omega (arith, h))
+
+  pub some-first : (xs : List (Entry P)) → 0 < length (in_order xs) → 0 < length xs
+  some-first [] h = absurd (omega (arith, h))
+  some-first (x ∷ xs) h = let z : 0 < length (x ∷ xs) = omega arith in z
+
+  -- without its top the heap has the events after the first
+  pub popped : (x : Entry P) (xs ys : List (Entry P)) → IsQueue xs → IsPermutation xs (x ∷ ys) → IsHeap entry_cmp ys → IsUpperBound entry_cmp x ys → IsQueue ys × (in_order ys ≡ drop 1 (in_order xs))
+  popped x xs ys q h heap bound =
+      let moved : IsPermutation (events_in xs) (x.event ∷ events_in ys) = IsPermutation-map (λ (e : Entry P). e.event) xs (x ∷ ys) h in
+      let same : in_order xs ≡ x.event ∷ in_order ys = same-order (events_in xs) (x.event ∷ events_in ys) moved q.apart ∙ all_later x.event (events_in ys) [] (top-least x ys bound) in
+      let both : AreApart (x.event ∷ events_in ys) = apart-permuted (events_in xs) (x.event ∷ events_in ys) moved q.apart in (
+        record {
+          heap = heap;
+          apart = λ k. let few : held k (x.event ∷ events_in ys) ≤ 1 = both k in let sum : held k (x.event ∷ events_in ys) ≡ one_held k x.event + held k (events_in ys) = sum_by-cons (one_held k) x.event (events_in ys) in omega (arith, few, sum);
+        },
+        sym (ap (drop 1) same),
+      )
+
+  -- with one more entry it has that one's event in its place
+  pub pushed : (x : Entry P) (xs ys : List (Entry P)) → IsQueue xs → IsPermutation (x ∷ xs) ys → IsHeap entry_cmp ys → ((d : Sent P) → Among d (in_order xs) → d.key ≡ x.event.key → ⊥) → IsQueue ys × (in_order ys ≡ inserted x.event (in_order xs))
+  pushed x xs ys q h heap new =
+      let moved : IsPermutation (x.event ∷ events_in xs) (events_in ys) = IsPermutation-map (λ (e : Entry P). e.event) (x ∷ xs) ys h in
+      let other : (d : Sent P) → Among d (events_in xs) → d.key ≡ x.event.key → ⊥ = λ d m. new d (among-all_inserted (events_in xs) [] d (inl m)) in
+      let both : AreApart (x.event ∷ events_in xs) = apart-more x.event (events_in xs) q.apart other in (
+        record { heap = heap; apart = apart-permuted (x.event ∷ events_in xs) (events_in ys) moved both },
+        sym (same-order (x.event ∷ events_in xs) (events_in ys) moved both) ∙ past x.event (events_in xs) [] other,
+      )
