@@ -5,9 +5,9 @@
 use std::env;
 use vt_model::Config;
 use vt_network::Network;
-use vt_seq::Sequential;
-use vt_station::{Open, run_workers};
-use vt_text::{Version, print_records};
+use vt_options::{RunSettings, Synch};
+use vt_runner::simulate;
+use vt_text::Version;
 
 // How many routers further a chord leads.
 const COLUMNS: u32 = 4;
@@ -43,21 +43,18 @@ fn main(rt: HostRuntime) -> Result<(), anyhow::Error> {
     let workers = u32::try_from(number_at(&words, 0, 0)?)?;
     let routers = u32::try_from(number_at(&words, 1, 16)?)?;
     let end = number_at(&words, 2, 200)?;
+    let (synch, workers) = match workers {
+        0 => (Synch::Sequential, 1),
+        _ => (Synch::Optimistic, workers),
+    };
     let model = Network::new(COLUMNS, GAP, SERVICE, LINK)?;
-    if workers == 0 {
-        let config = Config::new(routers, 1, end, SEED)?;
-        let records = Sequential::new(rt.alloc(), &model, config)?.run(rt.alloc())?;
-        print_records(&mut rt.stdout(), records.as_slice(), Version::Two)?;
-        return Ok(());
-    }
-    let config = Config::new(routers, workers, end, SEED)?;
-    match run_workers(&rt, rt.alloc(), config, &model, &Open, MOST_TURNS) {
-        Ok(records) => print_records(&mut rt.stdout(), records.as_slice(), Version::Two)?,
-        Err(stopped) => {
-            // What was committed is a beginning of the records; why the run stopped is the program's error.
-            print_records(&mut rt.stdout(), stopped.records.as_slice(), Version::Two)?;
-            return Err(stopped.fault.into());
-        }
-    }
+    let settings = RunSettings {
+        synch,
+        config: Config::new(routers, workers, end, SEED)?,
+        turns: MOST_TURNS,
+        text: Version::Two,
+    };
+    // If the run stops, what was committed is written, and why it stopped is the program's error.
+    simulate(&rt, rt.alloc(), &model, &settings, &mut rt.stdout())?;
     Ok(())
 }

@@ -7,7 +7,7 @@ use Rattle.vt_models.specs.declared.stations.Stations.{Stations}
 use Rattle.vt_command.specs.declared.choices.Options.{Options}
 use Rattle.vt_command.specs.declared.choices.ReplayOptions.{ReplayOptions}
 use Rattle.vt_command.specs.declared.choices.ModelName.TheVariants as name
-use Rattle.vt_command.specs.declared.choices.Synch.TheVariants as synch
+use Rattle.vt_options.specs.declared.choices.Synch.TheVariants as synch
 use Rattle.vt_text.specs.declared.version.Version.TheVariants as version
 
 abbrev pub default_config : Config

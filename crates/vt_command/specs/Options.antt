@@ -1,6 +1,6 @@
 -- The options that texts give.
 use Rattle.std.specs.Prelude.{◌≡◌, Some, None, codes}
-use Rattle.vt_model.specs.declared.settings.Config.{Config}
+pub use Rattle.vt_options.specs.Settings.{GiveConfig}
 use Rattle.vt_models.specs.declared.hop.Hop.{Hop}
 use Rattle.vt_models.specs.declared.phold.Phold.{Phold}
 use Rattle.vt_models.specs.declared.stations.Stations.{Stations}
@@ -8,13 +8,6 @@ use Rattle.vt_command.specs.declared.choices.Options.{Options}
 use Rattle.vt_command.specs.declared.choices.ReplayOptions.{ReplayOptions}
 use Rattle.vt_command.specs.Table
 use Rattle.vt_command.specs.Table.{Given, value_in, model_in, synch_in, version_in, first_bad, first_bad_of_replay}
-
--- the config that the texts give
-pub record GiveConfig (given : Given) (c : Config) : Type 0 where
-  pub workers : value_in given Table.workers ≡ Some c.workers
-  pub lps : value_in given Table.lps ≡ Some c.lps
-  pub end : value_in given Table.end ≡ Some c.end
-  pub seed : value_in given Table.seed ≡ Some c.seed
 
 -- the hop model that the texts give
 pub record GiveHop (given : Given) (m : Hop) : Type 0 where

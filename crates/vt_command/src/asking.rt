@@ -1,8 +1,7 @@
 //! Requests: what a command line asks for.
 
-ghost use Rattle.std.specs.Prelude.{◌≡◌, ◌⊎◌, [], ℕ, List, IfOk, IfErr, map};
-ghost use Rattle.clap.specs.Values.{kind_of};
-ghost use Rattle.clap.specs.Words.{HasKind, Text, fault_of, subcommand_of, subcommand_rows_of};
+ghost use Rattle.std.specs.Prelude.{◌≡◌, [], ℕ, List, IfOk, IfErr, map};
+ghost use Rattle.clap.specs.Words.{Text, fault_of, subcommand_of, subcommand_rows_of};
 ghost use Rattle.vt_key.specs.Faults.{fault_number};
 ghost use Rattle.vt_command.specs.Line.{twarp_app};
 ghost use Rattle.vt_command.specs.Requests.{IsRefusedBy};
@@ -11,11 +10,11 @@ ghost use Rattle.vt_command.specs.Asked.{IsAsked};
 use crate::line::matches_in;
 use crate::reading::{read_options, read_replay_options};
 use crate::{Options, ReplayOptions};
-use clap::error::ErrorKind;
-use clap::{ArgMatches, Error};
+use clap::ArgMatches;
 use std::alloc::Global;
 use std::convert::AsStr;
 use vt_key::Fault;
+use vt_options::help_of;
 
 /// What a command line asks for.
 #[derive(Debug, Drop)]
@@ -48,23 +47,6 @@ fn request_of(matches: &ArgMatches) -> Result<Request, Fault>
     }
 }
 
-/// The request of a command line that the parser has refused: help, or an error. The fault is
-/// [`Fault::Memory`] only if the parser or the text of the help was refused memory.
-fn request_after(alloc: Global, error: Error) -> Result<Request, Fault>
-    ensures ok { (words : List Text) → HasKind (fault_of twarp_app words) error → IfOk result (IsAsked words) }
-    ensures err { (words : List Text) → HasKind (fault_of twarp_app words) error → IfErr result (IsRefusedBy words) }
-    ensures memory { IfErr result (λ fault. fault ≡ Fault.Memory → (kind_of error ≡ ErrorKind.OutOfMemory) ⊎ (kind_of error ≡ ErrorKind.DisplayHelp)) }
-{
-    match error.kind() {
-        ErrorKind::OutOfMemory => Err(Fault::Memory),
-        ErrorKind::DisplayHelp => match error.to_string(alloc) {
-            Ok(text) => Ok(Request::Help(text)),
-            Err(_) => Err(Fault::Memory),
-        },
-        _ => Err(Fault::BadOption("command-line")),
-    }
-}
-
 /// What a command line asks for. The first word is the program's name.
 ///
 /// [`Fault::BadOption`] with an option's name: this is the first bad option in the order of the table.
@@ -76,6 +58,6 @@ pub fn read_request<S: AsStr>(alloc: Global, words: &[S]) -> Result<Request, Fau
 {
     match matches_in(alloc, words) {
         Ok(matches) => request_of(&matches),
-        Err(error) => request_after(alloc, error),
+        Err(error) => Ok(Request::Help(help_of(alloc, error)?)),
     }
 }

@@ -2,6 +2,7 @@
 
 use vt_model::Config;
 use vt_models::{Hop, Phold, Stations};
+use vt_options::Synch;
 use vt_text::Version;
 
 /// The models that can be run.
@@ -13,16 +14,6 @@ pub enum ModelName {
     Phold,
     /// `stations`: a closed network of queues with one server each.
     Stations,
-}
-
-/// How a run keeps events in order.
-#[derive(Debug, Clone, Copy, PartialEq, Eq)]
-pub enum Synch {
-    /// `1`: one thread, which always executes the pending event of least key.
-    Sequential,
-    /// `3`: Time Warp, in a thread for each worker. A worker executes the least event that it knows of, and rolls back if an
-    /// earlier one arrives after it.
-    Optimistic,
 }
 
 /// The options of a run. Each is in its range, also those that the run doesn't use.

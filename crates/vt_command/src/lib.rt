@@ -7,11 +7,10 @@
 mod asking;
 mod choices;
 pub mod laws;
-mod limits;
 mod line;
 mod reading;
 mod texts;
 
 pub use asking::{Request, read_request};
-pub use choices::{ModelName, Options, ReplayOptions, Synch};
-pub use limits::MAX_TURNS;
+pub use choices::{ModelName, Options, ReplayOptions};
+pub use vt_options::{MAX_TURNS, Synch};

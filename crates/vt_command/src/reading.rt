@@ -4,65 +4,17 @@ ghost use Rattle.std.specs.Prelude.{◌≡◌, ◌≤◌, ◌<◌, ◌^◌, ℕ,
 ghost use Rattle.clap.specs.Words.{first_value, found_of};
 ghost use Rattle.vt_key.specs.Faults.{fault_number, option_named};
 ghost use Rattle.vt_model.specs.Settings.{is_between};
-ghost use Rattle.vt_command.specs.Table.{number_in, model_in, synch_in, version_in, bad, bad_number, first_bad_of, first_bad, first_bad_of_replay, config_table, hop_table, phold_table, stations_table};
-ghost use Rattle.vt_command.specs.Options.{GiveConfig, GiveHop, GivePhold, GiveStations, GiveOptions, GiveReplayOptions};
+ghost use Rattle.vt_command.specs.Table.{model_in, bad, first_bad_of, first_bad, first_bad_of_replay, hop_table, phold_table, stations_table};
+ghost use Rattle.vt_command.specs.Options.{GiveHop, GivePhold, GiveStations, GiveOptions, GiveReplayOptions};
 
-use crate::{MAX_TURNS, ModelName, Options, ReplayOptions, Synch};
+use crate::{MAX_TURNS, ModelName, Options, ReplayOptions};
 use clap::ArgMatches;
-use vt_key::{Fault, MAX_COUNT, MAX_END, MAX_PROCESSES, MAX_WORKERS};
-use vt_model::Config;
+use vt_key::{Fault, MAX_COUNT};
 use vt_models::{
     Hop, MAX_DELAY, MAX_HOPS, MAX_JOBS, MAX_LOOKAHEAD, MAX_POPULATION, MAX_REMOTE, MAX_RISE,
     MAX_SERVICE, MAX_SPAN, MAX_STRIDE, MAX_TRAVEL, Phold, Stations,
 };
-use vt_text::{Version, read_number};
-
-/// An option that is a number of up to 64 bits, from `least` to `most`; `default` if it isn't given.
-fn number_option(
-    matches: &ArgMatches,
-    name: &'static str,
-    least: u64,
-    most: u64,
-    default: u64,
-) -> Result<u64, Fault>
-    requires { is_between least most default ≡ true }
-    ensures ok { IfOk result (λ n. number_in least most default (first_value (found_of matches.now) name.entry.now) ≡ Some n) }
-    ensures within { IfOk result (λ n. is_between least most n ≡ true) }
-    ensures err { IfErr result (λ fault. fault ≡ Fault.BadOption name.entry) }
-    ensures none { IfErr result (λ _. number_in least most default (first_value (found_of matches.now) name.entry.now) ≡ None) }
-{
-    let Some(text) = matches.get_str(name) else {
-        return Ok(default);
-    };
-    match read_number(text.as_bytes()) {
-        Some(n) if least <= n && n <= most => Ok(n),
-        _ => Err(Fault::BadOption(name)),
-    }
-}
-
-/// An option that is a number of up to 32 bits, from `least` to `most`; `default` if it isn't given.
-fn small_option(
-    matches: &ArgMatches,
-    name: &'static str,
-    least: u32,
-    most: u32,
-    default: u32,
-) -> Result<u32, Fault>
-    requires { is_between least most default ≡ true }
-    ensures ok { IfOk result (λ n. number_in least most default (first_value (found_of matches.now) name.entry.now) ≡ Some n) }
-    ensures within { IfOk result (λ n. is_between least most n ≡ true) }
-    ensures err { IfErr result (λ fault. fault ≡ Fault.BadOption name.entry) }
-    ensures none { IfErr result (λ _. number_in least most default (first_value (found_of matches.now) name.entry.now) ≡ None) }
-{
-    let n = number_option(
-        matches,
-        name,
-        u64::from(least),
-        u64::from(most),
-        u64::from(default),
-    )?;
-    Ok(n as u32)
-}
+use vt_options::{config_options, number_option, small_option, synch_option, text_option};
 
 fn model_option(matches: &ArgMatches) -> Result<ModelName, Fault>
     ensures ok { IfOk result (λ model. model_in (first_value (found_of matches.now) (codes "model")) ≡ Some model) }
@@ -76,49 +28,6 @@ fn model_option(matches: &ArgMatches) -> Result<ModelName, Fault>
         Some("stations") => Ok(ModelName::Stations),
         Some(_) => Err(Fault::BadOption("model")),
     }
-}
-
-fn synch_option(matches: &ArgMatches) -> Result<Synch, Fault>
-    ensures ok { IfOk result (λ synch. synch_in (first_value (found_of matches.now) (codes "synch")) ≡ Some synch) }
-    ensures err { IfErr result (λ fault. fault_number fault ≡ 7) }
-    ensures bad { IfErr result (λ fault. option_named fault ≡ bad (codes "synch") (synch_in (first_value (found_of matches.now) (codes "synch")))) }
-{
-    let Some(text) = matches.get_str("synch") else {
-        return Ok(Synch::Sequential);
-    };
-    match read_number(text.as_bytes()) {
-        Some(1) => Ok(Synch::Sequential),
-        Some(3) => Ok(Synch::Optimistic),
-        _ => Err(Fault::BadOption("synch")),
-    }
-}
-
-fn text_option(matches: &ArgMatches) -> Result<Version, Fault>
-    ensures ok { IfOk result (λ version. version_in (first_value (found_of matches.now) (codes "text")) ≡ Some version) }
-    ensures err { IfErr result (λ fault. fault_number fault ≡ 7) }
-    ensures bad { IfErr result (λ fault. option_named fault ≡ bad (codes "text") (version_in (first_value (found_of matches.now) (codes "text")))) }
-{
-    let Some(text) = matches.get_str("text") else {
-        return Ok(Version::Two);
-    };
-    match read_number(text.as_bytes()) {
-        Some(1) => Ok(Version::One),
-        Some(2) => Ok(Version::Two),
-        _ => Err(Fault::BadOption("text")),
-    }
-}
-
-fn config_options(matches: &ArgMatches) -> Result<Config, Fault>
-    ensures ok { IfOk result (λ c. GiveConfig (first_value (found_of matches.now)) c) }
-    ensures good { IfOk result (λ _. first_bad_of (first_value (found_of matches.now)) config_table ≡ None) }
-    ensures err { IfErr result (λ fault. fault_number fault ≡ 7) }
-    ensures bad { IfErr result (λ fault. option_named fault ≡ first_bad_of (first_value (found_of matches.now)) config_table) }
-{
-    let workers = small_option(matches, "workers", 1, MAX_WORKERS, 1)?;
-    let lps = small_option(matches, "lps", 1, MAX_PROCESSES, 2)?;
-    let end = number_option(matches, "end", 1, MAX_END, 10)?;
-    let seed = number_option(matches, "seed", 0, u64::MAX, 0)?;
-    Config::new(lps, workers, end, seed)
 }
 
 fn hop_options(matches: &ArgMatches) -> Result<Hop, Fault>

@@ -1,5 +1,1 @@
-pub mod RefusalLemmas
-pub mod RunLemmas
 pub mod OutcomeLemmas
-pub mod ReplyLemmas
-pub mod ReplayLemmas

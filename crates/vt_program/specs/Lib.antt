@@ -1,5 +1,4 @@
 pub mod Refusals
 pub mod Runs
 pub mod Replays
-pub mod Replying
 pub mod Outcomes

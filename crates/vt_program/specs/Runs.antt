@@ -1,34 +1,13 @@
--- The text of a run, and how much of it a run writes that is refused.
-use Rattle.std.specs.Prelude.{◌≡◌, ℕ, List, ◌++◌, Option}
-use Rattle.std.specs.Io.KnownBytes.{Appends, Keeps}
+-- The text of the run that options ask for.
+use Rattle.std.specs.Prelude.{ℕ, List}
 use Rattle.vt_key.specs.Times.{Time}
-use Rattle.vt_key.specs.declared.fault.Fault.{Fault}
-use Rattle.vt_key.specs.declared.fault.Fault.TheVariants.{Memory, Busy, Exhausted, TurnsSpent, Output}
-use Rattle.vt_model.specs.declared.settings.Config.{Config}
-use Rattle.vt_model.specs.Handler.{Handlers}
-use Rattle.vt_model.specs.Simulation.{simulation_of}
-use Rattle.vt_model.specs.Sequential.{seq_records}
 use Rattle.vt_models.specs.Hop.{hop_handlers}
 use Rattle.vt_models.specs.Phold.{phold_handlers}
 use Rattle.vt_models.specs.Stations.{stations_handlers}
-use Rattle.vt_model.specs.Settings.{end_of}
-use Rattle.vt_seq.specs.Limits.{PassesLimit}
-use Rattle.vt_text.specs.declared.version.Version.{Version}
-use Rattle.vt_text.specs.Records.{records_text}
-use Rattle.vt_text.specs.Writing.{AppendsBeginning}
+use Rattle.vt_runner.specs.Runs.{run_text, text_below, PassesInRun}
 use Rattle.vt_command.specs.declared.choices.Options.{Options}
 use Rattle.vt_command.specs.declared.choices.ModelName.{ModelName}
 use Rattle.vt_command.specs.declared.choices.ModelName.TheVariants.{Hop, Phold, Stations}
-use Rattle.vt_command.specs.declared.choices.Synch.{Synch}
-use Rattle.vt_command.specs.declared.choices.Synch.TheVariants.{Sequential, Optimistic}
-
--- the records of a model's sequential run below a time, as text of a version
-abbrev pub text_below : {S P K : Type 0} → Version → Handlers S P K → Config → Time → List ℕ
-text_below version handlers config time = records_text version (seq_records (simulation_of handlers config) time)
-
--- the records of a model's whole sequential run, as text of a version
-abbrev pub run_text : {S P K : Type 0} → Version → Handlers S P K → Config → List ℕ
-run_text version handlers config = text_below version handlers config (end_of config)
 
 -- the text of a run of this model with these options
 abbrev pub text_of_model : ModelName → Options → List ℕ
@@ -50,10 +29,7 @@ text_of_model_below Stations o time = text_below o.text (stations_handlers o.sta
 abbrev pub text_of_run_below : Options → Time → List ℕ
 text_of_run_below o time = text_of_model_below o.model o time
 
--- some step of a model's sequential run would take a send number past its limit
-abbrev pub PassesInRun : {S P K : Type 0} → Handlers S P K → Config → Type 0
-PassesInRun handlers config = (n : ℕ) × PassesLimit (simulation_of handlers config) n
-
+-- some step of the sequential run of this model would take a send number past its limit
 abbrev pub PassesInRunOfModel : ModelName → Options → Type 0
 PassesInRunOfModel Hop o = PassesInRun (hop_handlers o.hop) o.config
 PassesInRunOfModel Phold o = PassesInRun (phold_handlers o.phold) o.config
@@ -62,32 +38,3 @@ PassesInRunOfModel Stations o = PassesInRun (stations_handlers o.stations) o.con
 -- some step of the run that options ask for would take a send number past its limit
 abbrev pub PassesInRunOf : Options → Type 0
 PassesInRunOf o = PassesInRunOfModel o.model o
-
--- the text below some time was written, which is a beginning of the whole
-pub record WritesBelow (below : Time → List ℕ) (whole : List ℕ) (old new : Option (List ℕ)) : Type 0 where
-  pub time : Time
-  pub written : Appends old new (below time)
-  pub rest : List ℕ
-  pub begins : whole ≡ below time ++ rest
-
--- what a sequential run that was refused wrote of its text: nothing, or where the writer failed a beginning. A counter is spent
--- only where the run would pass its limit
-abbrev pub StopsRun : Type 0 → Option (List ℕ) → Option (List ℕ) → List ℕ → Fault → Type 0
-StopsRun Passes old new text Memory = Keeps old new
-StopsRun Passes old new text Exhausted = Passes × Keeps old new
-StopsRun Passes old new text Output = AppendsBeginning old new text
-StopsRun Passes old new text _ = ⊥
-
--- what a run in threads that was refused wrote of its text: what comes before some time, or where the writer failed a beginning
-abbrev pub StopsWork : (Time → List ℕ) → List ℕ → Option (List ℕ) → Option (List ℕ) → Fault → Type 0
-StopsWork below whole old new Memory = WritesBelow below whole old new
-StopsWork below whole old new Busy = WritesBelow below whole old new
-StopsWork below whole old new Exhausted = WritesBelow below whole old new
-StopsWork below whole old new TurnsSpent = WritesBelow below whole old new
-StopsWork below whole old new Output = AppendsBeginning old new whole
-StopsWork below whole old new _ = ⊥
-
--- what a run that was refused wrote of its text, by the way in which it keeps the order of events
-abbrev pub StopsBy : Synch → Type 0 → (Time → List ℕ) → List ℕ → Option (List ℕ) → Option (List ℕ) → Fault → Type 0
-StopsBy Sequential Passes below whole old new fault = StopsRun Passes old new whole fault
-StopsBy Optimistic Passes below whole old new fault = StopsWork below whole old new fault

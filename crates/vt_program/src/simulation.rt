@@ -2,77 +2,16 @@
 
 ghost use Rattle.std.specs.Prelude.{OnOk, IfErr};
 ghost use Rattle.std.specs.Io.KnownBytes.{Appends};
-ghost use Rattle.vt_program.specs.Runs.{run_text, text_below, text_of_run, text_of_run_below, PassesInRun, PassesInRunOf, StopsRun, StopsWork, StopsBy};
+ghost use Rattle.vt_runner.specs.Runs.{StopsBy};
+ghost use Rattle.vt_program.specs.Runs.{text_of_run, text_of_run_below, PassesInRunOf};
 
 use std::alloc::Global;
 use std::io::Write;
 use std::sync::Wait;
 use std::thread::Threads;
-use vt_command::{ModelName, Options, Synch};
+use vt_command::{ModelName, Options};
 use vt_key::Fault;
-use vt_model::Model as EventModel;
-use vt_seq::Sequential;
-use vt_station::{Open, run_workers};
-use vt_text::print_records;
-
-/// Simulates a model in this thread, and writes the records of the run, in the version that the options name.
-fn print_run<M: EventModel, O: Write>(
-    alloc: Global,
-    model: &M,
-    options: &Options,
-    out: &mut O,
-) -> Result<(), Fault>
-    ensures ok { OnOk result (Appends (O.contents out.old) (O.contents out.new) (run_text options.now.text (M.handlers model.now) options.now.config)) }
-    ensures err { IfErr result (StopsRun (PassesInRun (M.handlers model.now) options.now.config) (O.contents out.old) (O.contents out.new) (run_text options.now.text (M.handlers model.now) options.now.config)) }
-{
-    let mut run = Sequential::new(alloc, model, options.config)?;
-    run.complete()?;
-    print_records(out, run.records(), options.text)
-}
-
-/// Simulates a model by Time Warp, in a thread for each worker, and writes the records of the run, in the version that
-/// the options name. If the run stops, it writes the committed records in that version before it returns the fault.
-fn print_work<H: Threads + Wait + Sync, M: EventModel + Sync, O: Write>(
-    rt: &H,
-    alloc: Global,
-    model: &M,
-    options: &Options,
-    out: &mut O,
-) -> Result<(), Fault>
-where
-    M::State: Send,
-    M::Kept: Send,
-    ensures ok { OnOk result (Appends (O.contents out.old) (O.contents out.new) (run_text options.now.text (M.handlers model.now) options.now.config)) }
-    ensures err { IfErr result (StopsWork (text_below options.now.text (M.handlers model.now) options.now.config) (run_text options.now.text (M.handlers model.now) options.now.config) (O.contents out.old) (O.contents out.new)) }
-{
-    match run_workers(rt, alloc, options.config, model, &Open, options.turns) {
-        Ok(records) => print_records(out, records.as_slice(), options.text),
-        Err(stopped) => {
-            print_records(out, stopped.records.as_slice(), options.text)?;
-            Err(stopped.fault)
-        }
-    }
-}
-
-/// Simulates a model with the kind of run that the options name, and writes the records of the run in their version.
-fn print_model<H: Threads + Wait + Sync, M: EventModel + Sync, O: Write>(
-    rt: &H,
-    alloc: Global,
-    model: &M,
-    options: &Options,
-    out: &mut O,
-) -> Result<(), Fault>
-where
-    M::State: Send,
-    M::Kept: Send,
-    ensures ok { OnOk result (Appends (O.contents out.old) (O.contents out.new) (run_text options.now.text (M.handlers model.now) options.now.config)) }
-    ensures err { IfErr result (StopsBy options.now.synch (PassesInRun (M.handlers model.now) options.now.config) (text_below options.now.text (M.handlers model.now) options.now.config) (run_text options.now.text (M.handlers model.now) options.now.config) (O.contents out.old) (O.contents out.new)) }
-{
-    match options.synch {
-        Synch::Sequential => print_run(alloc, model, options, out),
-        Synch::Optimistic => print_work(rt, alloc, model, options, out),
-    }
-}
+use vt_options::RunSettings;
 
 /// Simulates the model that the options name, and writes the records of the run, in the version that they name.
 ///
@@ -84,7 +23,7 @@ where
 /// before the end of the run, and [`Fault::Busy`] if the records couldn't be read.
 ///
 /// In both, [`Fault::Output`] means that the writer failed. A beginning of the text was written.
-pub fn simulate<H: Threads + Wait + Sync, O: Write>(
+pub(crate) fn simulate<H: Threads + Wait + Sync, O: Write>(
     rt: &H,
     alloc: Global,
     options: &Options,
@@ -93,9 +32,15 @@ pub fn simulate<H: Threads + Wait + Sync, O: Write>(
     ensures ok { OnOk result (Appends (O.contents out.old) (O.contents out.new) (text_of_run options.now)) }
     ensures err { IfErr result (StopsBy options.now.synch (PassesInRunOf options.now) (text_of_run_below options.now) (text_of_run options.now) (O.contents out.old) (O.contents out.new)) }
 {
+    let settings = RunSettings {
+        synch: options.synch,
+        config: options.config,
+        turns: options.turns,
+        text: options.text,
+    };
     match options.model {
-        ModelName::Hop => print_model(rt, alloc, &options.hop, options, out),
-        ModelName::Phold => print_model(rt, alloc, &options.phold, options, out),
-        ModelName::Stations => print_model(rt, alloc, &options.stations, options, out),
+        ModelName::Hop => vt_runner::simulate(rt, alloc, &options.hop, &settings, out),
+        ModelName::Phold => vt_runner::simulate(rt, alloc, &options.phold, &settings, out),
+        ModelName::Stations => vt_runner::simulate(rt, alloc, &options.stations, &settings, out),
     }
 }

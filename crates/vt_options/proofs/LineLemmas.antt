@@ -1,0 +1,92 @@
+-- A program's command line is a simple one, whatever its options.
+use Rattle.std.proofs.Common.{◌≡◌, ℕ, ◌+◌, ◌<◌, ◌∙◌, refl, sym, true, false, not, List, length, take, get_or, map, ap, ap₂, [], ◌∷◌, ◌++◌, Result, Ok, Err, IfOk, MatchResult, append_assoc, append-nil, codes}
+use Rattle.std.specs.List.{list_all, list_any}
+use Rattle.std.proofs.lemmas.List.{take_more, map-append}
+use Rattle.std.proofs.lemmas.List.Sums.{fold-append}
+use Rattle.clap.specs.Walk.{is_early_multiple}
+use Rattle.clap.specs.Simple.{Shape, new_shape, filled, filled_from, help_rule, is_in_order, with_index}
+use Rattle.clap.specs.Words.{App, Rule, Text, is_simple, is_simple_and_free, new_app, with_rule, with_subcommand}
+use Rattle.vt_options.specs.Line.{option_rule, with_options, program_app}
+
+-- ---- a command with options
+
+abbrev shape_with : Text → List Rule → Shape
+shape_with name rules = record (new_shape name) { rules = rules }
+
+with_more : (name : Text) (rules : List Rule) (names : List Text) → (with_options (record { top = shape_with name rules; subs = [] }) names).top ≡ shape_with name (rules ++ map option_rule names)
+with_more name rules [] = ap (shape_with name) (sym (append-nil rules))
+with_more name rules (n ∷ ns) = with_more name (rules ++ option_rule n ∷ []) ns ∙ ap (shape_with name) (append_assoc rules (option_rule n ∷ []) (map option_rule ns))
+
+top_is : (name : Text) (names : List Text) → (with_options (new_app name) names).top ≡ shape_with name (map option_rule names)
+top_is name names = with_more name [] names
+
+-- the program, with the rules of its subcommands written out
+abbrev app_with : Text → List Rule → List Rule → App
+app_with name run replay = with_subcommand (with_subcommand (new_app name) (shape_with (codes "run") run)) (shape_with (codes "replay") replay)
+
+program_is : (name : Text) (run replay : List Text) → program_app name run replay ≡ app_with name (map option_rule run) (map option_rule replay)
+program_is name run replay = ap₂ (λ (a b : Shape). with_subcommand (with_subcommand (new_app name) a) b) (top_is (codes "run") run) (top_is (codes "replay") replay)
+
+-- ---- its rules, once they are filled in
+
+abbrev full : Text → Rule
+full name = with_index 1 (filled (option_rule name))
+
+-- and the flag for help
+abbrev flag : Rule
+flag = with_index 1 (filled help_rule)
+
+fills : (names : List Text) → filled_from 1 (map option_rule names ++ help_rule ∷ []) ≡ map full names ++ flag ∷ []
+fills [] = refl
+fills (n ∷ ns) = ap (λ (rs : List Rule). full n ∷ rs) (fills ns)
+
+all_plain : (names : List Text) → list_all (λ (a : Rule). a.is_simple) (map option_rule names) ≡ true
+all_plain [] = refl
+all_plain (n ∷ ns) = all_plain ns
+
+all_simple : (names : List Text) → list_all (λ (a : Rule). a.is_simple) (map full names ++ flag ∷ []) ≡ true
+all_simple [] = refl
+all_simple (n ∷ ns) = all_simple ns
+
+all_free : (names : List Text) → list_all (λ (a : Rule). a.is_free) (map full names ++ flag ∷ []) ≡ true
+all_free [] = refl
+all_free (n ∷ ns) = all_free ns
+
+none_early : (k : ℕ) (names : List Text) → list_any (is_early_multiple k) (map full names ++ flag ∷ []) ≡ false
+none_early k [] = refl
+none_early k (n ∷ ns) = none_early k ns
+
+in_order : (names : List Text) → is_in_order (map full names ++ flag ∷ []) ≡ true
+in_order names = ap not (none_early _ names)
+
+-- ---- so the program is simple
+
+abbrev rules_full : List Text → List Rule
+rules_full names = map full names ++ flag ∷ []
+
+module _ (name : Text) (run replay : List Text) where
+  abbrev app : App
+  app = app_with name (map option_rule run) (map option_rule replay)
+
+  ready_is : is_simple app ≡ true
+  ready_is = rw (all_plain run, all_plain replay, fills run, fills replay, all_simple run, all_simple replay, in_order run, in_order replay) refl
+
+  free_is : is_simple_and_free app ≡ true
+  free_is = rw (all_plain run, all_plain replay, fills run, fills replay, all_simple run, all_simple replay, in_order run, in_order replay, all_free run, all_free replay) refl
+
+  pub is_ready : is_simple (program_app name run replay) ≡ true
+  is_ready = ap is_simple (program_is name run replay) ∙ ready_is
+
+  pub is_plain : is_simple_and_free (program_app name run replay) ≡ true
+  is_plain = ap is_simple_and_free (program_is name run replay) ∙ free_is
+
+-- one option more
+pub options_more : {X : Type 0} (name_of : X → Text) (a : App) (options : List X) (i : ℕ) (d : X) → i < length options → with_options a (map name_of (take (i + 1) options)) ≡ with_rule (with_options a (map name_of (take i options))) (option_rule (name_of (get_or options i d)))
+options_more name_of a options i d h =
+    ap (λ l. with_options a (map name_of l)) (take_more options i d h)
+    ∙ ap (with_options a) (map-append name_of (take i options) (get_or options i d ∷ []))
+    ∙ fold-append (λ (b : App) (name : Text). with_rule b (option_rule name)) a (map name_of (take i options)) (name_of (get_or options i d) ∷ [])
+
+pub ok_part : {X Y : Type 0} (r : Result X Y) (P : X → Type 0) (Q : Y → Type 0) → MatchResult r P Q → IfOk r P
+ok_part (Ok x) P Q h = h
+ok_part (Err e) P Q h = tt

@@ -1,0 +1,4 @@
+pub mod Line
+pub mod Table
+pub mod Settings
+pub mod Requests

@@ -1,0 +1,100 @@
+//! The command line as `clap` reads it.
+
+ghost use Rattle.std.specs.Prelude.{◌≡◌, IfOk, IfErr, map, false, []};
+ghost use Rattle.clap.specs.Words.{app_of, new_app, rule_of, subcommand_of, subcommand_rows_of, fault_of, HasKind};
+ghost use Rattle.clap.specs.declared.builder.command.Command.TheViews.{out-Command};
+ghost use Rattle.vt_options.specs.Line.{option_rule, with_options, program_app, names_of};
+
+use crate::texts::OptionText;
+use clap::{Arg, ArgMatches, Command, Error};
+use std::alloc::{AllocError, Global};
+use std::convert::AsStr;
+
+/// What help shows of a program.
+#[derive(Debug, Clone, Copy)]
+pub struct ProgramTexts {
+    /// The program's name.
+    pub name: &'static str,
+    /// What it does, in a line.
+    pub about: &'static str,
+    /// The usage line of the program.
+    pub usage: &'static str,
+    /// The end of the help.
+    pub in_short: &'static str,
+}
+
+const RUN_ABOUT: &str =
+    "Simulates a model, and prints its records, one a line: TIME PRIORITY PROCESS KIND VALUE";
+
+const REPLAY_ABOUT: &str =
+    "Reads the steps of a Time Warp run, a line for each, and prints what they are answered";
+
+/// An option with a value.
+fn option<'a>(alloc: Global, text: &OptionText) -> Arg<'a>
+    ensures rule { rule_of result ≡ option_rule text.now.name.now }
+    ensures local { result.global ≡ false }
+{
+    Arg::new(alloc, text.name)
+        .long(text.name)
+        .value_name(text.value)
+        .help_heading(text.heading)
+        .help(text.help)
+}
+
+/// A command with these options.
+fn command_of<'a>(
+    alloc: Global,
+    name: &'a str,
+    about: &'static str,
+    options: &[OptionText],
+) -> Result<Command<'a>, AllocError>
+    ensures app { IfOk result (λ c. app_of c ≡ with_options (new_app name.entry.now) (names_of options.now)) }
+    ensures local { IfOk result (λ c. (out-Command c).has_globals ≡ false) }
+{
+    let mut command = Command::new(alloc, name).about(about);
+    for text in options {
+        command = command.arg(option(alloc, text))?;
+    }
+    Ok(command)
+}
+
+/// The parser of a program's command line: the subcommands `run` and `replay`, each with its options.
+///
+/// An error means that memory was refused.
+fn program_command<'a>(
+    alloc: Global,
+    texts: &ProgramTexts,
+    run: &[OptionText],
+    replay: &[OptionText],
+) -> Result<Command<'a>, AllocError>
+    ensures { IfOk result (λ c. app_of c ≡ program_app texts.now.name.now (names_of run.now) (names_of replay.now)) }
+{
+    let run = command_of(alloc, "run", RUN_ABOUT, run)?;
+    let replay = command_of(alloc, "replay", REPLAY_ABOUT, replay)?;
+    let program = Command::new(alloc, texts.name)
+        .about(texts.about)
+        .override_usage(texts.usage)
+        .after_help(texts.in_short)
+        .subcommand(run)?;
+    Ok(program.subcommand(replay)?)
+}
+
+/// What the parser makes of a command line of a program with these options of `run` and `replay`. The first word is the
+/// program's name.
+///
+/// An error means that memory was refused, that the words ask for help, or that they have no meaning. Its kind is one
+/// that the definitions give for these words.
+pub fn matches_in<'a, S: AsStr>(
+    alloc: Global,
+    texts: &ProgramTexts,
+    run: &[OptionText],
+    replay: &[OptionText],
+    words: &'a [S],
+) -> Result<ArgMatches<'a>, Error>
+    ensures ok { IfOk result (λ m. subcommand_rows_of m ≡ subcommand_of (program_app texts.now.name.now (names_of run.now) (names_of replay.now)) (map S.text words.entry.now)) }
+    ensures accepted { IfOk result (λ _. fault_of (program_app texts.now.name.now (names_of run.now) (names_of replay.now)) (map S.text words.entry.now) ≡ []) }
+    ensures err { IfErr result (HasKind (fault_of (program_app texts.now.name.now (names_of run.now) (names_of replay.now)) (map S.text words.entry.now))) }
+{
+    let command = program_command(alloc, texts, run, replay)?;
+    command.try_get_matches_from(words)
+}

@@ -1,0 +1,130 @@
+//! Options, read from the matches of a command line.
+
+ghost use Rattle.std.specs.Prelude.{◌≡◌, ◌≤◌, ◌<◌, ◌^◌, ℕ, List, Some, None, IfOk, IfErr, codes, true};
+ghost use Rattle.clap.specs.Words.{first_value, found_of};
+ghost use Rattle.vt_key.specs.Faults.{fault_number, option_named};
+ghost use Rattle.vt_model.specs.Settings.{is_between};
+ghost use Rattle.vt_options.specs.Table.{number_in, synch_in, version_in, bad, first_bad_of, config_table};
+ghost use Rattle.vt_options.specs.Settings.{GiveConfig};
+
+use crate::Synch;
+use clap::ArgMatches;
+use vt_key::{Fault, MAX_END, MAX_PROCESSES, MAX_WORKERS};
+use vt_model::Config;
+use vt_text::{Version, read_number};
+
+/// The number that the words give to an option, from `least` to `most`; `default` if they give it none.
+///
+/// [`Fault::BadOption`]: it is no number in this range.
+fn number_given(
+    matches: &ArgMatches,
+    name: &'static str,
+    least: u64,
+    most: u64,
+    default: u64,
+) -> Result<u64, Fault>
+    ensures ok { IfOk result (λ n. number_in least most default (first_value (found_of matches.now) name.entry.now) ≡ Some n) }
+    ensures err { IfErr result (λ fault. fault ≡ Fault.BadOption name.entry) }
+    ensures none { IfErr result (λ _. number_in least most default (first_value (found_of matches.now) name.entry.now) ≡ None) }
+{
+    let Some(text) = matches.get_str(name) else {
+        return Ok(default);
+    };
+    match read_number(text.as_bytes()) {
+        Some(n) if least <= n && n <= most => Ok(n),
+        _ => Err(Fault::BadOption(name)),
+    }
+}
+
+/// An option that is a number of up to 64 bits, from `least` to `most`; `default` if it isn't given.
+pub fn number_option(
+    matches: &ArgMatches,
+    name: &'static str,
+    least: u64,
+    most: u64,
+    default: u64,
+) -> Result<u64, Fault>
+    requires { is_between least most default ≡ true }
+    ensures ok { IfOk result (λ n. number_in least most default (first_value (found_of matches.now) name.entry.now) ≡ Some n) }
+    ensures within { IfOk result (λ n. is_between least most n ≡ true) }
+    ensures err { IfErr result (λ fault. fault ≡ Fault.BadOption name.entry) }
+    ensures none { IfErr result (λ _. number_in least most default (first_value (found_of matches.now) name.entry.now) ≡ None) }
+{
+    number_given(matches, name, least, most, default)
+}
+
+/// An option that is a number of up to 32 bits, from `least` to `most`; `default` if it isn't given.
+pub fn small_option(
+    matches: &ArgMatches,
+    name: &'static str,
+    least: u32,
+    most: u32,
+    default: u32,
+) -> Result<u32, Fault>
+    requires { is_between least most default ≡ true }
+    ensures ok { IfOk result (λ n. number_in least most default (first_value (found_of matches.now) name.entry.now) ≡ Some n) }
+    ensures within { IfOk result (λ n. is_between least most n ≡ true) }
+    ensures err { IfErr result (λ fault. fault ≡ Fault.BadOption name.entry) }
+    ensures none { IfErr result (λ _. number_in least most default (first_value (found_of matches.now) name.entry.now) ≡ None) }
+{
+    let n = number_option(
+        matches,
+        name,
+        u64::from(least),
+        u64::from(most),
+        u64::from(default),
+    )?;
+    Ok(n as u32)
+}
+
+/// The option `synch`: how a run keeps events in order; 1 if it isn't given.
+///
+/// [`Fault::BadOption`]: it is neither 1 nor 3.
+pub fn synch_option(matches: &ArgMatches) -> Result<Synch, Fault>
+    ensures ok { IfOk result (λ synch. synch_in (first_value (found_of matches.now) (codes "synch")) ≡ Some synch) }
+    ensures err { IfErr result (λ fault. fault_number fault ≡ 7) }
+    ensures bad { IfErr result (λ fault. option_named fault ≡ bad (codes "synch") (synch_in (first_value (found_of matches.now) (codes "synch")))) }
+{
+    let Some(text) = matches.get_str("synch") else {
+        return Ok(Synch::Sequential);
+    };
+    match read_number(text.as_bytes()) {
+        Some(1) => Ok(Synch::Sequential),
+        Some(3) => Ok(Synch::Optimistic),
+        _ => Err(Fault::BadOption("synch")),
+    }
+}
+
+/// The option `text`: the version of the text of records; 2 if it isn't given.
+///
+/// [`Fault::BadOption`]: it is neither 1 nor 2.
+pub fn text_option(matches: &ArgMatches) -> Result<Version, Fault>
+    ensures ok { IfOk result (λ version. version_in (first_value (found_of matches.now) (codes "text")) ≡ Some version) }
+    ensures err { IfErr result (λ fault. fault_number fault ≡ 7) }
+    ensures bad { IfErr result (λ fault. option_named fault ≡ bad (codes "text") (version_in (first_value (found_of matches.now) (codes "text")))) }
+{
+    let Some(text) = matches.get_str("text") else {
+        return Ok(Version::Two);
+    };
+    match read_number(text.as_bytes()) {
+        Some(1) => Ok(Version::One),
+        Some(2) => Ok(Version::Two),
+        _ => Err(Fault::BadOption("text")),
+    }
+}
+
+/// The options of the config: `workers`, `lps`, `end` and `seed`.
+///
+/// [`Fault::BadOption`] names the first of them that is no number in its range.
+pub fn config_options(matches: &ArgMatches) -> Result<Config, Fault>
+    ensures ok { IfOk result (λ c. GiveConfig (first_value (found_of matches.now)) c) }
+    ensures good { IfOk result (λ _. first_bad_of (first_value (found_of matches.now)) config_table ≡ None) }
+    ensures err { IfErr result (λ fault. fault_number fault ≡ 7) }
+    ensures bad { IfErr result (λ fault. option_named fault ≡ first_bad_of (first_value (found_of matches.now)) config_table) }
+{
+    let workers = small_option(matches, "workers", 1, MAX_WORKERS, 1)?;
+    let lps = small_option(matches, "lps", 1, MAX_PROCESSES, 2)?;
+    let end = number_option(matches, "end", 1, MAX_END, 10)?;
+    let seed = number_option(matches, "seed", 0, u64::MAX, 0)?;
+    Config::new(lps, workers, end, seed)
+}

@@ -1,0 +1,89 @@
+//! The texts that help shows for the options of every model.
+
+/// What help shows of an option.
+#[derive(Debug, Clone, Copy)]
+pub struct OptionText {
+    /// The option's name, without its dashes.
+    pub name: &'static str,
+    /// What stands for its value.
+    pub value: &'static str,
+    /// The heading under which it stands.
+    pub heading: &'static str,
+    /// What it is, with its range and its default.
+    pub help: &'static str,
+}
+
+/// The heading of the options of every model.
+pub const GENERAL: &str = "Options of every model";
+
+/// How a run keeps events in order.
+pub const SYNCH: OptionText = OptionText {
+    name: "synch",
+    value: "N",
+    heading: GENERAL,
+    help: "1: one thread, in order; 3: Time Warp, a thread for each worker [default: 1]",
+};
+
+/// The workers of a run.
+pub const WORKERS: OptionText = OptionText {
+    name: "workers",
+    value: "N",
+    heading: GENERAL,
+    help: "Worker threads, 1 to 256; not used with --synch 1 [default: 1]",
+};
+
+/// The workers of a replay.
+pub const REPLAY_WORKERS: OptionText = OptionText {
+    name: "workers",
+    value: "N",
+    heading: GENERAL,
+    help: "Workers, 1 to 256: process P belongs to worker P mod N [default: 1]",
+};
+
+/// The logical processes.
+pub const LPS: OptionText = OptionText {
+    name: "lps",
+    value: "N",
+    heading: GENERAL,
+    help: "Logical processes, which send events to each other, 1 to 65536 [default: 2]",
+};
+
+/// The end of virtual time.
+pub const END: OptionText = OptionText {
+    name: "end",
+    value: "N",
+    heading: GENERAL,
+    help: "Only events before this tick happen, 1 to 4611686018427387904 [default: 10]",
+};
+
+/// The seed of all random draws.
+pub const SEED: OptionText = OptionText {
+    name: "seed",
+    value: "N",
+    heading: GENERAL,
+    help: "Seed of all random draws, 0 to 18446744073709551615 [default: 0]",
+};
+
+/// The most turns of a worker.
+pub const TURNS: OptionText = OptionText {
+    name: "turns",
+    value: "N",
+    heading: GENERAL,
+    help: "A worker's turns (--synch 3), 1 to 9223372036854775808 [default: 10000000]",
+};
+
+/// The first serial of each worker's events.
+pub const SERIAL: OptionText = OptionText {
+    name: "serial",
+    value: "N",
+    heading: GENERAL,
+    help: "First serial of each worker's events, 0 to 9223372036854775808 [default: 0]",
+};
+
+/// The version of the text of records.
+pub const TEXT: OptionText = OptionText {
+    name: "text",
+    value: "N",
+    heading: GENERAL,
+    help: "Version of the text of records: 1 has no priorities, 2 has them [default: 2]",
+};

@@ -1,0 +1,5 @@
+pub mod RefusalLemmas
+pub mod RunLemmas
+pub mod OutcomeLemmas
+pub mod ReplyLemmas
+pub mod ReplayLemmas

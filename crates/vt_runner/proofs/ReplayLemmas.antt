@@ -1,0 +1,190 @@
+-- The output of a replay, from what its parts did.
+use Rattle.std.proofs.Common.{◌≡◌, ℕ, ◌<◌, List, [], ◌++◌, length, Option, Result, Ok, Err, IfErr, ap, sym, subst, ◌∙◌, refl, inl, inr, arith, append_assoc, length-append}
+use Rattle.std.specs.Prelude.{◌⊎◌}
+use Rattle.std.specs.Io.KnownBytes.{Appends}
+use Rattle.std.proofs.KnownBytes.{Keeps-refl, Appends-trans}
+use Rattle.vt_key.specs.Times.{Time}
+use Rattle.vt_key.specs.declared.fault.Fault.{Fault}
+use Rattle.vt_key.specs.declared.fault.Fault.TheVariants.{Memory, Output}
+use Rattle.vt_model.specs.declared.settings.Config.{Config}
+use Rattle.vt_model.specs.declared.rows.Record.{Record}
+use Rattle.vt_model.specs.Handler.{Handlers}
+use Rattle.vt_model.specs.Histories.{IsLawful}
+use Rattle.vt_model.specs.Sequential.{seq_records}
+use Rattle.vt_model.specs.Simulation.{Simulation, simulation_of}
+use Rattle.vt_model.specs.Settings.{end_of}
+use Rattle.vt_steps.specs.World.{World, Board, Book, opening_world, least, book_floor, book_records}
+use Rattle.vt_steps.specs.Next.{reached}
+use Rattle.vt_steps.specs.StandsFor.{StandsFor}
+use Rattle.vt_steps.proofs.ReachedBooks.{reached-accounted}
+use Rattle.vt_steps.proofs.Records.{records-right}
+use Rattle.vt_world.specs.Held.{HeldWorld, world_memory, StandsForWorld}
+use Rattle.vt_world.specs.Calls.{floor_held, least_held}
+use Rattle.vt_world.specs.Answers.{PassesAtStart, IsOpeningRefusal}
+use Rattle.vt_world.proofs.ReachedLemmas.{least-same}
+use Rattle.vt_text.specs.declared.version.Version.{Version}
+use Rattle.vt_text.specs.Records.{records_text}
+use Rattle.vt_text.specs.Writing.{AppendsAllButHeld, AppendsBeginning}
+use Rattle.vt_text.proofs.TextLemmas.{pushed, written, flush_fails, of_longer}
+use Rattle.vt_step_text.specs.declared.reading.NumberedStep.{NumberedStep}
+use Rattle.vt_step_text.specs.Replies.{Answered, replies_text, shown_text, state_text}
+use Rattle.vt_step_text.specs.Replays.{steps_taken}
+use Rattle.vt_step_text.proofs.ReplayLemmas.{rightly_answered}
+use Rattle.vt_runner.specs.Replays.{AreReplies, IsReplayText, IsRepliesText, Writes, Begins, StopsReplay}
+use Rattle.vt_runner.specs.Replying.{PutsReplies, StopsReplies, shown_of}
+
+-- ---- what the world shows
+
+shown_some : (announced floor least : Time) (records : ℕ) → 0 < length (shown_text announced floor least records)
+unfolding shown_text
+shown_some announced floor least records = omega arith
+
+pub state_some : (version : Version) (announced floor least : Time) (records : List Record) → 0 < length (state_text version announced floor least records)
+state_some version announced floor least records =
+    let some = shown_some announced floor least (length records) in
+    omega (arith, some, length-append (shown_text announced floor least (length records)) (records_text version records))
+
+-- all that was gathered was written, and nothing of what the world shows
+pub gathered_alone : (old new : Option (List ℕ)) (held state : List ℕ) → Appends old new held → 0 < length state → AppendsBeginning old new (held ++ state)
+gathered_alone old new held state h some = record { sent = held; unsent = state; whole = refl; short = some; appends = h }
+
+-- what was gathered was written, then what the world shows was put and written
+pub shown_whole : (old first put new : Option (List ℕ)) (held none held' state : List ℕ) → Appends old first held → none ≡ [] → AppendsAllButHeld first put held' (none ++ state) → Appends put new held' → Appends old new (held ++ state)
+shown_whole old first put new held none held' state h e k l =
+    Appends-trans old first new held state h (subst (λ (x : List ℕ). Appends first new (x ++ state)) e (written first put new held' (none ++ state) k l))
+
+module _ (old first new : Option (List ℕ)) (held : List ℕ) (h : Appends old first held) where
+  later_begun : (text : List ℕ) → AppendsBeginning first new text → AppendsBeginning old new (held ++ text)
+  later_begun text b = record {
+    sent = held ++ b.sent;
+    unsent = b.unsent;
+    whole = ap (λ (x : List ℕ). held ++ x) b.whole ∙ sym (append_assoc held b.sent b.unsent);
+    short = b.short;
+    appends = Appends-trans old first new held b.sent h b.appends;
+  }
+
+  -- what the world shows was put in part
+  pub shown_in_part : (none state : List ℕ) → none ≡ [] → AppendsBeginning first new (none ++ state) → AppendsBeginning old new (held ++ state)
+  shown_in_part none state e k = later_begun state (subst (λ (x : List ℕ). AppendsBeginning first new (x ++ state)) e k)
+
+-- what the world shows was put, and then written in part
+pub shown_flushed : (old first put new : Option (List ℕ)) (held none held' state : List ℕ) → Appends old first held → none ≡ [] → AppendsAllButHeld first put held' (none ++ state) → AppendsBeginning put new held' → AppendsBeginning old new (held ++ state)
+shown_flushed old first put new held none held' state h e k l = shown_in_part old first new held h none state e (flush_fails first put new held' (none ++ state) k l)
+
+-- ---- what is shown is what the definition says
+
+-- what a world of the definitions shows, with a version of the text of records, in a run that ends then
+abbrev state_of : {P : Type 0} → Version → Time → World P → List ℕ
+state_of version end world = state_text version world.board.announced (book_floor end world.book) (least end world) (book_records end world.book)
+
+abbrev AreSequential : {S P : Type 0} → Simulation S P → World P → Type 0
+AreSequential sim world = book_records sim.end world.book ≡ seq_records sim (book_floor sim.end world.book)
+
+are_sequential : {S P : Type 0} (sim : Simulation S P) → IsLawful sim → (serial : ℕ) (steps : List NumberedStep) (replies : List Answered) (end : World P) → AreReplies sim (opening_world sim serial) steps replies end → AreSequential sim end
+are_sequential sim lawful serial steps replies end h =
+    let taken = steps_taken sim steps replies in
+    subst (λ (w : World _). AreSequential sim w) (sym (rightly_answered sim (opening_world sim serial) end steps replies h.answered).taken)
+    (records-right sim lawful (reached sim serial taken) (reached-accounted sim lawful serial taken)).records
+
+shown_is : (version : Version) {M S P K : Type 0} (handlers : Handlers S P K) (held : HeldWorld M S P K) (end : World P) → StandsForWorld handlers held end → AreSequential (simulation_of handlers held.config) end → shown_of version handlers held ≡ state_of version (end_of held.config) end
+shown_is version handlers held end stands records =
+    let e = end_of held.config in
+    let seq : Time → List Record = λ t. seq_records (simulation_of handlers held.config) t in
+    ap (λ (b : Board). state_text version b.announced (floor_held held) (least_held held) (seq (floor_held held))) (sym stands.board)
+    ∙ ap (λ (k : Book). state_text version end.board.announced (book_floor e k) (least_held held) (seq (book_floor e k))) (sym stands.book)
+    ∙ ap (λ (t : Time). state_text version end.board.announced (book_floor e end.book) t (seq (book_floor e end.book))) (sym (least-same handlers held end stands))
+    ∙ ap (λ (rs : List Record). state_text version end.board.announced (book_floor e end.book) (least e end) rs) (sym records)
+
+-- ---- a whole replay
+
+module _ (version : Version) {S P : Type 0} (sim : Simulation S P) (serial : ℕ) (steps : List NumberedStep) where
+  right : (replies : List Answered) (end : World P) → AreReplies sim (opening_world sim serial) steps replies end → IsReplayText sim version serial steps (replies_text replies ++ state_of version sim.end end)
+  right replies end h = record {
+    output = record { replies = replies; end = end; answered = h.answered; output = refl };
+    exact = h.exact;
+  }
+
+  -- no world was made
+  pub opening_stops : (out : Option (List ℕ)) (fault : Fault) → IsOpeningRefusal sim serial fault → StopsReplay (IsReplayText sim version serial steps) (IsRepliesText sim serial steps) (PassesAtStart sim serial) out out fault
+  opening_stops out fault (inl h) = subst (λ (f : Fault). StopsReplay (IsReplayText sim version serial steps) (IsRepliesText sim serial steps) (PassesAtStart sim serial) out out f) (sym h.0) (h.1, Keeps-refl out)
+  opening_stops out fault (inr h) = subst (λ (f : Fault). StopsReplay (IsReplayText sim version serial steps) (IsRepliesText sim serial steps) (PassesAtStart sim serial) out out f) (sym h.0) (inl (Keeps-refl out))
+
+  -- the lines of the answers were written in part
+  pub replies_begun : (old new : Option (List ℕ)) (none : List ℕ) → none ≡ [] → StopsReplies sim (opening_world sim serial) steps old new none → Begins (IsReplayText sim version serial steps) old new
+  replies_begun old new none e h = record {
+    text = replies_text h.replies ++ state_of version sim.end h.end;
+    right = right h.replies h.end h.are;
+    begun = of_longer old new (replies_text h.replies) (state_of version sim.end h.end) (subst (λ (x : List ℕ). AppendsBeginning old new (x ++ replies_text h.replies)) e h.begun);
+  }
+
+  pub output_stops : (old new : Option (List ℕ)) (fault : Fault) → fault ≡ Output → Begins (IsReplayText sim version serial steps) old new → StopsReplay (IsReplayText sim version serial steps) (IsRepliesText sim serial steps) (PassesAtStart sim serial) old new fault
+  output_stops old new fault e h = subst (λ (f : Fault). StopsReplay (IsReplayText sim version serial steps) (IsRepliesText sim serial steps) (PassesAtStart sim serial) old new f) (sym e) h
+
+  -- what the world shows could not be copied, or the writer failed
+  pub show_stops : (old now new : Option (List ℕ)) (held : List ℕ) (fault : Fault) → ((fault ≡ Memory) × Appends now new held) ⊎ (fault ≡ Output) → Begins (IsReplayText sim version serial steps) old new
+      → (Appends now new held → Writes (IsRepliesText sim serial steps) old new) → StopsReplay (IsReplayText sim version serial steps) (IsRepliesText sim serial steps) (PassesAtStart sim serial) old new fault
+  show_stops old now new held fault (inl h) begun lines =
+      subst (λ (f : Fault). StopsReplay (IsReplayText sim version serial steps) (IsRepliesText sim serial steps) (PassesAtStart sim serial) old new f) (sym h.0) (inr (lines h.1))
+  show_stops old now new held fault (inr e) begun lines = output_stops old new fault e begun
+
+module _ (version : Version) {M S P K : Type 0} (meaning : M → Handlers S P K) (m : M) (config : Config) (serial : ℕ) (steps : List NumberedStep) (first : HeldWorld M S P K) (model : first.model ≡ m) (same : first.config ≡ config) where
+  abbrev own : Simulation S P
+  own = simulation_of (meaning first.model) first.config
+
+  -- the world that was made stands for the opening world of its own model and config
+  pub opened : StandsForWorld (meaning m) first (opening_world (simulation_of (meaning m) config) serial) → StandsForWorld (meaning first.model) first (opening_world own serial)
+  opened h =
+      subst (λ (x : M). StandsForWorld (meaning x) first (opening_world (simulation_of (meaning x) first.config) serial)) (sym model)
+      (subst (λ (c : Config). StandsForWorld (meaning m) first (opening_world (simulation_of (meaning m) c) serial)) (sym same) h)
+
+  -- what holds of that model and config holds of the given ones
+  pub of_given : (Claim : Simulation S P → Type 0) → Claim own → Claim (simulation_of (meaning m) config)
+  of_given Claim h = subst (λ (c : Config). Claim (simulation_of (meaning m) c)) same (subst (λ (x : M). Claim (simulation_of (meaning x) first.config)) model h)
+
+  module _ (lawful : IsLawful own) (final : HeldWorld M S P K) (model' : final.model ≡ first.model) (same' : final.config ≡ first.config) (old now : Option (List ℕ)) (none held : List ℕ) (empty : none ≡ [])
+      (put : PutsReplies (meaning first.model) first.config (opening_world own serial) steps final old now none held) where
+    shown_at_end : shown_of version (meaning final.model) final ≡ state_of version (end_of first.config) put.end
+    shown_at_end =
+        let stands : StandsForWorld (meaning final.model) final put.end =
+        subst (λ (x : M). StandsFor (simulation_of (meaning x) final.config) (world_memory (meaning x) final) put.end) (sym model')
+        (subst (λ (c : Config). StandsFor (simulation_of (meaning first.model) c) (world_memory (meaning first.model) final) put.end) (sym same') put.stands) in
+        let sequential : AreSequential (simulation_of (meaning final.model) final.config) put.end =
+        subst (λ (x : M). AreSequential (simulation_of (meaning x) final.config) put.end) (sym model')
+        (subst (λ (c : Config). AreSequential (simulation_of (meaning first.model) c) put.end) (sym same') (are_sequential own lawful serial steps put.replies put.end put.are)) in
+        shown_is version (meaning final.model) final put.end stands sequential ∙ ap (λ (c : Config). state_of version (end_of c) put.end) same'
+
+    lines : AppendsAllButHeld old now held (replies_text put.replies)
+    lines = subst (λ (x : List ℕ). AppendsAllButHeld old now held (x ++ replies_text put.replies)) empty put.put
+
+    -- the whole output was written
+    pub replay_written : (new : Option (List ℕ)) → Appends now new (held ++ shown_of version (meaning final.model) final) → Writes (IsReplayText own version serial steps) old new
+    replay_written new h =
+        let shown = state_of version (end_of first.config) put.end in
+        record {
+          text = replies_text put.replies ++ shown;
+          right = right version own serial steps put.replies put.end put.are;
+          written = written old now new (held ++ shown) (replies_text put.replies ++ shown) (pushed old now held (replies_text put.replies) shown lines) (subst (λ (x : List ℕ). Appends now new (held ++ x)) shown_at_end h);
+        }
+
+    -- the lines of the answers were written, and nothing else
+    pub lines_written : (new : Option (List ℕ)) → Appends now new held → Writes (IsRepliesText own serial steps) old new
+    lines_written new h = record {
+      text = replies_text put.replies;
+      right = record { replies = put.replies; end = put.end; are = put.are; lines = refl };
+      written = written old now new held (replies_text put.replies) lines h;
+    }
+
+    -- a beginning of it was written
+    pub replay_begun : (new : Option (List ℕ)) → AppendsBeginning now new (held ++ shown_of version (meaning final.model) final) → Begins (IsReplayText own version serial steps) old new
+    replay_begun new h =
+        let shown = state_of version (end_of first.config) put.end in
+        record {
+          text = replies_text put.replies ++ shown;
+          right = right version own serial steps put.replies put.end put.are;
+          begun = flush_fails old now new (held ++ shown) (replies_text put.replies ++ shown) (pushed old now held (replies_text put.replies) shown lines) (subst (λ (x : List ℕ). AppendsBeginning now new (held ++ x)) shown_at_end h);
+        }
+
+-- an error of which two things hold
+pub both : {T B : Type 0} {P Q : Fault → Type 0} (r : Result T Fault) → ((fault : Fault) → P fault → B → Q fault) → IfErr r P → IfErr r (λ _. B) → IfErr r Q
+both (Ok x) more p b = tt
+both (Err fault) more p b = more fault p b

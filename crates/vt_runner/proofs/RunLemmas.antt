@@ -1,0 +1,105 @@
+-- What a run in threads writes that stops: what comes before a time begins the text of the whole run.
+use Rattle.std.proofs.Common.{◌≡◌, ◌∙◌, ◌++◌, ◌<◌, ◌≤◌, ◌⊎◌, ℕ, suc, true, false, refl, List, [], Option, inl, inr, sym, ap, subst, map, nat_lt, append-nil, append_assoc, arith}
+use Rattle.std.specs.Io.KnownBytes.{Appends}
+use Rattle.std.proofs.KnownBytes.{Keeps-refl}
+use Rattle.std.proofs.lemmas.Bool.{ltb-true, ltb-false}
+use Rattle.std.proofs.lemmas.List.Concat.{flat_map-append}
+use Rattle.vt_key.specs.Times.{Time}
+use Rattle.vt_key.specs.declared.fault.Fault.{Fault}
+use Rattle.vt_key.specs.declared.fault.Fault.TheVariants.{Output}
+use Rattle.vt_model.specs.declared.rows.Row.{Row}
+use Rattle.vt_model.specs.declared.rows.Record.{Record}
+use Rattle.vt_model.specs.declared.sending.Sent.{Sent}
+use Rattle.vt_model.specs.declared.settings.Config.{Config}
+use Rattle.vt_model.specs.Handler.{Handlers}
+use Rattle.vt_model.specs.Histories.{Among, IsLawful}
+use Rattle.vt_model.specs.Simulation.{Simulation, simulation_of}
+use Rattle.vt_model.specs.Sequential.{opening, weight, after_steps, whole_run, rows_after, seq_records}
+use Rattle.vt_model.proofs.RowLemmas.{all_before}
+use Rattle.vt_model.proofs.RunLemmas.{known_sent, lists_of, reached}
+use Rattle.vt_steps.proofs.SequentialRows.{seq_records-begin}
+use Rattle.vt_seq.specs.Limits.{IsStepRefusal}
+use Rattle.vt_station.specs.Crew.{IsStop}
+use Rattle.vt_text.specs.declared.version.Version.{Version}
+use Rattle.vt_text.specs.Records.{first_line, record_text, record_lines, records_text}
+use Rattle.vt_text.specs.Writing.{AppendsBeginning}
+use Rattle.vt_text.proofs.TextLemmas.{of_longer}
+use Rattle.vt_runner.specs.Runs.{text_below, run_text, PassesInRun, WritesBelow, StopsRun, StopsWork}
+
+pub either : (a b : ℕ) → (a < b) ⊎ (b ≤ a)
+either a b = elim (nat_lt a b) as (λ t. nat_lt a b ≡ t → (a < b) ⊎ (b ≤ a)) [ true ↦ λ e. inl (ltb-true a b e) | false ↦ λ e. inr (ltb-false a b e) ] refl
+
+module _ {S P : Type 0} (sim : Simulation S P) (lawful : IsLawful sim) where
+  -- each event of the whole run is before the end
+  whole-early : (e : Sent P) → Among e (whole_run sim) → e.key.time < sim.end
+  unfolding whole_run
+  whole-early e m =
+      let n = weight sim (opening sim).pending in
+      (known_sent sim lawful (lists_of sim lawful (after_steps sim n).executed) e ((reached sim lawful n).made e (inr m))).1
+
+  -- so the records before a later time are those of the whole run
+  late-same : (t : Time) → sim.end ≤ t → seq_records sim t ≡ seq_records sim sim.end
+  late-same t le =
+      let rows = rows_after sim [] (whole_run sim) in
+      let all = all_before sim lawful.rows t [] (whole_run sim) (λ e m. let early = whole-early e m in omega arith) in
+      let until = all_before sim lawful.rows sim.end [] (whole_run sim) whole-early in
+      ap (map (λ (r : Row). r.rec)) (all ∙ sym until)
+
+  -- the records before any time begin those of the whole run
+  records-begin : (t : Time) → (rest : List Record) × (seq_records sim sim.end ≡ seq_records sim t ++ rest)
+  records-begin t = elim (either t sim.end) [
+    | inl soon ↦ seq_records-begin sim lawful t sim.end (omega arith)
+    | inr late ↦ ([], sym (append-nil (seq_records sim t) ∙ late-same t late))
+  ]
+
+module _ (version : Version) {S P K : Type 0} (handlers : Handlers S P K) (config : Config) (lawful : IsLawful (simulation_of handlers config)) where
+  -- the text of records begins that of more records
+  records_text-append : (records more : List Record) → records_text version (records ++ more) ≡ records_text version records ++ record_lines version more
+  records_text-append records more =
+      ap (λ l. first_line version ++ l) (flat_map-append (record_text version) records more) ∙ sym (append_assoc (first_line version) (record_lines version records) (record_lines version more))
+
+  -- the text below any time begins that of the whole run
+  text-begins : (t : Time) → (rest : List ℕ) × (run_text version handlers config ≡ text_below version handlers config t ++ rest)
+  text-begins t =
+      let sim = simulation_of handlers config in
+      let r = records-begin sim lawful t in
+      (record_lines version r.0, ap (records_text version) r.1 ∙ records_text-append (seq_records sim t) r.0)
+
+  module _ (stopped : List Record) (is : (t : Time) × (stopped ≡ seq_records (simulation_of handlers config) t)) (old new : Option (List ℕ)) where
+    -- records of a run that stopped were written
+    part_written : Appends old new (records_text version stopped) → WritesBelow (text_below version handlers config) (run_text version handlers config) old new
+    part_written h = record {
+      time = is.0;
+      written = subst (λ (l : List Record). Appends old new (records_text version l)) is.1 h;
+      rest = (text-begins is.0).0;
+      begins = (text-begins is.0).1;
+    }
+
+    -- with any of the reasons for which a run stops
+    pub work_stops : (fault : Fault) → IsStop fault → Appends old new (records_text version stopped) → StopsWork (text_below version handlers config) (run_text version handlers config) old new fault
+    work_stops fault stop h =
+        let below = text_below version handlers config in
+        let whole = run_text version handlers config in
+        elim stop [
+          | inl (inl e) ↦ subst (StopsWork below whole old new) (sym e) (part_written h)
+          | inl (inr e) ↦ subst (StopsWork below whole old new) (sym e) (part_written h)
+          | inr (inl e) ↦ subst (StopsWork below whole old new) (sym e) (part_written h)
+          | inr (inr e) ↦ subst (StopsWork below whole old new) (sym e) (part_written h)
+        ]
+
+    -- a beginning of these records was written
+    pub part_begun : AppendsBeginning old new (records_text version stopped) → AppendsBeginning old new (run_text version handlers config)
+    part_begun h =
+        let begins = text-begins is.0 in
+        subst (λ (l : List ℕ). AppendsBeginning old new l) (sym begins.1)
+        (of_longer old new (text_below version handlers config is.0) begins.0 (subst (λ (l : List Record). AppendsBeginning old new (records_text version l)) is.1 h))
+
+-- where the writer failed, a beginning of the text was written
+pub output_begun : (below : Time → List ℕ) (whole : List ℕ) (old new : Option (List ℕ)) (fault : Fault) → fault ≡ Output → AppendsBeginning old new whole → StopsWork below whole old new fault
+output_begun below whole old new fault is h = subst (StopsWork below whole old new) (sym is) h
+
+-- a sequential run was refused and nothing was written
+pub run_stops : {S P K : Type 0} (handlers : Handlers S P K) (config : Config) (n : ℕ) (out : Option (List ℕ)) (text : List ℕ) (fault : Fault)
+    → IsStepRefusal (simulation_of handlers config) n fault → StopsRun (PassesInRun handlers config) out out text fault
+run_stops handlers config n out text fault (inl h) = subst (StopsRun (PassesInRun handlers config) out out text) (sym h.0) ((suc n, h.1), Keeps-refl out)
+run_stops handlers config n out text fault (inr h) = subst (StopsRun (PassesInRun handlers config) out out text) (sym h.0) (Keeps-refl out)

@@ -1,0 +1,5 @@
+pub mod Refusals
+pub mod Runs
+pub mod Replays
+pub mod Replying
+pub mod Outcomes
