@@ -1,7 +1,8 @@
 -- What the calls of a process answer and leave, by the steps of a world's process.
-use Rattle.std.specs.Prelude.{◌≡◌, ℕ, ◌+◌, ◌<◌, ◌≤◌, ◌⊎◌, Bool, true, ◌||◌, List, [], ◌∷◌, ◌++◌, if◌then◌else◌, Option, Some, None}
+use Rattle.std.specs.Prelude.{◌≡◌, ℕ, ◌+◌, ◌<◌, ◌≤◌, ◌⊎◌, Bool, true, ◌||◌, List, [], ◌∷◌, ◌++◌, if◌then◌else◌, Option, Some, None, slice_get}
 use Rattle.std.specs.List.{find, list_any, last_or}
 use Rattle.vt_key.specs.Order.{rank_before, rank_same}
+use Rattle.vt_key.specs.Times.{Time}
 use Rattle.vt_key.specs.declared.limits.TheConstants.{MAX_COUNT}
 use Rattle.vt_key.specs.declared.order.Rank.{Rank}
 use Rattle.vt_key.specs.declared.order.Stamp.{Stamp}
@@ -12,7 +13,7 @@ use Rattle.vt_key.specs.declared.fault.Fault.{Fault}
 use Rattle.vt_key.specs.declared.fault.Fault.TheVariants.{Memory, NotLawful, Exhausted}
 use Rattle.vt_model.specs.Handler.{Handlers}
 use Rattle.vt_model.specs.Simulation.{Simulation}
-use Rattle.vt_steps.specs.Letters.{has_rank, has_stamp}
+use Rattle.vt_steps.specs.Letters.{has_rank, has_stamp, least_time}
 use Rattle.vt_steps.specs.World.{LogicalProcess, triple_after}
 use Rattle.vt_steps.specs.ProcessSteps.{ProcessEffect, are_opposite}
 use Rattle.vt_lp.specs.declared.entry.PastEvent.{PastEvent}
@@ -74,6 +75,16 @@ module _ {P K : Type 0} where
   holds_letter pending waiting past Minus rank = list_any (has_rank rank) waiting
 
 module _ {P : Type 0} where
+  -- a letter is before all letters of a queue, whose first one it is once it stands there
+  abbrev pub is_first : Letter P → List (Letter P) → Bool
+  is_first letter [] = true
+  is_first letter (least ∷ rest) = rank_before letter.event.rank least.event.rank
+
+  -- a letter of this sign would be the first of the pending messages or of the waiting anti-messages
+  abbrev pub would_lead : List (Letter P) → List (Letter P) → Sign → Letter P → Bool
+  would_lead pending waiting Plus letter = is_first letter pending
+  would_lead pending waiting Minus letter = is_first letter waiting
+
   -- the lesser of the ranks of two letters that may be there
   abbrev pub lesser_rank : Option (Letter P) → Option (Letter P) → Option Rank
   lesser_rank None None = None
@@ -84,3 +95,10 @@ module _ {P : Type 0} where
   -- the waiting and the pending letter of this stamp annihilate each other: the first of each are there, with equal keys
   abbrev pub can_annihilate : Stamp → List (Letter P) → List (Letter P) → Bool
   can_annihilate stamp pending waiting = are_opposite (find (has_stamp stamp) waiting) (find (has_stamp stamp) pending)
+
+-- what a process tells of its least letters is as it was: the rank of the event that Execute would execute, the least rank, and
+-- the least time
+pub record TellsSame {S P K : Type 0} (old new : HeldProcess S P K) : Type 0 where
+  pub ready : ready_rank new.pending new.past ≡ ready_rank old.pending old.past
+  pub rank : lesser_rank (slice_get new.pending 0) (slice_get new.waiting 0) ≡ lesser_rank (slice_get old.pending 0) (slice_get old.waiting 0)
+  pub time : (end : Time) → least_time end (new.pending ++ new.waiting) ≡ least_time end (old.pending ++ old.waiting)

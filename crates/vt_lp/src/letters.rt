@@ -11,7 +11,7 @@ ghost use Rattle.vt_model.specs.Settings.{end_of};
 ghost use Rattle.vt_steps.specs.World.{LogicalProcess};
 ghost use Rattle.vt_steps.specs.ProcessSteps.{cancel_process, accept_process};
 ghost use Rattle.vt_lp.specs.Held.{StandsFor, IsRisingPast};
-ghost use Rattle.vt_lp.specs.Guards.{IsDone, holds_letter, can_annihilate, may_come_after};
+ghost use Rattle.vt_lp.specs.Guards.{IsDone, holds_letter, would_lead, is_first, TellsSame, can_annihilate, may_come_after};
 
 use crate::Lp;
 use crate::entry::PastEvent;
@@ -35,6 +35,19 @@ impl<M: EventModel> Lp<M> {
         }
     }
 
+    /// Whether this letter would be the first of its queue once it is accepted: before all pending messages, or before
+    /// all waiting anti-messages, by its sign. If not, what [`Lp::ready`], [`Lp::least_rank`] and [`Lp::least`] tell
+    /// stays when it is accepted.
+    pub fn would_lead(&self, letter: &Letter<M::Payload>) -> bool
+        ensures { result ≡ would_lead self.now.pending self.now.waiting letter.now.sign letter.now }
+    {
+        let queue = match letter.sign {
+            Sign::Plus => &self.pending,
+            Sign::Minus => &self.waiting,
+        };
+        comes_first(letter, queue)
+    }
+
     /// Accepts a letter for this process: a message becomes pending, and an anti-message waits. It takes no memory.
     ///
     /// [`Fault::NotLawful`]: the process holds a letter of this sign and rank already. The letter is handed back, and
@@ -50,6 +63,7 @@ impl<M: EventModel> Lp<M> {
         ensures refused { (handlers : Handlers _ _ _) (h : LogicalProcess _) → StandsFor handlers self.old h → IfErr result (λ e. accept_process letter h ≡ None) }
         ensures kept { IfErr result (λ e. (e.0 ≡ NotLawful) × (e.1 ≡ letter) × (self.new ≡ self.old)) }
         ensures already { IfErr result (λ e. holds_letter self.old.pending self.old.waiting self.old.past letter.sign letter.event.rank ≡ true) }
+        ensures behind { IfOk result (λ done. would_lead self.old.pending self.old.waiting letter.sign letter ≡ false → TellsSame self.old self.new) }
         ensures same { (self.new.lp ≡ self.old.lp) × (self.new.config ≡ self.old.config) × (self.new.triple ≡ self.old.triple) × (self.new.past ≡ self.old.past) }
     {
         let Letter { event, sign } = *letter.get();
@@ -120,6 +134,16 @@ impl<M: EventModel> Lp<M> {
         };
         let letter = self.waiting.find(&meets_its_message)?;
         Some(letter.event.rank.stamp)
+    }
+}
+
+/// Whether a letter is before all letters of a queue.
+fn comes_first<P: Copy>(letter: &Letter<P>, queue: &Pending<P>) -> bool
+    ensures { result ≡ is_first letter.now queue.now }
+{
+    match queue.least() {
+        Some(least) => letter.event.rank.is_before(&least.event.rank),
+        None => true,
     }
 }
 
