@@ -1,22 +1,27 @@
 -- A process that enters a tournament: it was a tournament of the same entries but that of this process.
-use Rattle.std.proofs.Common.{◌≡◌, ◌∙◌, ◌⊎◌, inl, inr, Bool, true, false, if◌then◌else◌, ℕ, ◌<◌, List, [], ◌∷◌, ◌++◌, length, refl, sym, ap, subst, arith, Option, Some, None, slice_get, slice_set, slice_index_or, max, IfSome, IfNone}
+use Rattle.std.proofs.Common.{◌≡◌, ◌∙◌, ◌⊎◌, inl, inr, Bool, true, false, not, if◌then◌else◌, ℕ, ◌<◌, List, [], ◌∷◌, ◌++◌, length, refl, sym, ap, subst, arith, Option, Some, None, slice_get, slice_set, slice_index_or, max, IfSome, IfNone}
+use Rattle.std.specs.List.{All}
 use Rattle.std.proofs.lemmas.List.{length-map, length-set}
 use Rattle.std.proofs.lemmas.Option.{slice_get_within, get_or_from_slice_get}
 use Rattle.vt_key.specs.declared.order.Rank.{Rank}
 use Rattle.vt_tournament.specs.declared.node.Node.{Node}
 use Rattle.vt_tournament.specs.Contest.{IsTournamentOf, WasTournamentOf}
 use Rattle.vt_lp.specs.Held.{HeldProcess}
-use Rattle.vt_lp.specs.Guards.{ready_rank, lesser_rank, may_come_after}
+use Rattle.vt_lp.specs.Guards.{ready_rank, lesser_rank, may_come_after, TellsSame}
 use Rattle.vt_lp.specs.Ripe.{is_ripe, unripe_events}
 use Rattle.vt_lp.specs.declared.entry.PastEvent.{PastEvent}
 use Rattle.vt_key.specs.Order.{rank_before}
 use Rattle.vt_key.specs.Times.{Time}
 use Rattle.vt_key.specs.declared.letter.Letter.{Letter}
+use Rattle.vt_model.specs.declared.settings.Config.{Config}
 use Rattle.vt_model.specs.Settings.{end_of}
 use Rattle.std.specs.List.{last_or}
-use Rattle.vt_steps.specs.Letters.{least_time}
-use Rattle.vt_kernel.specs.Held.{entries_of, ready_of, unready_of, other_rank, earliest_of, rank_time, TellsLeast}
-use Rattle.vt_kernel.proofs.ProcessLemmas.{entered-changed, entered-at}
+use Rattle.vt_steps.specs.Letters.{least_time, is_empty}
+use Rattle.vt_steps.proofs.Places.{get-put_same}
+use Rattle.vt_kernel.specs.Held.{entries_of, ready_of, unready_of, other_rank, earliest_of, rank_time, has_past, AreMarked, TellsLeast}
+use Rattle.vt_kernel.specs.Entered.{AreEntered}
+use Rattle.vt_kernel.proofs.DeliveryLemmas.{get-all, one-letter}
+use Rattle.vt_kernel.proofs.ProcessLemmas.{entered-changed, entered-at, get-map_of}
 use Rattle.vt_kernel.proofs.SettlingLemmas.{put-put, put-there}
 
 module _ {S P K : Type 0} (entry : HeldProcess S P K → Option Rank) where
@@ -119,3 +124,37 @@ module _ {S P K : Type 0} where
   entry-kept entry processes place q new nodes at same of =
       subst (λ es. IsTournamentOf es nodes)
       (sym (entered-changed entry processes place new (slice_get_within processes place q at) ∙ ap (slice_set (entries_of entry processes) place) same ∙ entered-same entry processes place q at)) of
+
+-- ---- a process that accepts a letter behind the first one of its queue
+
+module _ {S P K : Type 0} where
+  -- what it tells of its least letters is as it was, so its entries are
+  pub ready-by-first : (old new : HeldProcess S P K) → TellsSame old new → ready_of new ≡ ready_of old
+  ready-by-first old new same = same.ready
+
+  pub unready-by-first : (old new : HeldProcess S P K) → TellsSame old new → unready_of new ≡ unready_of old
+  unready-by-first old new same = (λ j. other_rank (same.ready j) (same.rank j))
+
+  least-by-first : (old new : HeldProcess S P K) → new.config ≡ old.config → TellsSame old new → TellsLeast old → TellsLeast new
+  least-by-first old new of same least =
+      ap (rank_time (end_of new.config)) same.rank
+      ∙ subst (λ (config : Config). rank_time (end_of config) (earliest_of old) ≡ least_time (end_of config) (old.pending ++ old.waiting)) (sym of) least
+      ∙ sym (same.time (end_of new.config))
+
+  -- so the tournaments and the marks are those of the processes as they are now
+  pub entered-behind : (processes now : List (HeldProcess S P K)) (place : ℕ) (q new : HeldProcess S P K) (ready unready : List Node) (marked : List Bool) → slice_get processes place ≡ Some q
+      → now ≡ slice_set processes place new → new.config ≡ q.config → new.past ≡ q.past → TellsSame q new → IsTournamentOf (entries_of ready_of processes) ready
+      → IsTournamentOf (entries_of unready_of processes) unready → AreMarked marked processes → All TellsLeast processes → AreEntered now place ready unready marked
+  entered-behind processes now place q new ready unready marked at is of past same in_ready in_unready marks least =
+      subst (λ ps. AreEntered ps place ready unready marked) (sym is) (record {
+        in_ready = entry-kept ready_of processes place q new ready at (ready-by-first q new same) in_ready;
+        in_unready = entry-kept unready_of processes place q new unready at (unready-by-first q new same) in_unready;
+        mark = λ held found.
+            (let kept : has_past new ≡ has_past q = ap (λ es. not (is_empty es)) past in
+            let here : has_past held ≡ has_past q = ap has_past (same-there held found) ∙ kept in
+            sym (ap (slice_set marked place) here ∙ put-there marked place (has_past q) (ap (λ bs. slice_get bs place) marks ∙ get-map_of has_past processes place q at)));
+        told = λ held found. subst TellsLeast (sym (same-there held found)) (least-by-first q new of same (get-all TellsLeast processes place q least at));
+      })
+    where
+      same-there : (held : HeldProcess S P K) → slice_get (slice_set processes place new) place ≡ Some held → held ≡ new
+      same-there held found = one-letter (slice_get (slice_set processes place new) place) held new found (get-put_same processes place q new at)

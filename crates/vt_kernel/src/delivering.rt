@@ -16,7 +16,7 @@ ghost use Rattle.vt_kernel.specs.Local.{local_step};
 ghost use Rattle.vt_kernel.specs.Guards.{IsDone, IsAcceptRefusal};
 
 use crate::kernel::Kernel;
-use crate::local::enter;
+use crate::local::enter_accepted;
 use std::alloc::Global;
 use vt_key::{Fault, Letter};
 use vt_list::Predicate;
@@ -42,18 +42,21 @@ impl<M: EventModel> Kernel<M> {
             return Err(Fault::NotLawful);
         };
         let place = (letter.get().event.dest / self.config.workers) as usize;
-        if let Err((fault, letter)) = self.processes[place].accept(letter) {
+        let process = &mut self.processes[place];
+        let leads = process.would_lead(letter.get());
+        if let Err((fault, letter)) = process.accept(letter) {
             others.push_front(letter);
             self.outbox.append(&mut others);
             return Err(fault);
         }
         self.outbox.append(&mut others);
-        enter(
+        enter_accepted(
             &mut self.ready,
             &mut self.unready,
             &mut self.marked,
             &self.processes,
             place,
+            leads,
         );
         Ok(())
     }
@@ -78,17 +81,20 @@ impl<M: EventModel> Kernel<M> {
         let Ok(parcel) = self.spare.letter(alloc, letter) else {
             return Err(unmade(&self.processes[place], letter));
         };
-        if let Err((fault, parcel)) = self.processes[place].accept(parcel) {
+        let process = &mut self.processes[place];
+        let leads = process.would_lead(&letter);
+        if let Err((fault, parcel)) = process.accept(parcel) {
             self.spare.keep_letter(parcel);
             return Err(fault);
         }
         self.arrived.remove(i);
-        enter(
+        enter_accepted(
             &mut self.ready,
             &mut self.unready,
             &mut self.marked,
             &self.processes,
             place,
+            leads,
         );
         Ok(())
     }

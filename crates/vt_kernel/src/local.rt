@@ -1,6 +1,6 @@
 //! Local steps at one process: Execute, Undo and Cancel.
 
-ghost use Rattle.std.specs.Prelude.{◌≡◌, ◌^◌, ◌%◌, ◌/◌, ◌<◌, ◌≤◌, IfSome, IfNone, IfOk, IfErr, None, length, slice_get, slice_set, Some};
+ghost use Rattle.std.specs.Prelude.{◌≡◌, ◌^◌, ◌%◌, ◌/◌, ◌<◌, ◌≤◌, IfSome, IfNone, IfOk, IfErr, None, length, slice_get, slice_set, Some, false};
 ghost use Rattle.vt_key.specs.declared.fault.Fault.TheVariants.{NotLawful};
 ghost use Rattle.vt_model.specs.Handler.{Handlers};
 ghost use Rattle.vt_model.specs.Simulation.{simulation_of};
@@ -8,6 +8,7 @@ ghost use Rattle.vt_steps.specs.World.{Part};
 ghost use Rattle.vt_steps.specs.declared.step.Step.TheVariants as step;
 ghost use Rattle.vt_tournament.specs.Contest.{IsTournamentOf, WasTournamentOf};
 ghost use Rattle.vt_kernel.specs.Held.{StandsFor, process_of, entries_of, ready_of, unready_of, other_rank, has_past, TellsLeast};
+ghost use Rattle.vt_kernel.specs.Entered.{AreEntered};
 ghost use Rattle.vt_kernel.specs.Local.{local_step};
 ghost use Rattle.vt_kernel.specs.Guards.{IsDone, AreWithinLimits, IsExecuteRefusal};
 
@@ -151,6 +152,31 @@ pub(crate) fn enter<M: EventModel>(
     let who_is_not = Teller(|other| unready_at(processes, other));
     enter_unready(unready, processes, number, rank, who_is_not);
     marked.set(place, process.has_past());
+}
+
+/// As [`enter`], after the process at index `place` alone accepted a letter; `leads` tells whether the letter became
+/// the first one of its queue. Otherwise it changes no entry.
+pub(crate) fn enter_accepted<M: EventModel>(
+    ready: &mut Tournament,
+    unready: &mut Tournament,
+    marked: &mut Marks,
+    processes: &[Lp<M>],
+    place: usize,
+    leads: bool,
+)
+    requires there { place < length processes.now }
+    requires small { place < 2 ^ 32 }
+    requires in_ready { WasTournamentOf place (entries_of ready_of processes.now) ready.old }
+    requires in_unready { WasTournamentOf place (entries_of unready_of processes.now) unready.old }
+    requires behind { leads ≡ false → AreEntered processes.now place ready.old unready.old marked.old }
+    ensures ready { IsTournamentOf (entries_of ready_of processes.now) ready.new }
+    ensures unready { IsTournamentOf (entries_of unready_of processes.now) unready.new }
+    ensures marked { (held : _) → slice_get processes.now place ≡ Some held → marked.new ≡ slice_set marked.old place (has_past held) }
+    ensures told { (held : _) → slice_get processes.now place ≡ Some held → TellsLeast held }
+{
+    if leads {
+        enter(ready, unready, marked, processes, place);
+    }
 }
 
 /// The least rank, or None if it is that of the ready event.

@@ -13,12 +13,12 @@ use Rattle.vt_model.specs.Settings.{end_of}
 use Rattle.vt_steps.specs.ProcessSteps.{accept_process}
 use Rattle.vt_steps.specs.declared.step.Step.TheVariants as step
 use Rattle.vt_lp.specs.Held.{HeldProcess}
-use Rattle.vt_lp.specs.Guards.{holds_letter, IsDone as ProcessIsDone}
+use Rattle.vt_lp.specs.Guards.{holds_letter, would_lead, IsDone as ProcessIsDone}
 use Rattle.vt_kernel.specs.Held.{HeldWorker, IsOwnMail, AllOwnMail, IsWorkerInside, StandsFor, ready_of, unready_of}
 use Rattle.vt_kernel.specs.Local.{local_step}
 use Rattle.vt_kernel.specs.Guards.{IsDone, IsAcceptRefusal}
 use Rattle.vt_kernel.proofs.ProcessLemmas.{process-at}
-use Rattle.vt_kernel.proofs.EnteringLemmas.{in-changed, was-entered}
+use Rattle.vt_kernel.proofs.EnteringLemmas.{in-changed, was-entered, entered-behind}
 use Rattle.vt_kernel.proofs.LocalLemmas.{worker_view, index-get, place-within, inside-changed, written-same}
 use Rattle.vt_kernel.proofs.InsideLemmas.{inside-arrived}
 use Rattle.vt_kernel.proofs.DeliveryLemmas.{accept-done, accept-nothing, accept-refused, accept-lawful, held-refused, get-all, removed-all}
@@ -74,8 +74,8 @@ returns-in_default-letter-clause-refused g c handlers part s =
           (subst (λ x. IsAcceptRefusal x Memory) (sym (accept-lawful handlers held c.self.invariant.own_processes part stands c.args.i mail place q there refl own.own at is).1) refl)
     ] refl)
 
-pub index_mut-requires : goal.index_mut-requires
-index_mut-requires g c =
+pub index_mut-process-requires : goal.index_mut-process-requires
+index_mut-process-requires g c =
     let i = c.self.inside in
     let mail = c.in-Some.mail.now in
     let letter = mail.letter in
@@ -99,8 +99,8 @@ accept-requires-clause-dest g c κs within =
     let own = get-all (IsOwnMail i.config i.worker) i.arrived.items c.args.i mail c.self.invariant.own_mail there in
     let less = place-within c.self.invariant letter.event.dest place i.config.some_worker refl own.own own.within.known in
     let made : c.in-Ok.parcel ≡ letter = c.in-Ok.ensures.made in
-    let old = c.index_mut.result.now in
-    let at = index-get i.processes.items place old less (sym c.index_mut.ensures.value) in
+    let old = c.index_mut-process.result.now in
+    let at = index-get i.processes.items place old less (sym c.index_mut-process.ensures.value) in
     let who = process-at i.config i.worker 0 place i.processes.items old c.self.invariant.own_processes at in
     ap (λ (l : Letter _). l.event.dest) made ∙ sym (who.0 ∙ ap (λ n. (0 + place) * i.config.workers + n) (sym own.own) ∙ ap (λ n. n * i.config.workers + letter.event.dest % i.config.workers) (let plain : 0 + place ≡ place = omega arith in plain) ∙ div-add-mod' letter.event.dest i.config.workers)
 
@@ -116,8 +116,8 @@ accept-requires-clause-soon g c κs within =
     let own = get-all (IsOwnMail i.config i.worker) i.arrived.items c.args.i mail c.self.invariant.own_mail there in
     let less = place-within c.self.invariant letter.event.dest place i.config.some_worker refl own.own own.within.known in
     let made : c.in-Ok.parcel ≡ letter = c.in-Ok.ensures.made in
-    let old = c.index_mut.result.now in
-    let at = index-get i.processes.items place old less (sym c.index_mut.ensures.value) in
+    let old = c.index_mut-process.result.now in
+    let at = index-get i.processes.items place old less (sym c.index_mut-process.ensures.value) in
     let who = process-at i.config i.worker 0 place i.processes.items old c.self.invariant.own_processes at in
     subst (λ (l : Letter _). TimeBefore l.event.rank.key.time (end_of old.config)) (sym made) (subst (λ (k : Config). TimeBefore letter.event.rank.key.time (end_of k)) (sym who.1) own.within.soon)
 
@@ -132,8 +132,8 @@ invariant_of-self-in-Err g c =
     let there = index-get i.arrived.items c.args.i mail inside (sym (lookup.1 ∙ ap (λ (l : List (Mail _)). slice_index_or l c.args.i mail) c.deref.ensures.value)) in
     let own = get-all (IsOwnMail i.config i.worker) i.arrived.items c.args.i mail c.self.invariant.own_mail there in
     let less = place-within c.self.invariant letter.event.dest place i.config.some_worker refl own.own own.within.known in
-    let old = c.index_mut.result.now in
-    let at = index-get i.processes.items place old less (sym c.index_mut.ensures.value) in
+    let old = c.index_mut-process.result.now in
+    let at = index-get i.processes.items place old less (sym c.index_mut-process.ensures.value) in
     subst (λ (ps : List (HeldProcess _ _ _)). IsWorkerInside i.config i.worker ps i.outbox i.arrived.items i.sent i.got i.serial i.ready i.unready i.marked)
     (sym (written-same i.processes.items place old c.accept.new.self at c.in-Err.ensures.kept.2)) c.self.invariant
 
@@ -149,8 +149,8 @@ returns-in-Err-clause-refused g c handlers part s =
     let own = get-all (IsOwnMail i.config i.worker) i.arrived.items c.args.i mail c.self.invariant.own_mail there in
     let less = place-within c.self.invariant letter.event.dest place i.config.some_worker refl own.own own.within.known in
     let made : c.in-Ok.parcel ≡ letter = c.in-Ok.ensures.made in
-    let old = c.index_mut.result.now in
-    let at = index-get i.processes.items place old less (sym c.index_mut.ensures.value) in
+    let old = c.index_mut-process.result.now in
+    let at = index-get i.processes.items place old less (sym c.index_mut-process.ensures.value) in
     let held = worker_view i.worker i.config i.processes.items i.outbox i.arrived.items i.colour i.sent i.got i.red_minimum i.floor i.serial in
     let stands = subst (λ (v : HeldWorker _ _ _). StandsFor handlers v part) (sym c.self.view_is) s in
     let none = accept-refused handlers held c.self.invariant.own_processes part stands c.args.i mail place old there refl own.own at
@@ -158,8 +158,8 @@ returns-in-Err-clause-refused g c handlers part s =
     subst (λ (v : HeldWorker _ _ _). IsAcceptRefusal (local_step (simulation_of handlers v.config) v.worker (step.Accept v.worker c.args.i) part) c.in-Err.fault) c.self.view_is
     (subst (λ x. IsAcceptRefusal x c.in-Err.fault) (sym none) c.in-Err.ensures.kept.0)
 
-pub enter-requires-clause-there : goal.enter-requires-clause-there
-enter-requires-clause-there g c κs within =
+pub enter_accepted-requires-clause-there : goal.enter_accepted-requires-clause-there
+enter_accepted-requires-clause-there g c κs within =
     let i = c.self.inside in
     let mail = c.in-Some.mail.now in
     let letter = mail.letter in
@@ -169,12 +169,12 @@ enter-requires-clause-there g c κs within =
     let there = index-get i.arrived.items c.args.i mail inside (sym (lookup.1 ∙ ap (λ (l : List (Mail _)). slice_index_or l c.args.i mail) c.deref.ensures.value)) in
     let own = get-all (IsOwnMail i.config i.worker) i.arrived.items c.args.i mail c.self.invariant.own_mail there in
     let less = place-within c.self.invariant letter.event.dest place i.config.some_worker refl own.own own.within.known in
-    let old = c.index_mut.result.now in
-    let at = index-get i.processes.items place old less (sym c.index_mut.ensures.value) in
+    let old = c.index_mut-process.result.now in
+    let at = index-get i.processes.items place old less (sym c.index_mut-process.ensures.value) in
     in-changed i.processes.items c.deref-2.result.now place old c.accept.new.self at c.deref-2.ensures.value
 
-pub enter-requires-clause-in_ready : goal.enter-requires-clause-in_ready
-enter-requires-clause-in_ready g c κs within =
+pub enter_accepted-requires-clause-in_ready : goal.enter_accepted-requires-clause-in_ready
+enter_accepted-requires-clause-in_ready g c κs within =
     let i = c.self.inside in
     let mail = c.in-Some.mail.now in
     let letter = mail.letter in
@@ -184,12 +184,12 @@ enter-requires-clause-in_ready g c κs within =
     let there = index-get i.arrived.items c.args.i mail inside (sym (lookup.1 ∙ ap (λ (l : List (Mail _)). slice_index_or l c.args.i mail) c.deref.ensures.value)) in
     let own = get-all (IsOwnMail i.config i.worker) i.arrived.items c.args.i mail c.self.invariant.own_mail there in
     let less = place-within c.self.invariant letter.event.dest place i.config.some_worker refl own.own own.within.known in
-    let old = c.index_mut.result.now in
-    let at = index-get i.processes.items place old less (sym c.index_mut.ensures.value) in
+    let old = c.index_mut-process.result.now in
+    let at = index-get i.processes.items place old less (sym c.index_mut-process.ensures.value) in
     was-entered ready_of i.processes.items c.deref-2.result.now place old c.accept.new.self i.ready at c.deref-2.ensures.value c.self.invariant.ready_entered
 
-pub enter-requires-clause-in_unready : goal.enter-requires-clause-in_unready
-enter-requires-clause-in_unready g c κs within =
+pub enter_accepted-requires-clause-in_unready : goal.enter_accepted-requires-clause-in_unready
+enter_accepted-requires-clause-in_unready g c κs within =
     let i = c.self.inside in
     let mail = c.in-Some.mail.now in
     let letter = mail.letter in
@@ -199,9 +199,28 @@ enter-requires-clause-in_unready g c κs within =
     let there = index-get i.arrived.items c.args.i mail inside (sym (lookup.1 ∙ ap (λ (l : List (Mail _)). slice_index_or l c.args.i mail) c.deref.ensures.value)) in
     let own = get-all (IsOwnMail i.config i.worker) i.arrived.items c.args.i mail c.self.invariant.own_mail there in
     let less = place-within c.self.invariant letter.event.dest place i.config.some_worker refl own.own own.within.known in
-    let old = c.index_mut.result.now in
-    let at = index-get i.processes.items place old less (sym c.index_mut.ensures.value) in
+    let old = c.index_mut-process.result.now in
+    let at = index-get i.processes.items place old less (sym c.index_mut-process.ensures.value) in
     was-entered unready_of i.processes.items c.deref-2.result.now place old c.accept.new.self i.unready at c.deref-2.ensures.value c.self.invariant.unready_entered
+
+pub enter_accepted-requires-clause-behind : goal.enter_accepted-requires-clause-behind
+enter_accepted-requires-clause-behind g c κs within later =
+    let i = c.self.inside in
+    let mail = c.in-Some.mail.now in
+    let letter = mail.letter in
+    let place = letter.event.dest / i.config.workers in
+    let lookup = c.in-Some.ensures.lookup in
+    let inside : c.args.i < length i.arrived.items = subst (λ (l : List (Mail _)). c.args.i < length l) c.deref.ensures.value (ltb-true c.args.i (length c.deref.result.now) (sym lookup.0)) in
+    let there = index-get i.arrived.items c.args.i mail inside (sym (lookup.1 ∙ ap (λ (l : List (Mail _)). slice_index_or l c.args.i mail) c.deref.ensures.value)) in
+    let own = get-all (IsOwnMail i.config i.worker) i.arrived.items c.args.i mail c.self.invariant.own_mail there in
+    let less = place-within c.self.invariant letter.event.dest place i.config.some_worker refl own.own own.within.known in
+    let old = c.index_mut-process.result.now in
+    let at = index-get i.processes.items place old less (sym c.index_mut-process.ensures.value) in
+    let same = c.in_default-accept.ensures.same in
+    let made : c.in-Ok.parcel ≡ letter = c.in-Ok.ensures.made in
+    let behind = subst (λ (l : Letter _). would_lead old.pending old.waiting l.sign l ≡ false) (sym made) (sym c.would_lead-leads.ensures ∙ later) in
+    entered-behind i.processes.items c.deref-2.result.now place old c.accept.new.self i.ready i.unready i.marked at c.deref-2.ensures.value same.1 same.3
+    (c.in_default-accept.ensures.behind behind) c.self.invariant.ready_entered c.self.invariant.unready_entered c.self.invariant.past_marked c.self.invariant.least_told
 
 pub invariant_of-self-2 : goal.invariant_of-self-2
 invariant_of-self-2 g c =
@@ -214,14 +233,14 @@ invariant_of-self-2 g c =
     let there = index-get i.arrived.items c.args.i mail inside (sym (lookup.1 ∙ ap (λ (l : List (Mail _)). slice_index_or l c.args.i mail) c.deref.ensures.value)) in
     let own = get-all (IsOwnMail i.config i.worker) i.arrived.items c.args.i mail c.self.invariant.own_mail there in
     let less = place-within c.self.invariant letter.event.dest place i.config.some_worker refl own.own own.within.known in
-    let old = c.index_mut.result.now in
-    let at = index-get i.processes.items place old less (sym c.index_mut.ensures.value) in
+    let old = c.index_mut-process.result.now in
+    let at = index-get i.processes.items place old less (sym c.index_mut-process.ensures.value) in
     let new = c.accept.new.self in
     let same = c.in_default-accept.ensures.same in
     let rest = removed-all (IsOwnMail i.config i.worker) i.arrived.items c.args.i c.self.invariant.own_mail in
     inside-arrived c.remove.new.self.items i.got (subst (λ (ms : List (Mail _)). AllOwnMail i.config i.worker ms) (sym c.remove.ensures.items) rest) c.self.invariant.few_got
-    (inside-changed c.self.invariant place old new i.outbox i.serial c.deref-2.result.now c.enter.new.ready c.enter.new.unready c.enter.new.marked at same.0 same.1 c.deref-2.ensures.value
-    c.enter.ensures.ready c.enter.ensures.unready c.enter.ensures.marked c.enter.ensures.told
+    (inside-changed c.self.invariant place old new i.outbox i.serial c.deref-2.result.now c.enter_accepted.new.ready c.enter_accepted.new.unready c.enter_accepted.new.marked at same.0 same.1 c.deref-2.ensures.value
+    c.enter_accepted.ensures.ready c.enter_accepted.ensures.unready c.enter_accepted.ensures.marked c.enter_accepted.ensures.told
     c.self.invariant.sendable c.self.invariant.few_made)
 
 pub returns-clause-done : goal.returns-clause-done
@@ -236,8 +255,8 @@ returns-clause-done g c handlers part s =
     let own = get-all (IsOwnMail i.config i.worker) i.arrived.items c.args.i mail c.self.invariant.own_mail there in
     let less = place-within c.self.invariant letter.event.dest place i.config.some_worker refl own.own own.within.known in
     let made : c.in-Ok.parcel ≡ letter = c.in-Ok.ensures.made in
-    let old = c.index_mut.result.now in
-    let at = index-get i.processes.items place old less (sym c.index_mut.ensures.value) in
+    let old = c.index_mut-process.result.now in
+    let at = index-get i.processes.items place old less (sym c.index_mut-process.ensures.value) in
     let held = worker_view i.worker i.config i.processes.items i.outbox i.arrived.items i.colour i.sent i.got i.red_minimum i.floor i.serial in
     let stands = subst (λ (v : HeldWorker _ _ _). StandsFor handlers v part) (sym c.self.view_is) s in
     let new = c.accept.new.self in

@@ -1,4 +1,4 @@
-use Rattle.std.proofs.Common.{rules, ◌≡◌, ◌/◌, ◌%◌, ◌∙◌, Some, None, slice_set, List, [], sym, ap, subst, refl, arith, nat_eq, ◌+◌, ◌*◌}
+use Rattle.std.proofs.Common.{rules, ◌≡◌, ◌/◌, ◌%◌, ◌∙◌, Some, None, slice_set, List, [], sym, ap, subst, refl, arith, nat_eq, false, ◌+◌, ◌*◌}
 use Rattle.std.specs.List.{find}
 use Rattle.vt_key.specs.Times.{TimeBefore}
 use Rattle.vt_key.specs.declared.letter.Letter.{Letter}
@@ -10,12 +10,12 @@ use Rattle.vt_steps.specs.declared.step.Step.TheVariants as step
 use Rattle.vt_lp.specs.Held.{AllWithinRun, IsWithinRun}
 use Rattle.std.proofs.Math.Nat.{div-add-mod'}
 use Rattle.vt_steps.specs.ProcessSteps.{accept_process}
-use Rattle.vt_lp.specs.Guards.{IsDone as ProcessIsDone}
+use Rattle.vt_lp.specs.Guards.{would_lead, IsDone as ProcessIsDone}
 use Rattle.vt_kernel.specs.Held.{HeldWorker, StandsFor, ready_of, unready_of}
 use Rattle.vt_kernel.specs.Local.{local_step}
 use Rattle.vt_kernel.specs.Guards.{IsDone}
 use Rattle.vt_kernel.proofs.ProcessLemmas.{process-at}
-use Rattle.vt_kernel.proofs.EnteringLemmas.{in-changed, was-entered}
+use Rattle.vt_kernel.proofs.EnteringLemmas.{in-changed, was-entered, entered-behind}
 use Rattle.vt_kernel.proofs.LocalLemmas.{worker_view, index-get, place-within, inside-changed}
 use Rattle.vt_kernel.proofs.DeliveryLemmas.{without-all, home-done, home-refused, home-nothing, found-in}
 use Rattle.vt_kernel.proofs.kernel.Kernel.home.Goals as goal
@@ -30,8 +30,8 @@ returns-in_default-clause-refused g c handlers part s =
     subst (λ (v : HeldWorker _ _ _). local_step (simulation_of handlers v.config) v.worker (step.Home v.worker) part ≡ None) c.self.view_is
     (home-nothing handlers held c.self.invariant.own_processes part (subst (λ (v : HeldWorker _ _ _). StandsFor handlers v part) (sym c.self.view_is) s) (sym off.0))
 
-pub index_mut-requires : goal.index_mut-requires
-index_mut-requires g c =
+pub index_mut-process-requires : goal.index_mut-process-requires
+index_mut-process-requires g c =
     let i = c.self.inside in
     let letter = c.get.result.now in
     let place = letter.event.dest / i.config.workers in
@@ -54,8 +54,8 @@ accept-requires-clause-dest g c κs within =
     let there : find test i.outbox ≡ Some letter = sym off.0 ∙ ap Some (sym c.get.ensures) in
     let own = found-in c.self.invariant letter there in
     let less = place-within c.self.invariant letter.event.dest place i.config.some_worker refl own.0 own.1.known in
-    let old = c.index_mut.result.now in
-    let at = index-get i.processes.items place old less (sym c.index_mut.ensures.value) in
+    let old = c.index_mut-process.result.now in
+    let at = index-get i.processes.items place old less (sym c.index_mut-process.ensures.value) in
     let who = process-at i.config i.worker 0 place i.processes.items old c.self.invariant.own_processes at in
     ap (λ (l : Letter _). l.event.dest) (sym c.get.ensures) ∙ sym (who.0 ∙ ap (λ n. (0 + place) * i.config.workers + n) (sym own.0) ∙ ap (λ n. n * i.config.workers + letter.event.dest % i.config.workers) (let plain : 0 + place ≡ place = omega arith in plain) ∙ div-add-mod' letter.event.dest i.config.workers)
 
@@ -70,8 +70,8 @@ accept-requires-clause-soon g c κs within =
     let there : find test i.outbox ≡ Some letter = sym off.0 ∙ ap Some (sym c.get.ensures) in
     let own = found-in c.self.invariant letter there in
     let less = place-within c.self.invariant letter.event.dest place i.config.some_worker refl own.0 own.1.known in
-    let old = c.index_mut.result.now in
-    let at = index-get i.processes.items place old less (sym c.index_mut.ensures.value) in
+    let old = c.index_mut-process.result.now in
+    let at = index-get i.processes.items place old less (sym c.index_mut-process.ensures.value) in
     let who = process-at i.config i.worker 0 place i.processes.items old c.self.invariant.own_processes at in
     subst (λ (l : Letter _). TimeBefore l.event.rank.key.time (end_of old.config)) c.get.ensures (subst (λ (k : Config). TimeBefore letter.event.rank.key.time (end_of k)) (sym who.1) own.1.soon)
 
@@ -86,15 +86,15 @@ returns-in-Err-clause-refused g c handlers part s =
     let there : find test i.outbox ≡ Some letter = sym off.0 ∙ ap Some (sym c.get.ensures) in
     let own = found-in c.self.invariant letter there in
     let less = place-within c.self.invariant letter.event.dest place i.config.some_worker refl own.0 own.1.known in
-    let old = c.index_mut.result.now in
-    let at = index-get i.processes.items place old less (sym c.index_mut.ensures.value) in
+    let old = c.index_mut-process.result.now in
+    let at = index-get i.processes.items place old less (sym c.index_mut-process.ensures.value) in
     let held = worker_view i.worker i.config i.processes.items i.outbox i.arrived.items i.colour i.sent i.got i.red_minimum i.floor i.serial in
     subst (λ (v : HeldWorker _ _ _). local_step (simulation_of handlers v.config) v.worker (step.Home v.worker) part ≡ None) c.self.view_is
     (home-refused handlers held c.self.invariant.own_processes part (subst (λ (v : HeldWorker _ _ _). StandsFor handlers v part) (sym c.self.view_is) s) letter place old there refl own.0 at
     (λ process st. subst (λ (l : Letter _). accept_process l process ≡ None) (sym c.get.ensures) (c.in-Err.ensures.refused handlers process st)))
 
-pub enter-requires-clause-there : goal.enter-requires-clause-there
-enter-requires-clause-there g c κs within =
+pub enter_accepted-requires-clause-there : goal.enter_accepted-requires-clause-there
+enter_accepted-requires-clause-there g c κs within =
     let i = c.self.inside in
     let letter = c.get.result.now in
     let place = letter.event.dest / i.config.workers in
@@ -104,12 +104,12 @@ enter-requires-clause-there g c κs within =
     let there : find test i.outbox ≡ Some letter = sym off.0 ∙ ap Some (sym c.get.ensures) in
     let own = found-in c.self.invariant letter there in
     let less = place-within c.self.invariant letter.event.dest place i.config.some_worker refl own.0 own.1.known in
-    let old = c.index_mut.result.now in
-    let at = index-get i.processes.items place old less (sym c.index_mut.ensures.value) in
+    let old = c.index_mut-process.result.now in
+    let at = index-get i.processes.items place old less (sym c.index_mut-process.ensures.value) in
     in-changed i.processes.items c.deref.result.now place old c.accept.new.self at c.deref.ensures.value
 
-pub enter-requires-clause-in_ready : goal.enter-requires-clause-in_ready
-enter-requires-clause-in_ready g c κs within =
+pub enter_accepted-requires-clause-in_ready : goal.enter_accepted-requires-clause-in_ready
+enter_accepted-requires-clause-in_ready g c κs within =
     let i = c.self.inside in
     let letter = c.get.result.now in
     let place = letter.event.dest / i.config.workers in
@@ -119,12 +119,12 @@ enter-requires-clause-in_ready g c κs within =
     let there : find test i.outbox ≡ Some letter = sym off.0 ∙ ap Some (sym c.get.ensures) in
     let own = found-in c.self.invariant letter there in
     let less = place-within c.self.invariant letter.event.dest place i.config.some_worker refl own.0 own.1.known in
-    let old = c.index_mut.result.now in
-    let at = index-get i.processes.items place old less (sym c.index_mut.ensures.value) in
+    let old = c.index_mut-process.result.now in
+    let at = index-get i.processes.items place old less (sym c.index_mut-process.ensures.value) in
     was-entered ready_of i.processes.items c.deref.result.now place old c.accept.new.self i.ready at c.deref.ensures.value c.self.invariant.ready_entered
 
-pub enter-requires-clause-in_unready : goal.enter-requires-clause-in_unready
-enter-requires-clause-in_unready g c κs within =
+pub enter_accepted-requires-clause-in_unready : goal.enter_accepted-requires-clause-in_unready
+enter_accepted-requires-clause-in_unready g c κs within =
     let i = c.self.inside in
     let letter = c.get.result.now in
     let place = letter.event.dest / i.config.workers in
@@ -134,9 +134,27 @@ enter-requires-clause-in_unready g c κs within =
     let there : find test i.outbox ≡ Some letter = sym off.0 ∙ ap Some (sym c.get.ensures) in
     let own = found-in c.self.invariant letter there in
     let less = place-within c.self.invariant letter.event.dest place i.config.some_worker refl own.0 own.1.known in
-    let old = c.index_mut.result.now in
-    let at = index-get i.processes.items place old less (sym c.index_mut.ensures.value) in
+    let old = c.index_mut-process.result.now in
+    let at = index-get i.processes.items place old less (sym c.index_mut-process.ensures.value) in
     was-entered unready_of i.processes.items c.deref.result.now place old c.accept.new.self i.unready at c.deref.ensures.value c.self.invariant.unready_entered
+
+pub enter_accepted-requires-clause-behind : goal.enter_accepted-requires-clause-behind
+enter_accepted-requires-clause-behind g c κs within later =
+    let i = c.self.inside in
+    let letter = c.get.result.now in
+    let place = letter.event.dest / i.config.workers in
+    let test = λ (l : Letter _). nat_eq (l.event.dest % i.config.workers) i.worker in
+    let parts = c.split_off_first-others.ensures in
+    let off = taken-first test (λ (l : Letter _). l) i.outbox c.split_off_first-others.new.self c.split_off_first-others.result c.pop_front.new.self (Some c.in-Some.letter) parts.before parts.from c.in-Some.ensures in
+    let there : find test i.outbox ≡ Some letter = sym off.0 ∙ ap Some (sym c.get.ensures) in
+    let own = found-in c.self.invariant letter there in
+    let less = place-within c.self.invariant letter.event.dest place i.config.some_worker refl own.0 own.1.known in
+    let old = c.index_mut-process.result.now in
+    let at = index-get i.processes.items place old less (sym c.index_mut-process.ensures.value) in
+    let same = c.in_default-accept.ensures.same in
+    let behind = subst (λ (l : Letter _). would_lead old.pending old.waiting l.sign l ≡ false) c.get-2.ensures (sym c.would_lead-leads.ensures ∙ later) in
+    entered-behind i.processes.items c.deref.result.now place old c.accept.new.self i.ready i.unready i.marked at c.deref.ensures.value same.1 same.3
+    (c.in_default-accept.ensures.behind behind) c.self.invariant.ready_entered c.self.invariant.unready_entered c.self.invariant.past_marked c.self.invariant.least_told
 
 pub invariant_of-self-2 : goal.invariant_of-self-2
 invariant_of-self-2 g c =
@@ -149,13 +167,13 @@ invariant_of-self-2 g c =
     let there : find test i.outbox ≡ Some letter = sym off.0 ∙ ap Some (sym c.get.ensures) in
     let own = found-in c.self.invariant letter there in
     let less = place-within c.self.invariant letter.event.dest place i.config.some_worker refl own.0 own.1.known in
-    let old = c.index_mut.result.now in
-    let at = index-get i.processes.items place old less (sym c.index_mut.ensures.value) in
+    let old = c.index_mut-process.result.now in
+    let at = index-get i.processes.items place old less (sym c.index_mut-process.ensures.value) in
     let new = c.accept.new.self in
     let same = c.in_default-accept.ensures.same in
     let within = without-all (IsWithinRun i.config.lps (end_of i.config)) test i.outbox c.self.invariant.sendable in
-    inside-changed c.self.invariant place old new c.append-2.new.self i.serial c.deref.result.now c.enter.new.ready c.enter.new.unready c.enter.new.marked at same.0 same.1 c.deref.ensures.value
-    c.enter.ensures.ready c.enter.ensures.unready c.enter.ensures.marked c.enter.ensures.told
+    inside-changed c.self.invariant place old new c.append-2.new.self i.serial c.deref.result.now c.enter_accepted.new.ready c.enter_accepted.new.unready c.enter_accepted.new.marked at same.0 same.1 c.deref.ensures.value
+    c.enter_accepted.ensures.ready c.enter_accepted.ensures.unready c.enter_accepted.ensures.marked c.enter_accepted.ensures.told
     (subst (λ (ls : List (Letter _)). AllWithinRun i.config ls) (sym (c.append-2.ensures.0 ∙ off.1)) within) c.self.invariant.few_made
 
 pub returns-clause-done : goal.returns-clause-done
@@ -169,8 +187,8 @@ returns-clause-done g c handlers part s =
     let there : find test i.outbox ≡ Some letter = sym off.0 ∙ ap Some (sym c.get.ensures) in
     let own = found-in c.self.invariant letter there in
     let less = place-within c.self.invariant letter.event.dest place i.config.some_worker refl own.0 own.1.known in
-    let old = c.index_mut.result.now in
-    let at = index-get i.processes.items place old less (sym c.index_mut.ensures.value) in
+    let old = c.index_mut-process.result.now in
+    let at = index-get i.processes.items place old less (sym c.index_mut-process.ensures.value) in
     let held = worker_view i.worker i.config i.processes.items i.outbox i.arrived.items i.colour i.sent i.got i.red_minimum i.floor i.serial in
     let new = c.accept.new.self in
     let same = c.in_default-accept.ensures.same in
