@@ -68,6 +68,8 @@ impl<'a, M: EventModel, T: Tells> Contestants for Ready<'a, M, T> {
         at_least_one(self.processes.len())
     }
 
+    // The rank of the process at `place` is at hand, and a call would copy it.
+    #[inline(always)]
     fn rank(&self, number: u32) -> Option<Rank> {
         if number == self.place {
             return self.rank;
@@ -154,6 +156,10 @@ pub(crate) fn enter_unready<M: EventModel, T: Tells + Drop>(
     requires was { WasTournamentOf place (entries_of unready_of processes.now) tournament.old }
     ensures { IsTournamentOf (entries_of unready_of processes.now) tournament.new }
 {
+    // Mostly nobody is unready. Then nothing changes, and no contestants are made.
+    if rank.is_none() && tournament.winner().is_none() {
+        return;
+    }
     let contestants = Unready {
         processes,
         place,
