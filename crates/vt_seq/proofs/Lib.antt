@@ -3,5 +3,6 @@ pub mod Sizes
 pub mod StartLemmas
 pub mod InsertedLemmas
 pub mod StepLemmas
+pub mod GivenLemmas
 pub mod HeapLemmas
 pub mod ProgressLemmas

@@ -1,6 +1,7 @@
 -- What the fields stand for is what a contract sees.
-use Rattle.std.proofs.Common.{◌≡◌, ℕ, zero, suc, ◌<◌, ◌≤◌, List, [], ◌∷◌, Bool, true, false, ◌&&◌, map, length, Some, slice_get, slice_index_or, Result, Ok, Err, IfOk, IfErr, refl, ap, ◌∙◌, arith}
-use Rattle.std.proofs.Math.Logic.{∥∥₁_map}
+use Rattle.std.proofs.Common.{◌≡◌, ℕ, zero, suc, ◌<◌, ◌≤◌, List, [], ◌∷◌, ◌++◌, Bool, true, false, ◌&&◌, map, length, Some, slice_get, slice_index_or, Result, Ok, Err, IfOk, IfErr, refl, sym, ap, ◌∙◌, arith}
+use Rattle.std.proofs.Math.Logic.{∥∥₁_map, ∥∥₁_elim}
+use Rattle.std.proofs.Props.{props}
 use Rattle.std.specs.List.{list_all}
 use Rattle.vt_key.specs.Keys.{Key}
 use Rattle.vt_key.specs.Order.{key_before}
@@ -13,7 +14,10 @@ use Rattle.vt_model.specs.Handler.{Handlers}
 use Rattle.vt_model.specs.Simulation.{Simulation, simulation_of}
 use Rattle.vt_model.specs.Histories.{AllAfter, IsRising}
 use Rattle.vt_model.specs.Process.{triple_at}
-use Rattle.vt_seq.specs.Progress.{Progress, IsAfter, IsReached}
+use Rattle.vt_seq.specs.Limits.{IsCountedWhole}
+use Rattle.vt_seq.specs.Given.{records_to, AddsStep}
+use Rattle.vt_seq.specs.Progress.{IsAfter}
+use Rattle.vt_seq.specs.Standing.{Standing, IsAt, IsOnWay, with_records}
 use Rattle.vt_seq.specs.StandsFor.{StandsAt}
 
 -- ---- a test of rising keys
@@ -68,6 +72,11 @@ pub if_ok-map : {V E : Type 0} (A B : V → Type 0) (r : Result V E) → IfOk r 
 if_ok-map A B (Ok v) a f = f v a
 if_ok-map A B (Err e) a f = tt
 
+-- a fact of each good result, from two others
+pub if_ok-both : {V E : Type 0} (A B C : V → Type 0) (r : Result V E) → IfOk r A → IfOk r B → ((v : V) → A v → B v → C v) → IfOk r C
+if_ok-both A B C (Ok v) a b f = f v a b
+if_ok-both A B C (Err e) a b f = tt
+
 -- a fact of each refusal, from another
 pub if_err-map : {V E : Type 0} (A B : E → Type 0) (r : Result V E) → IfErr r A → ((e : E) → A e → B e) → IfErr r B
 if_err-map A B (Ok v) a f = tt
@@ -75,39 +84,59 @@ if_err-map A B (Err e) a f = f e a
 
 module _ {M S P K : Type 0} (sim : Simulation S P) (model : M) (config : Config) where
   -- what a contract sees of these fields
-  abbrev pub seen : List (Sent P) → List (Process M S P K) → List Record → Progress M S P
-  seen pending processes records = record {
+  abbrev pub seen : List (Sent P) → List (Process M S P K) → Standing M S P
+  seen pending processes = record {
     model = model;
     config = config;
     pending = pending;
     triples = map (λ q. triple_at q.state q.number q.stream) processes;
-    records = records;
   }
 
   -- fields that stand for the run after n steps are seen so
-  pub stands-after : (n : ℕ) (pending : List (Sent P)) (processes : List (Process M S P K)) (records : List Record) → sim.lps ≤ length processes
-      → StandsAt sim n pending processes records → IsAfter sim n (seen pending processes records)
-  stands-after n pending processes records there st = record {
+  pub stands-after : (n : ℕ) (pending : List (Sent P)) (processes : List (Process M S P K)) → sim.lps ≤ length processes
+      → StandsAt sim n pending processes → IsAt sim n (seen pending processes)
+  stands-after n pending processes there st = record {
     sent = st.sent;
     had = st.had;
     triples = λ p is. got (λ (q : Process M S P K). triple_at q.state q.number q.stream) _ processes p (omega (arith, there, is)) (λ d. st.triples p d is);
-    records = st.recorded;
   }
 
   -- and fields that are seen so stand for it, if their events rise
-  pub after-stands : (n : ℕ) (pending : List (Sent P)) (processes : List (Process M S P K)) (records : List Record) → are_rising pending ≡ true
-      → IsAfter sim n (seen pending processes records) → StandsAt sim n pending processes records
-  after-stands n pending processes records rises is = record {
+  pub after-stands : (n : ℕ) (pending : List (Sent P)) (processes : List (Process M S P K)) → are_rising pending ≡ true
+      → IsAt sim n (seen pending processes) → StandsAt sim n pending processes
+  after-stands n pending processes rises is = record {
     rising = tested-rising pending rises;
     sent = is.sent;
     had = is.had;
     triples = λ p d known. indexed (λ (q : Process M S P K). triple_at q.state q.number q.stream) _ processes p d (is.triples p known);
-    recorded = is.records;
   }
 
--- fields that stand for the run after some number of steps are seen as reached
-pub seen-reached : {M S P K : Type 0} (handlers : Handlers S P K) (model : M) (config : Config) (pending : List (Sent P)) (processes : List (Process M S P K)) (records : List Record)
-    → config.lps ≤ length processes → ∥ ((n : ℕ) × StandsAt (simulation_of handlers config) n pending processes records) ∥₁
-    → IsReached handlers (seen (simulation_of handlers config) model config pending processes records)
-seen-reached handlers model config pending processes records there stands =
-    ∥∥₁_map stands (λ x. (x.0, stands-after (simulation_of handlers config) model config x.0 pending processes records there x.1))
+-- fields that stand for the run after some number of steps are seen on their way
+pub seen-on_way : {M S P K : Type 0} (handlers : Handlers S P K) (model : M) (config : Config) (pending : List (Sent P)) (processes : List (Process M S P K))
+    → config.lps ≤ length processes → ∥ ((n : ℕ) × StandsAt (simulation_of handlers config) n pending processes) ∥₁
+    → IsOnWay handlers (seen (simulation_of handlers config) model config pending processes)
+seen-on_way handlers model config pending processes there stands =
+    ∥∥₁_map stands (λ x. (x.0, stands-after (simulation_of handlers config) model config x.0 pending processes there x.1))
+
+-- ---- an execution and the records that were kept of it
+
+module _ {M S P : Type 0} (sim : Simulation S P) (n : ℕ) where
+  pub without_records : (now : Standing M S P) (records : List Record) → IsAfter sim n (with_records now records) → IsAt sim n now
+  without_records now records is = record { sent = is.sent; had = is.had; triples = is.triples }
+
+  pub together : (now : Standing M S P) (records : List Record) → IsAt sim n now → records ≡ records_to sim n → IsAfter sim n (with_records now records)
+  together now records is all = record { sent = is.sent; had = is.had; triples = is.triples; records = all }
+
+  -- a step of the execution whose records are kept
+  pub kept_on : (now : Standing M S P) (old new : List Record) → old ≡ records_to sim n → IsAt sim (suc n) now → AddsStep sim n old new → IsAfter sim (suc n) (with_records now new)
+  kept_on now old new all is adds = record {
+    sent = is.sent;
+    had = is.had;
+    triples = is.triples;
+    records = adds.added ∙ ap (λ (l : List Record). l ++ adds.fresh) all ∙ sym adds.next;
+  }
+
+-- where all send numbers are counted after any number of steps, they are
+pub counted_any : {S P V E : Type 0} (sim : Simulation S P) (In : ℕ → Type 0) (r : Result V E) → ∥ ((n : ℕ) × In n) ∥₁ → ((n : ℕ) → In n → IfOk r (λ v. IsCountedWhole sim)) → IfOk r (λ v. IsCountedWhole sim)
+counted_any sim In (Ok v) some all = λ p is. ∥∥₁_elim some (Prim.hlevel props) (λ x. all x.0 x.1 p is)
+counted_any sim In (Err e) some all = tt

@@ -97,11 +97,10 @@ module _ {M S P K : Type 0} (sim : Simulation S P) (lawful : IsLawful sim) where
       let source : d.key.source ≡ s.0 = from.0 in omega arith
 
   -- all started, the fields stand for the opening
-  pub stands_start : (pending : List (Sent P)) (processes : List (Process M S P K)) → AllStarted sim sim.lps pending processes → StandsAt sim 0 pending processes []
+  pub stands_start : (pending : List (Sent P)) (processes : List (Process M S P K)) → AllStarted sim sim.lps pending processes → StandsAt sim 0 pending processes
   stands_start pending processes h = record {
     rising = h.rising;
     sent = λ e m. let s = h.sent e m in below-among sim lawful (λ p. (sim.start p).sends) sim.lps s.0 e s.1 s.2;
     had = λ e m. let s = among-below sim lawful (λ p. (sim.start p).sends) sim.lps e m in h.had e s.0 s.1 s.2;
     triples = h.triples;
-    recorded = refl;
   }

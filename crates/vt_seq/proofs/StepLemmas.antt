@@ -1,31 +1,28 @@
 -- One step of the code is one step of the definition.
-use Rattle.std.proofs.Common.{◌≡◌, ℕ, zero, suc, ◌+◌, ◌^◌, ◌<◌, ◌≤◌, inl, inr, List, [], ◌∷◌, ◌++◌, Bool, true, false, not, filter, map, drop, Option, Some, None, nat_eq, nat_lt, length, slice_get, slice_index_or, slice_set, Result, Ok, Err, IfOk, IfErr, IsErrAnd, refl, sym, subst, ap, ◌∙◌, arith, append_assoc, append-nil}
+use Rattle.std.proofs.Common.{◌≡◌, ℕ, zero, suc, ◌+◌, ◌^◌, ◌<◌, ◌≤◌, inl, inr, List, [], ◌∷◌, ◌++◌, Bool, true, false, not, filter, drop, Option, Some, None, nat_eq, length, slice_get, slice_index_or, slice_set, Result, Ok, Err, IfOk, IfErr, IsErrAnd, refl, sym, subst, ap, ◌∙◌, arith}
 use Rattle.std.specs.List.{sum_by}
-use Rattle.std.proofs.lemmas.List.{set-get_or, get_or-set_same, get_or-set_other, map-append}
+use Rattle.std.proofs.lemmas.List.{set-get_or, get_or-set_same, get_or-set_other}
 use Rattle.std.proofs.lemmas.List.Sums.{sum_by-cons}
 use Rattle.std.proofs.lemmas.Bool.{eqb-true, eq-eqb}
-use Rattle.vt_key.specs.Times.{time_before, time_left}
+use Rattle.vt_key.specs.Times.{time_left}
 use Rattle.vt_key.specs.declared.limits.TheConstants.{MAX_COUNT}
 use Rattle.vt_key.specs.Keys.{Key}
 use Rattle.vt_key.specs.Order.{KeyBefore, key_same}
 use Rattle.vt_key.proofs.OrderLemmas.{key-irreflexive, key_same-true, same-key_same}
 use Rattle.vt_model.specs.declared.limits.TheConstants.{MAX_SENDS}
 use Rattle.vt_model.specs.declared.rows.Record.{Record}
-use Rattle.vt_model.specs.declared.rows.Row.{Row}
 use Rattle.vt_model.specs.declared.sending.Sent.{Sent}
 use Rattle.vt_model.specs.Simulation.{Simulation, Fired, Triple, after}
-use Rattle.vt_model.specs.Sequential.{RunState, events_of, least_event, fired_after, with_event, next_state, after_steps, weight, whole_run, rows_after, seq_records}
+use Rattle.vt_model.specs.Sequential.{RunState, events_of, least_event, fired_after, with_event, next_state, after_steps, weight}
 use Rattle.vt_model.specs.Histories.{Among, IsRising, sends_of, IsLawful}
-use Rattle.vt_model.specs.Rows.{record_time}
 use Rattle.vt_model.proofs.HistoryLemmas.{among-left, among-right, among-append, after-among}
 use Rattle.vt_model.proofs.RunLemmas.{tested, among-filter, filter-among, least-found, known_sent, lists_of, IsReached, reached, numbered-all, numbered-among, events_of-same, events_of-other, after-snoc}
-use Rattle.vt_model.proofs.EndLemmas.{least-none, no_step, sent-lighter, executed_all}
+use Rattle.vt_model.proofs.EndLemmas.{least-none, sent-lighter}
 use Rattle.vt_model.specs.Process.{triple_at}
-use Rattle.vt_seq.specs.Limits.{number_after, IsCounted, IsCountedWhole}
+use Rattle.vt_seq.specs.Limits.{number_after, IsCounted}
 use Rattle.vt_seq.specs.StandsFor.{StandsFor, StandsAt, HasExecuted}
 use Rattle.vt_seq.specs.Queue.{IsWithinRun, all_inserted}
 use Rattle.vt_model.specs.declared.process.Process.{Process}
-use Rattle.vt_model.proofs.RowLemmas.{all_before, told_before}
 use Rattle.vt_seq.proofs.InsertedLemmas.{all_inserted-among, among-all_inserted, all_inserted-rising, all_inserted-sum}
 
 -- a list is its first item and the others
@@ -54,24 +51,17 @@ module _ {S P : Type 0} (sim : Simulation S P) (lawful : IsLawful sim) where
         let l = least-found x.pending m h in
         elim (from m l.0) [ inl at ↦ h ∙ ap Some at | inr a ↦ absurd (l.1 e (to e (inl refl)) (after-among e.key rest m r.0 a)) ]
 
-  -- rows, with one more event
-  pub rows-snoc : (done xs : List (Sent P)) (e : Sent P) → rows_after sim done (xs ++ e ∷ []) ≡ rows_after sim done xs ++ (fired_after sim (done ++ xs) e).rows
-  rows-snoc done [] e = append-nil (fired_after sim done e).rows ∙ ap (λ (l : List (Sent P)). (fired_after sim l e).rows) (sym (append-nil done))
-  rows-snoc done (x ∷ xs) e =
-      ap (λ (l : List Row). (fired_after sim done x).rows ++ l) (rows-snoc (done ++ x ∷ []) xs e ∙ ap (λ (l : List (Sent P)). rows_after sim (done ++ x ∷ []) xs ++ (fired_after sim l e).rows) (append_assoc done (x ∷ []) xs))
-      ∙ sym (append_assoc (fired_after sim done x).rows (rows_after sim (done ++ x ∷ []) xs) (fired_after sim (done ++ x ∷ xs) e).rows)
-
 -- the send number of each of so many processes is within its limit
 abbrev pub AreCounted : {M S P K : Type 0} → ℕ → List (Process M S P K) → Type 0
 AreCounted lps processes = (p : ℕ) (d : Process _ _ _ _) → p < lps → (slice_index_or processes p d).number ≤ MAX_COUNT
 
 module _ {M S P K : Type 0} (sim : Simulation S P) (lawful : IsLawful sim) where
-  stands_with : (x : RunState P) (e : Sent P) (rest : List (Sent P)) (processes : List (Process M S P K)) (records : List Record) (q : Process M S P K)
-      → IsReached sim lawful x → StandsFor sim x (e ∷ rest) processes records → length processes ≡ sim.lps
+  stands_with : (x : RunState P) (e : Sent P) (rest : List (Sent P)) (processes : List (Process M S P K)) (q : Process M S P K)
+      → IsReached sim lawful x → StandsFor sim x (e ∷ rest) processes → length processes ≡ sim.lps
       → triple_at q.state q.number q.stream ≡ (fired_after sim x.executed e).triple
-      → StandsFor sim (with_event sim x e) (all_inserted (fired_after sim x.executed e).sends rest) (slice_set processes e.dest q) (records ++ map (λ (r : Row). r.rec) (fired_after sim x.executed e).rows)
+      → StandsFor sim (with_event sim x e) (all_inserted (fired_after sim x.executed e).sends rest) (slice_set processes e.dest q)
   unfolding fired_after
-  stands_with x e rest processes records q r st there triple =
+  stands_with x e rest processes q r st there triple =
       let kept : Sent P → Bool = λ d. not (key_same d.key e.key) in
       let fresh : List (Sent P) = (fired_after sim x.executed e).sends in
       let t : Triple S = after sim e.dest (events_of e.dest x.executed) in
@@ -113,50 +103,44 @@ module _ {M S P K : Type 0} (sim : Simulation S P) (lawful : IsLawful sim) where
               ap (λ (o : Process M S P K). triple_at o.state o.number o.stream) (get_or-set_other processes e.dest p q d apart)
               ∙ st.triples p d is ∙ ap (after sim p) (sym (events_of-other p x.executed e y))
         ];
-        recorded =
-            ap (λ (l : List Record). l ++ map (λ (r : Row). r.rec) (fired_after sim x.executed e).rows) st.recorded
-            ∙ sym (map-append (λ (r : Row). r.rec) (rows_after sim [] x.executed) (fired_after sim x.executed e).rows)
-            ∙ ap (map (λ (r : Row). r.rec)) (sym (rows-snoc sim lawful [] x.executed e));
       }
 
   -- the definition's next step executes the first pending event
-  step_is : (n : ℕ) (e : Sent P) (pending : List (Sent P)) (processes : List (Process M S P K)) (records : List Record)
-      → StandsAt sim n pending processes records → 0 < length pending → slice_index_or pending 0 e ≡ e → after_steps sim (suc n) ≡ with_event sim (after_steps sim n) e
-  step_is n e pending processes records st some first =
+  pub step_is : (n : ℕ) (e : Sent P) (pending : List (Sent P)) (processes : List (Process M S P K))
+      → StandsAt sim n pending processes → 0 < length pending → slice_index_or pending 0 e ≡ e → after_steps sim (suc n) ≡ with_event sim (after_steps sim n) e
+  step_is n e pending processes st some first =
       let x : RunState P = after_steps sim n in
       let rest : List (Sent P) = drop 1 pending in
-      let st' : StandsFor sim x (e ∷ rest) processes records = subst (λ (l : List (Sent P)). StandsFor sim x l processes records) (opened pending e some first) st in
+      let st' : StandsFor sim x (e ∷ rest) processes = subst (λ (l : List (Sent P)). StandsFor sim x l processes) (opened pending e some first) st in
       ap (next_state sim x) (head-least sim lawful x e rest st'.rising st'.sent st'.had)
 
   -- the code's step is the definition's
   pub stands_step : (n : ℕ) (e : Sent P) (pending after_pending : List (Sent P)) (processes : List (Process M S P K)) (records after_records : List Record) (p q : Process M S P K)
-      → StandsAt sim n pending processes records → length processes ≡ sim.lps → e.dest < sim.lps → 0 < length pending → slice_index_or pending 0 e ≡ e
+      → StandsAt sim n pending processes → length processes ≡ sim.lps → e.dest < sim.lps → 0 < length pending → slice_index_or pending 0 e ≡ e
       → slice_index_or processes e.dest p ≡ p
       → HasExecuted (sim.fire e.dest (triple_at p.state p.number p.stream) e) pending records q.state q.number q.stream after_pending after_records
-      → StandsAt sim (suc n) after_pending (slice_set processes e.dest q) after_records
+      → StandsAt sim (suc n) after_pending (slice_set processes e.dest q)
   unfolding fired_after
   stands_step n e pending after_pending processes records after_records p q st there dest some first at f =
       let x : RunState P = after_steps sim n in
       let rest : List (Sent P) = drop 1 pending in
       let head : pending ≡ e ∷ rest = opened pending e some first in
-      let st' : StandsFor sim x (e ∷ rest) processes records = subst (λ (l : List (Sent P)). StandsFor sim x l processes records) head st in
-      let next : after_steps sim (suc n) ≡ with_event sim x e = step_is n e pending processes records st some first in
+      let st' : StandsFor sim x (e ∷ rest) processes = subst (λ (l : List (Sent P)). StandsFor sim x l processes) head st in
+      let next : after_steps sim (suc n) ≡ with_event sim x e = step_is n e pending processes st some first in
       let seat : triple_at p.state p.number p.stream ≡ after sim e.dest (events_of e.dest x.executed) = ap (λ (o : Process M S P K). triple_at o.state o.number o.stream) (sym at) ∙ st.triples e.dest p dest in
       let is : sim.fire e.dest (triple_at p.state p.number p.stream) e ≡ fired_after sim x.executed e = ap (λ (t : Triple S). sim.fire e.dest t e) seat in
-      let stood = stands_with x e rest processes records q (reached sim lawful n) st' there (f.triple ∙ ap (λ (g : Fired S P). g.triple) is) in
+      let stood = stands_with x e rest processes q (reached sim lawful n) st' there (f.triple ∙ ap (λ (g : Fired S P). g.triple) is) in
       let pending_is : after_pending ≡ all_inserted (fired_after sim x.executed e).sends rest = f.pending ∙ ap (λ (g : Fired S P). all_inserted g.sends rest) is in
-      let records_is : after_records ≡ records ++ map (λ (r : Row). r.rec) (fired_after sim x.executed e).rows = f.records ∙ ap (λ (g : Fired S P). records ++ map (λ (r : Row). r.rec) g.rows) is in
-      subst (λ (y : RunState P). StandsFor sim y after_pending (slice_set processes e.dest q) after_records) (sym next)
-      (subst (λ (l : List (Sent P)). StandsFor sim (with_event sim x e) l (slice_set processes e.dest q) after_records) (sym pending_is)
-      (subst (λ (l : List Record). StandsFor sim (with_event sim x e) (all_inserted (fired_after sim x.executed e).sends rest) (slice_set processes e.dest q) l) (sym records_is) stood))
+      subst (λ (y : RunState P). StandsFor sim y after_pending (slice_set processes e.dest q)) (sym next)
+      (subst (λ (l : List (Sent P)). StandsFor sim (with_event sim x e) l (slice_set processes e.dest q)) (sym pending_is) stood)
 
   -- where the receiver of the next event stands after it
-  pub next_triple : (n : ℕ) (e : Sent P) (pending : List (Sent P)) (processes : List (Process M S P K)) (records : List Record) (p : Process M S P K)
-      → StandsAt sim n pending processes records → e.dest < sim.lps → 0 < length pending → slice_index_or pending 0 e ≡ e → slice_index_or processes e.dest p ≡ p
+  pub next_triple : (n : ℕ) (e : Sent P) (pending : List (Sent P)) (processes : List (Process M S P K)) (p : Process M S P K)
+      → StandsAt sim n pending processes → e.dest < sim.lps → 0 < length pending → slice_index_or pending 0 e ≡ e → slice_index_or processes e.dest p ≡ p
       → (sim.fire e.dest (triple_at p.state p.number p.stream) e).triple ≡ after sim e.dest (events_of e.dest (after_steps sim (suc n)).executed)
-  next_triple n e pending processes records p st dest some first at =
+  next_triple n e pending processes p st dest some first at =
       let x : RunState P = after_steps sim n in
-      let next : after_steps sim (suc n) ≡ with_event sim x e = step_is n e pending processes records st some first in
+      let next : after_steps sim (suc n) ≡ with_event sim x e = step_is n e pending processes st some first in
       let seat : triple_at p.state p.number p.stream ≡ after sim e.dest (events_of e.dest x.executed) = ap (λ (o : Process M S P K). triple_at o.state o.number o.stream) (sym at) ∙ st.triples e.dest p dest in
       ap (λ (t : Triple S). (sim.fire e.dest t e).triple) seat
       ∙ sym (after-snoc sim lawful e.dest (sim.start e.dest).triple (events_of e.dest x.executed) e)
@@ -164,35 +148,35 @@ module _ {M S P K : Type 0} (sim : Simulation S P) (lawful : IsLawful sim) where
       ∙ ap (λ (y : RunState P). after sim e.dest (events_of e.dest y.executed)) (sym next)
 
   -- the send numbers are within their limits where those of the processes are
-  pub counted_at : (n : ℕ) (pending : List (Sent P)) (processes : List (Process M S P K)) (records : List Record)
-      → StandsAt sim n pending processes records → length processes ≡ sim.lps → AreCounted sim.lps processes → IsCounted sim n
-  counted_at n pending [] records st there numbered p is = absurd (omega (arith, there, is))
-  counted_at n pending (x ∷ xs) records st there numbered p is = subst (λ (t : Triple S). t.number ≤ MAX_COUNT) (st.triples p x is) (numbered p x is)
+  pub counted_at : (n : ℕ) (pending : List (Sent P)) (processes : List (Process M S P K))
+      → StandsAt sim n pending processes → length processes ≡ sim.lps → AreCounted sim.lps processes → IsCounted sim n
+  counted_at n pending [] st there numbered p is = absurd (omega (arith, there, is))
+  counted_at n pending (x ∷ xs) st there numbered p is = subst (λ (t : Triple S). t.number ≤ MAX_COUNT) (st.triples p x is) (numbered p x is)
 
   -- and so they are after the next event, if its receiver's is
-  pub counted_next : (n : ℕ) (e : Sent P) (pending : List (Sent P)) (processes : List (Process M S P K)) (records : List Record) (p : Process M S P K)
-      → StandsAt sim n pending processes records → length processes ≡ sim.lps → AreCounted sim.lps processes → e.dest < sim.lps → 0 < length pending → slice_index_or pending 0 e ≡ e
+  pub counted_next : (n : ℕ) (e : Sent P) (pending : List (Sent P)) (processes : List (Process M S P K)) (p : Process M S P K)
+      → StandsAt sim n pending processes → length processes ≡ sim.lps → AreCounted sim.lps processes → e.dest < sim.lps → 0 < length pending → slice_index_or pending 0 e ≡ e
       → slice_index_or processes e.dest p ≡ p → (sim.fire e.dest (triple_at p.state p.number p.stream) e).triple.number ≤ MAX_COUNT → IsCounted sim (suc n)
-  counted_next n e pending processes records p st there numbered dest some first at fits r is = elim (tested (nat_eq e.dest r)) [
+  counted_next n e pending processes p st there numbered dest some first at fits r is = elim (tested (nat_eq e.dest r)) [
     | inl y ↦
         subst (λ (i : ℕ). number_after sim (suc n) i ≤ MAX_COUNT) (eqb-true e.dest r y)
-        (subst (λ (t : Triple S). t.number ≤ MAX_COUNT) (next_triple n e pending processes records p st dest some first at) fits)
+        (subst (λ (t : Triple S). t.number ≤ MAX_COUNT) (next_triple n e pending processes p st dest some first at) fits)
     | inr y ↦
         let x : RunState P = after_steps sim n in
-        let next : after_steps sim (suc n) ≡ with_event sim x e = step_is n e pending processes records st some first in
+        let next : after_steps sim (suc n) ≡ with_event sim x e = step_is n e pending processes st some first in
         subst (λ (z : RunState P). (after sim r (events_of r z.executed)).number ≤ MAX_COUNT) (sym next)
-        (subst (λ (es : List (Sent P)). (after sim r es).number ≤ MAX_COUNT) (sym (events_of-other r x.executed e y)) (counted_at n pending processes records st there numbered r is))
+        (subst (λ (es : List (Sent P)). (after sim r es).number ≤ MAX_COUNT) (sym (events_of-other r x.executed e y)) (counted_at n pending processes st there numbered r is))
   ]
 
   -- what is pending is for a known process and soon
-  pub taken : (n : ℕ) (pending : List (Sent P)) (processes : List (Process M S P K)) (records : List Record) → StandsAt sim n pending processes records
+  pub taken : (n : ℕ) (pending : List (Sent P)) (processes : List (Process M S P K)) → StandsAt sim n pending processes
       → (d : Sent P) → Among d pending → (d.dest < sim.lps) × (d.key.time < sim.end)
-  taken n pending processes records st d m = known_sent sim lawful (lists_of sim lawful (after_steps sim n).executed) d ((reached sim lawful n).made d (inl (st.sent d m)))
+  taken n pending processes st d m = known_sent sim lawful (lists_of sim lawful (after_steps sim n).executed) d ((reached sim lawful n).made d (inl (st.sent d m)))
 
   -- what a process has sent has lesser numbers than its next one
-  pub numbers_below_next : (n : ℕ) (pending : List (Sent P)) (processes : List (Process M S P K)) (records : List Record) (q : ℕ) (p : Process M S P K)
-      → StandsAt sim n pending processes records → q < sim.lps → slice_index_or processes q p ≡ p → (d : Sent P) → Among d pending → d.key.source ≡ q → d.key.number < p.number
-  numbers_below_next n pending processes records q p st is at d m source =
+  pub numbers_below_next : (n : ℕ) (pending : List (Sent P)) (processes : List (Process M S P K)) (q : ℕ) (p : Process M S P K)
+      → StandsAt sim n pending processes → q < sim.lps → slice_index_or processes q p ≡ p → (d : Sent P) → Among d pending → d.key.source ≡ q → d.key.number < p.number
+  numbers_below_next n pending processes q p st is at d m source =
       let x : RunState P = after_steps sim n in
       let h = (reached sim lawful n).made d (inl (st.sent d m)) in
       let b = numbered-among h.0 0 (after sim h.0 (events_of h.0 x.executed)).number (sends_of sim h.0 (events_of h.0 x.executed)) d (numbered-all sim lawful h.0 h.1 (events_of h.0 x.executed)) h.2 in
@@ -201,13 +185,10 @@ module _ {M S P K : Type 0} (sim : Simulation S P) (lawful : IsLawful sim) where
       let seat : p.number ≡ (after sim q (events_of q x.executed)).number = ap (λ (o : Process M S P K). o.number) (sym at) ∙ ap (λ (t : Triple S). t.number) (st.triples q p is) in
       omega (arith, before, seat)
 
-  -- with nothing pending, nothing is in the run's state
-  pub nothing_left : (n : ℕ) (pending : List (Sent P)) (processes : List (Process M S P K)) (records : List Record) → StandsAt sim n pending processes records
-      → pending ≡ [] → (after_steps sim n).pending ≡ []
-  nothing_left n pending processes records st h = empty (after_steps sim n).pending (λ d m. subst (Among d) h (st.had d m)) where
-    empty : (xs : List (Sent P)) → ((d : Sent P) → Among d xs → ⊥) → xs ≡ []
-    empty [] f = refl
-    empty (x ∷ xs) f = absurd (f x (inl refl))
+-- with nothing pending, nothing is in the run's state
+pub none_pending : {P : Type 0} (known pending : List (Sent P)) → ((e : Sent P) → Among e known → Among e pending) → pending ≡ [] → known ≡ []
+none_pending [] pending had none = refl
+none_pending (e ∷ es) pending had none = absurd (subst (Among e) none (had e (inl refl)))
 
 -- a fact that holds in both cases of a result
 pub either_way : {V E G A B C D : Type 0} (r : Result V E) → IfOk r (λ v. A) → IfErr r (λ e. B) → IfErr r (λ e. C) → IfErr r (λ e. D) → (A → G) → (B → C → D → G) → G
@@ -282,36 +263,3 @@ module _ {S P : Type 0} (sim : Simulation S P) (lawful : IsLawful sim) where
 -- an item put back where it was
 pub set_same : {X : Type 0} (xs : List X) (i : ℕ) (p q : X) → slice_index_or xs i p ≡ p → q ≡ p → slice_set xs i q ≡ xs
 set_same xs i p q at same = ap (slice_set xs i) (same ∙ sym at) ∙ set-get_or xs i p
-
-module _ {M S P K : Type 0} (sim : Simulation S P) (lawful : IsLawful sim) where
-  -- with nothing pending, the records are those of the whole run
-  pub whole_records : (n : ℕ) (pending : List (Sent P)) (processes : List (Process M S P K)) (records : List Record) → StandsAt sim n pending processes records
-      → pending ≡ [] → records ≡ seq_records sim sim.end
-  whole_records n pending processes records st none =
-      let all : (after_steps sim n).executed ≡ whole_run sim = executed_all sim lawful n (nothing_left sim lawful n pending processes records st none) in
-      let early : (e : Sent P) → Among e (after_steps sim n).executed → e.key.time < sim.end =
-      λ e m. (known_sent sim lawful (lists_of sim lawful (after_steps sim n).executed) e ((reached sim lawful n).made e (inr m))).1 in
-      st.recorded ∙ ap (map (λ (r : Row). r.rec)) (sym (all_before sim lawful.rows sim.end [] (after_steps sim n).executed early))
-      ∙ ap (seq_of sim) all where
-        seq_of : (y : Simulation S P) → List (Sent P) → List Record
-        seq_of y es = map (λ (r : Row). r.rec) (filter (λ (r : Row). nat_lt r.key.time y.end) (rows_after y [] es))
-
-  -- with nothing pending, the whole run's send numbers are within their limits where those of the processes are
-  pub counted_whole : (n : ℕ) (pending : List (Sent P)) (processes : List (Process M S P K)) (records : List Record) → StandsAt sim n pending processes records
-      → length processes ≡ sim.lps → AreCounted sim.lps processes → pending ≡ [] → IsCountedWhole sim
-  counted_whole n pending processes records st there numbered none p is =
-      let all : (after_steps sim n).executed ≡ whole_run sim = executed_all sim lawful n (nothing_left sim lawful n pending processes records st none) in
-      subst (λ (es : List (Sent P)). (after sim p (events_of p es)).number ≤ MAX_COUNT) all (counted_at sim lawful n pending processes records st there numbered p is)
-
-  -- with nothing pending, no further step raises a send number
-  pub counted_on : (n : ℕ) (pending : List (Sent P)) (processes : List (Process M S P K)) (records : List Record) → StandsAt sim n pending processes records
-      → length processes ≡ sim.lps → AreCounted sim.lps processes → pending ≡ [] → IsCounted sim (suc n)
-  counted_on n pending processes records st there numbered none =
-      subst (λ (x : RunState P). (p : ℕ) → p < sim.lps → (after sim p (events_of p x.executed)).number ≤ MAX_COUNT) (sym (no_step sim lawful n (nothing_left sim lawful n pending processes records st none)))
-      (counted_at sim lawful n pending processes records st there numbered)
-
-  -- the records below a time are those of the rows below it
-  pub records_before : (n t : ℕ) (pending : List (Sent P)) (processes : List (Process M S P K)) (records : List Record) → StandsAt sim n pending processes records
-      → filter (λ (r : Record). time_before (record_time r) t) records ≡ map (λ (r : Row). r.rec) (filter (λ (r : Row). nat_lt r.key.time t) (rows_after sim [] (after_steps sim n).executed))
-  records_before n t pending processes records st =
-      ap (filter (λ (r : Record). time_before (record_time r) t)) st.recorded ∙ told_before sim lawful.rows t [] (after_steps sim n).executed

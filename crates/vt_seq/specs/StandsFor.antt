@@ -1,11 +1,11 @@
 -- What the sequential simulator's fields stand for: a state of the sequential run.
-use Rattle.std.specs.Prelude.{◌≡◌, ℕ, ◌<◌, List, [], ◌++◌, drop, slice_index_or}
+use Rattle.std.specs.Prelude.{◌≡◌, ℕ, ◌<◌, List, ◌++◌, drop, slice_index_or}
 use Rattle.vt_model.specs.declared.process.Process.{Process}
 use Rattle.vt_model.specs.declared.rows.Record.{Record}
 use Rattle.vt_model.specs.declared.sending.Sent.{Sent}
 use Rattle.vt_stream.specs.Words.{Stream}
 use Rattle.vt_model.specs.Simulation.{Simulation, Fired, after}
-use Rattle.vt_model.specs.Sequential.{RunState, after_steps, events_of, rows_after, records_of}
+use Rattle.vt_model.specs.Sequential.{RunState, after_steps, events_of, records_of}
 use Rattle.vt_model.specs.Histories.{Among, IsRising}
 use Rattle.vt_model.specs.Process.{triple_at}
 use Rattle.vt_seq.specs.Queue.{all_inserted}
@@ -25,15 +25,14 @@ pub record HasStarted {S P : Type 0} (f : Fired S P) (before : List (Sent P))
   pub pending : new_pending ≡ all_inserted f.sends before
 
 module _ {M S P K : Type 0} (sim : Simulation S P) where
-  -- the fields stand for this state of the run: its pending events in rising order of keys, each process where its
-  -- executed events lead, and the records so far
-  pub record StandsFor (x : RunState P) (pending : List (Sent P)) (processes : List (Process M S P K)) (records : List Record) : Type 0 where
+  -- the fields stand for this state of the run: its pending events in rising order of keys, and each process where its
+  -- executed events lead
+  pub record StandsFor (x : RunState P) (pending : List (Sent P)) (processes : List (Process M S P K)) : Type 0 where
     pub rising : IsRising pending
     pub sent : (e : Sent P) → Among e pending → Among e x.pending
     pub had : (e : Sent P) → Among e x.pending → Among e pending
     pub triples : (p : ℕ) (d : Process M S P K) → p < sim.lps → triple_at (slice_index_or processes p d).state (slice_index_or processes p d).number (slice_index_or processes p d).stream ≡ after sim p (events_of p x.executed)
-    pub recorded : records ≡ records_of (rows_after sim [] x.executed)
 
   -- the fields stand for the run after n steps
-  abbrev pub StandsAt : ℕ → List (Sent P) → List (Process M S P K) → List Record → Type 0
-  StandsAt n pending processes records = StandsFor (after_steps sim n) pending processes records
+  abbrev pub StandsAt : ℕ → List (Sent P) → List (Process M S P K) → Type 0
+  StandsAt n pending processes = StandsFor (after_steps sim n) pending processes

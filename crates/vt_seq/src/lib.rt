@@ -5,7 +5,9 @@
 mod advancing;
 mod engine;
 mod entry;
+mod execution;
 mod pending;
 mod run;
 
+pub use execution::Execution;
 pub use run::Sequential;

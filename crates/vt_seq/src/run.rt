@@ -1,42 +1,40 @@
-//! The sequential run of a model.
+//! The sequential run of a model, with its records.
 
-ghost use Rattle.std.specs.Prelude.{◌≡◌, ℕ, suc, ◌+◌, ◌<◌, ◌≤◌, ◌↔◌, ◌⊎◌, [], length, IfOk, IfErr, IsTrue, IfSome, IfNone, Err, false, true};
+ghost use Rattle.std.specs.Prelude.{◌≡◌, ℕ, suc, ◌+◌, ◌<◌, ◌≤◌, ◌↔◌, ◌⊎◌, [], length, IfOk, IfErr, IsTrue, IfSome, IfNone, Err, filter, false, true};
+ghost use Rattle.vt_key.specs.Times.{time_before};
 ghost use Rattle.vt_model.specs.Simulation.{simulation_of, after};
 ghost use Rattle.vt_model.specs.Sequential.{after_steps, events_of, rows_after, rows_before, records_of, seq_records, seq_finals};
+ghost use Rattle.vt_model.specs.Rows.{record_time};
 ghost use Rattle.vt_model.specs.Settings.{end_of};
 ghost use Rattle.vt_seq.specs.Limits.{IsCounted, IsCountedWhole, IsStepRefusal};
 ghost use Rattle.vt_seq.specs.Progress.{IsAfter, IsReached};
 
-use crate::engine::Engine;
+use crate::execution::Execution;
 use std::alloc::Global;
 use std::marker::Model;
 use vt_key::{Fault, When};
 use vt_model::{Config, Model as EventModel, Record};
 
-/// A sequential run of a model, from its first event to any later one.
+/// A sequential run of a model, from its first event to any later one: an [`Execution`] whose records are kept.
 ///
 /// Contracts see it as its model and config, the pending events, where each process stands and the records so far, and say by
 /// `IsAfter sim n` that it is where the sequential run of the definitions is after `n` steps. The type keeps that it is there
 /// after some number of steps (`IsReached`).
 #[derive(Drop)]
 pub struct Sequential<'m, M: EventModel> {
-    engine: Engine<'m, M>,
+    execution: Execution<'m, M>,
+    records: Vec<Record>,
 }
 
 impl<'m, M: EventModel> Model for Sequential<'m, M> {
-    ghost use Rattle.std.specs.Prelude.{map};
-    ghost use Rattle.vt_model.specs.Process.{triple_at};
-    ghost use Rattle.vt_seq.specs.Progress.{Progress};
+    ghost use Rattle.vt_seq.specs.Progress.{Progress, IsReached};
+    ghost use Rattle.vt_seq.specs.Standing.{with_records};
 
     ghost Value = { Progress M M.State M.Payload };
 
-    ghost view = { λ s. record {
-      model = s.engine.model.now;
-      config = s.engine.config;
-      pending = s.engine.pending;
-      triples = map (λ q. triple_at q.state q.number q.stream) s.engine.processes.items;
-      records = s.engine.records.items;
-    } };
+    ghost view = { λ s. with_records s.execution s.records.items };
+
+    ghost invariant = { λ s. IsReached (M.handlers s.execution.model) (with_records s.execution s.records.items) };
 }
 
 impl<'m, M: EventModel> Sequential<'m, M> {
@@ -49,8 +47,9 @@ impl<'m, M: EventModel> Sequential<'m, M> {
         ensures opening { IfOk result (λ run. IsAfter (simulation_of (M.handlers model.now) config) 0 run) }
         ensures refused { IfErr result (λ fault. fault ≡ Fault.Memory) }
     {
-        let engine = Engine::new(alloc, model, config)?;
-        Ok(Sequential { engine })
+        let execution = Execution::new(alloc, model, config)?;
+        let records = Vec::new(alloc);
+        Ok(Sequential { execution, records })
     }
 
     /// The send number of process `p` now: how many events it has sent, those at or past the end of the run among them.
@@ -60,7 +59,7 @@ impl<'m, M: EventModel> Sequential<'m, M> {
         ensures reached { IsReached (M.handlers self.now.model) self.now }
         ensures value { let sim = simulation_of (M.handlers self.now.model) self.now.config in (n : ℕ) → IsAfter sim n self.now → IfSome result (λ v. (p < self.now.config.lps) × (v ≡ (after sim p (events_of p (after_steps sim n).executed)).number)) }
     {
-        self.engine.number(p)
+        self.execution.number(p)
     }
 
     /// The position of the next random word in the stream of process `p`: how many words its start and its events have
@@ -71,7 +70,7 @@ impl<'m, M: EventModel> Sequential<'m, M> {
         ensures reached { IsReached (M.handlers self.now.model) self.now }
         ensures value { let sim = simulation_of (M.handlers self.now.model) self.now.config in (n : ℕ) → IsAfter sim n self.now → IfSome result (λ v. (p < self.now.config.lps) × (v ≡ (after sim p (events_of p (after_steps sim n).executed)).place)) }
     {
-        self.engine.place(p)
+        self.execution.place(p)
     }
 
     /// The records of the events executed so far before time `t`, in the order of their rows.
@@ -82,7 +81,7 @@ impl<'m, M: EventModel> Sequential<'m, M> {
         ensures reached { IsReached (M.handlers self.now.model) self.now }
         ensures refused { IfErr result (λ fault. fault ≡ Fault.Memory) }
     {
-        self.engine.records_below(alloc, t)
+        copy_below(alloc, &self.records, t)
     }
 
     /// Executes the pending event of least key; false where none is pending, which changes nothing.
@@ -101,7 +100,7 @@ impl<'m, M: EventModel> Sequential<'m, M> {
         ensures counted { let sim = simulation_of (M.handlers self.old.model) self.old.config in (n : ℕ) → IsAfter sim n self.old → IfOk result (λ more. IsCounted sim (suc n)) }
         ensures refused { let sim = simulation_of (M.handlers self.old.model) self.old.config in (n : ℕ) → IsAfter sim n self.old → IfErr result (IsStepRefusal sim n) }
     {
-        self.engine.step()
+        self.execution.step(&mut self.records)
     }
 
     /// Executes events until none is pending: then [`Sequential::records`] are those of the whole run.
@@ -119,7 +118,7 @@ impl<'m, M: EventModel> Sequential<'m, M> {
         ensures faults { IfErr result (λ fault. (fault ≡ Fault.Memory) ⊎ (fault ≡ Fault.Exhausted)) }
         ensures refused { let sim = simulation_of (M.handlers self.old.model) self.old.config in (n : ℕ) → IsAfter sim n self.old → IfErr result (λ fault. (k : ℕ) × IsAfter sim (k + n) self.new × IsStepRefusal sim (k + n) fault) }
     {
-        self.engine.complete()
+        self.execution.complete(&mut self.records)
     }
 
     /// The records of the events executed so far, in the order of their rows.
@@ -127,7 +126,7 @@ impl<'m, M: EventModel> Sequential<'m, M> {
         ensures records { result.now ≡ self.now.records }
         ensures reached { IsReached (M.handlers self.now.model) self.now }
     {
-        &self.engine.records
+        self.records.as_slice()
     }
 
     /// Executes events until none is pending, and answers the records of the whole run.
@@ -145,7 +144,11 @@ impl<'m, M: EventModel> Sequential<'m, M> {
         ensures faults { IfErr result (λ fault. (fault ≡ Fault.Memory) ⊎ (fault ≡ Fault.Exhausted)) }
         ensures refused { let sim = simulation_of (M.handlers self.old.model) self.old.config in (n : ℕ) → IsAfter sim n self.old → IfErr result (λ fault. (k : ℕ) × IsAfter sim (k + n) self.new × IsStepRefusal sim (k + n) fault) }
     {
-        self.engine.run(alloc)
+        self.complete()?;
+        let Ok(records) = Vec::from_slice(alloc, &self.records) else {
+            return Err(Fault::Memory);
+        };
+        Ok(records)
     }
 
     /// The final value of each process, in rising order of processes.
@@ -158,6 +161,22 @@ impl<'m, M: EventModel> Sequential<'m, M> {
         ensures not_lawful { 0 < length self.now.pending → result ≡ Err Fault.NotLawful }
         ensures refused { self.now.pending ≡ [] → IfErr result (λ fault. fault ≡ Fault.Memory) }
     {
-        self.engine.finals(alloc)
+        self.execution.finals(alloc)
     }
+}
+
+/// The records before time `t`, in order.
+///
+/// [`Fault::Memory`]: memory was refused.
+fn copy_below(alloc: Global, records: &[Record], t: When) -> Result<Vec<Record>, Fault>
+    ensures before { IfOk result (λ v. v.items ≡ filter (λ r. time_before (record_time r) t) records.now) }
+    ensures refused { IfErr result (λ fault. fault ≡ Fault.Memory) }
+{
+    let mut found = Vec::new(alloc);
+    for record in records {
+        if record.when() < t {
+            found.push(*record).map_err(|_| Fault::Memory)?;
+        }
+    }
+    Ok(found)
 }

@@ -1,10 +1,13 @@
-use Rattle.std.proofs.Common.{◌≡◌, ℕ, ◌∙◌, [], map, arith}
+use Rattle.std.proofs.Common.{rules, ◌≡◌, ℕ, suc, ◌+◌, ◌∙◌, List, [], ◌∷◌, ◌++◌, length, map, sym, ap, arith}
+use Rattle.std.proofs.lemmas.List.{map-append}
 use Rattle.std.proofs.Math.Logic.{∥∥₁_elim}
 use Rattle.std.proofs.Props.{props}
-use Rattle.vt_model.specs.Simulation.{simulation_of, after}
+use Rattle.vt_model.specs.Process.{triple_at}
+use Rattle.vt_model.specs.Simulation.{Triple, simulation_of, after}
+use Rattle.vt_model.specs.declared.process.Process.{Process}
 use Rattle.vt_model.specs.Sequential.{after_steps, events_of, whole_run, numbers_below}
 use Rattle.vt_model.proofs.LawLemmas.{lawful_of}
-use Rattle.vt_seq.proofs.StepLemmas.{nothing_left, none_there}
+use Rattle.vt_seq.proofs.StepLemmas.{none_pending, none_there}
 use Rattle.vt_model.proofs.EndLemmas.{executed_all}
 use Rattle.vt_seq.proofs.engine.Engine.finals.Goals as goal
 
@@ -16,14 +19,33 @@ returns-clause-values g c =
     let lawful = lawful_of (g.M.Model.handlers m) config (g.met.M.Model.start_within m) (g.met.M.Model.forward_within m) in
     let items = c.args.self.now.pending in
     let processes = c.args.self.now.processes.items in
-    let records = c.args.self.now.records.items in
     let none : items ≡ [] = none_there items c.in-None.ensures in
     let high = c.loop-p-test.false in
     let low = c.loop-p.auto.p-end in
     let at : c.loop-p.p ≡ config.lps = omega (arith, high, low) in
     ∥∥₁_elim c.args.self.now.stands (Prim.hlevel props) (λ x.
-    let all : (after_steps sim x.0).executed ≡ whole_run sim = executed_all sim lawful x.0 (nothing_left sim lawful x.0 items processes records x.1 none) in
+    let all : (after_steps sim x.0).executed ≡ whole_run sim = executed_all sim lawful x.0 (none_pending (after_steps sim x.0).pending items x.1.had none) in
     c.loop-p.invariant x.0 x.1 ∙ (λ j. map (λ (p : ℕ). (g.M.Model.handlers m).finish p (after sim p (events_of p (all j))).state) (numbers_below (at j))))
 
 pub returns-clause-nothing_left : goal.returns-clause-nothing_left
 returns-clause-nothing_left g c = none_there c.args.self.now.pending c.in-None.ensures
+
+pub loop-p-preserved : goal.loop-p-preserved
+loop-p-preserved g c n st =
+    let m = c.args.self.now.model.now in
+    let config = c.args.self.now.config in
+    let sim = simulation_of (g.M.Model.handlers m) config in
+    let p = c.loop-p.p in
+    let q = c.index.result.now in
+    let final : ℕ → ℕ = λ r. (g.M.Model.handlers m).finish r (after sim r (events_of r (after_steps sim n).executed)).state in
+    let at : triple_at q.state q.number q.stream ≡ after sim p (events_of p (after_steps sim n).executed) = ap (λ (o : Process _ _ _ _). triple_at o.state o.number o.stream) c.index.ensures ∙ st.triples p q c.loop-p-test.true in
+    let value : c.finish-value.result ≡ final p = c.finish-value.ensures ∙ ap (λ (t : Triple _). (g.M.Model.handlers m).finish p t.state) at in
+    let pushed : c.push.new.self.items ≡ c.loop-p.values.items ++ c.finish-value.result ∷ [] = search rules in
+    let next : suc p ≡ p + 1 = omega arith in
+    pushed ∙ ap (λ (l : List ℕ). l ++ c.finish-value.result ∷ []) (c.loop-p.invariant n st) ∙ ap (λ v. map final (numbers_below p) ++ v ∷ []) value
+    ∙ sym (map-append final (numbers_below p) (p ∷ [])) ∙ ap (λ k. map final (numbers_below k)) next
+
+pub returns-clause-not_lawful : goal.returns-clause-not_lawful
+returns-clause-not_lawful g c some =
+    let none : length c.args.self.now.pending ≡ 0 = ap length (none_there c.args.self.now.pending c.in-None.ensures) in
+    absurd (omega (arith, some, none))

@@ -1,6 +1,5 @@
 use Rattle.std.proofs.Common.{rules, ◌≡◌, ℕ, ◌+◌, ◌<◌, ◌≤◌, ◌∙◌, List, [], ◌∷◌, ◌++◌, length, slice_index_or, sym, subst, arith, vec_len}
 use Rattle.vt_key.specs.declared.limits.TheConstants.{MAX_COUNT}
-use Rattle.vt_model.specs.declared.rows.Record.{Record}
 use Rattle.vt_model.specs.Simulation.{simulation_of}
 use Rattle.vt_model.proofs.LawLemmas.{lawful_of}
 use Rattle.vt_model.specs.Process.{IsProcessStream}
@@ -62,12 +61,10 @@ invariant_of-result g c =
     let low = c.loop-p.auto.p-end in
     let at : c.loop-p.p ≡ config.lps = omega (arith, high, low) in
     let started : AllStarted sim sim.lps c.loop-p.pending c.loop-p.processes.items = subst (λ (k : ℕ). AllStarted sim k c.loop-p.pending c.loop-p.processes.items) at c.loop-p.invariant.started in
-    let none : c.new-records.result.items ≡ [] = c.new-records.ensures.items in
-    let stands : StandsAt sim 0 c.loop-p.pending c.loop-p.processes.items c.new-records.result.items =
-    subst (λ (l : List Record). StandsAt sim 0 c.loop-p.pending c.loop-p.processes.items l) (sym none) (stands_start sim lawful c.loop-p.pending c.loop-p.processes.items started) in
+    let stands : StandsAt sim 0 c.loop-p.pending c.loop-p.processes.items = stands_start sim lawful c.loop-p.pending c.loop-p.processes.items started in
     let len : length c.loop-p.processes.items ≡ vec_len c.loop-p.processes = search rules in
     record {
-      within_run = λ k d l. let t = taken sim lawful 0 c.loop-p.pending c.loop-p.processes.items c.new-records.result.items stands (slice_index_or c.loop-p.pending k d) (among-at c.loop-p.pending k d l) in record { known = t.0; soon = t.1 };
+      within_run = λ k d l. let t = taken sim lawful 0 c.loop-p.pending c.loop-p.processes.items stands (slice_index_or c.loop-p.pending k d) (among-at c.loop-p.pending k d l) in record { known = t.0; soon = t.1 };
       all_there = sym len ∙ started.there;
       numbered = λ r d l. c.loop-p.invariant.numbered r d (omega (arith, l, at));
       streams = λ r d l. c.loop-p.invariant.streams r d (omega (arith, l, at));
@@ -84,7 +81,4 @@ returns-clause-stands g c =
     let low = c.loop-p.auto.p-end in
     let at : c.loop-p.p ≡ config.lps = omega (arith, high, low) in
     let started : AllStarted sim sim.lps c.loop-p.pending c.loop-p.processes.items = subst (λ (k : ℕ). AllStarted sim k c.loop-p.pending c.loop-p.processes.items) at c.loop-p.invariant.started in
-    let none : c.new-records.result.items ≡ [] = c.new-records.ensures.items in
-    let stands : StandsAt sim 0 c.loop-p.pending c.loop-p.processes.items c.new-records.result.items =
-    subst (λ (l : List Record). StandsAt sim 0 c.loop-p.pending c.loop-p.processes.items l) (sym none) (stands_start sim lawful c.loop-p.pending c.loop-p.processes.items started) in
-    stands
+    stands_start sim lawful c.loop-p.pending c.loop-p.processes.items started

@@ -4,7 +4,6 @@ use Rattle.std.proofs.Math.Logic.{∥∥₁_map, ∥∥₁_elim}
 use Rattle.std.proofs.Props.{props}
 use Rattle.vt_key.specs.declared.limits.TheConstants.{MAX_COUNT}
 use base.Stored.{Coded-set}
-use Rattle.vt_model.specs.declared.rows.Record.{Record}
 use Rattle.vt_model.specs.declared.sending.Sent.{Sent}
 use Rattle.vt_model.specs.Simulation.{simulation_of, Triple}
 use Rattle.vt_model.specs.Sequential.{after_steps, events_of, weight}
@@ -16,7 +15,8 @@ use Rattle.vt_seq.specs.Limits.{IsStepRefusal}
 use Rattle.vt_seq.specs.StandsFor.{StandsFor, StandsAt}
 use Rattle.vt_seq.specs.Queue.{IsWithinRun}
 use Rattle.vt_model.specs.declared.process.Process.{Process}
-use Rattle.vt_seq.proofs.StepLemmas.{stands_step, either_way, taken_next, falls, counted_next, among-at, at-among, nothing_left, set_same, in_err, set_all, first_there, none_there, numbers_below_next, next_triple, if_err}
+use Rattle.vt_seq.proofs.StepLemmas.{stands_step, either_way, taken_next, falls, counted_next, among-at, at-among, none_pending, set_same, in_err, set_all, first_there, none_there, numbers_below_next, next_triple, if_err}
+use Rattle.vt_seq.proofs.GivenLemmas.{adds_nothing, adds_step}
 use Rattle.vt_seq.proofs.engine.Engine.step.Goals as goal
 
 pub returns-in_default-clause-steps : goal.returns-in_default-clause-steps
@@ -28,7 +28,53 @@ returns-in_default-clause-steps g c n st =
     let items = c.args.self.now.pending in
     let processes = c.args.self.now.processes.items in
     let none : items ≡ [] = none_there items c.in_default.ensures in
-    subst (λ (x : _). StandsFor sim x items processes c.args.self.now.records.items) (sym (no_step sim lawful n (nothing_left sim lawful n items processes c.args.self.now.records.items st none))) st
+    subst (λ (x : _). StandsFor sim x items processes) (sym (no_step sim lawful n (none_pending (after_steps sim n).pending items st.had none))) st
+
+pub advance-requires-clause-known : goal.advance-requires-clause-known
+advance-requires-clause-known g c κs within =
+    let m = c.args.self.now.model.now in
+    let config = c.args.self.now.config in
+    let sim = simulation_of (g.M.Model.handlers m) config in
+    let items = c.args.self.now.pending in
+    let e = c.in-Some.event in
+    let there_first = first_there items e c.in-Some.ensures in
+    let taken = at-among (IsWithinRun sim.lps sim.end) items c.args.self.now.within_run e (subst (λ (f : Sent _). Among f items) there_first.1 (among-at items 0 e there_first.0)) in
+    taken.known
+
+pub advance-requires-clause-early : goal.advance-requires-clause-early
+advance-requires-clause-early g c κs within =
+    let m = c.args.self.now.model.now in
+    let config = c.args.self.now.config in
+    let sim = simulation_of (g.M.Model.handlers m) config in
+    let items = c.args.self.now.pending in
+    let e = c.in-Some.event in
+    let there_first = first_there items e c.in-Some.ensures in
+    let taken = at-among (IsWithinRun sim.lps sim.end) items c.args.self.now.within_run e (subst (λ (f : Sent _). Among f items) there_first.1 (among-at items 0 e there_first.0)) in
+    taken.soon
+
+pub advance-requires-clause-numbered : goal.advance-requires-clause-numbered
+advance-requires-clause-numbered g c κs within =
+    let m = c.args.self.now.model.now in
+    let config = c.args.self.now.config in
+    let sim = simulation_of (g.M.Model.handlers m) config in
+    let items = c.args.self.now.pending in
+    let e = c.in-Some.event in
+    let p = c.index_mut.result.now in
+    let there_first = first_there items e c.in-Some.ensures in
+    let taken = at-among (IsWithinRun sim.lps sim.end) items c.args.self.now.within_run e (subst (λ (f : Sent _). Among f items) there_first.1 (among-at items 0 e there_first.0)) in
+    subst (λ (o : Process _ _ _ _). o.number ≤ MAX_COUNT) (sym c.index_mut.ensures.value) (c.args.self.now.numbered e.dest p taken.known)
+
+pub advance-requires-clause-stream : goal.advance-requires-clause-stream
+advance-requires-clause-stream g c κs within =
+    let m = c.args.self.now.model.now in
+    let config = c.args.self.now.config in
+    let sim = simulation_of (g.M.Model.handlers m) config in
+    let items = c.args.self.now.pending in
+    let e = c.in-Some.event in
+    let p = c.index_mut.result.now in
+    let there_first = first_there items e c.in-Some.ensures in
+    let taken = at-among (IsWithinRun sim.lps sim.end) items c.args.self.now.within_run e (subst (λ (f : Sent _). Among f items) there_first.1 (among-at items 0 e there_first.0)) in
+    subst (λ (o : Process _ _ _ _). IsProcessStream config.seed e.dest o.stream) (sym c.index_mut.ensures.value) (c.args.self.now.streams e.dest p taken.known)
 
 pub advance-requires-clause-earlier : goal.advance-requires-clause-earlier
 advance-requires-clause-earlier g c κs within d m source =
@@ -43,7 +89,7 @@ advance-requires-clause-earlier g c κs within d m source =
     let there_first = first_there items e c.in-Some.ensures in
     let at : slice_index_or processes e.dest p ≡ p = sym c.index_mut.ensures.value in
     let taken = at-among (IsWithinRun sim.lps sim.end) items c.args.self.now.within_run e (subst (λ (f : Sent _). Among f items) there_first.1 (among-at items 0 e there_first.0)) in
-    ∥∥₁_elim c.args.self.now.stands (Prim.hlevel props) (λ x. numbers_below_next sim lawful x.0 items processes c.args.self.now.records.items e.dest p x.1 taken.known at d m source)
+    ∥∥₁_elim c.args.self.now.stands (Prim.hlevel props) (λ x. numbers_below_next sim lawful x.0 items processes e.dest p x.1 taken.known at d m source)
 
 pub returns-clause-falls : goal.returns-clause-falls
 returns-clause-falls g c is =
@@ -82,7 +128,34 @@ returns-clause-steps g c n st =
     let at : slice_index_or processes e.dest p ≡ p = sym c.index_mut.ensures.value in
     let there : length processes ≡ sim.lps = search (rules, c.args.self.now.all_there) in
     let taken = at-among (IsWithinRun sim.lps sim.end) items c.args.self.now.within_run e (subst (λ (d : Sent _). Among d items) first (among-at items 0 e some)) in
-    stands_step sim lawful n e items c.advance.new.pending processes c.args.self.now.records.items c.advance.new.records.items p q st there taken.known some first at c.in_ok-advance.ensures.done
+    stands_step sim lawful n e items c.advance.new.pending processes c.args.records.now.items c.advance.new.records.items p q st there taken.known some first at c.in_ok-advance.ensures.done
+
+pub returns-in_default-clause-adds : goal.returns-in_default-clause-adds
+returns-in_default-clause-adds g c n st =
+    let m = c.args.self.now.model.now in
+    let config = c.args.self.now.config in
+    let sim = simulation_of (g.M.Model.handlers m) config in
+    let lawful = lawful_of (g.M.Model.handlers m) config (g.met.M.Model.start_within m) (g.met.M.Model.forward_within m) in
+    let items = c.args.self.now.pending in
+    adds_nothing sim lawful n c.args.records.now.items (none_pending (after_steps sim n).pending items st.had (none_there items c.in_default.ensures))
+
+pub returns-clause-adds : goal.returns-clause-adds
+returns-clause-adds g c n st =
+    let m = c.args.self.now.model.now in
+    let config = c.args.self.now.config in
+    let sim = simulation_of (g.M.Model.handlers m) config in
+    let lawful = lawful_of (g.M.Model.handlers m) config (g.met.M.Model.start_within m) (g.met.M.Model.forward_within m) in
+    let items = c.args.self.now.pending in
+    let processes = c.args.self.now.processes.items in
+    let e = c.in-Some.event in
+    let p = c.index_mut.result.now in
+    let q = c.advance.new.process in
+    let there_first = first_there items e c.in-Some.ensures in
+    let some : 0 < length items = there_first.0 in
+    let first : slice_index_or items 0 e ≡ e = there_first.1 in
+    let at : slice_index_or processes e.dest p ≡ p = sym c.index_mut.ensures.value in
+    let taken = at-among (IsWithinRun sim.lps sim.end) items c.args.self.now.within_run e (subst (λ (d : Sent _). Among d items) first (among-at items 0 e some)) in
+    adds_step sim lawful n e items c.advance.new.pending processes c.args.records.now.items c.advance.new.records.items p q st taken.known some first at c.in_ok-advance.ensures.done
 
 pub returns-in_err-advance-clause-processes : goal.returns-in_err-advance-clause-processes
 returns-in_err-advance-clause-processes g c =
@@ -101,7 +174,7 @@ returns-in_err-advance-clause-processes g c =
     let at : slice_index_or processes e.dest p ≡ p = sym c.index_mut.ensures.value in
     let there : length processes ≡ sim.lps = search (rules, c.args.self.now.all_there) in
     let taken = at-among (IsWithinRun sim.lps sim.end) items c.args.self.now.within_run e (subst (λ (d : Sent _). Among d items) first (among-at items 0 e some)) in
-    let state = λ (n : ℕ) (st : StandsAt sim n items processes c.args.self.now.records.items).
+    let state = λ (n : ℕ) (st : StandsAt sim n items processes).
     subst (λ (t : Triple _). g.M.Model.IsState m t.state) (sym (ap (λ (o : Process _ _ _ _). triple_at o.state o.number o.stream) (sym at) ∙ st.triples e.dest p taken.known))
     (after_state (g.M.Model.handlers m) config (g.M.Model.IsState m) (g.met.M.Model.start_state m) (g.met.M.Model.forward_state m) e.dest (events_of e.dest (after_steps sim n).executed)) in
     in_err c.from_residual.result (∥∥₁_elim c.args.self.now.stands (Prim.hlevel (props, Coded-set g.row.M-State.coded)) (λ x. set_same processes e.dest p q at (c.in_err-advance.ensures.process (state x.0 x.1))))
@@ -123,11 +196,11 @@ returns-in_err-advance-clause-refused g c n st =
     let at : slice_index_or processes e.dest p ≡ p = sym c.index_mut.ensures.value in
     let there : length processes ≡ sim.lps = search (rules, c.args.self.now.all_there) in
     let taken = at-among (IsWithinRun sim.lps sim.end) items c.args.self.now.within_run e (subst (λ (d : Sent _). Among d items) first (among-at items 0 e some)) in
-    let after_is = next_triple sim lawful n e items processes c.args.self.now.records.items p st taken.known some first at in
+    let after_is = next_triple sim lawful n e items processes p st taken.known some first at in
     if_err (IsStepRefusal sim n) c.from_residual.result c.in_err-advance.field-0.0 c.from_residual.ensures.1
     (elim c.in_err-advance.ensures.refused [
       | inl h ↦ inl (h.0, (e.dest, taken.known, subst (λ (t : Triple _). MAX_COUNT < t.number) after_is h.1))
-      | inr h ↦ inr (h.0, counted_next sim lawful n e items processes c.args.self.now.records.items p st there c.args.self.now.numbered taken.known some first at h.1)
+      | inr h ↦ inr (h.0, counted_next sim lawful n e items processes p st there c.args.self.now.numbered taken.known some first at h.1)
     ])
 
 pub returns-in_err-advance-clause-faults : goal.returns-in_err-advance-clause-faults
@@ -135,8 +208,8 @@ returns-in_err-advance-clause-faults g c =
     if_err (λ fault. (fault ≡ Memory) ⊎ (fault ≡ Exhausted)) c.from_residual.result c.in_err-advance.field-0.0 c.from_residual.ensures.1
     (elim c.in_err-advance.ensures.refused [ inl h ↦ inr h.0 | inr h ↦ inl h.0 ])
 
-pub invariant_of-self : goal.invariant_of-self
-invariant_of-self g c =
+pub invariant_of-self-2 : goal.invariant_of-self-2
+invariant_of-self-2 g c =
     let m = c.args.self.now.model.now in
     let config = c.args.self.now.config in
     let sim = simulation_of (g.M.Model.handlers m) config in
@@ -152,7 +225,7 @@ invariant_of-self g c =
     let at : slice_index_or processes e.dest p ≡ p = sym c.index_mut.ensures.value in
     let there : length processes ≡ sim.lps = search (rules, c.args.self.now.all_there) in
     let taken = at-among (IsWithinRun sim.lps sim.end) items c.args.self.now.within_run e (subst (λ (d : Sent _). Among d items) first (among-at items 0 e some)) in
-    let state = λ (n : ℕ) (st : StandsAt sim n items processes c.args.self.now.records.items).
+    let state = λ (n : ℕ) (st : StandsAt sim n items processes).
     subst (λ (t : Triple _). g.M.Model.IsState m t.state) (sym (ap (λ (o : Process _ _ _ _). triple_at o.state o.number o.stream) (sym at) ∙ st.triples e.dest p taken.known))
     (after_state (g.M.Model.handlers m) config (g.M.Model.IsState m) (g.met.M.Model.start_state m) (g.met.M.Model.forward_state m) e.dest (events_of e.dest (after_steps sim n).executed)) in
     let inside : e.dest < length processes = subst (λ (k : ℕ). e.dest < k) (sym there) taken.known in
@@ -166,11 +239,10 @@ invariant_of-self g c =
       streams = set_all (λ (r : ℕ) (o : Process _ _ _ _). IsProcessStream config.seed r o.stream) sim.lps processes e.dest q inside c.advance.ensures.stream c.args.self.now.streams;
       stands = ∥∥₁_map c.args.self.now.stands (λ x.
           either_way c.advance.result c.advance.ensures.done c.advance.ensures.pending c.advance.ensures.records (c.advance.ensures.process (state x.0 x.1))
-          (λ done. (suc x.0, stands_step sim lawful x.0 e items c.advance.new.pending processes c.args.self.now.records.items c.advance.new.records.items p q x.1 there taken.known some first at done))
+          (λ done. (suc x.0, stands_step sim lawful x.0 e items c.advance.new.pending processes c.args.records.now.items c.advance.new.records.items p q x.1 there taken.known some first at done))
           (λ pending records process. (
             x.0,
-            subst (λ (l : List (Sent _)). StandsAt sim x.0 l (slice_set processes e.dest q) c.advance.new.records.items) (sym pending)
-                (subst (λ (l : List Record). StandsAt sim x.0 items (slice_set processes e.dest q) l) (sym records)
-                (subst (λ (l : List (Process _ _ _ _)). StandsAt sim x.0 items l c.args.self.now.records.items) (sym (set_same processes e.dest p q at process)) x.1)),
+            subst (λ (l : List (Sent _)). StandsAt sim x.0 l (slice_set processes e.dest q)) (sym pending)
+                (subst (λ (l : List (Process _ _ _ _)). StandsAt sim x.0 items l) (sym (set_same processes e.dest p q at process)) x.1),
           )));
     }

@@ -1,42 +1,64 @@
-use Rattle.std.proofs.Common.{rules, ◌≡◌, ℕ, ◌+◌, ◌≤◌, IfErr, length, true, subst, arith}
-use Rattle.std.proofs.Math.Logic.{∥∥₁_elim}
+use Rattle.std.proofs.Common.{◌≡◌, ◌∙◌, ℕ, ◌+◌, IfOk, IfErr, sym, subst}
+use Rattle.std.proofs.Math.Logic.{∥∥₁_map, ∥∥₁_elim}
 use Rattle.std.proofs.Props.{props}
-use Rattle.vt_model.specs.Simulation.{simulation_of}
-use Rattle.vt_seq.specs.Limits.{IsStepRefusal}
+use Rattle.vt_model.specs.Simulation.{Simulation, simulation_of}
+use Rattle.vt_model.specs.Sequential.{after_steps, seq_records}
+use Rattle.vt_model.specs.Settings.{end_of}
+use Rattle.vt_model.proofs.LawLemmas.{lawful_of}
+use Rattle.vt_seq.specs.Limits.{IsCountedWhole, IsStepRefusal}
 use Rattle.vt_seq.specs.Progress.{Progress, IsAfter, IsReached}
-use Rattle.vt_seq.proofs.ProgressLemmas.{seen-reached, if_err-map, seen, are_rising, rising-tested, stands-after, after-stands}
+use Rattle.vt_seq.specs.Standing.{with_records}
+use Rattle.vt_seq.proofs.GivenLemmas.{whole_records}
+use Rattle.vt_seq.proofs.ProgressLemmas.{if_ok-map, counted_any}
+use Rattle.vt_seq.proofs.StepLemmas.{none_pending}
 use Rattle.vt_seq.proofs.run.Sequential.complete.Goals as goal
+
+pub returns-clause-whole : goal.returns-clause-whole
+returns-clause-whole g c =
+    let e = c.self.inside.execution in
+    let records = c.self.inside.records.items in
+    let sim = simulation_of (g.M.Model.handlers e.model) e.config in
+    let lawful = lawful_of (g.M.Model.handlers e.model) e.config (g.met.M.Model.start_within e.model) (g.met.M.Model.forward_within e.model) in
+    let f = c.complete.new.self in
+    subst (λ (v : Progress _ _ _). IfOk c.complete.result (λ x. c.complete.new.records.items ≡ seq_records (simulation_of (g.M.Model.handlers v.model) v.config) (end_of v.config)))
+    c.self.view_is
+    (if_ok-map _ _ c.complete.result c.complete.ensures.nothing_left (λ x none.
+    ∥∥₁_elim c.self.invariant (Prim.hlevel props) (λ y.
+    let r = c.complete.ensures.steps y.0 y.1 in
+    let k : ℕ = r.0 + y.0 in
+    r.1.records ∙ whole_records sim lawful k (none_pending (after_steps sim k).pending f.pending r.1.had none))))
 
 pub returns-clause-steps : goal.returns-clause-steps
 returns-clause-steps g c =
-    let e = c.self.inside.engine in
-    let sim = simulation_of (g.M.Model.handlers e.model.now) e.config in
-    let rises : are_rising e.pending ≡ true = ∥∥₁_elim e.stands (Prim.hlevel props) (λ x. rising-tested e.pending x.1.rising) in
-    let f = c.complete.new.self in
-    let later = seen sim f.model.now f.config f.pending f.processes.items f.records.items in
-    let there : sim.lps ≤ length f.processes.items = search (rules, arith, f.all_there, c.complete.ensures.config) in
+    let later = with_records c.complete.new.self c.complete.new.records.items in
     subst (λ (v : Progress _ _ _). (n : ℕ) → IsAfter (simulation_of (g.M.Model.handlers v.model) v.config) n v → (k : ℕ) × IsAfter (simulation_of (g.M.Model.handlers v.model) v.config) (k + n) later)
-    c.self.view_is
-    (λ n is. let r = c.complete.ensures.stands n (after-stands sim e.model.now e.config n e.pending e.processes.items e.records.items rises is) in
-    (r.0, stands-after sim f.model.now f.config (r.0 + n) f.pending f.processes.items f.records.items there r.1))
+    c.self.view_is c.complete.ensures.steps
 
-pub returns-clause-reached : goal.returns-clause-reached
-returns-clause-reached g c =
-    let e = c.self.inside.engine in
-    let there : e.config.lps ≤ length e.processes.items = search (rules, arith, e.all_there) in
-    subst (λ (v : Progress _ _ _). IsReached (g.M.Model.handlers v.model) v) c.self.view_is
-    (seen-reached (g.M.Model.handlers e.model.now) e.model.now e.config e.pending e.processes.items e.records.items there e.stands)
+pub returns-clause-counted : goal.returns-clause-counted
+returns-clause-counted g c =
+    let e = c.self.inside.execution in
+    let records = c.self.inside.records.items in
+    let sim = simulation_of (g.M.Model.handlers e.model) e.config in
+    subst (λ (v : Progress _ _ _). IfOk c.complete.result (λ x. IsCountedWhole (simulation_of (g.M.Model.handlers v.model) v.config)))
+    c.self.view_is (counted_any sim (λ n. IsAfter sim n (with_records e records)) c.complete.result c.self.invariant c.complete.ensures.counted)
 
 pub returns-clause-refused : goal.returns-clause-refused
 returns-clause-refused g c =
-    let e = c.self.inside.engine in
-    let sim = simulation_of (g.M.Model.handlers e.model.now) e.config in
-    let rises : are_rising e.pending ≡ true = ∥∥₁_elim e.stands (Prim.hlevel props) (λ x. rising-tested e.pending x.1.rising) in
-    let f = c.complete.new.self in
-    let later = seen sim f.model.now f.config f.pending f.processes.items f.records.items in
-    let there : sim.lps ≤ length f.processes.items = search (rules, arith, f.all_there, c.complete.ensures.config) in
+    let later = with_records c.complete.new.self c.complete.new.records.items in
     subst (λ (v : Progress _ _ _). (n : ℕ) → IsAfter (simulation_of (g.M.Model.handlers v.model) v.config) n v
     → IfErr c.complete.result (λ fault. (k : ℕ) × IsAfter (simulation_of (g.M.Model.handlers v.model) v.config) (k + n) later × IsStepRefusal (simulation_of (g.M.Model.handlers v.model) v.config) (k + n) fault))
-    c.self.view_is
-    (λ n is. if_err-map _ _ c.complete.result (c.complete.ensures.refused n (after-stands sim e.model.now e.config n e.pending e.processes.items e.records.items rises is))
-    (λ fault r. (r.0, stands-after sim f.model.now f.config (r.0 + n) f.pending f.processes.items f.records.items there r.1, r.2)))
+    c.self.view_is c.complete.ensures.refused
+
+pub invariant_of-self : goal.invariant_of-self
+invariant_of-self g c =
+    let e = c.self.inside.execution in
+    let records = c.self.inside.records.items in
+    let sim = simulation_of (g.M.Model.handlers e.model) e.config in
+    let f = c.complete.new.self in
+    let later = with_records f c.complete.new.records.items in
+    let own = simulation_of (g.M.Model.handlers f.model) f.config in
+    let same : sim ≡ own = λ j. simulation_of (g.M.Model.handlers (sym c.complete.ensures.model j)) (sym c.complete.ensures.config j) in
+    ∥∥₁_map c.self.invariant (λ x. let r = c.complete.ensures.steps x.0 x.1 in (r.0 + x.0, subst (λ (s : Simulation _ _). IsAfter s (r.0 + x.0) later) same r.1))
+
+pub returns-clause-reached : goal.returns-clause-reached
+returns-clause-reached g c = subst (λ (v : Progress _ _ _). IsReached (g.M.Model.handlers v.model) v) c.self.view_is c.self.invariant

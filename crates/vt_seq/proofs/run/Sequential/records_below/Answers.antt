@@ -1,23 +1,24 @@
-use Rattle.std.proofs.Common.{◌≡◌, ℕ, [], IfOk, true, subst, rules, ◌≤◌, length, arith}
-use Rattle.std.proofs.Math.Logic.{∥∥₁_elim}
-use Rattle.std.proofs.Props.{props}
+use Rattle.std.proofs.Common.{◌≡◌, ◌∙◌, ℕ, [], IfOk, filter, ap, subst}
+use Rattle.vt_key.specs.Times.{time_before}
+use Rattle.vt_model.specs.Rows.{record_time}
 use Rattle.vt_model.specs.Simulation.{simulation_of}
 use Rattle.vt_model.specs.Sequential.{after_steps, rows_after, rows_before, records_of}
+use Rattle.vt_model.proofs.LawLemmas.{lawful_of}
 use Rattle.vt_seq.specs.Progress.{Progress, IsAfter, IsReached}
-use Rattle.vt_seq.proofs.ProgressLemmas.{seen-reached, are_rising, rising-tested, after-stands}
+use Rattle.vt_seq.proofs.GivenLemmas.{records_before}
+use Rattle.vt_seq.proofs.ProgressLemmas.{if_ok-map}
 use Rattle.vt_seq.proofs.run.Sequential.records_below.Goals as goal
 
 pub returns-clause-rows : goal.returns-clause-rows
 returns-clause-rows g c =
-    let e = c.self.inside.engine in
-    let sim = simulation_of (g.M.Model.handlers e.model.now) e.config in
-    let rises : are_rising e.pending ≡ true = ∥∥₁_elim e.stands (Prim.hlevel props) (λ x. rising-tested e.pending x.1.rising) in
-    subst (λ (v : Progress _ _ _). (n : ℕ) → IsAfter (simulation_of (g.M.Model.handlers v.model) v.config) n v → IfOk c.records_below.result (λ r. r.items ≡ records_of (rows_before c.args.t (rows_after (simulation_of (g.M.Model.handlers v.model) v.config) [] (after_steps (simulation_of (g.M.Model.handlers v.model) v.config) n).executed))))
-    c.self.view_is (λ n is. c.records_below.ensures.rows n (after-stands sim e.model.now e.config n e.pending e.processes.items e.records.items rises is))
+    let e = c.self.inside.execution in
+    let records = c.self.inside.records.items in
+    let sim = simulation_of (g.M.Model.handlers e.model) e.config in
+    let lawful = lawful_of (g.M.Model.handlers e.model) e.config (g.met.M.Model.start_within e.model) (g.met.M.Model.forward_within e.model) in
+    subst (λ (v : Progress _ _ _). (n : ℕ) → IsAfter (simulation_of (g.M.Model.handlers v.model) v.config) n v → IfOk c.copy_below.result (λ r. r.items ≡ records_of (rows_before c.args.t (rows_after (simulation_of (g.M.Model.handlers v.model) v.config) [] (after_steps (simulation_of (g.M.Model.handlers v.model) v.config) n).executed))))
+    c.self.view_is
+    (λ n is. if_ok-map _ _ c.copy_below.result c.copy_below.ensures.before
+    (λ r found. found ∙ ap (filter (λ r. time_before (record_time r) c.args.t)) (c.deref.ensures.value ∙ is.records) ∙ records_before sim lawful n c.args.t))
 
 pub returns-clause-reached : goal.returns-clause-reached
-returns-clause-reached g c =
-    let e = c.self.inside.engine in
-    let there : e.config.lps ≤ length e.processes.items = search (rules, arith, e.all_there) in
-    subst (λ (v : Progress _ _ _). IsReached (g.M.Model.handlers v.model) v) c.self.view_is
-    (seen-reached (g.M.Model.handlers e.model.now) e.model.now e.config e.pending e.processes.items e.records.items there e.stands)
+returns-clause-reached g c = subst (λ (v : Progress _ _ _). IsReached (g.M.Model.handlers v.model) v) c.self.view_is c.self.invariant

@@ -1,42 +1,19 @@
-use Rattle.std.proofs.Common.{rules, ◌≡◌, ℕ, ◌+◌, ◌≤◌, IfErr, length, true, subst, arith}
-use Rattle.std.proofs.Math.Logic.{∥∥₁_elim}
-use Rattle.std.proofs.Props.{props}
+use Rattle.std.proofs.Common.{rules, ◌≡◌, ℕ, ◌+◌, inr, refl, []}
 use Rattle.vt_model.specs.Simulation.{simulation_of}
-use Rattle.vt_seq.specs.Limits.{IsStepRefusal}
-use Rattle.vt_seq.specs.Progress.{Progress, IsAfter, IsReached}
-use Rattle.vt_seq.proofs.ProgressLemmas.{seen-reached, if_err-map, seen, are_rising, rising-tested, stands-after, after-stands}
+use Rattle.vt_model.specs.Sequential.{after_steps}
+use Rattle.vt_model.proofs.LawLemmas.{lawful_of}
+use Rattle.vt_seq.proofs.GivenLemmas.{counted_on}
+use Rattle.vt_seq.proofs.StepLemmas.{none_pending}
 use Rattle.vt_seq.proofs.run.Sequential.run.Goals as goal
 
-pub returns-clause-steps : goal.returns-clause-steps
-returns-clause-steps g c =
-    let e = c.self.inside.engine in
-    let sim = simulation_of (g.M.Model.handlers e.model.now) e.config in
-    let rises : are_rising e.pending ≡ true = ∥∥₁_elim e.stands (Prim.hlevel props) (λ x. rising-tested e.pending x.1.rising) in
-    let f = c.run.new.self in
-    let later = seen sim f.model.now f.config f.pending f.processes.items f.records.items in
-    let there : sim.lps ≤ length f.processes.items = search (rules, arith, f.all_there, c.run.ensures.config) in
-    subst (λ (v : Progress _ _ _). (n : ℕ) → IsAfter (simulation_of (g.M.Model.handlers v.model) v.config) n v → (k : ℕ) × IsAfter (simulation_of (g.M.Model.handlers v.model) v.config) (k + n) later)
-    c.self.view_is
-    (λ n is. let r = c.run.ensures.stands n (after-stands sim e.model.now e.config n e.pending e.processes.items e.records.items rises is) in
-    (r.0, stands-after sim f.model.now f.config (r.0 + n) f.pending f.processes.items f.records.items there r.1))
-
-pub returns-clause-reached : goal.returns-clause-reached
-returns-clause-reached g c =
-    let e = c.self.inside.engine in
-    let there : e.config.lps ≤ length e.processes.items = search (rules, arith, e.all_there) in
-    subst (λ (v : Progress _ _ _). IsReached (g.M.Model.handlers v.model) v) c.self.view_is
-    (seen-reached (g.M.Model.handlers e.model.now) e.model.now e.config e.pending e.processes.items e.records.items there e.stands)
-
-pub returns-clause-refused : goal.returns-clause-refused
-returns-clause-refused g c =
-    let e = c.self.inside.engine in
-    let sim = simulation_of (g.M.Model.handlers e.model.now) e.config in
-    let rises : are_rising e.pending ≡ true = ∥∥₁_elim e.stands (Prim.hlevel props) (λ x. rising-tested e.pending x.1.rising) in
-    let f = c.run.new.self in
-    let later = seen sim f.model.now f.config f.pending f.processes.items f.records.items in
-    let there : sim.lps ≤ length f.processes.items = search (rules, arith, f.all_there, c.run.ensures.config) in
-    subst (λ (v : Progress _ _ _). (n : ℕ) → IsAfter (simulation_of (g.M.Model.handlers v.model) v.config) n v
-    → IfErr c.run.result (λ fault. (k : ℕ) × IsAfter (simulation_of (g.M.Model.handlers v.model) v.config) (k + n) later × IsStepRefusal (simulation_of (g.M.Model.handlers v.model) v.config) (k + n) fault))
-    c.self.view_is
-    (λ n is. if_err-map _ _ c.run.result (c.run.ensures.refused n (after-stands sim e.model.now e.config n e.pending e.processes.items e.records.items rises is))
-    (λ fault r. (r.0, stands-after sim f.model.now f.config (r.0 + n) f.pending f.processes.items f.records.items there r.1, r.2)))
+-- the copy was refused, with nothing pending
+pub returns-in_default-clause-refused : goal.returns-in_default-clause-refused
+returns-in_default-clause-refused g c n is =
+    let old = c.args.self.now in
+    let later = c.complete.new.self in
+    let own = simulation_of (g.M.Model.handlers old.model) old.config in
+    let lawful = lawful_of (g.M.Model.handlers old.model) old.config (g.met.M.Model.start_within old.model) (g.met.M.Model.forward_within old.model) in
+    let r = c.complete.ensures.steps n is in
+    let k : ℕ = r.0 + n in
+    let none : later.pending ≡ [] = search rules in
+    (r.0, r.1, inr (refl, counted_on own lawful k (none_pending (after_steps own k).pending later.pending r.1.had none) (search rules)))

@@ -1,54 +1,57 @@
-use Rattle.std.proofs.Common.{rules, ◌≡◌, ℕ, suc, ◌≤◌, length, IfOk, IfErr, true, ap, subst, arith}
-use Rattle.std.proofs.Math.Logic.{∥∥₁_elim}
-use Rattle.std.proofs.Props.{props}
-use Rattle.vt_model.specs.Simulation.{simulation_of}
-use Rattle.vt_model.specs.declared.settings.Config.{Config}
-use Rattle.vt_model.proofs.LawLemmas.{lawful_of}
+use Rattle.std.proofs.Common.{◌≡◌, ℕ, suc, IfOk, IfErr, sym, subst}
+use Rattle.std.proofs.Math.Logic.{∥∥₁_map}
+use Rattle.vt_model.specs.Simulation.{Simulation, simulation_of}
 use Rattle.vt_seq.specs.Limits.{IsCounted, IsStepRefusal}
 use Rattle.vt_seq.specs.Progress.{Progress, IsAfter, IsReached}
-use Rattle.vt_seq.proofs.ProgressLemmas.{seen-reached, seen, are_rising, rising-tested, stands-after, after-stands, if_ok-map}
-use Rattle.vt_seq.proofs.StepLemmas.{AreCounted, counted_at}
+use Rattle.vt_seq.specs.Standing.{with_records}
+use Rattle.vt_seq.proofs.ProgressLemmas.{without_records, kept_on, if_ok-both}
+use Rattle.vt_seq.proofs.StepLemmas.{either_way}
 use Rattle.vt_seq.proofs.run.Sequential.step.Goals as goal
 
 pub returns-clause-steps : goal.returns-clause-steps
 returns-clause-steps g c =
-    let e = c.self.inside.engine in
-    let sim = simulation_of (g.M.Model.handlers e.model.now) e.config in
-    let rises : are_rising e.pending ≡ true = ∥∥₁_elim e.stands (Prim.hlevel props) (λ x. rising-tested e.pending x.1.rising) in
+    let e = c.self.inside.execution in
+    let records = c.self.inside.records.items in
+    let sim = simulation_of (g.M.Model.handlers e.model) e.config in
     let f = c.step.new.self in
-    let later = seen sim f.model.now f.config f.pending f.processes.items f.records.items in
-    let there : sim.lps ≤ length f.processes.items = search (rules, arith, f.all_there, c.step.ensures.config) in
+    let later = with_records f c.step.new.records.items in
     subst (λ (v : Progress _ _ _). (n : ℕ) → IsAfter (simulation_of (g.M.Model.handlers v.model) v.config) n v → IfOk c.step.result (λ more. IsAfter (simulation_of (g.M.Model.handlers v.model) v.config) (suc n) later))
     c.self.view_is
-    (λ n is. if_ok-map _ _ c.step.result (c.step.ensures.steps n (after-stands sim e.model.now e.config n e.pending e.processes.items e.records.items rises is))
-    (λ more st. stands-after sim f.model.now f.config (suc n) f.pending f.processes.items f.records.items there st))
+    (λ n is. let at = without_records sim n e records is in
+    if_ok-both _ _ _ c.step.result (c.step.ensures.steps n at) (c.step.ensures.adds n at) (λ more. kept_on sim n f records c.step.new.records.items is.records))
 
 pub returns-clause-refused : goal.returns-clause-refused
 returns-clause-refused g c =
-    let e = c.self.inside.engine in
-    let sim = simulation_of (g.M.Model.handlers e.model.now) e.config in
-    let rises : are_rising e.pending ≡ true = ∥∥₁_elim e.stands (Prim.hlevel props) (λ x. rising-tested e.pending x.1.rising) in
+    let e = c.self.inside.execution in
+    let records = c.self.inside.records.items in
+    let sim = simulation_of (g.M.Model.handlers e.model) e.config in
     subst (λ (v : Progress _ _ _). (n : ℕ) → IsAfter (simulation_of (g.M.Model.handlers v.model) v.config) n v → IfErr c.step.result (IsStepRefusal (simulation_of (g.M.Model.handlers v.model) v.config) n))
-    c.self.view_is
-    (λ n is. c.step.ensures.refused n (after-stands sim e.model.now e.config n e.pending e.processes.items e.records.items rises is))
+    c.self.view_is (λ n is. c.step.ensures.refused n (without_records sim n e records is))
 
 pub returns-clause-counted : goal.returns-clause-counted
 returns-clause-counted g c =
-    let e = c.self.inside.engine in
-    let sim = simulation_of (g.M.Model.handlers e.model.now) e.config in
-    let rises : are_rising e.pending ≡ true = ∥∥₁_elim e.stands (Prim.hlevel props) (λ x. rising-tested e.pending x.1.rising) in
-    let f = c.step.new.self in
-    let there : length f.processes.items ≡ sim.lps = search (rules, arith, f.all_there, c.step.ensures.config) in
-    let numbered : AreCounted sim.lps f.processes.items = subst (λ (lps : ℕ). AreCounted lps f.processes.items) (ap (λ (d : Config). d.lps) c.step.ensures.config) f.numbered in
-    let lawful = lawful_of (g.M.Model.handlers e.model.now) e.config (g.met.M.Model.start_within e.model.now) (g.met.M.Model.forward_within e.model.now) in
+    let e = c.self.inside.execution in
+    let records = c.self.inside.records.items in
+    let sim = simulation_of (g.M.Model.handlers e.model) e.config in
     subst (λ (v : Progress _ _ _). (n : ℕ) → IsAfter (simulation_of (g.M.Model.handlers v.model) v.config) n v → IfOk c.step.result (λ more. IsCounted (simulation_of (g.M.Model.handlers v.model) v.config) (suc n)))
-    c.self.view_is
-    (λ n is. if_ok-map _ _ c.step.result (c.step.ensures.steps n (after-stands sim e.model.now e.config n e.pending e.processes.items e.records.items rises is))
-    (λ more st. counted_at sim lawful (suc n) f.pending f.processes.items f.records.items st there numbered))
+    c.self.view_is (λ n is. c.step.ensures.counted n (without_records sim n e records is))
+
+pub invariant_of-self : goal.invariant_of-self
+invariant_of-self g c =
+    let e = c.self.inside.execution in
+    let records = c.self.inside.records.items in
+    let sim = simulation_of (g.M.Model.handlers e.model) e.config in
+    let f = c.step.new.self in
+    let later = with_records f c.step.new.records.items in
+    let own = simulation_of (g.M.Model.handlers f.model) f.config in
+    let same : sim ≡ own = λ j. simulation_of (g.M.Model.handlers (sym c.step.ensures.model j)) (sym c.step.ensures.config j) in
+    ∥∥₁_map c.self.invariant (λ x.
+    let at = without_records sim x.0 e records x.1 in
+    let on : IfOk c.step.result (λ more. IsAfter sim (suc x.0) later) =
+    if_ok-both _ _ _ c.step.result (c.step.ensures.steps x.0 at) (c.step.ensures.adds x.0 at) (λ more. kept_on sim x.0 f records c.step.new.records.items x.1.records) in
+    either_way c.step.result on c.step.ensures.kept c.step.ensures.records_kept c.step.ensures.records_kept
+    (λ is. (suc x.0, subst (λ (s : Simulation _ _). IsAfter s (suc x.0) later) same is))
+    (λ kept same_records more. (x.0, subst (λ (s : Simulation _ _). IsAfter s x.0 later) same (subst (λ (v : Progress _ _ _). IsAfter sim x.0 v) (λ j. with_records (sym kept j) (sym same_records j)) x.1))))
 
 pub returns-clause-reached : goal.returns-clause-reached
-returns-clause-reached g c =
-    let e = c.self.inside.engine in
-    let there : e.config.lps ≤ length e.processes.items = search (rules, arith, e.all_there) in
-    subst (λ (v : Progress _ _ _). IsReached (g.M.Model.handlers v.model) v) c.self.view_is
-    (seen-reached (g.M.Model.handlers e.model.now) e.model.now e.config e.pending e.processes.items e.records.items there e.stands)
+returns-clause-reached g c = subst (λ (v : Progress _ _ _). IsReached (g.M.Model.handlers v.model) v) c.self.view_is c.self.invariant

@@ -1,0 +1,90 @@
+use Rattle.std.proofs.Common.{rules, ◌≡◌, ℕ, suc, ◌+◌, ◌∙◌, [], sym, subst, arith}
+use Rattle.vt_model.specs.Simulation.{Simulation, simulation_of}
+use Rattle.vt_model.specs.Sequential.{after_steps}
+use Rattle.vt_model.proofs.LawLemmas.{lawful_of}
+use Rattle.vt_seq.specs.Limits.{IsStepRefusal, IsCounted}
+use Rattle.vt_seq.specs.Given.{AddsStep}
+use Rattle.vt_seq.specs.Progress.{Progress, IsAfter}
+use Rattle.vt_seq.specs.Standing.{IsAt, with_records}
+use Rattle.vt_seq.proofs.GivenLemmas.{counted_whole}
+use Rattle.vt_seq.proofs.ProgressLemmas.{without_records, kept_on}
+use Rattle.vt_seq.proofs.StepLemmas.{none_pending, nil_of, if_err}
+use Rattle.vt_seq.proofs.execution.Execution.complete.Goals as goal
+
+pub loop-preserved : goal.loop-preserved
+loop-preserved g c =
+    let model = c.loop.invariant.model in
+    let config = c.loop.invariant.config in
+    let before = c.loop.self in
+    let later = c.step.new.self in
+    let own = simulation_of (g.M.Model.handlers c.args.self.now.model) c.args.self.now.config in
+    let same : simulation_of (g.M.Model.handlers before.model) before.config ≡ own = λ j. simulation_of (g.M.Model.handlers (model j)) (config j) in
+    record {
+      model = c.step.ensures.model ∙ model;
+      config = c.step.ensures.config ∙ config;
+      steps = λ n is.
+          let r = c.loop.invariant.steps n is in
+          let m : ℕ = r.0 + n in
+          let up : suc (r.0 + n) ≡ suc r.0 + n = omega arith in
+          let at : IsAt (simulation_of (g.M.Model.handlers before.model) before.config) m before = subst (λ (s : Simulation _ _). IsAt s m before) (sym same) (without_records own m before c.loop.records.items r.1) in (
+            suc r.0,
+            subst (λ (i : ℕ). IsAfter own i (with_records later c.step.new.records.items)) up
+                (kept_on own m later c.loop.records.items c.step.new.records.items r.1.records
+                (subst (λ (s : Simulation _ _). IsAt s (suc m) later) same (c.in_ok-step.ensures.steps m at))
+                (subst (λ (s : Simulation _ _). AddsStep s m c.loop.records.items c.step.new.records.items) same (c.in_ok-step.ensures.adds m at))),
+          );
+    }
+
+pub returns-clause-steps : goal.returns-clause-steps
+returns-clause-steps g c n is =
+    let before = c.loop.self in
+    let later = c.step.new.self in
+    let r = c.loop.invariant.steps n is in
+    let own = simulation_of (g.M.Model.handlers c.args.self.now.model) c.args.self.now.config in
+    let kept : later ≡ before = search rules in
+    let records : c.step.new.records.items ≡ c.loop.records.items = search rules in
+    (r.0, subst (λ (v : Progress _ _ _). IsAfter own (r.0 + n) v) (λ j. with_records (sym kept j) (sym records j)) r.1)
+
+pub returns-clause-counted : goal.returns-clause-counted
+returns-clause-counted g c n is =
+    let model = c.loop.invariant.model in
+    let config = c.loop.invariant.config in
+    let before = c.loop.self in
+    let later = c.step.new.self in
+    let m = c.args.self.now.model in
+    let cfg = c.args.self.now.config in
+    let own = simulation_of (g.M.Model.handlers m) cfg in
+    let lawful = lawful_of (g.M.Model.handlers m) cfg (g.met.M.Model.start_within m) (g.met.M.Model.forward_within m) in
+    let same : simulation_of (g.M.Model.handlers before.model) before.config ≡ own = λ j. simulation_of (g.M.Model.handlers (model j)) (config j) in
+    let r = c.loop.invariant.steps n is in
+    let k : ℕ = r.0 + n in
+    let at : IsAt (simulation_of (g.M.Model.handlers before.model) before.config) k before = subst (λ (s : Simulation _ _). IsAt s k before) (sym same) (without_records own k before c.loop.records.items r.1) in
+    let on : IsAt own (suc k) later = subst (λ (s : Simulation _ _). IsAt s (suc k) later) same (c.in_ok-step.ensures.steps k at) in
+    let none : later.pending ≡ [] = nil_of later.pending (search rules) in
+    counted_whole own lawful (suc k) (none_pending (after_steps own (suc k)).pending later.pending on.had none)
+    (subst (λ (s : Simulation _ _). IsCounted s (suc k)) same (c.in_ok-step.ensures.counted k at))
+
+-- the step was refused where the run stands
+pub returns-in_err-step-clause-refused : goal.returns-in_err-step-clause-refused
+returns-in_err-step-clause-refused g c n is =
+    let model = c.loop.invariant.model in
+    let config = c.loop.invariant.config in
+    let before = c.loop.self in
+    let later = c.step.new.self in
+    let own = simulation_of (g.M.Model.handlers c.args.self.now.model) c.args.self.now.config in
+    let same : simulation_of (g.M.Model.handlers before.model) before.config ≡ own = λ j. simulation_of (g.M.Model.handlers (model j)) (config j) in
+    let r = c.loop.invariant.steps n is in
+    let m : ℕ = r.0 + n in
+    let at : IsAt (simulation_of (g.M.Model.handlers before.model) before.config) m before = subst (λ (s : Simulation _ _). IsAt s m before) (sym same) (without_records own m before c.loop.records.items r.1) in
+    if_err (λ fault. (k : ℕ) × IsAfter own (k + n) (with_records later c.step.new.records.items) × IsStepRefusal own (k + n) fault)
+    c.from_residual.result c.in_err-step.field-0.0 c.from_residual.ensures.1 (
+      r.0,
+      subst (λ (v : Progress _ _ _). IsAfter own m v) (λ j. with_records (sym c.in_err-step.ensures.kept j) (sym c.in_err-step.ensures.records_kept j)) r.1,
+      subst (λ (s : Simulation _ _). IsStepRefusal s m c.in_err-step.field-0.0) same (c.in_err-step.ensures.refused m at),
+    )
+
+pub returns-in_err-step-clause-steps : goal.returns-in_err-step-clause-steps
+returns-in_err-step-clause-steps g c n is =
+    let r = c.loop.invariant.steps n is in
+    let own = simulation_of (g.M.Model.handlers c.args.self.now.model) c.args.self.now.config in
+    (r.0, subst (λ (v : Progress _ _ _). IsAfter own (r.0 + n) v) (λ j. with_records (sym c.in_err-step.ensures.kept j) (sym c.in_err-step.ensures.records_kept j)) r.1)
