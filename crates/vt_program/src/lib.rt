@@ -59,12 +59,13 @@ fn answer<H: Threads + Wait + Sync, S: AsStr, R: Read, O: Write>(
 /// those below some time. They are written in the version that `--text` names: in version 2 the first line is written
 /// even if there are none.
 ///
-/// - N = 1: memory was refused. Nothing was written to `out`; or of a replay, the lines of all answers; or of a run in
-///   threads, the committed records. If memory is refused to a step of a replay, its answer says so, and
-///   the replay goes on.
+/// - N = 1: memory was refused. Nothing was written to `out`; or of a replay, the lines of all answers; or of a sequential
+///   run, a beginning of the text; or of a run in threads, the committed records. If memory is refused to a step of a
+///   replay, its answer says so, and the replay goes on.
 /// - N = 3: the committed records of a run in threads couldn't be read. Those below some time were written to `out`.
 /// - N = 5: a send number of a run would pass 2^63, or a serial of a run in threads or at the starts of a replay.
-///   Nothing was written to `out`; or of a run in threads, the committed records.
+///   Nothing was written to `out`; or of a sequential run, a beginning of the text; or of a run in threads, the
+///   committed records.
 /// - N = 6: a worker of a run in threads made all its turns before the end of the run. The committed records were
 ///   written to `out`.
 /// - N = 7: the words or the input are refused, and nothing was written to `out`. TEXT names the first bad option in

@@ -16,7 +16,7 @@ use vt_options::RunSettings;
 /// Simulates the model that the options name, and writes the records of the run, in the version that they name.
 ///
 /// In a sequential run, [`Fault::Memory`] means that memory was refused, and [`Fault::Exhausted`] that a send number
-/// would pass 2^63. Nothing was written.
+/// would pass 2^63. A beginning of the text was written, which may be nothing or all.
 ///
 /// In a run in threads, the committed records, which are those below some time, are written in that version before each
 /// of these faults: [`Fault::Memory`], [`Fault::Exhausted`], [`Fault::TurnsSpent`] if a worker made all its turns

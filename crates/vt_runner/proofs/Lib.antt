@@ -1,5 +1,6 @@
 pub mod RefusalLemmas
 pub mod RunLemmas
+pub mod PrintLemmas
 pub mod OutcomeLemmas
 pub mod ReplyLemmas
 pub mod ReplayLemmas

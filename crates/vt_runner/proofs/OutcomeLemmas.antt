@@ -26,11 +26,11 @@ use Rattle.vt_runner.specs.Outcomes.{Program, IsAsked, IsDoneBy, EndsWith, AskBa
 module _ (p : Program) (words : List Text) (r : p.Run) (input old new : Option (List ℕ)) (asked : p.AskRun words r) where
   -- a sequential run that was refused ends the program so
   sequential_ends : p.synch_of r ≡ Sequential → (fault : Fault) → StopsRun (p.Passes r) old new (p.text_of r) fault → EndsWith p words fault input old new
-  sequential_ends is Memory h = inl h
+  sequential_ends is Memory h = inr (inl (record { options = r; asked = asked; sequential = is; begun = h }))
   sequential_ends is NotLawful h = h
   sequential_ends is Busy h = absurd h
   sequential_ends is Closed h = h
-  sequential_ends is Exhausted h = inl (record { options = r; asked = asked; sequential = is; passes = h.0; kept = h.1 })
+  sequential_ends is Exhausted h = inl (record { options = r; asked = asked; sequential = is; passes = h.0; begun = h.1 })
   sequential_ends is TurnsSpent h = absurd h
   sequential_ends is (BadOption name) h = absurd h
   sequential_ends is (BadStep line) h = absurd h
@@ -38,7 +38,7 @@ module _ (p : Program) (words : List Text) (r : p.Run) (input old new : Option (
 
   -- and so does a run in threads
   work_ends : p.synch_of r ≡ Optimistic → (fault : Fault) → StopsWork (p.text_below r) (p.text_of r) old new fault → EndsWith p words fault input old new
-  work_ends is Memory h = inr (inl (record { options = r; asked = asked; optimistic = is; committed = h }))
+  work_ends is Memory h = inr (inr (inl (record { options = r; asked = asked; optimistic = is; committed = h })))
   work_ends is NotLawful h = h
   work_ends is Busy h = record { options = r; asked = asked; optimistic = is; committed = h }
   work_ends is Closed h = h
@@ -60,7 +60,7 @@ module _ (p : Program) (words : List Text) (r : p.Run) (input old new : Option (
 pub replay_ends : (p : Program) (words : List Text) (r : p.Replay) (input old new : Option (List ℕ)) (fault : Fault) → p.AskReplay words r
     → EndsReplayBy (p.config_of r) (p.IsOutput r) (p.AreLines r) (p.OpensLate r) input old new fault → EndsWith p words fault input old new
 replay_ends p words r input old new Memory asked (inl kept) = inl kept
-replay_ends p words r input old new Memory asked (inr lines) = inr (inr (record { options = r; asked = asked; written = lines }))
+replay_ends p words r input old new Memory asked (inr lines) = inr (inr (inr (record { options = r; asked = asked; written = lines })))
 replay_ends p words r input old new NotLawful asked h = h
 replay_ends p words r input old new Busy asked h = absurd h
 replay_ends p words r input old new Closed asked h = h
@@ -105,11 +105,12 @@ module _ (p : Program) (is : IsAsked p) (words : List Text) where
     pub nothing_written : (fault : Fault) → EndsWith p words fault input old new → Keeps old new
     nothing_written Memory (inl h) = h
     nothing_written Memory (inr (inl b)) = absurd (not_refused b.options name b.asked refused)
-    nothing_written Memory (inr (inr b)) = absurd (replay_not_refused b.options name b.asked refused)
+    nothing_written Memory (inr (inr (inl b))) = absurd (not_refused b.options name b.asked refused)
+    nothing_written Memory (inr (inr (inr b))) = absurd (replay_not_refused b.options name b.asked refused)
     nothing_written NotLawful h = absurd h
     nothing_written Busy b = absurd (not_refused b.options name b.asked refused)
     nothing_written Closed h = absurd h
-    nothing_written Exhausted (inl h) = h.kept
+    nothing_written Exhausted (inl b) = absurd (not_refused b.options name b.asked refused)
     nothing_written Exhausted (inr (inl b)) = absurd (not_refused b.options name b.asked refused)
     nothing_written Exhausted (inr (inr h)) = h.stopped.kept
     nothing_written TurnsSpent b = absurd (not_refused b.options name b.asked refused)
@@ -179,11 +180,12 @@ module _ (p : Program) (is : IsAsked p) (words : List Text) (input : Option (Lis
     pub bad_nothing_written : (fault : Fault) → EndsWith p words fault input old new → Keeps old new
     bad_nothing_written Memory (inl h) = h
     bad_nothing_written Memory (inr (inl b)) = absurd (no_run b.options b.asked)
-    bad_nothing_written Memory (inr (inr b)) = absurd (not_read b.options b.written.steps b.asked b.written.given)
+    bad_nothing_written Memory (inr (inr (inl b))) = absurd (no_run b.options b.asked)
+    bad_nothing_written Memory (inr (inr (inr b))) = absurd (not_read b.options b.written.steps b.asked b.written.given)
     bad_nothing_written NotLawful h = absurd h
     bad_nothing_written Busy b = absurd (no_run b.options b.asked)
     bad_nothing_written Closed h = absurd h
-    bad_nothing_written Exhausted (inl h) = h.kept
+    bad_nothing_written Exhausted (inl b) = absurd (no_run b.options b.asked)
     bad_nothing_written Exhausted (inr (inl b)) = absurd (no_run b.options b.asked)
     bad_nothing_written Exhausted (inr (inr h)) = h.stopped.kept
     bad_nothing_written TurnsSpent b = absurd (no_run b.options b.asked)

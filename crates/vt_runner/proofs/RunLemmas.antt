@@ -1,7 +1,6 @@
 -- What a run in threads writes that stops: what comes before a time begins the text of the whole run.
 use Rattle.std.proofs.Common.{◌≡◌, ◌∙◌, ◌++◌, ◌<◌, ◌≤◌, ◌⊎◌, ℕ, suc, true, false, refl, List, [], Option, inl, inr, sym, ap, subst, map, nat_lt, append-nil, append_assoc, arith}
 use Rattle.std.specs.Io.KnownBytes.{Appends}
-use Rattle.std.proofs.KnownBytes.{Keeps-refl}
 use Rattle.std.proofs.lemmas.Bool.{ltb-true, ltb-false}
 use Rattle.std.proofs.lemmas.List.Concat.{flat_map-append}
 use Rattle.vt_key.specs.Times.{Time}
@@ -18,13 +17,12 @@ use Rattle.vt_model.specs.Sequential.{opening, weight, after_steps, whole_run, r
 use Rattle.vt_model.proofs.RowLemmas.{all_before}
 use Rattle.vt_model.proofs.RunLemmas.{known_sent, lists_of, reached}
 use Rattle.vt_steps.proofs.SequentialRows.{seq_records-begin}
-use Rattle.vt_seq.specs.Limits.{IsStepRefusal}
 use Rattle.vt_station.specs.Crew.{IsStop}
 use Rattle.vt_text.specs.declared.version.Version.{Version}
 use Rattle.vt_text.specs.Records.{first_line, record_text, record_lines, records_text}
 use Rattle.vt_text.specs.Writing.{AppendsBeginning}
 use Rattle.vt_text.proofs.TextLemmas.{of_longer}
-use Rattle.vt_runner.specs.Runs.{text_below, run_text, PassesInRun, WritesBelow, StopsRun, StopsWork}
+use Rattle.vt_runner.specs.Runs.{text_below, run_text, WritesBelow, StopsWork}
 
 pub either : (a b : ℕ) → (a < b) ⊎ (b ≤ a)
 either a b = elim (nat_lt a b) as (λ t. nat_lt a b ≡ t → (a < b) ⊎ (b ≤ a)) [ true ↦ λ e. inl (ltb-true a b e) | false ↦ λ e. inr (ltb-false a b e) ] refl
@@ -52,18 +50,18 @@ module _ {S P : Type 0} (sim : Simulation S P) (lawful : IsLawful sim) where
     | inr late ↦ ([], sym (append-nil (seq_records sim t) ∙ late-same t late))
   ]
 
-module _ (version : Version) {S P K : Type 0} (handlers : Handlers S P K) (config : Config) (lawful : IsLawful (simulation_of handlers config)) where
-  -- the text of records begins that of more records
-  records_text-append : (records more : List Record) → records_text version (records ++ more) ≡ records_text version records ++ record_lines version more
-  records_text-append records more =
-      ap (λ l. first_line version ++ l) (flat_map-append (record_text version) records more) ∙ sym (append_assoc (first_line version) (record_lines version records) (record_lines version more))
+-- the text of records begins that of more records
+pub records_text-append : (version : Version) (records more : List Record) → records_text version (records ++ more) ≡ records_text version records ++ record_lines version more
+records_text-append version records more =
+    ap (λ l. first_line version ++ l) (flat_map-append (record_text version) records more) ∙ sym (append_assoc (first_line version) (record_lines version records) (record_lines version more))
 
+module _ (version : Version) {S P K : Type 0} (handlers : Handlers S P K) (config : Config) (lawful : IsLawful (simulation_of handlers config)) where
   -- the text below any time begins that of the whole run
   text-begins : (t : Time) → (rest : List ℕ) × (run_text version handlers config ≡ text_below version handlers config t ++ rest)
   text-begins t =
       let sim = simulation_of handlers config in
       let r = records-begin sim lawful t in
-      (record_lines version r.0, ap (records_text version) r.1 ∙ records_text-append (seq_records sim t) r.0)
+      (record_lines version r.0, ap (records_text version) r.1 ∙ records_text-append version (seq_records sim t) r.0)
 
   module _ (stopped : List Record) (is : (t : Time) × (stopped ≡ seq_records (simulation_of handlers config) t)) (old new : Option (List ℕ)) where
     -- records of a run that stopped were written
@@ -97,9 +95,3 @@ module _ (version : Version) {S P K : Type 0} (handlers : Handlers S P K) (confi
 -- where the writer failed, a beginning of the text was written
 pub output_begun : (below : Time → List ℕ) (whole : List ℕ) (old new : Option (List ℕ)) (fault : Fault) → fault ≡ Output → AppendsBeginning old new whole → StopsWork below whole old new fault
 output_begun below whole old new fault is h = subst (StopsWork below whole old new) (sym is) h
-
--- a sequential run was refused and nothing was written
-pub run_stops : {S P K : Type 0} (handlers : Handlers S P K) (config : Config) (n : ℕ) (out : Option (List ℕ)) (text : List ℕ) (fault : Fault)
-    → IsStepRefusal (simulation_of handlers config) n fault → StopsRun (PassesInRun handlers config) out out text fault
-run_stops handlers config n out text fault (inl h) = subst (StopsRun (PassesInRun handlers config) out out text) (sym h.0) ((suc n, h.1), Keeps-refl out)
-run_stops handlers config n out text fault (inr h) = subst (StopsRun (PassesInRun handlers config) out out text) (sym h.0) (Keeps-refl out)

@@ -12,7 +12,7 @@ use Rattle.vt_options.specs.declared.choices.Synch.TheVariants.{Sequential, Opti
 use Rattle.vt_options.specs.Line.{given_by}
 use Rattle.vt_options.specs.Settings.{GiveConfig}
 use Rattle.vt_options.specs.Requests.{Line, AreBy, AskHelpOf, IsRefusedAsOf}
-use Rattle.vt_runner.specs.Runs.{WritesBelow}
+use Rattle.vt_runner.specs.Runs.{WritesBelow, WritesBeginning}
 use Rattle.vt_step_text.specs.declared.reading.NumberedStep.{NumberedStep}
 use Rattle.vt_step_text.specs.StepText.{steps_of}
 use Rattle.vt_runner.specs.Replays.{ReplaysBy, BeginsReplayBy, WritesRepliesBy, StopsUnopenedBy, StopsAtBadLineBy}
@@ -82,13 +82,21 @@ module _ (p : Program) (words : List Text) where
     pub asked : p.AskReplay words options
     pub begun : BeginsReplayBy (p.config_of options) (p.IsOutput options) remaining old new
 
-  -- the words ask for a sequential run, some step of which would take a send number past its limit, and nothing was written
+  -- the words ask for a sequential run, and a beginning of its text was written
+  pub record StopsMidway (old new : Option (List ℕ)) : Type 0 where
+    pub options : p.Run
+    pub asked : p.AskRun words options
+    pub sequential : p.synch_of options ≡ Sequential
+    pub begun : WritesBeginning (p.text_of options) old new
+
+  -- the words ask for a sequential run, some step of which would take a send number past its limit, and a beginning of its text
+  -- was written
   pub record StopsEarly (old new : Option (List ℕ)) : Type 0 where
     pub options : p.Run
     pub asked : p.AskRun words options
     pub sequential : p.synch_of options ≡ Sequential
     pub passes : p.Passes options
-    pub kept : Keeps old new
+    pub begun : WritesBeginning (p.text_of options) old new
 
   -- the words ask for a run in threads, and its text below some time was written
   pub record StopsPartWay (old new : Option (List ℕ)) : Type 0 where
@@ -125,10 +133,10 @@ module _ (p : Program) (words : List Text) where
   abbrev pub IsDoneBy : Option (List ℕ) → Option (List ℕ) → Option (List ℕ) → Type 0
   IsDoneBy remaining old new = WritesHelp old new ⊎ WritesRun old new ⊎ WritesReplay remaining old new
 
-  -- what was done where it ended with a refusal. Where memory was refused nothing was written, or what a run in threads had
-  -- committed, or the lines of all answers of a replay
+  -- what was done where it ended with a refusal. Where memory was refused nothing was written, or a beginning of the text of a
+  -- sequential run, or what a run in threads had committed, or the lines of all answers of a replay
   abbrev pub EndsWith : Fault → Option (List ℕ) → Option (List ℕ) → Option (List ℕ) → Type 0
-  EndsWith Memory remaining old new = Keeps old new ⊎ StopsPartWay old new ⊎ WritesLines remaining old new
+  EndsWith Memory remaining old new = Keeps old new ⊎ StopsMidway old new ⊎ StopsPartWay old new ⊎ WritesLines remaining old new
   EndsWith Busy remaining old new = StopsPartWay old new
   EndsWith Exhausted remaining old new = StopsEarly old new ⊎ StopsPartWay old new ⊎ StopsReplayEarly remaining old new
   EndsWith TurnsSpent remaining old new = StopsPartWay old new

@@ -1,6 +1,6 @@
 -- The text of a run, and how much of it a run writes that is refused.
 use Rattle.std.specs.Prelude.{◌≡◌, ℕ, List, ◌++◌, Option}
-use Rattle.std.specs.Io.KnownBytes.{Appends, Keeps}
+use Rattle.std.specs.Io.KnownBytes.{Appends}
 use Rattle.vt_key.specs.Times.{Time}
 use Rattle.vt_key.specs.declared.fault.Fault.{Fault}
 use Rattle.vt_key.specs.declared.fault.Fault.TheVariants.{Memory, Busy, Exhausted, TurnsSpent, Output}
@@ -35,11 +35,18 @@ pub record WritesBelow (below : Time → List ℕ) (whole : List ℕ) (old new :
   pub rest : List ℕ
   pub begins : whole ≡ below time ++ rest
 
--- what a sequential run that was refused wrote of its text: nothing, or where the writer failed a beginning. A counter is spent
--- only where the run would pass its limit
+-- a beginning of the text was written, which may be nothing or all
+pub record WritesBeginning (whole : List ℕ) (old new : Option (List ℕ)) : Type 0 where
+  pub beginning : List ℕ
+  pub written : Appends old new beginning
+  pub rest : List ℕ
+  pub begins : whole ≡ beginning ++ rest
+
+-- what a sequential run that was refused wrote of its text: a beginning, which isn't all of it where the writer failed. A counter
+-- is spent only where the run would pass its limit
 abbrev pub StopsRun : Type 0 → Option (List ℕ) → Option (List ℕ) → List ℕ → Fault → Type 0
-StopsRun Passes old new text Memory = Keeps old new
-StopsRun Passes old new text Exhausted = Passes × Keeps old new
+StopsRun Passes old new text Memory = WritesBeginning text old new
+StopsRun Passes old new text Exhausted = Passes × WritesBeginning text old new
 StopsRun Passes old new text Output = AppendsBeginning old new text
 StopsRun Passes old new text _ = ⊥
 

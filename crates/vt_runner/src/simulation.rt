@@ -11,11 +11,15 @@ use std::thread::Threads;
 use vt_key::Fault;
 use vt_model::Model as EventModel;
 use vt_options::{RunSettings, Synch};
-use vt_seq::Sequential;
+use vt_seq::Execution;
 use vt_station::{Open, run_workers};
-use vt_text::print_records;
+use vt_text::{TextBuffer, print_records, put_lines};
 
-/// Simulates a model in this thread, and writes the records of the run, in the version that the options name.
+/// So many records are gathered before their lines are written.
+const GROUP: usize = 1_024;
+
+/// Simulates a model in this thread, and writes the records of the run while it goes on, in the version that the options
+/// name. If the run stops, what was gathered and not yet written is lost.
 fn print_run<M: EventModel, O: Write>(
     alloc: Global,
     model: &M,
@@ -25,9 +29,18 @@ fn print_run<M: EventModel, O: Write>(
     ensures ok { OnOk result (Appends (O.contents out.old) (O.contents out.new) (run_text options.now.text (M.handlers model.now) options.now.config)) }
     ensures err { IfErr result (StopsRun (PassesInRun (M.handlers model.now) options.now.config) (O.contents out.old) (O.contents out.new) (run_text options.now.text (M.handlers model.now) options.now.config)) }
 {
-    let mut run = Sequential::new(alloc, model, options.config)?;
-    run.complete()?;
-    print_records(out, run.records(), options.text)
+    let mut execution = Execution::new(alloc, model, options.config)?;
+    let mut records = Vec::new(alloc);
+    let mut text = TextBuffer::new();
+    text.put_bytes(out, options.text.first_line())?;
+    while execution.step(&mut records)? {
+        if records.len() >= GROUP {
+            put_lines(&mut text, out, records.as_slice(), options.text)?;
+            records.clear();
+        }
+    }
+    put_lines(&mut text, out, records.as_slice(), options.text)?;
+    text.flush(out)
 }
 
 /// Simulates a model by Time Warp, in a thread for each worker, and writes the records of the run, in the version that
@@ -58,7 +71,7 @@ where
 /// they name.
 ///
 /// In a sequential run, [`Fault::Memory`] means that memory was refused, and [`Fault::Exhausted`] that a send number
-/// would pass 2^63. Nothing was written.
+/// would pass 2^63. A beginning of the text was written, which may be nothing or all.
 ///
 /// In a run in threads, the committed records, which are those below some time, are written in that version before each
 /// of these faults: [`Fault::Memory`], [`Fault::Exhausted`], [`Fault::TurnsSpent`] if a worker made all its turns

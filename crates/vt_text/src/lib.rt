@@ -11,6 +11,6 @@ mod writing;
 
 pub use buffer::{RECORD_LEN, TEXT_ROOM, TextBuffer};
 pub use number::{NUMBER_LEN, PRIORITY_LEN, numbers_are_read_back, read_number};
-pub use printing::{print_records, put_records};
+pub use printing::{print_records, put_lines, put_records};
 pub use version::Version;
 pub use writing::write_bytes;

@@ -10,8 +10,10 @@ use std::io::Write;
 use vt_key::Fault;
 use vt_model::Record;
 
-/// Adds the lines of records to the buffer. It writes the buffer whenever there is no room for a line.
-fn put_lines<W: Write>(
+/// Adds the lines of records, without a first line, to the buffer. It writes the buffer whenever there is no room for a line.
+///
+/// [`Fault::Output`] where the writer failed: then a beginning of what the buffer held and of the lines was written.
+pub fn put_lines<W: Write>(
     text: &mut TextBuffer,
     writer: &mut W,
     records: &[Record],
