@@ -2,3 +2,5 @@ pub mod Line
 pub mod Table
 pub mod Settings
 pub mod Requests
+pub mod Own
+pub mod Asked

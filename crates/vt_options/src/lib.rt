@@ -5,16 +5,20 @@
 //! out of its range.
 #![tactic(auto)]
 
+mod asking;
 mod choices;
 mod limits;
 mod line;
+mod own;
 mod reading;
 mod refusing;
 mod texts;
 
+pub use asking::{Request, read_request};
 pub use choices::{ReplaySettings, RunSettings, Synch};
 pub use limits::MAX_TURNS;
 pub use line::{ProgramTexts, matches_in};
+pub use own::{OwnOption, own_options};
 pub use reading::{config_options, number_option, small_option, synch_option, text_option};
 pub use refusing::help_of;
 pub use texts::{

@@ -1,0 +1,96 @@
+-- The options of a model, one after the other.
+use Rattle.std.proofs.Common.{◌≡◌, ◌<◌, ◌+◌, ◌++◌, ◌∙◌, ℕ, List, [], ◌∷◌, Option, Some, None, ap, ap₂, sym, refl, subst, inl, inr, codes, length, take, drop, get_or, map, true}
+use Rattle.std.specs.List.{AllZip}
+use Rattle.std.proofs.lemmas.List.{take_more, drop_more, map-append, take-append-drop}
+use Rattle.std.proofs.lemmas.Slice.Zip.{all_zipped_more}
+use Rattle.clap.specs.Words.{Text}
+use Rattle.vt_key.specs.declared.fault.Fault.{Fault}
+use Rattle.vt_key.specs.declared.fault.Fault.TheVariants.{Memory, BadOption}
+use Rattle.vt_model.specs.Settings.{is_between}
+use Rattle.vt_options.specs.declared.choices.RunSettings.{RunSettings}
+use Rattle.vt_options.specs.declared.choices.ReplaySettings.{ReplaySettings}
+use Rattle.vt_options.specs.declared.own.OwnOption.{OwnOption}
+use Rattle.vt_options.specs.Line.{given_by}
+use Rattle.vt_options.specs.Requests.{Line, AreBy, IsRefusedByOf}
+use Rattle.vt_options.specs.Table.{Given, NumberOption, bad, bad_number, first_name, first_bad_of, value_in}
+use Rattle.vt_options.specs.Own.{AreWithin, GiveRun, GiveReplay, GiveValues, NamesBad, number_option, number_table}
+use Rattle.vt_options.proofs.RequestLemmas as requests
+
+-- a name alone is the first
+only : (o : Option Text) → first_name (o ∷ []) ≡ o
+only None = refl
+only (Some name) = refl
+
+module _ (given : Given) where
+  -- behind options that have values the first bad one is that of the rest
+  behind_good : (xs ys : List NumberOption) → first_bad_of given xs ≡ None → first_bad_of given (xs ++ ys) ≡ first_bad_of given ys
+  behind_good [] ys good = refl
+  behind_good (x ∷ xs) ys good =
+      elim (bad_number given x) as (λ b. first_name (b ∷ first_bad_of given xs ∷ []) ≡ None → first_name (b ∷ first_bad_of given (xs ++ ys) ∷ []) ≡ first_bad_of given ys) [
+        | None ↦ λ g. only (first_bad_of given (xs ++ ys)) ∙ behind_good xs ys (sym (only (first_bad_of given xs)) ∙ g)
+        | Some name ↦ λ g. absurd cc
+      ] good
+
+  module _ (own : List OwnOption) (i : ℕ) (d : OwnOption) (h : i < length own) where
+    -- one option more of the table
+    table_more : number_table (take (i + 1) own) ≡ number_table (take i own) ++ number_option (get_or own i d) ∷ []
+    table_more = ap number_table (take_more own i d h) ∙ map-append number_option (take i own) (get_or own i d ∷ [])
+
+    module _ (v : ℕ) (is : value_in given (number_option (get_or own i d)) ≡ Some v) where
+      -- it has this value
+      pub values_more : (values : List ℕ) → GiveValues given (take i own) values → GiveValues given (take (i + 1) own) (values ++ v ∷ [])
+      values_more values before =
+          ap (map (value_in given)) table_more
+          ∙ map-append (value_in given) (number_table (take i own)) (number_option (get_or own i d) ∷ [])
+          ∙ ap₂ (λ (a : List (Option ℕ)) (b : Option ℕ). a ++ b ∷ []) before is
+          ∙ sym (map-append Some values (v ∷ []))
+
+      -- so no option is bad so far
+      pub good_more : first_bad_of given (number_table (take i own)) ≡ None → first_bad_of given (number_table (take (i + 1) own)) ≡ None
+      good_more good =
+          ap (first_bad_of given) table_more
+          ∙ behind_good (number_table (take i own)) (number_option (get_or own i d) ∷ []) good
+          ∙ ap (λ (x : Option ℕ). first_name (bad (get_or own i d).name.now x ∷ None ∷ [])) is
+
+    -- and it is in its range
+    pub within_more : (v : ℕ) (values : List ℕ) → is_between (get_or own i d).least (get_or own i d).most v ≡ true → AreWithin (take i own) values → AreWithin (take (i + 1) own) (values ++ v ∷ [])
+    within_more v values is before =
+        subst (λ (l : List OwnOption). AreWithin l (values ++ v ∷ [])) (sym (take_more own i d h))
+        (all_zipped_more (λ (o : OwnOption) (n : ℕ). is_between o.least o.most n ≡ true) (take i own) values (get_or own i d) v before is)
+
+    -- it has no value, and is the first such
+    first_is : first_bad_of given (number_table (take i own)) ≡ None → value_in given (number_option (get_or own i d)) ≡ None → first_bad_of given (number_table own) ≡ Some (get_or own i d).name.now
+    first_is good none =
+        ap (λ (l : List OwnOption). first_bad_of given (number_table l)) (sym (take-append-drop i own) ∙ ap (λ (l : List OwnOption). take i own ++ l) (drop_more own i d h))
+        ∙ ap (first_bad_of given) (map-append number_option (take i own) (get_or own i d ∷ drop (i + 1) own))
+        ∙ behind_good (number_table (take i own)) (number_table (get_or own i d ∷ drop (i + 1) own)) good
+        ∙ ap (λ (x : Option ℕ). first_name (bad (get_or own i d).name.now x ∷ first_bad_of given (number_table (drop (i + 1) own)) ∷ [])) none
+
+    -- so it is named
+    pub refused : (fault : Fault) → first_bad_of given (number_table (take i own)) ≡ None → value_in given (number_option (get_or own i d)) ≡ None → fault ≡ BadOption (get_or own i d).name → NamesBad (first_bad_of given (number_table own)) fault
+    refused fault good none is =
+        subst (λ (f : Fault). NamesBad (first_bad_of given (number_table own)) f) (sym is) (inr (refl, sym (first_is good none)))
+
+-- ---- what the words of a run or a replay give
+
+-- settings and values that texts give are given by texts that are the same
+pub run_given : (own : List OwnOption) (given found : Given) (s : RunSettings) (values : List ℕ) → ((name : Text) → found name ≡ given name) → GiveRun own found s values → GiveRun own given s values
+run_given own given found s values e = subst (λ (g : Given). GiveRun own g s values) (λ i name. e name i)
+
+pub replay_given : (own : List OwnOption) (given found : Given) (s : ReplaySettings) (values : List ℕ) → ((name : Text) → found name ≡ given name) → GiveReplay own found s values → GiveReplay own given s values
+replay_given own given found s values e = subst (λ (g : Given). GiveReplay own g s values) (λ i name. e name i)
+
+-- a refusal for memory refuses any words
+by_memory : (line : Line) (words : List Text) (fault : Fault) → fault ≡ Memory → IsRefusedByOf line words fault
+by_memory line words fault is = subst (IsRefusedByOf line words) (sym is) tt
+
+module _ (line : Line) (words : List Text) (found : Given) (e : (name : Text) → found name ≡ given_by line.app words name) (fault : Fault) where
+  -- words of a run that were refused
+  pub run_refused : AreBy line.app (codes "run") words → NamesBad (line.bad_of_run found) fault → IsRefusedByOf line words fault
+  run_refused are (inl memory) = by_memory line words fault memory
+  run_refused are (inr h) = requests.refused line words found e fault h.0 are h.1
+
+  -- and of a replay
+  pub replay_refused : AreBy line.app (codes "replay") words → NamesBad (line.bad_of_replay found) fault → IsRefusedByOf line words fault
+  replay_refused are (inl memory) = by_memory line words fault memory
+  replay_refused are (inr h) = requests.replay_refused line words found e fault h.0 are h.1
