@@ -1,60 +1,57 @@
-//! A run of the network model on workers, as a user of the library would write it: `network_demo WORKERS [ROUTERS [END]]` prints its
-//! records. With 0 workers the sequential simulator runs. A ring of sixteen routers and 200 ticks are the defaults.
+//! The network of routers as a whole program: `network_demo run --lps 16 --end 200` prints the records of sixteen routers.
 #![tactic(auto)]
 
-use std::env;
-use vt_model::Config;
+use std::process::ExitCode;
 use vt_network::Network;
-use vt_options::{RunSettings, Synch};
-use vt_runner::simulate;
-use vt_text::Version;
+use vt_options::{OwnOption, ProgramTexts};
+use vt_runner::{Streams, run_program};
 
-// How many routers further a chord leads.
-const COLUMNS: u32 = 4;
+static TEXTS: ProgramTexts = ProgramTexts {
+    name: "network_demo",
+    about: "Simulates packets in a network of routers on a ring with chords",
+    usage: "network_demo <COMMAND>",
+    in_short: "A first run: network_demo run --lps 16 --end 200 (sixteen routers)",
+};
 
-// The longest time between two packets of a host, in ticks.
-const GAP: u32 = 12;
+static OPTIONS: [OwnOption; 4] = [
+    OwnOption {
+        name: "columns",
+        least: 1,
+        most: 65_536,
+        default: 4,
+        help: "How many routers further a chord leads, 1 to 65536 [default: 4]",
+    },
+    OwnOption {
+        name: "gap",
+        least: 1,
+        most: 1_000_000,
+        default: 12,
+        help: "Longest time between two packets of a host in ticks, 1 to 1000000 [default: 12]",
+    },
+    OwnOption {
+        name: "service",
+        least: 1,
+        most: 1_000_000,
+        default: 4,
+        help: "Ticks that a router works on a packet, 1 to 1000000 [default: 4]",
+    },
+    OwnOption {
+        name: "link",
+        least: 1,
+        most: 1_000_000,
+        default: 3,
+        help: "Ticks that a packet is on a link, 1 to 1000000 [default: 3]",
+    },
+];
 
-// How long a router works on a packet, in ticks.
-const SERVICE: u32 = 4;
-
-// How long a packet is on a link, in ticks.
-const LINK: u32 = 3;
-
-// The seed of the run's random words.
-const SEED: u64 = 1;
-
-// More turns than a worker makes in any run that ends.
-const MOST_TURNS: u64 = 1_000_000_000;
-
-/// The word of this place, or a number of its own where there is none.
-fn number_at(words: &[String], at: usize, default: u64) -> Result<u64, anyhow::Error> {
-    match words.get(at) {
-        Some(word) => Ok(word.parse::<u64>()?),
-        None => Ok(default),
-    }
-}
-
-fn main(rt: HostRuntime) -> Result<(), anyhow::Error> {
-    let mut words = Vec::new(rt.alloc());
-    for word in env::args(&rt)?.skip(1) {
-        words.push(word)?;
-    }
-    let workers = u32::try_from(number_at(&words, 0, 0)?)?;
-    let routers = u32::try_from(number_at(&words, 1, 16)?)?;
-    let end = number_at(&words, 2, 200)?;
-    let (synch, workers) = match workers {
-        0 => (Synch::Sequential, 1),
-        _ => (Synch::Optimistic, workers),
+fn main(rt: HostRuntime) -> ExitCode {
+    let mut streams = Streams {
+        input: rt.stdin(),
+        output: rt.stdout(),
+        errors: rt.stderr(),
     };
-    let model = Network::new(COLUMNS, GAP, SERVICE, LINK)?;
-    let settings = RunSettings {
-        synch,
-        config: Config::new(routers, workers, end, SEED)?,
-        turns: MOST_TURNS,
-        text: Version::Two,
-    };
-    // If the run stops, what was committed is written, and why it stopped is the program's error.
-    simulate(&rt, rt.alloc(), &model, &settings, &mut rt.stdout())?;
-    Ok(())
+    let status = run_program(&rt, &mut streams, &TEXTS, &OPTIONS, |values| {
+        Network::new(values[0], values[1], values[2], values[3]).ok()
+    });
+    ExitCode::from(status)
 }

@@ -1,44 +1,67 @@
-//! A run of the traffic model, as a user of the library would write it: a grid of three rows of four junctions, executed
-//! event by event, whose records are printed.
+//! The traffic model as a whole program: `traffic_demo run --lps 12 --end 100` prints the records of twelve junctions.
 #![tactic(auto)]
 
 #[cfg(test)]
 mod tests;
 
-use vt_model::Config;
-use vt_seq::Sequential;
-use vt_text::{Version, print_records};
+use std::process::ExitCode;
+use vt_options::{OwnOption, ProgramTexts};
+use vt_runner::{Streams, run_program};
 use vt_traffic::Traffic;
 
-// The junctions of a row.
-const COLUMNS: u32 = 4;
+static TEXTS: ProgramTexts = ProgramTexts {
+    name: "traffic_demo",
+    about: "Simulates cars on a grid of one-way roads with signalled junctions",
+    usage: "traffic_demo <COMMAND>",
+    in_short: "A first run: traffic_demo run --lps 12 --end 100 (three rows of four junctions)",
+};
 
-// The rows.
-const ROWS: u32 = 3;
+static OPTIONS: [OwnOption; 5] = [
+    OwnOption {
+        name: "columns",
+        least: 1,
+        most: 65_536,
+        default: 4,
+        help: "Junctions of a row, 1 to 65536 [default: 4]",
+    },
+    OwnOption {
+        name: "cars",
+        least: 0,
+        most: 1_000,
+        default: 4,
+        help: "Cars that wait on each road of a junction at the start, 0 to 1000 [default: 4]",
+    },
+    OwnOption {
+        name: "green",
+        least: 1,
+        most: 1_000_000,
+        default: 12,
+        help: "Ticks between two changes of the lights, 1 to 1000000 [default: 12]",
+    },
+    OwnOption {
+        name: "travel",
+        least: 1,
+        most: 1_000_000,
+        default: 5,
+        help: "Ticks of the shortest way to the next junction, 1 to 1000000 [default: 5]",
+    },
+    OwnOption {
+        name: "turning",
+        least: 0,
+        most: 100,
+        default: 25,
+        help: "Percent of cars that turn, 0 to 100 [default: 25]",
+    },
+];
 
-// The cars that wait on each road of each junction at the start.
-const CARS: u32 = 4;
-
-// The time between two changes of the lights, in ticks.
-const GREEN: u32 = 12;
-
-// The shortest passage to the next junction, in ticks.
-const TRAVEL: u32 = 5;
-
-// The share of cars that turn, in percent.
-const TURNING: u32 = 25;
-
-// The end of the run, in ticks.
-const END: u64 = 100;
-
-// The seed of the run's random words.
-const SEED: u64 = 1;
-
-fn main(rt: HostRuntime) -> Result<(), anyhow::Error> {
-    let model = Traffic::new(COLUMNS, CARS, GREEN, TRAVEL, TURNING)?;
-    let config = Config::new(COLUMNS * ROWS, 1, END, SEED)?;
-    let mut run = Sequential::new(rt.alloc(), &model, config)?;
-    let records = run.run(rt.alloc())?;
-    print_records(&mut rt.stdout(), records.as_slice(), Version::Two)?;
-    Ok(())
+fn main(rt: HostRuntime) -> ExitCode {
+    let mut streams = Streams {
+        input: rt.stdin(),
+        output: rt.stdout(),
+        errors: rt.stderr(),
+    };
+    let status = run_program(&rt, &mut streams, &TEXTS, &OPTIONS, |values| {
+        Traffic::new(values[0], values[1], values[2], values[3], values[4]).ok()
+    });
+    ExitCode::from(status)
 }

@@ -4,3 +4,4 @@ pub mod PrintLemmas
 pub mod OutcomeLemmas
 pub mod ReplyLemmas
 pub mod ReplayLemmas
+pub mod OneModelLemmas

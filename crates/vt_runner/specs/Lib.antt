@@ -3,3 +3,4 @@ pub mod Runs
 pub mod Replays
 pub mod Replying
 pub mod Outcomes
+pub mod OneModel

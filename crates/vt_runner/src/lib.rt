@@ -1,12 +1,17 @@
 //! Runs and replays of any model, as a program makes them.
 //!
-//! [`simulate`] and [`replay`] write what the program writes, and [`tell_refusal`] says why it refused.
+//! [`simulate`] and [`replay`] write what the program writes, and [`tell_refusal`] says why it refused. [`run_program`] is
+//! a whole program of one model, with options of its own.
 #![tactic(auto)]
 
+mod one_model;
+mod process;
 mod refusal;
 mod replaying;
 mod simulation;
 
+pub use one_model::{Streams, model_program};
+pub use process::run_program;
 pub use refusal::tell_refusal;
 pub use replaying::replay;
 pub use simulation::simulate;

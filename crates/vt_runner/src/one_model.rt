@@ -1,0 +1,150 @@
+//! A whole program of one model, as a function of its words, a reader and two writers.
+
+ghost use Rattle.std.specs.Prelude.{◌≡◌, ◌≢◌, List, length, map, codes, OnOk, IfErr};
+ghost use Rattle.std.specs.Fn.{FnReturnsAt};
+ghost use Rattle.std.specs.Io.KnownBytes.{Keeps};
+ghost use Rattle.clap.specs.Words.{Text};
+ghost use Rattle.vt_key.specs.declared.fault.Fault.{Fault};
+ghost use Rattle.vt_options.specs.Own.{HaveDefaults, AreWithin, own_app, own_line};
+ghost use Rattle.vt_options.specs.Requests.{AreBy, AskHelpOf, IsRefusedAsOf};
+ghost use Rattle.vt_runner.specs.Refusals.{TellsRefusalOf, status_of};
+ghost use Rattle.vt_runner.specs.OneModel.{IsDoneOf, EndsOf, AskBadLineOf};
+
+use crate::{replay, simulate, tell_refusal};
+use std::alloc::Global;
+use std::convert::AsStr;
+use std::io::{Read, Write};
+use std::sync::Wait;
+use std::thread::Threads;
+use vt_key::Fault;
+use vt_model::Model as EventModel;
+use vt_options::{OwnOption, ProgramTexts, Request, read_request};
+use vt_text::write_bytes;
+
+/// The streams of a program.
+#[derive(Debug, Drop)]
+pub struct Streams<R, O, E> {
+    /// What a replay reads its steps from.
+    pub input: R,
+    /// Where records, answers and help go.
+    pub output: O,
+    /// Where the line of a refusal goes.
+    pub errors: E,
+}
+
+/// Does what the words ask for.
+fn answer<
+    H: Threads + Wait + Sync,
+    M: EventModel + Sync + Drop,
+    F: Fn(&[u32]) -> Option<M>,
+    S: AsStr,
+    R: Read,
+    O: Write,
+>(
+    rt: &H,
+    alloc: Global,
+    words: &[S],
+    texts: &ProgramTexts,
+    own: &[OwnOption],
+    make: &F,
+    reader: &mut R,
+    out: &mut O,
+) -> Result<(), Fault>
+where
+    M::State: Send,
+    M::Kept: Send,
+    requires defaults { HaveDefaults own.now }
+    requires callable { (values : _) → length values.now ≡ length own.now → AreWithin own.now values.now → F.pre make.now values }
+    ensures ok { OnOk result (IsDoneOf M.handlers (λ values made. FnReturnsAt F.Fn make.now values made) texts.now.name.now own.now (map S.text words.now) (R.remaining reader.old) (O.contents out.old) (O.contents out.new)) }
+    ensures err { IfErr result (λ fault. EndsOf M.handlers (λ values made. FnReturnsAt F.Fn make.now values made) texts.now.name.now own.now fault (map S.text words.now) (R.remaining reader.old) (O.contents out.old) (O.contents out.new)) }
+    ensures unread { ¬ AreBy (own_app texts.now.name.now own.now) (codes "replay") (map S.text words.now) → Keeps (R.remaining reader.old) (R.remaining reader.new) }
+{
+    match read_request(alloc, texts, own, words)? {
+        Request::Help(text) => write_bytes(out, text.as_bytes()),
+        Request::Run(settings, values) => {
+            let Some(model) = make(values.as_slice()) else {
+                return Err(Fault::BadOption("values"));
+            };
+            simulate(rt, alloc, &model, &settings, out)
+        }
+        Request::Replay(settings, values) => {
+            let Some(model) = make(values.as_slice()) else {
+                return Err(Fault::BadOption("values"));
+            };
+            replay(alloc, &model, &settings, reader, out)
+        }
+    }
+}
+
+/// A whole program of one model: does what the words ask for, and returns the exit status. The first word is the program's
+/// name, `own` are the model's options, and `make` makes the model of their values.
+///
+/// The words are those of `./twarp`, with the model's options in the place of its models': `run`, `replay` or help, with
+/// `--workers`, `--lps`, `--end`, `--seed`, `--text` and the model's options, `--synch` and `--turns` for `run` alone, and
+/// `--serial` for `replay` alone.
+///
+/// Status 0: the output got all that the words ask for, and nothing else. This is the help, or the records of the model's
+/// sequential run, or for a replay of the step text from the input a line for each step's answer, and then what the world
+/// shows. The model is one that `make` gives for the values that the words give; an option that they don't give has its
+/// default.
+///
+/// Any other status comes with one line `NAME: refused N TEXT` on `errors`, or a beginning of it if `errors` fails. The
+/// status depends on N alone: 2 for 7, 3 for 8, and 1 for the others. The committed records of a run in threads are those
+/// below some time, a beginning of all.
+///
+/// - N = 1: memory was refused. Nothing was written; or of a replay, the lines of all answers; or of a run in threads, the
+///   committed records.
+/// - N = 3: the committed records of a run in threads couldn't be read. Those below some time were written.
+/// - N = 5: a send number of a run would pass 2^63, or a serial of a run in threads or at the starts of a replay. Nothing
+///   was written; or of a run in threads, the committed records.
+/// - N = 6: a worker of a run in threads made all its turns before the end of the run. The committed records were written.
+/// - N = 7: the words or the input are refused, and nothing was written. TEXT names the first bad option, `command-line` if
+///   the words have no meaning, `values` if `make` makes no model of the values, or `input`.
+/// - N = 8: the step text has a bad line. TEXT names the first one. Nothing was run, and nothing was written.
+/// - N = 9: the output failed. A beginning of the text was written.
+pub fn model_program<
+    H: Threads + Wait + Sync,
+    M: EventModel + Sync + Drop,
+    F: Fn(&[u32]) -> Option<M>,
+    S: AsStr,
+    R: Read,
+    O: Write,
+    E: Write,
+>(
+    rt: &H,
+    alloc: Global,
+    words: &[S],
+    streams: &mut Streams<R, O, E>,
+    texts: &ProgramTexts,
+    own: &[OwnOption],
+    make: F,
+) -> u8
+where
+    M::State: Send,
+    M::Kept: Send,
+    requires defaults { HaveDefaults own.now }
+    requires callable { (values : _) → length values.now ≡ length own.now → AreWithin own.now values.now → F.pre make values }
+    ensures done { result ≡ 0 → IsDoneOf M.handlers (λ values made. FnReturnsAt F.Fn make values made) texts.now.name.now own.now (map S.text words.now) (R.remaining streams.old.input) (O.contents streams.old.output) (O.contents streams.new.output) }
+    ensures silent { result ≡ 0 → Keeps (E.contents streams.old.errors) (E.contents streams.new.errors) }
+    ensures refused { result ≢ 0 → (fault : Fault) × (result ≡ status_of fault)
+        × EndsOf M.handlers (λ values made. FnReturnsAt F.Fn make values made) texts.now.name.now own.now fault (map S.text words.now) (R.remaining streams.old.input) (O.contents streams.old.output) (O.contents streams.new.output)
+        × TellsRefusalOf texts.now.name.now fault (E.contents streams.old.errors) (E.contents streams.new.errors) }
+    ensures untouched { (name : Text) → IsRefusedAsOf (own_line texts.now.name.now own.now) (map S.text words.now) name → ¬ AskHelpOf (own_app texts.now.name.now own.now) (map S.text words.now)
+        → (result ≢ 0) × Keeps (O.contents streams.old.output) (O.contents streams.new.output) }
+    ensures unrun { AskBadLineOf M.handlers (λ values made. FnReturnsAt F.Fn make values made) texts.now.name.now own.now (map S.text words.now) (R.remaining streams.old.input) → (result ≢ 0) × Keeps (O.contents streams.old.output) (O.contents streams.new.output) }
+    ensures unread { ¬ AreBy (own_app texts.now.name.now own.now) (codes "replay") (map S.text words.now) → Keeps (R.remaining streams.old.input) (R.remaining streams.new.input) }
+{
+    match answer(
+        rt,
+        alloc,
+        words,
+        texts,
+        own,
+        &make,
+        &mut streams.input,
+        &mut streams.output,
+    ) {
+        Ok(()) => 0,
+        Err(fault) => tell_refusal(&mut streams.errors, texts.name, fault),
+    }
+}

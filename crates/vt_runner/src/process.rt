@@ -1,0 +1,76 @@
+//! A whole program of one model, over the words of its process.
+
+ghost use Rattle.std.specs.Prelude.{◌≡◌, ◌≢◌, ◌⊎◌, List, length, Some, codes, IfErr};
+ghost use Rattle.std.specs.Fn.{FnReturnsAt};
+ghost use Rattle.std.specs.Io.KnownBytes.{Keeps};
+ghost use Rattle.clap.specs.Words.{Text};
+ghost use Rattle.vt_key.specs.Faults.{option_named};
+ghost use Rattle.vt_key.specs.declared.fault.Fault.{Fault};
+ghost use Rattle.vt_key.specs.declared.fault.Fault.TheVariants.{Memory};
+ghost use Rattle.vt_options.specs.Own.{HaveDefaults, AreWithin};
+ghost use Rattle.vt_runner.specs.Refusals.{TellsRefusalOf, status_of};
+ghost use Rattle.vt_runner.specs.OneModel.{IsDoneOf, EndsOf};
+
+use crate::one_model::{Streams, model_program};
+use crate::tell_refusal;
+use std::env;
+use std::env::Env;
+use std::io::{ErrorKind, Read, Write};
+use std::sync::Wait;
+use std::thread::Threads;
+use vt_key::Fault;
+use vt_model::Model as EventModel;
+use vt_options::{OwnOption, ProgramTexts};
+
+/// The process's words. No contract says that they are these: the library's `env::args` has none.
+///
+/// [`Fault::Memory`]: memory was refused. [`Fault::BadOption`] with `command-line`: a word isn't text.
+fn words_of<H: Env + AllocGlobal>(rt: &H) -> Result<Vec<String>, Fault>
+    ensures refused { IfErr result (λ fault. (fault ≡ Memory) ⊎ (option_named fault ≡ Some (codes "command-line"))) }
+{
+    match env::args(rt) {
+        Ok(words) => words.collect(rt.alloc()).map_err(|_| Fault::Memory),
+        Err(error) if error.kind() == ErrorKind::OutOfMemory => Err(Fault::Memory),
+        // A word that isn't text has no meaning.
+        Err(_) => Err(Fault::BadOption("command-line")),
+    }
+}
+
+/// The whole program of a model: does what the words of the process ask for, as [`model_program`] says, and returns the exit
+/// status.
+///
+/// `texts` is what help shows of the program, `own` are the model's options, and `make` makes the model of their values,
+/// which come in the order of `own`, each in its range. `None`: these values make no model, and the program refuses them.
+///
+/// No contract says what the words of the process are: status 0 means that for some words all that they ask for was written.
+pub fn run_program<
+    H: Threads + Wait + Sync + Env + AllocGlobal,
+    M: EventModel + Sync + Drop,
+    F: Fn(&[u32]) -> Option<M>,
+    R: Read,
+    O: Write,
+    E: Write,
+>(
+    rt: &H,
+    streams: &mut Streams<R, O, E>,
+    texts: &ProgramTexts,
+    own: &[OwnOption],
+    make: F,
+) -> u8
+where
+    M::State: Send,
+    M::Kept: Send,
+    requires defaults { HaveDefaults own.now }
+    requires callable { (values : _) → length values.now ≡ length own.now → AreWithin own.now values.now → F.pre make values }
+    ensures done { result ≡ 0 → (words : List Text) × IsDoneOf M.handlers (λ values made. FnReturnsAt F.Fn make values made) texts.now.name.now own.now words (R.remaining streams.old.input) (O.contents streams.old.output) (O.contents streams.new.output) }
+    ensures silent { result ≡ 0 → Keeps (E.contents streams.old.errors) (E.contents streams.new.errors) }
+    ensures refused { result ≢ 0 → (fault : Fault) × (result ≡ status_of fault)
+        × (((words : List Text) × EndsOf M.handlers (λ values made. FnReturnsAt F.Fn make values made) texts.now.name.now own.now fault words (R.remaining streams.old.input) (O.contents streams.old.output) (O.contents streams.new.output))
+            ⊎ Keeps (O.contents streams.old.output) (O.contents streams.new.output))
+        × TellsRefusalOf texts.now.name.now fault (E.contents streams.old.errors) (E.contents streams.new.errors) }
+{
+    match words_of(rt) {
+        Ok(words) => model_program(rt, rt.alloc(), words.as_slice(), streams, texts, own, make),
+        Err(fault) => tell_refusal(&mut streams.errors, texts.name, fault),
+    }
+}
