@@ -1,5 +1,5 @@
 -- The options of a model of one's own, as a table, and a command line with them.
-use Rattle.std.specs.Prelude.{◌≡◌, ◌⊎◌, ℕ, Bool, true, List, [], ◌∷◌, ◌++◌, map, length, Option, Some, None, codes}
+use Rattle.std.specs.Prelude.{◌≡◌, ◌⊎◌, ℕ, Bool, true, List, [], ◌∷◌, ◌++◌, map, Option, Some, None, codes}
 use Rattle.std.specs.List.{list_all, AllZip}
 use Rattle.clap.specs.Words.{App, Text}
 use Rattle.vt_key.specs.declared.fault.Fault.{Fault}

@@ -1,5 +1,5 @@
 -- What a program of one model does, by what its parts did.
-use Rattle.std.proofs.Common.{◌≡◌, ◌∙◌, ℕ, ◌≤◌, List, Option, Some, None, inl, inr, sym, ap, length, map, codes}
+use Rattle.std.proofs.Common.{◌≡◌, ◌∙◌, ℕ, ◌≤◌, List, Option, Some, None, inl, inr, sym, ap, length, codes}
 use Rattle.std.specs.Io.KnownBytes.{Appends, Keeps}
 use Rattle.std.proofs.lemmas.List.{length-map}
 use Rattle.clap.specs.Words.{Text}
@@ -26,10 +26,10 @@ use Rattle.vt_runner.proofs.OutcomeLemmas as outcomes
 -- as many values are given as there are options
 pub values_are : (given : Given) (own : List OwnOption) (values : List ℕ) → GiveValues given own values → length values ≡ length own
 values_are given own values h =
-    sym (length-map Some values)
+    sym (length-map values Some)
     ∙ sym (ap length h)
-    ∙ length-map (value_in given) (number_table own)
-    ∙ length-map number_option own
+    ∙ length-map (number_table own) (value_in given)
+    ∙ length-map own number_option
 
 -- serials begin within their limit
 pub serial_counted : (name : Text) (own : List OwnOption) (words : List Text) (s : ReplaySettings) (values : List ℕ) → AskOwnReplay name own words s values → s.serial ≤ MAX_COUNT
