@@ -50,13 +50,7 @@ pub fn run_program<
     R: Read,
     O: Write,
     E: Write,
->(
-    rt: &H,
-    streams: &mut Streams<R, O, E>,
-    texts: &ProgramTexts,
-    own: &[OwnOption],
-    make: F,
-) -> u8
+>(rt: &H, streams: &mut Streams<R, O, E>, texts: &ProgramTexts, own: &[OwnOption], make: F) -> u8
 where
     M::State: Send,
     M::Kept: Send,
@@ -66,7 +60,7 @@ where
     ensures silent { result ≡ 0 → Keeps (E.contents streams.old.errors) (E.contents streams.new.errors) }
     ensures refused { result ≢ 0 → (fault : Fault) × (result ≡ status_of fault)
         × (((words : List Text) × EndsOf M.handlers (λ values made. FnReturnsAt F.Fn make values made) texts.now.name.now own.now fault words (R.remaining streams.old.input) (O.contents streams.old.output) (O.contents streams.new.output))
-            ⊎ Keeps (O.contents streams.old.output) (O.contents streams.new.output))
+        ⊎ Keeps (O.contents streams.old.output) (O.contents streams.new.output))
         × TellsRefusalOf texts.now.name.now fault (E.contents streams.old.errors) (E.contents streams.new.errors) }
 {
     match words_of(rt) {
