@@ -5,3 +5,4 @@ pub mod OutcomeLemmas
 pub mod ReplyLemmas
 pub mod ReplayLemmas
 pub mod OneModelLemmas
+pub mod ShareLemmas

@@ -5,6 +5,7 @@
 #![tactic(auto)]
 
 mod one_model;
+mod printing;
 mod process;
 mod refusal;
 mod replaying;

@@ -92,11 +92,11 @@ where
 /// status depends on N alone: 2 for 7, 3 for 8, and 1 for the others. The committed records of a run in threads are those
 /// below some time, a beginning of all.
 ///
-/// - N = 1: memory was refused. Nothing was written; or of a replay, the lines of all answers; or of a run in threads, the
-///   committed records.
+/// - N = 1: memory was refused. Nothing was written; or of a sequential run, a beginning of the text; or of a replay, the
+///   lines of all answers; or of a run in threads, the committed records.
 /// - N = 3: the committed records of a run in threads couldn't be read. Those below some time were written.
 /// - N = 5: a send number of a run would pass 2^63, or a serial of a run in threads or at the starts of a replay. Nothing
-///   was written; or of a run in threads, the committed records.
+///   was written; or of a sequential run, a beginning of the text; or of a run in threads, the committed records.
 /// - N = 6: a worker of a run in threads made all its turns before the end of the run. The committed records were written.
 /// - N = 7: the words or the input are refused, and nothing was written. TEXT names the first bad option, `command-line` if
 ///   the words have no meaning, `values` if `make` makes no model of the values, or `input`.

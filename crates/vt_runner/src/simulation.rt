@@ -4,6 +4,7 @@ ghost use Rattle.std.specs.Prelude.{OnOk, IfErr};
 ghost use Rattle.std.specs.Io.KnownBytes.{Appends};
 ghost use Rattle.vt_runner.specs.Runs.{run_text, text_below, PassesInRun, StopsRun, StopsWork, StopsBy};
 
+use crate::printing::print_in_threads;
 use std::alloc::Global;
 use std::io::Write;
 use std::sync::Wait;
@@ -59,7 +60,14 @@ where
     ensures err { IfErr result (StopsWork (text_below options.now.text (M.handlers model.now) options.now.config) (run_text options.now.text (M.handlers model.now) options.now.config) (O.contents out.old) (O.contents out.new)) }
 {
     match run_workers(rt, alloc, options.config, model, &Open, options.turns) {
-        Ok(records) => print_records(out, records.as_slice(), options.text),
+        Ok(records) => print_in_threads(
+            rt,
+            alloc,
+            out,
+            records.as_slice(),
+            options.text,
+            options.config.workers as usize,
+        ),
         Err(stopped) => {
             print_records(out, stopped.records.as_slice(), options.text)?;
             Err(stopped.fault)
