@@ -42,6 +42,7 @@ pub mod MemoryLemmas
 pub mod HistoriesTheorem
 pub mod Records
 pub mod ReachedBooks
+pub mod FinalValues
 pub mod EachOnce
 pub mod HeadlineTheorem
 pub mod MarkedRuns

@@ -1,19 +1,19 @@
 -- The book in every reached world: it is accounted for, nothing falls in any further steps, and once closed it is whole.
-use Rattle.std.proofs.Common.{◌≡◌, ℕ, ◌/◌, ◌%◌, true, false, cond, List, [], ◌∷◌, ◌++◌, refl, sym, subst, ◌∙◌, ap, arith, slice_get}
+use Rattle.std.proofs.Common.{◌≡◌, ℕ, ◌/◌, ◌%◌, ◌<◌, true, false, cond, List, [], ◌∷◌, ◌++◌, refl, sym, subst, ◌∙◌, ap, arith, slice_get}
 use Rattle.std.specs.Prelude.{IsTrue}
 use Rattle.vt_key.specs.Order.{RankBefore}
 use Rattle.vt_key.specs.Times.{TimeAtMost, TimeBefore}
 use Rattle.vt_key.specs.declared.fault.Fault.TheVariants.{Closed}
 use Rattle.vt_model.specs.declared.sending.Sent.{Sent}
 use Rattle.vt_model.specs.Histories.{IsLawful}
-use Rattle.vt_model.specs.Sequential.{seq_records}
+use Rattle.vt_model.specs.Sequential.{seq_events, seq_records}
 use Rattle.vt_model.specs.Simulation.{Simulation, after}
 use Rattle.vt_steps.specs.declared.step.Step.{Step}
 use Rattle.vt_steps.specs.declared.step.Step.TheVariants.{Commit, Close}
 use Rattle.vt_steps.specs.Claims.{IsProcess, IsWhole, NothingFalls}
 use Rattle.vt_steps.specs.Letters.{unstamped}
 use Rattle.vt_steps.specs.Next.{close, commit, next, reached, refused, report_lawful, run}
-use Rattle.vt_steps.specs.World.{Entry, LogicalProcess, World, book_floor, book_records, entry_events, least, opening_world}
+use Rattle.vt_steps.specs.World.{Entry, LogicalProcess, World, book_floor, book_records, entry_events, least, opening_world, triple_after}
 use Rattle.vt_steps.proofs.BookRows.{IsBooked, booked-kept, opening-booked}
 use Rattle.vt_steps.proofs.Bounds.{IsBounded, reached-bounds}
 use Rattle.vt_steps.proofs.Changes.{Change, stays, local, sends, fetches, cuts, reports, commits, closes, next_changes}
@@ -128,6 +128,12 @@ module _ {S P : Type 0} (sim : Simulation S P) (lawful : IsLawful sim) (serial :
       (every-weaker (InEntry (IsBounded sim)) (λ (e : Entry P). TimeBefore e.event.rank.key.time sim.end) (process.done ++ process.past) (λ e h. h.event.ends)
       (every-append (InEntry (IsBounded sim)) process.done process.past here.done here.past))
 
+  -- where nothing is unprocessed or travelling each process stands where the run leaves it
+  pub quiet-triple : TimeAtMost sim.end (least sim.end (reached sim serial steps)) → (p : ℕ) (process : LogicalProcess P) → p < sim.lps → IsProcess sim (reached sim serial steps) p process →
+      triple_after sim p (process.done ++ process.past) ≡ after sim p (seq_events sim p sim.end)
+  quiet-triple quiet p process less is =
+      ap (after sim p) (sym (early-events sim.end (entry_events (process.done ++ process.past)) (executed-ends p process is)) ∙ (reached-accounted sim lawful serial steps).histories sim.end p process less quiet is)
+
   -- once closed the book holds the whole run and takes nothing more, and each process stands where the run leaves it
   pub closed-whole : IsTrue (reached sim serial steps).book.is_closed → IsWhole sim (reached sim serial steps)
   closed-whole shut =
@@ -141,6 +147,5 @@ module _ {S P : Type 0} (sim : Simulation S P) (lawful : IsLawful sim) (serial :
         records = (records-right sim lawful world known).records ∙ ap (seq_records sim) at_end;
         no_commit = λ w. closed-commit sim world w shut;
         no_close = closed-close sim world shut;
-        finals = λ p process less is.
-            ap (after sim p) (sym (early-events sim.end (entry_events (process.done ++ process.past)) (executed-ends p process is)) ∙ known.histories sim.end p process less quiet is);
+        finals = quiet-triple quiet;
       }

@@ -12,3 +12,4 @@ pub mod StandsFor
 pub mod Claims
 pub mod Laws
 pub mod Marked
+pub mod Finals

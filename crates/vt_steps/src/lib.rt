@@ -28,4 +28,5 @@ pub use memory::{
 pub use step::{Reply, Step};
 pub use theorem::{
     closed_book_is_whole, floors_are_right, guards_never_fail, headline, records_are_right,
+    values_at_the_end_are_final,
 };

@@ -3,12 +3,15 @@
 //! "After any steps" means: in the world that a list of the eleven steps makes of the opening world. The simulation
 //! is any that meets the laws, and the first serials are any. The list may contain steps that are refused.
 
-ghost use Rattle.std.specs.Prelude.{ℕ, ◌≡◌, IsTrue, List};
+ghost use Rattle.std.specs.Prelude.{ℕ, ◌≡◌, IsTrue, List, Some, slice_get};
+ghost use Rattle.vt_key.specs.Times.{TimeAtMost};
 ghost use Rattle.vt_model.specs.Simulation.{Simulation};
 ghost use Rattle.vt_model.specs.Histories.{IsLawful};
 ghost use Rattle.vt_model.specs.Rows.{AreRowsRising};
 ghost use Rattle.vt_steps.specs.declared.step.Step.{Step};
 ghost use Rattle.vt_steps.specs.Rows.{rows_in_order};
+ghost use Rattle.vt_steps.specs.World.{Part, least};
+ghost use Rattle.vt_steps.specs.Finals.{worker_finals, part_values};
 ghost use Rattle.vt_steps.specs.Next.{reached, run};
 ghost use Rattle.vt_steps.specs.Claims.{AreFloorsRight, AreRecordsRight, NothingFalls, IsWhole, DoGuardsPass, IsTimeWarpRight};
 
@@ -48,6 +51,19 @@ pub fn closed_book_is_whole<S, P>()
     ensures stays { (serial : ℕ) (steps more : List Step) →
         IsTrue (reached sim serial steps).book.is_closed →
         (run sim (reached sim serial steps) more).book ≡ (reached sim serial steps).book }
+{}
+
+/// Once a worker's floor is the end of the run, nothing is unprocessed or travelling any more, whether the book is closed or
+/// not. The processes of each worker then have their final values: those of the sequential run, after the whole run.
+pub fn values_at_the_end_are_final<S, P>()
+    ghost sim: { Simulation S P }
+    requires { IsLawful sim }
+    ensures quiet { (serial : ℕ) (steps : List Step) (w : ℕ) (part : Part P) →
+        slice_get (reached sim serial steps).parts w ≡ Some part → TimeAtMost sim.end part.floor →
+        TimeAtMost sim.end (least sim.end (reached sim serial steps)) }
+    ensures values { (serial : ℕ) (steps : List Step) (w v : ℕ) (part other : Part P) →
+        slice_get (reached sim serial steps).parts w ≡ Some part → TimeAtMost sim.end part.floor →
+        slice_get (reached sim serial steps).parts v ≡ Some other → part_values sim v other ≡ worker_finals sim v }
 {}
 
 /// After any steps, four guards never fail. A letter that comes home or is accepted is never held already, so it is
