@@ -56,6 +56,13 @@ impl<M: EventModel> Lp<M> {
         &self.process.state
     }
 
+    /// What the model's `finish` makes of the state.
+    pub fn finish(&self, model: &M) -> u64
+        ensures { result ≡ (M.handlers model.now).finish self.now.lp self.now.triple.state }
+    {
+        model.finish(self.lp, &self.process.state)
+    }
+
     /// The number of the next send: how many events the process has sent, including those at or past the end of the
     /// run. Undone sends don't count.
     pub fn number(&self) -> u64
