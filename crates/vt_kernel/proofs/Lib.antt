@@ -1,4 +1,5 @@
 pub mod CommitLemmas
+pub mod FinalLemmas
 pub mod ProcessLemmas
 pub mod OwnSteps
 pub mod SettlingLemmas

@@ -53,6 +53,10 @@ module _ {S P K : Type 0} (handlers : Handlers S P K) where
   abbrev pub StandsFor : HeldWorker S P K → Part P → Type 0
   StandsFor held part = StandsForPart (simulation_of handlers held.config) held.worker (part_memory held) part
 
+-- what is made of the states of these processes
+abbrev pub held_values : {S P K : Type 0} → Handlers S P K → List (HeldProcess S P K) → List ℕ
+held_values handlers held = map (λ process. handlers.finish process.lp process.triple.state) held
+
 -- p is a process of worker w
 pub record IsProcessOf (config : Config) (w p : ℕ) : Type 0 where
   pub known : p < config.lps

@@ -3,7 +3,10 @@
 ghost use Rattle.std.specs.Prelude.{◌≡◌, ◌⊎◌, ◌%◌, ◌^◌, length, map, Some, IfSome, IfNone, IfOk, IfErr, OnOk};
 ghost use Rattle.std.specs.Option.{option_copied, option_map};
 ghost use Rattle.vt_key.specs.declared.fault.Fault.TheVariants.{Memory, NotLawful};
-ghost use Rattle.vt_kernel.specs.Held.{process_of, IsProcessOf};
+ghost use Rattle.vt_model.specs.Simulation.{simulation_of};
+ghost use Rattle.vt_steps.specs.World.{Part};
+ghost use Rattle.vt_steps.specs.Finals.{part_values};
+ghost use Rattle.vt_kernel.specs.Held.{StandsFor, held_values, process_of, IsProcessOf};
 
 use crate::kernel::Kernel;
 use std::alloc::Global;
@@ -70,6 +73,17 @@ impl<M: EventModel> Kernel<M> {
         Some(self.process(p)?.waiting_len())
     }
 
+    /// What the model's `finish` makes of the state of each process, in rising order of processes. These are the final values
+    /// once no event is unprocessed or travelling any more.
+    ///
+    /// [`Fault::Memory`]: memory was refused.
+    pub fn finals(&self, alloc: Global, model: &M) -> Result<Vec<u64>, Fault>
+        ensures values { (part : Part _) → StandsFor (M.handlers model.now) self.now part → IfOk result (λ v. v.items ≡ part_values (simulation_of (M.handlers model.now) self.now.config) self.now.worker part) }
+        ensures refused { IfErr result (λ fault. fault ≡ Memory) }
+    {
+        values_of(alloc, model, &self.processes)
+    }
+
     /// The past events of process `p`, in the order of their execution.
     ///
     /// [`Fault::NotLawful`]: `p` isn't one of this worker's processes. [`Fault::Memory`]: it is, and memory was
@@ -84,4 +98,22 @@ impl<M: EventModel> Kernel<M> {
         };
         process.past_events(alloc)
     }
+}
+
+/// What the model's `finish` makes of the states of these processes.
+fn values_of<M: EventModel>(
+    alloc: Global,
+    model: &M,
+    processes: &[Lp<M>],
+) -> Result<Vec<u64>, Fault>
+    ensures values { IfOk result (λ v. v.items ≡ held_values (M.handlers model.now) processes.now) }
+    ensures refused { IfErr result (λ fault. fault ≡ Memory) }
+{
+    let mut values = Vec::new(alloc);
+    for process in processes {
+        let Ok(()) = values.push(process.finish(model)) else {
+            return Err(Fault::Memory);
+        };
+    }
+    Ok(values)
 }

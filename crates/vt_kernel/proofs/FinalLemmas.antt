@@ -1,0 +1,23 @@
+-- What is made of the states of a worker's processes: the same in memory as in the part that it stands for.
+use Rattle.std.proofs.Common.{◌≡◌, ℕ, ◌+◌, List, [], ◌∷◌, map, refl, sym}
+use Rattle.vt_model.specs.declared.settings.Config.{Config}
+use Rattle.vt_model.specs.Handler.{Handlers}
+use Rattle.vt_model.specs.Simulation.{simulation_of}
+use Rattle.vt_steps.specs.Finals.{values_of_processes}
+use Rattle.vt_steps.specs.StandsFor.{StandForProcesses}
+use Rattle.vt_steps.specs.World.{LogicalProcess, process_at}
+use Rattle.vt_steps.proofs.MemoryLemmas.{is_where}
+use Rattle.vt_lp.specs.Held.{HeldProcess, process_memory}
+use Rattle.vt_kernel.specs.Held.{held_values, AreProcesses}
+
+module _ {S P K : Type 0} (handlers : Handlers S P K) (config : Config) (w : ℕ) where
+  pub values-stood : (place : ℕ) (held : List (HeldProcess S P K)) (processes : List (LogicalProcess P)) → AreProcesses config w place held
+      → StandForProcesses (simulation_of handlers config) w place (map (process_memory handlers) held) processes → held_values handlers held ≡ values_of_processes (simulation_of handlers config) w place processes
+  values-stood place [] [] are stand = refl
+  values-stood place [] (p ∷ ps) are stand = absurd stand
+  values-stood place (q ∷ qs) [] are stand = absurd stand
+  values-stood place (q ∷ qs) (p ∷ ps) are stand =
+      let sim = simulation_of handlers config in
+      let triple = sym (is_where sim (process_at sim w place) (process_memory handlers q) p stand.0) in
+      let rest = values-stood (place + 1) qs ps are.2 stand.1 in
+      λ j. handlers.finish (are.0 j) (triple j).state ∷ rest j
