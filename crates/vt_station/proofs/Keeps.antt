@@ -24,7 +24,7 @@ use Rattle.vt_station.specs.declared.view.View.{View}
 use Rattle.vt_station.specs.Hands.{empty_hand, holding}
 use Rattle.vt_station.specs.Slots.{cell_count, word_at, empty_word, claimed_word, cell_at, held_in, IsSlotOf}
 use Rattle.vt_station.specs.Kept.{Standing, Sat, positions_of, IsClaimed, Sits, IsAtHome, IsHeld, Kept, Rests}
-use Rattle.vt_station.specs.Calls.{Known, Took, ShowsFloor}
+use Rattle.vt_station.specs.Calls.{IsShown, Known, Took, ShowsFloor}
 use Rattle.vt_station.proofs.Positions.{positions-longer, positions-kept, own-kept}
 use Rattle.vt_station.proofs.Cells.{not-empty, same-cell_held, same-found, inbox-name, names-apart, words-apart, holds-book}
 
@@ -257,6 +257,20 @@ module _ {S P : Type 0} (sim : Simulation S P) (config : Config) where
         unstepped s r id (word_at k) claimed_word m.0 at z,
         ((λ ne. absurd (ne z)), λ _. (refl, others z)),
       )
+
+  -- what a load tells that changes nothing
+  abbrev pub Read : Sat P → Sat P → Type 0
+  Read m after = (after ≡ m) × IsShown sim m.0
+
+  -- a load of any word tells the place a list of steps after which the shown world has its part
+  pub reads : (slots id i : ℕ) (m : Sat P) → Allows (Kept sim config) slots id m i (λ n. n) (λ _ after. Read m after)
+  reads slots id i m s r deep at small = (
+    m.0,
+    keeps,
+    tt,
+    unstepped s r id i (get_or s.words i 0) m.0 at refl,
+    (refl, record { log = r.log; part = (r.each id m.0 at).part }),
+  )
 
   -- ---- a release
 

@@ -16,4 +16,5 @@ pub mod BookLemmas
 pub mod RefusalLemmas
 pub mod CommitAt
 pub mod ReachLemmas
+pub mod FinalLemmas
 pub mod CrewLemmas

@@ -23,8 +23,9 @@ pub record IsAtWork {M S P K : Type 0} (handlers : M → Handlers S P K) (told :
   pub model_is : told ≡ w.model
   pub reaches : Reaches (handlers w.model) w.config w.view w.kernel
 
--- the worker is at the same station as before, with the same model
+-- it is the same worker at the same station as before, with the same model
 pub record IsAtSameStation {M S P K : Type 0} (v w : AtWork M S P K) : Type 0 where
+  pub worker : w.view.worker ≡ v.view.worker
   pub model : w.model ≡ v.model
   pub config : w.config ≡ v.config
   pub table : w.table ≡ v.table

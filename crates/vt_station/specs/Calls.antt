@@ -64,6 +64,11 @@ module _ {P : Type 0} where
 -- ---- cells
 
 module _ {S P : Type 0} (sim : Simulation S P) where
+  -- a list of steps after which the shown world has the place's part: what a load tells
+  pub record IsShown (v : View P) : Type 0 where
+    pub log : List Marked
+    pub part : slice_get (shown sim log).parts v.worker ≡ Some v.part
+
   -- a list of steps in which the place's are its own, and that shows its part and this in cell k: what a claim tells
   pub record Known (v : View P) (k : ℕ) (cell : Cell P) : Type 0 where
     pub log : List Marked

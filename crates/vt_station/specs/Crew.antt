@@ -1,5 +1,5 @@
 -- The work of a crew of workers.
-use Rattle.std.specs.Prelude.{◌≡◌, ◌⊎◌, ℕ, ◌<◌, List, [], ◌∷◌, length, All, Option, Some, None, slice_get}
+use Rattle.std.specs.Prelude.{◌≡◌, ◌⊎◌, ℕ, ◌<◌, List, [], ◌∷◌, length, All, Option, Some, None, slice_get, slice_index_or, IfSome}
 use Rattle.atomic_table.specs.Seated.{TableId}
 use Rattle.vt_key.specs.declared.fault.Fault.{Fault}
 use Rattle.vt_key.specs.declared.fault.Fault.TheVariants.{Busy, TurnsSpent}
@@ -7,6 +7,7 @@ use Rattle.vt_model.specs.declared.settings.Config.{Config}
 use Rattle.vt_model.specs.declared.rows.Record.{Record}
 use Rattle.vt_model.specs.Handler.{Handlers}
 use Rattle.vt_model.specs.Simulation.{Simulation, simulation_of}
+use Rattle.vt_steps.specs.Finals.{worker_finals}
 use Rattle.vt_station.specs.declared.place.Place.{Place}
 use Rattle.vt_station.specs.declared.driver.Outcome.{Outcome}
 use Rattle.vt_station.specs.declared.driver.Outcome.TheVariants.{Closed, Refused}
@@ -28,8 +29,10 @@ pub record AtJob (M P : Type 0) : Type 0 where
   pub worker : ℕ
   pub place : Option (Place P)
   pub outcome : Option Outcome
+  pub finals : Option (List ℕ)
 
--- what holds of it between calls: the station was told this model and this config, and there is a place
+-- what holds of it between calls: the station was told this model and this config, there is a place, and the final values, if there
+-- are any, are those of the worker's processes
 pub record IsJob {M S P K : Type 0} (handlers : M → Handlers S P K) (told : M) (known : Config) (j : AtJob M P) : Type 0 where
   pub model_is : told ≡ j.model
   pub config_is : known ≡ j.config
@@ -38,6 +41,7 @@ pub record IsJob {M S P K : Type 0} (handlers : M → Handlers S P K) (told : M)
   pub place_is : j.place ≡ Some there
   pub table_is : place_table there ≡ j.table
   pub left : IsLeft (simulation_of (handlers j.model) j.config) j.table j.worker j.outcome there
+  pub finals_are : IfSome j.finals (λ values. values ≡ worker_finals (simulation_of (handlers j.model) j.config) j.worker)
 
 -- the work of the same worker for the same model and config
 pub record IsSameJob {M P : Type 0} (i j : AtJob M P) : Type 0 where
@@ -72,9 +76,14 @@ IsToldBy jobs fault records = (NoneClosed jobs × (fault ≡ first_fault jobs)) 
 abbrev pub AllAt : {M P : Type 0} → M → Config → List (AtJob M P) → Type 0
 AllAt model config jobs = All (λ j. (j.model ≡ model) × (j.config ≡ config)) jobs
 
--- the work is that of as many workers as before, for the same model and config
+-- the work is of all workers in order
+abbrev pub AreInOrder : {M P : Type 0} → List (AtJob M P) → Type 0
+AreInOrder {M} {P} jobs = (w : ℕ) (d : AtJob M P) → w < length jobs → (slice_index_or jobs w d).worker ≡ w
+
+-- the work is that of as many workers as before, in the same order, for the same model and config
 pub record IsSameWork {M P : Type 0} (old new : List (AtJob M P)) : Type 0 where
   pub count : length new ≡ length old
+  pub order : AreInOrder old → AreInOrder new
   pub told : (model : M) (config : Config) → AllAt model config old → AllAt model config new
 
 -- why a run stops before its end: memory was refused, a count would pass its limit, or all turns were made; or the book was

@@ -13,7 +13,7 @@ ghost use Rattle.vt_steps.specs.Next.{may_send};
 ghost use Rattle.vt_board.specs.Calls.{reply_of};
 ghost use Rattle.vt_kernel.specs.Held.{StandsFor};
 ghost use Rattle.vt_station.specs.Told.{station_model, station_config, station_table, place_table, place_worker, place_view};
-ghost use Rattle.vt_station.specs.Calls.{Reaches, Visited, Closes, Unvisited, Stays, ShowsFloor, IsPostRefusal, IsFetchRefusal, IsCutRefusal, IsReportRefusal, IsCommitRefusal, IsCloseRefusal, IsRecordsRefusal, IsFloorLeft, AreRecordsShown, IsRefusedOnceClosed, IsRefusedAlone};
+ghost use Rattle.vt_station.specs.Calls.{IsShown, Reaches, Visited, Closes, Unvisited, Stays, ShowsFloor, IsPostRefusal, IsFetchRefusal, IsCutRefusal, IsReportRefusal, IsCommitRefusal, IsCloseRefusal, IsRecordsRefusal, IsFloorLeft, AreRecordsShown, IsRefusedOnceClosed, IsRefusedAlone};
 
 use crate::place::Place;
 use crate::station::Station;
@@ -153,6 +153,16 @@ impl<M: EventModel> Station<M> {
         ensures closed { IsRefusedOnceClosed (place_view place.old) result }
     {
         self.close_at(&mut place.seat)
+    }
+
+    /// Reads one word. So the place learns that the world after some list of steps has its part.
+    pub(crate) fn look(&self, place: &mut Place<M::Payload>)
+        requires own { place_table place.old ≡ station_table self.now }
+        ensures same { (place_table place.new ≡ place_table place.old) × (place_worker place.new ≡ place_worker place.old) }
+        ensures unchanged { place_view place.new ≡ place_view place.old }
+        ensures shown { IsShown (simulation_of (M.handlers (station_model self.now)) (station_config self.now)) (place_view place.old) }
+    {
+        self.look_at(&mut place.seat);
     }
 
     /// Copies of the records that the book shows: exactly the sequential run's below some floor. That floor is at least

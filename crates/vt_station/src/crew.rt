@@ -1,19 +1,21 @@
 //! A thread for each worker, and what comes of their work.
 
-ghost use Rattle.std.specs.Prelude.{◌≡◌, ◌<◌, ◌⊎◌, [], true, false, length, None, Some, IfOk, IfErr, IfSome, IfNone, MatchResult};
+ghost use Rattle.std.specs.Prelude.{◌≡◌, ◌<◌, ◌⊎◌, [], true, false, length, None, Some, IfOk, IfErr, IfSome, IfNone, MatchResult, Ok, Err, ◌*◌, ◌+◌};
 ghost use Rattle.vt_key.specs.Times.{Time as TimeValue};
 ghost use Rattle.vt_model.specs.Simulation.{simulation_of};
-ghost use Rattle.vt_model.specs.Sequential.{seq_records};
+ghost use Rattle.vt_model.specs.Sequential.{seq_records, seq_finals};
 ghost use Rattle.vt_model.specs.Settings.{end_of};
 ghost use Rattle.vt_key.specs.declared.fault.Fault.TheVariants.{Memory, Busy, TurnsSpent};
+ghost use Rattle.vt_steps.specs.Finals.{final_value};
 ghost use Rattle.vt_station.specs.declared.driver.Outcome.TheVariants.{Closed};
+ghost use Rattle.vt_station.specs.declared.driver.Wanted.TheVariants.{Finals};
 ghost use Rattle.vt_station.specs.Told.{station_model, station_config, station_table};
 ghost use Rattle.vt_station.specs.Making.{IsNew, AreNew};
 ghost use Rattle.vt_station.specs.Turns.{IsLasting};
-ghost use Rattle.vt_station.specs.Crew.{IsSameJob, IsSameWork, AllAt, IsClosedAt, NoneClosed, first_fault, IsToldBy, IsStop};
+ghost use Rattle.vt_station.specs.Crew.{IsSameJob, IsSameWork, AllAt, AreInOrder, IsClosedAt, NoneClosed, first_fault, IsToldBy, IsStop};
 
 use crate::bell::{Bells, Start};
-use crate::driver::{Driver, Outcome};
+use crate::driver::{Driver, Outcome, Wanted};
 use crate::gate::Gate;
 use crate::place::Place;
 use crate::station::Station;
@@ -36,6 +38,16 @@ pub struct Stopped {
     pub records: Vec<Record>,
 }
 
+/// A run that went to its end: its records, in the order of the sequential run, and the final value of each process, in rising order
+/// of processes.
+#[derive(Drop)]
+pub struct Finished {
+    /// The records of the whole run.
+    pub records: Vec<Record>,
+    /// What the model's `finish` makes of the state of each process after the whole run.
+    pub finals: Vec<u64>,
+}
+
 /// The work of one worker: what it begins with, and how it ended.
 #[derive(Drop)]
 pub(crate) struct Job<'a, M: EventModel> {
@@ -45,9 +57,12 @@ pub(crate) struct Job<'a, M: EventModel> {
     worker: u32,
     place: Option<Place<M::Payload>>,
     outcome: Option<Outcome>,
+    // The final values of the worker's processes, once they are made.
+    finals: Option<Vec<u64>>,
 }
 
 impl<'a, M: EventModel> Model for Job<'a, M> {
+    ghost use Rattle.std.specs.Option.{option_map};
     ghost use Rattle.vt_station.specs.Told.{station_model, station_config, station_table};
     ghost use Rattle.vt_station.specs.Crew.{AtJob, IsJob};
 
@@ -60,6 +75,7 @@ impl<'a, M: EventModel> Model for Job<'a, M> {
       worker = j.worker;
       place = j.place;
       outcome = j.outcome;
+      finals = option_map (λ v. v.items) j.finals;
     } };
 
     ghost invariant = { λ j. IsJob M.handlers (station_model j.station.now) (station_config j.station.now) (record {
@@ -69,11 +85,12 @@ impl<'a, M: EventModel> Model for Job<'a, M> {
       worker = j.worker;
       place = j.place;
       outcome = j.outcome;
+      finals = option_map (λ v. v.items) j.finals;
     }) };
 }
 
 impl<'a, M: EventModel> Job<'a, M> {
-    /// Makes the kernel and all turns of the worker.
+    /// Makes the kernel and all turns of the worker, and the final values if they are wanted.
     fn work<R: Wait, G: Gate>(
         &mut self,
         rt: &R,
@@ -81,6 +98,7 @@ impl<'a, M: EventModel> Job<'a, M> {
         bells: &Bells,
         gate: &G,
         max_turns: u64,
+        wanted: Wanted,
     )
         requires begins { self.old.outcome ≡ None }
         ensures same { IsSameJob self.old self.new }
@@ -100,6 +118,7 @@ impl<'a, M: EventModel> Job<'a, M> {
             Ok(worker) => {
                 let mut driver = Driver::new(alloc, worker, bells);
                 self.outcome = Some(driver.run(rt, gate, max_turns));
+                self.finals = driver.finals(wanted);
                 self.place = Some(driver.leave());
             }
             Err(NotMade { fault, place }) => {
@@ -119,6 +138,7 @@ impl<'a, M: EventModel> Job<'a, M> {
         bells: &Bells,
         gate: &G,
         max_turns: u64,
+        wanted: Wanted,
     )
         ensures same { IsSameJob self.old self.new }
     {
@@ -126,7 +146,7 @@ impl<'a, M: EventModel> Job<'a, M> {
             return;
         }
         match bells.begin(rt) {
-            Start::Whole => self.work(rt, alloc, bells, gate, max_turns),
+            Start::Whole => self.work(rt, alloc, bells, gate, max_turns, wanted),
             Start::Short => self.outcome = Some(Outcome::Refused(Fault::Memory)),
             Start::Over => self.outcome = Some(Outcome::Spent),
         }
@@ -148,6 +168,19 @@ impl<'a, M: EventModel> Job<'a, M> {
         let Some(place) = place else { unreachable!() };
         station.take_out(alloc, place)
     }
+
+    /// The final value of the worker's process at this index, if it is made.
+    fn final_at(&self, place: usize) -> Option<u64>
+        ensures { IfSome result (λ value. value ≡ final_value (simulation_of (M.handlers self.now.model) self.now.config) (place * self.now.config.workers + self.now.worker)) }
+    {
+        let Some(finals) = &self.finals else {
+            return None;
+        };
+        let Some(value) = finals.get(place) else {
+            return None;
+        };
+        Some(*value)
+    }
 }
 
 /// The work of worker `worker`, which has not begun.
@@ -162,6 +195,7 @@ fn job_of<'a, M: EventModel>(
     requires told { (station_model station.now ≡ model.now) × (station_config station.now ≡ config) }
     requires place { IsNew (simulation_of (M.handlers model.now) config) (station_table station.now) worker place }
     ensures told { (result.model ≡ model.now) × (result.config ≡ config) }
+    ensures worker { result.worker ≡ worker }
 {
     Job {
         station,
@@ -170,6 +204,7 @@ fn job_of<'a, M: EventModel>(
         worker,
         place: Some(place),
         outcome: None,
+        finals: None,
     }
 }
 
@@ -185,6 +220,7 @@ fn jobs_at<'a, M: EventModel>(
     requires count { length places.items ≡ config.workers }
     requires places { AreNew (simulation_of (M.handlers model.now) config) (station_table station.now) 0 places.items }
     ensures told { IfOk result (λ v. AllAt model.now config v.items × (length v.items ≡ config.workers)) }
+    ensures order { IfOk result (λ v. AreInOrder v.items) }
     ensures refused { IfErr result (λ fault. fault ≡ Memory) }
 {
     let mut places = places;
@@ -278,6 +314,83 @@ fn answer_of<M: EventModel>(
     Err(stop_with(alloc, fault, records))
 }
 
+/// The final value of process `lp`, if its worker has made it.
+fn final_of<M: EventModel>(model: &M, config: Config, jobs: &[Job<'_, M>], lp: u32) -> Option<u64>
+    requires told { AllAt model.now config jobs.now }
+    requires order { AreInOrder jobs.now }
+    ensures { IfSome result (λ value. value ≡ final_value (simulation_of (M.handlers model.now) config) lp) }
+{
+    let Some(job) = jobs.get(config.owner(lp) as usize) else {
+        return None;
+    };
+    job.final_at((lp / config.workers) as usize)
+}
+
+/// The final values of all processes, in rising order.
+///
+/// [`Fault::Memory`]: memory was refused, to a worker or here.
+fn all_finals<M: EventModel>(
+    alloc: Global,
+    model: &M,
+    config: Config,
+    jobs: &[Job<'_, M>],
+) -> Result<Vec<u64>, Fault>
+    requires told { AllAt model.now config jobs.now }
+    requires order { AreInOrder jobs.now }
+    ensures finals { IfOk result (λ v. v.items ≡ seq_finals (simulation_of (M.handlers model.now) config)) }
+    ensures refused { IfErr result (λ fault. fault ≡ Memory) }
+{
+    let mut finals = Vec::new(alloc);
+    for lp in 0..config.lps {
+        let Some(value) = final_of(model, config, jobs, lp) else {
+            return Err(Fault::Memory);
+        };
+        let Ok(()) = finals.push(value) else {
+            return Err(Fault::Memory);
+        };
+    }
+    Ok(finals)
+}
+
+/// The final values, if they are wanted; otherwise none.
+///
+/// [`Fault::Memory`]: as [`all_finals`] says.
+fn finals_of<M: EventModel>(
+    alloc: Global,
+    model: &M,
+    config: Config,
+    jobs: &[Job<'_, M>],
+    wanted: Wanted,
+) -> Result<Vec<u64>, Fault>
+    requires told { AllAt model.now config jobs.now }
+    requires order { AreInOrder jobs.now }
+    ensures finals { wanted ≡ Finals → IfOk result (λ v. v.items ≡ seq_finals (simulation_of (M.handlers model.now) config)) }
+    ensures refused { IfErr result (λ fault. fault ≡ Memory) }
+{
+    match wanted {
+        Wanted::Records => Ok(Vec::new(alloc)),
+        Wanted::Finals => all_finals(alloc, model, config, jobs),
+    }
+}
+
+/// A run that went to its end, and its final values. Where they were refused it is told as stopped.
+fn finish_with(
+    records: Result<Vec<Record>, Stopped>,
+    finals: Result<Vec<u64>, Fault>,
+) -> Result<Finished, Stopped>
+    ensures finished { IfOk result (λ v. (records ≡ Ok v.records) × (finals ≡ Ok v.finals)) }
+    ensures stopped { IfErr result (λ stopped. (records ≡ Err stopped) ⊎ ((records ≡ Ok stopped.records) × (finals ≡ Err stopped.fault))) }
+{
+    let records = match records {
+        Ok(records) => records,
+        Err(stopped) => return Err(stopped),
+    };
+    match finals {
+        Ok(finals) => Ok(Finished { records, finals }),
+        Err(fault) => Err(Stopped { fault, records }),
+    }
+}
+
 /// Does all workers' work, each worker's in a thread of its own.
 fn work_all<R: Threads + Wait + Sync, M: EventModel + Sync, G: Gate + Sync>(
     rt: &R,
@@ -285,6 +398,7 @@ fn work_all<R: Threads + Wait + Sync, M: EventModel + Sync, G: Gate + Sync>(
     bells: &Bells,
     gate: &G,
     max_turns: u64,
+    wanted: Wanted,
     jobs: &mut [Job<'_, M>],
 )
 where
@@ -300,8 +414,51 @@ where
         threads,
         &|_, job: &mut Job<'_, M>|
             ensures { IsSameJob job.entry.now job.exit.now }
-        { job.run(rt, alloc, bells, gate, max_turns) },
+        { job.run(rt, alloc, bells, gate, max_turns, wanted) },
     );
+}
+
+/// Makes a station and does all workers' work at it. Where records alone are wanted, there are no final values.
+fn run_crew<R: Threads + Wait + Sync, M: EventModel + Sync, G: Gate + Sync>(
+    rt: &R,
+    alloc: Global,
+    config: Config,
+    model: &M,
+    gate: &G,
+    max_turns: u64,
+    wanted: Wanted,
+) -> Result<Finished, Stopped>
+where
+    M::State: Send,
+    M::Kept: Send,
+    ensures whole { IfOk result (λ v. v.records.items ≡ seq_records (simulation_of (M.handlers model.now) config) (end_of config)) }
+    ensures finals { wanted ≡ Finals → IfOk result (λ v. v.finals.items ≡ seq_finals (simulation_of (M.handlers model.now) config)) }
+    ensures begun { IfErr result (λ stopped. (t : TimeValue) × (stopped.records.items ≡ seq_records (simulation_of (M.handlers model.now) config) t)) }
+    ensures fault { IfErr result (λ stopped. IsStop stopped.fault) }
+{
+    let (station, places) = match Station::new(alloc, model, config) {
+        Ok(made) => made,
+        Err(fault) => return Err(stop_with(alloc, fault, Err(fault))),
+    };
+    let mut jobs = match jobs_at(alloc, &station, model, config, places) {
+        Ok(jobs) => jobs,
+        Err(fault) => return Err(stop_with(alloc, fault, Err(fault))),
+    };
+    let bells = match Bells::new(alloc, config.workers) {
+        Ok(bells) => bells,
+        Err(fault) => return Err(stop_with(alloc, fault, Err(fault))),
+    };
+    work_all(
+        rt,
+        alloc,
+        &bells,
+        gate,
+        max_turns,
+        wanted,
+        jobs.as_mut_slice(),
+    );
+    let finals = finals_of(alloc, model, config, jobs.as_slice(), wanted);
+    finish_with(answer_of(alloc, model, config, jobs), finals)
 }
 
 /// Runs a model by Time Warp on as many workers as the config has, each in a thread of its own, and gives the records of the whole
@@ -329,18 +486,31 @@ where
     ensures begun { IfErr result (λ stopped. (t : TimeValue) × (stopped.records.items ≡ seq_records (simulation_of (M.handlers model.now) config) t)) }
     ensures fault { IfErr result (λ stopped. IsStop stopped.fault) }
 {
-    let (station, places) = match Station::new(alloc, model, config) {
-        Ok(made) => made,
-        Err(fault) => return Err(stop_with(alloc, fault, Err(fault))),
-    };
-    let mut jobs = match jobs_at(alloc, &station, model, config, places) {
-        Ok(jobs) => jobs,
-        Err(fault) => return Err(stop_with(alloc, fault, Err(fault))),
-    };
-    let bells = match Bells::new(alloc, config.workers) {
-        Ok(bells) => bells,
-        Err(fault) => return Err(stop_with(alloc, fault, Err(fault))),
-    };
-    work_all(rt, alloc, &bells, gate, max_turns, jobs.as_mut_slice());
-    answer_of(alloc, model, config, jobs)
+    match run_crew(rt, alloc, config, model, gate, max_turns, Wanted::Records) {
+        Ok(finished) => Ok(finished.records),
+        Err(stopped) => Err(stopped),
+    }
+}
+
+/// Runs a model as [`run_workers`] does, and gives the final value of each process too: what the model's `finish` makes of its
+/// state after the whole run. Each worker makes those of its own processes at the end of its work.
+///
+/// [`Stopped`]: as [`run_workers`] says; or memory was refused for the final values, and its records are all of the run.
+pub fn run_workers_to_finals<R: Threads + Wait + Sync, M: EventModel + Sync, G: Gate + Sync>(
+    rt: &R,
+    alloc: Global,
+    config: Config,
+    model: &M,
+    gate: &G,
+    max_turns: u64,
+) -> Result<Finished, Stopped>
+where
+    M::State: Send,
+    M::Kept: Send,
+    ensures whole { IfOk result (λ v. v.records.items ≡ seq_records (simulation_of (M.handlers model.now) config) (end_of config)) }
+    ensures finals { IfOk result (λ v. v.finals.items ≡ seq_finals (simulation_of (M.handlers model.now) config)) }
+    ensures begun { IfErr result (λ stopped. (t : TimeValue) × (stopped.records.items ≡ seq_records (simulation_of (M.handlers model.now) config) t)) }
+    ensures fault { IfErr result (λ stopped. IsStop stopped.fault) }
+{
+    run_crew(rt, alloc, config, model, gate, max_turns, Wanted::Finals)
 }

@@ -1,7 +1,10 @@
 //! The turns of a worker.
 
 ghost use Rattle.std.specs.Prelude.{◌≡◌, ◌<◌, ◌≤◌, ◌⊎◌, suc, IsTrue, IsFalse, IfErr, IfSome};
+ghost use Rattle.vt_model.specs.Simulation.{simulation_of};
+ghost use Rattle.vt_steps.specs.Finals.{worker_finals};
 ghost use Rattle.vt_station.specs.Told.{place_table, place_view};
+ghost use Rattle.vt_station.specs.AtWork.{IsAtSamePlace, IsAtSameStation};
 ghost use Rattle.vt_station.specs.Turns.{IsLasting, IsPassedOver, HasEnded};
 
 use crate::bell::Bells;
@@ -45,6 +48,15 @@ pub(crate) enum Outcome {
     Ended,
     /// A call was refused with a fault that no later turn mends.
     Refused(Fault),
+}
+
+/// What is wanted of a run.
+#[derive(Clone, Copy)]
+pub(crate) enum Wanted {
+    /// The records alone.
+    Records,
+    /// The records, and the final value of each process.
+    Finals,
 }
 
 /// A worker and what it needs to make its turns.
@@ -101,6 +113,18 @@ impl<'a, M: EventModel> Driver<'a, M> {
         }
     }
 
+    /// The final values of the worker's processes, if they are wanted. None too if the worker's floor isn't the end of the run,
+    /// or memory was refused.
+    pub(crate) fn finals(&mut self, wanted: Wanted) -> Option<Vec<u64>>
+        ensures same { IsAtSamePlace self.old.worker self.new.worker }
+        ensures values { IfSome result (λ v. v.items ≡ worker_finals (simulation_of (M.handlers self.old.worker.model) self.old.worker.config) self.old.worker.view.worker) }
+    {
+        match wanted {
+            Wanted::Records => None,
+            Wanted::Finals => self.worker.finals().ok(),
+        }
+    }
+
     /// Gives up the worker, and returns its place.
     pub(crate) fn leave(self) -> Place<M::Payload>
         ensures table { place_table result ≡ self.entry.worker.table }
@@ -122,7 +146,7 @@ impl<'a, M: EventModel> Driver<'a, M> {
 
     /// Undoes and cancels at each process that letters have reached, and counts the letters that this takes back.
     fn settle_touched(&mut self)
-        ensures same { self.new.worker.table ≡ self.old.worker.table }
+        ensures same { IsAtSameStation self.old.worker self.new.worker }
     {
         let before = self.worker.kernel().outbox_len();
         for i in 0..self.touched.len() {
@@ -137,7 +161,7 @@ impl<'a, M: EventModel> Driver<'a, M> {
 
     /// Accepts all mail that has arrived, the last letter first.
     fn accept_all(&mut self) -> Result<(), Fault>
-        ensures same { self.new.worker.table ≡ self.old.worker.table }
+        ensures same { IsAtSameStation self.old.worker self.new.worker }
         ensures lasting { IfErr result IsLasting }
     {
         for i in (0..self.worker.kernel().arrived_len()).rev() {
@@ -153,7 +177,7 @@ impl<'a, M: EventModel> Driver<'a, M> {
 
     /// Takes all letters of the outbox that are for processes of this worker home.
     fn home_all(&mut self) -> Result<(), Fault>
-        ensures same { self.new.worker.table ≡ self.old.worker.table }
+        ensures same { IsAtSameStation self.old.worker self.new.worker }
         ensures lasting { IfErr result IsLasting }
     {
         for _ in 0..self.worker.kernel().outbox_len() {
@@ -181,7 +205,7 @@ impl<'a, M: EventModel> Driver<'a, M> {
 
     /// Executes events, each time the one of least rank, and returns how many.
     fn execute_some<G: Gate>(&mut self, gate: &G, turn: u64) -> Result<u32, Fault>
-        ensures same { self.new.worker.table ≡ self.old.worker.table }
+        ensures same { IsAtSameStation self.old.worker self.new.worker }
         ensures lasting { IfErr result IsLasting }
     {
         let most = self.allowed();
@@ -199,7 +223,7 @@ impl<'a, M: EventModel> Driver<'a, M> {
 
     /// Sends to each worker that there are letters for, until all are sent or another place has claimed an inbox.
     fn post_all(&mut self) -> Result<(), Fault>
-        ensures same { self.new.worker.table ≡ self.old.worker.table }
+        ensures same { IsAtSameStation self.old.worker self.new.worker }
         ensures lasting { IfErr result IsLasting }
     {
         for _ in 0..self.worker.config().workers {
@@ -231,7 +255,7 @@ impl<'a, M: EventModel> Driver<'a, M> {
     /// Takes part in the round of global virtual time by one cut or one report, and returns whether one was done.
     /// After that it doesn't ask again until the round has moved on, unless another place had claimed the board.
     fn agree(&mut self) -> Result<bool, Fault>
-        ensures same { self.new.worker.table ≡ self.old.worker.table }
+        ensures same { IsAtSameStation self.old.worker self.new.worker }
         ensures lasting { IfErr result IsLasting }
     {
         let moves = self.bells.moves();
@@ -251,7 +275,7 @@ impl<'a, M: EventModel> Driver<'a, M> {
 
     /// One cut; if the worker has cut in this round already, one report.
     fn cut(&mut self) -> Result<(), Fault>
-        ensures same { self.new.worker.table ≡ self.old.worker.table }
+        ensures same { IsAtSameStation self.old.worker self.new.worker }
     {
         match self.worker.cut() {
             Ok(()) => {
@@ -267,7 +291,7 @@ impl<'a, M: EventModel> Driver<'a, M> {
 
     /// One report.
     fn report(&mut self) -> Result<(), Fault>
-        ensures same { self.new.worker.table ≡ self.old.worker.table }
+        ensures same { IsAtSameStation self.old.worker self.new.worker }
     {
         match self.worker.report() {
             Ok(Report::Waiting) => {}
@@ -281,7 +305,7 @@ impl<'a, M: EventModel> Driver<'a, M> {
     /// Hands in if the floor has risen since the last hand-in; otherwise the book has all that there is. Returns
     /// whether it was done.
     fn commit_risen(&mut self) -> Result<bool, Fault>
-        ensures same { self.new.worker.table ≡ self.old.worker.table }
+        ensures same { IsAtSameStation self.old.worker self.new.worker }
         ensures lasting { IfErr result IsLasting }
     {
         let floor = self.worker.kernel().floor();
@@ -299,7 +323,7 @@ impl<'a, M: EventModel> Driver<'a, M> {
     /// Closes the book if the worker knows that the end of the run was announced; before that, closing isn't lawful.
     /// Returns how the work ended, if it has.
     fn close(&mut self) -> Option<Outcome>
-        ensures same { self.new.worker.table ≡ self.old.worker.table }
+        ensures same { IsAtSameStation self.old.worker self.new.worker }
         ensures ended { IfSome result (HasEnded self.new.worker.view) }
     {
         if self.worker.kernel().floor() < self.worker.config().end() {
@@ -333,7 +357,7 @@ impl<'a, M: EventModel> Driver<'a, M> {
     /// A turn up to its cut: fetches and accepts mail, executes events, and sends mail. Returns whether an event was
     /// executed.
     fn work<G: Gate>(&mut self, gate: &G, turn: u64) -> Result<bool, Fault>
-        ensures same { self.new.worker.table ≡ self.old.worker.table }
+        ensures same { IsAtSameStation self.old.worker self.new.worker }
         ensures lasting { IfErr result IsLasting }
     {
         self.fetch()?;
@@ -351,7 +375,7 @@ impl<'a, M: EventModel> Driver<'a, M> {
 
     /// Fetches the mail of the worker's inbox, if any was put there since the last fetch.
     fn fetch(&mut self) -> Result<(), Fault>
-        ensures same { self.new.worker.table ≡ self.old.worker.table }
+        ensures same { IsAtSameStation self.old.worker self.new.worker }
         ensures lasting { IfErr result IsLasting }
     {
         let mail = self.bells.mail(self.worker.number());
@@ -368,7 +392,7 @@ impl<'a, M: EventModel> Driver<'a, M> {
 
     /// One turn, all but the close of the book.
     fn turn<G: Gate>(&mut self, gate: &G, turn: u64) -> Result<(), Fault>
-        ensures same { self.new.worker.table ≡ self.old.worker.table }
+        ensures same { IsAtSameStation self.old.worker self.new.worker }
         ensures lasting { IfErr result IsLasting }
     {
         self.heard = self.bells.heard(self.worker.number());
@@ -432,7 +456,7 @@ impl<'a, M: EventModel> Driver<'a, M> {
 
     /// Makes turn after turn, until the book is closed, a call is refused for good, or all turns are made.
     pub(crate) fn run<R: Wait, G: Gate>(&mut self, rt: &R, gate: &G, max_turns: u64) -> Outcome
-        ensures same { self.new.worker.table ≡ self.old.worker.table }
+        ensures same { IsAtSameStation self.old.worker self.new.worker }
         ensures ended { HasEnded self.new.worker.view result }
     {
         for turn in 0..max_turns {

@@ -19,7 +19,7 @@ mod station;
 mod view;
 mod worker;
 
-pub use crew::{Stopped, run_workers};
+pub use crew::{Finished, Stopped, run_workers, run_workers_to_finals};
 pub use gate::{Gate, Open};
 pub use history::places_tell_the_list;
 pub use place::Place;

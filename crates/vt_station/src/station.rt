@@ -13,7 +13,7 @@ ghost use Rattle.vt_key.specs.declared.limits.TheConstants.{MAX_WORKERS};
 ghost use Rattle.vt_station.specs.Slots.{cell_count, word_at, claimed_word, cell_at};
 ghost use Rattle.vt_station.specs.Kept.{Kept, Rests};
 ghost use Rattle.vt_station.specs.Commits.{CommitsTo, Commits};
-ghost use Rattle.vt_station.specs.Calls.{Took, Holding, Acts, MaySee, Reaches, Visited, Unvisited, Closes, ShowsFloor, seen_or};
+ghost use Rattle.vt_station.specs.Calls.{IsShown, Took, Holding, Acts, MaySee, Reaches, Visited, Unvisited, Closes, ShowsFloor, seen_or};
 
 use crate::rule::{About, Aim, Law, Tell};
 use crate::slot::Slot;
@@ -151,6 +151,17 @@ impl<M: EventModel> Station<M> {
         ensures busy { result ≡ false → (seat.new.me ≡ seat.old.me) × (1 < self.now.workers) }
     {
         swap::<M, Brand, ()>(&self.table.shared, seat, cell, &()) != CLAIMED
+    }
+
+    /// Reads one word. So the place learns that the world after some list of steps has its part.
+    pub(crate) fn look_at(&self, seat: &mut Seat<M>)
+        requires table { seat.old.table_id ≡ self.now.table.shared.table_id }
+        requires rests { Rests seat.old.me }
+        ensures same { (seat.new.table_id ≡ seat.old.table_id) × (seat.new.id ≡ seat.old.id) × Rests seat.new.me }
+        ensures unchanged { seat.new.me ≡ seat.old.me }
+        ensures shown { let key = self.now.table.shared.key in IsShown (simulation_of (M.handlers key.model.value) key.config) seat.old.me.0 }
+    {
+        let _ = load::<M, Brand, ()>(&self.table.shared, seat, 0, &());
     }
 
     /// Looks at a worker's inbox by one load, and answers whether it is empty. If it is, the worker's steps that find it

@@ -1,11 +1,12 @@
 //! A worker at its place: the station's calls and the kernel's local steps together.
 
 ghost use Rattle.std.specs.Prelude.{◌≡◌, ◌<◌, false, None, Err, IfOk, IfErr, MatchResult};
-ghost use Rattle.vt_key.specs.Times.{Time};
+ghost use Rattle.vt_key.specs.Times.{Time, TimeAtMost, TimeBefore};
 ghost use Rattle.vt_key.specs.declared.fault.Fault.TheVariants.{Memory, NotLawful};
 ghost use Rattle.vt_model.specs.Simulation.{simulation_of};
 ghost use Rattle.vt_model.specs.Settings.{end_of};
 ghost use Rattle.vt_steps.specs.World.{Part, opening_part};
+ghost use Rattle.vt_steps.specs.Finals.{worker_finals};
 ghost use Rattle.vt_steps.specs.Letters.{is_empty};
 ghost use Rattle.vt_steps.specs.Next.{may_send};
 ghost use Rattle.vt_steps.specs.declared.step.Step.TheVariants as step;
@@ -294,6 +295,24 @@ impl<'a, M: EventModel> Worker<'a, M> {
         ensures refused { IfErr result (λ fault. IsRecordsRefusal (simulation_of (M.handlers self.old.model) self.old.config) fault) }
     {
         self.station.records(self.alloc, &mut self.place)
+    }
+
+    /// The final value of each process of this worker, in rising order of processes: what the model's `finish` makes of the
+    /// state after the whole sequential run. The book may be open still.
+    ///
+    /// [`Fault::NotLawful`]: the worker's floor isn't the end of the run. [`Fault::Memory`]: it is, and memory was refused.
+    pub fn finals(&mut self) -> Result<Vec<u64>, Fault>
+        ensures place { IsAtSamePlace self.old self.new }
+        ensures kernel { self.new.kernel ≡ self.old.kernel }
+        ensures values { IfOk result (λ v. v.items ≡ worker_finals (simulation_of (M.handlers self.old.model) self.old.config) self.old.view.worker) }
+        ensures not_lawful { TimeBefore self.old.kernel.floor (end_of self.old.config) → result ≡ Err NotLawful }
+        ensures refused { TimeAtMost (end_of self.old.config) self.old.kernel.floor → IfErr result (λ fault. fault ≡ Memory) }
+    {
+        if self.kernel.floor() < self.config.end() {
+            return Err(Fault::NotLawful);
+        }
+        self.station.look(&mut self.place);
+        self.kernel.finals(self.alloc, self.model)
     }
 
     /// The worker's kernel, to be read.

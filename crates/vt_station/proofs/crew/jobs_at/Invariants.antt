@@ -1,7 +1,7 @@
 use Rattle.std.proofs.Common.{◌≡◌, length, ◌+◌}
 use Rattle.vt_model.specs.Simulation.{simulation_of}
 use Rattle.vt_station.specs.Making.{AreNew}
-use Rattle.vt_station.specs.Crew.{AllAt}
+use Rattle.vt_station.specs.Crew.{AllAt, AreInOrder}
 use Rattle.vt_station.proofs.crew.jobs_at.Given as goal
 
 abbrev pub invariant-loop-worker : goal.invariant-loop-worker
@@ -9,6 +9,7 @@ invariant-loop-worker g l =
     record {
       left : length l.places.items + l.worker ≡ l.fn.config.workers;
       made : length l.jobs.items ≡ l.worker;
+      order : AreInOrder l.jobs.items;
       told : AllAt l.fn.model l.fn.config l.jobs.items;
       new : AreNew (simulation_of (g.M.Model.handlers l.fn.model) l.fn.config) l.fn.station.table.shared.table_id l.worker l.places.items;
     }

@@ -12,4 +12,5 @@ invariant_of-self g c =
       place_is = before.place_is;
       table_is = before.table_is;
       left = inl refl;
+      finals_are = before.finals_are;
     }

@@ -1,21 +1,38 @@
-use Rattle.std.proofs.Common.{◌≡◌, refl, sym, ◌∙◌, subst, ap, inl, Some}
+use Rattle.std.proofs.Common.{◌≡◌, refl, sym, ◌∙◌, subst, ap, inl, Option, Some}
+use Rattle.vt_model.specs.Simulation.{simulation_of}
+use Rattle.vt_steps.specs.Finals.{worker_finals}
+use Rattle.vt_station.specs.declared.driver.Outcome.{Outcome}
 use Rattle.vt_station.specs.declared.place.Place.{Place}
 use Rattle.vt_station.specs.declared.view.View.{View}
+use Rattle.vt_station.specs.Crew.{AtJob, IsLeft}
 use Rattle.vt_station.specs.Turns.{HasEnded}
+use Rattle.vt_station.proofs.FinalLemmas.{finals-told}
 use Rattle.vt_station.proofs.crew.Job.work.Goals as goal
 
 pub invariant_of-self-in-Ok-2 : goal.invariant_of-self-in-Ok-2
 invariant_of-self-in-Ok-2 g c =
+    let i = c.self.inside in
     let before = c.self.invariant in
     let made = c.in-Ok.ensures.made in
+    let ran = c.run.ensures.same in
+    let driven = c.new-driver.ensures in
+    let stayed = c.finals.ensures.same in
+    let taken : c.in-Some.place ≡ before.there =
+    (let h : Some c.in-Some.place ≡ Some before.there = sym c.in-Some.is ∙ c.take.ensures.value ∙ before.place_is in cc) in
+    let begins = ap (λ (j : AtJob g.row.M.Denot g.row.M-Payload.Denot). j.outcome) c.self.view_is ∙ c.requires.begins in
+    let new = subst (λ (o : Option Outcome). IsLeft (simulation_of (g.M.Model.handlers i.model.now) i.config) i.station.now.table.shared.table_id i.worker o before.there) begins before.left in
+    let model = ran.model ∙ ap (λ w. w.model) driven ∙ made.0 in
+    let config = ran.config ∙ ap (λ w. w.config) driven ∙ made.1 in
+    let number = ran.worker ∙ ap (λ w. w.view.worker) driven ∙ ap (λ (v : View g.row.M-Payload.Denot). v.worker) made.3 ∙ ap (λ (p : Place g.row.M-Payload.Denot). p.seat.me.0.worker) taken ∙ before.there.own ∙ new.worker in
     record {
       model_is = before.model_is;
       config_is = before.config_is;
       within = before.within;
       there = c.leave.result;
       place_is = refl;
-      table_is = c.leave.ensures.table ∙ c.run.ensures.same ∙ ap (λ w. w.table) c.new-driver.ensures ∙ made.2;
-      left = subst (λ (v : View g.row.M-Payload.Denot). HasEnded v c.run.result) (sym c.leave.ensures.view) c.run.ensures.ended;
+      table_is = c.leave.ensures.table ∙ stayed.station.table ∙ ran.table ∙ ap (λ w. w.table) driven ∙ made.2;
+      left = subst (λ (v : View g.row.M-Payload.Denot). HasEnded v c.run.result) (sym (c.leave.ensures.view ∙ stayed.view)) c.run.ensures.ended;
+      finals_are = finals-told (λ v. v.items) c.finals.result _ _ (λ j. worker_finals (simulation_of (g.M.Model.handlers (model j)) (config j)) (number j)) c.finals.ensures.values;
     }
 
 pub invariant_of-self-in-Err-2 : goal.invariant_of-self-in-Err-2
@@ -32,4 +49,5 @@ invariant_of-self-in-Err-2 g c =
       place_is = ap (λ (p : Place g.row.M-Payload.Denot). Some p) c.in-Err.place-is;
       table_is = ap (λ (p : Place g.row.M-Payload.Denot). p.seat.table_id) (sym c.in-Err.place-is ∙ refused.1 ∙ taken) ∙ before.table_is;
       left = inl refused.0;
+      finals_are = before.finals_are;
     }

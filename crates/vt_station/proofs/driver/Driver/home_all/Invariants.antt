@@ -1,5 +1,5 @@
-use Rattle.std.proofs.Common.{◌≡◌}
+use Rattle.vt_station.specs.AtWork.{IsAtSameStation}
 use Rattle.vt_station.proofs.driver.Driver.home_all.Given as goal
 
 abbrev pub invariant-loop : goal.invariant-loop
-invariant-loop g l = l.self.worker.table ≡ l.initial.self.worker.table
+invariant-loop g l = IsAtSameStation l.initial.self.worker l.self.worker

@@ -1,5 +1,5 @@
-use Rattle.std.proofs.Common.{◌≡◌}
+use Rattle.vt_station.specs.AtWork.{IsAtSameStation}
 use Rattle.vt_station.proofs.driver.Driver.settle_touched.Given as goal
 
 abbrev pub invariant-loop-i : goal.invariant-loop-i
-invariant-loop-i g l = l.self.worker.table ≡ l.initial.self.worker.table
+invariant-loop-i g l = IsAtSameStation l.initial.self.worker l.self.worker

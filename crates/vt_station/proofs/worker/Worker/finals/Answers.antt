@@ -1,0 +1,43 @@
+use Rattle.std.proofs.Common.{rules, ◌≡◌, sym, ◌∙◌, subst}
+use Rattle.std.specs.Prelude.{IfOk}
+use Rattle.vt_key.specs.Times.{TimeAtMost}
+use Rattle.vt_model.specs.Settings.{end_of}
+use Rattle.vt_model.specs.Simulation.{simulation_of}
+use Rattle.vt_model.proofs.LawLemmas.{lawful_of}
+use Rattle.vt_steps.specs.Finals.{worker_finals}
+use Rattle.vt_kernel.proofs.LocalLemmas.{if_ok-more}
+use Rattle.vt_station.specs.declared.view.View.{View}
+use Rattle.vt_station.specs.AtWork.{AtWork}
+use Rattle.vt_station.specs.Calls.{IsShown, Reaches}
+use Rattle.vt_station.proofs.FinalLemmas.{finals-right}
+use Rattle.vt_station.proofs.worker.Worker.finals.Goals as goal
+
+pub look-requires-clause-own : goal.look-requires-clause-own
+look-requires-clause-own g c κs within = sym c.self.invariant.table_is
+
+pub invariant_of-self : goal.invariant_of-self
+invariant_of-self g c =
+    let i = c.self.inside in
+    let before = c.self.invariant in
+    let after = c.look in
+    record {
+      config_is = before.config_is;
+      table_is = before.table_is ∙ sym after.ensures.same.0;
+      model_is = before.model_is;
+      reaches = subst (λ (v : View g.row.M-Payload.Denot). Reaches (g.M.Model.handlers i.model.now) i.station.now.table.shared.key.config v i.kernel) (sym after.ensures.unchanged) before.reaches;
+    }
+
+pub returns-clause-values : goal.returns-clause-values
+returns-clause-values g c =
+    let i = c.self.inside in
+    let before = c.self.invariant in
+    let H = g.M.Model.handlers in
+    let m = i.model.now in
+    let config = i.station.now.table.shared.key.config in
+    let v = i.place.seat.me.0 in
+    let lawful = lawful_of (H m) config (g.met.M.Model.start_within m) (g.met.M.Model.forward_within m) in
+    let known = subst (λ (n : g.row.M.Denot). IsShown (simulation_of (H n) config) v) before.model_is c.look.ensures.shown in
+    let end : TimeAtMost (end_of config) i.kernel.floor = search rules in
+    let there : IfOk c.finals.result (λ values. values.items ≡ worker_finals (simulation_of (H m) config) v.worker) =
+    if_ok-more c.finals.result (λ values is. is ∙ finals-right (H m) config lawful v i.kernel before.reaches known end) (c.finals.ensures.values before.reaches.part before.reaches.stands) in
+    subst (λ (o : AtWork g.row.M.Denot g.row.M-State.Denot g.row.M-Payload.Denot g.row.M-Kept.Denot). IfOk c.finals.result (λ values. values.items ≡ worker_finals (simulation_of (H o.model) o.config) o.view.worker)) c.self.view_is there
