@@ -1,5 +1,5 @@
 -- The final values of a worker whose floor is the end of the run, and of all workers.
-use Rattle.std.proofs.Common.{◌≡◌, ℕ, ◌+◌, ◌*◌, ◌/◌, ◌%◌, ◌<◌, List, ◌++◌, map, length, refl, sym, ◌∙◌, ap, subst, arith, Option, Some, None, slice_get}
+use Rattle.std.proofs.Common.{◌≡◌, ℕ, List, ◌++◌, refl, sym, ◌∙◌, ap, arith, Option, Some, None, slice_get}
 use Rattle.std.specs.List.{range_with_len}
 use Rattle.std.specs.Option.{option_map}
 use Rattle.std.specs.Prelude.{IfSome}
@@ -13,7 +13,7 @@ use Rattle.vt_steps.specs.declared.step.Step.{Step}
 use Rattle.vt_steps.specs.Cells.{book_cell, in_book}
 use Rattle.vt_steps.specs.Finals.{final_value, worker_finals, part_values}
 use Rattle.vt_steps.specs.Marked.{unmarked, shown}
-use Rattle.vt_steps.specs.Next.{reached, run}
+use Rattle.vt_steps.specs.Next.{reached}
 use Rattle.vt_steps.specs.World.{World, opening_world, process_at, process_count}
 use Rattle.vt_steps.proofs.FinalValues.{quiet-at_end, quiet-values}
 use Rattle.vt_steps.proofs.LocalLeads.{local-does}
