@@ -1,23 +1,18 @@
 -- The state of each process once the book is closed: where the whole sequential run leaves it.
-use Rattle.std.proofs.Common.{◌≡◌, ℕ, suc, ◌+◌, ◌*◌, ◌/◌, ◌%◌, ◌<◌, Bool, nat_eq, List, map, refl, sym, ◌∙◌, ap, subst, arith, Option, Some, None, slice_get, if◌then◌else◌}
+use Rattle.std.proofs.Common.{◌≡◌, ℕ, ◌+◌, ◌*◌, ◌/◌, ◌%◌, ◌<◌, Bool, nat_eq, List, map, refl, sym, ◌∙◌, ap, subst, arith, Option, Some, None, slice_get, if◌then◌else◌}
 use Rattle.std.specs.Prelude.{IsTrue}
 use Rattle.std.specs.Option.{option_map}
 use Rattle.std.proofs.lemmas.Bool.{eq-eqb}
 use Rattle.std.proofs.Math.Nat.{div-add-mod'}
-use Rattle.vt_key.specs.Times.{TimeBefore}
-use Rattle.vt_model.specs.declared.sending.Sent.{Sent}
 use Rattle.vt_model.specs.declared.settings.Config.{Config}
 use Rattle.vt_model.specs.Handler.{Handlers}
 use Rattle.vt_model.specs.Histories.{IsLawful}
-use Rattle.vt_model.specs.Simulation.{Simulation, simulation_of, after}
-use Rattle.vt_model.specs.Sequential.{events_of, whole_run, seq_events}
-use Rattle.vt_model.proofs.EndLemmas.{whole_is_history}
-use Rattle.vt_model.proofs.RunLemmas.{known_sent}
+use Rattle.vt_model.specs.Simulation.{simulation_of, after}
+use Rattle.vt_model.specs.Sequential.{events_of, whole_run}
 use Rattle.vt_steps.specs.Next.{reached}
 use Rattle.vt_steps.specs.World.{process_at}
 use Rattle.vt_steps.specs.StandsFor.{StandsForProcess}
-use Rattle.vt_steps.proofs.EventTimes.{early-events}
-use Rattle.vt_steps.proofs.Lists.{every-all}
+use Rattle.vt_steps.proofs.FinalValues.{events-end}
 use Rattle.vt_steps.proofs.MemoryLemmas.{is_where}
 use Rattle.vt_lp.specs.Held.{HeldProcess, process_memory}
 use Rattle.vt_kernel.specs.Held.{HeldWorker, part_memory, process_of, IsProcessOf}
@@ -30,14 +25,6 @@ use Rattle.vt_world.proofs.ClosedLemmas.{whole}
 pub of-some : {X Y : Type 0} (f : X → Y) (o : Option X) (y : Y) → Some y ≡ option_map f o → (x : X) × (o ≡ Some x) × (y ≡ f x)
 of-some f None y h = absurd (let k : Some y ≡ None = h in cc)
 of-some f (Some x) y h = (x, refl, (let k : Some y ≡ Some (f x) = h in cc))
-
-module _ {S P : Type 0} (sim : Simulation S P) (lawful : IsLawful sim) where
-  -- each event of the whole run is before its end
-  events-end : (p : ℕ) → p < sim.lps → seq_events sim p sim.end ≡ events_of p (whole_run sim)
-  events-end p less =
-      let lists : ℕ → List (Sent P) = λ q. events_of q (whole_run sim) in
-      early-events sim.end (lists p) (every-all (λ (e : Sent P). TimeBefore e.key.time sim.end) (lists p)
-      (λ e m. (known_sent sim lawful lists e ((whole_is_history sim lawful (suc e.key.time)).sent p e less (omega arith) m)).1))
 
 module _ {S P K : Type 0} where
   -- a worker's own process is at its place
