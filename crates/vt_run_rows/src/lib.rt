@@ -4,6 +4,8 @@
 #[cfg(test)]
 mod dice;
 #[cfg(test)]
+mod finals;
+#[cfg(test)]
 mod gates;
 #[cfg(test)]
 mod random;
