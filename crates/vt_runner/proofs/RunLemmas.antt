@@ -1,5 +1,5 @@
 -- What a run in threads writes that stops: what comes before a time begins the text of the whole run.
-use Rattle.std.proofs.Common.{◌≡◌, ◌∙◌, ◌++◌, ◌<◌, ◌≤◌, ◌⊎◌, ℕ, suc, true, false, refl, List, [], Option, inl, inr, sym, ap, subst, map, nat_lt, append-nil, append_assoc, arith}
+use Rattle.std.proofs.Common.{◌≡◌, ◌∙◌, ◌++◌, ◌<◌, ◌≤◌, ◌⊎◌, ℕ, true, false, refl, List, [], Option, inl, inr, sym, ap, subst, map, nat_lt, append-nil, append_assoc, arith}
 use Rattle.std.specs.Io.KnownBytes.{Appends}
 use Rattle.std.proofs.lemmas.Bool.{ltb-true, ltb-false}
 use Rattle.std.proofs.lemmas.List.Concat.{flat_map-append}

@@ -1,13 +1,13 @@
 -- Lines of records that are written share by share.
-use Rattle.std.proofs.Common.{◌≡◌, ◌∙◌, ap, sym, subst, ℕ, ◌+◌, ◌*◌, ◌≤◌, min, List, [], ◌∷◌, ◌++◌, length, take, drop, Option, append-nil, take-append-drop, arith}
+use Rattle.std.proofs.Common.{◌≡◌, ◌∙◌, ap, sym, subst, ℕ, ◌+◌, ◌≤◌, min, List, [], ◌∷◌, ◌++◌, length, take, drop, Option, append-nil, take-append-drop, arith}
 use Rattle.std.specs.Io.KnownBytes.{Appends}
-use Rattle.std.proofs.lemmas.List.{drop_all, drop_min, drop-drop, take_min}
+use Rattle.std.proofs.lemmas.List.{drop_min, drop-drop, take_min}
 use Rattle.std.proofs.lemmas.Grind.{flat_map-append}
 use Rattle.vt_model.specs.declared.rows.Record.{Record}
 use Rattle.vt_text.specs.declared.version.Version.{Version}
 use Rattle.vt_text.specs.Records.{record_text, record_lines}
 use Rattle.vt_text.specs.Writing.{AppendsBeginning, AppendsAllButHeld}
-use Rattle.vt_text.proofs.TextLemmas.{flush_fails, made_room, of_longer, written}
+use Rattle.vt_text.proofs.TextLemmas.{flush_fails, made_room, of_longer}
 
 -- the records from a place on are a share and those that come after it
 pub parted : (size at n : ℕ) (records rest share more : List Record) → n ≡ min size (length rest) → rest ≡ drop at records → share ≡ take n rest → more ≡ drop n rest

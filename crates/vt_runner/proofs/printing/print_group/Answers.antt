@@ -1,4 +1,4 @@
-use Rattle.std.proofs.Common.{rules, ◌≡◌, ◌∙◌, sym, ap, subst, refl, OnOk, IfOk, IfErr, OnErr, ℕ, ◌+◌, ◌*◌, ◌<◌, ◌≤◌, List, length, drop, slice_index_or, arith}
+use Rattle.std.proofs.Common.{◌≡◌, ◌∙◌, sym, ap, subst, IfOk, ◌*◌, ◌<◌, List, length, drop, slice_index_or, arith}
 use Rattle.vt_model.specs.declared.rows.Record.{Record}
 use Rattle.vt_text.specs.Records.{record_lines}
 use Rattle.vt_text.proofs.TextLemmas.{on_err}
