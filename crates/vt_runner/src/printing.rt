@@ -33,11 +33,7 @@ fn lines_of(alloc: Global, records: &[Record], version: Version) -> Result<Vec<u
 }
 
 /// Writes the lines of records. It takes no memory.
-fn print_lines<W: Write>(
-    writer: &mut W,
-    records: &[Record],
-    version: Version,
-) -> Result<(), Fault>
+fn print_lines<W: Write>(writer: &mut W, records: &[Record], version: Version) -> Result<(), Fault>
     ensures ok { OnOk result (Appends (W.contents writer.old) (W.contents writer.new) (record_lines version records.now)) }
     ensures err { OnErr result (AppendsBeginning (W.contents writer.old) (W.contents writer.new) (record_lines version records.now)) }
     ensures fault { IfErr result (λ fault. fault ≡ Fault.Output) }

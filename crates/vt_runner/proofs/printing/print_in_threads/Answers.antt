@@ -12,7 +12,7 @@ returns-in_err-write_bytes-clause-err g c =
     on_err c.from_residual.result (of_longer _ _ (first_line a.version) (record_lines a.version a.records.now) (rw c.first_line.ensures at c.in_err-write_bytes.ensures.err))
 
 pub loop-group-init : goal.loop-group-init
-loop-group-init g c = 
+loop-group-init g c =
     let a = c.args in record {
       sent = first_line a.version;
       whole = ap (λ (l : List Record). first_line a.version ++ record_lines a.version l) (sym (ap chunks_rest c.into_iter-group-iterator.ensures.into_iter_gives ∙ c.chunks-group-items.ensures.rest));
