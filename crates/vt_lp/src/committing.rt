@@ -8,7 +8,7 @@ ghost use Rattle.vt_model.specs.Simulation.{simulation_of, rows_of};
 ghost use Rattle.vt_steps.specs.World.{LogicalProcess};
 ghost use Rattle.vt_steps.specs.PartSteps.{ripe_rows, process_after_commit};
 ghost use Rattle.vt_lp.specs.Held.{StandsFor};
-ghost use Rattle.vt_lp.specs.Ripe.{unripe_events, rows_of_ripe};
+ghost use Rattle.vt_lp.specs.Ripe.{begins_ripe, unripe_events, rows_of_ripe};
 
 use crate::Lp;
 use crate::entry::PastEvent;
@@ -35,6 +35,17 @@ impl<M: EventModel> Lp<M> {
                 .map_err(|_| Fault::Memory)?;
         }
         Ok(events)
+    }
+
+    /// Whether the first past event is before the floor. If not, [`Lp::ripe`] appends nothing and [`Lp::fossil`] changes
+    /// nothing.
+    pub fn is_ripe(&self, floor: When) -> bool
+        ensures { result ≡ begins_ripe floor self.now.past }
+    {
+        match self.past.front() {
+            Some(first) => first.letter.get().event.rank.key.when() < floor,
+            None => false,
+        }
     }
 
     /// Appends the rows of the past events before the floor, in the order of their execution. These are the events
