@@ -4,9 +4,11 @@
 #[cfg(test)]
 mod tests;
 
+use std::io::IsTerminal;
 use std::process::ExitCode;
+use vt_meter::{Clearing, Meter};
 use vt_options::{OwnOption, ProgramTexts};
-use vt_runner::{Streams, run_program};
+use vt_runner::{Streams, hint_of_process, run_program};
 use vt_traffic::Traffic;
 
 static TEXTS: ProgramTexts = ProgramTexts {
@@ -54,14 +56,38 @@ static OPTIONS: [OwnOption; 5] = [
     },
 ];
 
+/// Where standard error is a terminal, a long run shows there how far it is, and a refused command line what is allowed.
 fn main(rt: HostRuntime) -> ExitCode {
+    let shown = rt.stderr().is_terminal();
+    let meter = Meter::new(&rt, shown);
+    let line = if shown { Some(rt.stderr()) } else { None };
+    let over = if rt.stdout().is_terminal() {
+        line
+    } else {
+        None
+    };
     let mut streams = Streams {
         input: rt.stdin(),
-        output: rt.stdout(),
-        errors: rt.stderr(),
+        output: Clearing::new(&meter, rt.stdout(), over),
+        errors: Clearing::new(&meter, rt.stderr(), line),
     };
-    let status = run_program(&rt, &mut streams, &TEXTS, &OPTIONS, |values| {
-        Traffic::new(values[0], values[1], values[2], values[3], values[4]).ok()
-    });
+    let status = meter.during(
+        &rt,
+        rt.alloc(),
+        rt.stderr(),
+        || run_program(
+            &rt,
+            &mut streams,
+            &TEXTS,
+            &OPTIONS,
+            &meter,
+            |values| Traffic::new(values[0], values[1], values[2], values[3], values[4]).ok(),
+        ),
+    );
+    if shown && status == 2 {
+        if let Some(line) = hint_of_process(&rt, &TEXTS, &OPTIONS) {
+            let _ = eprintln!(rt; "{line}");
+        }
+    }
     ExitCode::from(status)
 }

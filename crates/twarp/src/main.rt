@@ -6,10 +6,11 @@ ghost use Rattle.vt_key.specs.Faults.{option_named};
 ghost use Rattle.vt_key.specs.declared.fault.Fault.TheVariants.{Memory};
 
 use std::env;
-use std::io::ErrorKind;
+use std::io::{ErrorKind, IsTerminal};
 use std::process::ExitCode;
 use vt_key::Fault;
-use vt_program::{program, tell_refusal};
+use vt_meter::{Clearing, Meter};
+use vt_program::{hint, program, tell_refusal};
 
 /// The process's words. No contract says that they are these: the library's `env::args` has none.
 ///
@@ -25,18 +26,40 @@ fn words_of(rt: &HostRuntime) -> Result<Vec<String>, Fault>
     }
 }
 
+/// Where standard error is a terminal, a long run shows there how far it is, and a refused command line what is allowed.
 fn main(rt: HostRuntime) -> ExitCode {
-    let mut err = rt.stderr();
-    let status = match words_of(&rt) {
-        Ok(words) => program(
+    let shown = rt.stderr().is_terminal();
+    let meter = Meter::new(&rt, shown);
+    let line = if shown { Some(rt.stderr()) } else { None };
+    let over = if rt.stdout().is_terminal() {
+        line
+    } else {
+        None
+    };
+    let mut out = Clearing::new(&meter, rt.stdout(), over);
+    let mut err = Clearing::new(&meter, rt.stderr(), line);
+    let words = match words_of(&rt) {
+        Ok(words) => words,
+        Err(fault) => return ExitCode::from(tell_refusal(&mut err, fault)),
+    };
+    let status = meter.during(
+        &rt,
+        rt.alloc(),
+        rt.stderr(),
+        || program(
             &rt,
             rt.alloc(),
             words.as_slice(),
             &mut rt.stdin(),
-            &mut rt.stdout(),
+            &mut out,
             &mut err,
+            &meter,
         ),
-        Err(fault) => tell_refusal(&mut err, fault),
-    };
+    );
+    if shown && status == 2 {
+        if let Some(line) = hint(rt.alloc(), words.as_slice()) {
+            let _ = eprintln!(rt; "{line}");
+        }
+    }
     ExitCode::from(status)
 }

@@ -7,7 +7,7 @@ ghost use Rattle.vt_command.specs.Line.{twarp_app};
 ghost use Rattle.vt_command.specs.Requests.{IsRefusedBy};
 ghost use Rattle.vt_command.specs.Asked.{IsAsked};
 
-use crate::line::matches_in;
+use crate::line::{hint_on, matches_in};
 use crate::reading::{read_options, read_replay_options};
 use crate::{Options, ReplayOptions};
 use clap::ArgMatches;
@@ -60,4 +60,13 @@ pub fn read_request<S: AsStr>(alloc: Global, words: &[S]) -> Result<Request, Fau
         Ok(matches) => request_of(&matches),
         Err(error) => Ok(Request::Help(help_of(alloc, error)?)),
     }
+}
+
+/// A line for a terminal on a command line that [`read_request`] refuses: which word it was, and what is allowed. None where the
+/// line isn't refused, or memory was.
+pub fn hint<S: AsStr>(alloc: Global, words: &[S]) -> Option<String> {
+    let Err(Fault::BadOption(name)) = read_request(alloc, words) else {
+        return None;
+    };
+    hint_on(alloc, words, name)
 }

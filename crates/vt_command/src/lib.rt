@@ -11,6 +11,6 @@ mod line;
 mod reading;
 mod texts;
 
-pub use asking::{Request, read_request};
+pub use asking::{Request, hint, read_request};
 pub use choices::{ModelName, Options, ReplayOptions};
 pub use vt_options::{MAX_TURNS, Synch};

@@ -12,6 +12,7 @@ use std::alloc::Global;
 use std::convert::AsStr;
 use vt_options::{
     END, LPS, OptionText, ProgramTexts, REPLAY_WORKERS, SEED, SERIAL, SYNCH, TEXT, TURNS, WORKERS,
+    hint_on_line, hint_on_option, takes_of,
 };
 
 /// The options of `run`, in the order in which they are tested.
@@ -80,4 +81,18 @@ pub(crate) fn matches_in<'a, S: AsStr>(
     ensures err { IfErr result (HasKind (fault_of twarp_app (map S.text words.entry.now))) }
 {
     vt_options::matches_in(alloc, &TWARP, &RUN_OPTIONS, &REPLAY_OPTIONS, words)
+}
+
+/// A line on a refused command line of `twarp`, whose bad option is `name`. None where memory was refused, or no option has
+/// that name.
+pub(crate) fn hint_on<S: AsStr>(alloc: Global, words: &[S], name: &str) -> Option<String> {
+    let matches = match matches_in(alloc, words) {
+        Ok(matches) => matches,
+        Err(error) => return hint_on_line(alloc, TWARP.name, error),
+    };
+    let takes = match takes_of(&RUN_OPTIONS, name) {
+        Some(takes) => Some(takes),
+        None => takes_of(&REPLAY_OPTIONS, name),
+    };
+    hint_on_option(alloc, TWARP.name, &matches, name, takes)
 }

@@ -16,20 +16,22 @@ use vt_lp::{Lp, Spare};
 use vt_model::Model as EventModel;
 
 impl<M: EventModel> Kernel<M> {
-    /// Undoes and cancels at process `lp` until neither is lawful there. If the process isn't this worker's, nothing
-    /// changes. It takes no memory.
-    pub fn settle(&mut self, model: &M, lp: u32)
+    /// Undoes and cancels at process `lp` until neither is lawful there, and returns how many events it has undone. If the
+    /// process isn't this worker's, nothing changes. It takes no memory.
+    pub fn settle(&mut self, model: &M, lp: u32) -> u64
         ensures settles { (part : Part _) → StandsFor (M.handlers model.now) self.old part → (new : Part _) × SettlesTo (simulation_of (M.handlers model.now) self.old.config) self.old.worker lp part new × StandsFor (M.handlers model.now) self.new new }
         ensures same { (self.new.worker ≡ self.old.worker) × (self.new.config ≡ self.old.config) }
     {
         let Some(place) = place_of(self.config, self.worker, lp) else {
-            return;
+            return 0;
         };
+        let mut undone = 0;
         if settle_process(
             &mut self.processes[place],
             model,
             &mut self.outbox,
             &mut self.spare,
+            &mut undone,
         ) {
             enter(
                 &mut self.ready,
@@ -39,16 +41,18 @@ impl<M: EventModel> Kernel<M> {
                 place,
             );
         }
+        undone
     }
 }
 
-/// Undoes and cancels at one process until neither is lawful. Anti-messages go to the back of the outbox. Returns
-/// whether anything was undone or cancelled; if not, nothing changes.
+/// Undoes and cancels at one process until neither is lawful. Anti-messages go to the back of the outbox. Counts in `undone`
+/// what is undone. Returns whether anything was undone or cancelled; if not, nothing changes.
 fn settle_process<M: EventModel>(
     process: &mut Lp<M>,
     model: &M,
     outbox: &mut List<Letter<M::Payload>>,
     spare: &mut Spare<M::Payload, M::Kept>,
+    undone: &mut u64,
 ) -> bool
     ensures settled { (h : LogicalProcess _) → ProcessStandsFor (M.handlers model.now) process.old h → IsSettledTo (M.handlers model.now) h process.new outbox.old outbox.new }
     ensures within { AllWithinRun process.old.config outbox.old → AllWithinRun process.old.config outbox.new }
@@ -59,6 +63,7 @@ fn settle_process<M: EventModel>(
     loop {
         if process.undo(model, outbox).is_ok() {
             changed = true;
+            *undone = undone.saturating_add(1);
             continue;
         }
         let Some(stamp) = process.cancellable() else {

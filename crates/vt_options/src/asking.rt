@@ -53,6 +53,7 @@ fn add_own(list: &mut Vec<OptionText>, own: &[OwnOption]) -> Result<(), AllocErr
             name: option.name,
             value: "N",
             heading: OWN,
+            takes: "",
             help: option.help,
         })?;
     }
@@ -128,7 +129,7 @@ fn read_replay(
 }
 
 /// What the parser makes of a command line of a program of a model with these options.
-fn own_matches<'a, S: AsStr>(
+pub(crate) fn own_matches<'a, S: AsStr>(
     alloc: Global,
     texts: &ProgramTexts,
     own: &[OwnOption],

@@ -7,6 +7,7 @@
 
 mod asking;
 mod choices;
+mod hinting;
 mod limits;
 mod line;
 mod own;
@@ -16,6 +17,7 @@ mod texts;
 
 pub use asking::{Request, read_request};
 pub use choices::{ReplaySettings, RunSettings, Synch};
+pub use hinting::{hint, hint_on_line, hint_on_option, takes_of};
 pub use limits::MAX_TURNS;
 pub use line::{ProgramTexts, matches_in};
 pub use own::{OwnOption, own_options};

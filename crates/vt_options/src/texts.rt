@@ -9,6 +9,8 @@ pub struct OptionText {
     pub value: &'static str,
     /// The heading under which it stands.
     pub heading: &'static str,
+    /// Which values it takes, as its help says it; empty for an option of a model of one's own.
+    pub takes: &'static str,
     /// What it is, with its range and its default.
     pub help: &'static str,
 }
@@ -21,6 +23,7 @@ pub const SYNCH: OptionText = OptionText {
     name: "synch",
     value: "N",
     heading: GENERAL,
+    takes: "1 or 3",
     help: "1: one thread, in order; 3: Time Warp, a thread for each worker [default: 1]",
 };
 
@@ -29,6 +32,7 @@ pub const WORKERS: OptionText = OptionText {
     name: "workers",
     value: "N",
     heading: GENERAL,
+    takes: "1 to 256",
     help: "Worker threads, 1 to 256; not used with --synch 1 [default: 1]",
 };
 
@@ -37,6 +41,7 @@ pub const REPLAY_WORKERS: OptionText = OptionText {
     name: "workers",
     value: "N",
     heading: GENERAL,
+    takes: "1 to 256",
     help: "Workers, 1 to 256: process P belongs to worker P mod N [default: 1]",
 };
 
@@ -45,6 +50,7 @@ pub const LPS: OptionText = OptionText {
     name: "lps",
     value: "N",
     heading: GENERAL,
+    takes: "1 to 65536",
     help: "Logical processes, which send events to each other, 1 to 65536 [default: 2]",
 };
 
@@ -53,6 +59,7 @@ pub const END: OptionText = OptionText {
     name: "end",
     value: "N",
     heading: GENERAL,
+    takes: "1 to 4611686018427387904",
     help: "Only events before this tick happen, 1 to 4611686018427387904 [default: 10]",
 };
 
@@ -61,6 +68,7 @@ pub const SEED: OptionText = OptionText {
     name: "seed",
     value: "N",
     heading: GENERAL,
+    takes: "0 to 18446744073709551615",
     help: "Seed of all random draws, 0 to 18446744073709551615 [default: 0]",
 };
 
@@ -69,6 +77,7 @@ pub const TURNS: OptionText = OptionText {
     name: "turns",
     value: "N",
     heading: GENERAL,
+    takes: "1 to 9223372036854775808",
     help: "A worker's turns (--synch 3), 1 to 9223372036854775808 [default: 10000000]",
 };
 
@@ -77,6 +86,7 @@ pub const SERIAL: OptionText = OptionText {
     name: "serial",
     value: "N",
     heading: GENERAL,
+    takes: "0 to 9223372036854775808",
     help: "First serial of each worker's events, 0 to 9223372036854775808 [default: 0]",
 };
 
@@ -85,5 +95,6 @@ pub const TEXT: OptionText = OptionText {
     name: "text",
     value: "N",
     heading: GENERAL,
+    takes: "1 or 2",
     help: "Version of the text of records: 1 has no priorities, 2 has them [default: 2]",
 };

@@ -24,16 +24,19 @@ use std::convert::AsStr;
 use std::io::{Read, Write};
 use std::sync::Wait;
 use std::thread::Threads;
+pub use vt_command::hint;
 use vt_command::{Request, read_request};
 use vt_key::Fault;
+pub use vt_station::{Progress, Unwatched, Watch};
 pub use vt_text::print_records;
 use vt_text::write_bytes;
 
 /// Does what the words ask for.
-fn answer<H: Threads + Wait + Sync, S: AsStr, R: Read, O: Write>(
+fn answer<H: Threads + Wait + Sync, S: AsStr, R: Read, W: Watch + Sync, O: Write>(
     rt: &H,
     alloc: Global,
     words: &[S],
+    watch: &W,
     reader: &mut R,
     out: &mut O,
 ) -> Result<(), Fault>
@@ -43,7 +46,7 @@ fn answer<H: Threads + Wait + Sync, S: AsStr, R: Read, O: Write>(
 {
     match read_request(alloc, words)? {
         Request::Help(text) => write_bytes(out, text.as_bytes()),
-        Request::Run(options) => simulate(rt, alloc, &options, out),
+        Request::Run(options) => simulate(rt, alloc, &options, watch, out),
         Request::Replay(options) => run_replay(alloc, &options, reader, out),
     }
 }
@@ -76,14 +79,15 @@ fn answer<H: Threads + Wait + Sync, S: AsStr, R: Read, O: Write>(
 /// - N = 9: `out` failed. A beginning of the text was written, but not all of it.
 ///
 /// The handle `rt` serves only for the threads of a run on workers. A replay reads `reader` to its end; nothing else
-/// reads it.
-pub fn program<H: Threads + Wait + Sync, S: AsStr, R: Read, O: Write, E: Write>(
+/// reads it. `watch` is told how far a run is; no contract says what it is told.
+pub fn program<H: Threads + Wait + Sync, S: AsStr, R: Read, O: Write, E: Write, W: Watch + Sync>(
     rt: &H,
     alloc: Global,
     words: &[S],
     reader: &mut R,
     out: &mut O,
     err: &mut E,
+    watch: &W,
 ) -> u8
     ensures done { result ≡ 0 → IsDone (map S.text words.now) (R.remaining reader.old) (O.contents out.old) (O.contents out.new) }
     ensures silent { result ≡ 0 → Keeps (E.contents err.old) (E.contents err.new) }
@@ -95,7 +99,7 @@ pub fn program<H: Threads + Wait + Sync, S: AsStr, R: Read, O: Write, E: Write>(
     ensures unrun { AskWithBadLine (map S.text words.now) (R.remaining reader.old) → (result ≢ 0) × Keeps (O.contents out.old) (O.contents out.new) }
     ensures unread { ¬ AreOfReplay (map S.text words.now) → Keeps (R.remaining reader.old) (R.remaining reader.new) }
 {
-    match answer(rt, alloc, words, reader, out) {
+    match answer(rt, alloc, words, watch, reader, out) {
         Ok(()) => 0,
         Err(fault) => tell_refusal(err, fault),
     }

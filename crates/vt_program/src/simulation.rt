@@ -12,6 +12,7 @@ use std::thread::Threads;
 use vt_command::{ModelName, Options};
 use vt_key::Fault;
 use vt_options::RunSettings;
+use vt_station::Watch;
 
 /// Simulates the model that the options name, and writes the records of the run, in the version that they name.
 ///
@@ -23,10 +24,11 @@ use vt_options::RunSettings;
 /// before the end of the run, and [`Fault::Busy`] if the records couldn't be read.
 ///
 /// In both, [`Fault::Output`] means that the writer failed. A beginning of the text was written.
-pub(crate) fn simulate<H: Threads + Wait + Sync, O: Write>(
+pub(crate) fn simulate<H: Threads + Wait + Sync, W: Watch + Sync, O: Write>(
     rt: &H,
     alloc: Global,
     options: &Options,
+    watch: &W,
     out: &mut O,
 ) -> Result<(), Fault>
     ensures ok { OnOk result (Appends (O.contents out.old) (O.contents out.new) (text_of_run options.now)) }
@@ -39,8 +41,10 @@ pub(crate) fn simulate<H: Threads + Wait + Sync, O: Write>(
         text: options.text,
     };
     match options.model {
-        ModelName::Hop => vt_runner::simulate(rt, alloc, &options.hop, &settings, out),
-        ModelName::Phold => vt_runner::simulate(rt, alloc, &options.phold, &settings, out),
-        ModelName::Stations => vt_runner::simulate(rt, alloc, &options.stations, &settings, out),
+        ModelName::Hop => vt_runner::simulate(rt, alloc, &options.hop, &settings, watch, out),
+        ModelName::Phold => vt_runner::simulate(rt, alloc, &options.phold, &settings, watch, out),
+        ModelName::Stations => {
+            vt_runner::simulate(rt, alloc, &options.stations, &settings, watch, out)
+        }
     }
 }

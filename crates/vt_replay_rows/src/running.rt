@@ -6,7 +6,7 @@ use std::process::Abort;
 use std::sync::Wait;
 use std::test::Fail;
 use std::thread::Threads;
-use vt_program::program;
+use vt_program::{Unwatched, program};
 
 /// A reader that gives a number of pieces of a text, each of limited length, and then fails.
 #[derive(Drop)]
@@ -99,7 +99,15 @@ pub(crate) fn run_into<R: Read>(
 ) -> Result<Outcome, Fail> {
     let words: Vec<&str> = line.split_ascii_whitespace().collect(rt.alloc())?;
     let (mut out, mut err) = (out, err);
-    let status = program(rt, rt.alloc(), words.as_slice(), reader, &mut out, &mut err);
+    let status = program(
+        rt,
+        rt.alloc(),
+        words.as_slice(),
+        reader,
+        &mut out,
+        &mut err,
+        &Unwatched,
+    );
     Ok(Outcome {
         status,
         out: out.taken,

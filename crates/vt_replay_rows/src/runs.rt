@@ -6,7 +6,7 @@ use std::sync::Wait;
 use std::test::Fail;
 use std::thread::Threads;
 use vt_key::Fault;
-use vt_program::{program, tell_refusal};
+use vt_program::{Unwatched, program, tell_refusal};
 
 /// What `twarp run --text 1` prints.
 pub(crate) const SIX_LINES: &str =
@@ -83,6 +83,7 @@ pub(crate) fn run_within(
         &mut reader,
         &mut out,
         &mut err,
+        &Unwatched,
     );
     assert!(rt;
         reader.len() == 6 && err.calls <= 1 + err.taken.len() / err_room.max(1),

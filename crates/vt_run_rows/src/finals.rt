@@ -5,7 +5,7 @@ use std::rt::{self, HostRuntime};
 use vt_key::Fault;
 use vt_model::Config;
 use vt_models::{Hop, Phold, Stations};
-use vt_station::{Open, run_workers_to_finals};
+use vt_station::{Unwatched, run_workers_to_finals};
 
 #[test]
 fn finals_of_each_model_agree(rt: HostRuntime) {
@@ -26,7 +26,7 @@ fn finals_of_few_processes_agree(rt: HostRuntime) {
 #[test]
 fn hops_end_with_their_last_values(rt: HostRuntime) {
     let config = Config::new(2, 2, 10, 0).expect(&rt, "config");
-    match run_workers_to_finals(&rt, rt.alloc(), config, &two_hops(&rt), &Open, TURNS) {
+    match run_workers_to_finals(&rt, rt.alloc(), config, &two_hops(&rt), &Unwatched, TURNS) {
         Ok(finished) => {
             assert!(rt; finished.records.as_slice() == &all_records()[..]);
             assert_eq!(rt; finished.finals.as_slice(), &[66049, 131330][..]);
@@ -38,7 +38,7 @@ fn hops_end_with_their_last_values(rt: HostRuntime) {
 #[test]
 fn a_run_that_stops_has_no_finals(rt: HostRuntime) {
     let config = Config::new(2, 1, 10, 0).expect(&rt, "config");
-    match run_workers_to_finals(&rt, rt.alloc(), config, &two_hops(&rt), &Open, 2) {
+    match run_workers_to_finals(&rt, rt.alloc(), config, &two_hops(&rt), &Unwatched, 2) {
         Ok(_) => assert!(rt; false),
         Err(stopped) => {
             assert!(rt; stopped.fault == Fault::TurnsSpent);

@@ -8,7 +8,7 @@ use std::thread::Threads;
 use vt_model::{Config, Model as EventModel, Record};
 use vt_models::Hop;
 use vt_seq::Sequential;
-use vt_station::{Gate, Open, run_workers, run_workers_to_finals};
+use vt_station::{Unwatched, Watch, run_workers, run_workers_to_finals};
 
 /// As many turns as the program grants a worker.
 pub const TURNS: u64 = 10_000_000;
@@ -41,18 +41,18 @@ pub fn all_records() -> [Record; 6] {
 }
 
 /// The run goes to its end and has these records.
-pub fn gives<R: Abort + AllocGlobal + Threads + Wait + Sync, M: EventModel + Sync, G: Gate + Sync>(
+pub fn gives<R: Abort + AllocGlobal + Threads + Wait + Sync, M: EventModel + Sync, W: Watch + Sync>(
     rt: &R,
     model: &M,
     config: Config,
-    gate: &G,
+    watch: &W,
     want: &[Record],
 )
 where
     M::State: Send,
     M::Kept: Send,
 {
-    match run_workers(rt, rt.alloc(), config, model, gate, TURNS) {
+    match run_workers(rt, rt.alloc(), config, model, watch, TURNS) {
         Ok(records) => assert!(rt; records.as_slice() == want),
         Err(stopped) => assert_eq!(rt; stopped.fault.number(), 0),
     }
@@ -72,7 +72,7 @@ where
 {
     for workers in 1..4u32 {
         let config = Config::new(lps, workers, end, 0).expect(rt, "config");
-        gives(rt, model, config, &Open, want);
+        gives(rt, model, config, &Unwatched, want);
     }
 }
 
@@ -88,7 +88,7 @@ where
 {
     let mut sequential = Sequential::new(rt.alloc(), model, config).expect(rt, "memory");
     let whole = sequential.run(rt.alloc()).expect(rt, "a run");
-    gives(rt, model, config, &Open, whole.as_slice());
+    gives(rt, model, config, &Unwatched, whole.as_slice());
 }
 
 /// The run has the records and the final values of the sequential simulator, on one worker, two and four.
@@ -107,7 +107,7 @@ where
         let mut sequential = Sequential::new(rt.alloc(), model, config).expect(rt, "memory");
         let records = sequential.run(rt.alloc()).expect(rt, "a run");
         let finals = sequential.finals(rt.alloc()).expect(rt, "finals");
-        match run_workers_to_finals(rt, rt.alloc(), config, model, &Open, TURNS) {
+        match run_workers_to_finals(rt, rt.alloc(), config, model, &Unwatched, TURNS) {
             Ok(finished) => {
                 assert!(rt; finished.records.as_slice() == records.as_slice());
                 assert!(rt; finished.finals.as_slice() == finals.as_slice());

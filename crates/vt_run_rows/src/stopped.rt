@@ -8,7 +8,7 @@ use std::sync::Wait;
 use std::thread::Threads;
 use vt_key::{Fault, MAX_WORKERS};
 use vt_model::{Config, Record};
-use vt_station::{Open, Stopped, run_workers};
+use vt_station::{Stopped, Unwatched, run_workers};
 
 // The run of two tokens with two hops.
 fn run<R: Abort + AllocGlobal + Threads + Wait + Sync>(
@@ -17,7 +17,7 @@ fn run<R: Abort + AllocGlobal + Threads + Wait + Sync>(
     turns: u64,
 ) -> Result<Vec<Record>, Stopped> {
     let config = Config::new(2, workers, 10, 0).expect(rt, "config");
-    run_workers(rt, rt.alloc(), config, &two_hops(rt), &Open, turns)
+    run_workers(rt, rt.alloc(), config, &two_hops(rt), &Unwatched, turns)
 }
 
 #[test]

@@ -4,6 +4,7 @@
 //! a whole program of one model, with options of its own.
 #![tactic(auto)]
 
+mod counting;
 mod one_model;
 mod printing;
 mod process;
@@ -12,7 +13,8 @@ mod replaying;
 mod simulation;
 
 pub use one_model::{Streams, model_program};
-pub use process::run_program;
+pub use process::{hint_of_process, run_program};
 pub use refusal::tell_refusal;
 pub use replaying::replay;
 pub use simulation::simulate;
+pub use vt_station::{Progress, Unwatched, Watch};

@@ -19,6 +19,7 @@ use std::thread::Threads;
 use vt_key::Fault;
 use vt_model::Model as EventModel;
 use vt_options::{OwnOption, ProgramTexts, Request, read_request};
+use vt_station::Watch;
 use vt_text::write_bytes;
 
 /// The streams of a program.
@@ -39,6 +40,7 @@ fn answer<
     F: Fn(&[u32]) -> Option<M>,
     S: AsStr,
     R: Read,
+    W: Watch + Sync,
     O: Write,
 >(
     rt: &H,
@@ -47,6 +49,7 @@ fn answer<
     texts: &ProgramTexts,
     own: &[OwnOption],
     make: &F,
+    watch: &W,
     reader: &mut R,
     out: &mut O,
 ) -> Result<(), Fault>
@@ -65,7 +68,7 @@ where
             let Some(model) = make(values.as_slice()) else {
                 return Err(Fault::BadOption("values"));
             };
-            simulate(rt, alloc, &model, &settings, out)
+            simulate(rt, alloc, &model, &settings, watch, out)
         }
         Request::Replay(settings, values) => {
             let Some(model) = make(values.as_slice()) else {
@@ -102,6 +105,8 @@ where
 ///   the words have no meaning, `values` if `make` makes no model of the values, or `input`.
 /// - N = 8: the step text has a bad line. TEXT names the first one. Nothing was run, and nothing was written.
 /// - N = 9: the output failed. A beginning of the text was written.
+///
+/// `watch` is told how far a run is. No contract says what it is told.
 pub fn model_program<
     H: Threads + Wait + Sync,
     M: EventModel + Sync + Drop,
@@ -110,6 +115,7 @@ pub fn model_program<
     R: Read,
     O: Write,
     E: Write,
+    W: Watch + Sync,
 >(
     rt: &H,
     alloc: Global,
@@ -117,6 +123,7 @@ pub fn model_program<
     streams: &mut Streams<R, O, E>,
     texts: &ProgramTexts,
     own: &[OwnOption],
+    watch: &W,
     make: F,
 ) -> u8
 where
@@ -141,6 +148,7 @@ where
         texts,
         own,
         &make,
+        watch,
         &mut streams.input,
         &mut streams.output,
     ) {

@@ -20,7 +20,8 @@ use std::sync::Wait;
 use std::thread::Threads;
 use vt_key::Fault;
 use vt_model::Model as EventModel;
-use vt_options::{OwnOption, ProgramTexts};
+use vt_options::{OwnOption, ProgramTexts, hint};
+use vt_station::Watch;
 
 /// The process's words. No contract says that they are these: the library's `env::args` has none.
 ///
@@ -39,7 +40,7 @@ fn words_of<H: Env + AllocGlobal>(rt: &H) -> Result<Vec<String>, Fault>
 /// The whole program of a model: does what the words of the process ask for, as [`model_program`] says, and returns the exit
 /// status.
 ///
-/// `texts` is what help shows of the program, `own` are the model's options, and `make` makes the model of their values,
+/// `texts` is what help shows of the program, `own` are the model's options, `watch` is told how far a run is, and `make` makes the model of their values,
 /// which come in the order of `own`, each in its range. `None`: these values make no model, and the program refuses them.
 ///
 /// No contract says what the words of the process are: status 0 means that for some words all that they ask for was written.
@@ -50,7 +51,15 @@ pub fn run_program<
     R: Read,
     O: Write,
     E: Write,
->(rt: &H, streams: &mut Streams<R, O, E>, texts: &ProgramTexts, own: &[OwnOption], make: F) -> u8
+    W: Watch + Sync,
+>(
+    rt: &H,
+    streams: &mut Streams<R, O, E>,
+    texts: &ProgramTexts,
+    own: &[OwnOption],
+    watch: &W,
+    make: F,
+) -> u8
 where
     M::State: Send,
     M::Kept: Send,
@@ -64,7 +73,31 @@ where
         × TellsRefusalOf texts.now.name.now fault (E.contents streams.old.errors) (E.contents streams.new.errors) }
 {
     match words_of(rt) {
-        Ok(words) => model_program(rt, rt.alloc(), words.as_slice(), streams, texts, own, make),
+        Ok(words) => model_program(
+            rt,
+            rt.alloc(),
+            words.as_slice(),
+            streams,
+            texts,
+            own,
+            watch,
+            make,
+        ),
         Err(fault) => tell_refusal(&mut streams.errors, texts.name, fault),
     }
+}
+
+/// A line for a terminal where [`run_program`] has refused the words of the process: which word it was, and what is allowed. None
+/// where the words aren't refused, or memory was.
+pub fn hint_of_process<H: Env + AllocGlobal>(
+    rt: &H,
+    texts: &ProgramTexts,
+    own: &[OwnOption],
+) -> Option<String>
+    requires defaults { HaveDefaults own.now }
+{
+    let Ok(words) = words_of(rt) else {
+        return None;
+    };
+    hint(rt.alloc(), texts, own, words.as_slice())
 }

@@ -4,6 +4,7 @@ ghost use Rattle.std.specs.Prelude.{OnOk, IfErr};
 ghost use Rattle.std.specs.Io.KnownBytes.{Appends};
 ghost use Rattle.vt_runner.specs.Runs.{run_text, text_below, PassesInRun, StopsRun, StopsWork, StopsBy};
 
+use crate::counting::EventCount;
 use crate::printing::print_in_threads;
 use std::alloc::Global;
 use std::io::Write;
@@ -13,7 +14,7 @@ use vt_key::Fault;
 use vt_model::Model as EventModel;
 use vt_options::{RunSettings, Synch};
 use vt_seq::Execution;
-use vt_station::{Open, run_workers};
+use vt_station::{Watch, run_workers};
 use vt_text::{TextBuffer, print_records, put_lines};
 
 /// So many records are gathered before their lines are written.
@@ -21,10 +22,11 @@ const GROUP: usize = 1_024;
 
 /// Simulates a model in this thread, and writes the records of the run while it goes on, in the version that the options
 /// name. If the run stops, what was gathered and not yet written is lost.
-fn print_run<M: EventModel, O: Write>(
+fn print_run<M: EventModel, W: Watch, O: Write>(
     alloc: Global,
     model: &M,
     options: &RunSettings,
+    watch: &W,
     out: &mut O,
 ) -> Result<(), Fault>
     ensures ok { OnOk result (Appends (O.contents out.old) (O.contents out.new) (run_text options.now.text (M.handlers model.now) options.now.config)) }
@@ -33,24 +35,28 @@ fn print_run<M: EventModel, O: Write>(
     let mut execution = Execution::new(alloc, model, options.config)?;
     let mut records = Vec::new(alloc);
     let mut text = TextBuffer::new();
+    let mut count = EventCount::new(watch, options.config.end().ticks());
     text.put_bytes(out, options.text.first_line())?;
     while execution.step(&mut records)? {
+        count.add(&execution);
         if records.len() >= GROUP {
             put_lines(&mut text, out, records.as_slice(), options.text)?;
             records.clear();
         }
     }
+    count.end(options.config.end().ticks());
     put_lines(&mut text, out, records.as_slice(), options.text)?;
     text.flush(out)
 }
 
 /// Simulates a model by Time Warp, in a thread for each worker, and writes the records of the run, in the version that
 /// the options name. If the run stops, it writes the committed records in that version before it returns the fault.
-fn print_work<H: Threads + Wait + Sync, M: EventModel + Sync, O: Write>(
+fn print_work<H: Threads + Wait + Sync, M: EventModel + Sync, W: Watch + Sync, O: Write>(
     rt: &H,
     alloc: Global,
     model: &M,
     options: &RunSettings,
+    watch: &W,
     out: &mut O,
 ) -> Result<(), Fault>
 where
@@ -59,7 +65,7 @@ where
     ensures ok { OnOk result (Appends (O.contents out.old) (O.contents out.new) (run_text options.now.text (M.handlers model.now) options.now.config)) }
     ensures err { IfErr result (StopsWork (text_below options.now.text (M.handlers model.now) options.now.config) (run_text options.now.text (M.handlers model.now) options.now.config) (O.contents out.old) (O.contents out.new)) }
 {
-    match run_workers(rt, alloc, options.config, model, &Open, options.turns) {
+    match run_workers(rt, alloc, options.config, model, watch, options.turns) {
         Ok(records) => print_in_threads(
             rt,
             alloc,
@@ -86,11 +92,14 @@ where
 /// before the end of the run, and [`Fault::Busy`] if the records couldn't be read.
 ///
 /// In both, [`Fault::Output`] means that the writer failed. A beginning of the text was written.
-pub fn simulate<H: Threads + Wait + Sync, M: EventModel + Sync, O: Write>(
+///
+/// What `watch` is told of the run, no contract says.
+pub fn simulate<H: Threads + Wait + Sync, M: EventModel + Sync, W: Watch + Sync, O: Write>(
     rt: &H,
     alloc: Global,
     model: &M,
     options: &RunSettings,
+    watch: &W,
     out: &mut O,
 ) -> Result<(), Fault>
 where
@@ -100,7 +109,7 @@ where
     ensures err { IfErr result (StopsBy options.now.synch (PassesInRun (M.handlers model.now) options.now.config) (text_below options.now.text (M.handlers model.now) options.now.config) (run_text options.now.text (M.handlers model.now) options.now.config) (O.contents out.old) (O.contents out.new)) }
 {
     match options.synch {
-        Synch::Sequential => print_run(alloc, model, options, out),
-        Synch::Optimistic => print_work(rt, alloc, model, options, out),
+        Synch::Sequential => print_run(alloc, model, options, watch, out),
+        Synch::Optimistic => print_work(rt, alloc, model, options, watch, out),
     }
 }

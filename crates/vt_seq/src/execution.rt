@@ -1,6 +1,8 @@
 //! The execution of a model's events one after the other.
 
-ghost use Rattle.std.specs.Prelude.{◌≡◌, ℕ, suc, ◌+◌, ◌<◌, ◌≤◌, ◌↔◌, ◌⊎◌, [], length, IfOk, IfErr, IsTrue, IfSome, IfNone, Err, false};
+ghost use Rattle.std.specs.Prelude.{◌≡◌, ℕ, suc, ◌+◌, ◌<◌, ◌≤◌, ◌↔◌, ◌⊎◌, [], length, IfOk, IfErr, IsTrue, IfSome, IfNone, Err, false, slice_get};
+ghost use Rattle.std.specs.Option.{option_map};
+ghost use Rattle.vt_key.specs.Times.{ticks_of};
 ghost use Rattle.vt_key.specs.declared.fault.Fault.TheVariants.{Memory, NotLawful, Exhausted};
 ghost use Rattle.vt_model.specs.Simulation.{simulation_of, after};
 ghost use Rattle.vt_model.specs.Sequential.{after_steps, events_of, seq_records, seq_finals, weight};
@@ -76,6 +78,16 @@ impl<'m, M: EventModel> Execution<'m, M> {
         ensures value { let sim = simulation_of (M.handlers self.now.model) self.now.config in (n : ℕ) → IsAt sim n self.now → IfSome result (λ v. (p < self.now.config.lps) × (v ≡ (after sim p (events_of p (after_steps sim n).executed)).place)) }
     {
         self.engine.place(p)
+    }
+
+    /// The tick of the pending event of least key. None where none is pending.
+    pub fn next_tick(&self) -> Option<u64>
+        ensures { result ≡ option_map (λ event. ticks_of event.key.time) (slice_get self.now.pending 0) }
+    {
+        match self.engine.pending.first() {
+            Some(event) => Some(event.key.when().ticks()),
+            None => None,
+        }
     }
 
     /// Executes the pending event of least key, and puts its records behind `records`; false where none is pending, which

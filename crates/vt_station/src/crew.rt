@@ -16,9 +16,9 @@ ghost use Rattle.vt_station.specs.Crew.{IsSameJob, IsSameWork, AllAt, AreInOrder
 
 use crate::bell::{Bells, Start};
 use crate::driver::{Driver, Outcome, Wanted};
-use crate::gate::Gate;
 use crate::place::Place;
 use crate::station::Station;
+use crate::watch::Watch;
 use crate::worker::{NotMade, Worker};
 use std::alloc::Global;
 use std::marker::Model;
@@ -91,12 +91,12 @@ impl<'a, M: EventModel> Model for Job<'a, M> {
 
 impl<'a, M: EventModel> Job<'a, M> {
     /// Makes the kernel and all turns of the worker, and the final values if they are wanted.
-    fn work<R: Wait, G: Gate>(
+    fn work<R: Wait, W: Watch>(
         &mut self,
         rt: &R,
         alloc: Global,
         bells: &Bells,
-        gate: &G,
+        watch: &W,
         max_turns: u64,
         wanted: Wanted,
     )
@@ -117,7 +117,7 @@ impl<'a, M: EventModel> Job<'a, M> {
         match made {
             Ok(worker) => {
                 let mut driver = Driver::new(alloc, worker, bells);
-                self.outcome = Some(driver.run(rt, gate, max_turns));
+                self.outcome = Some(driver.run(rt, watch, max_turns));
                 self.finals = driver.finals(wanted);
                 self.place = Some(driver.leave());
             }
@@ -131,12 +131,12 @@ impl<'a, M: EventModel> Job<'a, M> {
 
 impl<'a, M: EventModel> Job<'a, M> {
     /// All of the worker's work, once all workers have begun. It lets the others know how it ends.
-    fn run<R: Wait, G: Gate>(
+    fn run<R: Wait, W: Watch>(
         &mut self,
         rt: &R,
         alloc: Global,
         bells: &Bells,
-        gate: &G,
+        watch: &W,
         max_turns: u64,
         wanted: Wanted,
     )
@@ -146,7 +146,7 @@ impl<'a, M: EventModel> Job<'a, M> {
             return;
         }
         match bells.begin(rt) {
-            Start::Whole => self.work(rt, alloc, bells, gate, max_turns, wanted),
+            Start::Whole => self.work(rt, alloc, bells, watch, max_turns, wanted),
             Start::Short => self.outcome = Some(Outcome::Refused(Fault::Memory)),
             Start::Over => self.outcome = Some(Outcome::Spent),
         }
@@ -392,11 +392,11 @@ fn finish_with(
 }
 
 /// Does all workers' work, each worker's in a thread of its own.
-fn work_all<R: Threads + Wait + Sync, M: EventModel + Sync, G: Gate + Sync>(
+fn work_all<R: Threads + Wait + Sync, M: EventModel + Sync, W: Watch + Sync>(
     rt: &R,
     alloc: Global,
     bells: &Bells,
-    gate: &G,
+    watch: &W,
     max_turns: u64,
     wanted: Wanted,
     jobs: &mut [Job<'_, M>],
@@ -414,17 +414,17 @@ where
         threads,
         &|_, job: &mut Job<'_, M>|
             ensures { IsSameJob job.entry.now job.exit.now }
-        { job.run(rt, alloc, bells, gate, max_turns, wanted) },
+        { job.run(rt, alloc, bells, watch, max_turns, wanted) },
     );
 }
 
 /// Makes a station and does all workers' work at it. Where records alone are wanted, there are no final values.
-fn run_crew<R: Threads + Wait + Sync, M: EventModel + Sync, G: Gate + Sync>(
+fn run_crew<R: Threads + Wait + Sync, M: EventModel + Sync, W: Watch + Sync>(
     rt: &R,
     alloc: Global,
     config: Config,
     model: &M,
-    gate: &G,
+    watch: &W,
     max_turns: u64,
     wanted: Wanted,
 ) -> Result<Finished, Stopped>
@@ -436,6 +436,7 @@ where
     ensures begun { IfErr result (λ stopped. (t : TimeValue) × (stopped.records.items ≡ seq_records (simulation_of (M.handlers model.now) config) t)) }
     ensures fault { IfErr result (λ stopped. IsStop stopped.fault) }
 {
+    watch.begin(config.end().ticks(), Some(config.workers));
     let (station, places) = match Station::new(alloc, model, config) {
         Ok(made) => made,
         Err(fault) => return Err(stop_with(alloc, fault, Err(fault))),
@@ -452,7 +453,7 @@ where
         rt,
         alloc,
         &bells,
-        gate,
+        watch,
         max_turns,
         wanted,
         jobs.as_mut_slice(),
@@ -465,18 +466,18 @@ where
 /// run, in the order of the sequential run.
 ///
 /// A worker makes at most `max_turns` turns. In each it takes its mail in, undoes what that overtakes, executes at most sixteen events,
-/// the least first, sends what they sent, joins the round of global virtual time and commits. `gate` is called before each execution,
-/// in the worker's thread. A worker that can't go on sleeps until another one lets it. Once a worker has left before the end of the run,
+/// the least first, sends what they sent, joins the round of global virtual time and commits. `watch` is told of it, in the workers'
+/// threads. A worker that can't go on sleeps until another one lets it. Once a worker has left before the end of the run,
 /// the others leave within a few turns. All threads are joined before the answer; nothing promises that there is one.
 ///
 /// [`Stopped`]: memory was refused, or the machine didn't start a thread for each worker; a count would pass 2^63; or a worker made all
 /// its turns before the end of the run. Its records are those below some time, a beginning of all.
-pub fn run_workers<R: Threads + Wait + Sync, M: EventModel + Sync, G: Gate + Sync>(
+pub fn run_workers<R: Threads + Wait + Sync, M: EventModel + Sync, W: Watch + Sync>(
     rt: &R,
     alloc: Global,
     config: Config,
     model: &M,
-    gate: &G,
+    watch: &W,
     max_turns: u64,
 ) -> Result<Vec<Record>, Stopped>
 where
@@ -486,7 +487,7 @@ where
     ensures begun { IfErr result (λ stopped. (t : TimeValue) × (stopped.records.items ≡ seq_records (simulation_of (M.handlers model.now) config) t)) }
     ensures fault { IfErr result (λ stopped. IsStop stopped.fault) }
 {
-    match run_crew(rt, alloc, config, model, gate, max_turns, Wanted::Records) {
+    match run_crew(rt, alloc, config, model, watch, max_turns, Wanted::Records) {
         Ok(finished) => Ok(finished.records),
         Err(stopped) => Err(stopped),
     }
@@ -496,12 +497,12 @@ where
 /// state after the whole run. Each worker makes those of its own processes at the end of its work.
 ///
 /// [`Stopped`]: as [`run_workers`] says; or memory was refused for the final values, and its records are all of the run.
-pub fn run_workers_to_finals<R: Threads + Wait + Sync, M: EventModel + Sync, G: Gate + Sync>(
+pub fn run_workers_to_finals<R: Threads + Wait + Sync, M: EventModel + Sync, W: Watch + Sync>(
     rt: &R,
     alloc: Global,
     config: Config,
     model: &M,
-    gate: &G,
+    watch: &W,
     max_turns: u64,
 ) -> Result<Finished, Stopped>
 where
@@ -512,5 +513,5 @@ where
     ensures begun { IfErr result (λ stopped. (t : TimeValue) × (stopped.records.items ≡ seq_records (simulation_of (M.handlers model.now) config) t)) }
     ensures fault { IfErr result (λ stopped. IsStop stopped.fault) }
 {
-    run_crew(rt, alloc, config, model, gate, max_turns, Wanted::Finals)
+    run_crew(rt, alloc, config, model, watch, max_turns, Wanted::Finals)
 }

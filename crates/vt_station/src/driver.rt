@@ -8,9 +8,9 @@ ghost use Rattle.vt_station.specs.AtWork.{IsAtSamePlace, IsAtSameStation};
 ghost use Rattle.vt_station.specs.Turns.{IsLasting, IsPassedOver, HasEnded};
 
 use crate::bell::Bells;
-use crate::gate::Gate;
 use crate::pace::Pace;
 use crate::place::Place;
+use crate::watch::{Progress, Watch};
 use crate::worker::Worker;
 use std::alloc::Global;
 use std::hint::spin_loop;
@@ -87,6 +87,9 @@ pub(crate) struct Driver<'a, M: EventModel> {
     looks: u32,
     // How many turns were made since another worker left before the end of the run.
     last_turns: u32,
+    // How many events were executed, and how many undone, since the worker last told of it.
+    executed: u64,
+    undone: u64,
 }
 
 impl<'a, M: EventModel> Driver<'a, M> {
@@ -110,6 +113,8 @@ impl<'a, M: EventModel> Driver<'a, M> {
             spins: 0,
             looks: MOST_LOOKS,
             last_turns: 0,
+            executed: 0,
+            undone: 0,
         }
     }
 
@@ -151,7 +156,7 @@ impl<'a, M: EventModel> Driver<'a, M> {
         let before = self.worker.kernel().outbox_len();
         for i in 0..self.touched.len() {
             if let Some(lp) = self.touched.get(i) {
-                self.worker.settle(*lp);
+                self.undone = self.undone.saturating_add(self.worker.settle(*lp));
             }
         }
         self.touched.clear();
@@ -204,7 +209,7 @@ impl<'a, M: EventModel> Driver<'a, M> {
     }
 
     /// Executes events, each time the one of least rank, and returns how many.
-    fn execute_some<G: Gate>(&mut self, gate: &G, turn: u64) -> Result<u32, Fault>
+    fn execute_some<W: Watch>(&mut self, watch: &W, turn: u64) -> Result<u32, Fault>
         ensures same { IsAtSameStation self.old.worker self.new.worker }
         ensures lasting { IfErr result IsLasting }
     {
@@ -213,7 +218,7 @@ impl<'a, M: EventModel> Driver<'a, M> {
             let Some(lp) = self.worker.kernel().next() else {
                 return Ok(done);
             };
-            gate.before_execute(self.worker.number(), turn);
+            watch.before_execute(self.worker.number(), turn);
             if !pass_over(self.worker.execute(lp))? {
                 return Ok(done);
             }
@@ -356,7 +361,7 @@ fn pass_over(answer: Result<(), Fault>) -> Result<bool, Fault>
 impl<'a, M: EventModel> Driver<'a, M> {
     /// A turn up to its cut: fetches and accepts mail, executes events, and sends mail. Returns whether an event was
     /// executed.
-    fn work<G: Gate>(&mut self, gate: &G, turn: u64) -> Result<bool, Fault>
+    fn work<W: Watch>(&mut self, watch: &W, turn: u64) -> Result<bool, Fault>
         ensures same { IsAtSameStation self.old.worker self.new.worker }
         ensures lasting { IfErr result IsLasting }
     {
@@ -366,9 +371,10 @@ impl<'a, M: EventModel> Driver<'a, M> {
         self.home_all()?;
         self.settle_touched();
         let before = self.worker.kernel().outbox_len();
-        let executed = self.execute_some(gate, turn)?;
+        let executed = self.execute_some(watch, turn)?;
         let after = self.worker.kernel().outbox_len();
         self.pace.make(after.saturating_sub(before));
+        self.executed = self.executed.saturating_add(u64::from(executed));
         self.post_all()?;
         Ok(executed > 0)
     }
@@ -391,19 +397,36 @@ impl<'a, M: EventModel> Driver<'a, M> {
     }
 
     /// One turn, all but the close of the book.
-    fn turn<G: Gate>(&mut self, gate: &G, turn: u64) -> Result<(), Fault>
+    fn turn<W: Watch>(&mut self, watch: &W, turn: u64) -> Result<(), Fault>
         ensures same { IsAtSameStation self.old.worker self.new.worker }
         ensures lasting { IfErr result IsLasting }
     {
         self.heard = self.bells.heard(self.worker.number());
         self.busy = false;
-        let executed = self.work(gate, turn)?;
+        let executed = self.work(watch, turn)?;
         let agreed = self.agree()?;
         self.pace.count_turn(agreed, executed);
         let committed = self.commit_risen()?;
         let goes_on = !self.pace.is_held() && (executed || self.worker.kernel().outbox_len() > 0);
         self.idle = !(agreed || committed || goes_on);
+        if committed {
+            self.tell(watch);
+        }
         Ok(())
+    }
+
+    /// Tells what watches the run what was done since it was last told.
+    fn tell<W: Watch>(&mut self, watch: &W)
+        ensures same { self.new.worker ≡ self.old.worker }
+    {
+        let progress = Progress {
+            tick: self.worker.kernel().floor().ticks(),
+            executed: self.executed,
+            undone: self.undone,
+        };
+        watch.tell(self.worker.number(), progress);
+        self.executed = 0;
+        self.undone = 0;
     }
 
     /// Rests if the turn left nothing to go on with: it spins or yields if another try may soon do, else waits for
@@ -454,8 +477,19 @@ impl<'a, M: EventModel> Driver<'a, M> {
         self.last_turns <= LAST_TURNS
     }
 
+    /// Makes turn after turn, until the book is closed, a call is refused for good, or all turns are made. Then it tells what
+    /// watches the run what was done.
+    pub(crate) fn run<R: Wait, W: Watch>(&mut self, rt: &R, watch: &W, max_turns: u64) -> Outcome
+        ensures same { IsAtSameStation self.old.worker self.new.worker }
+        ensures ended { HasEnded self.new.worker.view result }
+    {
+        let outcome = self.make_turns(rt, watch, max_turns);
+        self.tell(watch);
+        outcome
+    }
+
     /// Makes turn after turn, until the book is closed, a call is refused for good, or all turns are made.
-    pub(crate) fn run<R: Wait, G: Gate>(&mut self, rt: &R, gate: &G, max_turns: u64) -> Outcome
+    fn make_turns<R: Wait, W: Watch>(&mut self, rt: &R, watch: &W, max_turns: u64) -> Outcome
         ensures same { IsAtSameStation self.old.worker self.new.worker }
         ensures ended { HasEnded self.new.worker.view result }
     {
@@ -463,7 +497,7 @@ impl<'a, M: EventModel> Driver<'a, M> {
             if !self.goes_on() {
                 break;
             }
-            if let Err(fault) = self.turn(gate, turn + 1) {
+            if let Err(fault) = self.turn(watch, turn + 1) {
                 return Outcome::Refused(fault);
             }
             if let Some(outcome) = self.close() {

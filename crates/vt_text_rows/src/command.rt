@@ -11,15 +11,15 @@ use vt_text::Version;
 
 /// An option with the ends of its range, a text beyond each end, and its default.
 #[derive(Clone, Copy)]
-struct Range {
-    name: &'static str,
-    ends: [&'static str; 2],
+pub(crate) struct Range {
+    pub(crate) name: &'static str,
+    pub(crate) ends: [&'static str; 2],
     beyond: [&'static str; 2],
     default: &'static str,
 }
 
 /// The options of `run` that are numbers, in the order in which they are tested.
-static RANGES: [Range; 17] = [
+pub(crate) static RANGES: [Range; 17] = [
     Range {
         name: "workers",
         ends: ["1", "256"],
@@ -128,7 +128,7 @@ const TEXT: Range = Range {
 };
 
 /// The option of `replay` before the last, which has the others of `run` but `synch` and `turns`.
-const SERIAL: Range = Range {
+pub(crate) const SERIAL: Range = Range {
     name: "serial",
     ends: ["0", "9223372036854775808"],
     beyond: ["-0", "9223372036854775809"],
@@ -145,7 +145,7 @@ fn replay_ranges(alloc: Global) -> Result<Vec<Range>, AllocError> {
 }
 
 /// The option with this text behind `=`.
-fn option_word(alloc: Global, name: &str, text: &str) -> Result<String, AllocError> {
+pub(crate) fn option_word(alloc: Global, name: &str, text: &str) -> Result<String, AllocError> {
     format!(in alloc; "--{name}={text}")
 }
 

@@ -4,6 +4,8 @@
 #[cfg(test)]
 mod command;
 #[cfg(test)]
+mod hints;
+#[cfg(test)]
 mod records;
 #[cfg(test)]
 mod steps;

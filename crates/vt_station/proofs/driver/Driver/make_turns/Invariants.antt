@@ -1,5 +1,5 @@
 use Rattle.vt_station.specs.AtWork.{IsAtSameStation}
-use Rattle.vt_station.proofs.driver.Driver.run.Given as goal
+use Rattle.vt_station.proofs.driver.Driver.make_turns.Given as goal
 
 abbrev pub invariant-loop-turn : goal.invariant-loop-turn
 invariant-loop-turn g l = IsAtSameStation l.initial.self.worker l.self.worker

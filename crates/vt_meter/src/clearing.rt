@@ -1,0 +1,37 @@
+//! A writer to the terminal on which a meter shows its line.
+
+use crate::meter::Meter;
+use std::io::{self, Write};
+
+/// A writer that may write to the terminal on which a meter shows its line: before it does, the line is taken away.
+#[derive(Drop)]
+pub struct Clearing<'m, W, E> {
+    meter: &'m Meter,
+    writer: W,
+    // Where the meter shows its line, if the writer writes to the same terminal.
+    line: Option<E>,
+}
+
+impl<'m, W: Write, E: Write> Clearing<'m, W, E> {
+    /// The writer, which writes to the meter's terminal where `line` is given: what the meter writes its line to.
+    pub fn new(meter: &'m Meter, writer: W, line: Option<E>) -> Clearing<'m, W, E> {
+        Clearing {
+            meter,
+            writer,
+            line,
+        }
+    }
+}
+
+impl<'m, W: Write, E: Write> Write for Clearing<'m, W, E> {
+    fn write(&mut self, buf: &[u8]) -> io::Result<usize> {
+        if let Some(line) = &mut self.line {
+            self.meter.hush(line);
+        }
+        self.writer.write(buf)
+    }
+
+    fn flush(&mut self) -> io::Result<()> {
+        self.writer.flush()
+    }
+}

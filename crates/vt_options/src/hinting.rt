@@ -1,0 +1,88 @@
+//! What a terminal is told after a refusal: which word it was, and what is allowed.
+
+ghost use Rattle.vt_options.specs.Own.{HaveDefaults};
+
+use crate::asking::{own_matches, read_request};
+use crate::line::ProgramTexts;
+use crate::own::OwnOption;
+use crate::texts::{END, LPS, OptionText, SEED, SERIAL, SYNCH, TEXT, TURNS, WORKERS};
+use clap::{ArgMatches, Error};
+use std::alloc::Global;
+use std::convert::AsStr;
+use vt_key::Fault;
+
+/// The options of every model, each once.
+static EVERY_MODEL: [OptionText; 8] = [SYNCH, WORKERS, LPS, END, SEED, TURNS, SERIAL, TEXT];
+
+/// Which values an option takes, where a table has it.
+pub fn takes_of(options: &[OptionText], name: &str) -> Option<&'static str> {
+    for option in options {
+        if option.name == name {
+            return Some(option.takes);
+        }
+    }
+    None
+}
+
+/// A line on an option that is refused: which word it was, and what it takes. Where there is no command, it says so. None where
+/// memory was refused, or the words give no such option a value.
+pub fn hint_on_option(
+    alloc: Global,
+    program: &str,
+    matches: &ArgMatches,
+    name: &str,
+    takes: Option<&str>,
+) -> Option<String> {
+    let Some((_, inner)) = matches.subcommand() else {
+        return format!(in alloc;
+            "{program}: there is no command; {program} --help says what is allowed"
+        ).ok();
+    };
+    let word = inner.get_str(name)?;
+    let takes = takes?;
+    format!(in alloc; "{program}: --{name} takes {takes}, not '{word}'").ok()
+}
+
+/// A line on words that have no meaning: what the parser says of them, and where to read what is allowed. None where memory
+/// was refused.
+pub fn hint_on_line(alloc: Global, program: &str, error: Error) -> Option<String> {
+    let text = error.to_string(alloc).ok()?;
+    let first = text.as_str().lines().next()?;
+    let said = first.strip_prefix("error: ").unwrap_or(first);
+    format!(in alloc; "{program}: {said}; {program} --help says what is allowed").ok()
+}
+
+/// Which values an option of a program of one model takes.
+fn own_takes(alloc: Global, own: &[OwnOption], name: &str) -> Option<String> {
+    for option in own {
+        if option.name == name {
+            let least = option.least;
+            let most = option.most;
+            return format!(in alloc; "{least} to {most}").ok();
+        }
+    }
+    takes_of(&EVERY_MODEL, name)?.to_string(alloc).ok()
+}
+
+/// A line for a terminal on the command line of a program of one model, where [`read_request`] refuses it: which word it was, and what is
+/// allowed. None where the line isn't refused, or memory was.
+pub fn hint<S: AsStr>(
+    alloc: Global,
+    texts: &ProgramTexts,
+    own: &[OwnOption],
+    words: &[S],
+) -> Option<String>
+    requires { HaveDefaults own.now }
+{
+    let Err(Fault::BadOption(name)) = read_request(alloc, texts, own, words) else {
+        return None;
+    };
+    match own_matches(alloc, texts, own, words) {
+        Ok(matches) => {
+            let takes = own_takes(alloc, own, name);
+            let takes = takes.as_ref().map(|takes| takes.as_str());
+            hint_on_option(alloc, texts.name, &matches, name, takes)
+        }
+        Err(error) => hint_on_line(alloc, texts.name, error),
+    }
+}
