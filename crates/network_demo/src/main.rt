@@ -1,9 +1,8 @@
 //! The network of routers as a whole program: `network_demo run --lps 16 --end 200` prints the records of sixteen routers.
 #![tactic(auto)]
 
-use std::io::IsTerminal;
 use std::process::ExitCode;
-use vt_meter::{Clearing, Meter};
+use vt_meter::Terminal;
 use vt_network::Network;
 use vt_options::{OwnOption, ProgramTexts};
 use vt_runner::{Streams, hint_of_process, run_program};
@@ -48,36 +47,24 @@ static OPTIONS: [OwnOption; 4] = [
 
 /// Where standard error is a terminal, a long run shows there how far it is, and a refused command line what is allowed.
 fn main(rt: HostRuntime) -> ExitCode {
-    let shown = rt.stderr().is_terminal();
-    let meter = Meter::new(&rt, shown);
-    let line = if shown { Some(rt.stderr()) } else { None };
-    let over = if rt.stdout().is_terminal() {
-        line
-    } else {
-        None
-    };
+    let terminal = Terminal::new(&rt, rt.stderr());
     let mut streams = Streams {
         input: rt.stdin(),
-        output: Clearing::new(&meter, rt.stdout(), over),
-        errors: Clearing::new(&meter, rt.stderr(), line),
+        output: terminal.output(rt.stdout()),
+        errors: terminal.errors(),
     };
-    let status = meter.during(
+    let status = terminal.during(
         &rt,
         rt.alloc(),
-        rt.stderr(),
         || run_program(
             &rt,
             &mut streams,
             &TEXTS,
             &OPTIONS,
-            &meter,
+            terminal.meter(),
             |values| Network::new(values[0], values[1], values[2], values[3]).ok(),
         ),
     );
-    if shown && status == 2 {
-        if let Some(line) = hint_of_process(&rt, &TEXTS, &OPTIONS) {
-            let _ = eprintln!(rt; "{line}");
-        }
-    }
+    terminal.hint(status, || hint_of_process(&rt, &TEXTS, &OPTIONS));
     ExitCode::from(status)
 }

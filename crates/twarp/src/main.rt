@@ -6,10 +6,10 @@ ghost use Rattle.vt_key.specs.Faults.{option_named};
 ghost use Rattle.vt_key.specs.declared.fault.Fault.TheVariants.{Memory};
 
 use std::env;
-use std::io::{ErrorKind, IsTerminal};
+use std::io::ErrorKind;
 use std::process::ExitCode;
 use vt_key::Fault;
-use vt_meter::{Clearing, Meter};
+use vt_meter::Terminal;
 use vt_program::{hint, program, tell_refusal};
 
 /// The process's words. No contract says that they are these: the library's `env::args` has none.
@@ -28,24 +28,16 @@ fn words_of(rt: &HostRuntime) -> Result<Vec<String>, Fault>
 
 /// Where standard error is a terminal, a long run shows there how far it is, and a refused command line what is allowed.
 fn main(rt: HostRuntime) -> ExitCode {
-    let shown = rt.stderr().is_terminal();
-    let meter = Meter::new(&rt, shown);
-    let line = if shown { Some(rt.stderr()) } else { None };
-    let over = if rt.stdout().is_terminal() {
-        line
-    } else {
-        None
-    };
-    let mut out = Clearing::new(&meter, rt.stdout(), over);
-    let mut err = Clearing::new(&meter, rt.stderr(), line);
+    let terminal = Terminal::new(&rt, rt.stderr());
+    let mut out = terminal.output(rt.stdout());
+    let mut err = terminal.errors();
     let words = match words_of(&rt) {
         Ok(words) => words,
         Err(fault) => return ExitCode::from(tell_refusal(&mut err, fault)),
     };
-    let status = meter.during(
+    let status = terminal.during(
         &rt,
         rt.alloc(),
-        rt.stderr(),
         || program(
             &rt,
             rt.alloc(),
@@ -53,13 +45,9 @@ fn main(rt: HostRuntime) -> ExitCode {
             &mut rt.stdin(),
             &mut out,
             &mut err,
-            &meter,
+            terminal.meter(),
         ),
     );
-    if shown && status == 2 {
-        if let Some(line) = hint(rt.alloc(), words.as_slice()) {
-            let _ = eprintln!(rt; "{line}");
-        }
-    }
+    terminal.hint(status, || hint(rt.alloc(), words.as_slice()));
     ExitCode::from(status)
 }

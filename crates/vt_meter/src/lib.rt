@@ -7,9 +7,11 @@
 mod clearing;
 mod meter;
 mod reading;
+mod terminal;
 #[cfg(test)]
 mod tests;
 
 pub use clearing::Clearing;
 pub use meter::Meter;
 pub use reading::{Reading, last_line, line};
+pub use terminal::Terminal;
