@@ -11,7 +11,7 @@ use vt_key::{Fault, MAX_END, MAX_PROCESSES, MAX_WORKERS, When};
 pub struct Config {
     /// The number of logical processes, from 1 to 65,536. They are named from 0.
     pub lps: u32,
-    /// The number of workers, from 1 to 64. They are named from 0.
+    /// The number of workers, from 1 to 256. They are named from 0.
     pub workers: u32,
     /// The end of virtual time, in ticks, from 1 to 2^62: every event of the run is before this tick, and what would be
     /// received at it or later isn't sent.
