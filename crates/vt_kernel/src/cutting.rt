@@ -29,7 +29,7 @@ impl<M: EventModel> Kernel<M> {
         self.floor = announced;
     }
 
-    /// Sets the floor: the time, in ticks, below which the worker may commit.
+    /// Sets the floor: the time below which the worker may commit.
     pub fn set_floor(&mut self, floor: When)
         ensures set { self.new ≡ record self.old { floor = floor } }
         ensures stands { (handlers : Handlers _ _ _) (part : Part _) → StandsFor handlers self.old part → StandsFor handlers self.new (record part { floor = floor }) }
@@ -37,7 +37,7 @@ impl<M: EventModel> Kernel<M> {
         self.floor = floor;
     }
 
-    /// What the worker reports: how much mail of the old colour it has sent and got, and a least time, in ticks. That is
+    /// What the worker reports: how much mail of the old colour it has sent and got, and a least time. That is
     /// the lesser of its red minimum and the least time of all letters that it has.
     pub fn report_values(&self) -> (u64, u64, When)
         ensures sent { result.0 ≡ count_of self.now.sent (other_colour self.now.colour) }
@@ -50,7 +50,7 @@ impl<M: EventModel> Kernel<M> {
         (self.sent.of(left), self.got.of(left), least)
     }
 
-    /// The least time, in ticks, of all letters that the worker has: in its outbox, arrived, pending and waiting. The
+    /// The least time of all letters that the worker has: in its outbox, arrived, pending and waiting. The
     /// end of the run if it has none.
     pub fn least(&self) -> When
         ensures { result ≡ least_time (end_of self.now.config) (held_letters self.now) }
@@ -96,7 +96,7 @@ fn least_of_letters<P: Copy>(letters: &List<Letter<P>>, end: When) -> When
     least
 }
 
-/// The least time of this mail, in ticks; the end of the run if there is none.
+/// The least time of this mail; the end of the run if there is none.
 pub fn least_of_mail<P: Copy>(mails: &[Mail<P>], end: When) -> When
     ensures { result ≡ least_time end (map (λ mail. mail.letter) mails.now) }
 {

@@ -92,7 +92,7 @@ impl<M: EventModel> Kernel<M> {
         self.colour
     }
 
-    /// The red minimum: the least time, in ticks, of all that the worker sent since its last cut, or since the opening;
+    /// The red minimum: the least time of all that the worker sent since its last cut, or since the opening;
     /// the end of the run if it sent nothing.
     pub fn red_minimum(&self) -> When
         ensures { result ≡ self.now.red_minimum }
@@ -100,7 +100,7 @@ impl<M: EventModel> Kernel<M> {
         self.red_minimum
     }
 
-    /// The time, in ticks, below which the worker may commit.
+    /// The time below which the worker may commit.
     pub fn floor(&self) -> When
         ensures { result ≡ self.now.floor }
     {

@@ -43,6 +43,6 @@ pub enum Reply {
     Waiting,
     /// All have reported, and letters of the old colour were still travelling: a new pass of the same round begins.
     Again,
-    /// All have reported, no letter of the old colour was travelling, and this is the new global virtual time, in ticks.
+    /// All have reported, no letter of the old colour was travelling, and this is the new global virtual time.
     Announced(When),
 }

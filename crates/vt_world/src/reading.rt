@@ -24,7 +24,7 @@ use vt_key::{Event, Fault, When};
 use vt_model::Model as EventModel;
 
 impl<'m, M: EventModel> World<'m, M> {
-    /// The least time, in ticks, of all events and anti-messages that are unprocessed or travelling: in outboxes and
+    /// The least time of all events and anti-messages that are unprocessed or travelling: in outboxes and
     /// inboxes, fetched, pending and waiting. The end of the run if there are none. It takes no memory.
     pub fn least(&self) -> When
         ensures value { result ≡ least_held self.now }

@@ -57,7 +57,7 @@ impl<'m, M: EventModel> Model for World<'m, M> {
 }
 
 impl<'m, M: EventModel> World<'m, M> {
-    /// The announced time, in ticks. No event or anti-message before it is unprocessed or travelling, now or later.
+    /// The announced time. No event or anti-message before it is unprocessed or travelling, now or later.
     pub fn announced(&self) -> When
         ensures value { result ≡ self.now.board.announced }
         ensures least { TimeAtMost result (least_held self.now) }
@@ -65,7 +65,7 @@ impl<'m, M: EventModel> World<'m, M> {
         self.board.announced()
     }
 
-    /// The floor of the book, in ticks: the book shows the records below it. It is at most the announced time. Once
+    /// The floor of the book: the book shows the records below it. It is at most the announced time. Once
     /// the book is closed, it is the end of the run.
     pub fn floor(&self) -> When
         ensures value { result ≡ floor_held self.now }
