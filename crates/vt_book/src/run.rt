@@ -20,7 +20,7 @@ pub(crate) struct Run {
 }
 
 impl Run {
-    /// Takes out the first row, unless it is the only one: whether it isn't.
+    /// Takes out the first row, if another follows it, and returns whether one does. If none does, nothing changes.
     pub(crate) fn advance(&mut self) -> bool
         requires { IsRun self.old }
         ensures more { result ≡ true → IsRun self.new × AreSameRows (rows_of self.old) (self.old.first.0 ∷ rows_of self.new) }
@@ -63,7 +63,7 @@ pub(crate) fn run_of(rows: Vec<Row>) -> Option<Run>
     })
 }
 
-/// These rows, sorted in falling order where they are.
+/// These rows in falling order. They are sorted in place.
 fn falling(rows: Vec<Row>) -> Vec<Row>
     ensures sorted { IsSorted (λ x y. ⟦<Row as Ord>⟧.cmp y x) result.items }
     ensures permutation { IsPermutation rows.items result.items }

@@ -10,13 +10,14 @@ use std::thread::{Parker, Threads};
 use std::time::{Clock, Duration, Instant};
 use vt_station::{Progress, Watch};
 
-/// A run that takes no longer shows nothing. In milliseconds.
+/// How many milliseconds a run takes before it is shown. A shorter run shows nothing.
 const LONG: u64 = 2_000;
 
 /// How long the line stands before it is written anew, in milliseconds.
 const STANDS: u64 = 500;
 
-/// A line that has stood for so many milliseconds may be written anew: a wait may end early.
+/// For how many milliseconds a line has stood, at least, before it is written anew. It is less than [`STANDS`], since a wait may end
+/// early.
 const STANDS_AT_LEAST: u64 = 400;
 
 /// Takes away the line that stands on a terminal.

@@ -4,7 +4,7 @@ use vt_model::Model as EventModel;
 use vt_seq::Execution;
 use vt_station::{Progress, Watch};
 
-/// What watches a run is told of so many events at a time.
+/// After how many events a run in one thread tells what watches it.
 const AT_A_TIME: u64 = 1_024;
 
 /// Counts the events of a run in one thread for what watches it.

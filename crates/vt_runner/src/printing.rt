@@ -13,7 +13,7 @@ use vt_key::Fault;
 use vt_model::Record;
 use vt_text::{TextBuffer, Version, put_lines, write_bytes};
 
-/// Of how many records a thread makes the lines at a time.
+/// For how many records a thread makes the lines at a time.
 const SHARE: usize = 16_384;
 
 /// How many threads make lines at most.

@@ -17,7 +17,7 @@ use vt_seq::Execution;
 use vt_station::{Watch, run_workers};
 use vt_text::{TextBuffer, print_records, put_lines};
 
-/// So many records are gathered before their lines are written.
+/// How many records are gathered before their lines are written.
 const GROUP: usize = 1_024;
 
 /// Simulates a model in this thread, and writes the records of the run while it goes on, in the version that the options

@@ -155,7 +155,8 @@ impl<M: EventModel> Station<M> {
         self.close_at(&mut place.seat)
     }
 
-    /// Reads one word. So the place learns that the world after some list of steps has its part.
+    /// Reads one word of the table and changes nothing. The read tells contracts that some list of steps leads to a world in
+    /// which the part of the place's worker is what the place knows.
     pub(crate) fn look(&self, place: &mut Place<M::Payload>)
         requires own { place_table place.old ≡ station_table self.now }
         ensures same { (place_table place.new ≡ place_table place.old) × (place_worker place.new ≡ place_worker place.old) }

@@ -88,7 +88,8 @@ pub(crate) fn words_of(cells: usize) -> usize
     STRIDE * cells
 }
 
-/// Swaps the word of a claimed cell in. `_told` only fixes the type of the aim.
+/// Puts the word that says that a cell is claimed in the place of the cell's word, and returns what stood there. `_told`
+/// only fixes the type of the aim.
 fn swap<M: EventModel, J: Aim<M::Payload>, T>(
     shelf: &Shelf<M>,
     seat: &mut Seat<M>,
@@ -153,7 +154,8 @@ impl<M: EventModel> Station<M> {
         swap::<M, Brand, ()>(&self.table.shared, seat, cell, &()) != CLAIMED
     }
 
-    /// Reads one word. So the place learns that the world after some list of steps has its part.
+    /// Reads one word of the table and changes nothing. The read tells contracts that some list of steps leads to a world in
+    /// which the part of the seat's worker is what its place knows.
     pub(crate) fn look_at(&self, seat: &mut Seat<M>)
         requires table { seat.old.table_id ≡ self.now.table.shared.table_id }
         requires rests { Rests seat.old.me }

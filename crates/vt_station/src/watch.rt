@@ -27,7 +27,7 @@ pub trait Watch {
     fn tell(&self, _worker: u32, _progress: Progress) {}
 }
 
-/// What watches nothing.
+/// Watches no run: none of its calls does anything.
 #[derive(Clone, Copy)]
 pub struct Unwatched;
 
