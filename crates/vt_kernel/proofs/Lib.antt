@@ -20,3 +20,4 @@ pub mod DeliveryLemmas
 pub mod SettledWorker
 pub mod ChoosingLemmas
 pub mod ReadyLemmas
+pub mod ReentryLemmas

@@ -20,11 +20,12 @@ use Rattle.vt_kernel.proofs.LocalLemmas.{unknown-refused}
 module _ {S P K : Type 0} (handlers : Handlers S P K) (held : HeldWorker S P K) (are : AreProcesses held.config held.worker 0 held.processes) (part : Part P) (h : StandsFor handlers held part) where
   -- at a process that is none of the worker's there is nothing to settle
   pub unknown-settled : (p : ℕ) → 1 ≤ held.config.workers → length held.processes ≡ (held.config.lps + (held.config.workers - 1) - held.worker) / held.config.workers
-      → (p % held.config.workers ≡ held.worker → held.config.lps ≤ p) → SettlesTo (simulation_of handlers held.config) held.worker p part part
+      → (p % held.config.workers ≡ held.worker → held.config.lps ≤ p) → SettlesTo (simulation_of handlers held.config) held.worker p part part 0
   unknown-settled p some all past = record {
     steps = [];
     settling = tt;
     led = refl;
+    counted = refl;
     settled = record {
       no_undo = unknown-refused handlers held are part h p undo_process some all past;
       no_cancel = λ stamp. unknown-refused handlers held are part h p (cancel_process stamp) some all past;
@@ -32,11 +33,11 @@ module _ {S P K : Type 0} (handlers : Handlers S P K) (held : HeldWorker S P K) 
   }
 
   -- what settles the process that was found
-  pub found-settled : (p : ℕ) (q new : HeldProcess S P K) (outbox : List (Letter P)) → p % held.config.workers ≡ held.worker
-      → (f : IsFound handlers held part p q) → new.lp ≡ q.lp → new.config ≡ q.config → IsSettledTo handlers f.process new held.outbox outbox
-      → (after : Part P) × SettlesTo (simulation_of handlers held.config) held.worker p part after
+  pub found-settled : (p count : ℕ) (q new : HeldProcess S P K) (outbox : List (Letter P)) → p % held.config.workers ≡ held.worker
+      → (f : IsFound handlers held part p q) → new.lp ≡ q.lp → new.config ≡ q.config → IsSettledTo handlers f.process new held.outbox outbox count
+      → (after : Part P) × SettlesTo (simulation_of handlers held.config) held.worker p part after count
       × StandsFor handlers (record held { processes = slice_set held.processes (p / held.config.workers) new; outbox = outbox }) after
-  found-settled p q new outbox own f same_lp same_config settled =
+  found-settled p count q new outbox own f same_lp same_config settled =
       let sim = simulation_of handlers held.config in
       let place = p / held.config.workers in
       let effect = settled.led.effect in
@@ -50,6 +51,7 @@ module _ {S P K : Type 0} (handlers : Handlers S P K) (held : HeldWorker S P K) 
           steps = steps;
           settling = are-settling sim held.worker p f.process steps effect led;
           led = led-at sim held.worker p f.process steps effect part led own f.there;
+          counted = settled.led.counted;
           settled = settled-at sim held.worker p after effect.process own here settled.no_undo settled.no_cancel;
         },
         stands-after handlers held part place new effect outbox held.serial h (same_lp ∙ f.lp ∙ number) (same_config ∙ f.config) settled.led.stands settled.led.letters
@@ -57,13 +59,13 @@ module _ {S P K : Type 0} (handlers : Handlers S P K) (held : HeldWorker S P K) 
       )
 
   -- what settles the process at a place
-  pub settled-worker : (p place : ℕ) (q new : HeldProcess S P K) (outbox : List (Letter P)) → place ≡ p / held.config.workers → p % held.config.workers ≡ held.worker
+  pub settled-worker : (p place count : ℕ) (q new : HeldProcess S P K) (outbox : List (Letter P)) → place ≡ p / held.config.workers → p % held.config.workers ≡ held.worker
       → slice_get held.processes place ≡ Some q → new.lp ≡ q.lp → new.config ≡ q.config
-      → ((process : LogicalProcess P) → ProcessStandsFor handlers q process → IsSettledTo handlers process new held.outbox outbox)
-      → (after : Part P) × SettlesTo (simulation_of handlers held.config) held.worker p part after
+      → ((process : LogicalProcess P) → ProcessStandsFor handlers q process → IsSettledTo handlers process new held.outbox outbox count)
+      → (after : Part P) × SettlesTo (simulation_of handlers held.config) held.worker p part after count
       × StandsFor handlers (record held { processes = slice_set held.processes place new; outbox = outbox }) after
-  settled-worker p place q new outbox is own at same_lp same_config settled =
+  settled-worker p place count q new outbox is own at same_lp same_config settled =
       let f = found handlers held part p q h are own (subst (λ k. slice_get held.processes k ≡ Some q) is at) in
-      subst (λ k. (after : Part P) × SettlesTo (simulation_of handlers held.config) held.worker p part after
+      subst (λ k. (after : Part P) × SettlesTo (simulation_of handlers held.config) held.worker p part after count
       × StandsFor handlers (record held { processes = slice_set held.processes k new; outbox = outbox }) after) (sym is)
-      (found-settled p q new outbox own f same_lp same_config (settled f.process f.stands))
+      (found-settled p count q new outbox own f same_lp same_config (settled f.process f.stands))

@@ -1,8 +1,11 @@
 -- Undo and Cancel at one process, again and again, as local steps of the part.
-use Rattle.std.proofs.Common.{◌≡◌, ℕ, zero, suc, ◌+◌, ◌/◌, ◌%◌, ◌⊎◌, inl, inr, Bool, true, false, List, [], ◌∷◌, ◌++◌, refl, sym, ◌∙◌, ap, subst, arith, Option, Some, None, Result, Ok, Err, IfOk, IfErr, slice_get, slice_set}
+use Rattle.std.proofs.Common.{◌≡◌, ℕ, zero, suc, ◌+◌, ◌/◌, ◌%◌, ◌^◌, ◌⊎◌, inl, inr, Bool, true, false, List, [], ◌∷◌, ◌++◌, length, refl, sym, ◌∙◌, ap, subst, arith, Option, Some, None, Result, Ok, Err, IfOk, IfErr, slice_get, slice_set}
 use Rattle.std.specs.Option.{option_and_then, option_map}
 use Rattle.std.specs.Result.{is_ok}
-use Rattle.std.proofs.lemmas.List.{append_assoc, append-nil}
+use Rattle.std.proofs.lemmas.List.{append_assoc, append-nil, length-append}
+use Rattle.std.proofs.lemmas.List.Elements.{filter-append}
+use Rattle.std.proofs.Math.Nat.{mod-add-mod}
+use Rattle.std.specs.List.{filter}
 use Rattle.vt_key.specs.declared.order.Stamp.{Stamp}
 use Rattle.vt_key.specs.declared.letter.Letter.{Letter}
 use Rattle.vt_key.specs.declared.fault.Fault.{Fault}
@@ -15,7 +18,7 @@ use Rattle.vt_steps.specs.World.{LogicalProcess, Part}
 use Rattle.vt_steps.specs.ProcessSteps.{ProcessEffect, undo_process, cancel_process}
 use Rattle.vt_steps.specs.PartSteps.{with_effect}
 use Rattle.vt_steps.proofs.Places.{get-put_same}
-use Rattle.vt_kernel.specs.Local.{local_step, local_steps, AreSettling, IsSettled}
+use Rattle.vt_kernel.specs.Local.{local_step, local_steps, AreSettling, IsSettled, is_undo, count_undos}
 use Rattle.vt_lp.specs.Held.{HeldProcess, StandsFor as ProcessStandsFor}
 use Rattle.vt_lp.specs.Guards.{IsDone as ProcessIsDone, can_annihilate}
 use Rattle.vt_kernel.specs.Settled.{and_then, nothing_done, LedTo, not_moved, undone, cancelled, IsLed, IsSettledTo}
@@ -37,6 +40,20 @@ put-there (z ∷ zs) (suc i) x there = ap (λ rest. z ∷ rest) (put-there zs i 
 pub settling-more : (p : ℕ) (steps : List Step) (step : Step) → AreSettling p steps → ((step ≡ Undo p) ⊎ ((stamp : Stamp) × (step ≡ Cancel p stamp))) → AreSettling p (steps ++ step ∷ [])
 settling-more p [] step h k = (k, tt)
 settling-more p (first ∷ rest) step h k = (h.0, settling-more p rest step h.1 k)
+
+-- the undos of these steps and of those, together
+pub undos-both : (steps more : List Step) → count_undos (steps ++ more) ≡ count_undos steps + count_undos more
+undos-both steps more = ap length (filter-append is_undo steps more) ∙ length-append (filter is_undo steps) (filter is_undo more)
+
+-- one undo more, counted modulo 2^64
+pub counted-more : (steps : List Step) (p count next : ℕ) → count ≡ count_undos steps % 2 ^ 64 → next ≡ (count + 1) % 2 ^ 64 → next ≡ count_undos (steps ++ Undo p ∷ []) % 2 ^ 64
+counted-more steps p count next is one =
+    one ∙ ap (λ n. (n + 1) % 2 ^ 64) is ∙ mod-add-mod (count_undos steps) (2 ^ 64) 1 ∙ ap (λ n. n % 2 ^ 64) (sym (undos-both steps (Undo p ∷ [])))
+
+-- a cancel isn't counted
+pub counted-as-before : (steps : List Step) (p : ℕ) (stamp : Stamp) (count : ℕ) → count ≡ count_undos steps % 2 ^ 64 → count ≡ count_undos (steps ++ Cancel p stamp ∷ []) % 2 ^ 64
+counted-as-before steps p stamp count is =
+    is ∙ ap (λ n. n % 2 ^ 64) ((let h = undos-both steps (Cancel p stamp ∷ []) in let none : count_undos (Cancel p stamp ∷ []) ≡ 0 = refl in omega (arith, h, none)))
 
 module _ {P : Type 0} where
   -- the part after two effects at a place
@@ -129,7 +146,7 @@ cannot-cancel stamp process not_opposite = rw not_opposite refl
 
 module _ {S P K : Type 0} (handlers : Handlers S P K) where
   -- nothing is done yet
-  pub led-start : (process : LogicalProcess P) (q : HeldProcess S P K) (outbox : List (Letter P)) → ProcessStandsFor handlers q process → IsLed handlers process q outbox outbox
+  pub led-start : (process : LogicalProcess P) (q : HeldProcess S P K) (outbox : List (Letter P)) → ProcessStandsFor handlers q process → IsLed handlers process q outbox outbox 0
   led-start process q outbox stands = record {
     steps = [];
     effect = nothing_done process;
@@ -137,12 +154,14 @@ module _ {S P K : Type 0} (handlers : Handlers S P K) where
     stands = stands;
     letters = sym (append-nil outbox);
     serials = refl;
+    counted = refl;
   }
 
   -- one undo more
-  pub led-undone : (process : LogicalProcess P) (q new : HeldProcess S P K) (outbox now new_outbox : List (Letter P)) (so_far : IsLed handlers process q outbox now)
-      → new.lp ≡ q.lp → ProcessIsDone handlers new (undo_process so_far.effect.process) now new_outbox 0 0 → IsLed handlers process new outbox new_outbox
-  led-undone process q new outbox now new_outbox so_far same done = record {
+  pub led-undone : (process : LogicalProcess P) (q new : HeldProcess S P K) (outbox now new_outbox : List (Letter P)) (count next : ℕ) (so_far : IsLed handlers process q outbox now count)
+      → new.lp ≡ q.lp → next ≡ (count + 1) % 2 ^ 64 → ProcessIsDone handlers new (undo_process so_far.effect.process) now new_outbox 0 0 → IsLed handlers process new outbox new_outbox next
+  led-undone process q new outbox now new_outbox count next so_far same one done = record {
+    counted = counted-more so_far.steps new.lp count next so_far.counted one;
     steps = so_far.steps ++ Undo new.lp ∷ [];
     effect = and_then so_far.effect done.effect;
     led = undone so_far.steps so_far.effect done.effect (subst (λ p. LedTo p process so_far.steps so_far.effect) (sym same) so_far.led) done.lawful;
@@ -152,9 +171,10 @@ module _ {S P K : Type 0} (handlers : Handlers S P K) where
   }
 
   -- one cancel more
-  pub led-cancelled : (stamp : Stamp) (process : LogicalProcess P) (q new : HeldProcess S P K) (outbox now : List (Letter P)) (so_far : IsLed handlers process q outbox now)
-      → new.lp ≡ q.lp → ProcessIsDone handlers new (cancel_process stamp so_far.effect.process) [] [] 0 0 → IsLed handlers process new outbox now
-  led-cancelled stamp process q new outbox now so_far same done = record {
+  pub led-cancelled : (stamp : Stamp) (process : LogicalProcess P) (q new : HeldProcess S P K) (outbox now : List (Letter P)) (count : ℕ) (so_far : IsLed handlers process q outbox now count)
+      → new.lp ≡ q.lp → ProcessIsDone handlers new (cancel_process stamp so_far.effect.process) [] [] 0 0 → IsLed handlers process new outbox now count
+  led-cancelled stamp process q new outbox now count so_far same done = record {
+    counted = counted-as-before so_far.steps new.lp stamp count so_far.counted;
     steps = so_far.steps ++ Cancel new.lp stamp ∷ [];
     effect = and_then so_far.effect done.effect;
     led = cancelled stamp so_far.steps so_far.effect done.effect (subst (λ p. LedTo p process so_far.steps so_far.effect) (sym same) so_far.led) done.lawful;
@@ -164,24 +184,24 @@ module _ {S P K : Type 0} (handlers : Handlers S P K) where
   }
 
   -- a process that stays as it is
-  pub led-same : (process : LogicalProcess P) (q new : HeldProcess S P K) (outbox now new_outbox : List (Letter P)) → IsLed handlers process q outbox now
-      → new ≡ q → new_outbox ≡ now → IsLed handlers process new outbox new_outbox
-  led-same process q new outbox now new_outbox so_far same_q same_outbox =
-      subst (λ ls. IsLed handlers process new outbox ls) (sym same_outbox) (subst (λ x. IsLed handlers process x outbox now) (sym same_q) so_far)
+  pub led-same : (process : LogicalProcess P) (q new : HeldProcess S P K) (outbox now new_outbox : List (Letter P)) (count : ℕ) → IsLed handlers process q outbox now count
+      → new ≡ q → new_outbox ≡ now → IsLed handlers process new outbox new_outbox count
+  led-same process q new outbox now new_outbox count so_far same_q same_outbox =
+      subst (λ ls. IsLed handlers process new outbox ls count) (sym same_outbox) (subst (λ x. IsLed handlers process x outbox now count) (sym same_q) so_far)
 
   -- neither is lawful any more
-  pub settled-now : (process : LogicalProcess P) (q new : HeldProcess S P K) (outbox now new_outbox : List (Letter P)) (so_far : IsLed handlers process q outbox now)
+  pub settled-now : (process : LogicalProcess P) (q new : HeldProcess S P K) (outbox now new_outbox : List (Letter P)) (count : ℕ) (so_far : IsLed handlers process q outbox now count)
       → new ≡ q → new_outbox ≡ now → undo_process so_far.effect.process ≡ None → ((stamp : Stamp) → can_annihilate stamp new.pending new.waiting ≡ false)
-      → IsSettledTo handlers process new outbox new_outbox
-  settled-now process q new outbox now new_outbox so_far same_q same_outbox no_undo apart =
-      let here : IsSettledTo handlers process q outbox now = record {
+      → IsSettledTo handlers process new outbox new_outbox count
+  settled-now process q new outbox now new_outbox count so_far same_q same_outbox no_undo apart =
+      let here : IsSettledTo handlers process q outbox now count = record {
         led = so_far;
         no_undo = no_undo;
         no_cancel = λ stamp. cannot-cancel stamp so_far.effect.process
             ((λ j. can_annihilate stamp (so_far.stands.pending j) (so_far.stands.waiting j))
             ∙ ap (λ (x : HeldProcess S P K). can_annihilate stamp x.pending x.waiting) (sym same_q) ∙ apart stamp);
       } in
-      subst (λ ls. IsSettledTo handlers process new outbox ls) (sym same_outbox) (subst (λ x. IsSettledTo handlers process x outbox now) (sym same_q) here)
+      subst (λ ls. IsSettledTo handlers process new outbox ls count) (sym same_outbox) (subst (λ x. IsSettledTo handlers process x outbox now count) (sym same_q) here)
 
 -- ---- results that are known
 

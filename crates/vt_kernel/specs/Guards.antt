@@ -1,5 +1,5 @@
 -- What the calls of a worker answer and leave, by the steps of a world's part.
-use Rattle.std.specs.Prelude.{◌≡◌, ℕ, ◌+◌, ◌<◌, ◌≤◌, ◌⊎◌, ◌/◌, ◌%◌, Bool, nat_eq, true, false, List, ◌++◌, map, length, Option, Some, None, slice_get, slice_set, slice_index_or}
+use Rattle.std.specs.Prelude.{◌≡◌, ℕ, ◌+◌, ◌<◌, ◌≤◌, ◌⊎◌, ◌/◌, ◌%◌, ◌^◌, Bool, nat_eq, true, false, List, ◌++◌, map, length, Option, Some, None, slice_get, slice_set, slice_index_or}
 use Rattle.std.specs.List.{flat_map}
 use Rattle.vt_key.specs.Times.{Time}
 use Rattle.vt_key.specs.declared.limits.TheConstants.{MAX_COUNT}
@@ -19,7 +19,7 @@ use Rattle.vt_steps.specs.Next.{may_send}
 use Rattle.vt_lp.specs.Held.{HeldProcess, StandsFor as ProcessStandsFor}
 use Rattle.vt_lp.specs.Guards.{number_of}
 use Rattle.vt_kernel.specs.Held.{HeldWorker, StandsFor}
-use Rattle.vt_kernel.specs.Local.{local_steps, IsSettled, AreSettling}
+use Rattle.vt_kernel.specs.Local.{local_steps, IsSettled, AreSettling, count_undos}
 
 -- a step is done: it was lawful, and the worker stands for the part after it
 pub record IsDone {S P K : Type 0} (handlers : Handlers S P K) (new : HeldWorker S P K) (step : Option (Part P)) : Type 0 where
@@ -61,12 +61,13 @@ module _ {S P : Type 0} (sim : Simulation S P) where
       ⊎ ((fault ≡ Memory) × (count_of part.sent part.colour + length (letters_for sim v part) ≤ MAX_COUNT))))
 
   -- Undo and Cancel at process p, as often as one is lawful: steps of these two kinds lead from one part to another, at which
-  -- neither is lawful any more
-  pub record SettlesTo (w p : ℕ) (part new : Part P) : Type 0 where
+  -- neither is lawful any more; so many of them were Undo, modulo 2^64
+  pub record SettlesTo (w p : ℕ) (part new : Part P) (undone : ℕ) : Type 0 where
     pub steps : List Step
     pub settling : AreSettling p steps
     pub led : local_steps sim w steps part ≡ Some new
     pub settled : IsSettled sim w p new
+    pub counted : undone ≡ count_undos steps % 2 ^ 64
 
 -- the letter is for a process of worker v
 abbrev pub is_for_worker : {P : Type 0} → Config → ℕ → Letter P → Bool

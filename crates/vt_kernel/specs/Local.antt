@@ -1,5 +1,6 @@
 -- Lists of local steps at one part.
-use Rattle.std.specs.Prelude.{◌≡◌, ℕ, ◌/◌, ◌%◌, nat_eq, ◌⊎◌, List, [], ◌∷◌, if◌then◌else◌, Option, Some, None}
+use Rattle.std.specs.Prelude.{◌≡◌, ℕ, ◌/◌, ◌%◌, nat_eq, ◌⊎◌, Bool, true, false, List, [], ◌∷◌, length, if◌then◌else◌, Option, Some, None}
+use Rattle.std.specs.List.{filter}
 use Rattle.std.specs.Option.{option_and_then}
 use Rattle.vt_key.specs.declared.order.Stamp.{Stamp}
 use Rattle.vt_model.specs.Simulation.{Simulation}
@@ -36,3 +37,11 @@ module _ {S P : Type 0} (sim : Simulation S P) (w : ℕ) where
 abbrev pub AreSettling : ℕ → List Step → Type 0
 AreSettling p [] = Unit {0}
 AreSettling p (step ∷ steps) = ((step ≡ Undo p) ⊎ ((stamp : Stamp) × (step ≡ Cancel p stamp))) × AreSettling p steps
+
+abbrev pub is_undo : Step → Bool
+is_undo (Undo p) = true
+is_undo _ = false
+
+-- how many of these steps are Undo
+abbrev pub count_undos : List Step → ℕ
+count_undos steps = length (filter is_undo steps)

@@ -1,5 +1,5 @@
 -- Undo and Cancel at one process, as often as one of them is lawful.
-use Rattle.std.specs.Prelude.{◌≡◌, ℕ, ◌+◌, List, [], ◌∷◌, ◌++◌, Some, None}
+use Rattle.std.specs.Prelude.{◌≡◌, ℕ, ◌+◌, ◌%◌, ◌^◌, List, [], ◌∷◌, ◌++◌, Some, None}
 use Rattle.vt_key.specs.declared.order.Stamp.{Stamp}
 use Rattle.vt_key.specs.declared.letter.Letter.{Letter}
 use Rattle.vt_model.specs.Handler.{Handlers}
@@ -8,6 +8,7 @@ use Rattle.vt_steps.specs.declared.step.Step.TheVariants.{Undo, Cancel}
 use Rattle.vt_steps.specs.World.{LogicalProcess}
 use Rattle.vt_steps.specs.ProcessSteps.{ProcessEffect, undo_process, cancel_process}
 use Rattle.vt_lp.specs.Held.{HeldProcess, StandsFor}
+use Rattle.vt_kernel.specs.Local.{count_undos}
 
 module _ {P : Type 0} where
   -- one effect and then another
@@ -28,17 +29,18 @@ module _ {P : Type 0} where
 
 module _ {S P K : Type 0} (handlers : Handlers S P K) where
   -- Undo and Cancel at a process, each lawful, lead to one that this value stands for; their letters went to the back of the
-  -- outbox, and they took no serial
-  pub record IsLed (process : LogicalProcess P) (new : HeldProcess S P K) (outbox new_outbox : List (Letter P)) : Type 0 where
+  -- outbox, and they took no serial; so many of them were Undo, modulo 2^64
+  pub record IsLed (process : LogicalProcess P) (new : HeldProcess S P K) (outbox new_outbox : List (Letter P)) (undone : ℕ) : Type 0 where
     pub steps : List Step
     pub effect : ProcessEffect P
     pub led : LedTo new.lp process steps effect
     pub stands : StandsFor handlers new effect.process
     pub letters : new_outbox ≡ outbox ++ effect.letters
     pub serials : effect.serials ≡ 0
+    pub counted : undone ≡ count_undos steps % 2 ^ 64
 
   -- Undo and Cancel lead to a process that this value stands for, and neither is lawful there any more
-  pub record IsSettledTo (process : LogicalProcess P) (new : HeldProcess S P K) (outbox new_outbox : List (Letter P)) : Type 0 where
-    pub led : IsLed process new outbox new_outbox
+  pub record IsSettledTo (process : LogicalProcess P) (new : HeldProcess S P K) (outbox new_outbox : List (Letter P)) (undone : ℕ) : Type 0 where
+    pub led : IsLed process new outbox new_outbox undone
     pub no_undo : undo_process led.effect.process ≡ None
     pub no_cancel : (stamp : Stamp) → cancel_process stamp led.effect.process ≡ None

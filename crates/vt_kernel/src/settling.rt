@@ -16,23 +16,22 @@ use vt_lp::{Lp, Spare};
 use vt_model::Model as EventModel;
 
 impl<M: EventModel> Kernel<M> {
-    /// Undoes and cancels at process `lp` until neither is lawful there, and returns how many events it has undone. If the
-    /// process isn't this worker's, nothing changes. It takes no memory.
+    /// Undoes and cancels at process `lp` until neither is lawful there, and returns how many events it has undone, modulo
+    /// 2^64. If the process isn't this worker's, nothing changes, and the answer is 0. It takes no memory.
     pub fn settle(&mut self, model: &M, lp: u32) -> u64
-        ensures settles { (part : Part _) → StandsFor (M.handlers model.now) self.old part → (new : Part _) × SettlesTo (simulation_of (M.handlers model.now) self.old.config) self.old.worker lp part new × StandsFor (M.handlers model.now) self.new new }
+        ensures settles { (part : Part _) → StandsFor (M.handlers model.now) self.old part → (new : Part _) × SettlesTo (simulation_of (M.handlers model.now) self.old.config) self.old.worker lp part new result × StandsFor (M.handlers model.now) self.new new }
         ensures same { (self.new.worker ≡ self.old.worker) × (self.new.config ≡ self.old.config) }
     {
         let Some(place) = place_of(self.config, self.worker, lp) else {
             return 0;
         };
-        let mut undone = 0;
-        if settle_process(
+        let settling = settle_process(
             &mut self.processes[place],
             model,
             &mut self.outbox,
             &mut self.spare,
-            &mut undone,
-        ) {
+        );
+        if settling.changed {
             enter(
                 &mut self.ready,
                 &mut self.unready,
@@ -41,33 +40,41 @@ impl<M: EventModel> Kernel<M> {
                 place,
             );
         }
-        undone
+        settling.undone
     }
 }
 
-/// Undoes and cancels at one process until neither is lawful. Anti-messages go to the back of the outbox. Counts in `undone`
-/// what is undone. Returns whether anything was undone or cancelled; if not, nothing changes.
+/// What was done at a process to settle it.
+#[derive(Clone, Copy)]
+struct Settling {
+    /// Whether anything was undone or cancelled.
+    changed: bool,
+    /// How many events were undone, modulo 2^64.
+    undone: u64,
+}
+
+/// Undoes and cancels at one process until neither is lawful. Anti-messages go to the back of the outbox.
 fn settle_process<M: EventModel>(
     process: &mut Lp<M>,
     model: &M,
     outbox: &mut List<Letter<M::Payload>>,
     spare: &mut Spare<M::Payload, M::Kept>,
-    undone: &mut u64,
-) -> bool
-    ensures settled { (h : LogicalProcess _) → ProcessStandsFor (M.handlers model.now) process.old h → IsSettledTo (M.handlers model.now) h process.new outbox.old outbox.new }
+) -> Settling
+    ensures settled { (h : LogicalProcess _) → ProcessStandsFor (M.handlers model.now) process.old h → IsSettledTo (M.handlers model.now) h process.new outbox.old outbox.new result.undone }
     ensures within { AllWithinRun process.old.config outbox.old → AllWithinRun process.old.config outbox.new }
     ensures same { (process.new.lp ≡ process.old.lp) × (process.new.config ≡ process.old.config) }
-    ensures unchanged { IsFalse result → (process.new ≡ process.old) × (outbox.new ≡ outbox.old) }
+    ensures unchanged { IsFalse result.changed → (process.new ≡ process.old) × (outbox.new ≡ outbox.old) }
 {
     let mut changed = false;
+    let mut undone = 0_u64;
     loop {
         if process.undo(model, outbox).is_ok() {
             changed = true;
-            *undone = undone.saturating_add(1);
+            undone = undone.wrapping_add(1);
             continue;
         }
         let Some(stamp) = process.cancellable() else {
-            return changed;
+            return Settling { changed, undone };
         };
         let _ = process.cancel_into(stamp, spare);
         changed = true;

@@ -70,8 +70,8 @@ module _ {S P K : Type 0} (handlers : Handlers S P K) (config : Config) (v : Vie
     reaches-either step (Err fault) done kept = subst (λ (h : HeldWorker S P K). Reaches handlers config v h) (sym (kept r.part r.stands)) r
 
     -- undone and cancelled as often as it was lawful
-    pub reaches-settled : (p : ℕ) → ((part : Part P) → StandsFor handlers k part → (to : Part P) × SettlesTo (simulation_of handlers k.config) k.worker p part to × StandsFor handlers new to) → Reaches handlers config v new
-    reaches-settled p settles =
+    pub reaches-settled : (p count : ℕ) → ((part : Part P) → StandsFor handlers k part → (to : Part P) × SettlesTo (simulation_of handlers k.config) k.worker p part to count × StandsFor handlers new to) → Reaches handlers config v new
+    reaches-settled p count settles =
         let s = settles r.part r.stands in
         further s.1.steps s.0 s.1.led s.2
 

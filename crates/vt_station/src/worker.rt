@@ -190,10 +190,10 @@ impl<'a, M: EventModel> Worker<'a, M> {
         self.kernel.accept(self.alloc, i)
     }
 
-    /// Undoes and cancels at process `lp` until neither is lawful there, and returns how many events it has undone.
+    /// Undoes and cancels at process `lp` until neither is lawful there, and returns how many events it has undone, modulo 2^64.
     pub fn settle(&mut self, lp: u32) -> u64
         ensures place { IsAtSamePlace self.old self.new }
-        ensures settles { (part : Part _) → StandsFor (M.handlers self.old.model) self.old.kernel part → (new : Part _) × SettlesTo (simulation_of (M.handlers self.old.model) self.old.kernel.config) self.old.kernel.worker lp part new × StandsFor (M.handlers self.old.model) self.new.kernel new }
+        ensures settles { (part : Part _) → StandsFor (M.handlers self.old.model) self.old.kernel part → (new : Part _) × SettlesTo (simulation_of (M.handlers self.old.model) self.old.kernel.config) self.old.kernel.worker lp part new result × StandsFor (M.handlers self.old.model) self.new.kernel new }
     {
         self.kernel.settle(self.model, lp)
     }

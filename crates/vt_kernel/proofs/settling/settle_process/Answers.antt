@@ -23,7 +23,7 @@ loop-changed-preserved-then-is_ok g c =
     record {
       led = λ h s.
           (let so_far = inv.led h s in
-          led-undone handlers h c.loop-changed.process c.undo.new.self c.args.outbox.now c.loop-changed.outbox c.undo.new.outbox so_far same.0
+          led-undone handlers h c.loop-changed.process c.undo.new.self c.args.outbox.now c.loop-changed.outbox c.undo.new.outbox c.loop-changed.undone _ so_far same.0 refl
           (in-ok c.undo.result ok (c.undo.ensures.done so_far.effect.process so_far.stands)));
       within = λ w. subst (λ (k : Config). AllWithinRun k c.loop-changed.outbox → AllWithinRun k c.undo.new.outbox) inv.config c.undo.ensures.within (inv.within w);
       lp = same.0 ∙ inv.lp;
@@ -37,7 +37,7 @@ returns-in_default-clause-settled g c h s =
     let so_far = c.loop-changed.invariant.led h s in
     let err = sym c.is_ok.ensures.value ∙ c.if-is_ok.false in
     let kept = kept-err c.undo.result c.undo.new.self c.loop-changed.process c.undo.new.outbox c.loop-changed.outbox err c.undo.ensures.kept in
-    settled-now handlers h c.loop-changed.process c.undo.new.self c.args.outbox.now c.loop-changed.outbox c.undo.new.outbox so_far kept.0 kept.1
+    settled-now handlers h c.loop-changed.process c.undo.new.self c.args.outbox.now c.loop-changed.outbox c.undo.new.outbox c.loop-changed.undone so_far kept.0 kept.1
     (in-err c.undo.result err (c.undo.ensures.refused so_far.effect.process so_far.stands)) c.in_default.ensures.none
 
 pub returns-in_default-clause-unchanged : goal.returns-in_default-clause-unchanged
@@ -57,8 +57,8 @@ loop-changed-preserved g c =
     let same = c.cancel_into.ensures.same in
     record {
       led = λ h s.
-          (let so_far = led-same handlers h c.loop-changed.process c.undo.new.self c.args.outbox.now c.loop-changed.outbox c.undo.new.outbox (inv.led h s) kept.0 kept.1 in
-          led-cancelled handlers c.in-Some.stamp h c.undo.new.self c.cancel_into.new.self c.args.outbox.now c.undo.new.outbox so_far same.0
+          (let so_far = led-same handlers h c.loop-changed.process c.undo.new.self c.args.outbox.now c.loop-changed.outbox c.undo.new.outbox c.loop-changed.undone (inv.led h s) kept.0 kept.1 in
+          led-cancelled handlers c.in-Some.stamp h c.undo.new.self c.cancel_into.new.self c.args.outbox.now c.undo.new.outbox c.loop-changed.undone so_far same.0
           (in-ok c.cancel_into.result ok (c.cancel_into.ensures.done handlers so_far.effect.process so_far.stands)));
       within = λ w. subst (λ (k : Config). AllWithinRun k c.loop-changed.outbox → AllWithinRun k c.undo.new.outbox) inv.config c.undo.ensures.within (inv.within w);
       lp = same.0 ∙ c.undo.ensures.same.0 ∙ inv.lp;

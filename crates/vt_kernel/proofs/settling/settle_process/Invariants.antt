@@ -6,7 +6,7 @@ use Rattle.vt_kernel.proofs.settling.settle_process.Given as goal
 
 abbrev pub invariant-loop-changed : goal.invariant-loop-changed
 invariant-loop-changed g l = record {
-  led : (h : LogicalProcess _) → StandsFor (g.M.Model.handlers l.fn.model) l.fn.process h → IsLed (g.M.Model.handlers l.fn.model) h l.process l.fn.outbox l.outbox;
+  led : (h : LogicalProcess _) → StandsFor (g.M.Model.handlers l.fn.model) l.fn.process h → IsLed (g.M.Model.handlers l.fn.model) h l.process l.fn.outbox l.outbox l.undone;
   within : AllWithinRun l.fn.process.config l.fn.outbox → AllWithinRun l.fn.process.config l.outbox;
   lp : l.process.lp ≡ l.fn.process.lp;
   config : l.process.config ≡ l.fn.process.config;

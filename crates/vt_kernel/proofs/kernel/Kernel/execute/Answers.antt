@@ -8,13 +8,13 @@ use Rattle.vt_steps.specs.declared.step.Step.TheVariants as step
 use Rattle.vt_steps.proofs.Places.{get-put_same}
 use Rattle.vt_lp.specs.Held.{HeldProcess, AllWithinRun}
 use Rattle.vt_lp.specs.Guards.{IsDone as ProcessIsDone, IsExecuteRefusal as ProcessRefusal}
-use Rattle.vt_kernel.specs.Held.{HeldWorker, StandsFor, process_of, ready_of, unready_of}
+use Rattle.vt_kernel.specs.Held.{HeldWorker, StandsFor, process_of}
 use Rattle.vt_kernel.specs.Local.{local_step}
 use Rattle.vt_kernel.specs.Guards.{IsDone, AreWithinLimits, IsExecuteRefusal}
 use Rattle.vt_kernel.proofs.ProcessLemmas.{process-at, processes-changed}
 use Rattle.vt_kernel.proofs.OwnSteps.{found, within-limits, same-execute, refusal-at, own-step}
-use Rattle.vt_kernel.proofs.EnteringLemmas.{in-changed, was-entered}
-use Rattle.vt_kernel.proofs.LocalLemmas.{worker_view, index-get, place-within, inside-changed, unknown-refused, written-same, if_ok-more, if_err-more, either-way, at-found-done, execute-step, both-errors, own-process}
+use Rattle.vt_kernel.proofs.LocalLemmas.{worker_view, place-within, inside-changed, unknown-refused, written-same, if_ok-more, if_err-more, either-way, at-found-done, execute-step, both-errors, own-process}
+use Rattle.vt_kernel.proofs.ReentryLemmas.{process-there, still-there, was-in-ready, was-in-unready}
 use Rattle.vt_kernel.proofs.kernel.Kernel.execute.Goals as goal
 
 pub index_mut-requires : goal.index_mut-requires
@@ -25,30 +25,15 @@ index_mut-requires g c =
 
 pub enter-requires-clause-there : goal.enter-requires-clause-there
 enter-requires-clause-there g c κs within =
-    let i = c.self.inside in
-    let own = c.in-Some.ensures.own in
-    let less = place-within c.self.invariant c.args.lp c.in-Some.place i.config.some_worker own.0 own.1 own.2 in
-    let old = c.index_mut.result.now in
-    let at = index-get i.processes.items c.in-Some.place old less (sym c.index_mut.ensures.value) in
-    in-changed i.processes.items c.deref.result.now c.in-Some.place old c.execute_reusing-result.new.self at c.deref.ensures.value
+    still-there c.self.invariant c.self.inside.config.some_worker c.args.lp c.in-Some.place c.index_mut.result.now c.execute_reusing-result.new.self c.deref.result.now c.in-Some.ensures.own (sym c.index_mut.ensures.value) c.deref.ensures.value
 
 pub enter-requires-clause-in_ready : goal.enter-requires-clause-in_ready
 enter-requires-clause-in_ready g c κs within =
-    let i = c.self.inside in
-    let own = c.in-Some.ensures.own in
-    let less = place-within c.self.invariant c.args.lp c.in-Some.place i.config.some_worker own.0 own.1 own.2 in
-    let old = c.index_mut.result.now in
-    let at = index-get i.processes.items c.in-Some.place old less (sym c.index_mut.ensures.value) in
-    was-entered ready_of i.processes.items c.deref.result.now c.in-Some.place old c.execute_reusing-result.new.self i.ready at c.deref.ensures.value c.self.invariant.ready_entered
+    was-in-ready c.self.invariant c.self.inside.config.some_worker c.args.lp c.in-Some.place c.index_mut.result.now c.execute_reusing-result.new.self c.deref.result.now c.in-Some.ensures.own (sym c.index_mut.ensures.value) c.deref.ensures.value
 
 pub enter-requires-clause-in_unready : goal.enter-requires-clause-in_unready
 enter-requires-clause-in_unready g c κs within =
-    let i = c.self.inside in
-    let own = c.in-Some.ensures.own in
-    let less = place-within c.self.invariant c.args.lp c.in-Some.place i.config.some_worker own.0 own.1 own.2 in
-    let old = c.index_mut.result.now in
-    let at = index-get i.processes.items c.in-Some.place old less (sym c.index_mut.ensures.value) in
-    was-entered unready_of i.processes.items c.deref.result.now c.in-Some.place old c.execute_reusing-result.new.self i.unready at c.deref.ensures.value c.self.invariant.unready_entered
+    was-in-unready c.self.invariant c.self.inside.config.some_worker c.args.lp c.in-Some.place c.index_mut.result.now c.execute_reusing-result.new.self c.deref.result.now c.in-Some.ensures.own (sym c.index_mut.ensures.value) c.deref.ensures.value
 
 pub returns-in_default-clause-refused : goal.returns-in_default-clause-refused
 returns-in_default-clause-refused g c part s =
@@ -63,11 +48,9 @@ returns-in_default-clause-refused g c part s =
 pub invariant_of-self : goal.invariant_of-self
 invariant_of-self g c =
     let i = c.self.inside in
-    let own = c.in-Some.ensures.own in
-    let less = place-within c.self.invariant c.args.lp c.in-Some.place i.config.some_worker own.0 own.1 own.2 in
     let old = c.index_mut.result.now in
     let new = c.execute_reusing-result.new.self in
-    let at = index-get i.processes.items c.in-Some.place old less (sym c.index_mut.ensures.value) in
+    let at = process-there c.self.invariant i.config.some_worker c.args.lp c.in-Some.place old c.in-Some.ensures.own (sym c.index_mut.ensures.value) in
     let f = process-at i.config i.worker 0 c.in-Some.place i.processes.items old c.self.invariant.own_processes at in
     let same = c.execute_reusing-result.ensures.same in
     let within = subst (λ (k : Config). AllWithinRun k i.outbox → AllWithinRun k c.execute_reusing-result.new.outbox) f.1 c.execute_reusing-result.ensures.within in
@@ -81,10 +64,9 @@ returns-clause-done g c part s =
     let handlers = g.M.Model.handlers c.args.model.now in
     let held = worker_view i.worker i.config i.processes.items i.outbox i.arrived.items i.colour i.sent i.got i.red_minimum i.floor i.serial in
     let own = c.in-Some.ensures.own in
-    let less = place-within c.self.invariant c.args.lp c.in-Some.place i.config.some_worker own.0 own.1 own.2 in
     let old = c.index_mut.result.now in
     let new = c.execute_reusing-result.new.self in
-    let at = index-get i.processes.items c.in-Some.place old less (sym c.index_mut.ensures.value) in
+    let at = process-there c.self.invariant i.config.some_worker c.args.lp c.in-Some.place old c.in-Some.ensures.own (sym c.index_mut.ensures.value) in
     let same = c.execute_reusing-result.ensures.same in
     let h = subst (λ (v : HeldWorker _ _ _). StandsFor handlers v part) (sym c.self.view_is) s in
     let f = found handlers held part c.args.lp old h c.self.invariant.own_processes own.1 (subst (λ k. slice_get i.processes.items k ≡ Some old) own.0 at) in
@@ -100,10 +82,9 @@ returns-clause-counted g c part s =
     let i = c.self.inside in
     let handlers = g.M.Model.handlers c.args.model.now in
     let own = c.in-Some.ensures.own in
-    let less = place-within c.self.invariant c.args.lp c.in-Some.place i.config.some_worker own.0 own.1 own.2 in
     let old = c.index_mut.result.now in
     let new = c.execute_reusing-result.new.self in
-    let at = index-get i.processes.items c.in-Some.place old less (sym c.index_mut.ensures.value) in
+    let at = process-there c.self.invariant i.config.some_worker c.args.lp c.in-Some.place old c.in-Some.ensures.own (sym c.index_mut.ensures.value) in
     let same = c.execute_reusing-result.ensures.same in
     let who = process-at i.config i.worker 0 c.in-Some.place i.processes.items old c.self.invariant.own_processes at in
     let processes = slice_set i.processes.items c.in-Some.place new in
@@ -121,9 +102,8 @@ returns-clause-refused g c part s =
     let held = worker_view i.worker i.config i.processes.items i.outbox i.arrived.items i.colour i.sent i.got i.red_minimum i.floor i.serial in
     let sim = simulation_of handlers i.config in
     let own = c.in-Some.ensures.own in
-    let less = place-within c.self.invariant c.args.lp c.in-Some.place i.config.some_worker own.0 own.1 own.2 in
     let old = c.index_mut.result.now in
-    let at = index-get i.processes.items c.in-Some.place old less (sym c.index_mut.ensures.value) in
+    let at = process-there c.self.invariant i.config.some_worker c.args.lp c.in-Some.place old c.in-Some.ensures.own (sym c.index_mut.ensures.value) in
     let h = subst (λ (v : HeldWorker _ _ _). StandsFor handlers v part) (sym c.self.view_is) s in
     let f = found handlers held part c.args.lp old h c.self.invariant.own_processes own.1 (subst (λ k. slice_get i.processes.items k ≡ Some old) own.0 at) in
     let one = same-execute handlers held part c.args.lp old f.process h own.1 f.lp f.config in
@@ -143,10 +123,9 @@ returns-clause-unchanged g c part s =
     let handlers = g.M.Model.handlers c.args.model.now in
     let held = worker_view i.worker i.config i.processes.items i.outbox i.arrived.items i.colour i.sent i.got i.red_minimum i.floor i.serial in
     let own = c.in-Some.ensures.own in
-    let less = place-within c.self.invariant c.args.lp c.in-Some.place i.config.some_worker own.0 own.1 own.2 in
     let old = c.index_mut.result.now in
     let new = c.execute_reusing-result.new.self in
-    let at = index-get i.processes.items c.in-Some.place old less (sym c.index_mut.ensures.value) in
+    let at = process-there c.self.invariant i.config.some_worker c.args.lp c.in-Some.place old c.in-Some.ensures.own (sym c.index_mut.ensures.value) in
     let h = subst (λ (v : HeldWorker _ _ _). StandsFor handlers v part) (sym c.self.view_is) s in
     let f = found handlers held part c.args.lp old h c.self.invariant.own_processes own.1 (subst (λ k. slice_get i.processes.items k ≡ Some old) own.0 at) in
     both-errors c.execute_reusing-result.result (λ _ same kept.
@@ -158,10 +137,9 @@ returns-clause-restored g c known =
     let i = c.self.inside in
     let held = worker_view i.worker i.config i.processes.items i.outbox i.arrived.items i.colour i.sent i.got i.red_minimum i.floor i.serial in
     let own = c.in-Some.ensures.own in
-    let less = place-within c.self.invariant c.args.lp c.in-Some.place i.config.some_worker own.0 own.1 own.2 in
     let old = c.index_mut.result.now in
     let new = c.execute_reusing-result.new.self in
-    let at = index-get i.processes.items c.in-Some.place old less (sym c.index_mut.ensures.value) in
+    let at = process-there c.self.invariant i.config.some_worker c.args.lp c.in-Some.place old c.in-Some.ensures.own (sym c.index_mut.ensures.value) in
     let here = subst (λ (v : HeldWorker _ _ _). IfSome (process_of v c.args.lp) (λ (p : HeldProcess _ _ _). g.M.Model.IsState c.args.model.now p.triple.state)) (sym c.self.view_is) known in
     let is_state = subst (λ x. IfSome x (λ (p : HeldProcess _ _ _). g.M.Model.IsState c.args.model.now p.triple.state)) (own-process held c.args.lp c.in-Some.place old own.0 own.1 at) here in
     both-errors c.execute_reusing-result.result (λ _ same kept.
@@ -171,11 +149,9 @@ returns-clause-restored g c known =
 pub returns-clause-not_lawful : goal.returns-clause-not_lawful
 returns-clause-not_lawful g c =
     let i = c.self.inside in
-    let own = c.in-Some.ensures.own in
-    let less = place-within c.self.invariant c.args.lp c.in-Some.place i.config.some_worker own.0 own.1 own.2 in
     let old = c.index_mut.result.now in
     let new = c.execute_reusing-result.new.self in
-    let at = index-get i.processes.items c.in-Some.place old less (sym c.index_mut.ensures.value) in
+    let at = process-there c.self.invariant i.config.some_worker c.args.lp c.in-Some.place old c.in-Some.ensures.own (sym c.index_mut.ensures.value) in
     both-errors c.execute_reusing-result.result (λ _ same kept is.
     (λ j. worker_view i.worker i.config (written-same i.processes.items c.in-Some.place old new at (same is) j) (kept.0 j) i.arrived.items i.colour i.sent i.got i.red_minimum i.floor (kept.1 j)) ∙ c.self.view_is)
     c.execute_reusing-result.ensures.not_lawful c.execute_reusing-result.ensures.kept

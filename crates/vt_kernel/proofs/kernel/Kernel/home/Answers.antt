@@ -11,13 +11,14 @@ use Rattle.vt_lp.specs.Held.{AllWithinRun, IsWithinRun}
 use Rattle.std.proofs.Math.Nat.{div-add-mod'}
 use Rattle.vt_steps.specs.ProcessSteps.{accept_process}
 use Rattle.vt_lp.specs.Guards.{would_lead, IsDone as ProcessIsDone}
-use Rattle.vt_kernel.specs.Held.{HeldWorker, StandsFor, ready_of, unready_of}
+use Rattle.vt_kernel.specs.Held.{HeldWorker, StandsFor}
 use Rattle.vt_kernel.specs.Local.{local_step}
 use Rattle.vt_kernel.specs.Guards.{IsDone}
 use Rattle.vt_kernel.proofs.ProcessLemmas.{process-at}
-use Rattle.vt_kernel.proofs.EnteringLemmas.{in-changed, was-entered, entered-behind}
-use Rattle.vt_kernel.proofs.LocalLemmas.{worker_view, index-get, place-within, inside-changed}
+use Rattle.vt_kernel.proofs.EnteringLemmas.{entered-behind}
+use Rattle.vt_kernel.proofs.LocalLemmas.{worker_view, place-within, inside-changed}
 use Rattle.vt_kernel.proofs.DeliveryLemmas.{without-all, home-done, home-refused, home-nothing, found-in}
+use Rattle.vt_kernel.proofs.ReentryLemmas.{process-there, still-there, was-in-ready, was-in-unready}
 use Rattle.vt_kernel.proofs.kernel.Kernel.home.Goals as goal
 
 pub returns-in_default-clause-refused : goal.returns-in_default-clause-refused
@@ -53,9 +54,8 @@ accept-requires-clause-dest g c κs within =
     let off = taken-first test (λ (l : Letter _). l) i.outbox c.split_off_first-others.new.self c.split_off_first-others.result c.pop_front.new.self (Some c.in-Some.letter) parts.before parts.from c.in-Some.ensures in
     let there : find test i.outbox ≡ Some letter = sym off.0 ∙ ap Some (sym c.get.ensures) in
     let own = found-in c.self.invariant letter there in
-    let less = place-within c.self.invariant letter.event.dest place i.config.some_worker refl own.0 own.1.known in
     let old = c.index_mut-process.result.now in
-    let at = index-get i.processes.items place old less (sym c.index_mut-process.ensures.value) in
+    let at = process-there c.self.invariant i.config.some_worker letter.event.dest place old (refl, own.0, own.1.known) (sym c.index_mut-process.ensures.value) in
     let who = process-at i.config i.worker 0 place i.processes.items old c.self.invariant.own_processes at in
     ap (λ (l : Letter _). l.event.dest) (sym c.get.ensures) ∙ sym (who.0 ∙ ap (λ n. (0 + place) * i.config.workers + n) (sym own.0) ∙ ap (λ n. n * i.config.workers + letter.event.dest % i.config.workers) (let plain : 0 + place ≡ place = omega arith in plain) ∙ div-add-mod' letter.event.dest i.config.workers)
 
@@ -69,9 +69,8 @@ accept-requires-clause-soon g c κs within =
     let off = taken-first test (λ (l : Letter _). l) i.outbox c.split_off_first-others.new.self c.split_off_first-others.result c.pop_front.new.self (Some c.in-Some.letter) parts.before parts.from c.in-Some.ensures in
     let there : find test i.outbox ≡ Some letter = sym off.0 ∙ ap Some (sym c.get.ensures) in
     let own = found-in c.self.invariant letter there in
-    let less = place-within c.self.invariant letter.event.dest place i.config.some_worker refl own.0 own.1.known in
     let old = c.index_mut-process.result.now in
-    let at = index-get i.processes.items place old less (sym c.index_mut-process.ensures.value) in
+    let at = process-there c.self.invariant i.config.some_worker letter.event.dest place old (refl, own.0, own.1.known) (sym c.index_mut-process.ensures.value) in
     let who = process-at i.config i.worker 0 place i.processes.items old c.self.invariant.own_processes at in
     subst (λ (l : Letter _). TimeBefore l.event.rank.key.time (end_of old.config)) c.get.ensures (subst (λ (k : Config). TimeBefore letter.event.rank.key.time (end_of k)) (sym who.1) own.1.soon)
 
@@ -85,9 +84,8 @@ returns-in-Err-clause-refused g c handlers part s =
     let off = taken-first test (λ (l : Letter _). l) i.outbox c.split_off_first-others.new.self c.split_off_first-others.result c.pop_front.new.self (Some c.in-Some.letter) parts.before parts.from c.in-Some.ensures in
     let there : find test i.outbox ≡ Some letter = sym off.0 ∙ ap Some (sym c.get.ensures) in
     let own = found-in c.self.invariant letter there in
-    let less = place-within c.self.invariant letter.event.dest place i.config.some_worker refl own.0 own.1.known in
     let old = c.index_mut-process.result.now in
-    let at = index-get i.processes.items place old less (sym c.index_mut-process.ensures.value) in
+    let at = process-there c.self.invariant i.config.some_worker letter.event.dest place old (refl, own.0, own.1.known) (sym c.index_mut-process.ensures.value) in
     let held = worker_view i.worker i.config i.processes.items i.outbox i.arrived.items i.colour i.sent i.got i.red_minimum i.floor i.serial in
     subst (λ (v : HeldWorker _ _ _). local_step (simulation_of handlers v.config) v.worker (step.Home v.worker) part ≡ None) c.self.view_is
     (home-refused handlers held c.self.invariant.own_processes part (subst (λ (v : HeldWorker _ _ _). StandsFor handlers v part) (sym c.self.view_is) s) letter place old there refl own.0 at
@@ -103,10 +101,7 @@ enter_accepted-requires-clause-there g c κs within =
     let off = taken-first test (λ (l : Letter _). l) i.outbox c.split_off_first-others.new.self c.split_off_first-others.result c.pop_front.new.self (Some c.in-Some.letter) parts.before parts.from c.in-Some.ensures in
     let there : find test i.outbox ≡ Some letter = sym off.0 ∙ ap Some (sym c.get.ensures) in
     let own = found-in c.self.invariant letter there in
-    let less = place-within c.self.invariant letter.event.dest place i.config.some_worker refl own.0 own.1.known in
-    let old = c.index_mut-process.result.now in
-    let at = index-get i.processes.items place old less (sym c.index_mut-process.ensures.value) in
-    in-changed i.processes.items c.deref.result.now place old c.accept.new.self at c.deref.ensures.value
+    still-there c.self.invariant i.config.some_worker letter.event.dest place c.index_mut-process.result.now c.accept.new.self c.deref.result.now (refl, own.0, own.1.known) (sym c.index_mut-process.ensures.value) c.deref.ensures.value
 
 pub enter_accepted-requires-clause-in_ready : goal.enter_accepted-requires-clause-in_ready
 enter_accepted-requires-clause-in_ready g c κs within =
@@ -118,10 +113,7 @@ enter_accepted-requires-clause-in_ready g c κs within =
     let off = taken-first test (λ (l : Letter _). l) i.outbox c.split_off_first-others.new.self c.split_off_first-others.result c.pop_front.new.self (Some c.in-Some.letter) parts.before parts.from c.in-Some.ensures in
     let there : find test i.outbox ≡ Some letter = sym off.0 ∙ ap Some (sym c.get.ensures) in
     let own = found-in c.self.invariant letter there in
-    let less = place-within c.self.invariant letter.event.dest place i.config.some_worker refl own.0 own.1.known in
-    let old = c.index_mut-process.result.now in
-    let at = index-get i.processes.items place old less (sym c.index_mut-process.ensures.value) in
-    was-entered ready_of i.processes.items c.deref.result.now place old c.accept.new.self i.ready at c.deref.ensures.value c.self.invariant.ready_entered
+    was-in-ready c.self.invariant i.config.some_worker letter.event.dest place c.index_mut-process.result.now c.accept.new.self c.deref.result.now (refl, own.0, own.1.known) (sym c.index_mut-process.ensures.value) c.deref.ensures.value
 
 pub enter_accepted-requires-clause-in_unready : goal.enter_accepted-requires-clause-in_unready
 enter_accepted-requires-clause-in_unready g c κs within =
@@ -133,10 +125,7 @@ enter_accepted-requires-clause-in_unready g c κs within =
     let off = taken-first test (λ (l : Letter _). l) i.outbox c.split_off_first-others.new.self c.split_off_first-others.result c.pop_front.new.self (Some c.in-Some.letter) parts.before parts.from c.in-Some.ensures in
     let there : find test i.outbox ≡ Some letter = sym off.0 ∙ ap Some (sym c.get.ensures) in
     let own = found-in c.self.invariant letter there in
-    let less = place-within c.self.invariant letter.event.dest place i.config.some_worker refl own.0 own.1.known in
-    let old = c.index_mut-process.result.now in
-    let at = index-get i.processes.items place old less (sym c.index_mut-process.ensures.value) in
-    was-entered unready_of i.processes.items c.deref.result.now place old c.accept.new.self i.unready at c.deref.ensures.value c.self.invariant.unready_entered
+    was-in-unready c.self.invariant i.config.some_worker letter.event.dest place c.index_mut-process.result.now c.accept.new.self c.deref.result.now (refl, own.0, own.1.known) (sym c.index_mut-process.ensures.value) c.deref.ensures.value
 
 pub enter_accepted-requires-clause-behind : goal.enter_accepted-requires-clause-behind
 enter_accepted-requires-clause-behind g c κs within later =
@@ -148,9 +137,8 @@ enter_accepted-requires-clause-behind g c κs within later =
     let off = taken-first test (λ (l : Letter _). l) i.outbox c.split_off_first-others.new.self c.split_off_first-others.result c.pop_front.new.self (Some c.in-Some.letter) parts.before parts.from c.in-Some.ensures in
     let there : find test i.outbox ≡ Some letter = sym off.0 ∙ ap Some (sym c.get.ensures) in
     let own = found-in c.self.invariant letter there in
-    let less = place-within c.self.invariant letter.event.dest place i.config.some_worker refl own.0 own.1.known in
     let old = c.index_mut-process.result.now in
-    let at = index-get i.processes.items place old less (sym c.index_mut-process.ensures.value) in
+    let at = process-there c.self.invariant i.config.some_worker letter.event.dest place old (refl, own.0, own.1.known) (sym c.index_mut-process.ensures.value) in
     let same = c.in_default-accept.ensures.same in
     let behind = subst (λ (l : Letter _). would_lead old.pending old.waiting l.sign l ≡ false) c.get-2.ensures (sym c.would_lead-leads.ensures ∙ later) in
     entered-behind i.processes.items c.deref.result.now place old c.accept.new.self i.ready i.unready i.marked at c.deref.ensures.value same.1 same.3
@@ -166,9 +154,8 @@ invariant_of-self-2 g c =
     let off = taken-first test (λ (l : Letter _). l) i.outbox c.split_off_first-others.new.self c.split_off_first-others.result c.pop_front.new.self (Some c.in-Some.letter) parts.before parts.from c.in-Some.ensures in
     let there : find test i.outbox ≡ Some letter = sym off.0 ∙ ap Some (sym c.get.ensures) in
     let own = found-in c.self.invariant letter there in
-    let less = place-within c.self.invariant letter.event.dest place i.config.some_worker refl own.0 own.1.known in
     let old = c.index_mut-process.result.now in
-    let at = index-get i.processes.items place old less (sym c.index_mut-process.ensures.value) in
+    let at = process-there c.self.invariant i.config.some_worker letter.event.dest place old (refl, own.0, own.1.known) (sym c.index_mut-process.ensures.value) in
     let new = c.accept.new.self in
     let same = c.in_default-accept.ensures.same in
     let within = without-all (IsWithinRun i.config.lps (end_of i.config)) test i.outbox c.self.invariant.sendable in
@@ -186,9 +173,8 @@ returns-clause-done g c handlers part s =
     let off = taken-first test (λ (l : Letter _). l) i.outbox c.split_off_first-others.new.self c.split_off_first-others.result c.pop_front.new.self (Some c.in-Some.letter) parts.before parts.from c.in-Some.ensures in
     let there : find test i.outbox ≡ Some letter = sym off.0 ∙ ap Some (sym c.get.ensures) in
     let own = found-in c.self.invariant letter there in
-    let less = place-within c.self.invariant letter.event.dest place i.config.some_worker refl own.0 own.1.known in
     let old = c.index_mut-process.result.now in
-    let at = index-get i.processes.items place old less (sym c.index_mut-process.ensures.value) in
+    let at = process-there c.self.invariant i.config.some_worker letter.event.dest place old (refl, own.0, own.1.known) (sym c.index_mut-process.ensures.value) in
     let held = worker_view i.worker i.config i.processes.items i.outbox i.arrived.items i.colour i.sent i.got i.red_minimum i.floor i.serial in
     let new = c.accept.new.self in
     let same = c.in_default-accept.ensures.same in

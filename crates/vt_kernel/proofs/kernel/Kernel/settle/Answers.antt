@@ -4,12 +4,12 @@ use Rattle.vt_model.specs.Simulation.{simulation_of}
 use Rattle.vt_steps.specs.World.{Part}
 use Rattle.vt_key.specs.declared.letter.Letter.{Letter}
 use Rattle.vt_lp.specs.Held.{HeldProcess, AllWithinRun}
-use Rattle.vt_kernel.specs.Held.{HeldWorker, IsWorkerInside, StandsFor, ready_of, unready_of}
+use Rattle.vt_kernel.specs.Held.{HeldWorker, IsWorkerInside, StandsFor}
 use Rattle.vt_kernel.specs.Guards.{SettlesTo}
 use Rattle.vt_kernel.proofs.ProcessLemmas.{process-at}
-use Rattle.vt_kernel.proofs.EnteringLemmas.{in-changed, was-entered}
-use Rattle.vt_kernel.proofs.LocalLemmas.{worker_view, index-get, place-within, written-same, inside-changed}
+use Rattle.vt_kernel.proofs.LocalLemmas.{worker_view, place-within, written-same, inside-changed}
 use Rattle.vt_kernel.proofs.SettledWorker.{unknown-settled, settled-worker}
+use Rattle.vt_kernel.proofs.ReentryLemmas.{process-there, still-there, was-in-ready, was-in-unready}
 use Rattle.vt_kernel.proofs.kernel.Kernel.settle.Goals as goal
 
 pub index_mut-requires : goal.index_mut-requires
@@ -20,30 +20,15 @@ index_mut-requires g c =
 
 pub enter-requires-clause-there : goal.enter-requires-clause-there
 enter-requires-clause-there g c κs within =
-    let i = c.self.inside in
-    let own = c.in-Some.ensures.own in
-    let less = place-within c.self.invariant c.args.lp c.in-Some.place i.config.some_worker own.0 own.1 own.2 in
-    let old = c.index_mut.result.now in
-    let at = index-get i.processes.items c.in-Some.place old less (sym c.index_mut.ensures.value) in
-    in-changed i.processes.items c.deref.result.now c.in-Some.place old c.settle_process.new.process at c.deref.ensures.value
+    still-there c.self.invariant c.self.inside.config.some_worker c.args.lp c.in-Some.place c.index_mut.result.now c.settle_process-settling.new.process c.deref.result.now c.in-Some.ensures.own (sym c.index_mut.ensures.value) c.deref.ensures.value
 
 pub enter-requires-clause-in_ready : goal.enter-requires-clause-in_ready
 enter-requires-clause-in_ready g c κs within =
-    let i = c.self.inside in
-    let own = c.in-Some.ensures.own in
-    let less = place-within c.self.invariant c.args.lp c.in-Some.place i.config.some_worker own.0 own.1 own.2 in
-    let old = c.index_mut.result.now in
-    let at = index-get i.processes.items c.in-Some.place old less (sym c.index_mut.ensures.value) in
-    was-entered ready_of i.processes.items c.deref.result.now c.in-Some.place old c.settle_process.new.process i.ready at c.deref.ensures.value c.self.invariant.ready_entered
+    was-in-ready c.self.invariant c.self.inside.config.some_worker c.args.lp c.in-Some.place c.index_mut.result.now c.settle_process-settling.new.process c.deref.result.now c.in-Some.ensures.own (sym c.index_mut.ensures.value) c.deref.ensures.value
 
 pub enter-requires-clause-in_unready : goal.enter-requires-clause-in_unready
 enter-requires-clause-in_unready g c κs within =
-    let i = c.self.inside in
-    let own = c.in-Some.ensures.own in
-    let less = place-within c.self.invariant c.args.lp c.in-Some.place i.config.some_worker own.0 own.1 own.2 in
-    let old = c.index_mut.result.now in
-    let at = index-get i.processes.items c.in-Some.place old less (sym c.index_mut.ensures.value) in
-    was-entered unready_of i.processes.items c.deref.result.now c.in-Some.place old c.settle_process.new.process i.unready at c.deref.ensures.value c.self.invariant.unready_entered
+    was-in-unready c.self.invariant c.self.inside.config.some_worker c.args.lp c.in-Some.place c.index_mut.result.now c.settle_process-settling.new.process c.deref.result.now c.in-Some.ensures.own (sym c.index_mut.ensures.value) c.deref.ensures.value
 
 pub returns-in_default-clause-settles : goal.returns-in_default-clause-settles
 returns-in_default-clause-settles g c part s =
@@ -52,7 +37,7 @@ returns-in_default-clause-settles g c part s =
     let held = worker_view i.worker i.config i.processes.items i.outbox i.arrived.items i.colour i.sent i.got i.red_minimum i.floor i.serial in
     let h = subst (λ (v : HeldWorker _ _ _). StandsFor handlers v part) (sym c.self.view_is) s in (
       part,
-      subst (λ (v : HeldWorker _ _ _). SettlesTo (simulation_of handlers v.config) v.worker c.args.lp part part) c.self.view_is
+      subst (λ (v : HeldWorker _ _ _). SettlesTo (simulation_of handlers v.config) v.worker c.args.lp part part 0) c.self.view_is
           (unknown-settled handlers held c.self.invariant.own_processes part h c.args.lp i.config.some_worker c.self.invariant.all_there c.in_default.ensures.other),
       s,
     )
@@ -60,59 +45,53 @@ returns-in_default-clause-settles g c part s =
 pub invariant_of-self : goal.invariant_of-self
 invariant_of-self g c =
     let i = c.self.inside in
-    let own = c.in-Some.ensures.own in
-    let less = place-within c.self.invariant c.args.lp c.in-Some.place i.config.some_worker own.0 own.1 own.2 in
     let old = c.index_mut.result.now in
-    let new = c.settle_process.new.process in
-    let at = index-get i.processes.items c.in-Some.place old less (sym c.index_mut.ensures.value) in
+    let new = c.settle_process-settling.new.process in
+    let at = process-there c.self.invariant i.config.some_worker c.args.lp c.in-Some.place old c.in-Some.ensures.own (sym c.index_mut.ensures.value) in
     let f = process-at i.config i.worker 0 c.in-Some.place i.processes.items old c.self.invariant.own_processes at in
-    let same = c.settle_process.ensures.same in
-    let within = subst (λ (k : Config). AllWithinRun k i.outbox → AllWithinRun k c.settle_process.new.outbox) f.1 c.settle_process.ensures.within in
-    inside-changed c.self.invariant c.in-Some.place old new c.settle_process.new.outbox i.serial c.deref.result.now c.enter.new.ready c.enter.new.unready c.enter.new.marked at same.0 same.1 c.deref.ensures.value
+    let same = c.settle_process-settling.ensures.same in
+    let within = subst (λ (k : Config). AllWithinRun k i.outbox → AllWithinRun k c.settle_process-settling.new.outbox) f.1 c.settle_process-settling.ensures.within in
+    inside-changed c.self.invariant c.in-Some.place old new c.settle_process-settling.new.outbox i.serial c.deref.result.now c.enter.new.ready c.enter.new.unready c.enter.new.marked at same.0 same.1 c.deref.ensures.value
     c.enter.ensures.ready c.enter.ensures.unready c.enter.ensures.marked c.enter.ensures.told (within c.self.invariant.sendable) c.self.invariant.few_made
 
-pub returns-then-settle_process-clause-settles : goal.returns-then-settle_process-clause-settles
-returns-then-settle_process-clause-settles g c part s =
+pub returns-then-settling-clause-settles : goal.returns-then-settling-clause-settles
+returns-then-settling-clause-settles g c part s =
     let i = c.self.inside in
     let handlers = g.M.Model.handlers c.args.model.now in
     let held = worker_view i.worker i.config i.processes.items i.outbox i.arrived.items i.colour i.sent i.got i.red_minimum i.floor i.serial in
     let own = c.in-Some.ensures.own in
-    let less = place-within c.self.invariant c.args.lp c.in-Some.place i.config.some_worker own.0 own.1 own.2 in
     let old = c.index_mut.result.now in
-    let new = c.settle_process.new.process in
-    let at = index-get i.processes.items c.in-Some.place old less (sym c.index_mut.ensures.value) in
-    let same = c.settle_process.ensures.same in
+    let new = c.settle_process-settling.new.process in
+    let at = process-there c.self.invariant i.config.some_worker c.args.lp c.in-Some.place old c.in-Some.ensures.own (sym c.index_mut.ensures.value) in
+    let same = c.settle_process-settling.ensures.same in
     let h = subst (λ (v : HeldWorker _ _ _). StandsFor handlers v part) (sym c.self.view_is) s in
-    let done = settled-worker handlers held c.self.invariant.own_processes part h c.args.lp c.in-Some.place old new c.settle_process.new.outbox own.0 own.1 at same.0 same.1 c.settle_process.ensures.settled in
-    subst (λ (v : HeldWorker _ _ _). (after : Part _) × SettlesTo (simulation_of handlers v.config) v.worker c.args.lp part after
-    × StandsFor handlers (worker_view i.worker i.config (slice_set i.processes.items c.in-Some.place new) c.settle_process.new.outbox i.arrived.items i.colour i.sent i.got i.red_minimum i.floor i.serial) after)
+    let done = settled-worker handlers held c.self.invariant.own_processes part h c.args.lp c.in-Some.place c.settle_process-settling.result.undone old new c.settle_process-settling.new.outbox own.0 own.1 at same.0 same.1 c.settle_process-settling.ensures.settled in
+    subst (λ (v : HeldWorker _ _ _). (after : Part _) × SettlesTo (simulation_of handlers v.config) v.worker c.args.lp part after c.settle_process-settling.result.undone
+    × StandsFor handlers (worker_view i.worker i.config (slice_set i.processes.items c.in-Some.place new) c.settle_process-settling.new.outbox i.arrived.items i.colour i.sent i.got i.red_minimum i.floor i.serial) after)
     c.self.view_is done
 
-pub invariant_of-self-else-settle_process : goal.invariant_of-self-else-settle_process
-invariant_of-self-else-settle_process g c =
+pub invariant_of-self-else-settling : goal.invariant_of-self-else-settling
+invariant_of-self-else-settling g c =
     let i = c.self.inside in
-    let own = c.in-Some.ensures.own in
-    let less = place-within c.self.invariant c.args.lp c.in-Some.place i.config.some_worker own.0 own.1 own.2 in
     let old = c.index_mut.result.now in
-    let at = index-get i.processes.items c.in-Some.place old less (sym c.index_mut.ensures.value) in
-    let kept = c.settle_process.ensures.unchanged c.if-settle_process.false in
-    subst (λ (ps : List (HeldProcess _ _ _)). IsWorkerInside i.config i.worker ps c.settle_process.new.outbox i.arrived.items i.sent i.got i.serial i.ready i.unready i.marked)
-    (sym (written-same i.processes.items c.in-Some.place old c.settle_process.new.process at kept.0))
+    let at = process-there c.self.invariant i.config.some_worker c.args.lp c.in-Some.place old c.in-Some.ensures.own (sym c.index_mut.ensures.value) in
+    let kept = c.settle_process-settling.ensures.unchanged c.if-settling.false in
+    subst (λ (ps : List (HeldProcess _ _ _)). IsWorkerInside i.config i.worker ps c.settle_process-settling.new.outbox i.arrived.items i.sent i.got i.serial i.ready i.unready i.marked)
+    (sym (written-same i.processes.items c.in-Some.place old c.settle_process-settling.new.process at kept.0))
     (subst (λ (ls : List (Letter _)). IsWorkerInside i.config i.worker i.processes.items ls i.arrived.items i.sent i.got i.serial i.ready i.unready i.marked) (sym kept.1) c.self.invariant)
 
-pub returns-else-settle_process-clause-settles : goal.returns-else-settle_process-clause-settles
-returns-else-settle_process-clause-settles g c part s =
+pub returns-else-settling-clause-settles : goal.returns-else-settling-clause-settles
+returns-else-settling-clause-settles g c part s =
     let i = c.self.inside in
     let handlers = g.M.Model.handlers c.args.model.now in
     let held = worker_view i.worker i.config i.processes.items i.outbox i.arrived.items i.colour i.sent i.got i.red_minimum i.floor i.serial in
     let own = c.in-Some.ensures.own in
-    let less = place-within c.self.invariant c.args.lp c.in-Some.place i.config.some_worker own.0 own.1 own.2 in
     let old = c.index_mut.result.now in
-    let new = c.settle_process.new.process in
-    let at = index-get i.processes.items c.in-Some.place old less (sym c.index_mut.ensures.value) in
-    let same = c.settle_process.ensures.same in
+    let new = c.settle_process-settling.new.process in
+    let at = process-there c.self.invariant i.config.some_worker c.args.lp c.in-Some.place old c.in-Some.ensures.own (sym c.index_mut.ensures.value) in
+    let same = c.settle_process-settling.ensures.same in
     let h = subst (λ (v : HeldWorker _ _ _). StandsFor handlers v part) (sym c.self.view_is) s in
-    let done = settled-worker handlers held c.self.invariant.own_processes part h c.args.lp c.in-Some.place old new c.settle_process.new.outbox own.0 own.1 at same.0 same.1 c.settle_process.ensures.settled in
-    subst (λ (v : HeldWorker _ _ _). (after : Part _) × SettlesTo (simulation_of handlers v.config) v.worker c.args.lp part after
-    × StandsFor handlers (worker_view i.worker i.config (slice_set i.processes.items c.in-Some.place new) c.settle_process.new.outbox i.arrived.items i.colour i.sent i.got i.red_minimum i.floor i.serial) after)
+    let done = settled-worker handlers held c.self.invariant.own_processes part h c.args.lp c.in-Some.place c.settle_process-settling.result.undone old new c.settle_process-settling.new.outbox own.0 own.1 at same.0 same.1 c.settle_process-settling.ensures.settled in
+    subst (λ (v : HeldWorker _ _ _). (after : Part _) × SettlesTo (simulation_of handlers v.config) v.worker c.args.lp part after c.settle_process-settling.result.undone
+    × StandsFor handlers (worker_view i.worker i.config (slice_set i.processes.items c.in-Some.place new) c.settle_process-settling.new.outbox i.arrived.items i.colour i.sent i.got i.red_minimum i.floor i.serial) after)
     c.self.view_is done

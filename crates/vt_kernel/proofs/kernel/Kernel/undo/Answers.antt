@@ -4,13 +4,13 @@ use Rattle.vt_model.specs.Simulation.{simulation_of}
 use Rattle.vt_steps.specs.ProcessSteps.{undo_process}
 use Rattle.vt_steps.specs.declared.step.Step.TheVariants as step
 use Rattle.vt_lp.specs.Held.{AllWithinRun}
-use Rattle.vt_kernel.specs.Held.{HeldWorker, StandsFor, ready_of, unready_of}
+use Rattle.vt_kernel.specs.Held.{HeldWorker, StandsFor}
 use Rattle.vt_kernel.specs.Local.{local_step}
 use Rattle.vt_kernel.specs.Guards.{IsDone}
 use Rattle.vt_kernel.proofs.ProcessLemmas.{process-at}
 use Rattle.vt_kernel.proofs.OwnSteps.{found, refused-at}
-use Rattle.vt_kernel.proofs.EnteringLemmas.{in-changed, was-entered}
-use Rattle.vt_kernel.proofs.LocalLemmas.{worker_view, index-get, place-within, inside-changed, unknown-refused, written-same, if_ok-more, if_err-more, at-found-done, no-serial}
+use Rattle.vt_kernel.proofs.LocalLemmas.{worker_view, place-within, inside-changed, unknown-refused, written-same, if_ok-more, if_err-more, at-found-done, no-serial}
+use Rattle.vt_kernel.proofs.ReentryLemmas.{process-there, still-there, was-in-ready, was-in-unready}
 use Rattle.vt_kernel.proofs.kernel.Kernel.undo.Goals as goal
 
 pub index_mut-requires : goal.index_mut-requires
@@ -21,30 +21,15 @@ index_mut-requires g c =
 
 pub enter-requires-clause-there : goal.enter-requires-clause-there
 enter-requires-clause-there g c κs within =
-    let i = c.self.inside in
-    let own = c.in-Some.ensures.own in
-    let less = place-within c.self.invariant c.args.lp c.in-Some.place i.config.some_worker own.0 own.1 own.2 in
-    let old = c.index_mut.result.now in
-    let at = index-get i.processes.items c.in-Some.place old less (sym c.index_mut.ensures.value) in
-    in-changed i.processes.items c.deref.result.now c.in-Some.place old c.undo-result.new.self at c.deref.ensures.value
+    still-there c.self.invariant c.self.inside.config.some_worker c.args.lp c.in-Some.place c.index_mut.result.now c.undo-result.new.self c.deref.result.now c.in-Some.ensures.own (sym c.index_mut.ensures.value) c.deref.ensures.value
 
 pub enter-requires-clause-in_ready : goal.enter-requires-clause-in_ready
 enter-requires-clause-in_ready g c κs within =
-    let i = c.self.inside in
-    let own = c.in-Some.ensures.own in
-    let less = place-within c.self.invariant c.args.lp c.in-Some.place i.config.some_worker own.0 own.1 own.2 in
-    let old = c.index_mut.result.now in
-    let at = index-get i.processes.items c.in-Some.place old less (sym c.index_mut.ensures.value) in
-    was-entered ready_of i.processes.items c.deref.result.now c.in-Some.place old c.undo-result.new.self i.ready at c.deref.ensures.value c.self.invariant.ready_entered
+    was-in-ready c.self.invariant c.self.inside.config.some_worker c.args.lp c.in-Some.place c.index_mut.result.now c.undo-result.new.self c.deref.result.now c.in-Some.ensures.own (sym c.index_mut.ensures.value) c.deref.ensures.value
 
 pub enter-requires-clause-in_unready : goal.enter-requires-clause-in_unready
 enter-requires-clause-in_unready g c κs within =
-    let i = c.self.inside in
-    let own = c.in-Some.ensures.own in
-    let less = place-within c.self.invariant c.args.lp c.in-Some.place i.config.some_worker own.0 own.1 own.2 in
-    let old = c.index_mut.result.now in
-    let at = index-get i.processes.items c.in-Some.place old less (sym c.index_mut.ensures.value) in
-    was-entered unready_of i.processes.items c.deref.result.now c.in-Some.place old c.undo-result.new.self i.unready at c.deref.ensures.value c.self.invariant.unready_entered
+    was-in-unready c.self.invariant c.self.inside.config.some_worker c.args.lp c.in-Some.place c.index_mut.result.now c.undo-result.new.self c.deref.result.now c.in-Some.ensures.own (sym c.index_mut.ensures.value) c.deref.ensures.value
 
 pub returns-in_default-clause-refused : goal.returns-in_default-clause-refused
 returns-in_default-clause-refused g c part s =
@@ -58,11 +43,9 @@ returns-in_default-clause-refused g c part s =
 pub invariant_of-self : goal.invariant_of-self
 invariant_of-self g c =
     let i = c.self.inside in
-    let own = c.in-Some.ensures.own in
-    let less = place-within c.self.invariant c.args.lp c.in-Some.place i.config.some_worker own.0 own.1 own.2 in
     let old = c.index_mut.result.now in
     let new = c.undo-result.new.self in
-    let at = index-get i.processes.items c.in-Some.place old less (sym c.index_mut.ensures.value) in
+    let at = process-there c.self.invariant i.config.some_worker c.args.lp c.in-Some.place old c.in-Some.ensures.own (sym c.index_mut.ensures.value) in
     let f = process-at i.config i.worker 0 c.in-Some.place i.processes.items old c.self.invariant.own_processes at in
     let same = c.undo-result.ensures.same in
     let within = subst (λ (k : Config). AllWithinRun k i.outbox → AllWithinRun k c.undo-result.new.outbox) f.1 c.undo-result.ensures.within in
@@ -75,10 +58,9 @@ returns-clause-done g c part s =
     let handlers = g.M.Model.handlers c.args.model.now in
     let held = worker_view i.worker i.config i.processes.items i.outbox i.arrived.items i.colour i.sent i.got i.red_minimum i.floor i.serial in
     let own = c.in-Some.ensures.own in
-    let less = place-within c.self.invariant c.args.lp c.in-Some.place i.config.some_worker own.0 own.1 own.2 in
     let old = c.index_mut.result.now in
     let new = c.undo-result.new.self in
-    let at = index-get i.processes.items c.in-Some.place old less (sym c.index_mut.ensures.value) in
+    let at = process-there c.self.invariant i.config.some_worker c.args.lp c.in-Some.place old c.in-Some.ensures.own (sym c.index_mut.ensures.value) in
     let same = c.undo-result.ensures.same in
     let h = subst (λ (v : HeldWorker _ _ _). StandsFor handlers v part) (sym c.self.view_is) s in
     let at_p = subst (λ k. slice_get i.processes.items k ≡ Some old) own.0 at in
@@ -94,9 +76,8 @@ returns-clause-refused g c part s =
     let handlers = g.M.Model.handlers c.args.model.now in
     let held = worker_view i.worker i.config i.processes.items i.outbox i.arrived.items i.colour i.sent i.got i.red_minimum i.floor i.serial in
     let own = c.in-Some.ensures.own in
-    let less = place-within c.self.invariant c.args.lp c.in-Some.place i.config.some_worker own.0 own.1 own.2 in
     let old = c.index_mut.result.now in
-    let at = index-get i.processes.items c.in-Some.place old less (sym c.index_mut.ensures.value) in
+    let at = process-there c.self.invariant i.config.some_worker c.args.lp c.in-Some.place old c.in-Some.ensures.own (sym c.index_mut.ensures.value) in
     let h = subst (λ (v : HeldWorker _ _ _). StandsFor handlers v part) (sym c.self.view_is) s in
     let f = found handlers held part c.args.lp old h c.self.invariant.own_processes own.1 (subst (λ k. slice_get i.processes.items k ≡ Some old) own.0 at) in
     subst (λ (v : HeldWorker _ _ _). IfErr c.undo-result.result (λ _. local_step (simulation_of handlers v.config) v.worker (step.Undo c.args.lp) part ≡ None)) c.self.view_is
@@ -105,11 +86,9 @@ returns-clause-refused g c part s =
 pub returns-clause-kept : goal.returns-clause-kept
 returns-clause-kept g c =
     let i = c.self.inside in
-    let own = c.in-Some.ensures.own in
-    let less = place-within c.self.invariant c.args.lp c.in-Some.place i.config.some_worker own.0 own.1 own.2 in
     let old = c.index_mut.result.now in
     let new = c.undo-result.new.self in
-    let at = index-get i.processes.items c.in-Some.place old less (sym c.index_mut.ensures.value) in
+    let at = process-there c.self.invariant i.config.some_worker c.args.lp c.in-Some.place old c.in-Some.ensures.own (sym c.index_mut.ensures.value) in
     if_err-more c.undo-result.result (λ _ kept. (
       kept.0,
       (λ j. worker_view i.worker i.config (written-same i.processes.items c.in-Some.place old new at kept.1 j) (kept.2 j) i.arrived.items i.colour i.sent i.got i.red_minimum i.floor i.serial) ∙ c.self.view_is,

@@ -11,5 +11,5 @@ invariant_of-self g c =
       config_is = before.config_is;
       table_is = before.table_is;
       model_is = before.model_is;
-      reaches = reaches-settled H i.station.now.table.shared.key.config i.place.seat.me.0 i.kernel after.new.self after.ensures.same before.reaches c.args.lp after.ensures.settles;
+      reaches = reaches-settled H i.station.now.table.shared.key.config i.place.seat.me.0 i.kernel after.new.self after.ensures.same before.reaches c.args.lp after.result after.ensures.settles;
     }
