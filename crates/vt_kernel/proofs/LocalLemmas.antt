@@ -162,14 +162,6 @@ own-process held p place q is own there =
 
 -- ---- results
 
-pub if_ok-more : {A E : Type 0} {Q R : A → Type 0} (result : Result A E) → ((a : A) → Q a → R a) → IfOk result Q → IfOk result R
-if_ok-more (Ok a) more h = more a h
-if_ok-more (Err e) more h = h
-
-pub if_err-more : {A E : Type 0} {Q R : E → Type 0} (result : Result A E) → ((e : E) → Q e → R e) → IfErr result Q → IfErr result R
-if_err-more (Ok a) more h = h
-if_err-more (Err e) more h = more e h
-
 -- what holds after either answer
 pub either-way : {A E : Type 0} {Q : A → Type 0} {R : E → Type 0} {T : Type 0} (result : Result A E) → ((a : A) → Q a → T) → ((e : E) → R e → T) → IfOk result Q → IfErr result R → T
 either-way (Ok a) done refused h k = done a h

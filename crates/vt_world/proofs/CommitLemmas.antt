@@ -1,33 +1,33 @@
 -- A commit of a worker: the book takes what it hands in.
-use Rattle.std.proofs.Common.{◌≡◌, ℕ, ◌<◌, ◌≤◌, ◌⊎◌, inl, inr, Bool, true, false, List, [], ◌∷◌, ◌&&◌, length, refl, sym, ◌∙◌, ap, subst, arith, Option, Some, None, Result, Ok, Err, slice_get, slice_set}
+use Rattle.std.proofs.Common.{◌≡◌, ℕ, inr, Bool, true, false, List, [], ◌∷◌, ◌&&◌, refl, sym, ◌∙◌, ap, subst, arith, Some, None, slice_get}
 use Rattle.std.specs.List.{list_all}
 use Rattle.std.proofs.lemmas.Bool.Decides.{nat_tests}
 use Rattle.std.proofs.lemmas.Option.{slice_get_within}
-use Rattle.vt_key.specs.Times.{Time, TimeAtMost, TimeBefore, time_at_most, time_before}
+use Rattle.vt_key.specs.Times.{Time, TimeAtMost, time_at_most, time_before}
 use Rattle.vt_key.specs.declared.fault.Fault.{Fault}
-use Rattle.vt_key.specs.declared.fault.Fault.TheVariants.{NotLawful, Memory}
+use Rattle.vt_key.specs.declared.fault.Fault.TheVariants.{Memory}
 use Rattle.vt_model.specs.declared.rows.Row.{Row}
 use Rattle.vt_model.specs.declared.settings.Config.{Config}
 use Rattle.vt_model.specs.Handler.{Handlers}
 use Rattle.vt_model.specs.Histories.{IsLawful}
-use Rattle.vt_model.specs.Simulation.{Simulation, simulation_of}
+use Rattle.vt_model.specs.Simulation.{simulation_of}
 use Rattle.vt_model.specs.Settings.{end_of}
 use Rattle.vt_steps.specs.declared.step.Step.TheVariants.{Commit}
 use Rattle.vt_steps.specs.declared.step.Reply.TheVariants.{Done}
-use Rattle.vt_steps.specs.World.{Part, World, Board, Book}
-use Rattle.vt_steps.specs.PartSteps.{rows_of_commit, part_after_commit}
-use Rattle.vt_steps.specs.BookSteps.{may_commit, with_rows}
-use Rattle.vt_steps.specs.Next.{Outcome, next, reached}
+use Rattle.vt_steps.specs.World.{Part, World, Book}
+use Rattle.vt_steps.specs.PartSteps.{rows_of_commit}
+use Rattle.vt_steps.specs.BookSteps.{may_commit}
+use Rattle.vt_steps.specs.Next.{Outcome, reached}
 use Rattle.vt_steps.proofs.Floors.{reached-times}
 use Rattle.vt_steps.proofs.Lists.{Every}
 use Rattle.vt_steps.proofs.Places.{get-within}
 use Rattle.vt_steps.proofs.Tests.{passes_both}
 use Rattle.vt_kernel.specs.Held.{HeldWorker, StandsFor as WorkerStandsFor}
-use Rattle.vt_book.specs.Books.{RunBook, may_hand, is_within, are_within, refusal_of_hand, refusal_where}
+use Rattle.vt_book.specs.Books.{may_hand, is_within, are_within, refusal_of_hand, refusal_where}
 use Rattle.vt_kernel.specs.Refusals.{IsStepRefusal}
 use Rattle.vt_book.proofs.CellSteps.{next-commit}
 use Rattle.vt_book.proofs.CommitRows.{IsBetween, commit-between}
-use Rattle.vt_world.specs.Held.{HeldWorld, world_memory, StandsForWorld, AreWorkers, IsReached}
+use Rattle.vt_world.specs.Held.{HeldWorld, StandsForWorld, AreWorkers, IsReached}
 use Rattle.vt_world.proofs.WorldLemmas.{found}
 use Rattle.vt_world.proofs.WorldSteps.{who}
 

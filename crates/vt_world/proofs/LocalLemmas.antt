@@ -1,31 +1,30 @@
 -- The local steps of a worker as steps of the world.
-use Rattle.std.proofs.Common.{◌≡◌, ℕ, ◌+◌, ◌/◌, ◌%◌, ◌<◌, ◌≤◌, ◌⊎◌, inl, inr, Bool, true, false, List, refl, sym, ◌∙◌, ap, subst, arith, Option, Some, None, Result, Ok, Err, slice_get, slice_set}
+use Rattle.std.proofs.Common.{◌≡◌, ℕ, ◌/◌, ◌%◌, ◌<◌, inl, inr, refl, sym, ◌∙◌, ap, subst, arith, Option, Some, None, Err, slice_get, slice_set}
 use Rattle.std.specs.Option.{option_map}
 use Rattle.vt_key.specs.Times.{Time}
 use Rattle.vt_key.specs.declared.limits.TheConstants.{MAX_COUNT}
 use Rattle.vt_key.specs.declared.fault.Fault.{Fault}
-use Rattle.vt_key.specs.declared.fault.Fault.TheVariants.{NotLawful, Exhausted, Memory}
+use Rattle.vt_key.specs.declared.fault.Fault.TheVariants.{NotLawful}
 use Rattle.vt_model.specs.declared.settings.Config.{Config}
 use Rattle.vt_model.specs.Handler.{Handlers}
 use Rattle.vt_model.specs.Simulation.{Simulation, simulation_of}
 use Rattle.vt_steps.specs.declared.step.Step.{Step}
 use Rattle.vt_steps.specs.declared.step.Step.TheVariants.{Execute, Accept}
-use Rattle.vt_steps.specs.declared.step.Reply.{Reply}
 use Rattle.vt_steps.specs.declared.step.Reply.TheVariants.{Done}
-use Rattle.vt_steps.specs.World.{LogicalProcess, Part, World, Board, Book}
-use Rattle.vt_steps.specs.Next.{Outcome, next, refused, replied, with_part, done_or_refused, reached}
+use Rattle.vt_steps.specs.World.{LogicalProcess, Part, World}
+use Rattle.vt_steps.specs.Next.{Outcome, next, replied, with_part, done_or_refused}
 use Rattle.vt_steps.specs.StandsFor.{GoesOn}
 use Rattle.vt_lp.specs.Guards.{number_of}
 use Rattle.vt_kernel.specs.Held.{HeldWorker, StandsFor as WorkerStandsFor}
 use Rattle.vt_kernel.specs.Local.{local_step}
 use Rattle.vt_kernel.specs.Guards.{IsDone, IsExecuteRefusal, IsAcceptRefusal}
-use Rattle.vt_kernel.specs.Refusals.{IsStepRefusal, PassesLimit, TakesMemory}
-use Rattle.vt_world.specs.Held.{HeldWorld, world_memory, StandsForWorld, AreWorkers, IsReached, IsWorldInside}
-use Rattle.vt_world.specs.Calls.{IsStepOf}
+use Rattle.vt_kernel.specs.Refusals.{IsStepRefusal, PassesLimit}
+use Rattle.vt_steps.proofs.Places.{get-put_same}
+use Rattle.vt_world.specs.Held.{HeldWorld, world_memory, StandsForWorld, AreWorkers, IsWorldInside}
 use Rattle.vt_world.proofs.ReachedLemmas.{inside_view}
 use Rattle.vt_world.proofs.WorldLemmas.{IsLocalAt, IsFound, found, next-locally, local-done, local-refused}
 use Rattle.vt_world.proofs.WorldSteps.{who}
-use Rattle.vt_world.proofs.Places.{put-there, inside-worker}
+use Rattle.vt_world.proofs.Places.{inside-worker}
 
 module _ {M S P K : Type 0} (handlers : Handlers S P K) (held : HeldWorld M S P K) where
   -- a step that isn't lawful, answered so
@@ -71,7 +70,7 @@ module _ {M S P K : Type 0} (handlers : Handlers S P K) (held : HeldWorld M S P 
       go None e r = inl (ap (λ (o : Outcome P). o.answer) (locally-is world w (Execute p) f.part None own f.there e) ∙ ap Err (sym r))
       go (Some after) e r =
           let next_is : next sim world (Execute p) ≡ replied (with_part world w after) Done = locally-is world w (Execute p) f.part (Some after) own f.there e in
-          let there : slice_get (slice_set world.parts w after) (p % held.config.workers) ≡ Some after = ap (slice_get (slice_set world.parts w after)) own ∙ put-there world.parts w f.part after f.there in
+          let there : slice_get (slice_set world.parts w after) (p % held.config.workers) ≡ Some after = ap (slice_get (slice_set world.parts w after)) own ∙ get-put_same world.parts w f.part after f.there in
           let answer = ap (λ (o : Outcome P). o.answer) next_is in
           elim r.2 [
             | inl a ↦

@@ -1,39 +1,29 @@
 -- Workers and inboxes looked up and changed, and what a world keeps to then.
-use Rattle.std.proofs.Common.{◌≡◌, ℕ, zero, suc, ◌+◌, ◌<◌, ◌≤◌, ◌⊎◌, inl, inr, Bool, true, false, List, [], ◌∷◌, ◌++◌, map, length, refl, sym, ◌∙◌, ap, subst, arith, Option, Some, None, Result, Ok, Err, slice_get, slice_set, slice_index_or}
+use Rattle.std.proofs.Common.{◌≡◌, ℕ, zero, suc, ◌+◌, ◌<◌, List, [], ◌∷◌, length, refl, sym, ◌∙◌, subst, arith, Some, None, Ok, slice_get, slice_set, slice_index_or}
 use Rattle.std.proofs.lemmas.List.{length-set}
+use Rattle.std.proofs.lemmas.Option.{slice_get_read}
 use Rattle.vt_key.specs.Times.{Time}
 use Rattle.vt_key.specs.declared.letter.Mail.{Mail}
-use Rattle.vt_key.specs.declared.fault.Fault.{Fault}
 use Rattle.vt_model.specs.declared.settings.Config.{Config}
 use Rattle.vt_model.specs.Handler.{Handlers}
-use Rattle.vt_model.specs.Simulation.{Simulation, simulation_of}
+use Rattle.vt_model.specs.Simulation.{simulation_of}
 use Rattle.vt_steps.specs.declared.step.Step.{Step}
 use Rattle.vt_steps.specs.declared.step.Reply.{Reply}
-use Rattle.vt_steps.specs.World.{World, Board, Book}
+use Rattle.vt_steps.specs.World.{Board, Book}
 use Rattle.vt_steps.specs.StandsFor.{GoesOn}
 use Rattle.vt_kernel.specs.Held.{HeldWorker, AllOwnMail}
-use Rattle.vt_world.specs.Held.{HeldWorld, world_memory, StandsForWorld, AreWorkers, AreInboxes, IsWorldInside}
+use Rattle.vt_world.specs.Held.{HeldWorld, world_memory, AreWorkers, AreInboxes, IsWorldInside}
 use Rattle.vt_world.proofs.ReachedLemmas.{inside_view}
 use Rattle.vt_world.proofs.WorldLemmas.{worker-at, workers-changed}
 use Rattle.vt_world.proofs.StepLemmas.{inside-stepped}
 
--- an item put where it is changes nothing
-pub put-same : {X : Type 0} (xs : List X) (i : ℕ) (x : X) → slice_get xs i ≡ Some x → slice_set xs i x ≡ xs
-put-same [] i x h = absurd (let k : None ≡ Some x = h in cc)
-put-same (y ∷ ys) zero x h = let k : Some y ≡ Some x = h in let e : x ≡ y = cc in ap (λ z. z ∷ ys) e
-put-same (y ∷ ys) (suc i) x h = ap (λ zs. y ∷ zs) (put-same ys i x h)
+-- the worker and the inbox that an index finds
+module _ {M S P K : Type 0} {handlers : Handlers S P K} {held : HeldWorld M S P K} {board_end book_end : Time} (h : IsWorldInside handlers held board_end book_end) (w : ℕ) where
+  pub worker-there : (k : HeldWorker S P K) → w < held.config.workers → k ≡ slice_index_or held.workers w k → slice_get held.workers w ≡ Some k
+  worker-there k below is = slice_get_read held.workers (length held.workers) w k refl (let size = h.all_workers in omega (arith, size, below)) is
 
--- of two items put at one place the second is there
-pub put-twice : {X : Type 0} (xs : List X) (i : ℕ) (x y : X) → slice_set (slice_set xs i x) i y ≡ slice_set xs i y
-put-twice [] i x y = refl
-put-twice (z ∷ zs) zero x y = refl
-put-twice (z ∷ zs) (suc i) x y = ap (λ ws. z ∷ ws) (put-twice zs i x y)
-
--- an item that was put is there
-pub put-there : {X : Type 0} (xs : List X) (i : ℕ) (x y : X) → slice_get xs i ≡ Some x → slice_get (slice_set xs i y) i ≡ Some y
-put-there [] i x y h = absurd (let k : None ≡ Some x = h in cc)
-put-there (z ∷ zs) zero x y h = refl
-put-there (z ∷ zs) (suc i) x y h = put-there zs i x y h
+  pub inbox-there : (inbox : List (Mail P)) → w < held.config.workers → inbox ≡ slice_index_or held.inboxes w inbox → slice_get held.inboxes w ≡ Some inbox
+  inbox-there inbox below is = slice_get_read held.inboxes (length held.inboxes) w inbox refl (let size = h.all_inboxes in omega (arith, size, below)) is
 
 -- what is there is one
 pub same-there : {X : Type 0} (xs : List X) (i : ℕ) (x y : X) → slice_get xs i ≡ Some x → slice_get xs i ≡ Some y → x ≡ y

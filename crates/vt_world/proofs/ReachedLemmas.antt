@@ -1,8 +1,7 @@
 -- What is known of a world in memory, since it stands for a reached one.
-use Rattle.std.proofs.Common.{◌≡◌, ℕ, zero, suc, ◌+◌, Bool, true, false, List, [], ◌∷◌, ◌++◌, map, refl, sym, ◌∙◌, ap, subst, arith, Result, Ok, Err, IfOk}
+use Rattle.std.proofs.Common.{◌≡◌, ℕ, ◌+◌, List, [], ◌∷◌, ◌++◌, map, refl, ◌∙◌, ap, subst}
 use Rattle.std.specs.List.{flat_map}
-use Rattle.vt_key.specs.Times.{Time, TimeAtMost}
-use Rattle.vt_key.specs.declared.letter.Letter.{Letter}
+use Rattle.vt_key.specs.Times.{TimeAtMost}
 use Rattle.vt_key.specs.declared.letter.Mail.{Mail}
 use Rattle.vt_model.specs.declared.settings.Config.{Config}
 use Rattle.vt_model.specs.Handler.{Handlers}
@@ -11,16 +10,16 @@ use Rattle.vt_model.specs.Sequential.{seq_records}
 use Rattle.vt_model.specs.Simulation.{Simulation, simulation_of}
 use Rattle.vt_model.specs.Settings.{end_of}
 use Rattle.vt_steps.specs.Letters.{least_time}
-use Rattle.vt_steps.specs.World.{LogicalProcess, Part, World, Board, Book, letters_in, all_letters, least, book_floor, book_records}
+use Rattle.vt_steps.specs.World.{LogicalProcess, Part, World, Board, Book, letters_in, least, book_floor, book_records}
 use Rattle.vt_steps.specs.Next.{reached}
-use Rattle.vt_steps.specs.Claims.{AreFloorsRight, AreRecordsRight}
-use Rattle.vt_steps.specs.StandsFor.{ProcessMemory, PartMemory, StandForProcesses, StandForParts}
+use Rattle.vt_steps.specs.Claims.{AreFloorsRight}
+use Rattle.vt_steps.specs.StandsFor.{StandForProcesses, StandForParts}
 use Rattle.vt_steps.proofs.ReachedBooks.{reached-accounted}
 use Rattle.vt_steps.proofs.Records.{floors-right, records-right}
 use Rattle.vt_lp.specs.Held.{HeldProcess, process_memory}
 use Rattle.vt_kernel.specs.Held.{HeldWorker, part_memory}
 use Rattle.vt_kernel.specs.Guards.{held_letters}
-use Rattle.vt_world.specs.Held.{HeldWorld, world_memory, StandsForWorld, IsReached}
+use Rattle.vt_world.specs.Held.{HeldWorld, StandsForWorld, IsReached}
 use Rattle.vt_world.specs.Calls.{least_held, floor_held}
 
 module _ {S P K : Type 0} (handlers : Handlers S P K) (sim : Simulation S P) where
@@ -82,8 +81,3 @@ module _ {M S P K : Type 0} (handlers : Handlers S P K) (held : HeldWorld M S P 
 -- what a contract sees of a world with these fields
 abbrev pub inside_view : {M S P K : Type 0} → M → Config → List (HeldWorker S P K) → List (List (Mail P)) → Board → Book → HeldWorld M S P K
 inside_view model config workers inboxes board book = record { model = model; config = config; workers = workers; inboxes = inboxes; board = board; book = book }
-
--- what an Ok gives, more follows from it
-pub if_ok-more : {A E : Type 0} {Q R : A → Type 0} (result : Result A E) → ((a : A) → Q a → R a) → IfOk result Q → IfOk result R
-if_ok-more (Ok a) more h = more a h
-if_ok-more (Err e) more h = h

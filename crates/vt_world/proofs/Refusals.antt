@@ -1,5 +1,5 @@
 -- Why a step is refused, by why the worker's or the board's part of it is.
-use Rattle.std.proofs.Common.{◌≡◌, ℕ, zero, suc, ◌+◌, ◌<◌, ◌≤◌, ◌⊎◌, inl, inr, Bool, true, false, List, [], ◌∷◌, ◌++◌, map, length, refl, sym, ◌∙◌, ap, subst, arith, Option, Some, None, Result, Ok, Err, slice_get, slice_set, nat_le, if◌then◌else◌}
+use Rattle.std.proofs.Common.{◌≡◌, ℕ, ◌+◌, ◌<◌, ◌≤◌, ◌⊎◌, inl, inr, true, false, List, [], ◌++◌, length, refl, sym, ◌∙◌, ap, subst, arith, Option, Some, None, Ok, Err, slice_get, slice_set, nat_le, if◌then◌else◌}
 use Rattle.std.proofs.lemmas.Bool.Decides.{nat_tests}
 use Rattle.vt_key.specs.Times.{Time}
 use Rattle.vt_key.specs.declared.limits.TheConstants.{MAX_COUNT}
@@ -7,7 +7,7 @@ use Rattle.vt_key.specs.declared.letter.Colour.{Colour}
 use Rattle.vt_key.specs.declared.letter.Colour.TheVariants.{White, Red}
 use Rattle.vt_key.specs.declared.letter.Mail.{Mail}
 use Rattle.vt_key.specs.declared.fault.Fault.{Fault}
-use Rattle.vt_key.specs.declared.fault.Fault.TheVariants.{NotLawful, Closed, Exhausted, Memory}
+use Rattle.vt_key.specs.declared.fault.Fault.TheVariants.{NotLawful, Exhausted}
 use Rattle.vt_model.specs.declared.settings.Config.{Config}
 use Rattle.vt_model.specs.Handler.{Handlers}
 use Rattle.vt_model.specs.Simulation.{Simulation, simulation_of}
@@ -17,21 +17,22 @@ use Rattle.vt_steps.specs.declared.step.Step.TheVariants.{Send, Fetch, Cut}
 use Rattle.vt_steps.specs.declared.step.Reply.{Reply}
 use Rattle.vt_steps.specs.declared.step.Reply.TheVariants.{Done}
 use Rattle.vt_steps.specs.Letters.{Counts, count_of, raised, count_colour, is_empty}
-use Rattle.vt_steps.specs.World.{Part, World, Board, Book}
+use Rattle.vt_steps.specs.World.{Part, World, Board}
 use Rattle.vt_steps.specs.PartSteps.{letters_for, part_after_send, mail_of_send, part_after_fetch, part_after_cut}
 use Rattle.vt_steps.specs.BoardSteps.{cut_board}
-use Rattle.vt_steps.specs.Next.{Outcome, next, refused, replied, done_or_refused, may_send, send, cut}
+use Rattle.vt_steps.specs.Next.{Outcome, next, refused, replied, done_or_refused, send, cut}
 use Rattle.vt_steps.specs.StandsFor.{GoesOn}
 use Rattle.vt_kernel.specs.Held.{HeldWorker, StandsFor as WorkerStandsFor}
 use Rattle.vt_kernel.specs.Guards.{IsSendRefusal}
 use Rattle.vt_board.specs.Calls.{counted, cut_outcome}
 use Rattle.vt_kernel.specs.Refusals.{IsStepRefusal, PassesLimit}
 use Rattle.vt_board.proofs.CellSteps.{next-cut}
+use Rattle.vt_steps.proofs.Places.{get-put_same}
 use Rattle.vt_world.specs.Held.{HeldWorld, world_memory, StandsForWorld, AreWorkers}
 use Rattle.vt_world.proofs.WorldLemmas.{found}
 use Rattle.vt_world.proofs.CellSteps.{next-send, next-not_send, next-fetch, next-not_fetch}
-use Rattle.vt_world.proofs.WorldSteps.{who, goes, gone, send-refused, fetch-refused, cut-refused}
-use Rattle.vt_world.proofs.Places.{put-there, some-at}
+use Rattle.vt_world.proofs.WorldSteps.{who, goes, gone, cut-refused}
+use Rattle.vt_world.proofs.Places.{some-at}
 
 -- a raised count
 pub count-raised : (counts : Counts) (colour : Colour) (n : ℕ) → count_of (raised counts colour n) colour ≡ count_of counts colour + n
@@ -139,7 +140,7 @@ module _ {M S P K : Type 0} (handlers : Handlers S P K) (held : HeldWorld M S P 
       let refusal : IsSendRefusal sim w v f.part fault = subst (λ u. IsSendRefusal sim u v f.part fault) is.0 (subst (λ (c : Config). IsSendRefusal (simulation_of handlers c) k.worker v f.part fault) is.1 (why f.part f.stands)) in
       let box : slice_get world.inboxes v ≡ Some inbox = ap (λ xs. slice_get xs v) s.inboxes ∙ here in
       let after = record world { parts = slice_set world.parts w (part_after_send sim v f.part); inboxes = slice_set world.inboxes v (inbox ++ mail_of_send sim v f.part) } in
-      let there = put-there world.parts w f.part (part_after_send sim v f.part) f.there in
+      let there = get-put_same world.parts w f.part (part_after_send sim v f.part) f.there in
       elim refusal [
         | inl a ↦ inl (ap (λ (o : Outcome P). o.answer) (next-not_send sim world w v f.part f.there a.1) ∙ ap Err (sym a.0))
         | inr a ↦
@@ -180,7 +181,7 @@ module _ {M S P K : Type 0} (handlers : Handlers S P K) (held : HeldWorld M S P 
       let f = found handlers held world w k are s at in
       let box : slice_get world.inboxes w ≡ Some inbox = ap (λ xs. slice_get xs w) s.inboxes ∙ here in
       let after = record world { parts = slice_set world.parts w (part_after_fetch inbox f.part); inboxes = slice_set world.inboxes w [] } in
-      let there = put-there world.parts w f.part (part_after_fetch inbox f.part) f.there in
+      let there = get-put_same world.parts w f.part (part_after_fetch inbox f.part) f.there in
       let got = got-after inbox f.part in
       let white : f.part.got.white ≡ k.got.white = ap (λ (n : Counts). n.white) f.stands.got in
       let red : f.part.got.red ≡ k.got.red = ap (λ (n : Counts). n.red) f.stands.got in

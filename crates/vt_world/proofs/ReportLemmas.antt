@@ -1,24 +1,21 @@
 -- A report of a worker, by what the board says of it.
-use Rattle.std.proofs.Common.{◌≡◌, ℕ, ◌<◌, ◌≤◌, Bool, true, false, List, [], ◌∷◌, ◌&&◌, refl, sym, ◌∙◌, ap, subst, arith, Option, Some, None, Result, Ok, Err, slice_get, slice_set}
+use Rattle.std.proofs.Common.{◌≡◌, ℕ, Bool, true, false, ◌&&◌, refl, sym, ◌∙◌, subst, arith, Some, Ok, Err, slice_get, slice_set}
 use Rattle.std.proofs.lemmas.Bool.Decides.{nat_tests}
-use Rattle.vt_key.specs.Times.{Time, TimeAtMost, time_at_most, earlier}
-use Rattle.vt_key.specs.declared.letter.Letter.{Letter}
-use Rattle.vt_key.specs.declared.fault.Fault.{Fault}
+use Rattle.vt_key.specs.Times.{Time, TimeAtMost, time_at_most}
 use Rattle.vt_key.specs.declared.fault.Fault.TheVariants.{NotLawful}
 use Rattle.vt_model.specs.Handler.{Handlers}
-use Rattle.vt_model.specs.Simulation.{Simulation, simulation_of}
+use Rattle.vt_model.specs.Simulation.{simulation_of}
 use Rattle.vt_model.specs.Settings.{end_of}
 use Rattle.vt_steps.specs.declared.step.Step.TheVariants.{Report}
 use Rattle.vt_steps.specs.declared.step.Reply.{Reply}
-use Rattle.vt_steps.specs.Letters.{least_time}
-use Rattle.vt_steps.specs.World.{Part, World, Board, Book}
+use Rattle.vt_steps.specs.World.{Part, Board}
 use Rattle.vt_steps.specs.PartSteps.{report_sent, report_got, report_least}
 use Rattle.vt_steps.specs.BoardSteps.{may_report, with_report, board_after_report, report_reply}
 use Rattle.vt_steps.specs.StandsFor.{GoesOn}
 use Rattle.vt_steps.proofs.Tests.{both_pass}
 use Rattle.vt_kernel.specs.Held.{HeldWorker, StandsFor as WorkerStandsFor}
 use Rattle.vt_board.specs.Calls.{takes_report}
-use Rattle.vt_world.specs.Held.{HeldWorld, world_memory, StandsForWorld, AreWorkers}
+use Rattle.vt_world.specs.Held.{HeldWorld, world_memory, AreWorkers}
 use Rattle.vt_world.proofs.ReachedLemmas.{inside_view}
 use Rattle.vt_world.proofs.WorldSteps.{report-done, report-refused}
 

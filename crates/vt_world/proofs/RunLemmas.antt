@@ -1,18 +1,17 @@
 -- Lists of steps, one step after the other.
-use Rattle.std.proofs.Common.{◌≡◌, ℕ, zero, suc, ◌+◌, ◌<◌, ◌≤◌, ◌⊎◌, inl, inr, Bool, true, false, List, [], ◌∷◌, ◌++◌, length, take, refl, sym, ◌∙◌, ap, subst, arith, Option, Some, None, Result, Ok, Err, IfOk, IfErr, slice_get, slice_index_or}
-use Rattle.std.proofs.lemmas.List.{take_more}
+use Rattle.std.proofs.Common.{◌≡◌, ℕ, ◌+◌, ◌⊎◌, inl, inr, List, [], ◌∷◌, ◌++◌, take, refl, sym, ◌∙◌, ap, subst, arith, Result, Ok, Err, IfOk, IfErr}
 use Rattle.vt_key.specs.declared.fault.Fault.{Fault}
 use Rattle.vt_key.specs.declared.fault.Fault.TheVariants.{Memory, NotLawful, Closed, Exhausted}
 use Rattle.vt_model.specs.Handler.{Handlers}
 use Rattle.vt_model.specs.Simulation.{Simulation, simulation_of}
 use Rattle.vt_steps.specs.declared.step.Step.{Step}
 use Rattle.vt_steps.specs.declared.step.Reply.{Reply}
-use Rattle.vt_steps.specs.World.{World, Board, Book}
-use Rattle.vt_steps.specs.Next.{Outcome, next, run, answers}
+use Rattle.vt_steps.specs.World.{World}
+use Rattle.vt_steps.specs.Next.{next, run, answers}
 use Rattle.vt_steps.specs.StandsFor.{WorldMemory, StandsFor, GoesOn, RunsTo}
 use Rattle.vt_steps.proofs.MemoryLemmas.{run-append}
 use Rattle.vt_steps.proofs.Refusals.{refusals as refusal-laws}
-use Rattle.vt_kernel.specs.Refusals.{IsStepRefusal, IsSpent}
+use Rattle.vt_kernel.specs.Refusals.{IsSpent}
 use Rattle.vt_world.specs.Held.{HeldWorld, world_memory, StandsForWorld}
 use Rattle.vt_world.specs.Calls.{IsStepOf, IsAnsweredBy, refusals}
 

@@ -1,5 +1,5 @@
 -- What a call that does a step of a world owes: what it answers and leaves, and that the world keeps to itself.
-use Rattle.std.proofs.Common.{◌≡◌, ℕ, zero, suc, ◌+◌, ◌<◌, ◌⊎◌, inl, inr, Bool, true, false, List, [], ◌∷◌, ◌++◌, map, length, refl, sym, ◌∙◌, ap, subst, arith, Option, Some, None, Result, Ok, Err, IfOk, IfErr, IsErrAnd, slice_get, slice_set, if◌then◌else◌}
+use Rattle.std.proofs.Common.{◌≡◌, ℕ, ◌⊎◌, inl, inr, Bool, true, false, List, [], ◌∷◌, length, refl, sym, ◌∙◌, ap, subst, Result, Ok, Err, IsErrAnd}
 use Rattle.std.specs.Prelude.{MatchOption}
 use Rattle.std.proofs.Math.Logic.{∥∥₁_map, ∥∥₁_elim}
 use Rattle.std.proofs.Math.Nat.{le_refl}
@@ -11,7 +11,7 @@ use Rattle.vt_key.specs.declared.fault.Fault.TheVariants.{NotLawful, Closed}
 use Rattle.vt_model.specs.declared.settings.Config.{Config}
 use Rattle.vt_model.specs.Handler.{Handlers}
 use Rattle.vt_model.specs.Histories.{IsLawful}
-use Rattle.vt_model.specs.Simulation.{Simulation, simulation_of}
+use Rattle.vt_model.specs.Simulation.{simulation_of}
 use Rattle.vt_model.specs.Settings.{end_of}
 use Rattle.vt_steps.specs.declared.step.Step.{Step}
 use Rattle.vt_steps.specs.declared.step.Step.TheVariants.{Close}
@@ -22,7 +22,7 @@ use Rattle.vt_steps.specs.Next.{next, run, reached}
 use Rattle.vt_steps.proofs.Floors.{nothing-falls, reached-times}
 use Rattle.vt_steps.specs.StandsFor.{StandsFor, GoesOn}
 use Rattle.vt_steps.proofs.MemoryLemmas.{still_reached}
-use Rattle.vt_kernel.specs.Held.{HeldWorker, AllOwnMail}
+use Rattle.vt_kernel.specs.Held.{HeldWorker}
 use Rattle.vt_steps.specs.BookSteps.{may_close, closed_book}
 use Rattle.vt_book.specs.Books.{RunBook, refusal_where, refusal_of_close}
 use Rattle.vt_kernel.specs.Refusals.{PassesLimit, IsStepRefusal}

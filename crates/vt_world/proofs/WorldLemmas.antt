@@ -1,28 +1,23 @@
 -- A part of a world looked up and changed, and the steps of a part as steps of the world.
-use Rattle.std.proofs.Common.{◌≡◌, ℕ, zero, suc, ◌+◌, ◌-◌, ◌*◌, ◌/◌, ◌%◌, ◌<◌, ◌≤◌, ◌⊎◌, inl, inr, Bool, true, false, nat_eq, List, [], ◌∷◌, ◌++◌, map, length, refl, sym, ◌∙◌, ap, subst, arith, Option, Some, None, Result, Ok, Err, slice_get, slice_set, if◌then◌else◌}
+use Rattle.std.proofs.Common.{◌≡◌, ℕ, zero, suc, ◌+◌, ◌/◌, ◌%◌, inl, inr, Bool, List, [], ◌∷◌, map, refl, sym, ◌∙◌, ap, subst, arith, Option, Some, None, Ok, Err, slice_get, slice_set, if◌then◌else◌}
 use Rattle.std.specs.Option.{option_and_then, option_map}
 use Rattle.std.proofs.lemmas.Bool.Decides.{eqb_tells}
-use Rattle.vt_key.specs.declared.order.Stamp.{Stamp}
-use Rattle.vt_key.specs.declared.letter.Letter.{Letter}
-use Rattle.vt_key.specs.declared.letter.Mail.{Mail}
-use Rattle.vt_key.specs.declared.fault.Fault.{Fault}
-use Rattle.vt_key.specs.declared.fault.Fault.TheVariants.{NotLawful, Closed}
+use Rattle.vt_key.specs.declared.fault.Fault.TheVariants.{NotLawful}
 use Rattle.vt_model.specs.declared.settings.Config.{Config}
 use Rattle.vt_model.specs.Handler.{Handlers}
 use Rattle.vt_model.specs.Simulation.{Simulation, simulation_of}
 use Rattle.vt_steps.specs.declared.step.Step.{Step}
 use Rattle.vt_steps.specs.declared.step.Step.TheVariants.{Execute, Undo, Cancel, Home, Send, Fetch, Accept, Cut, Report, Commit, Close}
-use Rattle.vt_steps.specs.declared.step.Reply.{Reply}
 use Rattle.vt_steps.specs.declared.step.Reply.TheVariants.{Done}
-use Rattle.vt_steps.specs.World.{LogicalProcess, Part, World, Board, Book}
+use Rattle.vt_steps.specs.World.{Part, World}
 use Rattle.vt_steps.specs.PartSteps.{execute, undo, cancel, home, accept}
-use Rattle.vt_steps.specs.Next.{Outcome, next, refused, replied, with_part, done_or_refused, locally}
-use Rattle.vt_steps.specs.StandsFor.{PartMemory, WorldMemory, StandsForPart, StandForParts, StandsFor, GoesOn}
+use Rattle.vt_steps.specs.Next.{Outcome, next, with_part, done_or_refused, locally}
+use Rattle.vt_steps.specs.StandsFor.{PartMemory, StandsForPart, StandForParts, GoesOn}
 use Rattle.vt_kernel.specs.Held.{HeldWorker, part_memory, StandsFor as WorkerStandsFor}
 use Rattle.vt_kernel.specs.Guards.{IsDone}
 use Rattle.vt_kernel.specs.Local.{at_own, local_step}
 use Rattle.vt_kernel.proofs.ProcessLemmas.{map-put, get-map_of}
-use Rattle.vt_kernel.proofs.OwnSteps.{own, not-own}
+use Rattle.vt_kernel.proofs.OwnSteps.{own}
 use Rattle.vt_world.specs.Held.{HeldWorld, world_memory, StandsForWorld, AreWorkers}
 
 module _ {S P : Type 0} (sim : Simulation S P) where

@@ -1,5 +1,5 @@
 -- What the calls of a worker, the board and the book do is what the step of the world does.
-use Rattle.std.proofs.Common.{◌≡◌, ℕ, zero, suc, ◌+◌, ◌⊎◌, inl, inr, Bool, true, false, List, [], ◌∷◌, ◌++◌, map, refl, sym, ◌∙◌, ap, subst, arith, Option, Some, None, Result, Ok, Err, slice_get, slice_set, if◌then◌else◌}
+use Rattle.std.proofs.Common.{◌≡◌, ℕ, zero, suc, ◌+◌, true, false, List, [], ◌∷◌, ◌++◌, map, refl, sym, ◌∙◌, ap, subst, arith, Some, None, Result, Ok, Err, slice_get, slice_set}
 use Rattle.vt_key.specs.Times.{Time}
 use Rattle.vt_key.specs.declared.letter.Mail.{Mail}
 use Rattle.vt_key.specs.declared.fault.Fault.{Fault}
@@ -7,7 +7,7 @@ use Rattle.vt_key.specs.declared.fault.Fault.TheVariants.{NotLawful, Closed}
 use Rattle.vt_model.specs.declared.rows.Row.{Row}
 use Rattle.vt_model.specs.declared.settings.Config.{Config}
 use Rattle.vt_model.specs.Handler.{Handlers}
-use Rattle.vt_model.specs.Simulation.{Simulation, simulation_of}
+use Rattle.vt_model.specs.Simulation.{simulation_of}
 use Rattle.vt_model.specs.Settings.{end_of}
 use Rattle.vt_steps.specs.declared.step.Step.{Step}
 use Rattle.vt_steps.specs.declared.step.Step.TheVariants.{Home, Accept, Send, Fetch, Cut, Report, Commit, Close}

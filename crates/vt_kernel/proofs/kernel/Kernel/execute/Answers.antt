@@ -1,4 +1,5 @@
 use Rattle.std.proofs.Common.{rules, ◌≡◌, ◌/◌, ◌%◌, ◌≤◌, ◌∙◌, IfOk, IfErr, IfSome, Some, slice_get, slice_set, sym, subst, refl}
+use Rattle.std.proofs.lemmas.Result.{IfErr-weaker, IfOk-weaker}
 use Rattle.vt_key.specs.declared.fault.Fault.TheVariants.{NotLawful}
 use Rattle.vt_key.specs.declared.limits.TheConstants.{MAX_COUNT}
 use Rattle.vt_model.specs.declared.settings.Config.{Config}
@@ -13,7 +14,7 @@ use Rattle.vt_kernel.specs.Local.{local_step}
 use Rattle.vt_kernel.specs.Guards.{IsDone, AreWithinLimits, IsExecuteRefusal}
 use Rattle.vt_kernel.proofs.ProcessLemmas.{process-at, processes-changed}
 use Rattle.vt_kernel.proofs.OwnSteps.{found, within-limits, same-execute, refusal-at, own-step}
-use Rattle.vt_kernel.proofs.LocalLemmas.{worker_view, place-within, inside-changed, unknown-refused, written-same, if_ok-more, if_err-more, either-way, at-found-done, execute-step, both-errors, own-process}
+use Rattle.vt_kernel.proofs.LocalLemmas.{worker_view, place-within, inside-changed, unknown-refused, written-same, either-way, at-found-done, execute-step, both-errors, own-process}
 use Rattle.vt_kernel.proofs.ReentryLemmas.{process-there, still-there, was-in-ready, was-in-unready}
 use Rattle.vt_kernel.proofs.kernel.Kernel.execute.Goals as goal
 
@@ -73,7 +74,7 @@ returns-clause-done g c part s =
     let one = same-execute handlers held part c.args.lp old f.process h own.1 f.lp f.config in
     subst (λ (v : HeldWorker _ _ _). IfOk c.execute_reusing-result.result (λ _. IsDone handlers (worker_view i.worker i.config (slice_set i.processes.items c.in-Some.place new) c.execute_reusing-result.new.outbox i.arrived.items i.colour i.sent i.got i.red_minimum i.floor c.execute_reusing-result.new.serial)
     (local_step (simulation_of handlers v.config) v.worker (step.Execute c.args.lp) part))) c.self.view_is
-    (if_ok-more c.execute_reusing-result.result (λ _ done. at-found-done handlers held c.self.invariant.own_processes part h c.args.lp c.in-Some.place old new c.execute_reusing-result.new.outbox c.execute_reusing-result.new.serial
+    (IfOk-weaker c.execute_reusing-result.result _ _ (λ _ done. at-found-done handlers held c.self.invariant.own_processes part h c.args.lp c.in-Some.place old new c.execute_reusing-result.new.outbox c.execute_reusing-result.new.serial
     (execute-step handlers held part c.args.lp) own.0 own.1 f same.0 same.1
     (subst (λ x. ProcessIsDone handlers new x i.outbox c.execute_reusing-result.new.outbox i.serial c.execute_reusing-result.new.serial) one done)) (c.execute_reusing-result.ensures.done f.process f.stands))
 
@@ -93,7 +94,7 @@ returns-clause-counted g c part s =
     let there : slice_get processes (c.args.lp / i.config.workers) ≡ Some new = subst (λ k. slice_get processes k ≡ Some new) own.0 (get-put_same i.processes.items c.in-Some.place old new at) in
     let f = found handlers held part c.args.lp new s are own.1 there in
     subst (λ (v : HeldWorker _ _ _). IfOk c.execute_reusing-result.result (λ _. AreWithinLimits (simulation_of handlers v.config) c.args.lp part)) c.self.view_is
-    (if_ok-more c.execute_reusing-result.result (λ _ counted. within-limits handlers held part c.args.lp new s f counted.0 counted.1) c.execute_reusing-result.ensures.counted)
+    (IfOk-weaker c.execute_reusing-result.result _ _ (λ _ counted. within-limits handlers held part c.args.lp new s f counted.0 counted.1) c.execute_reusing-result.ensures.counted)
 
 pub returns-clause-refused : goal.returns-clause-refused
 returns-clause-refused g c part s =
@@ -109,7 +110,7 @@ returns-clause-refused g c part s =
     let one = same-execute handlers held part c.args.lp old f.process h own.1 f.lp f.config in
     let at_worker = own-step sim i.worker c.args.lp (execute-step handlers held part c.args.lp) part f.process own.1 f.there in
     subst (λ (v : HeldWorker _ _ _). IfErr c.execute_reusing-result.result (λ fault. IsExecuteRefusal (simulation_of handlers v.config) c.args.lp (local_step (simulation_of handlers v.config) v.worker (step.Execute c.args.lp) part) fault)) c.self.view_is
-    (if_err-more c.execute_reusing-result.result (λ fault why.
+    (IfErr-weaker c.execute_reusing-result.result _ _ (λ fault why.
     subst (λ x. IsExecuteRefusal sim c.args.lp x fault) (sym at_worker)
     (refusal-at handlers held part c.args.lp (execute-step handlers held part c.args.lp f.process) f.process fault h f.there
     (subst (λ x. ProcessRefusal sim c.args.lp i.serial x fault) one
@@ -162,4 +163,4 @@ returns-clause-but_processes g c =
     let new = c.execute_reusing-result.new.self in
     let processes = slice_set i.processes.items c.in-Some.place new in
     subst (λ (v : HeldWorker _ _ _). IfErr c.execute_reusing-result.result (λ _. worker_view i.worker i.config processes c.execute_reusing-result.new.outbox i.arrived.items i.colour i.sent i.got i.red_minimum i.floor c.execute_reusing-result.new.serial ≡ record v { processes = processes })) c.self.view_is
-    (if_err-more c.execute_reusing-result.result (λ _ kept j. worker_view i.worker i.config processes (kept.0 j) i.arrived.items i.colour i.sent i.got i.red_minimum i.floor (kept.1 j)) c.execute_reusing-result.ensures.kept)
+    (IfErr-weaker c.execute_reusing-result.result _ _ (λ _ kept j. worker_view i.worker i.config processes (kept.0 j) i.arrived.items i.colour i.sent i.got i.red_minimum i.floor (kept.1 j)) c.execute_reusing-result.ensures.kept)

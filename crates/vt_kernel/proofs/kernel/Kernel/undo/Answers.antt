@@ -1,4 +1,5 @@
 use Rattle.std.proofs.Common.{rules, ◌≡◌, ◌∙◌, IfOk, IfErr, None, Some, slice_get, slice_set, sym, subst}
+use Rattle.std.proofs.lemmas.Result.{IfErr-weaker, IfOk-weaker}
 use Rattle.vt_model.specs.declared.settings.Config.{Config}
 use Rattle.vt_model.specs.Simulation.{simulation_of}
 use Rattle.vt_steps.specs.ProcessSteps.{undo_process}
@@ -9,7 +10,7 @@ use Rattle.vt_kernel.specs.Local.{local_step}
 use Rattle.vt_kernel.specs.Guards.{IsDone}
 use Rattle.vt_kernel.proofs.ProcessLemmas.{process-at}
 use Rattle.vt_kernel.proofs.OwnSteps.{found, refused-at}
-use Rattle.vt_kernel.proofs.LocalLemmas.{worker_view, place-within, inside-changed, unknown-refused, written-same, if_ok-more, if_err-more, at-found-done, no-serial}
+use Rattle.vt_kernel.proofs.LocalLemmas.{worker_view, place-within, inside-changed, unknown-refused, written-same, at-found-done, no-serial}
 use Rattle.vt_kernel.proofs.ReentryLemmas.{process-there, still-there, was-in-ready, was-in-unready}
 use Rattle.vt_kernel.proofs.kernel.Kernel.undo.Goals as goal
 
@@ -67,7 +68,7 @@ returns-clause-done g c part s =
     let f = found handlers held part c.args.lp old h c.self.invariant.own_processes own.1 at_p in
     subst (λ (v : HeldWorker _ _ _). IfOk c.undo-result.result (λ _. IsDone handlers (worker_view i.worker i.config (slice_set i.processes.items c.in-Some.place new) c.undo-result.new.outbox i.arrived.items i.colour i.sent i.got i.red_minimum i.floor i.serial)
     (local_step (simulation_of handlers v.config) v.worker (step.Undo c.args.lp) part))) c.self.view_is
-    (if_ok-more c.undo-result.result (λ _ done. at-found-done handlers held c.self.invariant.own_processes part h c.args.lp c.in-Some.place old new c.undo-result.new.outbox i.serial undo_process own.0 own.1 f same.0 same.1
+    (IfOk-weaker c.undo-result.result _ _ (λ _ done. at-found-done handlers held c.self.invariant.own_processes part h c.args.lp c.in-Some.place old new c.undo-result.new.outbox i.serial undo_process own.0 own.1 f same.0 same.1
     (no-serial handlers new (undo_process f.process) i.outbox c.undo-result.new.outbox i.serial done)) (c.undo-result.ensures.done f.process f.stands))
 
 pub returns-clause-refused : goal.returns-clause-refused
@@ -81,7 +82,7 @@ returns-clause-refused g c part s =
     let h = subst (λ (v : HeldWorker _ _ _). StandsFor handlers v part) (sym c.self.view_is) s in
     let f = found handlers held part c.args.lp old h c.self.invariant.own_processes own.1 (subst (λ k. slice_get i.processes.items k ≡ Some old) own.0 at) in
     subst (λ (v : HeldWorker _ _ _). IfErr c.undo-result.result (λ _. local_step (simulation_of handlers v.config) v.worker (step.Undo c.args.lp) part ≡ None)) c.self.view_is
-    (if_err-more c.undo-result.result (λ _ none. refused-at handlers held part c.args.lp old undo_process own.1 f none) (c.undo-result.ensures.refused f.process f.stands))
+    (IfErr-weaker c.undo-result.result _ _ (λ _ none. refused-at handlers held part c.args.lp old undo_process own.1 f none) (c.undo-result.ensures.refused f.process f.stands))
 
 pub returns-clause-kept : goal.returns-clause-kept
 returns-clause-kept g c =
@@ -89,7 +90,7 @@ returns-clause-kept g c =
     let old = c.index_mut.result.now in
     let new = c.undo-result.new.self in
     let at = process-there c.self.invariant i.config.some_worker c.args.lp c.in-Some.place old c.in-Some.ensures.own (sym c.index_mut.ensures.value) in
-    if_err-more c.undo-result.result (λ _ kept. (
+    IfErr-weaker c.undo-result.result _ _ (λ _ kept. (
       kept.0,
       (λ j. worker_view i.worker i.config (written-same i.processes.items c.in-Some.place old new at kept.1 j) (kept.2 j) i.arrived.items i.colour i.sent i.got i.red_minimum i.floor i.serial) ∙ c.self.view_is,
     )) c.undo-result.ensures.kept

@@ -1,4 +1,4 @@
-use Rattle.std.proofs.Common.{◌≡◌, subst}
+use Rattle.std.proofs.Common.{subst}
 use Rattle.vt_world.specs.Calls.{IsStepOf}
 use Rattle.vt_world.proofs.RunLemmas.{passed-goes, passed-spent}
 use Rattle.vt_world.proofs.world.World.advance.Goals as goal

@@ -1,12 +1,11 @@
-use Rattle.std.proofs.Common.{rules, ◌≡◌, ℕ, ◌<◌, ◌≤◌, ◌%◌, ◌∙◌, length, ap, sym, subst, refl, true, false, Ok, Err, Some, None, slice_get, slice_set, arith}
+use Rattle.std.proofs.Common.{rules, ◌≡◌, ◌<◌, ◌%◌, ◌∙◌, length, ap, sym, refl, Some, slice_get, slice_set, arith}
 use Rattle.std.proofs.lemmas.Option.{slice_get_read}
 use Rattle.vt_steps.specs.declared.step.Step.TheVariants.{Cancel}
 use Rattle.vt_steps.specs.declared.step.Reply.TheVariants.{Done}
-use Rattle.vt_kernel.specs.Held.{HeldWorker}
 use Rattle.vt_model.proofs.LawLemmas.{lawful_of}
+use Rattle.vt_kernel.proofs.SettlingLemmas.{put-there}
 use Rattle.vt_world.proofs.ReachedLemmas.{inside_view}
-use Rattle.vt_world.proofs.StepLemmas.{step-done, step-refused, step-unlawful, inside-same}
-use Rattle.vt_world.proofs.Places.{put-same}
+use Rattle.vt_world.proofs.StepLemmas.{step-done, step-unlawful, inside-same}
 use Rattle.vt_world.proofs.WorldLemmas.{local-done}
 use Rattle.vt_world.proofs.LocalLemmas.{local-unlawful, inside-local}
 use Rattle.vt_world.proofs.world.World.cancel.Goals as goal
@@ -23,7 +22,7 @@ invariant_of-self g c =
     let below : w < length i.kernels.items = omega (arith, many, c.owner-owner.ensures.known) in
     let at : slice_get i.kernels.items w ≡ Some k = slice_get_read i.kernels.items (length i.kernels.items) w k refl below c.index_mut.ensures.value in
     let own : c.args.lp % i.config.workers ≡ w = sym c.owner-owner.ensures.value in
-    let kernels : slice_set i.kernels.items w c.cancel.new.self ≡ i.kernels.items = ap (slice_set i.kernels.items w) c.in_err-cancel.ensures.kept.1 ∙ put-same i.kernels.items w k at in
+    let kernels : slice_set i.kernels.items w c.cancel.new.self ≡ i.kernels.items = ap (slice_set i.kernels.items w) c.in_err-cancel.ensures.kept.1 ∙ put-there i.kernels.items w k at in
     inside-same H held c.self.invariant _ (λ j. inside_view m i.config (kernels j) i.inboxes.items i.board.board i.book.book) refl refl
 
 pub returns-in_err-cancel : goal.returns-in_err-cancel
@@ -38,7 +37,7 @@ returns-in_err-cancel g c =
     let below : w < length i.kernels.items = omega (arith, many, c.owner-owner.ensures.known) in
     let at : slice_get i.kernels.items w ≡ Some k = slice_get_read i.kernels.items (length i.kernels.items) w k refl below c.index_mut.ensures.value in
     let own : c.args.lp % i.config.workers ≡ w = sym c.owner-owner.ensures.value in
-    let kernels : slice_set i.kernels.items w c.cancel.new.self ≡ i.kernels.items = ap (slice_set i.kernels.items w) c.in_err-cancel.ensures.kept.1 ∙ put-same i.kernels.items w k at in
+    let kernels : slice_set i.kernels.items w c.cancel.new.self ≡ i.kernels.items = ap (slice_set i.kernels.items w) c.in_err-cancel.ensures.kept.1 ∙ put-there i.kernels.items w k at in
     step-unlawful (g.M.Model.handlers) c.self.view_is c.self.invariant (inside_view m i.config (slice_set i.kernels.items w c.cancel.new.self) i.inboxes.items i.board.board i.book.book)
     (Cancel c.args.lp c.args.stamp) c.in_err-cancel.field-0.0 c.from_residual.result (search rules)
     (λ j. inside_view m i.config (kernels j) i.inboxes.items i.board.board i.book.book)

@@ -1,16 +1,14 @@
-use Rattle.std.proofs.Common.{rules, ◌≡◌, ℕ, ◌<◌, ◌≤◌, ◌∙◌, List, length, ap, sym, subst, refl, true, false, Ok, Err, Some, None, slice_get, slice_set, arith}
+use Rattle.std.proofs.Common.{rules, ◌≡◌, ◌<◌, ◌≤◌, ◌∙◌, length, ap, sym, subst, refl, true, false, Ok, Err, Some, None, slice_get, slice_set, arith}
 use Rattle.std.proofs.Math.Logic.{∥∥₁_elim}
 use Rattle.std.proofs.Props.{props}
 use Rattle.std.proofs.lemmas.Option.{slice_get_read, slice_get_past}
 use Rattle.vt_key.specs.declared.fault.Fault.TheVariants.{NotLawful, Closed}
-use Rattle.vt_key.specs.Times.{Time}
-use Rattle.vt_model.specs.declared.rows.Row.{Row}
 use Rattle.vt_model.specs.Simulation.{simulation_of}
 use Rattle.vt_model.proofs.LawLemmas.{lawful_of}
 use Rattle.vt_steps.specs.declared.step.Step.TheVariants.{Commit}
 use Rattle.vt_steps.specs.declared.step.Reply.TheVariants.{Done}
 use Rattle.vt_steps.specs.BookSteps.{may_commit, with_rows}
-use Rattle.vt_steps.specs.PartSteps.{rows_of_commit, part_after_commit}
+use Rattle.vt_steps.specs.PartSteps.{rows_of_commit}
 use Rattle.vt_steps.specs.World.{Part}
 use Rattle.vt_steps.specs.StandsFor.{GoesOn}
 use Rattle.vt_kernel.specs.Held.{HeldWorker, StandsFor}
@@ -18,7 +16,7 @@ use Rattle.vt_book.specs.Books.{RunBook, refusal_of_hand}
 use Rattle.vt_world.specs.Held.{world_memory}
 use Rattle.vt_world.proofs.ReachedLemmas.{inside_view}
 use Rattle.vt_world.proofs.StepLemmas.{step-done, step-refused, step-unlawful, inside-same}
-use Rattle.vt_world.proofs.Places.{inside-worker, same-there}
+use Rattle.vt_world.proofs.Places.{inside-worker, same-there, worker-there}
 use Rattle.vt_world.proofs.CommitLemmas.{commit-may, hand-unrefused, commit-why}
 use Rattle.vt_world.proofs.WorldSteps.{commit-nobody, commit-closed, commit-done}
 use Rattle.vt_world.proofs.world.World.commit.Goals as goal
@@ -50,9 +48,7 @@ returns-in_err-rows g c =
     let held = inside_view m i.config i.kernels.items i.inboxes.items i.board.board i.book.book in
     let lawful = lawful_of H i.config (g.met.M.Model.start_within m) (g.met.M.Model.forward_within m) in
     let k = c.index.result.now in
-    let many = c.self.invariant.all_workers in
-    let below : c.args.w < length i.kernels.items = omega (arith, many, c.if-w-self.false) in
-    let at : slice_get i.kernels.items c.args.w ≡ Some k = slice_get_read i.kernels.items (length i.kernels.items) c.args.w k refl below c.index.ensures in
+    let at : slice_get i.kernels.items c.args.w ≡ Some k = worker-there c.self.invariant c.args.w k c.if-w-self.false c.index.ensures in
     let is_open : i.book.book.is_closed ≡ false = sym c.is_closed.ensures ∙ c.if-is_closed.false in
     let may : may_commit (slice_get i.book.book.floors c.args.w) k.floor ≡ true = ∥∥₁_elim c.self.invariant.is_reached (Prim.hlevel props) (commit-may H held c.self.invariant.own_workers lawful c.args.w k at) in
     step-refused (g.M.Model.handlers) c.self.view_is c.self.invariant c.args.self.now (Commit c.args.w) c.in_err-rows.field-0.0 c.from_residual.result (search rules) (sym c.self.view_is)

@@ -1,5 +1,5 @@
-use Rattle.std.proofs.Common.{rules, ◌≡◌, ℕ, ◌<◌, ◌≤◌, ◌∙◌, length, ap, sym, subst, refl, true, false, Ok, Err, Some, None, slice_get, slice_set, arith}
-use Rattle.std.proofs.lemmas.Option.{slice_get_read, slice_get_past}
+use Rattle.std.proofs.Common.{◌≡◌, ◌<◌, ◌≤◌, ◌∙◌, length, ap, sym, subst, refl, Err, Some, slice_get, slice_set, arith}
+use Rattle.std.proofs.lemmas.Option.{slice_get_past}
 use Rattle.vt_key.specs.declared.fault.Fault.TheVariants.{NotLawful}
 use Rattle.vt_key.specs.Times.{Time}
 use Rattle.vt_steps.specs.declared.step.Step.TheVariants.{Cut}
@@ -8,12 +8,11 @@ use Rattle.vt_steps.specs.BoardSteps.{cut_board}
 use Rattle.vt_steps.specs.PartSteps.{part_after_cut}
 use Rattle.vt_kernel.specs.Held.{HeldWorker, StandsFor}
 use Rattle.vt_board.specs.BoardOfRun.{BoardOfRun}
-use Rattle.vt_board.specs.Calls.{cut_outcome}
 use Rattle.vt_model.proofs.LawLemmas.{lawful_of}
 use Rattle.vt_model.specs.Settings.{end_of}
 use Rattle.vt_world.proofs.ReachedLemmas.{inside_view}
 use Rattle.vt_world.proofs.StepLemmas.{step-done, step-refused, step-unlawful, inside-same}
-use Rattle.vt_world.proofs.Places.{inside-worker}
+use Rattle.vt_world.proofs.Places.{inside-worker, worker-there}
 use Rattle.vt_world.proofs.Refusals.{cut-nobody, cut-why, counted-ok, counted-few}
 use Rattle.vt_world.proofs.WorldSteps.{cut-done}
 use Rattle.vt_world.proofs.LimitLemmas.{cut-within}
@@ -55,9 +54,7 @@ invariant_of-self g c =
     let H = g.M.Model.handlers m in
     let held = inside_view m i.config i.kernels.items i.inboxes.items i.board.board i.book.book in
     let k = c.index_mut.result.now in
-    let many = c.self.invariant.all_workers in
-    let below : c.args.w < length i.kernels.items = omega (arith, many, c.if-w-self.false) in
-    let at : slice_get i.kernels.items c.args.w ≡ Some k = slice_get_read i.kernels.items (length i.kernels.items) c.args.w k refl below c.index_mut.ensures.value in
+    let at : slice_get i.kernels.items c.args.w ≡ Some k = worker-there c.self.invariant c.args.w k c.if-w-self.false c.index_mut.ensures.value in
     let cuts : cut_board (end_of i.config) c.args.w i.board.board ≡ Some c.cut.new.self.board =
     ap (λ t. cut_board t c.args.w i.board.board) (sym c.self.invariant.same_board_end) ∙ counted-ok (cut_board i.board.end c.args.w i.board.board) c.cut.new.self.board c.in-Ok.ensures.cut in
     let same_worker = ap (λ (x : HeldWorker _ _ _). x.worker) c.turn.ensures.turned in
@@ -73,9 +70,7 @@ returns-in-Ok g c =
     let H = g.M.Model.handlers m in
     let held = inside_view m i.config i.kernels.items i.inboxes.items i.board.board i.book.book in
     let k = c.index_mut.result.now in
-    let many = c.self.invariant.all_workers in
-    let below : c.args.w < length i.kernels.items = omega (arith, many, c.if-w-self.false) in
-    let at : slice_get i.kernels.items c.args.w ≡ Some k = slice_get_read i.kernels.items (length i.kernels.items) c.args.w k refl below c.index_mut.ensures.value in
+    let at : slice_get i.kernels.items c.args.w ≡ Some k = worker-there c.self.invariant c.args.w k c.if-w-self.false c.index_mut.ensures.value in
     let cuts : cut_board (end_of i.config) c.args.w i.board.board ≡ Some c.cut.new.self.board =
     ap (λ t. cut_board t c.args.w i.board.board) (sym c.self.invariant.same_board_end) ∙ counted-ok (cut_board i.board.end c.args.w i.board.board) c.cut.new.self.board c.in-Ok.ensures.cut in
     let same_worker = ap (λ (x : HeldWorker _ _ _). x.worker) c.turn.ensures.turned in

@@ -1,5 +1,5 @@
-use Rattle.std.proofs.Common.{rules, ◌≡◌, ℕ, ◌<◌, ◌≤◌, ◌⊎◌, ◌+◌, ◌∙◌, List, [], length, ap, sym, subst, refl, true, false, Ok, Err, Some, None, slice_get, slice_set, arith}
-use Rattle.std.proofs.lemmas.Option.{slice_get_read, slice_get_past}
+use Rattle.std.proofs.Common.{◌≡◌, ◌<◌, ◌≤◌, ◌⊎◌, ◌+◌, ◌∙◌, List, [], length, ap, sym, subst, refl, true, false, Ok, Err, Some, slice_get, slice_set, arith}
+use Rattle.std.proofs.lemmas.Option.{slice_get_past}
 use Rattle.vt_key.specs.declared.letter.Mail.{Mail}
 use Rattle.vt_key.specs.declared.fault.Fault.TheVariants.{NotLawful, Exhausted}
 use Rattle.vt_key.specs.declared.limits.TheConstants.{MAX_COUNT}
@@ -11,11 +11,13 @@ use Rattle.vt_steps.specs.Letters.{is_empty, count_colour}
 use Rattle.vt_steps.specs.PartSteps.{part_after_fetch}
 use Rattle.vt_steps.specs.StandsFor.{GoesOn}
 use Rattle.vt_kernel.specs.Held.{HeldWorker, StandsFor, AllOwnMail}
+use Rattle.vt_steps.proofs.Places.{get-put_same}
+use Rattle.vt_kernel.proofs.SettlingLemmas.{put-put, put-there}
 use Rattle.vt_world.specs.Held.{world_memory}
 use Rattle.vt_model.proofs.LawLemmas.{lawful_of}
 use Rattle.vt_world.proofs.ReachedLemmas.{inside_view}
 use Rattle.vt_world.proofs.StepLemmas.{step-done, step-refused, step-unlawful, inside-same}
-use Rattle.vt_world.proofs.Places.{inside-mail, inbox-at, put-same, put-twice, put-there, are-workers}
+use Rattle.vt_world.proofs.Places.{inside-mail, inbox-at, are-workers, worker-there, inbox-there}
 use Rattle.vt_world.proofs.Refusals.{fetch-why}
 use Rattle.vt_world.proofs.WorldSteps.{who, fetch-done, fetch-nobody}
 use Rattle.vt_world.proofs.LimitLemmas.{fetch-within}
@@ -38,12 +40,8 @@ take_in-requires-clause-own g c κs within =
     let held = inside_view m i.config i.kernels.items i.inboxes.items i.board.board i.book.book in
     let k = c.index_mut-2.result.now in
     let box = c.index_mut.result.now in
-    let many = c.self.invariant.all_workers in
-    let all = c.self.invariant.all_inboxes in
-    let below : c.args.w < length i.kernels.items = omega (arith, many, c.if-w-self.false) in
-    let within_inboxes : c.args.w < length i.inboxes.items = omega (arith, all, c.if-w-self.false) in
-    let at : slice_get i.kernels.items c.args.w ≡ Some k = slice_get_read i.kernels.items (length i.kernels.items) c.args.w k refl below c.index_mut-2.ensures.value in
-    let here : slice_get i.inboxes.items c.args.w ≡ Some box = slice_get_read i.inboxes.items (length i.inboxes.items) c.args.w box refl within_inboxes c.index_mut.ensures.value in
+    let at : slice_get i.kernels.items c.args.w ≡ Some k = worker-there c.self.invariant c.args.w k c.if-w-self.false c.index_mut-2.ensures.value in
+    let here : slice_get i.inboxes.items c.args.w ≡ Some box = inbox-there c.self.invariant c.args.w box c.if-w-self.false c.index_mut.ensures.value in
     let is = who (g.M.Model.handlers m) held c.self.invariant.own_workers c.args.w k at in
     let plain : 0 + c.args.w ≡ c.args.w = omega arith in
     let mail : box ≡ c.replace-mail.result.items = sym (ap (λ v. v.items) c.replace-mail.ensures.value ∙ c.behind-self.view_is) in
@@ -57,16 +55,12 @@ invariant_of-self g c =
     let held = inside_view m i.config i.kernels.items i.inboxes.items i.board.board i.book.book in
     let k = c.index_mut-2.result.now in
     let box = c.index_mut.result.now in
-    let many = c.self.invariant.all_workers in
-    let all = c.self.invariant.all_inboxes in
-    let below : c.args.w < length i.kernels.items = omega (arith, many, c.if-w-self.false) in
-    let within_inboxes : c.args.w < length i.inboxes.items = omega (arith, all, c.if-w-self.false) in
-    let at : slice_get i.kernels.items c.args.w ≡ Some k = slice_get_read i.kernels.items (length i.kernels.items) c.args.w k refl below c.index_mut-2.ensures.value in
-    let here : slice_get i.inboxes.items c.args.w ≡ Some box = slice_get_read i.inboxes.items (length i.inboxes.items) c.args.w box refl within_inboxes c.index_mut.ensures.value in
+    let at : slice_get i.kernels.items c.args.w ≡ Some k = worker-there c.self.invariant c.args.w k c.if-w-self.false c.index_mut-2.ensures.value in
+    let here : slice_get i.inboxes.items c.args.w ≡ Some box = inbox-there c.self.invariant c.args.w box c.if-w-self.false c.index_mut.ensures.value in
     let mail : c.replace-mail.result.items ≡ box = ap (λ v. v.items) c.replace-mail.ensures.value ∙ c.behind-self.view_is in
-    let kernels : slice_set i.kernels.items c.args.w c.take_in.new.self ≡ i.kernels.items = ap (slice_set i.kernels.items c.args.w) c.in-Err.ensures.kept.0 ∙ put-same i.kernels.items c.args.w k at in
+    let kernels : slice_set i.kernels.items c.args.w c.take_in.new.self ≡ i.kernels.items = ap (slice_set i.kernels.items c.args.w) c.in-Err.ensures.kept.0 ∙ put-there i.kernels.items c.args.w k at in
     let inboxes : slice_set (slice_set i.inboxes.items c.args.w c.replace-mail.new.dest.items) c.args.w c.in-Err.mail.items ≡ i.inboxes.items =
-    put-twice i.inboxes.items c.args.w c.replace-mail.new.dest.items c.in-Err.mail.items ∙ ap (slice_set i.inboxes.items c.args.w) (c.in-Err.ensures.kept.1 ∙ mail) ∙ put-same i.inboxes.items c.args.w box here in
+    put-put i.inboxes.items c.args.w c.replace-mail.new.dest.items c.in-Err.mail.items ∙ ap (slice_set i.inboxes.items c.args.w) (c.in-Err.ensures.kept.1 ∙ mail) ∙ put-there i.inboxes.items c.args.w box here in
     inside-same (g.M.Model.handlers m) held c.self.invariant _
     (λ j. inside_view m i.config (kernels j) (inboxes j) i.board.board i.book.book) refl refl
 
@@ -77,16 +71,12 @@ returns-in-Err g c =
     let held = inside_view m i.config i.kernels.items i.inboxes.items i.board.board i.book.book in
     let k = c.index_mut-2.result.now in
     let box = c.index_mut.result.now in
-    let many = c.self.invariant.all_workers in
-    let all = c.self.invariant.all_inboxes in
-    let below : c.args.w < length i.kernels.items = omega (arith, many, c.if-w-self.false) in
-    let within_inboxes : c.args.w < length i.inboxes.items = omega (arith, all, c.if-w-self.false) in
-    let at : slice_get i.kernels.items c.args.w ≡ Some k = slice_get_read i.kernels.items (length i.kernels.items) c.args.w k refl below c.index_mut-2.ensures.value in
-    let here : slice_get i.inboxes.items c.args.w ≡ Some box = slice_get_read i.inboxes.items (length i.inboxes.items) c.args.w box refl within_inboxes c.index_mut.ensures.value in
+    let at : slice_get i.kernels.items c.args.w ≡ Some k = worker-there c.self.invariant c.args.w k c.if-w-self.false c.index_mut-2.ensures.value in
+    let here : slice_get i.inboxes.items c.args.w ≡ Some box = inbox-there c.self.invariant c.args.w box c.if-w-self.false c.index_mut.ensures.value in
     let mail : c.replace-mail.result.items ≡ box = ap (λ v. v.items) c.replace-mail.ensures.value ∙ c.behind-self.view_is in
-    let kernels : slice_set i.kernels.items c.args.w c.take_in.new.self ≡ i.kernels.items = ap (slice_set i.kernels.items c.args.w) c.in-Err.ensures.kept.0 ∙ put-same i.kernels.items c.args.w k at in
+    let kernels : slice_set i.kernels.items c.args.w c.take_in.new.self ≡ i.kernels.items = ap (slice_set i.kernels.items c.args.w) c.in-Err.ensures.kept.0 ∙ put-there i.kernels.items c.args.w k at in
     let inboxes : slice_set (slice_set i.inboxes.items c.args.w c.replace-mail.new.dest.items) c.args.w c.in-Err.mail.items ≡ i.inboxes.items =
-    put-twice i.inboxes.items c.args.w c.replace-mail.new.dest.items c.in-Err.mail.items ∙ ap (slice_set i.inboxes.items c.args.w) (c.in-Err.ensures.kept.1 ∙ mail) ∙ put-same i.inboxes.items c.args.w box here in
+    put-put i.inboxes.items c.args.w c.replace-mail.new.dest.items c.in-Err.mail.items ∙ ap (slice_set i.inboxes.items c.args.w) (c.in-Err.ensures.kept.1 ∙ mail) ∙ put-there i.inboxes.items c.args.w box here in
     let why = subst (λ (ms : List (Mail _)). ((c.in-Err.fault ≡ NotLawful) × (is_empty k.arrived ≡ false)) ⊎ ((c.in-Err.fault ≡ Exhausted) × (is_empty k.arrived ≡ true)
     × ((MAX_COUNT < k.got.white + count_colour White ms) ⊎ (MAX_COUNT < k.got.red + count_colour Red ms)))) mail c.in-Err.ensures.refused in
     step-refused (g.M.Model.handlers) c.self.view_is c.self.invariant
@@ -103,12 +93,8 @@ invariant_of-self-in_default g c =
     let held = inside_view m i.config i.kernels.items i.inboxes.items i.board.board i.book.book in
     let k = c.index_mut-2.result.now in
     let box = c.index_mut.result.now in
-    let many = c.self.invariant.all_workers in
-    let all = c.self.invariant.all_inboxes in
-    let below : c.args.w < length i.kernels.items = omega (arith, many, c.if-w-self.false) in
-    let within_inboxes : c.args.w < length i.inboxes.items = omega (arith, all, c.if-w-self.false) in
-    let at : slice_get i.kernels.items c.args.w ≡ Some k = slice_get_read i.kernels.items (length i.kernels.items) c.args.w k refl below c.index_mut-2.ensures.value in
-    let here : slice_get i.inboxes.items c.args.w ≡ Some box = slice_get_read i.inboxes.items (length i.inboxes.items) c.args.w box refl within_inboxes c.index_mut.ensures.value in
+    let at : slice_get i.kernels.items c.args.w ≡ Some k = worker-there c.self.invariant c.args.w k c.if-w-self.false c.index_mut-2.ensures.value in
+    let here : slice_get i.inboxes.items c.args.w ≡ Some box = inbox-there c.self.invariant c.args.w box c.if-w-self.false c.index_mut.ensures.value in
     let mail : c.replace-mail.result.items ≡ box = ap (λ v. v.items) c.replace-mail.ensures.value ∙ c.behind-self.view_is in
     let none : c.replace-mail.new.dest.items ≡ [] = ap (λ v. v.items) c.replace-mail.ensures.after ∙ c.new-empty.ensures.items in
     let same_worker = ap (λ (x : HeldWorker _ _ _). x.worker) c.in_default.ensures.taken in
@@ -128,12 +114,8 @@ returns g c =
     let held = inside_view m i.config i.kernels.items i.inboxes.items i.board.board i.book.book in
     let k = c.index_mut-2.result.now in
     let box = c.index_mut.result.now in
-    let many = c.self.invariant.all_workers in
-    let all = c.self.invariant.all_inboxes in
-    let below : c.args.w < length i.kernels.items = omega (arith, many, c.if-w-self.false) in
-    let within_inboxes : c.args.w < length i.inboxes.items = omega (arith, all, c.if-w-self.false) in
-    let at : slice_get i.kernels.items c.args.w ≡ Some k = slice_get_read i.kernels.items (length i.kernels.items) c.args.w k refl below c.index_mut-2.ensures.value in
-    let here : slice_get i.inboxes.items c.args.w ≡ Some box = slice_get_read i.inboxes.items (length i.inboxes.items) c.args.w box refl within_inboxes c.index_mut.ensures.value in
+    let at : slice_get i.kernels.items c.args.w ≡ Some k = worker-there c.self.invariant c.args.w k c.if-w-self.false c.index_mut-2.ensures.value in
+    let here : slice_get i.inboxes.items c.args.w ≡ Some box = inbox-there c.self.invariant c.args.w box c.if-w-self.false c.index_mut.ensures.value in
     let mail : c.replace-mail.result.items ≡ box = ap (λ v. v.items) c.replace-mail.ensures.value ∙ c.behind-self.view_is in
     let none : c.replace-mail.new.dest.items ≡ [] = ap (λ v. v.items) c.replace-mail.ensures.after ∙ c.new-empty.ensures.items in
     let same_worker = ap (λ (x : HeldWorker _ _ _). x.worker) c.in_default.ensures.taken in
@@ -146,4 +128,4 @@ returns g c =
     (subst (λ (b : List (Mail _)). GoesOn (simulation_of H i.config) (Fetch c.args.w) (Ok Done) (world_memory H held)
     (world_memory H (inside_view m i.config (slice_set i.kernels.items c.args.w c.take_in.new.self) (slice_set i.inboxes.items c.args.w b) i.board.board i.book.book))) (sym none) goes) refl refl
     (fetch-within H (inside_view m i.config (slice_set i.kernels.items c.args.w new) (slice_set i.inboxes.items c.args.w c.replace-mail.new.dest.items) i.board.board i.book.book)
-    (are-workers H held c.self.invariant c.args.w k new at same_worker same_config) c.args.w new (put-there i.kernels.items c.args.w k new at) c.in_default.ensures.lawful.1)
+    (are-workers H held c.self.invariant c.args.w k new at same_worker same_config) c.args.w new (get-put_same i.kernels.items c.args.w k new at) c.in_default.ensures.lawful.1)

@@ -1,4 +1,5 @@
 use Rattle.std.proofs.Common.{◌≡◌, ◌∙◌, ℕ, ◌<◌, ◌≤◌, ◌%◌, ◌⊎◌, inl, inr, length, refl, sym, ap, subst, arith, Some, IfOk, IfErr, OnOk, slice_get}
+use Rattle.std.proofs.lemmas.Result.{IfOk-weaker}
 use Rattle.std.proofs.lemmas.Option.{slice_get_read}
 use Rattle.vt_key.specs.Times.{Time, TimeAtMost}
 use Rattle.vt_key.specs.declared.fault.Fault.TheVariants.{Memory, NotLawful}
@@ -11,7 +12,7 @@ use Rattle.vt_world.specs.Held.{HeldWorld, StandsForWorld, IsReached}
 use Rattle.vt_world.specs.Calls.{least_held}
 use Rattle.vt_world.specs.Answers.{IsPastIn, EndsSequential}
 use Rattle.vt_world.proofs.PastLemmas.{ok-both, on_ok-more, err-more, own-process, no-process, past-in, past-sequential}
-use Rattle.vt_world.proofs.ReachedLemmas.{if_ok-more, inside_view}
+use Rattle.vt_world.proofs.ReachedLemmas.{inside_view}
 use Rattle.vt_world.proofs.world.World.past.Goals as goal
 
 pub returns-clause-past : goal.returns-clause-past
@@ -28,7 +29,7 @@ returns-clause-past g c =
     let at : slice_get i.kernels.items (lp % i.config.workers) ≡ Some k =
     ap (slice_get i.kernels.items) (sym c.owner-owner.ensures.value) ∙ slice_get_read i.kernels.items (length i.kernels.items) c.owner-owner.result k refl below c.index.ensures in
     subst (λ (v : HeldWorld _ _ _ _). (world : World _) → StandsForWorld (g.M.Model.handlers v.model) v world → IfOk c.past_events.result (λ es. IsPastIn (simulation_of (g.M.Model.handlers v.model) v.config) world lp es.items)) c.self.view_is
-    (λ world h. if_ok-more c.past_events.result (λ es is. past-in H held c.self.invariant.own_workers lp k at es.items is world h) c.past_events.ensures.events)
+    (λ world h. IfOk-weaker c.past_events.result _ _ (λ es is. past-in H held c.self.invariant.own_workers lp k at es.items is world h) c.past_events.ensures.events)
 
 pub returns-clause-histories : goal.returns-clause-histories
 returns-clause-histories g c serial steps h =

@@ -1,4 +1,5 @@
 use Rattle.std.proofs.Common.{◌≡◌, subst, ◌∙◌, ap, IfOk}
+use Rattle.std.proofs.lemmas.Result.{IfOk-weaker}
 use Rattle.std.specs.Prelude.{IsTrue}
 use Rattle.std.proofs.Math.Logic.{∥∥₁_elim}
 use Rattle.std.proofs.Props.{props}
@@ -10,7 +11,7 @@ use Rattle.vt_model.specs.Settings.{end_of}
 use Rattle.vt_world.specs.Calls.{floor_held}
 use Rattle.vt_world.specs.Held.{HeldWorld}
 use Rattle.vt_world.proofs.ClosedLemmas.{floor-end}
-use Rattle.vt_world.proofs.ReachedLemmas.{records-sequential, inside_view, if_ok-more}
+use Rattle.vt_world.proofs.ReachedLemmas.{records-sequential, inside_view}
 use Rattle.vt_world.proofs.world.World.records.Goals as goal
 
 pub returns-clause-records : goal.returns-clause-records
@@ -21,7 +22,7 @@ returns-clause-records g c =
     let lawful = lawful_of (g.M.Model.handlers m) i.config (g.met.M.Model.start_within m) (g.met.M.Model.forward_within m) in
     let right = ∥∥₁_elim c.self.invariant.is_reached (Prim.hlevel props) (records-sequential (g.M.Model.handlers m) held lawful) in
     subst (λ (v : HeldWorld _ _ _ _). IfOk c.records.result (λ r. r.items ≡ seq_records (simulation_of (g.M.Model.handlers v.model) v.config) (floor_held v))) c.self.view_is
-    (if_ok-more c.records.result (λ r is. is ∙ ap (λ t. book_records t i.book.book) c.self.invariant.same_book_end ∙ right) c.records.ensures.records)
+    (IfOk-weaker c.records.result _ _ (λ r is. is ∙ ap (λ t. book_records t i.book.book) c.self.invariant.same_book_end ∙ right) c.records.ensures.records)
 
 pub returns-clause-closed : goal.returns-clause-closed
 returns-clause-closed g c =
@@ -32,4 +33,4 @@ returns-clause-closed g c =
     let right = ∥∥₁_elim c.self.invariant.is_reached (Prim.hlevel props) (records-sequential (g.M.Model.handlers m) held lawful) in
     let at_end = λ (shut : IsTrue held.book.is_closed). ∥∥₁_elim c.self.invariant.is_reached (Prim.hlevel props) (floor-end (g.M.Model.handlers m) held shut lawful) in
     subst (λ (v : HeldWorld _ _ _ _). IsTrue v.book.is_closed → IfOk c.records.result (λ r. r.items ≡ seq_records (simulation_of (g.M.Model.handlers v.model) v.config) (end_of v.config))) c.self.view_is
-    (λ shut. if_ok-more c.records.result (λ r is. is ∙ ap (λ t. book_records t i.book.book) c.self.invariant.same_book_end ∙ right ∙ ap (seq_records (simulation_of (g.M.Model.handlers m) i.config)) (at_end shut)) c.records.ensures.records)
+    (λ shut. IfOk-weaker c.records.result _ _ (λ r is. is ∙ ap (λ t. book_records t i.book.book) c.self.invariant.same_book_end ∙ right ∙ ap (seq_records (simulation_of (g.M.Model.handlers m) i.config)) (at_end shut)) c.records.ensures.records)

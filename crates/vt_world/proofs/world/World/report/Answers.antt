@@ -1,10 +1,9 @@
-use Rattle.std.proofs.Common.{rules, ◌≡◌, ℕ, ◌<◌, ◌≤◌, ◌∙◌, length, ap, sym, subst, refl, true, false, Ok, Err, Some, None, slice_get, slice_set, is_ok, arith}
+use Rattle.std.proofs.Common.{◌≡◌, ◌<◌, ◌≤◌, ◌∙◌, length, ap, sym, subst, refl, true, false, Err, Some, slice_get, slice_set, is_ok, arith}
 use Rattle.std.proofs.lemmas.Option.{slice_get_read, slice_get_past}
 use Rattle.vt_key.specs.declared.fault.Fault.TheVariants.{NotLawful}
 use Rattle.vt_key.specs.Times.{Time, TimeAtMost}
 use Rattle.vt_steps.specs.declared.step.Step.TheVariants.{Report}
 use Rattle.vt_steps.specs.BoardSteps.{with_report, board_after_report}
-use Rattle.vt_steps.specs.Letters.{least_time}
 use Rattle.vt_steps.specs.PartSteps.{report_sent, report_got, report_least}
 use Rattle.vt_steps.specs.World.{Part}
 use Rattle.vt_kernel.specs.Held.{HeldWorker, StandsFor}
@@ -12,13 +11,12 @@ use Rattle.vt_kernel.specs.Guards.{held_letters}
 use Rattle.vt_board.specs.BoardOfRun.{BoardOfRun}
 use Rattle.vt_board.specs.Calls.{takes_report, reply_of}
 use Rattle.vt_board.proofs.CellSteps.{least-ends}
-use Rattle.vt_world.specs.Held.{world_memory}
 use Rattle.vt_model.proofs.LawLemmas.{lawful_of}
 use Rattle.vt_model.specs.declared.settings.Config.{Config}
 use Rattle.vt_model.specs.Settings.{end_of}
 use Rattle.vt_world.proofs.ReachedLemmas.{inside_view}
 use Rattle.vt_world.proofs.StepLemmas.{step-done, step-unlawful, inside-same}
-use Rattle.vt_world.proofs.Places.{inside-worker, same-there}
+use Rattle.vt_world.proofs.Places.{inside-worker, same-there, worker-there}
 use Rattle.vt_world.proofs.ReportLemmas.{report-taken, report-untaken}
 use Rattle.vt_world.proofs.LocalLemmas.{answered-fault}
 use Rattle.vt_world.proofs.WorldSteps.{who, report-nobody}
@@ -49,9 +47,7 @@ returns-in-Err g c =
     let H = g.M.Model.handlers m in
     let held = inside_view m i.config i.kernels.items i.inboxes.items i.board.board i.book.book in
     let k = c.index.result.now in
-    let many = c.self.invariant.all_workers in
-    let below : c.args.w < length i.kernels.items = omega (arith, many, c.if-w-self.false) in
-    let at : slice_get i.kernels.items c.args.w ≡ Some k = slice_get_read i.kernels.items (length i.kernels.items) c.args.w k refl below c.index.ensures in
+    let at : slice_get i.kernels.items c.args.w ≡ Some k = worker-there c.self.invariant c.args.w k c.if-w-self.false c.index.ensures in
     let is = who H held c.self.invariant.own_workers c.args.w k at in
     let least = c.report_values-sent.result.2 in
     let bound = least-ends (end_of k.config) (held_letters k) in

@@ -1,4 +1,4 @@
-use Rattle.std.proofs.Common.{rules, ◌≡◌, ℕ, ◌+◌, ◌<◌, ◌≤◌, ◌⊎◌, inl, inr, ◌∙◌, List, [], ◌++◌, map, length, ap, sym, subst, refl, true, false, Ok, Err, Some, None, slice_get, slice_set, arith}
+use Rattle.std.proofs.Common.{rules, ◌≡◌, ◌+◌, ◌<◌, ◌≤◌, ◌∙◌, List, ◌++◌, map, length, ap, sym, subst, refl, true, Err, Some, slice_get, slice_set, arith}
 use Rattle.std.specs.List.{filter}
 use Rattle.std.proofs.lemmas.Option.{slice_get_read, slice_get_past}
 use Rattle.std.proofs.lemmas.List.Elements.{All-append}
@@ -13,9 +13,11 @@ use Rattle.vt_steps.specs.Next.{may_send}
 use Rattle.vt_kernel.specs.Held.{HeldWorker, StandsFor, AllOwnMail, IsOwnMail}
 use Rattle.vt_kernel.specs.Guards.{is_for_worker, mailed}
 use Rattle.vt_model.proofs.LawLemmas.{lawful_of}
+use Rattle.vt_steps.proofs.Places.{get-put_same}
+use Rattle.vt_kernel.proofs.SettlingLemmas.{put-there}
 use Rattle.vt_world.proofs.ReachedLemmas.{inside_view}
 use Rattle.vt_world.proofs.StepLemmas.{step-done, step-refused, step-unlawful, inside-same}
-use Rattle.vt_world.proofs.Places.{inside-mail, inbox-at, put-same, put-there, are-workers}
+use Rattle.vt_world.proofs.Places.{inside-mail, inbox-at, are-workers, worker-there}
 use Rattle.vt_world.proofs.Refusals.{send-why, send-nowhere}
 use Rattle.vt_world.proofs.WorldSteps.{who, send-done, send-nobody}
 use Rattle.vt_world.proofs.LimitLemmas.{send-within}
@@ -49,15 +51,13 @@ invariant_of-self g c =
     let held = inside_view m i.config i.kernels.items i.inboxes.items i.board.board i.book.book in
     let k = c.index_mut.result.now in
     let box = c.index_mut-2.result.now in
-    let many = c.self.invariant.all_workers in
     let all = c.self.invariant.all_inboxes in
-    let below : c.args.w < length i.kernels.items = omega (arith, many, c.if-w-self.false) in
     let within_inboxes : c.args.v < length i.inboxes.items = omega (arith, all, c.if-v-self.false) in
-    let at : slice_get i.kernels.items c.args.w ≡ Some k = slice_get_read i.kernels.items (length i.kernels.items) c.args.w k refl below c.index_mut.ensures.value in
+    let at : slice_get i.kernels.items c.args.w ≡ Some k = worker-there c.self.invariant c.args.w k c.if-w-self.false c.index_mut.ensures.value in
     let here : slice_get i.inboxes.items c.args.v ≡ Some box = slice_get_read i.inboxes.items (length i.inboxes.items) c.args.v box refl within_inboxes c.index_mut-2.ensures.value in
-    let kernels : slice_set i.kernels.items c.args.w c.letters_for.new.self ≡ i.kernels.items = ap (slice_set i.kernels.items c.args.w) c.in_err-letters_for.ensures.kept.0 ∙ put-same i.kernels.items c.args.w k at in
+    let kernels : slice_set i.kernels.items c.args.w c.letters_for.new.self ≡ i.kernels.items = ap (slice_set i.kernels.items c.args.w) c.in_err-letters_for.ensures.kept.0 ∙ put-there i.kernels.items c.args.w k at in
     let inboxes : slice_set i.inboxes.items c.args.v c.letters_for.new.mail.items ≡ i.inboxes.items =
-    ap (slice_set i.inboxes.items c.args.v) (c.in_err-letters_for.ensures.kept.1 ∙ c.behind-self.view_is) ∙ put-same i.inboxes.items c.args.v box here in
+    ap (slice_set i.inboxes.items c.args.v) (c.in_err-letters_for.ensures.kept.1 ∙ c.behind-self.view_is) ∙ put-there i.inboxes.items c.args.v box here in
     inside-same (g.M.Model.handlers m) held c.self.invariant _ (λ j. inside_view m i.config (kernels j) (inboxes j) i.board.board i.book.book) refl refl
 
 pub returns-in_err-letters_for : goal.returns-in_err-letters_for
@@ -68,15 +68,13 @@ returns-in_err-letters_for g c =
     let held = inside_view m i.config i.kernels.items i.inboxes.items i.board.board i.book.book in
     let k = c.index_mut.result.now in
     let box = c.index_mut-2.result.now in
-    let many = c.self.invariant.all_workers in
     let all = c.self.invariant.all_inboxes in
-    let below : c.args.w < length i.kernels.items = omega (arith, many, c.if-w-self.false) in
     let within_inboxes : c.args.v < length i.inboxes.items = omega (arith, all, c.if-v-self.false) in
-    let at : slice_get i.kernels.items c.args.w ≡ Some k = slice_get_read i.kernels.items (length i.kernels.items) c.args.w k refl below c.index_mut.ensures.value in
+    let at : slice_get i.kernels.items c.args.w ≡ Some k = worker-there c.self.invariant c.args.w k c.if-w-self.false c.index_mut.ensures.value in
     let here : slice_get i.inboxes.items c.args.v ≡ Some box = slice_get_read i.inboxes.items (length i.inboxes.items) c.args.v box refl within_inboxes c.index_mut-2.ensures.value in
-    let kernels : slice_set i.kernels.items c.args.w c.letters_for.new.self ≡ i.kernels.items = ap (slice_set i.kernels.items c.args.w) c.in_err-letters_for.ensures.kept.0 ∙ put-same i.kernels.items c.args.w k at in
+    let kernels : slice_set i.kernels.items c.args.w c.letters_for.new.self ≡ i.kernels.items = ap (slice_set i.kernels.items c.args.w) c.in_err-letters_for.ensures.kept.0 ∙ put-there i.kernels.items c.args.w k at in
     let inboxes : slice_set i.inboxes.items c.args.v c.letters_for.new.mail.items ≡ i.inboxes.items =
-    ap (slice_set i.inboxes.items c.args.v) (c.in_err-letters_for.ensures.kept.1 ∙ c.behind-self.view_is) ∙ put-same i.inboxes.items c.args.v box here in
+    ap (slice_set i.inboxes.items c.args.v) (c.in_err-letters_for.ensures.kept.1 ∙ c.behind-self.view_is) ∙ put-there i.inboxes.items c.args.v box here in
     step-refused (g.M.Model.handlers) c.self.view_is c.self.invariant
     (inside_view m i.config (slice_set i.kernels.items c.args.w c.letters_for.new.self) (slice_set i.inboxes.items c.args.v c.letters_for.new.mail.items) i.board.board i.book.book)
     (Send c.args.w c.args.v) c.in_err-letters_for.field-0.0 c.from_residual.result (search rules)
@@ -91,11 +89,9 @@ invariant_of-self-2 g c =
     let held = inside_view m i.config i.kernels.items i.inboxes.items i.board.board i.book.book in
     let k = c.index_mut.result.now in
     let box = c.index_mut-2.result.now in
-    let many = c.self.invariant.all_workers in
     let all = c.self.invariant.all_inboxes in
-    let below : c.args.w < length i.kernels.items = omega (arith, many, c.if-w-self.false) in
     let within_inboxes : c.args.v < length i.inboxes.items = omega (arith, all, c.if-v-self.false) in
-    let at : slice_get i.kernels.items c.args.w ≡ Some k = slice_get_read i.kernels.items (length i.kernels.items) c.args.w k refl below c.index_mut.ensures.value in
+    let at : slice_get i.kernels.items c.args.w ≡ Some k = worker-there c.self.invariant c.args.w k c.if-w-self.false c.index_mut.ensures.value in
     let here : slice_get i.inboxes.items c.args.v ≡ Some box = slice_get_read i.inboxes.items (length i.inboxes.items) c.args.v box refl within_inboxes c.index_mut-2.ensures.value in
     let is = who H held c.self.invariant.own_workers c.args.w k at in
     let plain : 0 + c.args.v ≡ c.args.v = omega arith in
@@ -119,11 +115,9 @@ returns g c =
     let held = inside_view m i.config i.kernels.items i.inboxes.items i.board.board i.book.book in
     let k = c.index_mut.result.now in
     let box = c.index_mut-2.result.now in
-    let many = c.self.invariant.all_workers in
     let all = c.self.invariant.all_inboxes in
-    let below : c.args.w < length i.kernels.items = omega (arith, many, c.if-w-self.false) in
     let within_inboxes : c.args.v < length i.inboxes.items = omega (arith, all, c.if-v-self.false) in
-    let at : slice_get i.kernels.items c.args.w ≡ Some k = slice_get_read i.kernels.items (length i.kernels.items) c.args.w k refl below c.index_mut.ensures.value in
+    let at : slice_get i.kernels.items c.args.w ≡ Some k = worker-there c.self.invariant c.args.w k c.if-w-self.false c.index_mut.ensures.value in
     let here : slice_get i.inboxes.items c.args.v ≡ Some box = slice_get_read i.inboxes.items (length i.inboxes.items) c.args.v box refl within_inboxes c.index_mut-2.ensures.value in
     let same_worker = ap (λ (x : HeldWorker _ _ _). x.worker) c.in_ok-letters_for.ensures.sent in
     let same_config = ap (λ (x : HeldWorker _ _ _). x.config) c.in_ok-letters_for.ensures.sent in
@@ -134,4 +128,4 @@ returns g c =
     step-done (g.M.Model.handlers) c.self.view_is c.self.invariant (lawful_of (g.M.Model.handlers m) i.config (g.met.M.Model.start_within m) (g.met.M.Model.forward_within m))
     (inside_view m i.config (slice_set i.kernels.items c.args.w c.letters_for.new.self) (slice_set i.inboxes.items c.args.v c.letters_for.new.mail.items) i.board.board i.book.book) (Send c.args.w c.args.v) Done goes refl refl
     (send-within H (inside_view m i.config (slice_set i.kernels.items c.args.w new) (slice_set i.inboxes.items c.args.v c.letters_for.new.mail.items) i.board.board i.book.book)
-    (are-workers H held c.self.invariant c.args.w k new at same_worker same_config) c.args.w new (put-there i.kernels.items c.args.w k new at) c.args.v (λ part s. c.in_ok-letters_for.ensures.counted H part s))
+    (are-workers H held c.self.invariant c.args.w k new at same_worker same_config) c.args.w new (get-put_same i.kernels.items c.args.w k new at) c.args.v (λ part s. c.in_ok-letters_for.ensures.counted H part s))
