@@ -1,11 +1,11 @@
 use Rattle.std.proofs.Common.{rules, ◌≡◌, sym, ◌∙◌, subst}
 use Rattle.std.specs.Prelude.{IfOk}
+use Rattle.std.proofs.lemmas.Result.{IfOk-weaker}
 use Rattle.vt_key.specs.Times.{TimeAtMost}
 use Rattle.vt_model.specs.Settings.{end_of}
 use Rattle.vt_model.specs.Simulation.{simulation_of}
 use Rattle.vt_model.proofs.LawLemmas.{lawful_of}
 use Rattle.vt_steps.specs.Finals.{worker_finals}
-use Rattle.vt_kernel.proofs.LocalLemmas.{if_ok-more}
 use Rattle.vt_station.specs.declared.view.View.{View}
 use Rattle.vt_station.specs.AtWork.{AtWork}
 use Rattle.vt_station.specs.Calls.{IsShown, Reaches}
@@ -39,5 +39,5 @@ returns-clause-values g c =
     let known = subst (λ (n : g.row.M.Denot). IsShown (simulation_of (H n) config) v) before.model_is c.look.ensures.shown in
     let end : TimeAtMost (end_of config) i.kernel.floor = search rules in
     let there : IfOk c.finals.result (λ values. values.items ≡ worker_finals (simulation_of (H m) config) v.worker) =
-    if_ok-more c.finals.result (λ values is. is ∙ finals-right (H m) config lawful v i.kernel before.reaches known end) (c.finals.ensures.values before.reaches.part before.reaches.stands) in
+    IfOk-weaker c.finals.result _ _ (λ values is. is ∙ finals-right (H m) config lawful v i.kernel before.reaches known end) (c.finals.ensures.values before.reaches.part before.reaches.stands) in
     subst (λ (o : AtWork g.row.M.Denot g.row.M-State.Denot g.row.M-Payload.Denot g.row.M-Kept.Denot). IfOk c.finals.result (λ values. values.items ≡ worker_finals (simulation_of (H o.model) o.config) o.view.worker)) c.self.view_is there
