@@ -3,6 +3,7 @@
 ghost use Rattle.std.specs.Prelude.{◌≡◌, ◌+◌, ◌^◌, ◌<◌, ◌≤◌, ◌↔◌, ◌++◌, [], ◌∷◌, length, IsTrue};
 ghost use Rattle.vt_key.specs.Times.{TimeBefore, at, ticks_of};
 ghost use Rattle.vt_model.specs.Settings.{end_of};
+ghost use Rattle.vt_model.specs.Out.{sends_held};
 
 use crate::{Config, MAX_RECORDS, MAX_SENDS, Record};
 use arrayvec::ArrayVec;
@@ -89,6 +90,26 @@ impl<P: Copy> Out<P> {
             sends: None,
             records: ArrayVec::new(),
         }
+    }
+
+    /// Makes this `out` anew, as [`Out::new`] gives it for the same arguments: nothing is sent and nothing recorded. For
+    /// simulators, which execute many events with one `out`: its places are kept. `lp` is below `config.lps`, `now` below
+    /// `config.end()`, and `number` at most 2^63.
+    pub fn renew(&mut self, config: Config, lp: u32, now: When, number: u64)
+        requires known { lp < config.lps }
+        requires early { now < (end_of config) }
+        requires numbered { number ≤ MAX_COUNT }
+        ensures fresh { IsFresh self.new lp now }
+        ensures whole { self.new ≡ record { lps = config.lps; end = (end_of config); lp = lp; time = now; first = number; number = number; sends = []; records = [] } }
+    {
+        self.lps = config.lps;
+        self.end = config.end();
+        self.lp = lp;
+        self.time = now;
+        self.first = number;
+        self.number = number;
+        clear_sends(&mut self.sends);
+        self.records.clear();
     }
 
     /// The number of logical processes of the run: they are named from 0 to one less. The handler's own is one of them.
@@ -192,5 +213,14 @@ impl<P: Copy> Out<P> {
         ensures { result.items ≡ self.records }
     {
         self.records
+    }
+}
+
+/// Takes the sends away, and keeps the places in which they lie.
+fn clear_sends<P: Copy>(sends: &mut Option<ArrayVec<Sent<P>, MAX_SENDS, Sent<P>>>)
+    ensures { sends_held sends.new ≡ [] }
+{
+    if let Some(sends) = sends {
+        sends.clear();
     }
 }
