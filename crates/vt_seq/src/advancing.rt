@@ -17,8 +17,8 @@ use vt_key::{Fault, MAX_COUNT, When};
 use vt_model::stream::LpStream;
 use vt_model::{Config, Draws, Model as EventModel, Out, Process, Record, Sent, Undo};
 
-/// Executes the first pending event at its receiver. Its sends join the pending events, and its records the others. If it
-/// is refused, nothing changes.
+/// Executes the first pending event at its receiver, with an `out` that is renewed for it. Its sends join the pending
+/// events, and its records the others. If it is refused, nothing else changes.
 pub(crate) fn advance<M: EventModel>(
     process: &mut Process<M>,
     model: &M,
@@ -26,6 +26,7 @@ pub(crate) fn advance<M: EventModel>(
     event: &Sent<M::Payload>,
     pending: &mut PendingEvents<M::Payload>,
     records: &mut Vec<Record>,
+    out: &mut Out<M::Payload>,
 ) -> Result<(), Fault>
     requires known { event.now.dest < config.lps }
     requires early { TimeBefore event.now.key.time (end_of config) }
@@ -42,13 +43,13 @@ pub(crate) fn advance<M: EventModel>(
     ensures refused { IfErr result (λ fault. IsRefusal ((simulation_of (M.handlers model.now) config).fire event.now.dest (triple_at process.old.state process.old.number process.old.stream) event.now).triple.number fault) }
 {
     let number = process.number;
-    let mut out = Out::new(config, event.dest, event.key.when(), number);
-    let Undo { bits, kept, drawn } = process.execute_into(model, config, *event, &mut out);
+    out.renew(config, event.dest, event.key.when(), number);
+    let Undo { bits, kept, drawn } = process.execute_into(model, config, *event, out);
     if out.number() > MAX_COUNT {
         process.undo(model, *event, bits, kept, drawn, number);
         return Err(Fault::Exhausted);
     }
-    match join(&out, pending, records) {
+    match join(out, pending, records) {
         Ok(()) => Ok(()),
         Err(fault) => {
             process.undo(model, *event, bits, kept, drawn, number);

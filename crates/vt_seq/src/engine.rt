@@ -16,7 +16,7 @@ use crate::advancing::{advance, start_process};
 use crate::pending::PendingEvents;
 use std::alloc::Global;
 use vt_key::Fault;
-use vt_model::{Config, Model as EventModel, Process, Record};
+use vt_model::{Config, Model as EventModel, Out, Process, Record};
 
 /// The fields of an execution. Clauses say by `StandsAt sim n` that they are the run's state after `n` steps. The type keeps
 /// that there is such an `n`.
@@ -80,12 +80,16 @@ impl<'m, M: EventModel> Engine<'m, M> {
         Some(process.stream.place())
     }
 
-    /// Executes the pending event of least key, and puts its records behind these; false where none is pending, which
-    /// changes nothing.
+    /// Executes the pending event of least key with this `out`, and puts its records behind these; false where none is
+    /// pending, which changes nothing.
     ///
     /// [`Fault::Exhausted`]: the process's send number would pass 2^63. [`Fault::Memory`]: it would not, and memory was
-    /// refused. After either all is as it was, and the step may be tried again.
-    pub(crate) fn step(&mut self, records: &mut Vec<Record>) -> Result<bool, Fault>
+    /// refused. After either all but `out` is as it was, and the step may be tried again.
+    pub(crate) fn step(
+        &mut self,
+        records: &mut Vec<Record>,
+        out: &mut Out<M::Payload>,
+    ) -> Result<bool, Fault>
         ensures model { self.new.model.now ≡ self.old.model.now }
         ensures config { self.new.config ≡ self.old.config }
         ensures more { IfOk result (λ more. IsTrue more ↔ (0 < length self.old.pending)) }
@@ -111,6 +115,7 @@ impl<'m, M: EventModel> Engine<'m, M> {
             &event,
             &mut self.pending,
             records,
+            out,
         )?;
         Ok(true)
     }

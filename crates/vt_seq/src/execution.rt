@@ -15,8 +15,8 @@ ghost use Rattle.vt_seq.specs.Standing.{IsAt, IsOnWay, with_records};
 use crate::engine::Engine;
 use std::alloc::Global;
 use std::marker::Model;
-use vt_key::Fault;
-use vt_model::{Config, Model as EventModel, Record};
+use vt_key::{Fault, When};
+use vt_model::{Config, Model as EventModel, Out, Record};
 
 /// A sequential run of a model that gives each event's records away and keeps none. So its memory doesn't grow with the
 /// number of events.
@@ -112,7 +112,34 @@ impl<'m, M: EventModel> Execution<'m, M> {
         ensures counted { let sim = simulation_of (M.handlers self.old.model) self.old.config in (n : ℕ) → IsAt sim n self.old → IfOk result (λ more. IsCounted sim (suc n)) }
         ensures refused { let sim = simulation_of (M.handlers self.old.model) self.old.config in (n : ℕ) → IsAt sim n self.old → IfErr result (IsStepRefusal sim n) }
     {
-        self.engine.step(records)
+        let mut out = Out::new(self.engine.config, 0, When::tick(0), 0);
+        self.step_reusing(records, &mut out)
+    }
+
+    /// As [`Execution::step`], but uses an `out` that the caller lends, so that a loop over many steps makes one. Any `out`
+    /// serves, as `Out::new(config, 0, When::tick(0), 0)`. What is in it afterwards isn't said.
+    pub fn step_reusing(
+        &mut self,
+        records: &mut Vec<Record>,
+        out: &mut Out<M::Payload>,
+    ) -> Result<bool, Fault>
+        ensures model { self.new.model ≡ self.old.model }
+        ensures config { self.new.config ≡ self.old.config }
+        ensures more { IfOk result (λ more. IsTrue more ↔ (0 < length self.old.pending)) }
+        ensures idle { IfOk result (λ more. more ≡ false → self.new ≡ self.old) }
+        ensures none_added { IfOk result (λ more. more ≡ false → records.new.items ≡ records.old.items) }
+        ensures steps { let sim = simulation_of (M.handlers self.old.model) self.old.config in (n : ℕ) → IsAt sim n self.old → IfOk result (λ more. IsAt sim (suc n) self.new) }
+        ensures adds { let sim = simulation_of (M.handlers self.old.model) self.old.config in (n : ℕ) → IsAt sim n self.old → IfOk result (λ more. AddsStep sim n records.old.items records.new.items) }
+        ensures whole { let sim = simulation_of (M.handlers self.old.model) self.old.config in (n : ℕ) → IsAt sim n self.old → self.old.pending ≡ [] → records_to sim n ≡ seq_records sim (end_of self.old.config) }
+        ensures falls { let sim = simulation_of (M.handlers self.old.model) self.old.config in IfOk result (λ more. IsTrue more → weight sim self.new.pending < weight sim self.old.pending) }
+        ensures kept { IfErr result (λ fault. self.new ≡ self.old) }
+        ensures records_kept { IfErr result (λ fault. records.new.items ≡ records.old.items) }
+        ensures faults { IfErr result (λ fault. (fault ≡ Memory) ⊎ (fault ≡ Exhausted)) }
+        ensures reached { IsOnWay (M.handlers self.old.model) self.old }
+        ensures counted { let sim = simulation_of (M.handlers self.old.model) self.old.config in (n : ℕ) → IsAt sim n self.old → IfOk result (λ more. IsCounted sim (suc n)) }
+        ensures refused { let sim = simulation_of (M.handlers self.old.model) self.old.config in (n : ℕ) → IsAt sim n self.old → IfErr result (IsStepRefusal sim n) }
+    {
+        self.engine.step(records, out)
     }
 
     /// Executes events until none is pending, and puts their records behind `records`.
@@ -128,7 +155,8 @@ impl<'m, M: EventModel> Execution<'m, M> {
         ensures faults { IfErr result (λ fault. (fault ≡ Memory) ⊎ (fault ≡ Exhausted)) }
         ensures refused { let sim = simulation_of (M.handlers self.old.model) self.old.config in (n : ℕ) → IsAfter sim n (with_records self.old records.old.items) → IfErr result (λ fault. (k : ℕ) × IsAfter sim (k + n) (with_records self.new records.new.items) × IsStepRefusal sim (k + n) fault) }
     {
-        while self.step(records)? {}
+        let mut out = Out::new(self.engine.config, 0, When::tick(0), 0);
+        while self.step_reusing(records, &mut out)? {}
         Ok(())
     }
 

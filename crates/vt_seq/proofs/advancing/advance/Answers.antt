@@ -1,7 +1,6 @@
 use Rattle.std.proofs.Common.{◌≡◌, subst, ◌+◌, ◌<◌, ◌^◌, ◌≤◌, ◌∙◌, ◌++◌, List, [], drop, map, ap, sym, arith, max}
 use prog.Memory.{up, align, size}
 use denote.Memory.{lone}
-use Rattle.vt_key.specs.Times.{TimeBefore}
 use Rattle.vt_model.specs.Settings.{end_of}
 use Rattle.vt_model.specs.Handler.{IsFresh}
 use Rattle.vt_model.specs.declared.rows.Record.{Record}
@@ -27,16 +26,8 @@ number-requires g c =
     let al : max 8 (max 4 (max (align (lone g.row.M-Payload.mir)) 1)) ≡ 8 = omega (arith, high) in
     simp al (omega (arith, at, size_small))
 
-pub new-out-requires : goal.new-out-requires
-new-out-requires g c =
-    let bounds = g.met.M.Model.payload_align in
-    let low : 1 ≤ align (lone g.row.M-Payload.mir) = bounds.0 in
-    let high : align (lone g.row.M-Payload.mir) ≤ 8 = bounds.1 in
-    let size_small : size (lone g.row.M-Payload.mir) < 2 ^ 32 = g.met.M.Model.payload_size in
-    let at : up (align (lone g.row.M-Payload.mir)) 36 ≤ 36 + 16 = up_le (align (lone g.row.M-Payload.mir)) 36 36 low (omega (arith, high)) (omega arith) in
-    let al : max 8 (max 4 (max (align (lone g.row.M-Payload.mir)) 1)) ≡ 8 = omega (arith, high) in
-    let early = subst (λ t. TimeBefore t (end_of c.args.config)) (sym c.when.ensures) c.requires.early in
-    (simp al (omega (arith, at, size_small)), (c.requires.known, (early, c.requires.numbered)))
+pub execute_into-kept-requires-send-M-Payload : goal.execute_into-kept-requires-send-M-Payload
+execute_into-kept-requires-send-M-Payload g c = λ _ _. c.type_bounds.send-M-Payload
 
 pub execute_into-kept-requires-after_bounds : goal.execute_into-kept-requires-after_bounds
 execute_into-kept-requires-after_bounds g c κs within =
@@ -53,8 +44,8 @@ execute_into-kept-requires-after_bounds g c κs within =
     let kept_at : up (align (lone g.row.M-Kept.mir)) 4 ≤ 4 + 16 = up_le (align (lone g.row.M-Kept.mir)) 4 4 kept_low (omega (arith, kept_high)) (omega arith) in
     let kept_al : max 4 (max (align (lone g.row.M-Kept.mir)) 8) ≡ 8 = omega (arith, kept_high) in
     let config = c.args.config in let event = c.args.event.now in let number = c.args.process.now.number in
-    let fresh = subst (IsFresh c.new-out.result event.dest) c.when.ensures c.new-out.ensures.fresh in
-    let whole = c.new-out.ensures.whole ∙ (λ j. record { lps = config.lps; end = end_of config; lp = event.dest; time = c.when.ensures j; first = number; number = number; sends = []; records = [] }) in
+    let fresh = subst (IsFresh c.renew.new.self event.dest) c.when.ensures c.renew.ensures.fresh in
+    let whole = c.renew.ensures.whole ∙ (λ j. record { lps = config.lps; end = end_of config; lp = event.dest; time = c.when.ensures j; first = number; number = number; sends = []; records = [] }) in
     (simp (al, kept_al) (omega (arith, at, size_small, kept_at, kept_small)), (c.requires.known, (c.requires.stream, (fresh, whole))))
 
 pub join-requires : goal.join-requires

@@ -1,4 +1,6 @@
-use Rattle.std.proofs.Common.{rules, ◌≡◌, ℕ, suc, ◌<◌, ◌≤◌, ◌∙◌, List, [], length, slice_index_or, slice_set, sym, ap, subst, ◌⊎◌, inl, inr}
+use Rattle.std.proofs.Common.{rules, arith, max, ◌≡◌, ℕ, suc, ◌+◌, ◌^◌, ◌<◌, ◌≤◌, ◌∙◌, List, [], length, slice_index_or, slice_set, sym, ap, subst, ◌⊎◌, inl, inr}
+use prog.Memory.{up, align, size}
+use denote.Memory.{lone}
 use Rattle.vt_key.specs.declared.fault.Fault.TheVariants.{Memory, Exhausted}
 use Rattle.std.proofs.Math.Logic.{∥∥₁_map, ∥∥₁_elim}
 use Rattle.std.proofs.Props.{props}
@@ -17,6 +19,7 @@ use Rattle.vt_seq.specs.Queue.{IsWithinRun}
 use Rattle.vt_model.specs.declared.process.Process.{Process}
 use Rattle.vt_seq.proofs.StepLemmas.{stands_step, either_way, taken_next, falls, counted_next, among-at, at-among, none_pending, set_same, in_err, set_all, first_there, none_there, numbers_below_next, next_triple, if_err}
 use Rattle.vt_seq.proofs.GivenLemmas.{adds_nothing, adds_step}
+use Rattle.vt_seq.proofs.Sizes.{payload_place, sent_align}
 use Rattle.vt_seq.proofs.engine.Engine.step.Goals as goal
 
 pub returns-in_default-clause-steps : goal.returns-in_default-clause-steps
@@ -30,54 +33,15 @@ returns-in_default-clause-steps g c n st =
     let none : items ≡ [] = none_there items c.in_default.ensures in
     subst (λ (x : _). StandsFor sim x items processes) (sym (no_step sim lawful n (none_pending (after_steps sim n).pending items st.had none))) st
 
-pub advance-requires-clause-known : goal.advance-requires-clause-known
-advance-requires-clause-known g c κs within =
-    let m = c.args.self.now.model.now in
-    let config = c.args.self.now.config in
-    let sim = simulation_of (g.M.Model.handlers m) config in
-    let items = c.args.self.now.pending in
-    let e = c.in-Some.event in
-    let there_first = first_there items e c.in-Some.ensures in
-    let taken = at-among (IsWithinRun sim.lps sim.end) items c.args.self.now.within_run e (subst (λ (f : Sent _). Among f items) there_first.1 (among-at items 0 e there_first.0)) in
-    taken.known
+pub advance-requires-send-M-Payload : goal.advance-requires-send-M-Payload
+advance-requires-send-M-Payload g c = λ _ _. c.type_bounds.send-M-Payload
 
-pub advance-requires-clause-early : goal.advance-requires-clause-early
-advance-requires-clause-early g c κs within =
-    let m = c.args.self.now.model.now in
-    let config = c.args.self.now.config in
-    let sim = simulation_of (g.M.Model.handlers m) config in
-    let items = c.args.self.now.pending in
-    let e = c.in-Some.event in
-    let there_first = first_there items e c.in-Some.ensures in
-    let taken = at-among (IsWithinRun sim.lps sim.end) items c.args.self.now.within_run e (subst (λ (f : Sent _). Among f items) there_first.1 (among-at items 0 e there_first.0)) in
-    taken.soon
-
-pub advance-requires-clause-numbered : goal.advance-requires-clause-numbered
-advance-requires-clause-numbered g c κs within =
-    let m = c.args.self.now.model.now in
-    let config = c.args.self.now.config in
-    let sim = simulation_of (g.M.Model.handlers m) config in
-    let items = c.args.self.now.pending in
-    let e = c.in-Some.event in
-    let p = c.index_mut.result.now in
-    let there_first = first_there items e c.in-Some.ensures in
-    let taken = at-among (IsWithinRun sim.lps sim.end) items c.args.self.now.within_run e (subst (λ (f : Sent _). Among f items) there_first.1 (among-at items 0 e there_first.0)) in
-    subst (λ (o : Process _ _ _ _). o.number ≤ MAX_COUNT) (sym c.index_mut.ensures.value) (c.args.self.now.numbered e.dest p taken.known)
-
-pub advance-requires-clause-stream : goal.advance-requires-clause-stream
-advance-requires-clause-stream g c κs within =
-    let m = c.args.self.now.model.now in
-    let config = c.args.self.now.config in
-    let sim = simulation_of (g.M.Model.handlers m) config in
-    let items = c.args.self.now.pending in
-    let e = c.in-Some.event in
-    let p = c.index_mut.result.now in
-    let there_first = first_there items e c.in-Some.ensures in
-    let taken = at-among (IsWithinRun sim.lps sim.end) items c.args.self.now.within_run e (subst (λ (f : Sent _). Among f items) there_first.1 (among-at items 0 e there_first.0)) in
-    subst (λ (o : Process _ _ _ _). IsProcessStream config.seed e.dest o.stream) (sym c.index_mut.ensures.value) (c.args.self.now.streams e.dest p taken.known)
-
-pub advance-requires-clause-earlier : goal.advance-requires-clause-earlier
-advance-requires-clause-earlier g c κs within d m source =
+pub advance-requires-after_bounds : goal.advance-requires-after_bounds
+advance-requires-after_bounds g c κs within =
+    let bounds = g.met.M.Model.payload_align in
+    let small : size (lone g.row.M-Payload.mir) < 2 ^ 32 = g.met.M.Model.payload_size in
+    let place : up (align (lone g.row.M-Payload.mir)) 36 ≤ 36 + 16 = payload_place (align (lone g.row.M-Payload.mir)) bounds.0 bounds.1 in
+    let aligned : max 8 (max 4 (max (align (lone g.row.M-Payload.mir)) 1)) ≡ 8 = sent_align (align (lone g.row.M-Payload.mir)) bounds.1 in
     let model = c.args.self.now.model.now in
     let config = c.args.self.now.config in
     let sim = simulation_of (g.M.Model.handlers model) config in
@@ -89,7 +53,26 @@ advance-requires-clause-earlier g c κs within d m source =
     let there_first = first_there items e c.in-Some.ensures in
     let at : slice_index_or processes e.dest p ≡ p = sym c.index_mut.ensures.value in
     let taken = at-among (IsWithinRun sim.lps sim.end) items c.args.self.now.within_run e (subst (λ (f : Sent _). Among f items) there_first.1 (among-at items 0 e there_first.0)) in
-    ∥∥₁_elim c.args.self.now.stands (Prim.hlevel props) (λ x. numbers_below_next sim lawful x.0 items processes e.dest p x.1 taken.known at d m source)
+    let numbered = subst (λ (o : Process _ _ _ _). o.number ≤ MAX_COUNT) (sym c.index_mut.ensures.value) (c.args.self.now.numbered e.dest p taken.known) in
+    let stream = subst (λ (o : Process _ _ _ _). IsProcessStream config.seed e.dest o.stream) (sym c.index_mut.ensures.value) (c.args.self.now.streams e.dest p taken.known) in (
+      simp aligned (omega (arith, place, small)),
+      (
+        taken.known,
+        (
+          taken.soon,
+          (
+            numbered,
+            (
+              stream,
+              (
+                there_first.0,
+                λ d m source. ∥∥₁_elim c.args.self.now.stands (Prim.hlevel props) (λ x. numbers_below_next sim lawful x.0 items processes e.dest p x.1 taken.known at d m source),
+              ),
+            ),
+          ),
+        ),
+      ),
+    )
 
 pub returns-clause-falls : goal.returns-clause-falls
 returns-clause-falls g c is =

@@ -1,4 +1,7 @@
-use Rattle.std.proofs.Common.{rules, ◌≡◌, ℕ, suc, ◌+◌, ◌∙◌, [], sym, subst, arith}
+use Rattle.std.proofs.Common.{rules, arith, max, ◌≡◌, ℕ, suc, ◌+◌, ◌^◌, ◌<◌, ◌≤◌, ◌∙◌, [], sym, subst}
+use prog.Memory.{up, align, size}
+use denote.Memory.{lone}
+use Rattle.vt_model.specs.Settings.{end_of}
 use Rattle.vt_model.specs.Simulation.{Simulation, simulation_of}
 use Rattle.vt_model.specs.Sequential.{after_steps}
 use Rattle.vt_model.proofs.LawLemmas.{lawful_of}
@@ -7,42 +10,63 @@ use Rattle.vt_seq.specs.Given.{AddsStep}
 use Rattle.vt_seq.specs.Progress.{Progress, IsAfter}
 use Rattle.vt_seq.specs.Standing.{IsAt, with_records}
 use Rattle.vt_seq.proofs.GivenLemmas.{counted_whole}
+use Rattle.vt_seq.proofs.Sizes.{payload_place, sent_align}
 use Rattle.vt_seq.proofs.ProgressLemmas.{without_records, kept_on}
 use Rattle.vt_seq.proofs.StepLemmas.{none_pending, nil_of, if_err}
 use Rattle.vt_seq.proofs.execution.Execution.complete.Goals as goal
+
+pub new-out-requires : goal.new-out-requires
+new-out-requires g c =
+    let bounds = g.met.M.Model.payload_align in
+    let small : size (lone g.row.M-Payload.mir) < 2 ^ 32 = g.met.M.Model.payload_size in
+    let place : up (align (lone g.row.M-Payload.mir)) 36 ≤ 36 + 16 = payload_place (align (lone g.row.M-Payload.mir)) bounds.0 bounds.1 in
+    let aligned : max 8 (max 4 (max (align (lone g.row.M-Payload.mir)) 1)) ≡ 8 = sent_align (align (lone g.row.M-Payload.mir)) bounds.1 in
+    let config = c.self.inside.engine.config in
+    let known : 0 < config.lps = omega (arith, config.some_process) in
+    let early : c.tick.result < end_of config = omega (arith, config.some_time, c.tick.ensures) in
+    let numbered : 0 ≤ 2 ^ 63 = omega arith in
+    (simp aligned (omega (arith, place, small)), (known, (early, numbered)))
+
+pub step_reusing-requires-after_bounds : goal.step_reusing-requires-after_bounds
+step_reusing-requires-after_bounds g c κs within =
+    let bounds = g.met.M.Model.payload_align in
+    let small : size (lone g.row.M-Payload.mir) < 2 ^ 32 = g.met.M.Model.payload_size in
+    let place : up (align (lone g.row.M-Payload.mir)) 36 ≤ 36 + 16 = payload_place (align (lone g.row.M-Payload.mir)) bounds.0 bounds.1 in
+    let aligned : max 8 (max 4 (max (align (lone g.row.M-Payload.mir)) 1)) ≡ 8 = sent_align (align (lone g.row.M-Payload.mir)) bounds.1 in
+    simp aligned (omega (arith, place, small))
 
 pub loop-preserved : goal.loop-preserved
 loop-preserved g c =
     let model = c.loop.invariant.model in
     let config = c.loop.invariant.config in
     let before = c.loop.self in
-    let later = c.step.new.self in
+    let later = c.step_reusing.new.self in
     let own = simulation_of (g.M.Model.handlers c.args.self.now.model) c.args.self.now.config in
     let same : simulation_of (g.M.Model.handlers before.model) before.config ≡ own = λ j. simulation_of (g.M.Model.handlers (model j)) (config j) in
     record {
-      model = c.step.ensures.model ∙ model;
-      config = c.step.ensures.config ∙ config;
+      model = c.step_reusing.ensures.model ∙ model;
+      config = c.step_reusing.ensures.config ∙ config;
       steps = λ n is.
           let r = c.loop.invariant.steps n is in
           let m : ℕ = r.0 + n in
           let up : suc (r.0 + n) ≡ suc r.0 + n = omega arith in
           let at : IsAt (simulation_of (g.M.Model.handlers before.model) before.config) m before = subst (λ (s : Simulation _ _). IsAt s m before) (sym same) (without_records own m before c.loop.records.items r.1) in (
             suc r.0,
-            subst (λ (i : ℕ). IsAfter own i (with_records later c.step.new.records.items)) up
-                (kept_on own m later c.loop.records.items c.step.new.records.items r.1.records
-                (subst (λ (s : Simulation _ _). IsAt s (suc m) later) same (c.in_ok-step.ensures.steps m at))
-                (subst (λ (s : Simulation _ _). AddsStep s m c.loop.records.items c.step.new.records.items) same (c.in_ok-step.ensures.adds m at))),
+            subst (λ (i : ℕ). IsAfter own i (with_records later c.step_reusing.new.records.items)) up
+                (kept_on own m later c.loop.records.items c.step_reusing.new.records.items r.1.records
+                (subst (λ (s : Simulation _ _). IsAt s (suc m) later) same (c.in_ok-step_reusing.ensures.steps m at))
+                (subst (λ (s : Simulation _ _). AddsStep s m c.loop.records.items c.step_reusing.new.records.items) same (c.in_ok-step_reusing.ensures.adds m at))),
           );
     }
 
 pub returns-clause-steps : goal.returns-clause-steps
 returns-clause-steps g c n is =
     let before = c.loop.self in
-    let later = c.step.new.self in
+    let later = c.step_reusing.new.self in
     let r = c.loop.invariant.steps n is in
     let own = simulation_of (g.M.Model.handlers c.args.self.now.model) c.args.self.now.config in
     let kept : later ≡ before = search rules in
-    let records : c.step.new.records.items ≡ c.loop.records.items = search rules in
+    let records : c.step_reusing.new.records.items ≡ c.loop.records.items = search rules in
     (r.0, subst (λ (v : Progress _ _ _). IsAfter own (r.0 + n) v) (λ j. with_records (sym kept j) (sym records j)) r.1)
 
 pub returns-clause-counted : goal.returns-clause-counted
@@ -50,7 +74,7 @@ returns-clause-counted g c n is =
     let model = c.loop.invariant.model in
     let config = c.loop.invariant.config in
     let before = c.loop.self in
-    let later = c.step.new.self in
+    let later = c.step_reusing.new.self in
     let m = c.args.self.now.model in
     let cfg = c.args.self.now.config in
     let own = simulation_of (g.M.Model.handlers m) cfg in
@@ -59,32 +83,32 @@ returns-clause-counted g c n is =
     let r = c.loop.invariant.steps n is in
     let k : ℕ = r.0 + n in
     let at : IsAt (simulation_of (g.M.Model.handlers before.model) before.config) k before = subst (λ (s : Simulation _ _). IsAt s k before) (sym same) (without_records own k before c.loop.records.items r.1) in
-    let on : IsAt own (suc k) later = subst (λ (s : Simulation _ _). IsAt s (suc k) later) same (c.in_ok-step.ensures.steps k at) in
+    let on : IsAt own (suc k) later = subst (λ (s : Simulation _ _). IsAt s (suc k) later) same (c.in_ok-step_reusing.ensures.steps k at) in
     let none : later.pending ≡ [] = nil_of later.pending (search rules) in
     counted_whole own lawful (suc k) (none_pending (after_steps own (suc k)).pending later.pending on.had none)
-    (subst (λ (s : Simulation _ _). IsCounted s (suc k)) same (c.in_ok-step.ensures.counted k at))
+    (subst (λ (s : Simulation _ _). IsCounted s (suc k)) same (c.in_ok-step_reusing.ensures.counted k at))
 
 -- the step was refused where the run stands
-pub returns-in_err-step-clause-refused : goal.returns-in_err-step-clause-refused
-returns-in_err-step-clause-refused g c n is =
+pub returns-in_err-step_reusing-clause-refused : goal.returns-in_err-step_reusing-clause-refused
+returns-in_err-step_reusing-clause-refused g c n is =
     let model = c.loop.invariant.model in
     let config = c.loop.invariant.config in
     let before = c.loop.self in
-    let later = c.step.new.self in
+    let later = c.step_reusing.new.self in
     let own = simulation_of (g.M.Model.handlers c.args.self.now.model) c.args.self.now.config in
     let same : simulation_of (g.M.Model.handlers before.model) before.config ≡ own = λ j. simulation_of (g.M.Model.handlers (model j)) (config j) in
     let r = c.loop.invariant.steps n is in
     let m : ℕ = r.0 + n in
     let at : IsAt (simulation_of (g.M.Model.handlers before.model) before.config) m before = subst (λ (s : Simulation _ _). IsAt s m before) (sym same) (without_records own m before c.loop.records.items r.1) in
-    if_err (λ fault. (k : ℕ) × IsAfter own (k + n) (with_records later c.step.new.records.items) × IsStepRefusal own (k + n) fault)
-    c.from_residual.result c.in_err-step.field-0.0 c.from_residual.ensures.1 (
+    if_err (λ fault. (k : ℕ) × IsAfter own (k + n) (with_records later c.step_reusing.new.records.items) × IsStepRefusal own (k + n) fault)
+    c.from_residual.result c.in_err-step_reusing.field-0.0 c.from_residual.ensures.1 (
       r.0,
-      subst (λ (v : Progress _ _ _). IsAfter own m v) (λ j. with_records (sym c.in_err-step.ensures.kept j) (sym c.in_err-step.ensures.records_kept j)) r.1,
-      subst (λ (s : Simulation _ _). IsStepRefusal s m c.in_err-step.field-0.0) same (c.in_err-step.ensures.refused m at),
+      subst (λ (v : Progress _ _ _). IsAfter own m v) (λ j. with_records (sym c.in_err-step_reusing.ensures.kept j) (sym c.in_err-step_reusing.ensures.records_kept j)) r.1,
+      subst (λ (s : Simulation _ _). IsStepRefusal s m c.in_err-step_reusing.field-0.0) same (c.in_err-step_reusing.ensures.refused m at),
     )
 
-pub returns-in_err-step-clause-steps : goal.returns-in_err-step-clause-steps
-returns-in_err-step-clause-steps g c n is =
+pub returns-in_err-step_reusing-clause-steps : goal.returns-in_err-step_reusing-clause-steps
+returns-in_err-step_reusing-clause-steps g c n is =
     let r = c.loop.invariant.steps n is in
     let own = simulation_of (g.M.Model.handlers c.args.self.now.model) c.args.self.now.config in
-    (r.0, subst (λ (v : Progress _ _ _). IsAfter own (r.0 + n) v) (λ j. with_records (sym c.in_err-step.ensures.kept j) (sym c.in_err-step.ensures.records_kept j)) r.1)
+    (r.0, subst (λ (v : Progress _ _ _). IsAfter own (r.0 + n) v) (λ j. with_records (sym c.in_err-step_reusing.ensures.kept j) (sym c.in_err-step_reusing.ensures.records_kept j)) r.1)
