@@ -10,8 +10,8 @@ use std::alloc::Global;
 use std::io::Write;
 use std::sync::Wait;
 use std::thread::Threads;
-use vt_key::Fault;
-use vt_model::Model as EventModel;
+use vt_key::{Fault, When};
+use vt_model::{Model as EventModel, Out};
 use vt_options::{RunSettings, Synch};
 use vt_seq::Execution;
 use vt_station::{Watch, run_workers};
@@ -35,9 +35,10 @@ fn print_run<M: EventModel, W: Watch, O: Write>(
     let mut execution = Execution::new(alloc, model, options.config)?;
     let mut records = Vec::new(alloc);
     let mut text = TextBuffer::new();
+    let mut handler_out = Out::new(options.config, 0, When::tick(0), 0);
     let mut count = EventCount::new(watch, options.config.end().ticks());
     text.put_bytes(out, options.text.first_line())?;
-    while execution.step(&mut records)? {
+    while execution.step_reusing(&mut records, &mut handler_out)? {
         count.add(&execution);
         if records.len() >= GROUP {
             put_lines(&mut text, out, records.as_slice(), options.text)?;

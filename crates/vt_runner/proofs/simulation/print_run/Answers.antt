@@ -1,4 +1,6 @@
-use Rattle.std.proofs.Common.{rules, ◌≡◌, ◌∙◌, ◌++◌, ℕ, List, [], sym, ap, subst}
+use Rattle.std.proofs.Common.{rules, arith, max, ◌≡◌, ◌∙◌, ◌++◌, ◌+◌, ◌^◌, ◌<◌, ◌≤◌, ℕ, List, [], sym, ap, subst}
+use prog.Memory.{up, align, size}
+use denote.Memory.{lone}
 use Rattle.std.proofs.lemmas.Result.{on_ok_weaker}
 use Rattle.vt_model.specs.declared.rows.Record.{Record}
 use Rattle.vt_model.specs.Settings.{end_of}
@@ -6,6 +8,7 @@ use Rattle.vt_model.specs.Simulation.{Simulation, simulation_of}
 use Rattle.vt_model.specs.Sequential.{seq_records}
 use Rattle.vt_seq.specs.Given.{records_to}
 use Rattle.vt_seq.specs.Standing.{IsAt}
+use Rattle.vt_seq.proofs.Sizes.{payload_place, sent_align}
 use Rattle.vt_seq.proofs.StepLemmas.{if_err, nil_of}
 use Rattle.vt_text.specs.Records.{first_line, record_lines}
 use Rattle.vt_text.specs.Writing.{AppendsBeginning, AppendsAllButHeld}
@@ -13,6 +16,26 @@ use Rattle.vt_runner.specs.Runs.{run_text, PassesInRun, StopsRun}
 use Rattle.vt_runner.proofs.PrintLemmas.{opened, stepped, emptied, step_stops, put_stops, all_written, last_stops, first_stops}
 use Rattle.vt_runner.proofs.ReplayLemmas.{both}
 use Rattle.vt_runner.proofs.simulation.print_run.Goals as goal
+
+pub new-handler_out-requires : goal.new-handler_out-requires
+new-handler_out-requires g c =
+    let bounds = g.met.M.Model.payload_align in
+    let small : size (lone g.row.M-Payload.mir) < 2 ^ 32 = g.met.M.Model.payload_size in
+    let place : up (align (lone g.row.M-Payload.mir)) 36 ≤ 36 + 16 = payload_place (align (lone g.row.M-Payload.mir)) bounds.0 bounds.1 in
+    let aligned : max 8 (max 4 (max (align (lone g.row.M-Payload.mir)) 1)) ≡ 8 = sent_align (align (lone g.row.M-Payload.mir)) bounds.1 in
+    let config = c.args.options.now.config in
+    let known : 0 < config.lps = omega (arith, config.some_process) in
+    let early : c.tick.result < end_of config = omega (arith, config.some_time, c.tick.ensures) in
+    let numbered : 0 ≤ 2 ^ 63 = omega arith in
+    (simp aligned (omega (arith, place, small)), (known, (early, numbered)))
+
+pub step_reusing-requires-after_bounds : goal.step_reusing-requires-after_bounds
+step_reusing-requires-after_bounds g c κs within =
+    let bounds = g.met.M.Model.payload_align in
+    let small : size (lone g.row.M-Payload.mir) < 2 ^ 32 = g.met.M.Model.payload_size in
+    let place : up (align (lone g.row.M-Payload.mir)) 36 ≤ 36 + 16 = payload_place (align (lone g.row.M-Payload.mir)) bounds.0 bounds.1 in
+    let aligned : max 8 (max 4 (max (align (lone g.row.M-Payload.mir)) 1)) ≡ 8 = sent_align (align (lone g.row.M-Payload.mir)) bounds.1 in
+    simp aligned (omega (arith, place, small))
 
 pub returns-in_err-put_bytes-clause-err : goal.returns-in_err-put_bytes-clause-err
 returns-in_err-put_bytes-clause-err g c =
@@ -44,8 +67,8 @@ loop-records-init g c =
           (subst (λ (t : List ℕ). AppendsAllButHeld old new held t) first c.in_ok-put_bytes.ensures.ok);
     }
 
-pub returns-in_err-step-clause-err : goal.returns-in_err-step-clause-err
-returns-in_err-step-clause-err g c =
+pub returns-in_err-step_reusing-clause-err : goal.returns-in_err-step_reusing-clause-err
+returns-in_err-step_reusing-clause-err g c =
     let H = g.M.Model.handlers c.args.model.now in
     let config = c.args.options.now.config in
     let version = c.args.options.now.text in
@@ -55,9 +78,9 @@ returns-in_err-step-clause-err g c =
     let own : Simulation _ _ = simulation_of (g.M.Model.handlers l.execution.model) l.execution.config in
     let same : own ≡ simulation_of H config = λ j. simulation_of (g.M.Model.handlers (l.invariant.model j)) (l.invariant.config j) in
     let now = contents l.out in
-    let fault = c.in_err-step.field-0.0 in
-    if_err (StopsRun (PassesInRun H config) old now (run_text version H config)) c.from_residual-in_err-step.result fault c.from_residual-in_err-step.ensures.1
-    (step_stops version H config old now now l.text l.execution l.records.items l.invariant.printing own same fault c.in_err-step.ensures.refused)
+    let fault = c.in_err-step_reusing.field-0.0 in
+    if_err (StopsRun (PassesInRun H config) old now (run_text version H config)) c.from_residual-in_err-step_reusing.result fault c.from_residual-in_err-step_reusing.ensures.1
+    (step_stops version H config old now now l.text l.execution l.records.items l.invariant.printing own same fault c.in_err-step_reusing.ensures.refused)
 
 pub returns-in_err-put_lines-clause-err : goal.returns-in_err-put_lines-clause-err
 returns-in_err-put_lines-clause-err g c =
@@ -70,9 +93,9 @@ returns-in_err-put_lines-clause-err g c =
     let own : Simulation _ _ = simulation_of (g.M.Model.handlers l.execution.model) l.execution.config in
     let same : own ≡ simulation_of H config = λ j. simulation_of (g.M.Model.handlers (l.invariant.model j)) (l.invariant.config j) in
     let now = contents l.out in
-    let later = c.step.new.self in
-    let records = c.step.new.records.items in
-    let printing = stepped version H config old now l.text l.execution later l.records.items records own same l.invariant.printing c.in_ok-step.ensures.steps c.in_ok-step.ensures.adds in
+    let later = c.step_reusing.new.self in
+    let records = c.step_reusing.new.records.items in
+    let printing = stepped version H config old now l.text l.execution later l.records.items records own same l.invariant.printing c.in_ok-step_reusing.ensures.steps c.in_ok-step_reusing.ensures.adds in
     let new = contents c.put_lines.new.writer in
     let fault = c.in_err-put_lines.field-0.0 in
     if_err (StopsRun (PassesInRun H config) old new (run_text version H config)) c.from_residual-in_err-put_lines.result fault c.from_residual-in_err-put_lines.ensures.1
@@ -90,14 +113,14 @@ loop-records-preserved-then-len-ge-GROUP g c =
     let own : Simulation _ _ = simulation_of (g.M.Model.handlers l.execution.model) l.execution.config in
     let same : own ≡ simulation_of H config = λ j. simulation_of (g.M.Model.handlers (l.invariant.model j)) (l.invariant.config j) in
     let now = contents l.out in
-    let later = c.step.new.self in
-    let records = c.step.new.records.items in
-    let printing = stepped version H config old now l.text l.execution later l.records.items records own same l.invariant.printing c.in_ok-step.ensures.steps c.in_ok-step.ensures.adds in
+    let later = c.step_reusing.new.self in
+    let records = c.step_reusing.new.records.items in
+    let printing = stepped version H config old now l.text l.execution later l.records.items records own same l.invariant.printing c.in_ok-step_reusing.ensures.steps c.in_ok-step_reusing.ensures.adds in
     let new = contents c.put_lines.new.writer in
     let held = c.put_lines.new.text in
     record {
-      model = c.step.ensures.model ∙ l.invariant.model;
-      config = c.step.ensures.config ∙ l.invariant.config;
+      model = c.step_reusing.ensures.model ∙ l.invariant.model;
+      config = c.step_reusing.ensures.config ∙ l.invariant.config;
       printing = emptied version H config old now new l.text held later records c.clear.new.self.items printing
           (subst (λ (rs : List Record). AppendsAllButHeld now new held (l.text ++ record_lines version rs)) c.as_slice.ensures.value c.in_ok-put_lines.ensures.ok) c.clear.ensures.items;
     }
@@ -113,12 +136,12 @@ loop-records-preserved g c =
     let own : Simulation _ _ = simulation_of (g.M.Model.handlers l.execution.model) l.execution.config in
     let same : own ≡ simulation_of H config = λ j. simulation_of (g.M.Model.handlers (l.invariant.model j)) (l.invariant.config j) in
     let now = contents l.out in
-    let later = c.step.new.self in
-    let records = c.step.new.records.items in
-    let printing = stepped version H config old now l.text l.execution later l.records.items records own same l.invariant.printing c.in_ok-step.ensures.steps c.in_ok-step.ensures.adds in
+    let later = c.step_reusing.new.self in
+    let records = c.step_reusing.new.records.items in
+    let printing = stepped version H config old now l.text l.execution later l.records.items records own same l.invariant.printing c.in_ok-step_reusing.ensures.steps c.in_ok-step_reusing.ensures.adds in
     record {
-      model = c.step.ensures.model ∙ l.invariant.model;
-      config = c.step.ensures.config ∙ l.invariant.config;
+      model = c.step_reusing.ensures.model ∙ l.invariant.model;
+      config = c.step_reusing.ensures.config ∙ l.invariant.config;
       printing = printing;
     }
 
@@ -135,7 +158,7 @@ returns-in_err-put_lines-2-clause-err g c =
     let now = contents l.out in
     let new = contents c.put_lines-2.new.writer in
     let gathered = l.records.items in
-    let same_records : c.as_slice-2.result.now ≡ gathered = c.as_slice-2.ensures.value ∙ c.in_ok-step.ensures.none_added c.if-branch.false in
+    let same_records : c.as_slice-2.result.now ≡ gathered = c.as_slice-2.ensures.value ∙ c.in_ok-step_reusing.ensures.none_added c.if-branch.false in
     let fault = c.in_err-put_lines-2.field-0.0 in
     if_err (StopsRun (PassesInRun H config) old new (run_text version H config)) c.from_residual-in_err-put_lines-2.result fault c.from_residual-in_err-put_lines-2.ensures.1
     (put_stops version H config old now new l.text l.execution gathered l.invariant.printing fault c.in_err-put_lines-2.ensures.fault
@@ -154,7 +177,7 @@ returns-clause-ok g c =
     let now = contents l.out in
     let new = contents c.put_lines-2.new.writer in
     let gathered = l.records.items in
-    let same_records : c.as_slice-2.result.now ≡ gathered = c.as_slice-2.ensures.value ∙ c.in_ok-step.ensures.none_added c.if-branch.false in
+    let same_records : c.as_slice-2.result.now ≡ gathered = c.as_slice-2.ensures.value ∙ c.in_ok-step_reusing.ensures.none_added c.if-branch.false in
     let last = contents c.flush.new.writer in
     let held = c.put_lines-2.new.text in
     let lines : AppendsAllButHeld now new held (l.text ++ record_lines version gathered) =
@@ -163,7 +186,7 @@ returns-clause-ok g c =
     let at : IsAt own n l.execution = subst (λ (s : Simulation _ _). IsAt s n l.execution) (sym same) l.invariant.printing.at in
     let none : l.execution.pending ≡ [] = nil_of l.execution.pending (search rules) in
     let ended : records_to (simulation_of H config) n ≡ seq_records (simulation_of H config) (end_of config) =
-    sym (ap (λ (s : Simulation _ _). records_to s n) same) ∙ c.in_ok-step.ensures.whole n at none ∙ (λ j. seq_records (same j) (end_of (l.invariant.config j))) in
+    sym (ap (λ (s : Simulation _ _). records_to s n) same) ∙ c.in_ok-step_reusing.ensures.whole n at none ∙ (λ j. seq_records (same j) (end_of (l.invariant.config j))) in
     on_ok_weaker c.flush.result (all_written version H config old now new l.text l.execution gathered l.invariant.printing held lines ended last) c.flush.ensures.ok
 
 pub returns-clause-err : goal.returns-clause-err
@@ -179,7 +202,7 @@ returns-clause-err g c =
     let now = contents l.out in
     let new = contents c.put_lines-2.new.writer in
     let gathered = l.records.items in
-    let same_records : c.as_slice-2.result.now ≡ gathered = c.as_slice-2.ensures.value ∙ c.in_ok-step.ensures.none_added c.if-branch.false in
+    let same_records : c.as_slice-2.result.now ≡ gathered = c.as_slice-2.ensures.value ∙ c.in_ok-step_reusing.ensures.none_added c.if-branch.false in
     let last = contents c.flush.new.writer in
     let held = c.put_lines-2.new.text in
     let lines : AppendsAllButHeld now new held (l.text ++ record_lines version gathered) =
@@ -188,5 +211,5 @@ returns-clause-err g c =
     let at : IsAt own n l.execution = subst (λ (s : Simulation _ _). IsAt s n l.execution) (sym same) l.invariant.printing.at in
     let none : l.execution.pending ≡ [] = nil_of l.execution.pending (search rules) in
     let ended : records_to (simulation_of H config) n ≡ seq_records (simulation_of H config) (end_of config) =
-    sym (ap (λ (s : Simulation _ _). records_to s n) same) ∙ c.in_ok-step.ensures.whole n at none ∙ (λ j. seq_records (same j) (end_of (l.invariant.config j))) in
+    sym (ap (λ (s : Simulation _ _). records_to s n) same) ∙ c.in_ok-step_reusing.ensures.whole n at none ∙ (λ j. seq_records (same j) (end_of (l.invariant.config j))) in
     both c.flush.result (λ fault. last_stops version H config old now new l.text l.execution gathered l.invariant.printing held lines ended last fault) c.flush.ensures.fault c.flush.ensures.err
