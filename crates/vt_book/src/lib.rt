@@ -5,6 +5,7 @@
 //! run it is closed.
 #![tactic(auto)]
 
+mod arrange;
 mod batch;
 mod book;
 mod floors;

@@ -7,6 +7,7 @@ ghost use Rattle.vt_book.specs.Kept.{AreSameRows};
 ghost use Rattle.vt_book.specs.Books.{is_within};
 ghost use Rattle.vt_book.specs.Runs.{IsRun, IsRunOf, rows_of};
 
+use crate::arrange::arrange;
 use std::cmp::Reverse;
 use vt_key::When;
 use vt_model::Row;
@@ -63,12 +64,13 @@ pub(crate) fn run_of(rows: Vec<Row>) -> Option<Run>
     })
 }
 
-/// These rows in falling order. They are sorted in place.
+/// These rows in falling order. They are sorted in place. Rows that [`arrange`] left in order are sorted by one walk over them.
 fn falling(rows: Vec<Row>) -> Vec<Row>
     ensures sorted { IsSorted (λ x y. ⟦<Row as Ord>⟧.cmp y x) result.items }
     ensures permutation { IsPermutation rows.items result.items }
 {
     let mut falling = rows;
+    arrange(&mut falling);
     falling.sort_unstable_by(|x, y| y.cmp(x));
     falling
 }
