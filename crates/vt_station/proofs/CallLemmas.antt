@@ -30,7 +30,7 @@ module _ {P : Type 0} where
   unvisited-held v w seen after h r =
       let x : Unvisited (record v { hand = h.0 }) seen after = subst (λ (y : View P). Unvisited y seen after) h.1 r in
       record {
-        steps = record { same = record { worker = x.steps.same.worker; made = x.steps.same.made; waiting = x.steps.same.waiting }; part = x.steps.part; mine = x.steps.mine; positions = x.steps.positions };
+        steps = record { same = record { worker = x.steps.same.worker; made = x.steps.same.made; waiting = x.steps.same.waiting }; part = x.steps.part; mine = x.steps.mine; log = x.steps.log };
         floor = x.floor;
         rests = x.rests;
       }
@@ -38,11 +38,11 @@ module _ {P : Type 0} where
 -- what a place knows, and what it did, it knows and did whatever it holds
 module _ {S P : Type 0} (sim : Simulation S P) (v : View P) (hand : Hand P) where
   abbrev known-held : (k : ℕ) (cell : Cell P) → Known sim (record v { hand = hand }) k cell → Known sim v k cell
-  known-held k cell x = record { log = x.log; right = x.right; within = x.within; part = x.part; mine = x.mine; positions = x.positions; seen = x.seen; shows = x.shows; own = x.own }
+  known-held k cell x = record { log = x.log; right = x.right; within = x.within; part = x.part; mine = x.mine; grows = x.grows; seen = x.seen; shows = x.shows; own = x.own }
 
   abbrev pub done-held : (steps : List Step) (part : Part P) (step : Step) (reply : Reply) (after : View P) → IsDoneAt sim (record v { hand = hand }) steps part step reply after → IsDoneAt sim v steps part step reply after
   done-held steps part step reply after x =
-      record { cell = x.cell; about = x.about; found = x.found; now = x.now; known = known-held x.cell x.found x.known; gives = x.gives; positions = x.positions }
+      record { cell = x.cell; about = x.about; found = x.found; now = x.now; known = known-held x.cell x.found x.known; gives = x.gives; log = x.log }
 
 pub closes-there : {S P : Type 0} (sim : Simulation S P) (v w : View P) (seen end : Time) (after : View P) → WithHand v w → seen ≡ end → Closes sim w seen after → Closes sim v end after
 closes-there sim v w seen end after h is r =

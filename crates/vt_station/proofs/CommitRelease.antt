@@ -1,6 +1,5 @@
 -- The release of the book after a commit, and the place once its kernel has forgotten what was committed.
-use Rattle.std.proofs.Common.{◌≡◌, inr, ℕ, ◌<◌, List, [], ◌∷◌, ◌++◌, length, length-append, refl, sym, ap, subst}
-use Rattle.std.specs.List.{range_with_len}
+use Rattle.std.proofs.Common.{◌≡◌, inr, ℕ, ◌<◌, List, [], ◌∷◌, ◌++◌, refl, sym, subst}
 use Rattle.atomic_table.specs.Table.{Allows}
 use Rattle.vt_key.specs.Times.{Time}
 use Rattle.vt_model.specs.Handler.{Handlers}
@@ -13,7 +12,7 @@ use Rattle.vt_steps.specs.declared.step.Reply.TheVariants.{Done}
 use Rattle.vt_steps.specs.World.{Part}
 use Rattle.vt_steps.specs.PartSteps.{part_after_commit}
 use Rattle.vt_steps.specs.Cells.{book_cell, Cell}
-use Rattle.vt_steps.specs.Marked.{Made, made_done, Leads}
+use Rattle.vt_steps.specs.Marked.{Made, marked, made_done, Leads}
 use Rattle.vt_steps.proofs.LocalLeads.{leads}
 use Rattle.vt_kernel.specs.Held.{HeldWorker, StandsFor}
 use Rattle.vt_station.specs.declared.view.View.{View}
@@ -22,6 +21,7 @@ use Rattle.vt_station.specs.Kept.{Sat, Kept}
 use Rattle.vt_station.specs.Calls.{Reaches, Visited, Holding, ShowsFloor}
 use Rattle.vt_station.specs.Commits.{CommitsTo, Commits}
 use Rattle.vt_station.proofs.CallLemmas.{WithHand, done-held}
+use Rattle.vt_station.proofs.Growth.{grown-not}
 use Rattle.vt_station.proofs.Keeps.{releases}
 use Rattle.vt_station.proofs.Releases.{steps-lead, home-not_claimed, home-not_empty}
 
@@ -36,9 +36,10 @@ module _ {S P K : Type 0} (handlers : Handlers S P K) (config : Config) where
       let own : List Made = made_done way.steps ++ record { step = Commit worker; reply = Done } ∷ [] in
       let goes : Leads sim m.0.worker (cell_at sim.workers k) m.0.part found (way.steps ++ Commit worker ∷ []) left now own =
       leads sim m.0.worker (cell_at sim.workers k) way.steps (Commit worker) m.0.part way.part left found now Done (steps-lead sim m.0.worker way.steps m.0.part way.part way.led) whose (sym at) (does way.part way.stands) in
-      releases sim config lawful slots id k home_word m found h.slot (way.steps ++ Commit worker ∷ []) left own seen
+      releases sim config lawful slots id k home_word m found h.slot (way.steps ++ Commit worker ∷ []) left own (λ log. log ++ marked m.0.worker (way.steps ++ Commit worker ∷ [])) seen
       (λ (n : ℕ) (after : Sat P). (after.1 ≡ []) × Commits handlers config m.0 worker lent seen after.0) near home-not_claimed (λ e _. home-not_empty e) h.carried h.hand h.right
       (subst (λ (c : Cell P). Leads sim m.0.worker (cell_at sim.workers k) m.0.part found (way.steps ++ Commit worker ∷ []) left c own) (sym h.now_is) goes)
+      (λ log _. grown-not m.0.worker (log ++ marked m.0.worker (way.steps ++ Commit worker ∷ [])))
       (inr (subst (λ (c : Cell P). ShowsFloor sim.end seen c) (sym h.now_is) sees))
       (λ n known. (
         refl,
@@ -56,7 +57,7 @@ module _ {S P K : Type 0} (handlers : Handlers S P K) (config : Config) where
             now = now;
             known = known;
             gives = does way.part way.stands;
-            positions = ap (λ (l : ℕ). m.0.positions ++ range_with_len (length known.log) l) (length-append way.steps (Commit worker ∷ []));
+            log = refl;
           };
           commits = does;
           shows = sees;

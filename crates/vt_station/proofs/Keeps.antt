@@ -5,7 +5,6 @@ use mathlib.Core.Option.{Option as Maybe, none, some, some-injective, some-ne-no
 use native.Mathlib.Decide.{ℕ_discrete}
 use lib.ListN.{get_elem?}
 use lib.Seq.{set-get_or}
-use Rattle.std.specs.List.{range_with_len}
 use Rattle.atomic_table.specs.Table.{Act, keeps, takes, gives, Valid, carried_after, stepped, Allows, rest, put_back}
 use Rattle.atomic_table.proofs.Lists.{at_set, set_here, set_else, set_again}
 use Rattle.vt_key.specs.Times.{Time, TimeAtMost}
@@ -23,9 +22,9 @@ use Rattle.vt_station.specs.declared.slot.Slot.{Slot}
 use Rattle.vt_station.specs.declared.view.View.{View}
 use Rattle.vt_station.specs.Hands.{empty_hand, holding}
 use Rattle.vt_station.specs.Slots.{cell_count, word_at, empty_word, claimed_word, cell_at, held_in, IsSlotOf}
-use Rattle.vt_station.specs.Kept.{Standing, Sat, positions_of, IsClaimed, Sits, IsAtHome, IsHeld, Kept, Rests}
+use Rattle.vt_station.specs.Kept.{Standing, Sat, HasGrown, IsClaimed, Sits, IsAtHome, IsHeld, Kept, Rests}
 use Rattle.vt_station.specs.Calls.{IsShown, Known, Took, ShowsFloor}
-use Rattle.vt_station.proofs.Positions.{positions-longer, positions-kept, own-kept}
+use Rattle.vt_station.proofs.Growth.{grown-not, grown-more, own-kept}
 use Rattle.vt_station.proofs.Cells.{not-empty, same-cell_held, same-found, inbox-name, names-apart, words-apart, holds-book}
 
 -- what a load tells of the number that it found and the seat after it
@@ -40,7 +39,7 @@ module _ {S P : Type 0} (sim : Simulation S P) (config : Config) where
   -- the rule after it, with another list of steps
   rebuilt : (s : Standing P) (r : Kept sim config s) (id k x : ℕ) (h : Maybe (Slot P)) (v w : View P) (log : List Marked)
       → get_elem? s.views id ≡ some v → k < cell_count sim.workers → w.worker ≡ v.worker → Each (λ m. m.worker < r.made) log → Each (IsMarkedRight sim) log
-      → ((q : ℕ) → q ≢ v.worker → (slice_get (shown sim log).parts q ≡ slice_get (shown sim r.log).parts q) × (own_steps_of sim q log ≡ own_steps_of sim q r.log) × (positions_of q log ≡ positions_of q r.log))
+      → ((q : ℕ) → q ≢ v.worker → (slice_get (shown sim log).parts q ≡ slice_get (shown sim r.log).parts q) × (own_steps_of sim q log ≡ own_steps_of sim q r.log) × ((former : List Marked) → HasGrown q former r.log → HasGrown q former log))
       → ((j : ℕ) → j < cell_count sim.workers → j ≢ k → content (shown sim log) (cell_at sim.workers j) ≡ content (shown sim r.log) (cell_at sim.workers j))
       → TimeAtMost (book_floor sim.end (shown sim r.log).book) (book_floor sim.end (shown sim log).book)
       → Sits sim (changed s id k x h w) log r.made r.maker id w
@@ -103,6 +102,11 @@ module _ {S P : Type 0} (sim : Simulation S P) (config : Config) where
             (λ (t : (j ≡ id) × (w ≡ u)). subst (λ (z : ℕ × View P). Sits sim s' log r.made r.maker z.0 z.1) (λ i. (sym t.0 i, t.1 i)) sits)
             (λ (t : (j ≢ id) × (get_elem? s.views j ≡ some u)). other_sits j u t.0 t.1)
             (at_set s.views id j w u e);
+        seated = λ q less.
+            (let p = r.seated q less in
+            dite (ℕ_discrete p.seat id)
+            (λ e. record { seat = id; view = w; there = set_at s.views id v w at; worker = same_worker ∙ (ap (λ (u : View P). u.worker) (some-injective v p.view (sym at ∙ (ap (get_elem? s.views) (sym e) ∙ p.there))) ∙ p.worker) })
+            (λ ne. record { seat = p.seat; view = p.view; there = set_else s.views id p.seat w ne ∙ p.there; worker = p.worker }));
         apart = λ i j a b e f same. (let p = was i a e in let q = was j b f in r.apart i j p.0 q.0 p.1 q.1 (p.2 ∙ (same ∙ sym q.2)));
         alone = λ i j a b kk c d e f ha hb. ⊎_elim
             (λ (t : (i ≡ id) × (w ≡ a)). ⊎_elim
@@ -136,7 +140,7 @@ module _ {S P : Type 0} (sim : Simulation S P) (config : Config) where
             inside = t.inside;
             part = o.0 ∙ t.part;
             mine = o.1 ∙ t.mine;
-            positions = o.2 ∙ t.positions;
+            grows = o.2 u.log t.grows;
             seen = le_trans t.seen more;
             holds = λ i c hd.
                 (let g = t.holds i c hd in
@@ -171,7 +175,7 @@ module _ {S P : Type 0} (sim : Simulation S P) (config : Config) where
         within = (let a = t.inside in let b = r.most in omega arith);
         part = t.part;
         mine = t.mine;
-        positions = t.positions;
+        grows = t.grows;
         seen = t.seen;
         shows = shows;
         own = λ one. (let a = t.inside in let b = r.most in all_own r.made v.worker r.log (omega arith) t.inside r.marks);
@@ -198,12 +202,12 @@ module _ {S P : Type 0} (sim : Simulation S P) (config : Config) where
             w,
             takes k c,
             f.home,
-            rebuilt s r id k claimed_word none m.0 w r.log at near refl r.marks r.right (λ q _. (refl, refl, refl)) (λ j _ _. refl) (le_refl _)
+            rebuilt s r id k claimed_word none m.0 w r.log at near refl r.marks r.right (λ q _. (refl, refl, λ former g. g)) (λ j _ _. refl) (le_refl _)
                 (record {
                   inside = t.inside;
                   part = t.part;
                   mine = t.mine;
-                  positions = t.positions;
+                  grows = t.grows;
                   seen = t.seen;
                   holds = λ j d e.
                       (let is = same-cell_held k j (held_in c) d e in
@@ -277,11 +281,12 @@ module _ {S P : Type 0} (sim : Simulation S P) (config : Config) where
   -- the list with one worker's steps behind it
   pub longer-others : (w q : ℕ) (log : List Marked) (steps : List Step) (name : CellName) (part new : Part P) (cell left : Cell P) (made : List Made) →
       q ≢ w → DoesSo sim w name steps (shown sim log) new left made →
-      (slice_get (shown sim (log ++ marked w steps)).parts q ≡ slice_get (shown sim log).parts q) × (own_steps_of sim q (log ++ marked w steps) ≡ own_steps_of sim q log) × (positions_of q (log ++ marked w steps) ≡ positions_of q log)
+      (slice_get (shown sim (log ++ marked w steps)).parts q ≡ slice_get (shown sim log).parts q) × (own_steps_of sim q (log ++ marked w steps) ≡ own_steps_of sim q log)
+      × ((former : List Marked) → HasGrown q former log → HasGrown q former (log ++ marked w steps))
   longer-others w q log steps name part new cell left made ne does = (
     ap (λ (n : World P). slice_get n.parts q) (shown-marked sim log w steps) ∙ does.other_parts q ne,
     own-kept sim w q log steps ne,
-    positions-kept w q log steps ne,
+    λ former g. grown-more w q former log steps ne g,
   )
 
   pub longer-floor : IsLawful sim → (log more : List Marked) → TimeAtMost (book_floor sim.end (shown sim log).book) (book_floor sim.end (shown sim (log ++ more)).book)
@@ -296,16 +301,16 @@ module _ {S P : Type 0} (sim : Simulation S P) (config : Config) where
   shown-floor world name (Rattle.vt_steps.specs.Cells.in_book book) t holds shows = subst (λ b. TimeAtMost t (book_floor sim.end b)) (sym (holds-book world name book holds)) (omega (arith, shows))
 
   -- one worker's steps at a cell that nobody else has claimed and that is at home after them stand behind all others
-  follows : IsLawful sim → (s : Standing P) (r : Kept sim config s) (id k x : ℕ) (v : View P) (found : Cell P) (slot : Slot P) (steps : List Step) (new : Part P) (made : List Made) (seen : Time)
+  follows : IsLawful sim → (s : Standing P) (r : Kept sim config s) (id k x : ℕ) (v : View P) (found : Cell P) (slot : Slot P) (steps : List Step) (new : Part P) (made : List Made) (left : List Marked) (seen : Time)
       → get_elem? s.views id ≡ some v → k < cell_count sim.workers → content (shown sim r.log) (cell_at sim.workers k) ≡ Some found → IsSlotOf config k slot
-      → Leads sim v.worker (cell_at sim.workers k) v.part found steps new (held_in slot) made
+      → Leads sim v.worker (cell_at sim.workers k) v.part found steps new (held_in slot) made → HasGrown v.worker left (r.log ++ marked v.worker steps)
       → TimeAtMost seen v.seen ⊎ ShowsFloor sim.end seen (held_in slot)
       → x ≢ claimed_word → (x ≡ empty_word → k < sim.workers → held_in slot ≡ in_inbox [])
       → ((j : ℕ) (c : Cell P) → v.hand ≡ holding j c → j ≡ k)
       → ((j : ℕ) (u : View P) (c : Cell P) → j ≢ id → get_elem? s.views j ≡ some u → u.hand ≡ holding k c → ⊥)
-      → Kept sim config (changed s id k x (some slot) (record v { part = new; mine = v.mine ++ made; positions = v.positions ++ range_with_len (length r.log) (length steps); seen = seen; hand = empty_hand }))
-  follows lawful s r id k x v found slot steps new made seen at near shows right goes low home empty held alone =
-      rebuilt s r id k x (some slot) v (record v { part = new; mine = v.mine ++ made; positions = v.positions ++ range_with_len (length r.log) (length steps); seen = seen; hand = empty_hand }) log at near refl marks rights
+      → Kept sim config (changed s id k x (some slot) (record v { part = new; mine = v.mine ++ made; log = left; seen = seen; hand = empty_hand }))
+  follows lawful s r id k x v found slot steps new made left seen at near shows right goes grown low home empty held alone =
+      rebuilt s r id k x (some slot) v (record v { part = new; mine = v.mine ++ made; log = left; seen = seen; hand = empty_hand }) log at near refl marks rights
       (λ q ne. longer-others v.worker q r.log steps (cell_at sim.workers k) v.part new found (held_in slot) made ne did)
       (λ j l ne. ap (λ (n : World P). content n (cell_at sim.workers j)) whole ∙ did.other_cells (cell_at sim.workers j) (names-apart sim.workers k j near l ne))
       (longer-floor lawful r.log (marked v.worker steps))
@@ -314,7 +319,7 @@ module _ {S P : Type 0} (sim : Simulation S P) (config : Config) where
         part = ap (λ (n : World P). slice_get n.parts v.worker) whole ∙ did.part;
         mine = own-append sim v.worker (opening_world sim 0) r.log (marked v.worker steps)
             ∙ ((λ i. t.mine i ++ did.answers i) ∙ sym (map-append answered v.mine made));
-        positions = positions-longer v.worker r.log steps ∙ ap (λ (l : List ℕ). l ++ range_with_len (length r.log) (length steps)) t.positions;
+        grows = grown;
         seen = ⊎_elim (λ l. le_trans l (le_trans t.seen (longer-floor lawful r.log (marked v.worker steps)))) (λ l. shown-floor (shown sim log) (cell_at sim.workers k) (held_in slot) seen now l) low;
         holds = λ j d e. absurd (not-empty empty_hand j d refl e);
         makes = λ e. (let g = t.makes e in record { next = g.next; all = g.all; parts = g.parts });
@@ -350,22 +355,23 @@ module _ {S P : Type 0} (sim : Simulation S P) (config : Config) where
       map-append f (x ∷ xs) ys = ap (λ l. f x ∷ l) (map-append f xs ys)
 
   -- a store gives the cell back with what the worker's steps leave in it
-  pub releases : IsLawful sim → (slots id k x : ℕ) (m : Sat P) (found : Cell P) (slot : Slot P) (steps : List Step) (new : Part P) (made : List Made) (seen : Time) (aim : ℕ → Sat P → Type 0) → k < cell_count sim.workers
+  pub releases : IsLawful sim → (slots id k x : ℕ) (m : Sat P) (found : Cell P) (slot : Slot P) (steps : List Step) (new : Part P) (made : List Made) (left : List Marked → List Marked) (seen : Time) (aim : ℕ → Sat P → Type 0) → k < cell_count sim.workers
       → x ≢ claimed_word → (x ≡ empty_word → k < sim.workers → held_in slot ≡ in_inbox [])
       → m.1 ≡ (k, slot) ∷ [] → m.0.hand ≡ holding k found → IsSlotOf config k slot
       → Leads sim m.0.worker (cell_at sim.workers k) m.0.part found steps new (held_in slot) made
+      → ((log : List Marked) → HasGrown m.0.worker m.0.log log → HasGrown m.0.worker (left log) (log ++ marked m.0.worker steps))
       → TimeAtMost seen m.0.seen ⊎ ShowsFloor sim.end seen (held_in slot)
-      → ((n : ℕ) (known : Known sim m.0 k found) → aim n (record m.0 { part = new; mine = m.0.mine ++ made; positions = m.0.positions ++ range_with_len (length known.log) (length steps); seen = seen; hand = empty_hand }, []))
+      → ((n : ℕ) (known : Known sim m.0 k found) → aim n (record m.0 { part = new; mine = m.0.mine ++ made; log = left known.log; seen = seen; hand = empty_hand }, []))
       → Allows (Kept sim config) slots id m (word_at k) (λ _. x) (λ _. aim x)
-  releases lawful slots id k x m found slot steps new made seen aim near home empty carried held right goes low want s r deep at small =
+  releases lawful slots id k x m found slot steps new made left seen aim near home empty carried held right goes grown low want s r deep at small =
       let shows = ((r.each id m.0 at).holds k found held).shows in
-      let w : View P = record m.0 { part = new; mine = m.0.mine ++ made; positions = m.0.positions ++ range_with_len (length r.log) (length steps); seen = seen; hand = empty_hand } in
+      let w : View P = record m.0 { part = new; mine = m.0.mine ++ made; log = left r.log; seen = seen; hand = empty_hand } in
       let back : put_back s.homes m.1 ≡ set s.homes k (some slot) = ap (put_back s.homes) carried in (
         w,
         gives,
         tt,
         subst (λ (hs : List (Maybe (Slot P))). Kept sim config record { words = set s.words (word_at k) x; homes = hs; views = set s.views id w }) (sym back)
-            (follows lawful s r id k x m.0 found slot steps new made seen at near shows right goes low home empty
+            (follows lawful s r id k x m.0 found slot steps new made (left r.log) seen at near shows right goes (grown r.log (r.each id m.0 at).grows) low home empty
             (λ j d e. same-cell_held k j found d (sym held ∙ e)) (λ j u d ne there hd. ne (r.alone j id u m.0 k d found there at hd held))),
         subst (λ (l : List (ℕ × Slot P)). aim x (w, l)) (sym (ap rest carried)) (want x (known_there s r id k m.0 found at shows)),
       )
@@ -373,7 +379,7 @@ module _ {S P : Type 0} (sim : Simulation S P) (config : Config) where
   -- a load that finds an inbox empty is where the worker's steps stand that find it empty and leave it so
   pub looks : IsLawful sim → (slots id k : ℕ) (m : Sat P) (steps : List Step) (new : Part P) (made : List Made) (aim : Sat P → Type 0) → k < sim.workers → Rests m
       → Leads sim m.0.worker (cell_at sim.workers k) m.0.part (in_inbox []) steps new (in_inbox []) made
-      → ((known : Known sim m.0 k (in_inbox [])) → aim (record m.0 { part = new; mine = m.0.mine ++ made; positions = m.0.positions ++ range_with_len (length known.log) (length steps); hand = empty_hand }, []))
+      → ((known : Known sim m.0 k (in_inbox [])) → aim (record m.0 { part = new; mine = m.0.mine ++ made; log = known.log ++ marked m.0.worker steps; hand = empty_hand }, []))
       → Allows (Kept sim config) slots id m (word_at k) (λ n. n) (Looked m aim)
   looks lawful slots id k m steps new made aim less rests goes want s r deep at small = dite (ℕ_discrete (get_or s.words (word_at k) 0) empty_word) hit miss
     where
@@ -387,14 +393,14 @@ module _ {S P : Type 0} (sim : Simulation S P) (config : Config) where
           let shows : content (shown sim r.log) (cell_at sim.workers k) ≡ Some (in_inbox []) = ap (content (shown sim r.log)) (inbox-name sim.workers k less) ∙ r.empty k less z in
           let found : Some (held_in f.slot) ≡ Some (in_inbox []) = sym f.cell ∙ shows in
           let is : held_in f.slot ≡ in_inbox [] = cc in
-          let w : View P = record m.0 { part = new; mine = m.0.mine ++ made; positions = m.0.positions ++ range_with_len (length r.log) (length steps); hand = empty_hand } in (
+          let w : View P = record m.0 { part = new; mine = m.0.mine ++ made; log = r.log ++ marked m.0.worker steps; hand = empty_hand } in (
             w,
             keeps,
             tt,
             subst (λ (hs : List (Maybe (Slot P))). Kept sim config record { words = set s.words (word_at k) (get_or s.words (word_at k) 0); homes = hs; views = set s.views id w }) (set_again s.homes k (some f.slot) f.home)
-                (follows lawful s r id k (get_or s.words (word_at k) 0) m.0 (in_inbox []) f.slot steps new made m.0.seen at near shows f.right
+                (follows lawful s r id k (get_or s.words (word_at k) 0) m.0 (in_inbox []) f.slot steps new made (r.log ++ marked m.0.worker steps) m.0.seen at near shows f.right
                 (subst (λ (c : Cell P). Leads sim m.0.worker (cell_at sim.workers k) m.0.part (in_inbox []) steps new c made) (sym is) goes)
-                (inl (le_refl m.0.seen)) free (λ _ _. is) (λ j d e. absurd (not-empty m.0.hand j d rests.0 e))
+                (grown-not m.0.worker (r.log ++ marked m.0.worker steps)) (inl (le_refl m.0.seen)) free (λ _ _. is) (λ j d e. absurd (not-empty m.0.hand j d rests.0 e))
                 (λ j u d ne there hd. free ((r.each j u there).holds k d hd).word)),
             ((λ _. subst (λ (l : List (ℕ × Slot P)). aim (w, l)) (sym rests.1) (want (known_there s r id k m.0 (in_inbox []) at shows))), λ ne. absurd (ne z)),
           )

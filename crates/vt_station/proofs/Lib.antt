@@ -1,8 +1,9 @@
 pub mod Cells
-pub mod Positions
+pub mod Growth
 pub mod OneList
 pub mod Keeps
 pub mod Seating
+pub mod RuleTells
 pub mod Releases
 pub mod CommitRelease
 pub mod HeldLemmas

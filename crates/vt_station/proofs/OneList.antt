@@ -1,27 +1,21 @@
--- What each worker's steps are, and where they stand, tells a list of marked steps.
-use Rattle.std.proofs.Common.{◌≡◌, inl, inr, ℕ, ◌+◌, ◌<◌, ◌≤◌, Bool, true, false, cond, List, [], ◌∷◌, ◌++◌, map, length, refl, sym, ◌∙◌, ap, subst, arith, nat_eq}
-use Rattle.std.proofs.Common.{eq-eqb, ne_eqb}
-use Rattle.std.specs.List.{range_with_len}
+-- What each place left of a list of marked steps tells the list.
+use Rattle.std.proofs.Common.{◌≡◌, inl, inr, ℕ, ◌+◌, ◌<◌, Bool, true, false, cond, List, [], ◌∷◌, ◌++◌, map, length, length-append, refl, sym, ◌∙◌, ap, subst, arith, nat_eq}
+use Rattle.std.proofs.Common.{eq-eqb}
 use Rattle.std.proofs.lemmas.Bool.Decides.{eqb_tells}
-use mathlib.Core.Logic.{dite}
-use native.Mathlib.Decide.{dec_le}
+use Rattle.std.proofs.lemmas.List.{append-nil, nil_from_length}
 use Rattle.vt_model.specs.Simulation.{Simulation}
 use Rattle.vt_steps.specs.declared.step.Step.{Step}
 use Rattle.vt_steps.specs.Next.{next}
-use Rattle.vt_steps.specs.World.{World, opening_world}
-use Rattle.vt_steps.specs.Marked.{Marked, Answered, unmarked, marked, Each, own_steps, own_steps_of}
+use Rattle.vt_steps.specs.World.{World}
+use Rattle.vt_steps.specs.Marked.{Marked, Answered, unmarked, marked, Each, own_steps}
 use Rattle.vt_steps.proofs.MarkedRuns.{each-append, each-weaker, each-marked}
-use Rattle.vt_station.specs.Kept.{positions_from, positions_of}
-use Rattle.vt_station.proofs.Positions.{positions-others, positions-longer, positions-kept, own-kept}
+use Rattle.vt_station.specs.Kept.{HasGrown}
+use Rattle.vt_station.proofs.Growth.{grown-not, grown-more}
 
 -- the steps of a worker, without their answers
 abbrev pub steps_by : ℕ → List Marked → List Step
 steps_by w [] = []
 steps_by w (m ∷ marks) = cond (nat_eq m.worker w) (m.step ∷ steps_by w marks) (steps_by w marks)
-
-steps-others : (w : ℕ) (marks : List Marked) → Each (λ m. ¬ (m.worker ≡ w)) marks → steps_by w marks ≡ []
-steps-others w [] others = refl
-steps-others w (m ∷ marks) others = ap (λ b. cond b (m.step ∷ steps_by w marks) (steps_by w marks)) (ne_eqb m.worker w others.0) ∙ steps-others w marks others.1
 
 pub steps-own : (w : ℕ) (marks : List Marked) → Each (λ m. m.worker ≡ w) marks → steps_by w marks ≡ unmarked marks
 steps-own w [] own = refl
@@ -45,92 +39,65 @@ differs q w no_same same = absurd (let h : true ≡ false = sym (eq-eqb q w same
 
 -- ---- one list
 
--- none stands before the first
-none-before : (w i j : ℕ) (marks : List Marked) (rest : List ℕ) → j < i → positions_from w i marks ≡ j ∷ rest → ⊥
-unfolding positions_from
-none-before w i j [] rest before e = absurd (let h : [] ≡ j ∷ rest = e in cc)
-none-before w i j (m ∷ marks) rest before e =
-    elim (nat_eq m.worker w) as (λ b. cond b (i ∷ positions_from w (i + 1) marks) (positions_from w (i + 1) marks) ≡ j ∷ rest → ⊥) [
-      | true ↦ λ h. absurd (let k : i ∷ positions_from w (i + 1) marks ≡ j ∷ rest = h in let same : i ≡ j = cc in omega arith)
-      | false ↦ λ h. none-before w (i + 1) j marks rest (omega arith) h
-    ] e
+-- the last of a list that begins with this one
+abbrev last_of : {X : Type 0} → X → List X → X
+last_of x [] = x
+last_of x (y ∷ ys) = last_of y ys
 
-same-behind : {X : Type 0} (b : Bool) (x y : X) (xs ys : List X) → cond b (x ∷ xs) xs ≡ cond b (y ∷ ys) ys → xs ≡ ys
-same-behind true x y xs ys e = let h : x ∷ xs ≡ y ∷ ys = e in cc
-same-behind false x y xs ys e = e
+last-behind : {X : Type 0} (x : X) (xs : List X) (y : X) (ys : List X) → last_of x (xs ++ y ∷ ys) ≡ last_of y ys
+last-behind x [] y ys = refl
+last-behind x (z ∷ zs) y ys = last-behind z zs y ys
 
-same-first : {X : Type 0} (x y : X) (xs ys : List X) → x ∷ xs ≡ y ∷ ys → x ≡ y
-same-first x y xs ys e = cc
+last-each : {X : Type 0} (Q : X → Type 0) (x : X) (xs : List X) → Q x → Each Q xs → Q (last_of x xs)
+last-each Q x [] here rest = here
+last-each Q x (y ∷ ys) here rest = last-each Q y ys rest.0 rest.1
 
--- of two lists each worker has the same steps, at the same positions
-abbrev AreTold : ℕ → List Marked → List Marked → Type 0
-AreTold i log other = (w : ℕ) → (positions_from w i log ≡ positions_from w i other) × (steps_by w log ≡ steps_by w other)
-
-one-list : (i : ℕ) (log other : List Marked) → AreTold i log other → log ≡ other
-unfolding positions_from
-one-list i [] [] told = refl
-one-list i [] (n ∷ ns) told =
-    let w = n.worker in
-    absurd (let h : [] ≡ i ∷ positions_from w (i + 1) ns = (told w).0 ∙ ap (λ b. cond b (i ∷ positions_from w (i + 1) ns) (positions_from w (i + 1) ns)) (eq-eqb w w refl) in cc)
-one-list i (m ∷ ms) [] told =
-    let w = m.worker in
-    absurd (let h : [] ≡ i ∷ positions_from w (i + 1) ms = sym (told w).0 ∙ ap (λ b. cond b (i ∷ positions_from w (i + 1) ms) (positions_from w (i + 1) ms)) (eq-eqb w w refl) in cc)
-one-list i (m ∷ ms) (n ∷ ns) told =
-    let same_step : m.step ≡ n.step =
-    same-first m.step n.step (steps_by m.worker ms) (steps_by m.worker ns)
-    (sym (ap (λ b. cond b (m.step ∷ steps_by m.worker ms) (steps_by m.worker ms)) (eq-eqb m.worker m.worker refl)) ∙ (told m.worker).1
-    ∙ ap (λ b. cond b (n.step ∷ steps_by m.worker ns) (steps_by m.worker ns)) (eq-eqb n.worker m.worker same)) in
-    λ k. record { worker = sym same k; step = same_step k } ∷ one-list (i + 1) ms ns behind k
+-- the worker of the last step has left the whole list
+all-left : (m : Marked) (ms former : List Marked) → HasGrown (last_of m ms).worker former (m ∷ ms) → m ∷ ms ≡ former
+all-left m ms former g = by_rest g.since g.whole g.others
   where
-    same : n.worker ≡ m.worker
-    same = elim (eqb_tells n.worker m.worker) [
-      | inl t ↦ t.1
-      | inr t ↦ absurd (none-before m.worker (i + 1) i ns (positions_from m.worker (i + 1) ms) (omega arith)
-          (sym ((told m.worker).0 ∙ ap (λ b. cond b (i ∷ positions_from m.worker (i + 1) ns) (positions_from m.worker (i + 1) ns)) t.0)
-          ∙ ap (λ b. cond b (i ∷ positions_from m.worker (i + 1) ms) (positions_from m.worker (i + 1) ms)) (eq-eqb m.worker m.worker refl)))
-    ]
+    w : ℕ
+    w = (last_of m ms).worker
 
-    behind : AreTold (i + 1) ms ns
-    behind w = (
-      same-behind (nat_eq m.worker w) i i (positions_from w (i + 1) ms) (positions_from w (i + 1) ns)
-          ((told w).0 ∙ ap (λ (v : ℕ). cond (nat_eq v w) (i ∷ positions_from w (i + 1) ns) (positions_from w (i + 1) ns)) same),
-      same-behind (nat_eq m.worker w) m.step n.step (steps_by w ms) (steps_by w ns)
-          ((told w).1 ∙ ap (λ (v : ℕ). cond (nat_eq v w) (n.step ∷ steps_by w ns) (steps_by w ns)) same),
-    )
+    by_rest : (since : List Marked) → m ∷ ms ≡ former ++ since → Each (λ (x : Marked). ¬ (x.worker ≡ w)) since → m ∷ ms ≡ former
+    by_rest [] whole others = whole ∙ append-nil former
+    by_rest (n ∷ ns) whole others =
+        let same : last_of m ms ≡ last_of n ns = ap (last_of m) whole ∙ last-behind m former n ns in
+        absurd (last-each (λ (x : Marked). ¬ (x.worker ≡ w)) n ns others.0 others.1 (ap (λ (x : Marked). x.worker) (sym same)))
 
-none-of : (workers w : ℕ) (marks : List Marked) → workers ≤ w → Each (λ m. m.worker < workers) marks → Each (λ m. ¬ (m.worker ≡ w)) marks
-none-of workers w marks beyond few = each-weaker (λ m. m.worker < workers) (λ m. ¬ (m.worker ≡ w)) marks (λ m less e. absurd (omega arith)) few
+-- each place has left the beginning of both lists
+abbrev pub AreTold : ℕ → List Marked → List Marked → Type 0
+AreTold workers log other = (q : ℕ) → q < workers → (former : List Marked) × HasGrown q former log × HasGrown q former other
 
-pub places-tell : {S P : Type 0} (sim : Simulation S P) (workers : ℕ) (log other : List Marked) → Each (λ m. m.worker < workers) log → Each (λ m. m.worker < workers) other
-    → ((w : ℕ) → w < workers → (positions_of w log ≡ positions_of w other) × (own_steps_of sim w log ≡ own_steps_of sim w other)) → log ≡ other
-places-tell sim workers log other few few_other same = one-list 0 log other told
-  where
-    told : AreTold 0 log other
-    told w = dite (dec_le (w + 1) workers)
-        (λ less. (
-          (same w (omega arith)).0,
-          sym (steps-answered sim w (opening_world sim 0) log) ∙ ap (map (λ (a : Answered). a.step)) (same w (omega arith)).1 ∙ steps-answered sim w (opening_world sim 0) other,
-        ))
-        (λ beyond.
-        (let none = none-of workers w log (omega arith) few in
-        let none_other = none-of workers w other (omega arith) few_other in (
-          positions-others w 0 log none ∙ sym (positions-others w 0 other none_other),
-          steps-others w log none ∙ sym (steps-others w other none_other),
-        )))
+-- so one goes on where the other ends
+goes-on : (workers : ℕ) (log other : List Marked) → Each (λ m. m.worker < workers) log → AreTold workers log other → (more : List Marked) × (other ≡ log ++ more)
+goes-on workers [] other few told = (other, refl)
+goes-on workers (m ∷ ms) other few told =
+    let t = told (last_of m ms).worker (last-each (λ (x : Marked). x.worker < workers) m ms few.0 few.1) in
+    (t.2.since, t.2.whole ∙ ap (λ (l : List Marked). l ++ t.2.since) (sym (all-left m ms t.0 t.1)))
+
+pub places-tell : (workers : ℕ) (log other : List Marked) → Each (λ m. m.worker < workers) log → Each (λ m. m.worker < workers) other → AreTold workers log other → log ≡ other
+places-tell workers log other few few_other told =
+    let a = goes-on workers log other few told in
+    let b = goes-on workers other log few_other (λ q less. (let t = told q less in (t.0, t.2, t.1))) in
+    let more : length other ≡ length log + length a.0 = ap length a.1 ∙ length-append log a.0 in
+    let less : length log ≡ length other + length b.0 = ap length b.1 ∙ length-append other b.0 in
+    let none : b.0 ≡ [] = nil_from_length b.0 (omega arith) in
+    b.1 ∙ ap (λ (l : List Marked). other ++ l) none ∙ append-nil other
 
 -- more steps of one worker stand behind all others
-pub list-grows : {S P : Type 0} (sim : Simulation S P) (workers w : ℕ) (log other : List Marked) (steps : List Step) → Each (λ m. m.worker < workers) log → Each (λ m. m.worker < workers) other → w < workers
-    → ((q : ℕ) → q < workers → ¬ (q ≡ w) → (positions_of q other ≡ positions_of q log) × (own_steps_of sim q other ≡ own_steps_of sim q log))
-    → positions_of w other ≡ positions_of w log ++ range_with_len (length log) (length steps)
-    → own_steps_of sim w other ≡ own_steps_of sim w (log ++ marked w steps) → other ≡ log ++ marked w steps
-list-grows sim workers w log other steps few few_other known others positions own = places-tell sim workers other (log ++ marked w steps) few_other few_longer same
+pub list-grows : (workers w : ℕ) (log other : List Marked) (steps : List Step) → Each (λ m. m.worker < workers) log → Each (λ m. m.worker < workers) other → w < workers
+    → ((q : ℕ) → q < workers → ¬ (q ≡ w) → (former : List Marked) × HasGrown q former log × HasGrown q former other)
+    → HasGrown w (log ++ marked w steps) other → other ≡ log ++ marked w steps
+list-grows workers w log other steps few few_other known others own = places-tell workers other (log ++ marked w steps) few_other few_longer same
   where
     few_longer : Each (λ m. m.worker < workers) (log ++ marked w steps)
     few_longer = each-append (λ m. m.worker < workers) log (marked w steps) few (each-weaker (λ m. m.worker ≡ w) (λ m. m.worker < workers) (marked w steps) (λ m is. omega arith) (each-marked w steps))
 
-    same : (q : ℕ) → q < workers → (positions_of q other ≡ positions_of q (log ++ marked w steps)) × (own_steps_of sim q other ≡ own_steps_of sim q (log ++ marked w steps))
+    same : AreTold workers other (log ++ marked w steps)
     same q less = elim (eqb_tells q w) [
-      | inl t ↦ subst (λ (n : ℕ). (positions_of n other ≡ positions_of n (log ++ marked w steps)) × (own_steps_of sim n other ≡ own_steps_of sim n (log ++ marked w steps))) (sym t.1) (positions ∙ sym (positions-longer w log steps), own)
+      | inl t ↦ subst (λ (n : ℕ). (former : List Marked) × HasGrown n former other × HasGrown n former (log ++ marked w steps)) (sym t.1) (log ++ marked w steps, own, grown-not w (log ++ marked w steps))
       | inr t ↦ (let ne : ¬ (q ≡ w) = differs q w t.0 in
-          ((others q less ne).0 ∙ sym (positions-kept w q log steps ne), (others q less ne).1 ∙ sym (own-kept sim w q log steps ne)))
+          let o = others q less ne in
+          (o.0, o.2, grown-more w q o.0 log steps ne o.1))
     ]

@@ -1,8 +1,7 @@
 -- The release after each call, in the words of its contract.
-use Rattle.std.proofs.Common.{◌≡◌, ◌≢◌, ◌⊎◌, inl, inr, ℕ, ◌%◌, ◌/◌, ◌<◌, arith, cond, List, [], ◌∷◌, ◌++◌, length, length-append, refl, sym, ◌∙◌, ap, subst, le_refl, nat_eq, Option, Some, None, Ok}
+use Rattle.std.proofs.Common.{◌≡◌, ◌≢◌, ◌⊎◌, inl, inr, ℕ, ◌%◌, ◌/◌, ◌<◌, arith, cond, List, [], ◌∷◌, ◌++◌, refl, sym, ◌∙◌, ap, subst, le_refl, nat_eq, Option, Some, None, Ok}
 use Rattle.std.proofs.lemmas.List.{append-nil}
 use Rattle.std.proofs.lemmas.Bool.Decides.{eqb_tells}
-use Rattle.std.specs.List.{range_with_len}
 use Rattle.atomic_table.specs.Table.{Allows}
 use Rattle.vt_key.specs.Times.{Time, TimeAtMost}
 use Rattle.vt_model.specs.Handler.{Handlers}
@@ -18,14 +17,15 @@ use Rattle.vt_steps.specs.World.{Part}
 use Rattle.vt_steps.specs.PartSteps.{execute, undo, cancel, home, accept}
 use Rattle.vt_steps.specs.Cells.{book_cell, Cell, in_inbox, worker_of, cell_of, acted_locally, act}
 use Rattle.vt_steps.specs.Laws.{IsAny}
-use Rattle.vt_steps.specs.Marked.{Made, made_done, LeadsLocally, LeadLocally, Leads}
+use Rattle.vt_steps.specs.Marked.{Made, marked, made_done, LeadsLocally, LeadLocally, Leads}
 use Rattle.vt_steps.proofs.Changes.{chain_has}
 use Rattle.vt_steps.proofs.LocalLeads.{leads, leads-nowhere}
 use Rattle.vt_kernel.specs.Held.{HeldWorker}
 use Rattle.vt_kernel.specs.Local.{local_step, local_steps}
 use Rattle.vt_station.specs.Slots.{cell_count, word_at, empty_word, claimed_word, home_word, cell_at, held_in}
-use Rattle.vt_station.specs.Kept.{Sat, Kept, Rests}
+use Rattle.vt_station.specs.Kept.{Sat, HasGrown, Kept, Rests}
 use Rattle.vt_station.specs.Calls.{seen_or, Unvisited, Closes, Reaches, Visited, Acts, Holding, ShowsFloor, MaySee}
+use Rattle.vt_station.proofs.Growth.{grown-not}
 use Rattle.vt_station.proofs.Keeps.{releases, Looked, looks}
 
 -- ---- local steps of a kernel as local steps of a worker
@@ -92,12 +92,13 @@ module _ {S P K : Type 0} (handlers : Handlers S P K) (config : Config) (lawful 
       let sim = simulation_of handlers config in
       let same : Leads sim m.0.worker (cell_at sim.workers k) m.0.part found [] m.0.part (held_in h.slot) [] =
       subst (λ (c : Cell P). Leads sim m.0.worker (cell_at sim.workers k) m.0.part found [] m.0.part c []) (sym h.now_is) (leads-nowhere sim m.0.worker (cell_at sim.workers k) m.0.part found) in
-      releases sim config lawful slots id k home_word m found h.slot [] m.0.part [] (seen_or m.0.seen seen) (λ (n : ℕ) (after : Sat P). (after.1 ≡ []) × Unvisited m.0 (seen_or m.0.seen seen) after.0) near home-not_claimed (λ e _. home-not_empty e) h.carried h.hand h.right same
+      releases sim config lawful slots id k home_word m found h.slot [] m.0.part [] (λ _. m.0.log) (seen_or m.0.seen seen) (λ (n : ℕ) (after : Sat P). (after.1 ≡ []) × Unvisited m.0 (seen_or m.0.seen seen) after.0) near home-not_claimed (λ e _. home-not_empty e) h.carried h.hand h.right same
+      (λ log g. subst (HasGrown m.0.worker m.0.log) (sym (append-nil log)) g)
       (subst (λ (c : Cell P). TimeAtMost (seen_or m.0.seen seen) m.0.seen ⊎ ShowsFloor sim.end (seen_or m.0.seen seen) c) (sym h.now_is) (may-see (end_of config) m.0.seen seen found sees))
       (λ n known. (
         refl,
         record {
-          steps = record { same = record { worker = refl; made = refl; waiting = refl }; part = refl; mine = append-nil m.0.mine; positions = append-nil m.0.positions };
+          steps = record { same = record { worker = refl; made = refl; waiting = refl }; part = refl; mine = append-nil m.0.mine; log = refl };
           floor = refl;
           rests = refl;
         },
@@ -114,10 +115,10 @@ module _ {S P K : Type 0} (handlers : Handlers S P K) (config : Config) (lawful 
       let a = does.acts way.part way.stands in
       let goes : Leads sim m.0.worker (cell_at sim.workers k) m.0.part found (way.steps ++ step ∷ []) a.0 now (made_done way.steps ++ record { step = step; reply = reply } ∷ []) =
       leads sim m.0.worker (cell_at sim.workers k) way.steps step m.0.part way.part a.0 found now reply (steps-lead sim m.0.worker way.steps m.0.part way.part way.led) whose at a.1 in
-      releases sim config lawful slots id k x m found h.slot (way.steps ++ step ∷ []) a.0 (made_done way.steps ++ record { step = step; reply = reply } ∷ []) m.0.seen
+      releases sim config lawful slots id k x m found h.slot (way.steps ++ step ∷ []) a.0 (made_done way.steps ++ record { step = step; reply = reply } ∷ []) (λ log. log ++ marked m.0.worker (way.steps ++ step ∷ [])) m.0.seen
       (λ (n : ℕ) (after : Sat P). (after.1 ≡ []) × Visited handlers config m.0 before step reply left m.0.seen after.0) near home (λ e _. h.now_is ∙ empty e) h.carried h.hand h.right
       (subst (λ (c : Cell P). Leads sim m.0.worker (cell_at sim.workers k) m.0.part found (way.steps ++ step ∷ []) a.0 c (made_done way.steps ++ record { step = step; reply = reply } ∷ [])) (sym h.now_is) goes)
-      (inl (le_refl m.0.seen))
+      (λ log _. grown-not m.0.worker (log ++ marked m.0.worker (way.steps ++ step ∷ []))) (inl (le_refl m.0.seen))
       (λ n known. (
         refl,
         record {
@@ -127,7 +128,7 @@ module _ {S P K : Type 0} (handlers : Handlers S P K) (config : Config) (lawful 
             led = way.led;
             stood = way.stands;
             mine = refl;
-            at = record { cell = k; about = at; found = found; now = now; known = known; gives = a.1; positions = ap (λ (l : ℕ). m.0.positions ++ range_with_len (length known.log) l) (length-append way.steps (step ∷ [])) };
+            at = record { cell = k; about = at; found = found; now = now; known = known; gives = a.1; log = refl };
             does = does;
             stands = a.2;
           };
@@ -156,7 +157,7 @@ module _ {S P K : Type 0} (handlers : Handlers S P K) (config : Config) (lawful 
             led = way.led;
             stood = way.stands;
             mine = refl;
-            at = record { cell = k; about = at; found = in_inbox []; now = in_inbox []; known = known; gives = a.1; positions = ap (λ (l : ℕ). m.0.positions ++ range_with_len (length known.log) l) (length-append way.steps (step ∷ [])) };
+            at = record { cell = k; about = at; found = in_inbox []; now = in_inbox []; known = known; gives = a.1; log = refl };
             does = does;
             stands = a.2;
           };
@@ -175,8 +176,9 @@ module _ {S P K : Type 0} (handlers : Handlers S P K) (config : Config) (lawful 
       let own : List Made = record { step = Close; reply = Done } ∷ [] in
       let goes : Leads sim m.0.worker (cell_at sim.workers k) m.0.part found (Close ∷ []) m.0.part now own =
       leads sim m.0.worker (cell_at sim.workers k) [] Close m.0.part m.0.part m.0.part found now Done refl tt (sym at) (does m.0.part) in
-      releases sim config lawful slots id k home_word m found h.slot (Close ∷ []) m.0.part own seen (λ (n : ℕ) (after : Sat P). (after.1 ≡ []) × Closes sim m.0 seen after.0) near home-not_claimed (λ e _. home-not_empty e) h.carried h.hand h.right
+      releases sim config lawful slots id k home_word m found h.slot (Close ∷ []) m.0.part own (λ log. log ++ marked m.0.worker (Close ∷ [])) seen (λ (n : ℕ) (after : Sat P). (after.1 ≡ []) × Closes sim m.0 seen after.0) near home-not_claimed (λ e _. home-not_empty e) h.carried h.hand h.right
       (subst (λ (c : Cell P). Leads sim m.0.worker (cell_at sim.workers k) m.0.part found (Close ∷ []) m.0.part c own) (sym h.now_is) goes)
+      (λ log _. grown-not m.0.worker (log ++ marked m.0.worker (Close ∷ [])))
       (inr (subst (λ (c : Cell P). ShowsFloor sim.end seen c) (sym h.now_is) sees))
       (λ n known. (
         refl,
@@ -184,7 +186,7 @@ module _ {S P K : Type 0} (handlers : Handlers S P K) (config : Config) (lawful 
           same = record { worker = refl; made = refl; waiting = refl };
           part = refl;
           mine = refl;
-          at = record { cell = k; about = sym at; found = found; now = now; known = known; gives = does m.0.part; positions = refl };
+          at = record { cell = k; about = sym at; found = found; now = now; known = known; gives = does m.0.part; log = refl };
           floor = refl;
           rests = refl;
         },

@@ -8,7 +8,7 @@ use native.Mathlib.Decide.{ℕ_discrete}
 use lib.ListN.{get_elem?, length-map}
 use Rattle.atomic_table.specs.Table.{Splits}
 use Rattle.atomic_table.specs.Table.{opening as tabled}
-use Rattle.atomic_table.proofs.Lists.{at_set, set_else, at_snoc, at_longer}
+use Rattle.atomic_table.proofs.Lists.{at_set, set_else, at_snoc, at_longer, at_last}
 use Rattle.vt_model.specs.declared.settings.Config.{Config}
 use Rattle.vt_model.specs.Simulation.{Simulation}
 use Rattle.vt_steps.specs.World.{opening_part, opening_world}
@@ -22,9 +22,9 @@ use Rattle.vt_station.specs.declared.slot.Slot.{Slot}
 use Rattle.vt_station.specs.declared.view.View.{View}
 use Rattle.vt_station.specs.Hands.{empty_hand, holding}
 use Rattle.vt_station.specs.Slots.{cell_count, word_at, cell_at, held_in, IsSlotOf}
-use Rattle.vt_station.specs.Kept.{Standing, positions_from, IsClaimed, Makes, Sits, Kept, first_view, left_view, next_view, first_or}
+use Rattle.vt_station.specs.Kept.{Standing, IsSeated, IsClaimed, Makes, Sits, Kept, first_view, left_view, next_view, first_or}
 use Rattle.vt_station.proofs.Cells.{not-empty}
-use Rattle.vt_station.proofs.Positions.{positions-others}
+use Rattle.vt_station.proofs.Growth.{grown-not, grown-before}
 
 -- ---- lists
 
@@ -40,7 +40,7 @@ head : {X : Type 0} (l : List X) (d : X) → 0 < length l → get_elem? l 0 ≡ 
 head [] d h = absurd (omega arith)
 head (y ∷ ys) d h = refl
 
-set-there : {X : Type 0} (xs : List X) (i : ℕ) (a b : X) → get_elem? xs i ≡ some a → get_elem? (set xs i b) i ≡ some b
+pub set-there : {X : Type 0} (xs : List X) (i : ℕ) (a b : X) → get_elem? xs i ≡ some a → get_elem? (set xs i b) i ≡ some b
 set-there [] i a b e = absurd (some-ne-none a (sym e))
 set-there (y ∷ ys) zero a b e = refl
 set-there (y ∷ ys) (suc i) a b e = set-there ys i a b e
@@ -111,6 +111,9 @@ module _ {S P : Type 0} (sim : Simulation S P) (config : Config) where
         (at_set s.views id j (left_view v) u there))
         (λ (new : (next_view v ≡ u) × (j ≡ length (set s.views id (left_view v)))). subst (Sits sim (parted s id v) r.log (r.made + 1) r.maker j) new.0 (new_sits j (new.1 ∙ length-set s.views id (left_view v))))
         (snoc-at (set s.views id (left_view v)) (next_view v) u j e);
+    seated = λ q less. dite (ℕ_discrete q r.made)
+        (λ e. record { seat = length (set s.views id (left_view v)); view = next_view v; there = at_last (set s.views id (left_view v)) (next_view v) (length (set s.views id (left_view v))) refl; worker = makes.next ∙ sym e })
+        (λ ne. was_seated (r.seated q (omega arith)));
     apart = λ i j a b e f same. joint i j a b (was i a e) (was j b f) same;
     alone = λ i j a b k c d e f ha hb. both i j a b k c d (was_held i a e) (was_held j b f) ha hb;
   }
@@ -125,6 +128,16 @@ module _ {S P : Type 0} (sim : Simulation S P) (config : Config) where
       makes : Makes sim r.made v
       makes = (r.each id v at).makes is_maker
 
+      was_seated : {q : ℕ} → IsSeated s q → IsSeated (parted s id v) q
+      was_seated p = dite (ℕ_discrete p.seat id)
+          (λ e. record {
+            seat = id;
+            view = left_view v;
+            there = at_longer (set s.views id (left_view v)) _ id (left_view v) (set-there s.views id v (left_view v) at);
+            worker = ap (λ (x : View P). x.worker) (some-injective v p.view (sym at ∙ (ap (get_elem? s.views) (sym e) ∙ p.there))) ∙ p.worker;
+          })
+          (λ ne. record { seat = p.seat; view = p.view; there = at_longer (set s.views id (left_view v)) _ p.seat p.view (set_else s.views id p.seat (left_view v) ne ∙ p.there); worker = p.worker })
+
       claimed_as : (k : ℕ) (cell : Cell P) → IsClaimed sim s r.log k cell → IsClaimed sim (parted s id v) r.log k cell
       claimed_as k cell g = record { near = g.near; word = g.word; away = g.away; shows = g.shows }
 
@@ -133,7 +146,7 @@ module _ {S P : Type 0} (sim : Simulation S P) (config : Config) where
         inside = (let l = t.inside in omega arith);
         part = t.part;
         mine = t.mine;
-        positions = t.positions;
+        grows = t.grows;
         seen = t.seen;
         holds = λ k cell e. claimed_as k cell (t.holds k cell e);
         makes = λ e. record {
@@ -149,7 +162,7 @@ module _ {S P : Type 0} (sim : Simulation S P) (config : Config) where
         inside = (let l = o.inside in omega arith);
         part = o.part;
         mine = o.mine;
-        positions = o.positions;
+        grows = o.grows;
         seen = o.seen;
         holds = λ k cell e. claimed_as k cell (o.holds k cell e);
         makes = λ e. absurd (ne (e ∙ sym is_maker));
@@ -167,7 +180,7 @@ module _ {S P : Type 0} (sim : Simulation S P) (config : Config) where
             ∙ opening-at v.made (let a = makes.all in let b = makes.next in omega arith)
             ∙ ap (λ p. Some p) (sym (makes.parts 0 (first_or v.part v.waiting) (head v.waiting v.part some_left) ∙ ap (opening_part sim 0) (let a = makes.next in let z : r.made + 0 ≡ v.made = omega arith in z)));
         mine = own-others sim v.made (opening_world sim 0) r.log fresh;
-        positions = positions-others v.made 0 r.log fresh;
+        grows = grown-before v.made r.log fresh;
         seen = omega arith;
         holds = λ k cell e. absurd (not-empty empty_hand k cell refl e);
         makes = λ e. absurd (let a = r.maker_there in let b = r.count in omega arith);
@@ -214,7 +227,7 @@ module _ {S P : Type 0} (sim : Simulation S P) (config : Config) where
       → ((k : ℕ) → k < sim.workers → content (opening_world sim 0) (inbox_of k) ≡ Some (in_inbox []))
       → ((k : ℕ) → k < cell_count sim.workers → (slot : Slot P) × (get_elem? (map some slots) k ≡ some (some slot)) × (content (opening_world sim 0) (cell_at sim.workers k) ≡ Some (held_in slot)) × IsSlotOf config k slot)
       → Kept sim config (tabled words slots (first_view sim))
-  unfolding run own_steps positions_from
+  unfolding run own_steps
   starts words slots some_worker wide deep blank_words empty full = record {
     log = [];
     made = 1;
@@ -230,6 +243,7 @@ module _ {S P : Type 0} (sim : Simulation S P) (config : Config) where
     taken = λ k l z. absurd (let zero_word = blank_words (word_at k) in omega arith);
     empty = λ k l z. empty k l;
     each = λ j v e. (let x = only j v e in subst (λ (z : ℕ × View P). Sits sim (tabled words slots (first_view sim)) [] 1 0 z.0 z.1) (λ i. (sym x.0 i, x.1 i)) first_sits);
+    seated = λ q less. record { seat = 0; view = first_view sim; there = refl; worker = omega arith };
     apart = λ i j a b e f _. (only i a e).0 ∙ sym (only j b f).0;
     alone = λ i j a b k c d e f _ _. (only i a e).0 ∙ sym (only j b f).0;
   }
@@ -243,7 +257,7 @@ module _ {S P : Type 0} (sim : Simulation S P) (config : Config) where
         inside = omega arith;
         part = opening-at 0 some_worker;
         mine = refl;
-        positions = refl;
+        grows = grown-not 0 [];
         seen = omega arith;
         holds = λ k cell e. absurd (not-empty empty_hand k cell refl e);
         makes = λ e. record {

@@ -1,6 +1,5 @@
 -- What the calls of a station answer and leave.
 use Rattle.std.specs.Prelude.{◌≡◌, ℕ, ◌+◌, ◌<◌, ◌≤◌, ◌⊎◌, true, false, List, [], ◌∷◌, ◌++◌, map, length, Option, Some, None, Result, Ok, Err, slice_get, IfSome}
-use Rattle.std.specs.List.{range_with_len}
 use Rattle.std.specs.Result.{IsErrAnd}
 use Rattle.vt_key.specs.Times.{Time, TimeAtMost, TimeBefore}
 use Rattle.vt_key.specs.declared.fault.Fault.{Fault}
@@ -23,7 +22,7 @@ use Rattle.vt_steps.specs.PartSteps.{letters_for}
 use Rattle.vt_steps.specs.Next.{next, run, reached, may_send}
 use Rattle.vt_steps.specs.Cells.{Cell, in_inbox, in_book, content, cell_of, act}
 use Rattle.vt_steps.specs.Laws.{IsAny}
-use Rattle.vt_steps.specs.Marked.{Marked, answered, made_done, Each, IsMarkedRight, own_steps_of, shown, has_cut_since, has_closed}
+use Rattle.vt_steps.specs.Marked.{Marked, marked, answered, made_done, Each, IsMarkedRight, own_steps_of, shown, has_cut_since, has_closed}
 use Rattle.vt_kernel.specs.Held.{HeldWorker, StandsFor}
 use Rattle.vt_kernel.specs.Local.{local_steps}
 use Rattle.vt_kernel.specs.Guards.{IsSendRefusal}
@@ -32,7 +31,7 @@ use Rattle.vt_station.specs.declared.slot.Slot.{Slot}
 use Rattle.vt_station.specs.declared.view.View.{View}
 use Rattle.vt_station.specs.Hands.{empty_hand, holding}
 use Rattle.vt_station.specs.Slots.{cell_at, held_in, IsSlotOf}
-use Rattle.vt_station.specs.Kept.{Sat, positions_of}
+use Rattle.vt_station.specs.Kept.{Sat, HasGrown}
 
 -- the floor that a place was shown: this one, if one was shown to it now
 abbrev pub seen_or : Time → Option Time → Time
@@ -53,7 +52,7 @@ module _ {P : Type 0} where
     pub same : IsSamePlace v w
     pub part : w.part ≡ v.part
     pub mine : w.mine ≡ v.mine
-    pub positions : w.positions ≡ v.positions
+    pub log : w.log ≡ v.log
 
   -- nothing but what it was shown is another, and it holds no cell
   pub record Unvisited (v : View P) (seen : Time) (w : View P) : Type 0 where
@@ -69,22 +68,23 @@ module _ {S P : Type 0} (sim : Simulation S P) where
     pub log : List Marked
     pub part : slice_get (shown sim log).parts v.worker ≡ Some v.part
 
-  -- a list of steps in which the place's are its own, and that shows its part and this in cell k: what a claim tells
+  -- a list of steps in which the place's are its own, which has grown at its end alone since the place left it, and that shows its
+  -- part and this in cell k: what a claim tells
   pub record Known (v : View P) (k : ℕ) (cell : Cell P) : Type 0 where
     pub log : List Marked
     pub right : Each (IsMarkedRight sim) log
     pub within : v.worker < sim.workers
     pub part : slice_get (shown sim log).parts v.worker ≡ Some v.part
     pub mine : own_steps_of sim v.worker log ≡ map answered v.mine
-    pub positions : positions_of v.worker log ≡ v.positions
+    pub grows : HasGrown v.worker v.log log
     pub seen : TimeAtMost v.seen (book_floor sim.end (shown sim log).book)
     pub shows : content (shown sim log) (cell_at sim.workers k) ≡ Some cell
     -- where there is one worker all steps are its own
     pub own : sim.workers ≡ 1 → Each (λ m. m.worker ≡ v.worker) log
 
   -- a step of the place at its cell, after local steps that led to this part: the cell held one thing after a list of steps in which
-  -- the place's are its own. The step is lawful, is answered so, and leaves the place's part and what the cell holds now. Local
-  -- steps and step stand right behind that list
+  -- the place's are its own. The step is lawful, is answered so, and leaves the place's part and what the cell holds now. The list
+  -- that the place leaves is that one with local steps and step right behind it
   pub record IsDoneAt (v : View P) (steps : List Step) (part : Part P) (step : Step) (reply : Reply) (w : View P) : Type 0 where
     pub cell : ℕ
     pub about : IsAny (cell_of step) (cell_at sim.workers cell)
@@ -92,7 +92,7 @@ module _ {S P : Type 0} (sim : Simulation S P) where
     pub now : Cell P
     pub known : Known v cell found
     pub gives : act sim step part found ≡ record { part = w.part; cell = now; answer = Ok reply }
-    pub positions : w.positions ≡ v.positions ++ range_with_len (length known.log) (length steps + 1)
+    pub log : w.log ≡ known.log ++ marked v.worker (steps ++ step ∷ [])
 
   -- a close is one more of the place's own steps, and its part stays
   pub record Closes (v : View P) (seen : Time) (w : View P) : Type 0 where
@@ -240,10 +240,15 @@ module _ {S P : Type 0} (sim : Simulation S P) where
       ⊎ (IsRefusedBy v Close fault × (((fault ≡ Closed) × (v.part.floor ≡ sim.end)) ⊎ ((fault ≡ NotLawful) × TimeBefore v.seen sim.end)))
 
 module _ {S P : Type 0} (sim : Simulation S P) where
-  -- where there is one worker: what the definitions refuse after the place's own steps and these local steps is refused so
+  -- the definitions refuse a step so after the place's own steps and these local steps
+  abbrev pub IsRefusedAfter : View P → List Step → Step → Fault → Type 0
+  IsRefusedAfter v steps step fault = (next sim (run sim (reached sim 0 (map (λ m. m.step) v.mine)) steps) step).answer ≡ Err fault
+
+  -- where there is one worker: what they refuse is refused so, and as not lawful or as closed nothing else is
   abbrev pub IsRefusedAlone : {X : Type 0} → View P → List Step → Step → Result X Fault → Type 0
   IsRefusedAlone v steps step result =
-      sim.workers ≡ 1 → (fault : Fault) → (next sim (run sim (reached sim 0 (map (λ m. m.step) v.mine)) steps) step).answer ≡ Err fault → result ≡ Err fault
+      sim.workers ≡ 1 → (fault : Fault) → (IsRefusedAfter v steps step fault → result ≡ Err fault)
+      × ((fault ≡ NotLawful) ⊎ (fault ≡ Closed) → result ≡ Err fault → IsRefusedAfter v steps step fault)
 
 -- ---- what the book shows
 

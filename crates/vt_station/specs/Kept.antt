@@ -1,6 +1,6 @@
 -- What holds of a station between any two atomic steps: there is a list of steps, each marked with its worker, whose run from
 -- the opening world gives the world that the cells and the places show; and each place's own steps are those of its worker.
-use Rattle.std.specs.Prelude.{◌≡◌, ◌≢◌, ℕ, ◌+◌, ◌-◌, ◌<◌, ◌≤◌, nat_eq, if◌then◌else◌, List, [], ◌∷◌, map, length, drop, slice_get, slice_index, Some}
+use Rattle.std.specs.Prelude.{◌≡◌, ◌≢◌, ℕ, ◌+◌, ◌-◌, ◌<◌, ◌≤◌, List, [], ◌∷◌, ◌++◌, map, length, drop, slice_get, slice_index, Some}
 use Rattle.std.specs.List.{range_with_len}
 use mathlib.Core.Option.{none, some}
 use lib.ListN.{get_elem?}
@@ -24,14 +24,11 @@ Standing P = State (Slot P) (View P)
 abbrev pub Sat : Type 0 → Type 0
 Sat P = Me (Slot P) (View P)
 
--- where the steps of worker w stand in a list of steps, of which the first stands at i
-unfoldable pub positions_from : ℕ → ℕ → List Marked → List ℕ
-positions_from w i [] = []
-positions_from w i (m ∷ marks) = if nat_eq m.worker w then i ∷ positions_from w (i + 1) marks else positions_from w (i + 1) marks
-
--- where they stand in the list of all steps
-abbrev pub positions_of : ℕ → List Marked → List ℕ
-positions_of w log = positions_from w 0 log
+-- a list of steps is a former one with more steps behind it, none of which worker w has made
+pub record HasGrown (w : ℕ) (former log : List Marked) : Type 0 where
+  pub since : List Marked
+  pub whole : log ≡ former ++ since
+  pub others : Each (λ m. ¬ (m.worker ≡ w)) since
 
 -- cell k is held by a seat
 pub record IsHeld {P : Type 0} (s : Standing P) (k : ℕ) : Type 0 where
@@ -40,6 +37,13 @@ pub record IsHeld {P : Type 0} (s : Standing P) (k : ℕ) : Type 0 where
   pub cell : Cell P
   pub there : get_elem? s.views seat ≡ some view
   pub hand : view.hand ≡ holding k cell
+
+-- worker q has a seat
+pub record IsSeated {P : Type 0} (s : Standing P) (q : ℕ) : Type 0 where
+  pub seat : ℕ
+  pub view : View P
+  pub there : get_elem? s.views seat ≡ some view
+  pub worker : view.worker ≡ q
 
 module _ {S P : Type 0} (sim : Simulation S P) where
   -- cell k is claimed by a place, which found this in it: its word says so, its slot is not at home, and the shown world has it
@@ -55,13 +59,13 @@ module _ {S P : Type 0} (sim : Simulation S P) where
     pub all : made + length v.waiting ≡ sim.workers
     pub parts : (i : ℕ) (part : Part P) → get_elem? v.waiting i ≡ some part → part ≡ opening_part sim 0 (made + i)
 
-  -- what is said of the seat j with the view v: the shown world has its part, the list's steps of its worker are its own and stand
-  -- where it knows, and the book's floor is not below the one that it was shown
+  -- what is said of the seat j with the view v: the shown world has its part, the list's steps of its worker are its own, the list
+  -- is the one that it left with steps of others behind it, and the book's floor is not below the one that it was shown
   pub record Sits (s : Standing P) (log : List Marked) (made maker j : ℕ) (v : View P) : Type 0 where
     pub inside : v.worker < made
     pub part : slice_get (shown sim log).parts v.worker ≡ Some v.part
     pub mine : own_steps_of sim v.worker log ≡ map answered v.mine
-    pub positions : positions_of v.worker log ≡ v.positions
+    pub grows : HasGrown v.worker v.log log
     pub seen : TimeAtMost v.seen (book_floor sim.end (shown sim log).book)
     pub holds : (k : ℕ) (cell : Cell P) → v.hand ≡ holding k cell → IsClaimed s log k cell
     pub makes : j ≡ maker → Makes made v
@@ -95,7 +99,8 @@ module _ {S P : Type 0} (sim : Simulation S P) where
       -- an inbox whose word says that it is empty is empty
       pub empty : (k : ℕ) → k < sim.workers → slice_index s.words (word_at k) ≡ empty_word → content (shown sim log) (inbox_of k) ≡ Some (in_inbox [])
       pub each : (j : ℕ) (v : View P) → get_elem? s.views j ≡ some v → Sits s log made maker j v
-      -- no two seats are of one worker, and none hold one cell
+      -- each worker that has a place has a seat. No two seats are of one worker, and none hold one cell
+      pub seated : (q : ℕ) → q < made → IsSeated s q
       pub apart : (i j : ℕ) (v w : View P) → get_elem? s.views i ≡ some v → get_elem? s.views j ≡ some w → v.worker ≡ w.worker → i ≡ j
       pub alone : (i j : ℕ) (v w : View P) (k : ℕ) (c d : Cell P) → get_elem? s.views i ≡ some v → get_elem? s.views j ≡ some w → v.hand ≡ holding k c → w.hand ≡ holding k d → i ≡ j
 
@@ -103,7 +108,7 @@ module _ {S P : Type 0} (sim : Simulation S P) where
 
 -- the view of a place that is made: it has its part, and has made no step
 abbrev pub blank : {P : Type 0} → ℕ → Part P → View P
-blank worker part = record { marker = record {}; worker = worker; part = part; mine = []; positions = []; seen = opening_time; hand = empty_hand; made = 0; waiting = [] }
+blank worker part = record { marker = record {}; worker = worker; part = part; mine = []; log = []; seen = opening_time; hand = empty_hand; made = 0; waiting = [] }
 
 -- the view of the first place, which makes the others
 abbrev pub first_view : {S P : Type 0} → Simulation S P → View P

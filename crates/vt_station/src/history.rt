@@ -1,21 +1,25 @@
 //! The list of all steps, as the places of a station know it.
 
-ghost use Rattle.std.specs.Prelude.{◌≡◌, ℕ, ◌<◌, List, ◌++◌, length};
-ghost use Rattle.std.specs.List.{range_with_len};
+ghost use Rattle.std.specs.Prelude.{◌≡◌, ℕ, ◌<◌, List, ◌++◌, set};
+ghost use mathlib.Core.Option.{some};
+ghost use lib.ListN.{get_elem?};
+ghost use Rattle.vt_model.specs.declared.settings.Config.{Config};
 ghost use Rattle.vt_model.specs.Simulation.{Simulation};
 ghost use Rattle.vt_steps.specs.declared.step.Step.{Step};
-ghost use Rattle.vt_steps.specs.Marked.{Marked, marked, Each, own_steps_of};
-ghost use Rattle.vt_station.specs.Kept.{positions_of};
+ghost use Rattle.vt_steps.specs.Marked.{Marked, marked, Each};
+ghost use Rattle.vt_station.specs.declared.view.View.{View};
+ghost use Rattle.vt_station.specs.Kept.{Standing, HasGrown, Kept};
 
-/// What the places know tells the list of all steps: two lists are one where each worker has the same steps in both, with the
-/// same answers and at the same positions. So the list grows at its end alone: where one worker has more steps, at positions
-/// behind all others, and the other workers have the same as before, it is the former list with these steps behind it.
+/// The list of all steps grows at its end alone. What the places left of it tells it: two lists of steps of so many workers
+/// are one, where each worker's place left a beginning of both, behind which the worker has made no step (`told`). So there
+/// is one list at each state of the table that keeps the rule (`one`). A visit changes one place's view, and leaves the list
+/// with its steps behind it: that is the list at the next state (`next`).
 pub fn places_tell_the_list<S, P>()
     ghost sim: { Simulation S P }
     ensures told { (workers : ℕ) (log other : List Marked) → Each (λ m. m.worker < workers) log → Each (λ m. m.worker < workers) other →
-        ((q : ℕ) → q < workers → (positions_of q log ≡ positions_of q other) × (own_steps_of sim q log ≡ own_steps_of sim q other)) → log ≡ other }
-    ensures grows { (workers w : ℕ) (log other : List Marked) (steps : List Step) → Each (λ m. m.worker < workers) log → Each (λ m. m.worker < workers) other → w < workers →
-        ((q : ℕ) → q < workers → ¬ (q ≡ w) → (positions_of q other ≡ positions_of q log) × (own_steps_of sim q other ≡ own_steps_of sim q log)) →
-        positions_of w other ≡ positions_of w log ++ range_with_len (length log) (length steps) →
-        own_steps_of sim w other ≡ own_steps_of sim w (log ++ marked w steps) → other ≡ log ++ marked w steps }
+        ((q : ℕ) → q < workers → (former : List Marked) × HasGrown q former log × HasGrown q former other) → log ≡ other }
+    ensures one { (config : Config) (s : Standing P) (k l : Kept sim config s) → k.log ≡ l.log }
+    ensures next { (config : Config) (s t : Standing P) (id : ℕ) (v w : View P) (steps : List Step) (k : Kept sim config s) (l : Kept sim config t) →
+        get_elem? s.views id ≡ some v → t.views ≡ set s.views id w → w.worker ≡ v.worker →
+        w.log ≡ k.log ++ marked v.worker steps → l.log ≡ k.log ++ marked v.worker steps }
 {}

@@ -4,7 +4,7 @@ ghost use Rattle.std.specs.Prelude.{ℕ, List, Option};
 ghost use base.Fml.{ftrue};
 ghost use Rattle.vt_key.specs.Times.{Time};
 ghost use Rattle.vt_steps.specs.World.{Part};
-ghost use Rattle.vt_steps.specs.Marked.{Made};
+ghost use Rattle.vt_steps.specs.Marked.{Made, Marked};
 ghost use Rattle.vt_station.specs.Hands.{Hand};
 
 use std::marker::{Model, PhantomData};
@@ -17,8 +17,8 @@ pub(crate) struct View<P> {
     pub(crate) ghost part: { Part P },
     // The worker's steps, with the reply to each.
     pub(crate) ghost mine: { List Made },
-    // The position of each of them in the list of all steps.
-    pub(crate) ghost positions: { List ℕ },
+    // The list of all steps, as the last of them left it.
+    pub(crate) ghost log: { List Marked },
     // A floor of the book that this place was shown.
     pub(crate) ghost seen: { Time },
     // The cell that the place has claimed, and what the cell held then.
