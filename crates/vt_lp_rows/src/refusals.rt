@@ -9,30 +9,6 @@ use vt_list::Parcel;
 use vt_model::Config;
 use vt_models::{Hop, Token};
 
-/// An event that sends takes three nodes: for its message, its anti-message and itself among the past. With
-/// `rt try vt_lp_rows --test --fail-alloc N` the Nth allocation fails: a refused execute leaves all as it was, and succeeds
-/// when it is tried again.
-#[test]
-fn a_refused_execute_is_taken_back(rt: HostRuntime) {
-    let model = Hop::new(1, 0, 1, 0).expect(&rt, "options");
-    let config = Config::new(1, 1, 10, 0).expect(&rt, "config");
-    let Ok(mut stage) = Stage::new(rt.alloc(), &model, config, 0, 0) else {
-        return;
-    };
-    stage.accepts_own(&rt);
-    let executed = stage.execute(rt.alloc(), &model);
-    if executed == Err(Fault::Memory) {
-        is_as_before(&rt, &stage, 1);
-        stage.executes(&rt, &model);
-    } else {
-        assert_eq!(rt; executed, Ok(()));
-    }
-    stage.shows(&rt, 1, 2, 2);
-    stage.goes_on_at(&rt, 2, 0);
-    stage.sends(&rt, &[(Sign::Plus, (2, 0, 1), (0, 1))]);
-    stage.has(&rt, 1, 0, 0);
-}
-
 // The process has its own token and nothing else, and its next serial is this.
 fn is_as_before(rt: &impl Abort, stage: &Stage<Hop>, serial: u64) {
     stage.shows(rt, 0, 1, serial);

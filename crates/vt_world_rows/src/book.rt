@@ -266,25 +266,6 @@ fn rows_of_one_time_are_in_order_too(rt: HostRuntime) {
     shows(&rt, &book, &expected);
 }
 
-// With `rt try --test --fail-alloc N` the Nth allocation fails: a refused hand-in leaves the book as it was, and succeeds when
-// it is tried again. (The other tests take memory to be there.)
-#[test]
-fn refused_hand_ins_change_nothing(rt: HostRuntime) {
-    let mut book = Book::new(rt.alloc(), 2, When::tick(1000));
-    for n in 0..40 {
-        let worker = n % 2;
-        let floor = u64::from(n / 2) * 10 + 10;
-        let rows = [row(floor - 1, worker, 0), row(floor - 10, worker, 1)];
-        let before = (book.floor(), records(&rt, &book));
-        if book.hand(worker, &rows, When::tick(floor)) == Err(Fault::Memory) {
-            assert!(rt; before == (book.floor(), records(&rt, &book)));
-            hands(&rt, &mut book, worker, &rows, floor, Ok(()));
-        }
-    }
-    has_floor(&rt, &book, 200);
-    assert_eq!(rt; records(&rt, &book).len(), 80);
-}
-
 // Random numbers below 1000, by a linear congruence.
 #[derive(Drop)]
 struct Draws(u64);
