@@ -31,7 +31,8 @@ pub(crate) struct Worker {
 pub(crate) type ProcessTold = (u64, u64, usize, usize);
 
 impl Worker {
-    fn new(
+    /// A worker at the opening, whose next serial is 0.
+    pub(crate) fn new(
         rt: &(impl Abort + AllocGlobal),
         model: Hop,
         config: Config,
@@ -50,20 +51,50 @@ impl Worker {
         }
     }
 
-    fn execute(&mut self, rt: &impl AllocGlobal, p: u32) -> Result<(), Fault> {
+    /// A worker at the opening, whose starts are stamped from this serial on.
+    pub(crate) fn with_serial(
+        rt: &(impl Abort + AllocGlobal),
+        model: Hop,
+        config: Config,
+        number: u32,
+        serial: u64,
+    ) -> Result<Worker, Fault> {
+        assert!(rt; number < config.workers && serial <= 1 << 63);
+        match Kernel::with_serial(rt.alloc(), &model, config, number, serial) {
+            Ok(kernel) => Ok(Worker {
+                kernel,
+                inbox: Vec::new(rt.alloc()),
+                model,
+                config,
+                number,
+            }),
+            Err(fault) => Err(fault),
+        }
+    }
+
+    /// Executes the least event of process `p`.
+    pub(crate) fn execute(&mut self, rt: &impl AllocGlobal, p: u32) -> Result<(), Fault> {
         self.kernel.execute(rt.alloc(), &self.model, p)
     }
 
-    fn undo(&mut self, p: u32) -> Result<(), Fault> {
+    /// Undoes the last past event of process `p`.
+    pub(crate) fn undo(&mut self, p: u32) -> Result<(), Fault> {
         self.kernel.undo(&self.model, p)
     }
 
-    fn cancel(&mut self, p: u32, stamp: Stamp) -> Result<(), Fault> {
+    /// Annihilates a message and its anti-message at process `p`.
+    pub(crate) fn cancel(&mut self, p: u32, stamp: Stamp) -> Result<(), Fault> {
         self.kernel.cancel(p, stamp)
     }
 
-    fn home(&mut self) -> Result<(), Fault> {
+    /// Takes the first letter for a process of its own to it.
+    pub(crate) fn home(&mut self) -> Result<(), Fault> {
         self.kernel.home()
+    }
+
+    /// All letters for worker `v` go behind this mail.
+    pub(crate) fn letters_for(&mut self, v: u32, mail: &mut Vec<Mail<Token>>) -> Result<(), Fault> {
+        self.kernel.letters_for(v, mail)
     }
 
     fn accept(&mut self, rt: &impl AllocGlobal, i: u64) -> Result<(), Fault> {

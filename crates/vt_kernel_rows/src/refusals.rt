@@ -1,5 +1,7 @@
 //! What is refused for want of serials, and what is left then. What a refusal for memory leaves, `refusals_demo` tells.
 
+use crate::pair::Worker;
+use std::process::Abort;
 use std::rt::{self, HostRuntime};
 use vt_kernel::Kernel;
 use vt_key::Fault;
@@ -27,22 +29,27 @@ fn whole(worker: &Kernel<Hop>) -> Whole {
     )
 }
 
+fn is_whole(rt: &impl Abort, worker: &Worker, want: Whole) {
+    assert_eq!(rt; whole(&worker.kernel), want);
+}
+
+fn is_answered(rt: &impl Abort, answer: Result<(), Fault>, want: Result<(), Fault>) {
+    assert_eq!(rt; answer, want);
+}
+
 #[test]
 fn serials_end_at_their_limit(rt: HostRuntime) {
     let limit = 1 << 63;
     let model = Hop::new(1, 0, 1, 0).expect(&rt, "options");
     let config = Config::new(1, 1, 10, 0).expect(&rt, "config");
-    let refused = Kernel::with_serial(rt.alloc(), &model, config, 0, limit);
+    let refused = Worker::with_serial(&rt, model, config, 0, limit);
     assert_eq!(rt; refused.err(), Some(Fault::Exhausted));
-    let made = Kernel::with_serial(rt.alloc(), &model, config, 0, limit - 1);
+    let made = Worker::with_serial(&rt, model, config, 0, limit - 1);
     let mut worker = made.expect(&rt, "memory");
-    assert_eq!(rt; worker.home(), Ok(()));
+    is_answered(&rt, worker.home(), Ok(()));
     let before = (Some(0), Some(1), Some(0), limit, 0, Some(1));
-    assert_eq!(rt; whole(&worker), before);
-    assert_eq!(rt;
-        worker.execute(rt.alloc(), &model, 0),
-        Err(Fault::Exhausted)
-    );
-    assert_eq!(rt; whole(&worker), before);
-    assert_eq!(rt; worker.next(), Some(0));
+    is_whole(&rt, &worker, before);
+    is_answered(&rt, worker.execute(&rt, 0), Err(Fault::Exhausted));
+    is_whole(&rt, &worker, before);
+    worker.chooses(&rt, Some(0));
 }
