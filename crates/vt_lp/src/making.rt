@@ -14,6 +14,8 @@ use vt_model::Sent;
 /// `serial` on.
 ///
 /// [`Fault::Memory`]: memory was refused.
+// An event mostly sends one letter, and a call costs as much as making it.
+#[inline(always)]
 pub(crate) fn letters<P: Copy, K: Copy>(
     alloc: Global,
     spare: &mut Spare<P, K>,

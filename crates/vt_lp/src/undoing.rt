@@ -26,6 +26,8 @@ impl<M: EventModel> Lp<M> {
     ///
     /// [`Fault::NotLawful`]: there is no past event, or no letter forces the undo of the last one: no pending message
     /// is before it, and every waiting anti-message is after it. Nothing changes.
+    // Mostly nothing forces an undo, and one comparison tells it.
+    #[inline(always)]
     pub fn undo(&mut self, model: &M, outbox: &mut List<Letter<M::Payload>>) -> Result<(), Fault>
         ensures done { (h : LogicalProcess _) → StandsFor (M.handlers model.now) self.old h → IfOk result (λ _. IsDone (M.handlers model.now) self.new (undo_process h) outbox.old outbox.new 0 0) }
         ensures refused { (h : LogicalProcess _) → StandsFor (M.handlers model.now) self.old h → IfErr result (λ fault. undo_process h ≡ None) }

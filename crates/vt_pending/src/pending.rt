@@ -168,6 +168,8 @@ impl<P: Copy> Pending<P> {
     }
 
     // What `holds` tells. The clause `rising` is for `insert_new`.
+    // Mostly a bit of the mask tells it, and a call would copy the rank.
+    #[inline(always)]
     fn is_held(&self, rank: Rank) -> bool
         ensures held { result ≡ holds_rank rank self.now }
         ensures rising { IsRising self.now }
