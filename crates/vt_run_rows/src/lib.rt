@@ -1,4 +1,5 @@
-//! Whole runs by workers in threads: worked examples, runs that stop, what watches a run, and random runs beside the sequential simulator.
+//! Whole runs by workers in threads: runs that stop, what watches a run, and random runs beside the sequential simulator. Worked runs on
+//! workers go through the whole program, in `vt_replay_rows`.
 #![tactic(auto)]
 
 #[cfg(test)]
@@ -13,5 +14,3 @@ mod running;
 mod stopped;
 #[cfg(test)]
 mod watching;
-#[cfg(test)]
-mod worked;

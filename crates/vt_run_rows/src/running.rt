@@ -58,24 +58,6 @@ where
     }
 }
 
-/// The run goes to its end and has these records, on one worker, two and three.
-pub fn gives_on_few<R: Abort + AllocGlobal + Threads + Wait + Sync, M: EventModel + Sync>(
-    rt: &R,
-    model: &M,
-    lps: u32,
-    end: u64,
-    want: &[Record],
-)
-where
-    M::State: Send,
-    M::Kept: Send,
-{
-    for workers in 1..4u32 {
-        let config = Config::new(lps, workers, end, 0).expect(rt, "config");
-        gives(rt, model, config, &Unwatched, want);
-    }
-}
-
 /// The run has the records of the sequential simulator.
 pub fn agrees<R: Abort + AllocGlobal + Threads + Wait + Sync, M: EventModel + Sync>(
     rt: &R,
