@@ -3,11 +3,11 @@ use Rattle.std.proofs.Common.{◌≡◌, ℕ, ◌+◌, ◌-◌, ◌/◌, ◌^◌
 use Rattle.std.proofs.lemmas.List.{get_or-set_other, length-set}
 use Rattle.std.proofs.lemmas.Bool.{cases_order}
 use Rattle.vt_key.specs.declared.order.Rank.{Rank}
-use Rattle.vt_tournament.specs.Contest.{Node, is_ahead, is_ahead_by, contestant, node_of, Fits, inner_places, last_place, place, node, IsBelow, IsAbove, IsWinner, IsBest, AreWinners, WasTournamentOf}
+use Rattle.vt_tournament.specs.Contest.{Node, is_ahead, is_ahead_by, contestant, node_of, Fits, inner_places, last_place, place, node, IsBelow, IsAbove, IsWinner, IsBest, AreWinners, WasTournamentOf, IsChanged, IsCarried}
 use Rattle.vt_tournament.proofs.AheadLemmas.{NotBehind, not_behind-transitive, not_behind-same, behind-none}
 use Rattle.vt_tournament.proofs.NodeLemmas.{somebody, ranked-known}
 use Rattle.vt_tournament.proofs.PathLemmas.{above-self, above-low, above-next, above-transitive, between, upward}
-use Rattle.vt_tournament.proofs.TreeLemmas.{node-set_same, node-set_other, winner-own_place, winner-best}
+use Rattle.vt_tournament.proofs.TreeLemmas.{IsAheadOfTwo, node-set_same, node-set_other, winner-own_place, winner-best}
 
 order : (a b : ℕ) → (a < b) ⊎ (b ≤ a)
 order a b = elim (cases_order a b) [ inl e ↦ inr (omega (arith, e)) | inr h ↦ elim h [ inl x ↦ inl x | inr x ↦ inr (omega (arith, x)) ] ]
@@ -72,9 +72,9 @@ module _ (ranks : List (Option Rank)) (number : ℕ) (entry : Option Rank) (know
 
   -- ---- where another one than the changed contestant wins at a place of its way as before
 
-  module _ (few : length ranks ≤ 2 ^ 23) (p : ℕ) (w : Node) (path : IsAbove p (place ranks number)) (won : IsWinner ranks p w) (had_won : IsWinner (slice_set ranks number entry) p w) (another : w.number ≡ number → ⊥) where
+  module _ (few : length ranks ≤ 2 ^ 23) (p : ℕ) (w : Node) (path : IsAbove p (place ranks number)) (had_won : IsWinner (slice_set ranks number entry) p w) (another : w.number ≡ number → ⊥) where
     -- the changed contestant won at no place above
-    not_above : (k : ℕ) (v : Node) → k ≤ p → IsWinner (slice_set ranks number entry) k v → v.number ≡ number → ⊥
+    pub not_above : (k : ℕ) (v : Node) → k ≤ p → IsWinner (slice_set ranks number entry) k v → v.number ≡ number → ⊥
     not_above k v low had e =
         let found = somebody (slice_set ranks number entry) v had.fits (λ n. omega (arith, few, known, e, n)) in
         let at : IsAbove p (place (slice_set ranks number entry) v.number) = subst (IsAbove p) (sym (place-set v.number ∙ ap (place ranks) e)) path in
@@ -86,8 +86,8 @@ module _ (ranks : List (Option Rank)) (number : ℕ) (entry : Option Rank) (know
         another (not_behind-same (contestant (slice_set ranks number entry) w.number) (contestant (slice_set ranks number entry) v.number) behind ahead ∙ e)
 
     -- so who won there wins still
-    pub above_it : (k : ℕ) (v : Node) → k ≤ p → IsWinner (slice_set ranks number entry) k v → IsWinner ranks k v
-    above_it k v low had = kept k v (not_above k v low had) ahead had where
+    pub above_it : IsWinner ranks p w → (k : ℕ) (v : Node) → k ≤ p → IsWinner (slice_set ranks number entry) k v → IsWinner ranks k v
+    above_it won k v low had = kept k v (not_above k v low had) ahead had where
       ahead : (rank : Rank) → slice_index_or ranks number None ≡ Some rank → IsAbove k (place ranks number) → NotBehind (contestant ranks v.number) (contestant ranks number)
       ahead rank is there =
           let behind : NotBehind (contestant ranks w.number) (contestant ranks number) = won.least number rank is path in
@@ -99,16 +99,6 @@ module _ (ranks : List (Option Rank)) (number : ℕ) (entry : Option Rank) (know
           not_behind-transitive (contestant ranks v.number) (contestant ranks w.number) (contestant ranks number) first behind
 
 -- ---- from one place on
-
--- the entry of this contestant was changed, and the places from this one on, which is the contestant's own or above it,
--- have their winners anew
-pub record IsChanged (ranks : List (Option Rank)) (number at : ℕ) (nodes : List Node) : Type 0 where
-  pub entry : Option Rank
-  pub path : IsAbove at (place ranks number)
-  pub high : at ≤ last_place (length ranks)
-  pub full : length nodes ≡ last_place (length ranks) + 1
-  pub before : (k : ℕ) → k < at → IsWinner (slice_set ranks number entry) k (node nodes k)
-  pub won : (k : ℕ) → at ≤ k → k ≤ last_place (length ranks) → IsWinner ranks k (node nodes k)
 
 -- all places have their winners where no place is before
 pub ended : (ranks : List (Option Rank)) (number : ℕ) (nodes : List Node) → IsChanged ranks number 0 nodes → AreWinners ranks nodes
@@ -166,18 +156,68 @@ module _ (ranks : List (Option Rank)) (number : ℕ) (nodes : List Node) (few : 
       gone_on =
           written ((at - 1) / 2) w c.entry next_path c.full (omega (arith, next_inner)) there (λ k l. c.before k (omega (arith, l, more))) after_next
 
-      -- where another one wins as before, all above stays
-      pub stopped : (w.number ≡ number → ⊥) → w.number ≡ (node nodes ((at - 1) / 2)).number → AreWinners ranks nodes
-      stopped another as_before =
-          let p : ℕ = (at - 1) / 2 in
-          let had_won : IsWinner (slice_set ranks number c.entry) p (node nodes p) = c.before p (omega (arith, more)) in
-          let differs : (node nodes p).number ≡ number → ⊥ = λ e. another (as_before ∙ e) in
-          let is : w ≡ node nodes p = there.fits ∙ ap (λ (n : ℕ). node_of (contestant ranks n)) as_before ∙ sym (fits-set ranks number c.entry known (node nodes p) differs had_won.fits) in
-          let won : IsWinner ranks p (node nodes p) = subst (IsWinner ranks p) is there in
-          record {
-            full = c.full;
-            won = λ k h. elim (order p k) [
-              | inl l ↦ after_next k l h
-              | inr l ↦ above_it ranks number c.entry known few p (node nodes p) next_path won had_won differs k (node nodes k) l (c.before k (omega (arith, l, more)))
-            ];
-          }
+    -- ---- where another one had won at the next place
+
+    module _ (another : (node nodes ((at - 1) / 2)).number ≡ number → ⊥) where
+      had : IsWinner (slice_set ranks number c.entry) ((at - 1) / 2) (node nodes ((at - 1) / 2))
+      had = c.before ((at - 1) / 2) (omega (arith, more))
+
+      pub held_fits : Fits ranks (node nodes ((at - 1) / 2))
+      held_fits = fits-set ranks number c.entry known (node nodes ((at - 1) / 2)) another had.fits
+
+      module _ (w : Node) (own : w ≡ node nodes at) where
+        here : IsWinner ranks at w
+        here = subst (IsWinner ranks at) (sym own) (c.won at (omega arith) c.high)
+
+        pub carried_fits : Fits ranks w
+        carried_fits = here.fits
+
+        -- who isn't behind that one wins there
+        wins : NotBehind (contestant ranks w.number) (contestant ranks (node nodes ((at - 1) / 2)).number) → IsWinner ranks ((at - 1) / 2) w
+        wins ahead = record {
+          fits = here.fits;
+          placed = λ l. above-next at (place ranks w.number) (here.placed l);
+          least = λ i rank is path. elim (cases_order i number) [
+            | inl e ↦ here.least i rank is (subst (λ (n : ℕ). IsAbove at (place ranks n)) (sym e) c.path)
+            | inr m ↦
+                let differs : i ≡ number → ⊥ = λ e. elim m [ inl x ↦ omega (arith, x, e) | inr x ↦ omega (arith, x, e) ] in
+                not_behind-transitive (contestant ranks w.number) (contestant ranks (node nodes ((at - 1) / 2)).number) (contestant ranks i) ahead
+                (not_behind-set ranks number c.entry known (node nodes ((at - 1) / 2)).number i another differs
+                (had.least i rank (same_entry ranks number c.entry known i differs ∙ is) (subst (IsAbove ((at - 1) / 2)) (sym (place-set ranks number c.entry known i)) path)))
+          ];
+        }
+
+        -- a node is the better of the two
+        module _ (best : Node) (of : IsAheadOfTwo ranks w (node nodes ((at - 1) / 2)) best) where
+          -- where it isn't who had won there, the winner is carried on
+          pub gone_up : (best.number ≡ (node nodes ((at - 1) / 2)).number → ⊥) → IsCarried ranks ((at - 1) / 2) (slice_set nodes ((at - 1) / 2) w) w
+          gone_up new =
+              let p : ℕ = (at - 1) / 2 in
+              let is : best ≡ w = elim of.one [ inl e ↦ e | inr e ↦ absurd (new (ap (λ (n : Node). n.number) e)) ] in
+              let ahead : NotBehind (contestant ranks w.number) (contestant ranks (node nodes p).number) = subst (λ (n : Node). NotBehind (contestant ranks n.number) (contestant ranks (node nodes p).number)) is of.second in
+              record {
+                number = number;
+                known = known;
+                changed = written p w c.entry next_path c.full (omega (arith, next_inner)) (wins ahead) (λ k l. c.before k (omega (arith, l, more))) after_next;
+                own = sym (node-set_same nodes p w (omega (arith, next_inner, c.full)));
+                another = λ above e.
+                    let kept_there : node (slice_set nodes p w) ((p - 1) / 2) ≡ node nodes ((p - 1) / 2) = node-set_other nodes p ((p - 1) / 2) w (λ same. omega (arith, same, above)) in
+                    not_above ranks number c.entry known few p (node nodes p) next_path had another ((p - 1) / 2) (node nodes ((p - 1) / 2)) (omega (arith, above)) (c.before ((p - 1) / 2) (omega (arith, above, more)))
+                    (ap (λ (n : Node). n.number) (sym kept_there) ∙ e);
+              }
+
+          -- and where it is, all above stays
+          pub stayed : best.number ≡ (node nodes ((at - 1) / 2)).number → AreWinners ranks nodes
+          stayed as_before =
+              let p : ℕ = (at - 1) / 2 in
+              let ahead : NotBehind (contestant ranks (node nodes p).number) (contestant ranks w.number) = subst (λ (n : ℕ). NotBehind (contestant ranks n) (contestant ranks w.number)) as_before of.first in
+              let won : IsWinner ranks p (node nodes p) =
+              kept ranks number c.entry known p (node nodes p) another
+              (λ rank is path. not_behind-transitive (contestant ranks (node nodes p).number) (contestant ranks w.number) (contestant ranks number) ahead (here.least number rank is c.path)) had in
+              record {
+                full = c.full;
+                won = λ k h. elim (order p k) [
+                  | inl l ↦ after_next k l h
+                  | inr l ↦ above_it ranks number c.entry known few p (node nodes p) next_path had another won k (node nodes k) l (c.before k (omega (arith, l, more)))
+                ];
+              }

@@ -4,6 +4,7 @@ use Rattle.std.proofs.lemmas.Bool.{cases_order, lt-ltb, le-ltb, eq-eqb, eqb-true
 use Rattle.std.proofs.lemmas.List.{get_or_past}
 use Rattle.vt_key.specs.declared.order.Rank.{Rank}
 use Rattle.vt_key.specs.Order.{rank_before}
+use Rattle.vt_key.specs.Times.{priority_of}
 use Rattle.vt_key.proofs.OrderLemmas.{before-rank_before}
 use Rattle.vt_tournament.specs.Contest.{Node, Contestant, contestant, is_ahead, is_ahead_by, first_time, first_source, nobodys_number, number_of, node_of, packed, unpacked, IsSmall}
 use Rattle.vt_tournament.proofs.AheadLemmas.{tested, not_behind-ahead}
@@ -22,41 +23,12 @@ lesser (Some x) i None j e h r = refl
 lesser None i (Some y) j e h r = absurd (omega (arith, h, r))
 lesser None i None j e h r = absurd (omega (arith, h))
 
--- nodes with one time and one source begin alike
-pub begins-alike : (a b : Node) → a.time ≡ b.time → a.source ≡ b.source → (nat_eq a.time b.time && nat_eq a.source b.source) ≡ true
-begins-alike a b time source = λ i. eq-eqb a.time b.time time i && eq-eqb a.source b.source source i
+-- nodes with one time and one source share the source
+pub shared : (a b : Node) → a.time ≡ b.time → a.source ≡ b.source → (nat_eq (priority_of a.time) (priority_of b.time) && nat_eq a.source b.source) ≡ true
+shared a b time source = λ i. eq-eqb (priority_of a.time) (priority_of b.time) (ap priority_of time) i && eq-eqb a.source b.source source i
 
-different : (x y : ℕ) → (x ≡ y → ⊥) → nat_eq x y ≡ false
-different x y h = elim (tested (nat_eq x y)) [ inl t ↦ absurd (h (eqb-true x y t)) | inr t ↦ t ]
-
-apart : (x y : ℕ) → nat_eq x y ≡ false → x ≡ y → ⊥
-apart x y h e = absurd (let w : true ≡ false = sym (eq-eqb x y e) ∙ h in cc)
-
--- and their numbers without the last part tell it
-pub same-beginning : (a b : Node) → IsSmall a → IsSmall b → nat_eq (packed a / 2 ^ 24) (packed b / 2 ^ 24) ≡ (nat_eq a.time b.time && nat_eq a.source b.source)
-same-beginning a b small other_small =
-    let low : a.source < 2 ^ 32 = small.1 in
-    let few : a.number < 2 ^ 24 = small.2 in
-    let high : b.source < 2 ^ 32 = other_small.1 in
-    let other_few : b.number < 2 ^ 24 = other_small.2 in
-    elim (tested (nat_eq a.time b.time)) [
-      | inl e ↦
-          let time : a.time ≡ b.time = eqb-true a.time b.time e in
-          elim (tested (nat_eq a.source b.source)) [
-            | inl f ↦
-                let source : a.source ≡ b.source = eqb-true a.source b.source f in
-                eq-eqb (packed a / 2 ^ 24) (packed b / 2 ^ 24) (omega (arith, time, source, few, other_few)) ∙ sym (begins-alike a b time source)
-            | inr f ↦
-                different (packed a / 2 ^ 24) (packed b / 2 ^ 24) (λ s. apart a.source b.source f (omega (arith, s, time, few, other_few)))
-                ∙ sym (λ i. e i && f i)
-          ]
-      | inr e ↦
-          different (packed a / 2 ^ 24) (packed b / 2 ^ 24) (λ s. apart a.time b.time e (omega (arith, s, low, high, few, other_few)))
-          ∙ sym (λ i. e i && nat_eq a.source b.source)
-    ]
-
--- so the packed nodes of two contestants decide, where they have one number if they begin alike
-pub by_packed : (a b : Contestant) (x y : Node) → x.time ≡ first_time a.rank → y.time ≡ first_time b.rank → x.source ≡ first_source a.rank → y.source ≡ first_source b.rank → (x.time ≡ y.time → x.source ≡ y.source → (x.number ≡ y.number) × (is_ahead a b ≡ false)) → IsSmall x → IsSmall y → nat_lt (packed x) (packed y) ≡ is_ahead a b
+-- the packed nodes of two contestants decide, where they have one number if they begin alike
+by_packed : (a b : Contestant) (x y : Node) → x.time ≡ first_time a.rank → y.time ≡ first_time b.rank → x.source ≡ first_source a.rank → y.source ≡ first_source b.rank → (x.time ≡ y.time → x.source ≡ y.source → (x.number ≡ y.number) × (is_ahead a b ≡ false)) → IsSmall x → IsSmall y → nat_lt (packed x) (packed y) ≡ is_ahead a b
 by_packed a b x y at other_at from other_from alike small other_small =
     let early : x.time < 2 ^ 72 = small.0 in
     let late : y.time < 2 ^ 72 = other_small.0 in
@@ -85,6 +57,18 @@ by_packed a b x y at other_at from other_from alike small other_small =
             ∙ sym (not_behind-ahead b a (earlier b.rank b.number a.rank a.number (omega (arith, l, at, other_at)) (omega (arith, early, at))))
       ]
     ]
+
+-- the same of two nodes that are those of contestants
+pub decided : (a b : Contestant) (x y : Node) → x ≡ node_of a → y ≡ node_of b → (x.time ≡ y.time → x.source ≡ y.source → (x.number ≡ y.number) × (is_ahead a b ≡ false)) → IsSmall x → IsSmall y → nat_lt (packed x) (packed y) ≡ is_ahead a b
+decided a b x y fits other_fits alike small other_small =
+    by_packed a b x y (ap (λ (n : Node). n.time) fits) (ap (λ (n : Node). n.time) other_fits) (ap (λ (n : Node). n.source) fits) (ap (λ (n : Node). n.source) other_fits) alike small other_small
+
+-- whose node has an earlier time is ahead
+pub early : (a b : Contestant) (x y : Node) → x ≡ node_of a → y ≡ node_of b → x.time < y.time → y.time < 2 ^ 72 → is_ahead a b ≡ true
+early a b x y fits other_fits less small =
+    let at : x.time ≡ first_time a.rank = ap (λ (n : Node). n.time) fits in
+    let other_at : y.time ≡ first_time b.rank = ap (λ (n : Node). n.time) other_fits in
+    earlier a.rank a.number b.rank b.number (omega (arith, less, at, other_at)) (omega (arith, small, other_at))
 
 -- what was packed is unpacked
 repacked : (n : Node) → IsSmall n → unpacked (packed n) ≡ n

@@ -100,13 +100,13 @@ own-nobody ranks number entry w few known won is nobodys = had (slice_index_or r
 -- ---- the two below a place
 
 -- a node is one of two, and neither of these is ahead
-record IsAheadOfTwo (ranks : List (Option Rank)) (a b w : Node) : Type 0 where
-  one : (w ≡ a) ⊎ (w ≡ b)
-  first : NotBehind (contestant ranks w.number) (contestant ranks a.number)
-  second : NotBehind (contestant ranks w.number) (contestant ranks b.number)
+pub record IsAheadOfTwo (ranks : List (Option Rank)) (a b w : Node) : Type 0 where
+  pub one : (w ≡ a) ⊎ (w ≡ b)
+  pub first : NotBehind (contestant ranks w.number) (contestant ranks a.number)
+  pub second : NotBehind (contestant ranks w.number) (contestant ranks b.number)
 
 -- who wins of two nodes is one of them, and neither is ahead
-of_two : (ranks : List (Option Rank)) (a b w : Node) → Fits ranks a → Fits ranks b → w ≡ node_of (winner_of (contestant ranks a.number) (contestant ranks b.number)) → IsAheadOfTwo ranks a b w
+pub of_two : (ranks : List (Option Rank)) (a b w : Node) → Fits ranks a → Fits ranks b → w ≡ node_of (winner_of (contestant ranks a.number) (contestant ranks b.number)) → IsAheadOfTwo ranks a b w
 of_two ranks a b w fits other_fits is = elim (tested (is_ahead (contestant ranks b.number) (contestant ranks a.number))) [
   | inl y ↦
       let e : w ≡ b = is ∙ ap node_of (winner-second (contestant ranks a.number) (contestant ranks b.number) y) ∙ sym other_fits in

@@ -130,3 +130,21 @@ pub record IsTournamentOf (ranks : List (Option Rank)) (nodes : List Node) : Typ
 pub record WasTournamentOf (number : ℕ) (ranks : List (Option Rank)) (nodes : List Node) : Type 0 where
   pub entry : Option Rank
   pub was : IsTournamentOf (slice_set ranks number entry) nodes
+
+-- the entry of this contestant was changed, and the nodes from this one on, which is the contestant's leaf or above it,
+-- have their winners anew
+pub record IsChanged (ranks : List (Option Rank)) (number at : ℕ) (nodes : List Node) : Type 0 where
+  pub entry : Option Rank
+  pub path : IsAbove at (place ranks number)
+  pub high : at ≤ last_place (length ranks)
+  pub full : length nodes ≡ last_place (length ranks) + 1
+  pub before : (k : ℕ) → k < at → IsWinner (slice_set ranks number entry) k (node nodes k)
+  pub won : (k : ℕ) → at ≤ k → k ≤ last_place (length ranks) → IsWinner ranks k (node nodes k)
+
+-- this content is that of a node from which on all have their winners, after a change of a contestant that didn't win above
+pub record IsCarried (ranks : List (Option Rank)) (at : ℕ) (nodes : List Node) (w : Node) : Type 0 where
+  pub number : ℕ
+  pub known : number < length ranks
+  pub changed : IsChanged ranks number at nodes
+  pub own : w ≡ node nodes at
+  pub another : 1 ≤ at → (node nodes ((at - 1) / 2)).number ≡ number → ⊥

@@ -1,6 +1,7 @@
 //! A node of the tree, and the better of two nodes.
 
 ghost use Rattle.std.specs.Prelude.{◌≡◌, ◌≤◌, ◌<◌, ◌^◌, ◌&&◌, not, nat_eq, nat_lt, if◌then◌else◌, length};
+ghost use Rattle.vt_key.specs.Times.{priority_of};
 ghost use Rattle.vt_tournament.specs.Contest.{is_ahead, winner_of, contestant, nobodys_number, node_of, packed, unpacked, IsSmall};
 
 use crate::contestants::Contestants;
@@ -71,14 +72,12 @@ impl Node {
         self.number() != NOBODY
     }
 
-    /// Whether the first parts of the two ranks are equal. One comparison tells it: where times are often equal and sources are
-    /// not, a branch for each would be mispredicted.
-    fn begins_as(&self, other: &Node) -> bool
-        ensures { result ≡ (nat_eq self.now.time other.now.time && nat_eq self.now.source other.now.source) }
+    /// Whether the two winners' ranks have one priority and one source. Otherwise their first parts differ. One comparison
+    /// tells it: where times are often equal and sources are not, a branch for each field would be mispredicted.
+    fn shares_source(&self, other: &Node) -> bool
+        ensures { result ≡ (nat_eq (priority_of self.now.time) (priority_of other.now.time) && nat_eq self.now.source other.now.source) }
     {
-        let own = self.packed();
-        let others = other.packed();
-        own / 0x100_0000 == others / 0x100_0000
+        self.rest / 0x100_0000 == other.rest / 0x100_0000
     }
 
     /// The fields in one number. The order of these numbers is the order of the fields.
@@ -118,10 +117,8 @@ impl Node {
         requires other_fits { other ≡ node_of (contestant (C.entries contestants.now) other.number) }
         ensures { result ≡ node_of (winner_of (contestant (C.entries contestants.now) self.number) (contestant (C.entries contestants.now) other.number)) }
     {
-        let number = self.number();
-        let others = other.number();
-        if self.begins_as(&other) && number != others {
-            return by_whole_ranks(self, other, contestants);
+        if self.shares_source(&other) {
+            return winner_of_source(self, other, contestants);
         }
         self.earlier(other)
     }
@@ -132,6 +129,26 @@ fn lesser(number: u128, other: u128) -> u128
     ensures { result ≡ (if nat_lt other number then other else number) }
 {
     if other < number { other } else { number }
+}
+
+/// The better of two nodes that may share a source. Mostly their ticks differ, or both have no winner.
+#[cold]
+#[inline(never)]
+fn winner_of_source<C: Contestants>(node: Node, other: Node, contestants: &C) -> Node
+    requires fits { node ≡ node_of (contestant (C.entries contestants.now) node.number) }
+    requires other_fits { other ≡ node_of (contestant (C.entries contestants.now) other.number) }
+    ensures { result ≡ node_of (winner_of (contestant (C.entries contestants.now) node.number) (contestant (C.entries contestants.now) other.number)) }
+{
+    if node.ticks < other.ticks {
+        return node;
+    }
+    if other.ticks < node.ticks {
+        return other;
+    }
+    if node.number() == other.number() {
+        return node;
+    }
+    by_whole_ranks(node, other, contestants)
 }
 
 /// The better of two nodes, by the whole ranks of their winners. It answers a node and stands apart: so one choice is left in

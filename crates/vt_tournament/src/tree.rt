@@ -1,9 +1,9 @@
 //! The tree of winners.
 
-ghost use Rattle.std.specs.Prelude.{◌≡◌, true, ℕ, ◌+◌, ◌*◌, ◌/◌, ◌-◌, ◌<◌, ◌≤◌, ◌^◌, List, length, replicate, slice_get, Option, Some, None, IfOk, IfErr, IfSome, IfNone};
+ghost use Rattle.std.specs.Prelude.{◌≡◌, true, ℕ, ◌+◌, ◌*◌, ◌/◌, ◌-◌, ◌<◌, ◌≤◌, ◌^◌, List, length, replicate, slice_get, slice_index_or, Option, Some, None, IfOk, IfErr, IfSome, IfNone};
 ghost use Rattle.vt_key.specs.declared.fault.Fault.TheVariants.{Memory};
 ghost use Rattle.vt_key.specs.declared.order.Rank.{Rank};
-ghost use Rattle.vt_tournament.specs.Contest.{contestant, node_of, inner_places, node, IsBelow, beside, Fits, IsBest, AreWinners, IsTournamentOf, WasTournamentOf};
+ghost use Rattle.vt_tournament.specs.Contest.{contestant, node_of, inner_places, node, IsBelow, beside, Fits, IsBest, AreWinners, IsTournamentOf, WasTournamentOf, IsCarried};
 ghost use Rattle.vt_tournament.specs.Least.{IsLeast};
 
 use crate::contestants::Contestants;
@@ -54,11 +54,21 @@ impl Tournament {
         ensures { IsTournamentOf (C.entries contestants.now) self.new }
     {
         let rank = contestants.rank(number);
+        self.set_rank(number, &rank, contestants);
+    }
+
+    /// As [`Tournament::set`], where the contestant's rank is at hand.
+    pub fn set_rank<C: Contestants>(&mut self, number: u32, rank: &Option<Rank>, contestants: &C)
+        requires known { number < length (C.entries contestants.now) }
+        requires own { rank.now ≡ slice_index_or (C.entries contestants.now) number None }
+        requires was { WasTournamentOf number (C.entries contestants.now) self.old }
+        ensures { IsTournamentOf (C.entries contestants.now) self.new }
+    {
         // If nobody takes part, nothing changes, and only the root is read.
         if rank.is_none() && self.winner().is_none() {
             return;
         }
-        let node = Node::new(number, &rank);
+        let node = Node::new(number, rank);
         decide_above(contestants, self.nodes.as_mut_slice(), number, node);
     }
 
@@ -131,16 +141,39 @@ fn decide_above<C: Contestants>(contestants: &C, nodes: &mut [Node], number: u32
     requires own { node ≡ node_of (contestant (C.entries contestants.now) number) }
     ensures decided { AreWinners (C.entries contestants.now) nodes.new }
 {
+    // Who won at the root won at each node above its leaf.
+    let led = nodes[0].number() == number;
     let mut at = inner_places(contestants.count()) + number as usize;
     let mut winner = node;
     nodes[at] = winner;
     while at > 0 {
-        winner = best_below(nodes, contestants, at, winner);
-        at = (at - 1) / 2;
-        // If another contestant wins here as before, nothing above changes.
-        if winner.number() != number && winner.number() == nodes[at].number() {
+        let above = (at - 1) / 2;
+        if !led && nodes[above].number() != number {
+            carry_up(contestants, nodes, at, winner);
             return;
         }
+        winner = best_below(nodes, contestants, at, winner);
+        at = above;
+        nodes[at] = winner;
+    }
+}
+
+/// Carries the winner of node `place` up, as long as it is ahead of who won there. At all nodes above, other contestants won
+/// than the changed one, so their contents are those of the best of all others. Where such a one wins, nothing above changes.
+fn carry_up<C: Contestants>(contestants: &C, nodes: &mut [Node], place: usize, winner: Node)
+    requires few { length (C.entries contestants.now) ≤ 2 ^ 23 }
+    requires carried { IsCarried (C.entries contestants.now) place nodes.old winner }
+    ensures decided { AreWinners (C.entries contestants.now) nodes.new }
+{
+    let mut at = place;
+    while at > 0 {
+        let above = (at - 1) / 2;
+        let held = nodes[above];
+        let best = winner.winner(held, contestants);
+        if best.number() == held.number() {
+            return;
+        }
+        at = above;
         nodes[at] = winner;
     }
 }

@@ -1,8 +1,8 @@
-use Rattle.std.proofs.Common.{◌≡◌, ℕ, ◌+◌, ◌-◌, ◌/◌, slice_set, sym, subst, ap, ◌∙◌, arith}
+use Rattle.std.proofs.Common.{ℕ, ◌+◌, ◌-◌, ◌/◌, slice_set, sym, subst, ap, ◌∙◌, arith}
 use Rattle.std.proofs.lemmas.List.{length-set}
-use Rattle.vt_tournament.specs.Contest.{Node, inner_places, place, node}
-use Rattle.vt_tournament.proofs.ChangeLemmas.{IsChanged, begun, below_next, gone_on, stopped}
-use Rattle.vt_tournament.proofs.TreeLemmas.{read, node-set_same}
+use Rattle.vt_tournament.specs.Contest.{Node, IsChanged, inner_places, place}
+use Rattle.vt_tournament.proofs.ChangeLemmas.{begun, below_next, gone_on}
+use Rattle.vt_tournament.proofs.TreeLemmas.{node-set_same}
 use Rattle.vt_tournament.proofs.tree.decide_above.Goals as goal
 
 pub loop-at-init : goal.loop-at-init
@@ -23,17 +23,6 @@ best_below-winner-requires-clause-there g c = omega (arith, c.loop-at-test.true,
 
 pub best_below-winner-requires-clause-fit : goal.best_below-winner-requires-clause-fit
 best_below-winner-requires-clause-fit g c = λ k h. (below_next (g.C.Contestants.entries c.args.contestants.now) c.args.number c.loop-at.nodes c.requires.few c.requires.known c.loop-at.at c.loop-at.invariant.0 (omega (arith, c.loop-at-test.true)) k h).fits
-
-pub returns-then-number-2 : goal.returns-then-number-2
-returns-then-number-2 g c =
-    let nodes = c.loop-at.nodes in
-    let above : ℕ = (c.loop-at.at - 1) / 2 in
-    let had : c.index-nodes-at.result ≡ node nodes above = read nodes above c.index-nodes-at.result (omega (arith, c.loop-at.invariant.0.high, c.loop-at.invariant.0.full)) c.index-nodes-at.is in
-    record {
-      decided = stopped (g.C.Contestants.entries c.args.contestants.now) c.args.number nodes c.requires.few c.requires.known c.loop-at.at c.loop-at.invariant.0 (omega (arith, c.loop-at-test.true)) c.best_below-winner.result c.best_below-winner.ensures
-          (λ e. omega (arith, e, c.if-number.true, c.number.ensures))
-          (sym c.number-then-number.ensures ∙ c.if-number-2.true ∙ c.number-then-number-2.ensures ∙ ap (λ (n : Node). n.number) (sym c.index-nodes-at.is ∙ had));
-    }
 
 pub loop-at-preserved : goal.loop-at-preserved
 loop-at-preserved g c =

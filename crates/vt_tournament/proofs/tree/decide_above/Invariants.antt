@@ -1,6 +1,5 @@
 use Rattle.std.proofs.Common.{◌≡◌}
-use Rattle.vt_tournament.specs.Contest.{node}
-use Rattle.vt_tournament.proofs.ChangeLemmas.{IsChanged}
+use Rattle.vt_tournament.specs.Contest.{node, IsChanged}
 use Rattle.vt_tournament.proofs.tree.decide_above.Given as goal
 
 abbrev pub invariant-loop-at : goal.invariant-loop-at
