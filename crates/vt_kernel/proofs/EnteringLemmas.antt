@@ -11,11 +11,13 @@ use Rattle.vt_lp.specs.Guards.{ready_rank, lesser_rank, may_come_after, TellsSam
 use Rattle.vt_lp.specs.Ripe.{is_ripe, unripe_events}
 use Rattle.vt_lp.specs.declared.entry.PastEvent.{PastEvent}
 use Rattle.vt_key.specs.Order.{rank_before}
+use Rattle.vt_key.proofs.OrderLemmas.{same-rank_same}
 use Rattle.vt_key.specs.Times.{Time}
 use Rattle.vt_key.specs.declared.letter.Letter.{Letter}
 use Rattle.vt_model.specs.declared.settings.Config.{Config}
 use Rattle.vt_model.specs.Settings.{end_of}
 use Rattle.std.specs.List.{last_or}
+use Rattle.std.specs.Option.{is_some}
 use Rattle.vt_steps.specs.Letters.{least_time, is_empty}
 use Rattle.vt_steps.proofs.Places.{get-put_same}
 use Rattle.vt_kernel.specs.Held.{entries_of, ready_of, unready_of, other_rank, earliest_of, rank_time, has_past, AreMarked, TellsLeast}
@@ -65,6 +67,21 @@ pub tells-least : {S P K : Type 0} (q : HeldProcess S P K) (least : Option Rank)
     → IfNone least ((q.pending ≡ []) × (q.waiting ≡ [])) → TellsLeast q
 tells-least q None is some none = ap (rank_time (end_of q.config)) (sym is) ∙ (λ j. least_time (end_of q.config) (sym none.0 j ++ sym none.1 j))
 tells-least q (Some rank) is some none = ap (rank_time (end_of q.config)) (sym is) ∙ some
+
+-- where an event is ready and nothing waits, the ready event has the least rank
+first_ready : (t : Bool) (rank r : Rank) → (if t then Some rank else None) ≡ Some r → None ≡ other_rank (if t then Some rank else None) (Some rank)
+first_ready true rank r is = ap (λ (same : Bool). if same then None else Some rank) (sym (same-rank_same rank))
+first_ready false rank r is = absurd (let w : None ≡ Some r = is in cc)
+
+alone : {P K : Type 0} (pending : List (Letter P)) (past : List (PastEvent P K)) (r : Rank) → ready_rank pending past ≡ Some r → None ≡ other_rank (ready_rank pending past) (lesser_rank (slice_get pending 0) None)
+alone [] past r is = absurd (let w : None ≡ Some r = is in cc)
+alone (least ∷ rest) past r is = first_ready (may_come_after (last_or None past) least.event.rank) least.event.rank r is
+
+pub nothing-unready : {S P K : Type 0} (q : HeldProcess S P K) (ready : Option Rank) → ready ≡ ready_of q → is_some ready ≡ true → q.waiting ≡ [] → None ≡ unready_of q
+nothing-unready q None is part none = absurd (let w : false ≡ true = part in cc)
+nothing-unready q (Some r) is part none =
+    alone q.pending q.past r (sym is)
+    ∙ (λ j. other_rank (ready_of q) (lesser_rank (slice_get q.pending 0) (slice_get (sym none j) 0)))
 
 -- ---- a process that forgets past events
 

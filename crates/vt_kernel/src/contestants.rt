@@ -5,7 +5,7 @@ ghost use Rattle.vt_key.specs.declared.order.Rank.{Rank as RankValue};
 ghost use Rattle.vt_tournament.specs.Contest.{IsTournamentOf, WasTournamentOf};
 ghost use Rattle.vt_lp.specs.Held.{HeldProcess};
 ghost use Rattle.vt_kernel.specs.Held.{entries_of, ready_of, unready_of};
-ghost use Rattle.vt_kernel.specs.Entered.{AreTold};
+ghost use Rattle.vt_kernel.specs.Entered.{AreAsked, AreTold};
 
 use crate::local::other_than;
 use crate::making::at_least_one;
@@ -43,14 +43,11 @@ impl<F: Fn(u32) -> Option<Rank>> Tells for Teller<F> {
     }
 }
 
-/// The processes as contestants of the tournament of ready ones. The rank of the process at `place` is given; the
-/// ranks of the others are asked for.
+/// The processes as contestants of the tournament of ready ones.
 #[derive(Drop)]
 struct Ready<'a, M: EventModel, T: Tells> {
     processes: &'a [Lp<M>],
-    place: u32,
-    rank: Option<Rank>,
-    others: T,
+    ranks: T,
 }
 
 impl<'a, M: EventModel, T: Tells> Model for Ready<'a, M, T> {
@@ -58,7 +55,7 @@ impl<'a, M: EventModel, T: Tells> Model for Ready<'a, M, T> {
 
     ghost view = { λ t. t.processes.now };
 
-    ghost invariant = { λ t. AreTold (entries_of ready_of t.processes.now) t.place t.rank (T.may t.others) (T.gives t.others) };
+    ghost invariant = { λ t. AreAsked (entries_of ready_of t.processes.now) (T.may t.ranks) (T.gives t.ranks) };
 }
 
 impl<'a, M: EventModel, T: Tells> Contestants for Ready<'a, M, T> {
@@ -68,13 +65,8 @@ impl<'a, M: EventModel, T: Tells> Contestants for Ready<'a, M, T> {
         at_least_one(self.processes.len())
     }
 
-    // The rank of the process at `place` is at hand, and a call would copy it.
-    #[inline(always)]
     fn rank(&self, number: u32) -> Option<Rank> {
-        if number == self.place {
-            return self.rank;
-        }
-        self.others.tell(number)
+        self.ranks.tell(number)
     }
 }
 
@@ -84,21 +76,16 @@ pub(crate) fn enter_ready<M: EventModel, T: Tells + Drop>(
     tournament: &mut Tournament,
     processes: &[Lp<M>],
     place: u32,
-    rank: Option<Rank>,
-    others: T,
+    rank: &Option<Rank>,
+    ranks: T,
 )
     requires there { place < length processes.now }
-    requires told { AreTold (entries_of ready_of processes.now) place rank (T.may others) (T.gives others) }
+    requires told { AreTold (entries_of ready_of processes.now) place rank.now (T.may ranks) (T.gives ranks) }
     requires was { WasTournamentOf place (entries_of ready_of processes.now) tournament.old }
     ensures { IsTournamentOf (entries_of ready_of processes.now) tournament.new }
 {
-    let contestants = Ready {
-        processes,
-        place,
-        rank,
-        others,
-    };
-    tournament.set(place, &contestants);
+    let contestants = Ready { processes, ranks };
+    tournament.set_rank(place, rank, &contestants);
 }
 
 /// The rank of the event that the process at index `place` may execute; None if there is no such event or no such
@@ -109,14 +96,11 @@ pub(crate) fn ready_at<M: EventModel>(processes: &[Lp<M>], place: u32) -> Option
     processes.get(place as usize)?.ready()
 }
 
-/// The processes as contestants of the tournament of unready ones. The rank of the process at `place` is given; the
-/// ranks of the others are asked for.
+/// The processes as contestants of the tournament of unready ones.
 #[derive(Drop)]
 struct Unready<'a, M: EventModel, T: Tells> {
     processes: &'a [Lp<M>],
-    place: u32,
-    rank: Option<Rank>,
-    others: T,
+    ranks: T,
 }
 
 impl<'a, M: EventModel, T: Tells> Model for Unready<'a, M, T> {
@@ -124,7 +108,7 @@ impl<'a, M: EventModel, T: Tells> Model for Unready<'a, M, T> {
 
     ghost view = { λ t. t.processes.now };
 
-    ghost invariant = { λ t. AreTold (entries_of unready_of t.processes.now) t.place t.rank (T.may t.others) (T.gives t.others) };
+    ghost invariant = { λ t. AreAsked (entries_of unready_of t.processes.now) (T.may t.ranks) (T.gives t.ranks) };
 }
 
 impl<'a, M: EventModel, T: Tells> Contestants for Unready<'a, M, T> {
@@ -135,10 +119,7 @@ impl<'a, M: EventModel, T: Tells> Contestants for Unready<'a, M, T> {
     }
 
     fn rank(&self, number: u32) -> Option<Rank> {
-        if number == self.place {
-            return self.rank;
-        }
-        self.others.tell(number)
+        self.ranks.tell(number)
     }
 }
 
@@ -148,25 +129,16 @@ pub(crate) fn enter_unready<M: EventModel, T: Tells + Drop>(
     tournament: &mut Tournament,
     processes: &[Lp<M>],
     place: u32,
-    rank: Option<Rank>,
-    others: T,
+    rank: &Option<Rank>,
+    ranks: T,
 )
     requires there { place < length processes.now }
-    requires told { AreTold (entries_of unready_of processes.now) place rank (T.may others) (T.gives others) }
+    requires told { AreTold (entries_of unready_of processes.now) place rank.now (T.may ranks) (T.gives ranks) }
     requires was { WasTournamentOf place (entries_of unready_of processes.now) tournament.old }
     ensures { IsTournamentOf (entries_of unready_of processes.now) tournament.new }
 {
-    // Mostly nobody is unready. Then nothing changes, and no contestants are made.
-    if rank.is_none() && tournament.winner().is_none() {
-        return;
-    }
-    let contestants = Unready {
-        processes,
-        place,
-        rank,
-        others,
-    };
-    tournament.set(place, &contestants);
+    let contestants = Unready { processes, ranks };
+    tournament.set_rank(place, rank, &contestants);
 }
 
 /// The least rank of all pending messages and waiting anti-messages of the process at index `place`; None if that is

@@ -143,14 +143,13 @@ pub(crate) fn enter<M: EventModel>(
     ensures told { (held : _) → slice_get processes.now place ≡ Some held → TellsLeast held }
 {
     let process = &processes[place];
-    let least = process.least_rank();
     let own = process.ready();
-    let rank = other_than(&own, &least);
     let number = place as u32;
     let who_is_ready = Teller(|other| ready_at(processes, other));
-    enter_ready(ready, processes, number, own, who_is_ready);
+    enter_ready(ready, processes, number, &own, who_is_ready);
+    let rank = unready_of(process, &own);
     let who_is_not = Teller(|other| unready_at(processes, other));
-    enter_unready(unready, processes, number, rank, who_is_not);
+    enter_unready(unready, processes, number, &rank, who_is_not);
     marked.set(place, process.has_past());
 }
 
@@ -177,6 +176,21 @@ pub(crate) fn enter_accepted<M: EventModel>(
     if leads {
         enter(ready, unready, marked, processes, place);
     }
+}
+
+/// The least rank of all pending messages and waiting anti-messages of a process; None if that is `ready`, the rank of the
+/// event that it may execute, or if there is none.
+fn unready_of<M: EventModel>(process: &Lp<M>, ready: &Option<Rank>) -> Option<Rank>
+    requires own { ready.now ≡ ready_of process.now }
+    ensures rank { result ≡ unready_of process.now }
+    ensures told { TellsLeast process.now }
+{
+    let least = process.least_rank();
+    // Mostly no anti-message waits. Then the ready event has the least rank, and no ranks are compared.
+    if ready.is_some() && !process.has_waiting() {
+        return None;
+    }
+    other_than(ready, &least)
 }
 
 /// The least rank, or None if it is that of the ready event.

@@ -93,6 +93,13 @@ impl<M: EventModel> Lp<M> {
         !self.past.events().is_empty()
     }
 
+    /// Whether an anti-message waits for its message.
+    pub fn has_waiting(&self) -> bool
+        ensures { IsFalse result ↔ (self.now.waiting ≡ []) }
+    {
+        !self.waiting.is_empty()
+    }
+
     /// The number of pending messages, modulo 2^64.
     pub fn pending_len(&self) -> usize
         ensures { result ≡ length self.now.pending % 2 ^ 64 }
