@@ -1,6 +1,4 @@
-pub mod Line
 pub mod Table
-pub mod Options
+pub mod Line
 pub mod Requests
-pub mod Asked
 pub mod Defaults

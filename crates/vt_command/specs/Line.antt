@@ -1,29 +1,21 @@
 -- The command line.
-use Rattle.std.specs.Prelude.{List, [], ◌∷◌, ◌++◌, map, codes, Option}
+use Rattle.std.specs.Prelude.{List, ◌∷◌, ◌++◌, map, codes, Option}
 use Rattle.clap.specs.Words.{App, Text}
-use Rattle.vt_options.specs.Line.{program_app, subcommand_by, given_by}
+use Rattle.vt_options.specs.Line.{subcommand_by, given_by}
+use Rattle.vt_options.specs.Own.{run_names, replay_names, app_for}
+use Rattle.vt_command.specs.Table.{twarp_models}
 
 -- the options of `run`, in the order in which they are tested
 abbrev pub run_options : List Text
-run_options =
-    codes "model" ∷ codes "synch" ∷ codes "workers" ∷ codes "lps" ∷ codes "end" ∷ codes "seed"
-    ∷ codes "hops" ∷ codes "stride" ∷ codes "delay" ∷ codes "rise"
-    ∷ codes "population" ∷ codes "remote" ∷ codes "lookahead" ∷ codes "span"
-    ∷ codes "jobs" ∷ codes "service" ∷ codes "travel"
-    ∷ codes "turns" ∷ codes "text" ∷ []
+run_options = run_names twarp_models
 
 -- the options of `replay`, in the order in which they are tested
 abbrev pub replay_options : List Text
-replay_options =
-    codes "model" ∷ codes "workers" ∷ codes "lps" ∷ codes "end" ∷ codes "seed"
-    ∷ codes "hops" ∷ codes "stride" ∷ codes "delay" ∷ codes "rise"
-    ∷ codes "population" ∷ codes "remote" ∷ codes "lookahead" ∷ codes "span"
-    ∷ codes "jobs" ∷ codes "service" ∷ codes "travel"
-    ∷ codes "serial" ∷ codes "text" ∷ []
+replay_options = replay_names twarp_models
 
 -- the program's command line, as its parser reads it: two subcommands, `run` and `replay`
 abbrev pub twarp_app : App
-twarp_app = program_app (codes "twarp") run_options replay_options
+twarp_app = app_for (codes "twarp") twarp_models
 
 -- the subcommand that the words name
 abbrev pub subcommand_in : List Text → Option Text

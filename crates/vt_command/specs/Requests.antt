@@ -1,17 +1,17 @@
 -- What the words of a command line ask for, and why they are refused.
-use Rattle.std.specs.Prelude.{List, codes}
+use Rattle.std.specs.Prelude.{ℕ, List, codes}
 use Rattle.clap.specs.Words.{Text}
 use Rattle.vt_key.specs.declared.fault.Fault.{Fault}
+use Rattle.vt_options.specs.declared.choices.RunSettings.{RunSettings}
+use Rattle.vt_options.specs.declared.choices.ReplaySettings.{ReplaySettings}
+use Rattle.vt_options.specs.Own.{line_for, AskRunWith, AskReplayWith}
 use Rattle.vt_options.specs.Requests.{Line, AskHelpOf, AreBy, HasBadOptionOf, HasNoMeaningBy, IsRefusedAsOf, IsRefusedByOf}
-use Rattle.vt_command.specs.declared.choices.Options.{Options}
-use Rattle.vt_command.specs.declared.choices.ReplayOptions.{ReplayOptions}
-use Rattle.vt_command.specs.Line.{twarp_app, given_in}
-use Rattle.vt_command.specs.Table.{first_bad, first_bad_of_replay}
-use Rattle.vt_command.specs.Options.{GiveOptions, GiveReplayOptions}
+use Rattle.vt_command.specs.Line.{twarp_app}
+use Rattle.vt_command.specs.Table.{twarp_models}
 
 -- the program's command line: its parser, and which bad option is named
 abbrev pub twarp_line : Line
-twarp_line = record { app = twarp_app; bad_of_run = first_bad; bad_of_replay = first_bad_of_replay }
+twarp_line = line_for (codes "twarp") twarp_models
 
 -- the words ask for help
 abbrev pub AskHelp : List Text → Type 0
@@ -25,15 +25,13 @@ AreOfRun words = AreBy twarp_app (codes "run") words
 abbrev pub AreOfReplay : List Text → Type 0
 AreOfReplay words = AreBy twarp_app (codes "replay") words
 
--- the words are those of a run with these options
-pub record AskRun (words : List Text) (o : Options) : Type 0 where
-  pub run : AreOfRun words
-  pub options : GiveOptions (given_in words) o
+-- the words are those of a run with these settings, of the model of this index with these values of its options
+abbrev pub AskRun : List Text → RunSettings → ℕ → List ℕ → Type 0
+AskRun words s model values = AskRunWith (codes "twarp") twarp_models words s model values
 
--- the words are those of a replay with these options
-pub record AskReplay (words : List Text) (o : ReplayOptions) : Type 0 where
-  pub replay : AreOfReplay words
-  pub options : GiveReplayOptions (given_in words) o
+-- the words are those of a replay with these settings, on the model of this index with these values of its options
+abbrev pub AskReplay : List Text → ReplaySettings → ℕ → List ℕ → Type 0
+AskReplay words s model values = AskReplayWith (codes "twarp") twarp_models words s model values
 
 -- the words have a bad option, the first of which has this name
 abbrev pub HasBadOption : List Text → Text → Type 0

@@ -1,14 +1,10 @@
--- The table of options: what each may be, what it is where it isn't given, and which one is refused first.
-use Rattle.std.specs.Prelude.{List, [], ◌∷◌, ℕ, Option, Some, None, if◌then◌else◌, codes}
-use Rattle.std.specs.Str.{bytes_eq}
+-- The table of the models and their options: what each may be, and what it is where it isn't given.
+use Rattle.std.specs.Prelude.{List, [], ◌∷◌, Some, codes}
 use Rattle.vt_models.specs.declared.hop.TheConstants.{MAX_HOPS, MAX_STRIDE, MAX_DELAY, MAX_RISE}
 use Rattle.vt_models.specs.declared.phold.TheConstants.{MAX_POPULATION, MAX_REMOTE, MAX_LOOKAHEAD, MAX_SPAN}
 use Rattle.vt_models.specs.declared.stations.TheConstants.{MAX_JOBS, MAX_SERVICE, MAX_TRAVEL}
-use Rattle.vt_command.specs.declared.choices.ModelName.{ModelName}
-use Rattle.vt_command.specs.declared.choices.ModelName.TheVariants.{Hop, Phold, Stations}
-pub use Rattle.vt_options.specs.Table.{Given, NumberOption, option, workers, lps, end, seed, turns, serial}
-pub use Rattle.vt_options.specs.Table.{if_between, number_in, value_in, synch_in, version_in, bad, bad_number}
-pub use Rattle.vt_options.specs.Table.{first_name, first_bad_of, config_table}
+use Rattle.vt_options.specs.Own.{Models}
+use Rattle.vt_options.specs.Table.{NumberOption, option}
 
 -- the options of the models that are numbers
 abbrev pub hops : NumberOption
@@ -44,19 +40,6 @@ service = option (codes "service") 1 MAX_SERVICE 1
 abbrev pub travel : NumberOption
 travel = option (codes "travel") 1 MAX_TRAVEL 1
 
--- the model of a name
-abbrev pub model_named : List ℕ → Option ModelName
-model_named text =
-    if bytes_eq text (codes "hop") then Some Hop
-    else if bytes_eq text (codes "phold") then Some Phold
-    else if bytes_eq text (codes "stations") then Some Stations
-    else None
-
--- the model that a text gives: `hop` where there is none
-abbrev pub model_in : Option (List ℕ) → Option ModelName
-model_in None = Some Hop
-model_in (Some text) = model_named text
-
 -- the options of the models that are numbers, by what they belong to, in the order in which they are tested
 abbrev pub hop_table : List NumberOption
 hop_table = hops ∷ stride ∷ delay ∷ rise ∷ []
@@ -67,25 +50,9 @@ phold_table = population ∷ remote ∷ lookahead ∷ span ∷ []
 abbrev pub stations_table : List NumberOption
 stations_table = jobs ∷ service ∷ travel ∷ []
 
--- the first option of `run` that has no value, in the order in which they are tested: it is the one that is named
-abbrev pub first_bad : Given → Option (List ℕ)
-first_bad given = first_name (
-    bad (codes "model") (model_in (given (codes "model")))
-    ∷ bad (codes "synch") (synch_in (given (codes "synch")))
-    ∷ first_bad_of given config_table
-    ∷ first_bad_of given hop_table
-    ∷ first_bad_of given phold_table
-    ∷ first_bad_of given stations_table
-    ∷ bad_number given turns
-    ∷ bad (codes "text") (version_in (given (codes "text"))) ∷ [])
-
--- the first option of `replay` that has no value
-abbrev pub first_bad_of_replay : Given → Option (List ℕ)
-first_bad_of_replay given = first_name (
-    bad (codes "model") (model_in (given (codes "model")))
-    ∷ first_bad_of given config_table
-    ∷ first_bad_of given hop_table
-    ∷ first_bad_of given phold_table
-    ∷ first_bad_of given stations_table
-    ∷ bad_number given serial
-    ∷ bad (codes "text") (version_in (given (codes "text"))) ∷ [])
+-- the models: `hop` where none is named
+abbrev pub twarp_models : Models
+twarp_models = record {
+  naming = Some (record { option = codes "model"; names = codes "hop" ∷ codes "phold" ∷ codes "stations" ∷ [] });
+  tables = hop_table ∷ phold_table ∷ stations_table ∷ [];
+}

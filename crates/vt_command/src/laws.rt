@@ -3,14 +3,17 @@
 ghost use Rattle.std.specs.Prelude.{◌≡◌, [], ◌∷◌, ◌++◌, Some, None, codes, map};
 ghost use Rattle.clap.specs.Words.{Text};
 ghost use Rattle.vt_command.specs.Line.{given_in, run_options, replay_options, line_with};
-ghost use Rattle.vt_command.specs.Table.{first_bad};
 ghost use Rattle.vt_command.specs.Requests.{AreOfRun, AreOfReplay, AskHelp, AskRun, AskReplay, HasBadOption, HasNoMeaning};
-ghost use Rattle.vt_command.specs.Defaults.{default_options, default_replay_options};
+ghost use Rattle.vt_command.specs.Defaults.{default_settings, default_replay_settings, default_hop, default_phold, default_stations};
 
-/// A line without options is a run or a replay with the defaults.
+/// A line without options, or with a model's name alone, is a run or a replay with the defaults.
 pub fn defaults_are_read()
-    ensures run { AskRun (codes "twarp" ∷ codes "run" ∷ []) default_options }
-    ensures replay { AskReplay (codes "twarp" ∷ codes "replay" ∷ []) default_replay_options }
+    ensures run { AskRun (codes "twarp" ∷ codes "run" ∷ []) default_settings 0 default_hop }
+    ensures run_hop { AskRun (codes "twarp" ∷ codes "run" ∷ codes "--model=hop" ∷ []) default_settings 0 default_hop }
+    ensures run_phold { AskRun (codes "twarp" ∷ codes "run" ∷ codes "--model=phold" ∷ []) default_settings 1 default_phold }
+    ensures run_stations { AskRun (codes "twarp" ∷ codes "run" ∷ codes "--model=stations" ∷ []) default_settings 2 default_stations }
+    ensures replay { AskReplay (codes "twarp" ∷ codes "replay" ∷ []) default_replay_settings 0 default_hop }
+    ensures replay_stations { AskReplay (codes "twarp" ∷ codes "replay" ∷ codes "--model=stations" ∷ []) default_replay_settings 2 default_stations }
 {}
 
 /// A line may give each option any text behind `=`. It belongs to its subcommand, and each option has its text.

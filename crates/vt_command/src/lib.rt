@@ -1,16 +1,12 @@
-//! The command line of `twarp`: which words have a meaning, which options they give, and what they ask for.
+//! The command line of `twarp`: its models with their options, and what the words ask for.
 //!
-//! `clap` reads the words, and its definitions say which text a line gives to each option. This crate reads the
-//! numbers in these texts, in the order of the table of options, and names the first that is out of its range.
+//! `vt_options` reads the words of a program of any models. This crate has the table of these three. Its laws say of example
+//! lines what they ask for.
 #![tactic(auto)]
 
 mod asking;
-mod choices;
 pub mod laws;
-mod line;
-mod reading;
-mod texts;
+mod table;
 
-pub use asking::{Request, hint, read_request};
-pub use choices::{ModelName, Options, ReplayOptions};
-pub use vt_options::{MAX_TURNS, Synch};
+pub use asking::{hint, read_request};
+pub use vt_options::Request;

@@ -1,3 +1,4 @@
 pub mod LineLemmas
 pub mod RequestLemmas
 pub mod OwnLemmas
+pub mod ModelLemmas

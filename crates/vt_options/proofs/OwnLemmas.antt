@@ -12,11 +12,11 @@ use Rattle.vt_options.specs.declared.own.OwnOption.{OwnOption}
 use Rattle.vt_options.specs.Line.{given_by}
 use Rattle.vt_options.specs.Requests.{Line, AreBy, IsRefusedByOf}
 use Rattle.vt_options.specs.Table.{Given, NumberOption, bad, bad_number, first_name, first_bad_of, value_in}
-use Rattle.vt_options.specs.Own.{AreWithin, GiveRun, GiveReplay, GiveValues, NamesBad, number_option, number_table}
+use Rattle.vt_options.specs.Own.{AreInRange, AreWithin, GiveRun, GiveReplay, GiveValues, Models, NamesBad, number_option, number_table}
 use Rattle.vt_options.proofs.RequestLemmas as requests
 
 -- a name alone is the first
-only : (o : Option Text) → first_name (o ∷ []) ≡ o
+pub only : (o : Option Text) → first_name (o ∷ []) ≡ o
 only None = refl
 only (Some name) = refl
 
@@ -37,7 +37,7 @@ module _ (given : Given) where
 
     module _ (v : ℕ) (is : value_in given (number_option (get_or own i d)) ≡ Some v) where
       -- it has this value
-      pub values_more : (values : List ℕ) → GiveValues given (take i own) values → GiveValues given (take (i + 1) own) (values ++ v ∷ [])
+      pub values_more : (values : List ℕ) → GiveValues given (number_table (take i own)) values → GiveValues given (number_table (take (i + 1) own)) (values ++ v ∷ [])
       values_more values before =
           ap (map (value_in given)) table_more
           ∙ map-append (value_in given) (number_table (take i own)) (number_option (get_or own i d) ∷ [])
@@ -54,8 +54,8 @@ module _ (given : Given) where
     -- and it is in its range
     pub within_more : (v : ℕ) (values : List ℕ) → is_between (get_or own i d).least (get_or own i d).most v ≡ true → AreWithin (take i own) values → AreWithin (take (i + 1) own) (values ++ v ∷ [])
     within_more v values is before =
-        subst (λ (l : List OwnOption). AreWithin l (values ++ v ∷ [])) (sym (take_more own i d h))
-        (all_zipped_more (λ (o : OwnOption) (n : ℕ). is_between o.least o.most n ≡ true) (take i own) values (get_or own i d) v before is)
+        subst (λ (l : List NumberOption). AreInRange l (values ++ v ∷ [])) (sym table_more)
+        (all_zipped_more (λ (o : NumberOption) (n : ℕ). is_between o.least o.most n ≡ true) (number_table (take i own)) values (number_option (get_or own i d)) v before is)
 
     -- it has no value, and is the first such
     first_is : first_bad_of given (number_table (take i own)) ≡ None → value_in given (number_option (get_or own i d)) ≡ None → first_bad_of given (number_table own) ≡ Some (get_or own i d).name.now
@@ -72,12 +72,12 @@ module _ (given : Given) where
 
 -- ---- what the words of a run or a replay give
 
--- settings and values that texts give are given by texts that are the same
-pub run_given : (own : List OwnOption) (given found : Given) (s : RunSettings) (values : List ℕ) → ((name : Text) → found name ≡ given name) → GiveRun own found s values → GiveRun own given s values
-run_given own given found s values e = subst (λ (g : Given). GiveRun own g s values) (λ i name. e name i)
+-- settings, a model and values that texts give are given by texts that are the same
+pub run_given : (models : Models) (given found : Given) (s : RunSettings) (k : ℕ) (values : List ℕ) → ((name : Text) → found name ≡ given name) → GiveRun models found s k values → GiveRun models given s k values
+run_given models given found s k values e = subst (λ (g : Given). GiveRun models g s k values) (λ i name. e name i)
 
-pub replay_given : (own : List OwnOption) (given found : Given) (s : ReplaySettings) (values : List ℕ) → ((name : Text) → found name ≡ given name) → GiveReplay own found s values → GiveReplay own given s values
-replay_given own given found s values e = subst (λ (g : Given). GiveReplay own g s values) (λ i name. e name i)
+pub replay_given : (models : Models) (given found : Given) (s : ReplaySettings) (k : ℕ) (values : List ℕ) → ((name : Text) → found name ≡ given name) → GiveReplay models found s k values → GiveReplay models given s k values
+replay_given models given found s k values e = subst (λ (g : Given). GiveReplay models g s k values) (λ i name. e name i)
 
 -- a refusal for memory refuses any words
 by_memory : (line : Line) (words : List Text) (fault : Fault) → fault ≡ Memory → IsRefusedByOf line words fault

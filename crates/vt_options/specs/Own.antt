@@ -1,12 +1,16 @@
--- The options of a model of one's own, as a table, and a command line with them.
-use Rattle.std.specs.Prelude.{◌≡◌, ◌⊎◌, ℕ, Bool, true, List, [], ◌∷◌, ◌++◌, map, Option, Some, None, codes}
+-- The options of models, as tables, and a command line with them.
+use Rattle.std.specs.Prelude.{◌≡◌, ◌⊎◌, ℕ, ◌+◌, Bool, true, List, [], ◌∷◌, ◌++◌, map, get_or, Option, Some, None, if◌then◌else◌, codes}
 use Rattle.std.specs.List.{list_all, AllZip}
+use Rattle.std.specs.Str.{bytes_eq}
 use Rattle.clap.specs.Words.{App, Text}
 use Rattle.vt_key.specs.declared.fault.Fault.{Fault}
 use Rattle.vt_key.specs.declared.fault.Fault.TheVariants.{Memory}
 use Rattle.vt_key.specs.Faults.{fault_number, option_named}
 use Rattle.vt_model.specs.Settings.{is_between}
 use Rattle.vt_options.specs.declared.own.OwnOption.{OwnOption}
+use Rattle.vt_options.specs.declared.own.ModelOptions.{ModelOptions}
+use Rattle.vt_options.specs.declared.own.ModelTable.{ModelTable}
+use Rattle.vt_options.specs.declared.texts.OptionText.{OptionText}
 use Rattle.vt_options.specs.declared.choices.RunSettings.{RunSettings}
 use Rattle.vt_options.specs.declared.choices.ReplaySettings.{ReplaySettings}
 use Rattle.vt_options.specs.Line.{program_app, given_by}
@@ -14,7 +18,7 @@ use Rattle.vt_options.specs.Requests.{Line, AreBy}
 use Rattle.vt_options.specs.Settings.{GiveRunSettings, GiveReplaySettings}
 use Rattle.vt_options.specs.Table.{Given, NumberOption, option, value_in, synch_in, version_in, bad, bad_number, first_name, first_bad_of, config_table, turns, serial}
 
--- ---- the table
+-- ---- the table of one model
 
 -- an option of the table, as a number with its range and its default
 abbrev pub number_option : OwnOption → NumberOption
@@ -31,77 +35,160 @@ abbrev pub HaveDefaults : List OwnOption → Type 0
 HaveDefaults own = list_all has_default own ≡ true
 
 -- each option has a value in its range
-abbrev pub AreWithin : List OwnOption → List ℕ → Type 0
-AreWithin own values = AllZip (λ o v. is_between o.least o.most v ≡ true) own values
+abbrev pub AreInRange : List NumberOption → List ℕ → Type 0
+AreInRange table values = AllZip (λ o v. is_between o.least o.most v ≡ true) table values
 
--- the values that the texts give to the options of the table, in its order
-abbrev pub GiveValues : Given → List OwnOption → List ℕ → Type 0
-GiveValues given own values = map (value_in given) (number_table own) ≡ map Some values
+abbrev pub AreWithin : List OwnOption → List ℕ → Type 0
+AreWithin own values = AreInRange (number_table own) values
+
+-- the values that the texts give to the options of a table, in its order
+abbrev pub GiveValues : Given → List NumberOption → List ℕ → Type 0
+GiveValues given table values = map (value_in given) table ≡ map Some values
 
 -- memory was refused, or a bad option is named
 abbrev pub NamesBad : Option Text → Fault → Type 0
 NamesBad name fault = (fault ≡ Memory) ⊎ ((fault_number fault ≡ 7) × (option_named fault ≡ name))
 
+-- ---- the tables of several models
+
+-- an option that names one of several models: its own name, and the names that it takes
+pub record Naming : Type 0 where
+  pub option : Text
+  pub names : List Text
+
+-- the models of a program: the option that names one of them, if there is one, and the options of each
+pub record Models : Type 0 where
+  pub naming : Option Naming
+  pub tables : List (List NumberOption)
+
+-- one model, which no option names
+abbrev pub only : List OwnOption → Models
+only own = record { naming = None; tables = number_table own ∷ [] }
+
+-- the models of a table
+abbrev pub naming_of : Option OptionText → List Text → Option Naming
+naming_of None names = None
+naming_of (Some o) names = Some (record { option = o.name.now; names = names })
+
+abbrev pub model_names : List ModelOptions → List Text
+model_names models = map (λ m. m.name.now) models
+
+abbrev pub tables_of : List ModelOptions → List (List NumberOption)
+tables_of models = map (λ m. number_table m.options.now) models
+
+abbrev pub models_of : ModelTable → Models
+models_of t = record { naming = naming_of t.naming (model_names t.models.now); tables = tables_of t.models.now }
+
+-- each default of each model is in its range
+abbrev pub AllHaveDefaults : List ModelOptions → Type 0
+AllHaveDefaults models = list_all (λ m. list_all has_default m.options.now) models ≡ true
+
+-- the index of a name, counted from k: the first if it stands there twice
+abbrev pub index_from : ℕ → List Text → Text → Option ℕ
+index_from k [] text = None
+index_from k (name ∷ names) text = if bytes_eq name text then Some k else index_from (k + 1) names text
+
+-- the index that a text gives: the first model where there is none
+abbrev pub named_in : List Text → Option Text → Option ℕ
+named_in names None = Some 0
+named_in names (Some text) = index_from 0 names text
+
+-- the index of the model that the texts choose: the first where no option names one
+abbrev pub chosen_by : Option Naming → Given → Option ℕ
+chosen_by None given = Some 0
+chosen_by (Some naming) given = named_in naming.names (given naming.option)
+
+-- the option that names a model, where its text names none
+abbrev pub bad_naming : Option Naming → Given → Option Text
+bad_naming None given = None
+bad_naming (Some naming) given = bad naming.option (named_in naming.names (given naming.option))
+
+-- the first option of all tables that has no value
+abbrev pub first_bad_in : Given → List (List NumberOption) → Option Text
+first_bad_in given [] = None
+first_bad_in given (table ∷ tables) = first_name (first_bad_of given table ∷ first_bad_in given tables ∷ [])
+
 -- ---- the command line
 
-abbrev pub own_names : List OwnOption → List Text
-own_names own = map (λ o. o.name.now) own
+abbrev pub naming_names : Option Naming → List Text
+naming_names None = []
+naming_names (Some naming) = naming.option ∷ []
+
+abbrev pub table_names : List (List NumberOption) → List Text
+table_names [] = []
+table_names (table ∷ tables) = map (λ o. o.name) table ++ table_names tables
 
 -- the options of `run`, in the order in which they are tested
-abbrev pub run_names : List OwnOption → List Text
-run_names own =
-    codes "synch" ∷ codes "workers" ∷ codes "lps" ∷ codes "end" ∷ codes "seed" ∷ (own_names own ++ (codes "turns" ∷ codes "text" ∷ []))
+abbrev pub run_names : Models → List Text
+run_names models =
+    naming_names models.naming
+    ++ (codes "synch" ∷ codes "workers" ∷ codes "lps" ∷ codes "end" ∷ codes "seed" ∷ (table_names models.tables ++ (codes "turns" ∷ codes "text" ∷ [])))
 
 -- the options of `replay`, in the order in which they are tested
-abbrev pub replay_names : List OwnOption → List Text
-replay_names own = codes "workers" ∷ codes "lps" ∷ codes "end" ∷ codes "seed" ∷ (own_names own ++ (codes "serial" ∷ codes "text" ∷ []))
+abbrev pub replay_names : Models → List Text
+replay_names models =
+    naming_names models.naming
+    ++ (codes "workers" ∷ codes "lps" ∷ codes "end" ∷ codes "seed" ∷ (table_names models.tables ++ (codes "serial" ∷ codes "text" ∷ [])))
 
-abbrev pub own_app : Text → List OwnOption → App
-own_app name own = program_app name (run_names own) (replay_names own)
+abbrev pub app_for : Text → Models → App
+app_for name models = program_app name (run_names models) (replay_names models)
 
 -- the first option of `run` that has no value, in the order in which they are tested: it is the one that is named
-abbrev pub first_bad_of_run : List OwnOption → Given → Option Text
-first_bad_of_run own given = first_name (
-    bad (codes "synch") (synch_in (given (codes "synch")))
+abbrev pub first_bad_of_run : Models → Given → Option Text
+first_bad_of_run models given = first_name (
+    bad_naming models.naming given
+    ∷ bad (codes "synch") (synch_in (given (codes "synch")))
     ∷ first_bad_of given config_table
-    ∷ first_bad_of given (number_table own)
+    ∷ first_bad_in given models.tables
     ∷ bad_number given turns
     ∷ bad (codes "text") (version_in (given (codes "text"))) ∷ [])
 
 -- the first option of `replay` that has no value
-abbrev pub first_bad_of_replay : List OwnOption → Given → Option Text
-first_bad_of_replay own given = first_name (
-    first_bad_of given config_table
-    ∷ first_bad_of given (number_table own)
+abbrev pub first_bad_of_replay : Models → Given → Option Text
+first_bad_of_replay models given = first_name (
+    bad_naming models.naming given
+    ∷ first_bad_of given config_table
+    ∷ first_bad_in given models.tables
     ∷ bad_number given serial
     ∷ bad (codes "text") (version_in (given (codes "text"))) ∷ [])
 
--- the command line of a program of one model: its parser, and which bad option is named
+-- the command line of a program of these models: its parser, and which bad option is named
+abbrev pub line_for : Text → Models → Line
+line_for name models = record { app = app_for name models; bad_of_run = first_bad_of_run models; bad_of_replay = first_bad_of_replay models }
+
+-- that of a program of one model
+abbrev pub own_app : Text → List OwnOption → App
+own_app name own = app_for name (only own)
+
 abbrev pub own_line : Text → List OwnOption → Line
-own_line name own = record { app = own_app name own; bad_of_run = first_bad_of_run own; bad_of_replay = first_bad_of_replay own }
+own_line name own = line_for name (only own)
 
 -- ---- what the words give
 
--- the settings of a run and the values of a table that the texts give, each in its range
-pub record GiveRun (own : List OwnOption) (given : Given) (s : RunSettings) (vs : List ℕ) : Type 0 where
+-- the index of a model and values of its options that the texts give, each in its range
+pub record GiveModel (models : Models) (given : Given) (k : ℕ) (vs : List ℕ) : Type 0 where
+  pub chosen : chosen_by models.naming given ≡ Some k
+  pub values : GiveValues given (get_or models.tables k []) vs
+  pub within : AreInRange (get_or models.tables k []) vs
+
+-- the settings of a run, the index of a model and values of its options that the texts give. The options of all models have values
+pub record GiveRun (models : Models) (given : Given) (s : RunSettings) (k : ℕ) (vs : List ℕ) : Type 0 where
   pub settings : GiveRunSettings given s
-  pub values : GiveValues given own vs
-  pub within : AreWithin own vs
-  pub all_good : first_bad_of_run own given ≡ None
+  pub model : GiveModel models given k vs
+  pub all_good : first_bad_of_run models given ≡ None
 
--- the settings of a replay and the values of a table that the texts give, each in its range
-pub record GiveReplay (own : List OwnOption) (given : Given) (s : ReplaySettings) (vs : List ℕ) : Type 0 where
+-- the settings of a replay, the index of a model and values of its options that the texts give
+pub record GiveReplay (models : Models) (given : Given) (s : ReplaySettings) (k : ℕ) (vs : List ℕ) : Type 0 where
   pub settings : GiveReplaySettings given s
-  pub values : GiveValues given own vs
-  pub within : AreWithin own vs
-  pub all_good : first_bad_of_replay own given ≡ None
+  pub model : GiveModel models given k vs
+  pub all_good : first_bad_of_replay models given ≡ None
 
--- the words are those of a run with these settings and values
-pub record AskOwnRun (name : Text) (own : List OwnOption) (words : List Text) (s : RunSettings) (values : List ℕ) : Type 0 where
-  pub run : AreBy (own_app name own) (codes "run") words
-  pub options : GiveRun own (given_by (own_app name own) words) s values
+-- the words are those of a run with these settings, model and values
+pub record AskRunWith (name : Text) (models : Models) (words : List Text) (s : RunSettings) (k : ℕ) (vs : List ℕ) : Type 0 where
+  pub run : AreBy (app_for name models) (codes "run") words
+  pub options : GiveRun models (given_by (app_for name models) words) s k vs
 
--- the words are those of a replay with these settings and values
-pub record AskOwnReplay (name : Text) (own : List OwnOption) (words : List Text) (s : ReplaySettings) (values : List ℕ) : Type 0 where
-  pub replay : AreBy (own_app name own) (codes "replay") words
-  pub options : GiveReplay own (given_by (own_app name own) words) s values
+-- the words are those of a replay with these settings, model and values
+pub record AskReplayWith (name : Text) (models : Models) (words : List Text) (s : ReplaySettings) (k : ℕ) (vs : List ℕ) : Type 0 where
+  pub replay : AreBy (app_for name models) (codes "replay") words
+  pub options : GiveReplay models (given_by (app_for name models) words) s k vs

@@ -1,14 +1,15 @@
-//! Requests: what the command line of a program of one model asks for.
+//! Requests: what the command line of a program of models asks for.
 
 ghost use Rattle.std.specs.Prelude.{◌≡◌, ◌++◌, [], List, IfOk, IfErr, map};
 ghost use Rattle.clap.specs.Words.{Text, fault_of, subcommand_of, subcommand_rows_of, first_value, found_of, HasKind};
 ghost use Rattle.vt_options.specs.Line.{names_of};
-ghost use Rattle.vt_options.specs.Own.{HaveDefaults, GiveRun, GiveReplay, NamesBad, own_app, own_names, own_line, run_names, replay_names, first_bad_of_run, first_bad_of_replay};
+ghost use Rattle.vt_options.specs.Own.{AllHaveDefaults, GiveRun, GiveReplay, NamesBad, models_of, number_table, table_names, tables_of, naming_names, app_for, line_for, run_names, replay_names, first_bad_of_run, first_bad_of_replay};
 ghost use Rattle.vt_options.specs.Requests.{IsRefusedByOf};
 ghost use Rattle.vt_options.specs.Asked.{IsAsked};
 
 use crate::line::{ProgramTexts, matches_in};
-use crate::own::{OwnOption, own_options};
+use crate::models::{model_option, model_values};
+use crate::own::{Chosen, ModelOptions, ModelTable, OwnOption};
 use crate::reading::{config_options, number_option, synch_option, text_option};
 use crate::refusing::help_of;
 use crate::texts::{
@@ -20,19 +21,16 @@ use std::alloc::{AllocError, Global};
 use std::convert::AsStr;
 use vt_key::{Fault, MAX_COUNT};
 
-/// What the command line of a program of one model asks for.
+/// What the command line of a program asks for.
 #[derive(Debug, Drop)]
 pub enum Request {
-    /// A run with these settings, of the model that these values of its options make.
-    Run(RunSettings, Vec<u32>),
-    /// A replay with these settings, on the model that these values of its options make.
-    Replay(ReplaySettings, Vec<u32>),
+    /// A run with these settings, of this model with these values of its options.
+    Run(RunSettings, Chosen),
+    /// A replay with these settings, on this model with these values of its options.
+    Replay(ReplaySettings, Chosen),
     /// Help, with its text.
     Help(String),
 }
-
-// The heading of the model's options.
-const OWN: &str = "Options of the model";
 
 /// Adds these options to a list.
 fn add_all(list: &mut Vec<OptionText>, more: &[OptionText]) -> Result<(), AllocError>
@@ -44,15 +42,29 @@ fn add_all(list: &mut Vec<OptionText>, more: &[OptionText]) -> Result<(), AllocE
     Ok(())
 }
 
+/// Adds the option that names the model to a list, where there is one.
+fn add_naming(list: &mut Vec<OptionText>, table: &ModelTable<'_>) -> Result<(), AllocError>
+    ensures { IfOk result (λ _. names_of list.new.items ≡ names_of list.old.items ++ naming_names (models_of table.now).naming) }
+{
+    if let Some(text) = &table.naming {
+        list.push(*text)?;
+    }
+    Ok(())
+}
+
 /// Adds the options of a model to a list.
-fn add_own(list: &mut Vec<OptionText>, own: &[OwnOption]) -> Result<(), AllocError>
-    ensures { IfOk result (λ _. names_of list.new.items ≡ names_of list.old.items ++ own_names own.now) }
+fn add_own(
+    list: &mut Vec<OptionText>,
+    heading: &'static str,
+    own: &[OwnOption],
+) -> Result<(), AllocError>
+    ensures { IfOk result (λ _. names_of list.new.items ≡ names_of list.old.items ++ map (λ o. o.name) (number_table own.now)) }
 {
     for option in own {
         list.push(OptionText {
             name: option.name,
             value: "N",
-            heading: OWN,
+            heading,
             takes: "",
             help: option.help,
         })?;
@@ -60,41 +72,54 @@ fn add_own(list: &mut Vec<OptionText>, own: &[OwnOption]) -> Result<(), AllocErr
     Ok(())
 }
 
+/// Adds the options of all models to a list.
+fn add_models(list: &mut Vec<OptionText>, models: &[ModelOptions<'_>]) -> Result<(), AllocError>
+    ensures { IfOk result (λ _. names_of list.new.items ≡ names_of list.old.items ++ table_names (tables_of models.now)) }
+{
+    for model in models {
+        add_own(list, model.heading, model.options)?;
+    }
+    Ok(())
+}
+
 /// The options of `run`, in the order in which they are tested.
-fn run_options(alloc: Global, own: &[OwnOption]) -> Result<Vec<OptionText>, AllocError>
-    ensures { IfOk result (λ list. names_of list.items ≡ run_names own.now) }
+fn run_options(alloc: Global, table: &ModelTable<'_>) -> Result<Vec<OptionText>, AllocError>
+    ensures { IfOk result (λ list. names_of list.items ≡ run_names (models_of table.now)) }
 {
     let mut list = Vec::new(alloc);
+    add_naming(&mut list, table)?;
     add_all(&mut list, &[SYNCH, WORKERS, LPS, END, SEED])?;
-    add_own(&mut list, own)?;
+    add_models(&mut list, table.models)?;
     add_all(&mut list, &[TURNS, TEXT])?;
     Ok(list)
 }
 
 /// The options of `replay`, in the order in which they are tested.
-fn replay_options(alloc: Global, own: &[OwnOption]) -> Result<Vec<OptionText>, AllocError>
-    ensures { IfOk result (λ list. names_of list.items ≡ replay_names own.now) }
+fn replay_options(alloc: Global, table: &ModelTable<'_>) -> Result<Vec<OptionText>, AllocError>
+    ensures { IfOk result (λ list. names_of list.items ≡ replay_names (models_of table.now)) }
 {
     let mut list = Vec::new(alloc);
+    add_naming(&mut list, table)?;
     add_all(&mut list, &[REPLAY_WORKERS, LPS, END, SEED])?;
-    add_own(&mut list, own)?;
+    add_models(&mut list, table.models)?;
     add_all(&mut list, &[SERIAL, TEXT])?;
     Ok(list)
 }
 
-/// The settings of a run and the values of a model's options.
+/// The settings of a run, and the model with the values of its options.
 fn read_run(
     alloc: Global,
     matches: &ArgMatches,
-    own: &[OwnOption],
-) -> Result<(RunSettings, Vec<u32>), Fault>
-    requires { HaveDefaults own.now }
-    ensures ok { IfOk result (λ r. GiveRun own.now (first_value (found_of matches.now)) r.0 r.1.items) }
-    ensures err { IfErr result (NamesBad (first_bad_of_run own.now (first_value (found_of matches.now)))) }
+    table: &ModelTable<'_>,
+) -> Result<(RunSettings, Chosen), Fault>
+    requires { AllHaveDefaults table.now.models.now }
+    ensures ok { IfOk result (λ r. GiveRun (models_of table.now) (first_value (found_of matches.now)) r.0 r.1.model r.1.values.items) }
+    ensures err { IfErr result (NamesBad (first_bad_of_run (models_of table.now) (first_value (found_of matches.now)))) }
 {
+    let model = model_option(matches, table)?;
     let synch = synch_option(matches)?;
     let config = config_options(matches)?;
-    let values = own_options(alloc, matches, own)?;
+    let values = model_values(alloc, matches, table.models, model)?;
     let turns = number_option(matches, "turns", 1, MAX_TURNS, 10_000_000)?;
     let text = text_option(matches)?;
     let settings = RunSettings {
@@ -103,21 +128,22 @@ fn read_run(
         turns,
         text,
     };
-    Ok((settings, values))
+    Ok((settings, Chosen { model, values }))
 }
 
-/// The settings of a replay and the values of a model's options.
+/// The settings of a replay, and the model with the values of its options.
 fn read_replay(
     alloc: Global,
     matches: &ArgMatches,
-    own: &[OwnOption],
-) -> Result<(ReplaySettings, Vec<u32>), Fault>
-    requires { HaveDefaults own.now }
-    ensures ok { IfOk result (λ r. GiveReplay own.now (first_value (found_of matches.now)) r.0 r.1.items) }
-    ensures err { IfErr result (NamesBad (first_bad_of_replay own.now (first_value (found_of matches.now)))) }
+    table: &ModelTable<'_>,
+) -> Result<(ReplaySettings, Chosen), Fault>
+    requires { AllHaveDefaults table.now.models.now }
+    ensures ok { IfOk result (λ r. GiveReplay (models_of table.now) (first_value (found_of matches.now)) r.0 r.1.model r.1.values.items) }
+    ensures err { IfErr result (NamesBad (first_bad_of_replay (models_of table.now) (first_value (found_of matches.now)))) }
 {
+    let model = model_option(matches, table)?;
     let config = config_options(matches)?;
-    let values = own_options(alloc, matches, own)?;
+    let values = model_values(alloc, matches, table.models, model)?;
     let serial = number_option(matches, "serial", 0, MAX_COUNT, 0)?;
     let text = text_option(matches)?;
     let settings = ReplaySettings {
@@ -125,66 +151,67 @@ fn read_replay(
         serial,
         text,
     };
-    Ok((settings, values))
+    Ok((settings, Chosen { model, values }))
 }
 
-/// What the parser makes of a command line of a program of a model with these options.
-pub(crate) fn own_matches<'a, S: AsStr>(
+/// What the parser makes of a command line of a program of these models.
+pub(crate) fn table_matches<'a, S: AsStr>(
     alloc: Global,
     texts: &ProgramTexts,
-    own: &[OwnOption],
+    table: &ModelTable<'_>,
     words: &'a [S],
 ) -> Result<ArgMatches<'a>, Error>
-    ensures ok { IfOk result (λ m. subcommand_rows_of m ≡ subcommand_of (own_app texts.now.name.now own.now) (map S.text words.entry.now)) }
-    ensures accepted { IfOk result (λ _. fault_of (own_app texts.now.name.now own.now) (map S.text words.entry.now) ≡ []) }
-    ensures err { IfErr result (HasKind (fault_of (own_app texts.now.name.now own.now) (map S.text words.entry.now))) }
+    ensures ok { IfOk result (λ m. subcommand_rows_of m ≡ subcommand_of (app_for texts.now.name.now (models_of table.now)) (map S.text words.entry.now)) }
+    ensures accepted { IfOk result (λ _. fault_of (app_for texts.now.name.now (models_of table.now)) (map S.text words.entry.now) ≡ []) }
+    ensures err { IfErr result (HasKind (fault_of (app_for texts.now.name.now (models_of table.now)) (map S.text words.entry.now))) }
 {
-    let run = run_options(alloc, own)?;
-    let replay = replay_options(alloc, own)?;
+    let run = run_options(alloc, table)?;
+    let replay = replay_options(alloc, table)?;
     matches_in(alloc, texts, run.as_slice(), replay.as_slice(), words)
 }
 
 /// The request of a command line that the parser has accepted.
-fn request_of(alloc: Global, matches: &ArgMatches, own: &[OwnOption]) -> Result<Request, Fault>
-    requires { HaveDefaults own.now }
-    ensures ok { (name : Text) (words : List Text) → fault_of (own_app name own.now) words ≡ [] → subcommand_rows_of matches.now ≡ subcommand_of (own_app name own.now) words
-        → IfOk result (IsAsked name own.now words) }
-    ensures err { (name : Text) (words : List Text) → fault_of (own_app name own.now) words ≡ [] → subcommand_rows_of matches.now ≡ subcommand_of (own_app name own.now) words
-        → IfErr result (IsRefusedByOf (own_line name own.now) words) }
+fn request_of(alloc: Global, matches: &ArgMatches, table: &ModelTable<'_>) -> Result<Request, Fault>
+    requires { AllHaveDefaults table.now.models.now }
+    ensures ok { (name : Text) (words : List Text) → fault_of (app_for name (models_of table.now)) words ≡ [] → subcommand_rows_of matches.now ≡ subcommand_of (app_for name (models_of table.now)) words
+        → IfOk result (IsAsked name (models_of table.now) words) }
+    ensures err { (name : Text) (words : List Text) → fault_of (app_for name (models_of table.now)) words ≡ [] → subcommand_rows_of matches.now ≡ subcommand_of (app_for name (models_of table.now)) words
+        → IfErr result (IsRefusedByOf (line_for name (models_of table.now)) words) }
 {
     let Some((name, inner)) = matches.subcommand() else {
         return Err(Fault::BadOption("command-line"));
     };
     if name == "run" {
-        let (settings, values) = read_run(alloc, inner, own)?;
-        Ok(Request::Run(settings, values))
+        let (settings, chosen) = read_run(alloc, inner, table)?;
+        Ok(Request::Run(settings, chosen))
     } else if name == "replay" {
-        let (settings, values) = read_replay(alloc, inner, own)?;
-        Ok(Request::Replay(settings, values))
+        let (settings, chosen) = read_replay(alloc, inner, table)?;
+        Ok(Request::Replay(settings, chosen))
     } else {
         Err(Fault::BadOption("command-line"))
     }
 }
 
-/// What the command line of a program of one model asks for. `own` are the model's options; the first word is the program's
-/// name. In the order in which they are tested, the options of `run` are `synch`, `workers`, `lps`, `end` and `seed`, the
-/// model's, `turns` and `text`; those of `replay` are `workers`, `lps`, `end` and `seed`, the model's, `serial` and `text`.
+/// What the command line of a program asks for. `table` are the program's models with their options; the first word is the
+/// program's name. In the order in which they are tested, the options of `run` are the one that names the model, `synch`,
+/// `workers`, `lps`, `end` and `seed`, those of all models, `turns` and `text`; those of `replay` are the one that names the
+/// model, `workers`, `lps`, `end` and `seed`, those of all models, `serial` and `text`.
 ///
-/// [`Fault::BadOption`] with an option's name: this is the first bad option in that order. [`Fault::BadOption`] with
-/// `command-line`: the words have no meaning. A word is unknown, an option has no value or is given twice, or the subcommand
-/// is missing or unknown. [`Fault::Memory`]: memory was refused.
+/// [`Fault::BadOption`] with an option's name: this is the first bad option in that order. Options of models that aren't
+/// chosen are tested too. [`Fault::BadOption`] with `command-line`: the words have no meaning. A word is unknown, an option has
+/// no value or is given twice, or the subcommand is missing or unknown. [`Fault::Memory`]: memory was refused.
 pub fn read_request<S: AsStr>(
     alloc: Global,
     texts: &ProgramTexts,
-    own: &[OwnOption],
+    table: &ModelTable<'_>,
     words: &[S],
 ) -> Result<Request, Fault>
-    requires { HaveDefaults own.now }
-    ensures ok { IfOk result (IsAsked texts.now.name.now own.now (map S.text words.now)) }
-    ensures err { IfErr result (IsRefusedByOf (own_line texts.now.name.now own.now) (map S.text words.now)) }
+    requires { AllHaveDefaults table.now.models.now }
+    ensures ok { IfOk result (IsAsked texts.now.name.now (models_of table.now) (map S.text words.now)) }
+    ensures err { IfErr result (IsRefusedByOf (line_for texts.now.name.now (models_of table.now)) (map S.text words.now)) }
 {
-    match own_matches(alloc, texts, own, words) {
-        Ok(matches) => request_of(alloc, &matches, own),
+    match table_matches(alloc, texts, table, words) {
+        Ok(matches) => request_of(alloc, &matches, table),
         Err(error) => Ok(Request::Help(help_of(alloc, error)?)),
     }
 }

@@ -1,10 +1,10 @@
 //! What a terminal is told after a refusal: which word it was, and what is allowed.
 
-ghost use Rattle.vt_options.specs.Own.{HaveDefaults};
+ghost use Rattle.vt_options.specs.Own.{AllHaveDefaults};
 
-use crate::asking::{own_matches, read_request};
+use crate::asking::{read_request, table_matches};
 use crate::line::ProgramTexts;
-use crate::own::OwnOption;
+use crate::own::{ModelTable, OwnOption};
 use crate::texts::{END, LPS, OptionText, SEED, SERIAL, SYNCH, TEXT, TURNS, WORKERS};
 use clap::{ArgMatches, Error};
 use std::alloc::Global;
@@ -15,7 +15,7 @@ use vt_key::Fault;
 static EVERY_MODEL: [OptionText; 8] = [SYNCH, WORKERS, LPS, END, SEED, TURNS, SERIAL, TEXT];
 
 /// Which values an option takes, where a table has it.
-pub fn takes_of(options: &[OptionText], name: &str) -> Option<&'static str> {
+fn takes_of(options: &[OptionText], name: &str) -> Option<&'static str> {
     for option in options {
         if option.name == name {
             return Some(option.takes);
@@ -26,7 +26,7 @@ pub fn takes_of(options: &[OptionText], name: &str) -> Option<&'static str> {
 
 /// A line on an option that is refused: which word it was, and what it takes. Where there is no command, it says so. None where
 /// memory was refused, or the words give no such option a value.
-pub fn hint_on_option(
+fn hint_on_option(
     alloc: Global,
     program: &str,
     matches: &ArgMatches,
@@ -45,14 +45,14 @@ pub fn hint_on_option(
 
 /// A line on words that have no meaning: what the parser says of them, and where to read what is allowed. None where memory
 /// was refused.
-pub fn hint_on_line(alloc: Global, program: &str, error: Error) -> Option<String> {
+fn hint_on_line(alloc: Global, program: &str, error: Error) -> Option<String> {
     let text = error.to_string(alloc).ok()?;
     let first = text.as_str().lines().next()?;
     let said = first.strip_prefix("error: ").unwrap_or(first);
     format!(in alloc; "{program}: {said}; {program} --help says what is allowed").ok()
 }
 
-/// Which values an option of a program of one model takes.
+/// Which values an option of a model takes, where a table has it.
 fn own_takes(alloc: Global, own: &[OwnOption], name: &str) -> Option<String> {
     for option in own {
         if option.name == name {
@@ -61,25 +61,40 @@ fn own_takes(alloc: Global, own: &[OwnOption], name: &str) -> Option<String> {
             return format!(in alloc; "{least} to {most}").ok();
         }
     }
+    None
+}
+
+/// Which values an option of a program of these models takes.
+fn table_takes(alloc: Global, table: &ModelTable<'_>, name: &str) -> Option<String> {
+    if let Some(naming) = &table.naming {
+        if naming.name == name {
+            return naming.takes.to_string(alloc).ok();
+        }
+    }
+    for model in table.models {
+        if let Some(takes) = own_takes(alloc, model.options, name) {
+            return Some(takes);
+        }
+    }
     takes_of(&EVERY_MODEL, name)?.to_string(alloc).ok()
 }
 
-/// A line for a terminal on the command line of a program of one model, where [`read_request`] refuses it: which word it was, and what is
-/// allowed. None where the line isn't refused, or memory was.
+/// A line for a terminal on the command line of a program of these models, where [`read_request`] refuses it: which word it was, and
+/// what is allowed. None where the line isn't refused, or memory was.
 pub fn hint<S: AsStr>(
     alloc: Global,
     texts: &ProgramTexts,
-    own: &[OwnOption],
+    table: &ModelTable<'_>,
     words: &[S],
 ) -> Option<String>
-    requires { HaveDefaults own.now }
+    requires { AllHaveDefaults table.now.models.now }
 {
-    let Err(Fault::BadOption(name)) = read_request(alloc, texts, own, words) else {
+    let Err(Fault::BadOption(name)) = read_request(alloc, texts, table, words) else {
         return None;
     };
-    match own_matches(alloc, texts, own, words) {
+    match table_matches(alloc, texts, table, words) {
         Ok(matches) => {
-            let takes = own_takes(alloc, own, name);
+            let takes = table_takes(alloc, table, name);
             let takes = takes.as_ref().map(|takes| takes.as_str());
             hint_on_option(alloc, texts.name, &matches, name, takes)
         }

@@ -1,8 +1,9 @@
-//! The command line of a program that runs and replays models: its options, and the numbers that the words give them.
+//! The command line of a program that runs and replays models: which model the words choose, and the numbers that they give
+//! to its options.
 //!
-//! `clap` reads the words, and its definitions say which text a line gives to each option. This crate makes the parser
-//! of any list of options. It reads the numbers in these texts in the order of the options, and names the first that is
-//! out of its range.
+//! `clap` reads the words, and its definitions say which text a line gives to each option. [`read_request`] reads the
+//! numbers in these texts, by the options of every model and a [`ModelTable`] of the program's own. It tests them in the order of the table,
+//! those of all models, and names the first that is out of its range.
 #![tactic(auto)]
 
 mod asking;
@@ -10,6 +11,7 @@ mod choices;
 mod hinting;
 mod limits;
 mod line;
+mod models;
 mod own;
 mod reading;
 mod refusing;
@@ -17,12 +19,8 @@ mod texts;
 
 pub use asking::{Request, read_request};
 pub use choices::{ReplaySettings, RunSettings, Synch};
-pub use hinting::{hint, hint_on_line, hint_on_option, takes_of};
+pub use hinting::hint;
 pub use limits::MAX_TURNS;
-pub use line::{ProgramTexts, matches_in};
-pub use own::{OwnOption, own_options};
-pub use reading::{config_options, number_option, small_option, synch_option, text_option};
-pub use refusing::help_of;
-pub use texts::{
-    END, GENERAL, LPS, OptionText, REPLAY_WORKERS, SEED, SERIAL, SYNCH, TEXT, TURNS, WORKERS,
-};
+pub use line::ProgramTexts;
+pub use own::{Chosen, ModelOptions, ModelTable, OwnOption};
+pub use texts::{GENERAL, OptionText};

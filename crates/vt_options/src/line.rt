@@ -84,7 +84,7 @@ fn program_command<'a>(
 ///
 /// An error means that memory was refused, that the words ask for help, or that they have no meaning. Its kind is one
 /// that the definitions give for these words.
-pub fn matches_in<'a, S: AsStr>(
+pub(crate) fn matches_in<'a, S: AsStr>(
     alloc: Global,
     texts: &ProgramTexts,
     run: &[OptionText],

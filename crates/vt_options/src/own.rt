@@ -1,4 +1,4 @@
-//! The options of a model of one's own, as a table.
+//! The options of models of one's own, as tables.
 
 ghost use Rattle.std.specs.Prelude.{◌≡◌, None, IfOk, IfErr, length};
 ghost use Rattle.clap.specs.Words.{first_value, found_of};
@@ -6,6 +6,7 @@ ghost use Rattle.vt_options.specs.Table.{first_bad_of};
 ghost use Rattle.vt_options.specs.Own.{HaveDefaults, AreWithin, GiveValues, NamesBad, number_table};
 
 use crate::reading::small_option;
+use crate::texts::OptionText;
 use clap::ArgMatches;
 use std::alloc::Global;
 use vt_key::Fault;
@@ -25,6 +26,35 @@ pub struct OwnOption {
     pub help: &'static str,
 }
 
+/// A model of a program, with its options.
+#[derive(Debug, Clone, Copy)]
+pub struct ModelOptions<'a> {
+    /// The name by which a command line chooses it.
+    pub name: &'static str,
+    /// The heading of its options in help.
+    pub heading: &'static str,
+    /// Its options, in the order in which they are tested.
+    pub options: &'a [OwnOption],
+}
+
+/// The models of a program.
+#[derive(Debug, Clone, Copy)]
+pub struct ModelTable<'a> {
+    /// The option that names the model which is meant; where it isn't given, the first is. None: the first is always meant.
+    pub naming: Option<OptionText>,
+    /// The models, in the order in which their options are tested.
+    pub models: &'a [ModelOptions<'a>],
+}
+
+/// The model that a command line chooses, and the values of its options.
+#[derive(Debug, Drop)]
+pub struct Chosen {
+    /// The model's index in the table of models.
+    pub model: usize,
+    /// The values of its options, in the order of its own table. Each is in its range.
+    pub values: Vec<u32>,
+}
+
 /// The values of the options of a model, in the order of their table. Each is in its range; an option that isn't given has
 /// its default.
 ///
@@ -36,7 +66,7 @@ pub fn own_options(
     table: &[OwnOption],
 ) -> Result<Vec<u32>, Fault>
     requires { HaveDefaults table.now }
-    ensures ok { IfOk result (λ values. GiveValues (first_value (found_of matches.now)) table.now values.items) }
+    ensures ok { IfOk result (λ values. GiveValues (first_value (found_of matches.now)) (number_table table.now) values.items) }
     ensures within { IfOk result (λ values. AreWithin table.now values.items) }
     ensures good { IfOk result (λ _. first_bad_of (first_value (found_of matches.now)) (number_table table.now) ≡ None) }
     ensures err { IfErr result (NamesBad (first_bad_of (first_value (found_of matches.now)) (number_table table.now))) }

@@ -37,7 +37,7 @@ fn number_given(
 }
 
 /// An option that is a number of up to 64 bits, from `least` to `most`; `default` if it isn't given.
-pub fn number_option(
+pub(crate) fn number_option(
     matches: &ArgMatches,
     name: &'static str,
     least: u64,
@@ -54,7 +54,7 @@ pub fn number_option(
 }
 
 /// An option that is a number of up to 32 bits, from `least` to `most`; `default` if it isn't given.
-pub fn small_option(
+pub(crate) fn small_option(
     matches: &ArgMatches,
     name: &'static str,
     least: u32,
@@ -80,7 +80,7 @@ pub fn small_option(
 /// The option `synch`: how a run keeps events in order; 1 if it isn't given.
 ///
 /// [`Fault::BadOption`]: it is neither 1 nor 3.
-pub fn synch_option(matches: &ArgMatches) -> Result<Synch, Fault>
+pub(crate) fn synch_option(matches: &ArgMatches) -> Result<Synch, Fault>
     ensures ok { IfOk result (λ synch. synch_in (first_value (found_of matches.now) (codes "synch")) ≡ Some synch) }
     ensures err { IfErr result (λ fault. fault_number fault ≡ 7) }
     ensures bad { IfErr result (λ fault. option_named fault ≡ bad (codes "synch") (synch_in (first_value (found_of matches.now) (codes "synch")))) }
@@ -98,7 +98,7 @@ pub fn synch_option(matches: &ArgMatches) -> Result<Synch, Fault>
 /// The option `text`: the version of the text of records; 2 if it isn't given.
 ///
 /// [`Fault::BadOption`]: it is neither 1 nor 2.
-pub fn text_option(matches: &ArgMatches) -> Result<Version, Fault>
+pub(crate) fn text_option(matches: &ArgMatches) -> Result<Version, Fault>
     ensures ok { IfOk result (λ version. version_in (first_value (found_of matches.now) (codes "text")) ≡ Some version) }
     ensures err { IfErr result (λ fault. fault_number fault ≡ 7) }
     ensures bad { IfErr result (λ fault. option_named fault ≡ bad (codes "text") (version_in (first_value (found_of matches.now) (codes "text")))) }
@@ -116,7 +116,7 @@ pub fn text_option(matches: &ArgMatches) -> Result<Version, Fault>
 /// The options of the config: `workers`, `lps`, `end` and `seed`.
 ///
 /// [`Fault::BadOption`] names the first of them that is no number in its range.
-pub fn config_options(matches: &ArgMatches) -> Result<Config, Fault>
+pub(crate) fn config_options(matches: &ArgMatches) -> Result<Config, Fault>
     ensures ok { IfOk result (λ c. GiveConfig (first_value (found_of matches.now)) c) }
     ensures good { IfOk result (λ _. first_bad_of (first_value (found_of matches.now)) config_table ≡ None) }
     ensures err { IfErr result (λ fault. fault_number fault ≡ 7) }

@@ -14,7 +14,7 @@ use vt_key::Fault;
 ///
 /// [`Fault::BadOption`] with `command-line`: they ask for no help. The fault is [`Fault::Memory`] only if the parser or
 /// the text of the help was refused memory.
-pub fn help_of(alloc: Global, error: Error) -> Result<String, Fault>
+pub(crate) fn help_of(alloc: Global, error: Error) -> Result<String, Fault>
     ensures ok { (app : App) (words : List Text) → HasKind (fault_of app words) error → IfOk result (λ _. AskHelpOf app words) }
     ensures err { (app : App) (words : List Text) → HasKind (fault_of app words) error → IfErr result (IsRefusedAfter app words) }
     ensures memory { IfErr result (λ fault. fault ≡ Fault.Memory → (kind_of error ≡ ErrorKind.OutOfMemory) ⊎ (kind_of error ≡ ErrorKind.DisplayHelp)) }

@@ -19,7 +19,7 @@ pub struct OptionText {
 pub const GENERAL: &str = "Options of every model";
 
 /// How a run keeps events in order.
-pub const SYNCH: OptionText = OptionText {
+pub(crate) const SYNCH: OptionText = OptionText {
     name: "synch",
     value: "N",
     heading: GENERAL,
@@ -28,7 +28,7 @@ pub const SYNCH: OptionText = OptionText {
 };
 
 /// The workers of a run.
-pub const WORKERS: OptionText = OptionText {
+pub(crate) const WORKERS: OptionText = OptionText {
     name: "workers",
     value: "N",
     heading: GENERAL,
@@ -37,7 +37,7 @@ pub const WORKERS: OptionText = OptionText {
 };
 
 /// The workers of a replay.
-pub const REPLAY_WORKERS: OptionText = OptionText {
+pub(crate) const REPLAY_WORKERS: OptionText = OptionText {
     name: "workers",
     value: "N",
     heading: GENERAL,
@@ -46,7 +46,7 @@ pub const REPLAY_WORKERS: OptionText = OptionText {
 };
 
 /// The logical processes.
-pub const LPS: OptionText = OptionText {
+pub(crate) const LPS: OptionText = OptionText {
     name: "lps",
     value: "N",
     heading: GENERAL,
@@ -55,7 +55,7 @@ pub const LPS: OptionText = OptionText {
 };
 
 /// The end of virtual time.
-pub const END: OptionText = OptionText {
+pub(crate) const END: OptionText = OptionText {
     name: "end",
     value: "N",
     heading: GENERAL,
@@ -64,7 +64,7 @@ pub const END: OptionText = OptionText {
 };
 
 /// The seed of all random draws.
-pub const SEED: OptionText = OptionText {
+pub(crate) const SEED: OptionText = OptionText {
     name: "seed",
     value: "N",
     heading: GENERAL,
@@ -73,7 +73,7 @@ pub const SEED: OptionText = OptionText {
 };
 
 /// The most turns of a worker.
-pub const TURNS: OptionText = OptionText {
+pub(crate) const TURNS: OptionText = OptionText {
     name: "turns",
     value: "N",
     heading: GENERAL,
@@ -82,7 +82,7 @@ pub const TURNS: OptionText = OptionText {
 };
 
 /// The first serial of each worker's events.
-pub const SERIAL: OptionText = OptionText {
+pub(crate) const SERIAL: OptionText = OptionText {
     name: "serial",
     value: "N",
     heading: GENERAL,
@@ -91,7 +91,7 @@ pub const SERIAL: OptionText = OptionText {
 };
 
 /// The version of the text of records.
-pub const TEXT: OptionText = OptionText {
+pub(crate) const TEXT: OptionText = OptionText {
     name: "text",
     value: "N",
     heading: GENERAL,

@@ -1,40 +1,31 @@
 -- What the program does, by what its parts did.
-use Rattle.std.proofs.Common.{ℕ, ◌≤◌, List, Option}
+use Rattle.std.proofs.Common.{ℕ, List, Option, inl, codes}
 use Rattle.std.specs.Io.KnownBytes.{Keeps}
 use Rattle.clap.specs.Words.{Text}
 use Rattle.vt_key.specs.declared.fault.Fault.{Fault}
-use Rattle.vt_key.specs.declared.limits.TheConstants.{MAX_COUNT}
-use Rattle.vt_command.specs.declared.choices.ReplayOptions.{ReplayOptions}
-use Rattle.vt_command.specs.Line.{given_in}
-use Rattle.vt_command.specs.Requests.{AskHelp, AskReplay, IsRefusedAs}
-use Rattle.vt_runner.specs.Outcomes.{IsAsked}
-use Rattle.vt_runner.proofs.OutcomeLemmas as outcomes
-use Rattle.vt_program.specs.Outcomes.{IsDone, EndsBy, AskWithBadLine, twarp}
-
--- what the words ask for is what the command line says
-pub is_asked : IsAsked twarp
-is_asked = record {
-  run = λ words o asked. (asked.run, asked.options.all_good);
-  replay = λ words o asked. (asked.replay, asked.options.all_good);
-  config = λ words o asked. asked.options.config;
-}
+use Rattle.vt_options.specs.Requests.{IsRefusedByOf}
+use Rattle.vt_command.specs.Requests.{AskHelp, IsRefusedAs, twarp_line}
+use Rattle.vt_command.specs.Table.{twarp_models}
+use Rattle.vt_runner.proofs.ModelsLemmas as models
+use Rattle.vt_program.specs.Models.{meaning_of, IsMadeOf}
+use Rattle.vt_program.specs.Outcomes.{IsDone, EndsBy, AskWithBadLine}
 
 -- words that are refused and don't ask for help are never answered
 pub not_done : (words : List Text) (name : Text) (input old new : Option (List ℕ)) → IsRefusedAs words name → ¬ AskHelp words → IsDone words input old new → ⊥
-not_done words name input old new refused no_help = outcomes.not_done twarp is_asked words name input old new refused no_help
+not_done words name input old new refused no_help h = models.not_done meaning_of IsMadeOf (codes "twarp") twarp_models words name input old new refused no_help h
 
 -- and nothing is written for them
 pub nothing_written : (words : List Text) (name : Text) (input old new : Option (List ℕ)) (fault : Fault) → IsRefusedAs words name → ¬ AskHelp words → EndsBy fault words input old new → Keeps old new
-nothing_written words name input old new fault refused no_help = outcomes.nothing_written twarp is_asked words name input old new refused no_help fault
+nothing_written words name input old new fault refused no_help h = models.nothing_written meaning_of IsMadeOf (codes "twarp") twarp_models words name input old new fault refused no_help (inl h)
 
 -- a text with a bad line is never replayed
 pub bad_not_done : (words : List Text) (input : Option (List ℕ)) → AskWithBadLine words input → (old new : Option (List ℕ)) → IsDone words input old new → ⊥
-bad_not_done words input bad old new = outcomes.bad_not_done twarp is_asked words input bad old new
+bad_not_done words input bad old new h = models.bad_not_done meaning_of IsMadeOf (codes "twarp") twarp_models words input old new bad h
 
 -- and nothing is written for it
 pub bad_nothing_written : (words : List Text) (input : Option (List ℕ)) → AskWithBadLine words input → (old new : Option (List ℕ)) (fault : Fault) → EndsBy fault words input old new → Keeps old new
-bad_nothing_written words input bad old new fault = outcomes.bad_nothing_written twarp is_asked words input bad old new fault
+bad_nothing_written words input bad old new fault h = models.bad_nothing_written meaning_of IsMadeOf (codes "twarp") twarp_models words input old new fault bad (inl h)
 
--- serials begin within their limit
-pub serial_counted : (words : List Text) (o : ReplayOptions) → AskReplay words o → o.serial ≤ MAX_COUNT
-serial_counted words o asked = outcomes.serial_counted (given_in words) o.serial asked.options.serial
+-- where the words are refused, nothing is written
+pub words_refused : (words : List Text) (input old new : Option (List ℕ)) → Keeps old new → (fault : Fault) → IsRefusedByOf twarp_line words fault → EndsBy fault words input old new
+words_refused words input old new kept fault h = models.words_refused meaning_of IsMadeOf (codes "twarp") twarp_models words input old new kept fault h

@@ -1,4 +1,3 @@
 pub mod Refusals
-pub mod Runs
-pub mod Replays
+pub mod Models
 pub mod Outcomes

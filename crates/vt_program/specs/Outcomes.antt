@@ -1,31 +1,15 @@
 -- What the program does with the words of a command line and with what a reader gives, and what it may write to.
-use Rattle.std.specs.Prelude.{ℕ, List, Option}
+use Rattle.std.specs.Prelude.{ℕ, List, Option, codes}
 use Rattle.clap.specs.Words.{Text}
 use Rattle.vt_key.specs.declared.fault.Fault.{Fault}
+use Rattle.vt_command.specs.Table.{twarp_models}
 use Rattle.vt_runner.specs.Outcomes.{Program, IsDoneBy, EndsWith, AskBadLine}
-use Rattle.vt_command.specs.declared.choices.Options.{Options}
-use Rattle.vt_command.specs.declared.choices.ReplayOptions.{ReplayOptions}
-use Rattle.vt_command.specs.Requests.{twarp_line, AskRun, AskReplay}
-use Rattle.vt_program.specs.Runs.{text_of_run, text_of_run_below, PassesInRunOf}
-use Rattle.vt_program.specs.Replays.{IsReplay, AreRepliesOfReplay, OpensTooLate}
+use Rattle.vt_runner.specs.Models.{program_of}
+use Rattle.vt_program.specs.Models.{meaning_of, IsMadeOf}
 
 -- the program of the three models
 abbrev pub twarp : Program
-twarp = record {
-  line = twarp_line;
-  Run = Options;
-  Replay = ReplayOptions;
-  AskRun = AskRun;
-  AskReplay = AskReplay;
-  synch_of = λ o. o.synch;
-  text_of = text_of_run;
-  text_below = text_of_run_below;
-  Passes = PassesInRunOf;
-  config_of = λ o. o.config;
-  IsOutput = IsReplay;
-  AreLines = AreRepliesOfReplay;
-  OpensLate = OpensTooLate;
-}
+twarp = program_of meaning_of IsMadeOf (codes "twarp") twarp_models
 
 -- what the words ask for was done
 abbrev pub IsDone : List Text → Option (List ℕ) → Option (List ℕ) → Option (List ℕ) → Type 0

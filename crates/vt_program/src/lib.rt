@@ -4,9 +4,8 @@
 //! whole program with writers of their own.
 #![tactic(auto)]
 
+mod models;
 mod refusal;
-mod replay;
-mod simulation;
 
 ghost use Rattle.std.specs.Prelude.{◌≡◌, ◌≢◌, map, OnOk, IfErr};
 ghost use Rattle.std.specs.Io.KnownBytes.{Keeps};
@@ -16,9 +15,9 @@ ghost use Rattle.vt_command.specs.Requests.{AreOfReplay, AskHelp, IsRefusedAs};
 ghost use Rattle.vt_program.specs.Refusals.{TellsRefusal, status_of};
 ghost use Rattle.vt_program.specs.Outcomes.{AskWithBadLine, IsDone, EndsBy};
 
+pub use models::TwarpModel;
+use models::{model_of, replay, simulate};
 pub use refusal::tell_refusal;
-use replay::run_replay;
-use simulation::simulate;
 use std::alloc::Global;
 use std::convert::AsStr;
 use std::io::{Read, Write};
@@ -27,6 +26,7 @@ use std::thread::Threads;
 pub use vt_command::hint;
 use vt_command::{Request, read_request};
 use vt_key::Fault;
+pub use vt_runner::words_of;
 pub use vt_station::{Progress, Unwatched, Watch};
 pub use vt_text::print_records;
 use vt_text::write_bytes;
@@ -46,8 +46,14 @@ fn answer<H: Threads + Wait + Sync, S: AsStr, R: Read, W: Watch + Sync, O: Write
 {
     match read_request(alloc, words)? {
         Request::Help(text) => write_bytes(out, text.as_bytes()),
-        Request::Run(options) => simulate(rt, alloc, &options, watch, out),
-        Request::Replay(options) => run_replay(alloc, &options, reader, out),
+        Request::Run(settings, chosen) => {
+            let model = model_of(&chosen);
+            simulate(rt, alloc, &model, &settings, watch, out)
+        }
+        Request::Replay(settings, chosen) => {
+            let model = model_of(&chosen);
+            replay(alloc, &model, &settings, reader, out)
+        }
     }
 }
 

@@ -4,5 +4,6 @@ pub mod PrintLemmas
 pub mod OutcomeLemmas
 pub mod ReplyLemmas
 pub mod ReplayLemmas
+pub mod ModelsLemmas
 pub mod OneModelLemmas
 pub mod ShareLemmas

@@ -1,107 +1,89 @@
 -- What a program of one model does, by what its parts did.
-use Rattle.std.proofs.Common.{◌≡◌, ◌∙◌, ℕ, ◌≤◌, List, Option, Some, None, inl, inr, sym, ap, length, codes}
+use Rattle.std.proofs.Common.{◌≡◌, ◌∙◌, ℕ, List, [], ◌∷◌, Option, Some, None, inl, ap, subst, length, codes, get_or}
 use Rattle.std.specs.Io.KnownBytes.{Appends, Keeps}
 use Rattle.std.proofs.lemmas.List.{length-map}
+use Rattle.std.proofs.lemmas.Grind.{get_or_head}
 use Rattle.clap.specs.Words.{Text}
 use Rattle.vt_key.specs.declared.fault.Fault.{Fault}
-use Rattle.vt_key.specs.declared.fault.Fault.TheVariants.{Memory, NotLawful, Busy, Closed, Exhausted, TurnsSpent, BadOption, BadStep, Output}
-use Rattle.vt_key.specs.declared.limits.TheConstants.{MAX_COUNT}
 use Rattle.vt_key.specs.Faults.{option_named}
 use Rattle.vt_model.specs.Handler.{Handlers}
 use Rattle.vt_model.specs.Simulation.{simulation_of}
 use Rattle.vt_world.specs.Answers.{PassesAtStart}
 use Rattle.vt_options.specs.declared.choices.ReplaySettings.{ReplaySettings}
 use Rattle.vt_options.specs.declared.choices.RunSettings.{RunSettings}
+use Rattle.vt_options.specs.declared.own.Chosen.{Chosen}
 use Rattle.vt_options.specs.declared.own.OwnOption.{OwnOption}
-use Rattle.vt_options.specs.Line.{given_by}
-use Rattle.vt_options.specs.Own.{own_app, own_line, number_table, number_option, GiveValues, AskOwnRun, AskOwnReplay}
+use Rattle.vt_options.specs.Own.{only, own_app, own_line, number_table, number_option, AreInRange, AreWithin, GiveModel, AskRunWith, AskReplayWith}
 use Rattle.vt_options.specs.Requests.{AskHelpOf, IsRefusedAsOf, IsRefusedByOf}
-use Rattle.vt_options.specs.Table.{Given, value_in}
+use Rattle.vt_options.specs.Table.{Given, NumberOption}
 use Rattle.vt_runner.specs.Runs.{run_text, text_below, PassesInRun, StopsBy}
 use Rattle.vt_runner.specs.Replays.{IsReplayOf, AreRepliesOf, ReplaysBy, EndsReplayBy}
-use Rattle.vt_runner.specs.Outcomes.{IsAsked}
-use Rattle.vt_runner.specs.OneModel.{program_of, AskWithValues, IsDoneOf, EndsOf, AskBadLineOf}
-use Rattle.vt_runner.proofs.OutcomeLemmas as outcomes
+use Rattle.vt_runner.specs.Models.{AnyHandlers, AskWith}
+use Rattle.vt_runner.specs.OneModel.{meaning_of, MakesOf, IsDoneOf, EndsOf, AskBadLineOf}
+use Rattle.vt_runner.proofs.ModelsLemmas as models
 
--- as many values are given as there are options
-pub values_are : (given : Given) (own : List OwnOption) (values : List ℕ) → GiveValues given own values → length values ≡ length own
-values_are given own values h =
-    sym (length-map values Some)
-    ∙ sym (ap length h)
-    ∙ length-map (number_table own) (value_in given)
-    ∙ length-map own number_option
+-- the values of the only model are those of its options
+module _ (given : Given) (own : List OwnOption) (k : ℕ) (vs : List ℕ) (h : GiveModel (only own) given k vs) where
+  table_is : get_or (number_table own ∷ []) k [] ≡ number_table own
+  table_is = let same : k ≡ 0 = cc in get_or_head (number_table own) [] k [] same
 
--- serials begin within their limit
-pub serial_counted : (name : Text) (own : List OwnOption) (words : List Text) (s : ReplaySettings) (values : List ℕ) → AskOwnReplay name own words s values → s.serial ≤ MAX_COUNT
-serial_counted name own words s values asked = outcomes.serial_counted (given_by (own_app name own) words) s.serial asked.options.settings.serial
+  pub values_are : length vs ≡ length own
+  values_are = models.values_are given (get_or (number_table own ∷ []) k []) vs h.values ∙ ap length table_is ∙ length-map own number_option
+
+  pub within_are : AreWithin own vs
+  within_are = subst (λ (table : List NumberOption). AreInRange table vs) table_is h.within
 
 module _ {M S P K : Type 0} (handlers : M → Handlers S P K) (Makes : List ℕ → Option M → Type 0) (name : Text) (own : List OwnOption) where
-  -- what the words ask for is what the command line says
-  is_asked : IsAsked (program_of handlers Makes name own)
-  is_asked = record {
-    run = λ words r asked. (asked.asked.run, asked.asked.options.all_good);
-    replay = λ words r asked. (asked.asked.replay, asked.asked.options.all_good);
-    config = λ words r asked. asked.asked.options.settings.config;
-  }
+  abbrev meaning : M → AnyHandlers
+  meaning model = meaning_of handlers Makes name own model
+
+  abbrev Made : Chosen → Option M → Type 0
+  Made chosen made = MakesOf handlers Makes name own chosen made
 
   -- words that are refused and don't ask for help are never answered
   pub not_done : (words : List Text) (bad : Text) (input old new : Option (List ℕ)) → IsRefusedAsOf (own_line name own) words bad → ¬ AskHelpOf (own_app name own) words → IsDoneOf handlers Makes name own words input old new → ⊥
-  not_done words bad input old new refused no_help = outcomes.not_done (program_of handlers Makes name own) is_asked words bad input old new refused no_help
+  not_done words bad input old new refused no_help h = models.not_done meaning Made name (only own) words bad input old new refused no_help h
 
   -- and nothing is written for them
   pub nothing_written : (words : List Text) (bad : Text) (input old new : Option (List ℕ)) (fault : Fault) → IsRefusedAsOf (own_line name own) words bad → ¬ AskHelpOf (own_app name own) words → EndsOf handlers Makes name own fault words input old new → Keeps old new
-  nothing_written words bad input old new fault refused no_help (inl h) = outcomes.nothing_written (program_of handlers Makes name own) is_asked words bad input old new refused no_help fault h
-  nothing_written words bad input old new fault refused no_help (inr h) = h.kept
+  nothing_written words bad input old new fault refused no_help h = models.nothing_written meaning Made name (only own) words bad input old new fault refused no_help h
 
   -- a text with a bad line is never replayed
   pub bad_not_done : (words : List Text) (input old new : Option (List ℕ)) → AskBadLineOf handlers Makes name own words input → IsDoneOf handlers Makes name own words input old new → ⊥
-  bad_not_done words input old new bad = outcomes.bad_not_done (program_of handlers Makes name own) is_asked words input bad old new
+  bad_not_done words input old new bad h = models.bad_not_done meaning Made name (only own) words input old new bad h
 
   -- and nothing is written for it
   pub bad_nothing_written : (words : List Text) (input old new : Option (List ℕ)) (fault : Fault) → AskBadLineOf handlers Makes name own words input → EndsOf handlers Makes name own fault words input old new → Keeps old new
-  bad_nothing_written words input old new fault bad (inl h) = outcomes.bad_nothing_written (program_of handlers Makes name own) is_asked words input bad old new fault h
-  bad_nothing_written words input old new fault bad (inr h) = h.kept
+  bad_nothing_written words input old new fault bad h = models.bad_nothing_written meaning Made name (only own) words input old new fault bad h
 
   module _ (words : List Text) (input old new : Option (List ℕ)) where
     -- a run of a model that the values make was written
-    pub run_done : (s : RunSettings) (values : List ℕ) (model : M) → AskOwnRun name own words s values → Makes values (Some model)
+    pub run_done : (s : RunSettings) (chosen : Chosen) (model : M) → AskRunWith name (only own) words s chosen.model chosen.values.items → Makes chosen.values.items (Some model)
         → Appends old new (run_text s.text (handlers model) s.config) → IsDoneOf handlers Makes name own words input old new
-    run_done s values model asked made h =
-        inr (inl (record { options = record { settings = s; values = values; model = model }; asked = record { asked = asked; made = made }; written = h }))
+    run_done s chosen model asked made h = models.run_done meaning Made name (only own) words input old new s chosen model asked made h
 
     -- or it was refused
-    pub run_stopped : (s : RunSettings) (values : List ℕ) (model : M) (fault : Fault) → AskOwnRun name own words s values → Makes values (Some model)
+    pub run_stopped : (s : RunSettings) (chosen : Chosen) (model : M) (fault : Fault) → AskRunWith name (only own) words s chosen.model chosen.values.items → Makes chosen.values.items (Some model)
         → StopsBy s.synch (PassesInRun (handlers model) s.config) (text_below s.text (handlers model) s.config) (run_text s.text (handlers model) s.config) old new fault
         → EndsOf handlers Makes name own fault words input old new
-    run_stopped s values model fault asked made h =
-        inl (outcomes.run_ends (program_of handlers Makes name own) words (record { settings = s; values = values; model = model }) input old new (record { asked = asked; made = made }) fault h)
+    run_stopped s chosen model fault asked made h = inl (models.run_stopped meaning Made name (only own) words input old new s chosen model asked made fault h)
 
     -- a replay on a model that the values make was written
-    pub replay_done : (s : ReplaySettings) (values : List ℕ) (model : M) → AskOwnReplay name own words s values → Makes values (Some model)
+    pub replay_done : (s : ReplaySettings) (chosen : Chosen) (model : M) → AskReplayWith name (only own) words s chosen.model chosen.values.items → Makes chosen.values.items (Some model)
         → ReplaysBy s.config (λ steps text. IsReplayOf s.text (handlers model) s.config s.serial steps text) input old new → IsDoneOf handlers Makes name own words input old new
-    replay_done s values model asked made h =
-        inr (inr (record { options = record { settings = s; values = values; model = model }; asked = record { asked = asked; made = made }; replayed = h }))
+    replay_done s chosen model asked made h = models.replay_done meaning Made name (only own) words input old new s chosen model asked made h
 
     -- or it was refused
-    pub replay_stopped : (s : ReplaySettings) (values : List ℕ) (model : M) (fault : Fault) → AskOwnReplay name own words s values → Makes values (Some model)
+    pub replay_stopped : (s : ReplaySettings) (chosen : Chosen) (model : M) (fault : Fault) → AskReplayWith name (only own) words s chosen.model chosen.values.items → Makes chosen.values.items (Some model)
         → EndsReplayBy s.config (λ steps text. IsReplayOf s.text (handlers model) s.config s.serial steps text) (λ steps text. AreRepliesOf (handlers model) s.config s.serial steps text) (PassesAtStart (simulation_of (handlers model) s.config) s.serial) input old new fault
         → EndsOf handlers Makes name own fault words input old new
-    replay_stopped s values model fault asked made h =
-        inl (outcomes.replay_ends (program_of handlers Makes name own) words (record { settings = s; values = values; model = model }) input old new fault (record { asked = asked; made = made }) h)
+    replay_stopped s chosen model fault asked made h = inl (models.replay_stopped meaning Made name (only own) words input old new s chosen model asked made fault h)
 
     module _ (kept : Keeps old new) where
       -- the values make no model
-      pub values_refused : (values : List ℕ) (fault : Fault) → AskWithValues name own words values → Makes values None → option_named fault ≡ Some (codes "values") → EndsOf handlers Makes name own fault words input old new
-      values_refused values fault asked none named = inr (record { values = values; asked = asked; refused = none; named = named; kept = kept })
+      pub values_refused : (chosen : Chosen) (fault : Fault) → AskWith name (only own) words chosen → Makes chosen.values.items None → option_named fault ≡ Some (codes "values") → EndsOf handlers Makes name own fault words input old new
+      values_refused chosen fault asked none named = models.values_refused meaning Made name (only own) words input old new kept chosen fault asked none named
 
       -- the words are refused
       pub words_refused : (fault : Fault) → IsRefusedByOf (own_line name own) words fault → EndsOf handlers Makes name own fault words input old new
-      words_refused Memory h = inl (inl kept)
-      words_refused NotLawful h = absurd h
-      words_refused Busy h = absurd h
-      words_refused Closed h = absurd h
-      words_refused Exhausted h = absurd h
-      words_refused TurnsSpent h = absurd h
-      words_refused (BadOption bad) h = inl (inl (record { refused = h; kept = kept }))
-      words_refused (BadStep line) h = absurd h
-      words_refused Output h = absurd h
+      words_refused fault h = inl (models.words_refused meaning Made name (only own) words input old new kept fault h)

@@ -3,4 +3,5 @@ pub mod Runs
 pub mod Replays
 pub mod Replying
 pub mod Outcomes
+pub mod Models
 pub mod OneModel

@@ -18,9 +18,12 @@ use std::sync::Wait;
 use std::thread::Threads;
 use vt_key::Fault;
 use vt_model::Model as EventModel;
-use vt_options::{OwnOption, ProgramTexts, Request, read_request};
+use vt_options::{ModelOptions, ModelTable, OwnOption, ProgramTexts, Request, read_request};
 use vt_station::Watch;
 use vt_text::write_bytes;
+
+/// The heading of the options of a model that is the only one.
+pub(crate) const OWN_HEADING: &str = "Options of the model";
 
 /// The streams of a program.
 #[derive(Debug, Drop)]
@@ -62,16 +65,25 @@ where
     ensures err { IfErr result (λ fault. EndsOf M.handlers (λ values made. FnReturnsAt F.Fn make.now values made) texts.now.name.now own.now fault (map S.text words.now) (R.remaining reader.old) (O.contents out.old) (O.contents out.new)) }
     ensures unread { ¬ AreBy (own_app texts.now.name.now own.now) (codes "replay") (map S.text words.now) → Keeps (R.remaining reader.old) (R.remaining reader.new) }
 {
-    match read_request(alloc, texts, own, words)? {
+    let models = [ModelOptions {
+        name: "",
+        heading: OWN_HEADING,
+        options: own,
+    }];
+    let table = ModelTable {
+        naming: None,
+        models: &models,
+    };
+    match read_request(alloc, texts, &table, words)? {
         Request::Help(text) => write_bytes(out, text.as_bytes()),
-        Request::Run(settings, values) => {
-            let Some(model) = make(values.as_slice()) else {
+        Request::Run(settings, chosen) => {
+            let Some(model) = make(chosen.values.as_slice()) else {
                 return Err(Fault::BadOption("values"));
             };
             simulate(rt, alloc, &model, &settings, watch, out)
         }
-        Request::Replay(settings, values) => {
-            let Some(model) = make(values.as_slice()) else {
+        Request::Replay(settings, chosen) => {
+            let Some(model) = make(chosen.values.as_slice()) else {
                 return Err(Fault::BadOption("values"));
             };
             replay(alloc, &model, &settings, reader, out)

@@ -11,7 +11,7 @@ ghost use Rattle.vt_options.specs.Own.{HaveDefaults, AreWithin};
 ghost use Rattle.vt_runner.specs.Refusals.{TellsRefusalOf, status_of};
 ghost use Rattle.vt_runner.specs.OneModel.{IsDoneOf, EndsOf};
 
-use crate::one_model::{Streams, model_program};
+use crate::one_model::{OWN_HEADING, Streams, model_program};
 use crate::tell_refusal;
 use std::env;
 use std::env::Env;
@@ -20,13 +20,13 @@ use std::sync::Wait;
 use std::thread::Threads;
 use vt_key::Fault;
 use vt_model::Model as EventModel;
-use vt_options::{OwnOption, ProgramTexts, hint};
+use vt_options::{ModelOptions, ModelTable, OwnOption, ProgramTexts, hint};
 use vt_station::Watch;
 
 /// The process's words. No contract says that they are these: the library's `env::args` has none.
 ///
 /// [`Fault::Memory`]: memory was refused. [`Fault::BadOption`] with `command-line`: a word isn't text.
-fn words_of<H: Env + AllocGlobal>(rt: &H) -> Result<Vec<String>, Fault>
+pub fn words_of<H: Env + AllocGlobal>(rt: &H) -> Result<Vec<String>, Fault>
     ensures refused { IfErr result (λ fault. (fault ≡ Memory) ⊎ (option_named fault ≡ Some (codes "command-line"))) }
 {
     match env::args(rt) {
@@ -99,5 +99,14 @@ pub fn hint_of_process<H: Env + AllocGlobal>(
     let Ok(words) = words_of(rt) else {
         return None;
     };
-    hint(rt.alloc(), texts, own, words.as_slice())
+    let models = [ModelOptions {
+        name: "",
+        heading: OWN_HEADING,
+        options: own,
+    }];
+    let table = ModelTable {
+        naming: None,
+        models: &models,
+    };
+    hint(rt.alloc(), texts, &table, words.as_slice())
 }

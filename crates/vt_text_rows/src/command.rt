@@ -3,10 +3,10 @@
 use std::alloc::{AllocError, Global};
 use std::process::Abort;
 use std::test::Fail;
-use vt_command::{ModelName, Options, ReplayOptions, Request, Synch, read_request};
+use vt_command::{Request, read_request};
 use vt_key::Fault;
 use vt_model::Config;
-use vt_models::{Hop, Phold, Stations};
+use vt_options::{Chosen, ReplaySettings, RunSettings, Synch};
 use vt_text::Version;
 
 /// An option with the ends of its range, a text beyond each end, and its default.
@@ -160,18 +160,18 @@ fn fault_of(
     Ok(read_request(alloc, &["twarp", subcommand, word.as_str()]).err())
 }
 
-/// The options of a line, where it is one of a run.
-fn options_of(alloc: Global, words: &[&str]) -> Option<Options> {
+/// The settings of a line and what it chooses, where it is one of a run.
+fn run_of(alloc: Global, words: &[&str]) -> Option<(RunSettings, Chosen)> {
     match asked(alloc, words) {
-        Ok(Request::Run(options)) => Some(options),
+        Ok(Request::Run(settings, chosen)) => Some((settings, chosen)),
         _ => None,
     }
 }
 
-/// The options of a line, where it is one of a replay.
-fn replay_options_of(alloc: Global, words: &[&str]) -> Option<ReplayOptions> {
+/// The settings of a line and what it chooses, where it is one of a replay.
+fn replay_of(alloc: Global, words: &[&str]) -> Option<(ReplaySettings, Chosen)> {
     match asked(alloc, words) {
-        Ok(Request::Replay(options)) => Some(options),
+        Ok(Request::Replay(settings, chosen)) => Some((settings, chosen)),
         _ => None,
     }
 }
@@ -280,102 +280,100 @@ fn the_first_bad_option_of_the_table_is_named(rt: HostRuntime) -> Result<(), Fai
     Ok(())
 }
 
-#[test]
-fn options_have_defaults(rt: HostRuntime) -> Result<(), Fail> {
-    let expected = Options {
-        model: ModelName::Hop,
-        synch: Synch::Sequential,
-        config: Config::new(2, 1, 10, 0)?,
-        hop: Hop::new(2, 1, 2, 0)?,
-        phold: Phold::new(1, 0, 1, 1)?,
-        stations: Stations::new(1, 1, 1)?,
-        turns: 10_000_000,
-        text: Version::Two,
+/// Asserts that a line of a run has these settings, and chooses the model of this index with these values.
+fn expect_run(
+    rt: &(impl Abort + AllocGlobal),
+    line: &str,
+    expected: &RunSettings,
+    model: usize,
+    values: &[u32],
+) -> Result<(), Fail> {
+    let words: Vec<&str> = line.split_ascii_whitespace().collect(rt.alloc())?;
+    let Some((settings, chosen)) = run_of(rt.alloc(), words.as_slice()) else {
+        assert!(rt; false, "{line}");
+        return Ok(());
     };
-    assert_eq!(rt; options_of(rt.alloc(), &["twarp", "run"]), Some(expected));
-    let expected = ReplayOptions {
-        model: ModelName::Hop,
-        config: Config::new(2, 1, 10, 0)?,
-        hop: Hop::new(2, 1, 2, 0)?,
-        phold: Phold::new(1, 0, 1, 1)?,
-        stations: Stations::new(1, 1, 1)?,
-        serial: 0,
-        text: Version::Two,
+    assert_eq!(rt; settings, *expected, "{line}");
+    assert_eq!(rt; chosen.model, model, "{line}");
+    assert_eq!(rt; chosen.values.as_slice(), values, "{line}");
+    Ok(())
+}
+
+/// Asserts that a line of a replay has these settings, and chooses the model of this index with these values.
+fn expect_replay(
+    rt: &(impl Abort + AllocGlobal),
+    line: &str,
+    expected: &ReplaySettings,
+    model: usize,
+    values: &[u32],
+) -> Result<(), Fail> {
+    let words: Vec<&str> = line.split_ascii_whitespace().collect(rt.alloc())?;
+    let Some((settings, chosen)) = replay_of(rt.alloc(), words.as_slice()) else {
+        assert!(rt; false, "{line}");
+        return Ok(());
     };
-    assert_eq!(rt;
-        replay_options_of(rt.alloc(), &["twarp", "replay"]),
-        Some(expected)
-    );
+    assert_eq!(rt; settings, *expected, "{line}");
+    assert_eq!(rt; chosen.model, model, "{line}");
+    assert_eq!(rt; chosen.values.as_slice(), values, "{line}");
     Ok(())
 }
 
 #[test]
+fn options_have_defaults(rt: HostRuntime) -> Result<(), Fail> {
+    let run = RunSettings {
+        synch: Synch::Sequential,
+        config: Config::new(2, 1, 10, 0)?,
+        turns: 10_000_000,
+        text: Version::Two,
+    };
+    expect_run(&rt, "twarp run", &run, 0, &[2, 1, 2, 0])?;
+    expect_run(&rt, "twarp run --model=hop", &run, 0, &[2, 1, 2, 0])?;
+    expect_run(&rt, "twarp run --model=phold", &run, 1, &[1, 0, 1, 1])?;
+    expect_run(&rt, "twarp run --model=stations", &run, 2, &[1, 1, 1])?;
+    let replay = ReplaySettings {
+        config: Config::new(2, 1, 10, 0)?,
+        serial: 0,
+        text: Version::Two,
+    };
+    expect_replay(&rt, "twarp replay", &replay, 0, &[2, 1, 2, 0])?;
+    expect_replay(&rt, "twarp replay --model phold", &replay, 1, &[1, 0, 1, 1])?;
+    expect_replay(&rt, "twarp replay --model stations", &replay, 2, &[1, 1, 1])
+}
+
+/// Options of all models, and of every model.
+const GIVEN: &str =
+    "--text=1 --travel=14 --service 15 --jobs=16 --span 17 --lookahead=18 --remote 19 --population=6 \
+    --rise=8 --delay=7 --stride 3 --hops=9 --seed 258 --end=64 --lps 12 --workers=4";
+
+#[test]
 fn given_options_are_taken(rt: HostRuntime) -> Result<(), Fail> {
-    let words = [
-        "twarp",
-        "run",
-        "--text=1",
-        "--turns",
-        "5",
-        "--travel=14",
-        "--service",
-        "15",
-        "--jobs=16",
-        "--span",
-        "17",
-        "--lookahead=18",
-        "--remote",
-        "19",
-        "--population=6",
-        "--rise=8",
-        "--delay=7",
-        "--stride",
-        "3",
-        "--hops=9",
-        "--seed",
-        "258",
-        "--end=64",
-        "--lps",
-        "12",
-        "--workers=4",
-        "--synch",
-        "3",
-        "--model=stations",
-    ];
-    let expected = Options {
-        model: ModelName::Stations,
+    let expected = RunSettings {
         synch: Synch::Optimistic,
         config: Config::new(12, 4, 64, 258)?,
-        hop: Hop::new(9, 3, 7, 8)?,
-        phold: Phold::new(6, 19, 18, 17)?,
-        stations: Stations::new(16, 15, 14)?,
         turns: 5,
         text: Version::One,
     };
-    assert_eq!(rt; options_of(rt.alloc(), &words), Some(expected));
+    let models: [(&str, &[u32]); 3] = [
+        ("hop", &[9, 3, 7, 8]),
+        ("phold", &[6, 19, 18, 17]),
+        ("stations", &[16, 15, 14]),
+    ];
+    for (index, (model, values)) in models.into_iter().enumerate() {
+        let line = format!(in rt.alloc(); "twarp run {GIVEN} --turns 5 --synch 3 --model={model}")?;
+        expect_run(&rt, line.as_str(), &expected, index, values)?;
+    }
     Ok(())
 }
 
 #[test]
 fn given_options_of_a_replay_are_taken(rt: HostRuntime) -> Result<(), Fail> {
-    let line =
-        "twarp replay --text 1 --serial=5 --travel 14 --service=15 --jobs 16 --span=17 --lookahead 18 --remote=19 \
-        --population 6 --rise=8 --delay=7 --stride 3 --hops=9 --seed 258 --end=64 --lps 12 --workers=4 --model phold";
-    let words: Vec<&str> = line.split_ascii_whitespace().collect(rt.alloc())?;
-    let expected = ReplayOptions {
-        model: ModelName::Phold,
+    let expected = ReplaySettings {
         config: Config::new(12, 4, 64, 258)?,
-        hop: Hop::new(9, 3, 7, 8)?,
-        phold: Phold::new(6, 19, 18, 17)?,
-        stations: Stations::new(16, 15, 14)?,
         serial: 5,
         text: Version::One,
     };
-    assert_eq!(rt;
-        replay_options_of(rt.alloc(), words.as_slice()),
-        Some(expected)
-    );
-    Ok(())
+    let line = format!(in rt.alloc(); "twarp replay {GIVEN} --serial=5 --model phold")?;
+    expect_replay(&rt, line.as_str(), &expected, 1, &[6, 19, 18, 17])
 }
 
 #[test]

@@ -8,27 +8,48 @@ returns c = record {
   run = record {
     run = record { accepted = refl; subcommand = refl };
     options = record {
-      model = refl;
-      synch = refl;
-      config = record { workers = refl; lps = refl; end = refl; seed = refl };
-      hop = record { hops = refl; stride = refl; delay = refl; rise = refl };
-      phold = record { population = refl; remote = refl; lookahead = refl; span = refl };
-      stations = record { jobs = refl; service = refl; travel = refl };
-      turns = refl;
-      text = refl;
+      settings = record { synch = refl; config = record { workers = refl; lps = refl; end = refl; seed = refl }; turns = refl; text = refl };
+      model = record { chosen = refl; values = refl; within = (refl, (refl, (refl, (refl, tt)))) };
+      all_good = refl;
+    };
+  };
+  run_hop = record {
+    run = record { accepted = refl; subcommand = refl };
+    options = record {
+      settings = record { synch = refl; config = record { workers = refl; lps = refl; end = refl; seed = refl }; turns = refl; text = refl };
+      model = record { chosen = refl; values = refl; within = (refl, (refl, (refl, (refl, tt)))) };
+      all_good = refl;
+    };
+  };
+  run_phold = record {
+    run = record { accepted = refl; subcommand = refl };
+    options = record {
+      settings = record { synch = refl; config = record { workers = refl; lps = refl; end = refl; seed = refl }; turns = refl; text = refl };
+      model = record { chosen = refl; values = refl; within = (refl, (refl, (refl, (refl, tt)))) };
+      all_good = refl;
+    };
+  };
+  run_stations = record {
+    run = record { accepted = refl; subcommand = refl };
+    options = record {
+      settings = record { synch = refl; config = record { workers = refl; lps = refl; end = refl; seed = refl }; turns = refl; text = refl };
+      model = record { chosen = refl; values = refl; within = (refl, (refl, (refl, tt))) };
       all_good = refl;
     };
   };
   replay = record {
     replay = record { accepted = refl; subcommand = refl };
     options = record {
-      model = refl;
-      config = record { workers = refl; lps = refl; end = refl; seed = refl };
-      hop = record { hops = refl; stride = refl; delay = refl; rise = refl };
-      phold = record { population = refl; remote = refl; lookahead = refl; span = refl };
-      stations = record { jobs = refl; service = refl; travel = refl };
-      serial = refl;
-      text = refl;
+      settings = record { config = record { workers = refl; lps = refl; end = refl; seed = refl }; serial = refl; text = refl };
+      model = record { chosen = refl; values = refl; within = (refl, (refl, (refl, (refl, tt)))) };
+      all_good = refl;
+    };
+  };
+  replay_stations = record {
+    replay = record { accepted = refl; subcommand = refl };
+    options = record {
+      settings = record { config = record { workers = refl; lps = refl; end = refl; seed = refl }; serial = refl; text = refl };
+      model = record { chosen = refl; values = refl; within = (refl, (refl, (refl, tt))) };
       all_good = refl;
     };
   };

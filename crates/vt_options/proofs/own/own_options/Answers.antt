@@ -1,7 +1,7 @@
 use Rattle.std.proofs.Common.{◌+◌, subst, sym, take}
 use Rattle.std.proofs.lemmas.Result.{err_from_is_err_and}
 use Rattle.clap.specs.Words.{first_value, found_of}
-use Rattle.vt_options.specs.Own.{AreWithin, GiveValues}
+use Rattle.vt_options.specs.Own.{AreWithin, GiveValues, number_table}
 use Rattle.vt_options.proofs.OwnLemmas.{values_more, good_more, within_more, refused}
 use Rattle.vt_options.proofs.own.own_options.Goals as goal
 
@@ -19,7 +19,7 @@ loop-own-preserved c =
     let l = c.loop-own in
     let v = c.in_ok-value.value in
     let items = sym c.in-Ok.ensures.items in record {
-      given = subst (GiveValues given (take (l.own-index + 1) table)) items (values_more given table l.own-index _ c.loop-own-test.true v c.in_ok-value.ensures.ok l.values.items l.invariant.given);
+      given = subst (GiveValues given (number_table (take (l.own-index + 1) table))) items (values_more given table l.own-index _ c.loop-own-test.true v c.in_ok-value.ensures.ok l.values.items l.invariant.given);
       within = subst (AreWithin (take (l.own-index + 1) table)) items (within_more given table l.own-index _ c.loop-own-test.true v l.values.items c.in_ok-value.ensures.within l.invariant.within);
       good = good_more given table l.own-index _ c.loop-own-test.true v c.in_ok-value.ensures.ok l.invariant.good;
     }

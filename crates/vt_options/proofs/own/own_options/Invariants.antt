@@ -7,7 +7,7 @@ use Rattle.vt_options.proofs.own.own_options.Given as goal
 -- the options so far have these values
 abbrev pub invariant-loop-own : goal.invariant-loop-own
 invariant-loop-own l = record {
-  given : GiveValues (first_value (found_of l.matches)) (take l.own-index l.table) l.values.items;
+  given : GiveValues (first_value (found_of l.matches)) (number_table (take l.own-index l.table)) l.values.items;
   within : AreWithin (take l.own-index l.table) l.values.items;
   good : first_bad_of (first_value (found_of l.matches)) (number_table (take l.own-index l.table)) ≡ None;
 }

@@ -1,0 +1,38 @@
+use Rattle.std.proofs.Common.{◌≡◌, ◌≢◌, arith, rules}
+use Rattle.std.proofs.lemmas.Result.{err_from_is_err_and}
+use Rattle.clap.specs.Words.{first_value, found_of}
+use Rattle.vt_options.proofs.ModelLemmas.{given_here, good_more, refused, within_here}
+use Rattle.vt_options.proofs.models.model_values.Goals.{then-index-wanted, else-index-wanted}
+use Rattle.vt_options.proofs.models.model_values.Goals as goal
+
+pub returns-in_err-values-clause-err : goal.returns-in_err-values-clause-err
+returns-in_err-values-clause-err c =
+    let l = c.loop-index in
+    let p = err_from_is_err_and c.from_residual.result c.from_residual.ensures.1 in
+    rw (p.1, p.2) (refused c.args.models.now l.index _ c.loop-index-test.true (first_value (found_of c.args.matches.now)) l.invariant.good _ c.in_err-values.ensures.err)
+
+pub loop-index-preserved : goal.loop-index-preserved
+loop-index-preserved c =
+    let given = first_value (found_of c.args.matches.now) in
+    let models = c.args.models.now in
+    let l = c.loop-index in
+    let k = c.args.wanted in
+    let test = c.loop-index-test.true in
+    let found = c.in_ok-values.ensures in
+    let good = good_more models l.index _ test given l.invariant.good found.good in
+    elim c.if-index-wanted.branch [
+      | then-index-wanted w ↦
+          let same : l.index ≡ k = search rules in record {
+            before = λ h. absurd (omega (arith, h, same));
+            given = λ h. rw (w.wanted_values-is) (given_here models l.index _ test k same given c.in_ok-values.values.items found.ok);
+            within = λ h. rw (w.wanted_values-is) (within_here models l.index _ test k same c.in_ok-values.values.items found.within);
+            good = good;
+          }
+      | else-index-wanted w ↦
+          let other : l.index ≢ k = search rules in record {
+            before = λ h. rw (w.wanted_values-is) (l.invariant.before (omega (arith, h)));
+            given = λ h. rw (w.wanted_values-is) (l.invariant.given (omega (arith, h, other)));
+            within = λ h. rw (w.wanted_values-is) (l.invariant.within (omega (arith, h, other)));
+            good = good;
+          }
+    ]
