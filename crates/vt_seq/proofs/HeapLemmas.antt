@@ -73,11 +73,6 @@ module _ {P : Type 0} where
   all_later e [] ds h = refl
   all_later e (d ∷ es) ds h = ap (all_inserted es) (inserted-later d e ds (not-before d.key e.key (h d (inl refl)))) ∙ all_later e es (inserted d ds) (λ f m. h f (inr m))
 
-  -- no events are inserted
-  pub none-inserted : (es ds : List (Sent P)) → length es ≡ 0 → all_inserted es ds ≡ ds
-  none-inserted [] ds h = refl
-  none-inserted (e ∷ es) ds h = absurd (omega (arith, h))
-
   -- ---- events of different keys
 
   abbrev one_held : Key → Sent P → ℕ
@@ -187,40 +182,25 @@ module _ {P : Type 0} where
   some-first [] h = absurd (omega (arith, h))
   some-first (x ∷ xs) h = let z : 0 < length (x ∷ xs) = omega arith in z
 
-  -- without an event that is first, these are the ones after it
-  without-first : (x : Entry P) (xs ys : List (Entry P)) → AreApart (events_in xs) → IsPermutation xs (x ∷ ys) → ((d : Sent P) → Among d (events_in ys) → KeyBefore d.key x.event.key → ⊥) → AreApart (events_in ys) × (in_order ys ≡ drop 1 (in_order xs))
-  without-first x xs ys apart h least =
-      let moved : IsPermutation (events_in xs) (x.event ∷ events_in ys) = IsPermutation-map (λ (e : Entry P). e.event) xs (x ∷ ys) h in
-      let same : in_order xs ≡ x.event ∷ in_order ys = same-order (events_in xs) (x.event ∷ events_in ys) moved apart ∙ all_later x.event (events_in ys) [] least in
-      let both : AreApart (x.event ∷ events_in ys) = apart-permuted (events_in xs) (x.event ∷ events_in ys) moved apart in (
-        λ k. let few : held k (x.event ∷ events_in ys) ≤ 1 = both k in let sum : held k (x.event ∷ events_in ys) ≡ one_held k x.event + held k (events_in ys) = sum_by-cons (one_held k) x.event (events_in ys) in omega (arith, few, sum),
-        sym (ap (drop 1) same),
-      )
-
-  -- with an event of another key it stands in its place
-  with-one : (x : Entry P) (xs ys : List (Entry P)) → AreApart (events_in xs) → IsPermutation (x ∷ xs) ys → ((d : Sent P) → Among d (in_order xs) → d.key ≡ x.event.key → ⊥) → AreApart (events_in ys) × (in_order ys ≡ inserted x.event (in_order xs))
-  with-one x xs ys apart h new =
-      let moved : IsPermutation (x.event ∷ events_in xs) (events_in ys) = IsPermutation-map (λ (e : Entry P). e.event) (x ∷ xs) ys h in
-      let other : (d : Sent P) → Among d (events_in xs) → d.key ≡ x.event.key → ⊥ = λ d m. new d (among-all_inserted (events_in xs) [] d (inl m)) in
-      let both : AreApart (x.event ∷ events_in xs) = apart-more x.event (events_in xs) apart other in (
-        apart-permuted (x.event ∷ events_in xs) (events_in ys) moved both,
-        sym (same-order (x.event ∷ events_in xs) (events_in ys) moved both) ∙ past x.event (events_in xs) [] other,
-      )
-
   -- without its top the heap has the events after the first
   pub popped : (x : Entry P) (xs ys : List (Entry P)) → IsQueue xs → IsPermutation xs (x ∷ ys) → IsHeap entry_cmp ys → IsUpperBound entry_cmp x ys → IsQueue ys × (in_order ys ≡ drop 1 (in_order xs))
   popped x xs ys q h heap bound =
-      let left = without-first x xs ys q.apart h (top-least x ys bound) in (record { heap = heap; apart = left.0 }, left.1)
+      let moved : IsPermutation (events_in xs) (x.event ∷ events_in ys) = IsPermutation-map (λ (e : Entry P). e.event) xs (x ∷ ys) h in
+      let same : in_order xs ≡ x.event ∷ in_order ys = same-order (events_in xs) (x.event ∷ events_in ys) moved q.apart ∙ all_later x.event (events_in ys) [] (top-least x ys bound) in
+      let both : AreApart (x.event ∷ events_in ys) = apart-permuted (events_in xs) (x.event ∷ events_in ys) moved q.apart in (
+        record {
+          heap = heap;
+          apart = λ k. let few : held k (x.event ∷ events_in ys) ≤ 1 = both k in let sum : held k (x.event ∷ events_in ys) ≡ one_held k x.event + held k (events_in ys) = sum_by-cons (one_held k) x.event (events_in ys) in omega (arith, few, sum);
+        },
+        sym (ap (drop 1) same),
+      )
 
   -- with one more entry it has that one's event in its place
   pub pushed : (x : Entry P) (xs ys : List (Entry P)) → IsQueue xs → IsPermutation (x ∷ xs) ys → IsHeap entry_cmp ys → ((d : Sent P) → Among d (in_order xs) → d.key ≡ x.event.key → ⊥) → IsQueue ys × (in_order ys ≡ inserted x.event (in_order xs))
   pushed x xs ys q h heap new =
-      let all = with-one x xs ys q.apart h new in (record { heap = heap; apart = all.0 }, all.1)
-
-  -- with an entry in the top's place it has that one's event among those after the first
-  pub replaced : (x y : Entry P) (xs rest ys : List (Entry P)) → IsQueue xs → IsPermutation xs (x ∷ rest) → IsUpperBound entry_cmp x xs → IsPermutation (y ∷ rest) ys → IsHeap entry_cmp ys → ((d : Sent P) → Among d (drop 1 (in_order xs)) → d.key ≡ y.event.key → ⊥) → IsQueue ys × (in_order ys ≡ inserted y.event (drop 1 (in_order xs)))
-  replaced x y xs rest ys q h bound k heap new =
-      let back : IsPermutation (x.event ∷ events_in rest) (events_in xs) = IsPermutation-sym (events_in xs) (x.event ∷ events_in rest) (IsPermutation-map (λ (e : Entry P). e.event) xs (x ∷ rest) h) in
-      let left = without-first x xs rest q.apart h (λ d m. top-least x xs bound d (among-permuted (x.event ∷ events_in rest) (events_in xs) back d (inr m))) in
-      let all = with-one y rest ys left.0 k (subst (λ (es : List (Sent P)). (d : Sent P) → Among d es → d.key ≡ y.event.key → ⊥) (sym left.1) new) in
-      (record { heap = heap; apart = all.0 }, all.1 ∙ ap (inserted y.event) left.1)
+      let moved : IsPermutation (x.event ∷ events_in xs) (events_in ys) = IsPermutation-map (λ (e : Entry P). e.event) (x ∷ xs) ys h in
+      let other : (d : Sent P) → Among d (events_in xs) → d.key ≡ x.event.key → ⊥ = λ d m. new d (among-all_inserted (events_in xs) [] d (inl m)) in
+      let both : AreApart (x.event ∷ events_in xs) = apart-more x.event (events_in xs) q.apart other in (
+        record { heap = heap; apart = apart-permuted (x.event ∷ events_in xs) (events_in ys) moved both },
+        sym (same-order (x.event ∷ events_in xs) (events_in ys) moved both) ∙ past x.event (events_in xs) [] other,
+      )

@@ -1,9 +1,9 @@
 //! The events that are pending, in a heap.
 
-ghost use Rattle.std.specs.Prelude.{◌≡◌, ◌+◌, ◌<◌, ◌≤◌, [], ◌∷◌, length, drop, slice_get, IfOk, IfErr};
+ghost use Rattle.std.specs.Prelude.{◌≡◌, ◌+◌, ◌<◌, ◌≤◌, [], length, drop, slice_get, IfOk, IfErr};
 ghost use Rattle.std.specs.BinaryHeap.{heap_items, heap_len, heap_capacity};
 ghost use Rattle.vt_key.specs.declared.fault.Fault.TheVariants.{Memory};
-ghost use Rattle.vt_seq.specs.Queue.{inserted, all_inserted, AreNew};
+ghost use Rattle.vt_seq.specs.Queue.{all_inserted, AreNew};
 ghost use Rattle.vt_seq.specs.Entries.{in_order, IsQueue};
 
 use crate::entry::Entry;
@@ -68,14 +68,10 @@ impl<P: Copy> PendingEvents<P> {
         let Ok(()) = self.heap.reserve(sends.len().saturating_sub(1)) else {
             return Err(Fault::Memory);
         };
-        let Some((first, others)) = sends.split_first() else {
-            let Some(_) = self.heap.pop() else {
-                unreachable!();
-            };
-            return Ok(());
+        let Some(_) = self.heap.pop() else {
+            unreachable!();
         };
-        replace_top(&mut self.heap, *first);
-        push_all(&mut self.heap, others);
+        push_all(&mut self.heap, sends);
         Ok(())
     }
 
@@ -94,22 +90,6 @@ impl<P: Copy> PendingEvents<P> {
         push_all(&mut self.heap, events);
         Ok(())
     }
-}
-
-/// Writes an event into the place of the top, which there must be.
-fn replace_top<P: Copy>(heap: &mut BinaryHeap<Entry<P>>, event: Sent<P>)
-    requires some { 0 < heap_len heap.old }
-    requires queue { IsQueue (heap_items heap.old) }
-    requires new { AreNew (event ∷ []) (drop 1 (in_order (heap_items heap.old))) }
-    ensures events { in_order (heap_items heap.new) ≡ inserted event (drop 1 (in_order (heap_items heap.old))) }
-    ensures queue { IsQueue (heap_items heap.new) }
-    ensures len { heap_len heap.new ≡ heap_len heap.old }
-    ensures capacity { heap_capacity heap.new ≡ heap_capacity heap.old }
-{
-    let Some(mut top) = heap.peek_mut() else {
-        unreachable!();
-    };
-    *top = Entry { event };
 }
 
 /// Pushes events, for which there must be room.
