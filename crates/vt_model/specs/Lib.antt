@@ -2,6 +2,7 @@ pub mod Settings
 pub mod Sends
 pub mod Out
 pub mod Handler
+pub mod Drawn
 pub mod Simulation
 pub mod Rows
 pub mod Process

@@ -3,6 +3,7 @@
 ghost use Rattle.std.specs.Prelude.{◌≡◌, ◌+◌, ◌*◌, ◌/◌, ◌^◌, ◌<◌, ◌≤◌, ◌↔◌, IsTrue};
 ghost use Rattle.vt_stream.specs.Words.{word_of, moved};
 ghost use Rattle.vt_model.specs.Handler.{IsUndrawn};
+ghost use Rattle.vt_model.specs.Drawn.{drawn_in, stream_in, DrawsFrom, IsSameSource};
 
 use crate::MAX_DRAWS;
 use vt_stream::LpStream;
@@ -21,9 +22,9 @@ pub struct Draws<'a> {
 impl<'a> Draws<'a> {
     /// Draws from this stream, with nothing drawn yet. For simulators.
     pub fn new(stream: &'a mut LpStream) -> Draws<'a>
-        ensures same_reference { result.stream.ghost_name ≡ stream.entry.ghost_name }
-        ensures stream { result.stream.now ≡ stream.old }
-        ensures undrawn { IsUndrawn result.drawn result.stream.now }
+        ensures same_reference { DrawsFrom stream.entry result }
+        ensures stream { stream_in result ≡ stream.old }
+        ensures undrawn { IsUndrawn (drawn_in result) (stream_in result) }
     {
         let _place = stream.place();
         Draws { stream, drawn: 0 }
@@ -31,25 +32,25 @@ impl<'a> Draws<'a> {
 
     /// Whether one more word may be drawn.
     pub fn room(&self) -> bool
-        ensures { IsTrue result ↔ (self.now.drawn < MAX_DRAWS) }
+        ensures { IsTrue result ↔ (drawn_in self.now < MAX_DRAWS) }
     {
         self.drawn < MAX_DRAWS
     }
 
     /// How many words were drawn. For simulators.
     pub fn drawn(&self) -> u32
-        ensures { result ≡ self.now.drawn }
+        ensures { result ≡ drawn_in self.now }
     {
         self.drawn
     }
 
     /// The next word of the process's stream, from 0 to 2^32 - 1. There must be room ([`Draws::room`]).
     pub fn word(&mut self) -> u32
-        requires { self.old.drawn < MAX_DRAWS }
-        ensures value { result ≡ word_of self.old.stream.now 0 }
-        ensures same_reference { self.new.stream.ghost_name ≡ self.old.stream.ghost_name }
-        ensures stream { self.new.stream.now ≡ moved self.old.stream.now 1 }
-        ensures drawn { self.new.drawn ≡ self.old.drawn + 1 }
+        requires { drawn_in self.old < MAX_DRAWS }
+        ensures value { result ≡ word_of (stream_in self.old) 0 }
+        ensures same_reference { IsSameSource self.old self.new }
+        ensures stream { stream_in self.new ≡ moved (stream_in self.old) 1 }
+        ensures drawn { drawn_in self.new ≡ drawn_in self.old + 1 }
     {
         self.drawn += 1;
         self.stream.word()
@@ -58,14 +59,14 @@ impl<'a> Draws<'a> {
     /// The next word of the process's stream scaled to a number from 0 to `n - 1`: the word times `n`, divided by 2^32 and
     /// rounded down. It draws one word. There must be room ([`Draws::room`]), and `n` is from 1 to 2^32.
     pub fn below(&mut self, n: u64) -> u64
-        requires room { self.old.drawn < MAX_DRAWS }
+        requires room { drawn_in self.old < MAX_DRAWS }
         requires low { 1 ≤ n }
         requires high { n ≤ 2 ^ 32 }
-        ensures value { result ≡ word_of self.old.stream.now 0 * n / 2 ^ 32 }
+        ensures value { result ≡ word_of (stream_in self.old) 0 * n / 2 ^ 32 }
         ensures within { result < n }
-        ensures same_reference { self.new.stream.ghost_name ≡ self.old.stream.ghost_name }
-        ensures stream { self.new.stream.now ≡ moved self.old.stream.now 1 }
-        ensures drawn { self.new.drawn ≡ self.old.drawn + 1 }
+        ensures same_reference { IsSameSource self.old self.new }
+        ensures stream { stream_in self.new ≡ moved (stream_in self.old) 1 }
+        ensures drawn { drawn_in self.new ≡ drawn_in self.old + 1 }
     {
         self.drawn += 1;
         self.stream.below(n)

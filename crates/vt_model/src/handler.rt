@@ -5,6 +5,7 @@ ghost use Rattle.vt_key.specs.Times.{Time};
 ghost use Rattle.vt_stream.specs.Words.{word_of, moved};
 ghost use Rattle.vt_model.specs.Sends.{with_requests};
 ghost use Rattle.vt_model.specs.Handler.{Handlers, IsWithinLimits, IsFresh, IsUndrawn, AreWords};
+ghost use Rattle.vt_model.specs.Drawn.{drawn_in, stream_in, IsSameSource};
 ghost use prog.Memory.{size, align};
 ghost use denote.Memory.{lone};
 
@@ -42,13 +43,13 @@ pub trait Model {
     ///
     /// `draws` and `out` are as their `new` gives them, and `lp` is below `out.lps()`.
     fn start(&self, lp: u32, draws: &mut Draws<'_>, out: &mut Out<Self::Payload>) -> Self::State
-        requires undrawn { IsUndrawn draws.old.drawn draws.old.stream.now }
+        requires undrawn { IsUndrawn (drawn_in draws.old) (stream_in draws.old) }
         requires fresh { IsFresh out.old lp 0 }
-        ensures state { result ≡ ((handlers self.now).start out.old.lps lp (word_of draws.old.stream.now)).state }
-        ensures same_reference { draws.new.stream.ghost_name ≡ draws.old.stream.ghost_name }
-        ensures drawn { draws.new.drawn ≡ ((handlers self.now).start out.old.lps lp (word_of draws.old.stream.now)).drawn }
-        ensures stream { draws.new.stream.now ≡ moved draws.old.stream.now ((handlers self.now).start out.old.lps lp (word_of draws.old.stream.now)).drawn }
-        ensures out { out.new ≡ with_requests out.old ((handlers self.now).start out.old.lps lp (word_of draws.old.stream.now)).send_requests [] };
+        ensures state { result ≡ ((handlers self.now).start out.old.lps lp (word_of (stream_in draws.old))).state }
+        ensures same_reference { IsSameSource draws.old draws.new }
+        ensures drawn { drawn_in draws.new ≡ ((handlers self.now).start out.old.lps lp (word_of (stream_in draws.old))).drawn }
+        ensures stream { stream_in draws.new ≡ moved (stream_in draws.old) ((handlers self.now).start out.old.lps lp (word_of (stream_in draws.old))).drawn }
+        ensures out { out.new ≡ with_requests out.old ((handlers self.now).start out.old.lps lp (word_of (stream_in draws.old))).send_requests [] };
 
     /// Executes an event at process `lp` and time `now`, its receive time, which is before the end of the run: it changes the
     /// state, may set bits, draw words, send events and make records, and returns what `reverse` will need and can't find in
@@ -69,16 +70,16 @@ pub trait Model {
         draws: &mut Draws<'_>,
         out: &mut Out<Self::Payload>,
     ) -> Self::Kept
-        requires undrawn { IsUndrawn draws.old.drawn draws.old.stream.now }
+        requires undrawn { IsUndrawn (drawn_in draws.old) (stream_in draws.old) }
         requires fresh { IsFresh out.old lp now }
         requires clear { bits.old.flags ≡ 0 }
-        ensures kept { result ≡ ((handlers self.now).forward out.old.lps lp now payload state.old (word_of draws.old.stream.now)).kept }
-        ensures state { state.new ≡ ((handlers self.now).forward out.old.lps lp now payload state.old (word_of draws.old.stream.now)).state }
-        ensures bits { bits.new ≡ ((handlers self.now).forward out.old.lps lp now payload state.old (word_of draws.old.stream.now)).bits }
-        ensures same_reference { draws.new.stream.ghost_name ≡ draws.old.stream.ghost_name }
-        ensures drawn { draws.new.drawn ≡ ((handlers self.now).forward out.old.lps lp now payload state.old (word_of draws.old.stream.now)).drawn }
-        ensures stream { draws.new.stream.now ≡ moved draws.old.stream.now ((handlers self.now).forward out.old.lps lp now payload state.old (word_of draws.old.stream.now)).drawn }
-        ensures out { let gives = (handlers self.now).forward out.old.lps lp now payload state.old (word_of draws.old.stream.now) in out.new ≡ with_requests out.old gives.send_requests gives.record_requests };
+        ensures kept { result ≡ ((handlers self.now).forward out.old.lps lp now payload state.old (word_of (stream_in draws.old))).kept }
+        ensures state { state.new ≡ ((handlers self.now).forward out.old.lps lp now payload state.old (word_of (stream_in draws.old))).state }
+        ensures bits { bits.new ≡ ((handlers self.now).forward out.old.lps lp now payload state.old (word_of (stream_in draws.old))).bits }
+        ensures same_reference { IsSameSource draws.old draws.new }
+        ensures drawn { drawn_in draws.new ≡ ((handlers self.now).forward out.old.lps lp now payload state.old (word_of (stream_in draws.old))).drawn }
+        ensures stream { stream_in draws.new ≡ moved (stream_in draws.old) ((handlers self.now).forward out.old.lps lp now payload state.old (word_of (stream_in draws.old))).drawn }
+        ensures out { let gives = (handlers self.now).forward out.old.lps lp now payload state.old (word_of (stream_in draws.old)) in out.new ≡ with_requests out.old gives.send_requests gives.record_requests };
 
     /// Undoes an event: from the state, the bits and what was kept, as its `forward` left them, and with the same `lp`, `now`
     /// and `payload`, it restores the state. It draws nothing, sends nothing and makes no records: the kernel takes those back

@@ -3,6 +3,7 @@
 ghost use Rattle.std.specs.Prelude.{◌≡◌, ◌+◌, ◌^◌, ◌<◌, ◌≤◌, [], ◌∷◌, None, IfOk, IfErr, IsSome};
 ghost use Rattle.vt_key.specs.Faults.{option_named};
 ghost use Rattle.vt_model.specs.declared.limits.TheConstants.{MAX_DRAWS, MAX_SENDS};
+ghost use Rattle.vt_model.specs.Drawn.{drawn_in, stream_in, IsSameSource};
 ghost use Rattle.vt_stream.specs.Words.{word_of, moved};
 ghost use Rattle.vt_model.specs.Sends.{with_requests};
 ghost use Rattle.vt_models.specs.declared.stations.TheConstants.{MAX_JOBS, MAX_SERVICE, MAX_TRAVEL};
@@ -96,13 +97,13 @@ impl Stations {
 
     // Begins a service at station `lp`: its end is drawn and sent.
     fn serve(&self, lp: u32, draws: &mut Draws<'_>, out: &mut Out<JobEvent>)
-        requires words { draws.old.drawn < MAX_DRAWS }
+        requires words { drawn_in draws.old < MAX_DRAWS }
         requires known { lp < out.old.lps }
         requires room { out.old.number < out.old.first + MAX_SENDS }
-        ensures same_reference { draws.new.stream.ghost_name ≡ draws.old.stream.ghost_name }
-        ensures drawn { draws.new.drawn ≡ draws.old.drawn + 1 }
-        ensures stream { draws.new.stream.now ≡ moved draws.old.stream.now 1 }
-        ensures out { out.new ≡ with_requests out.old (departure self.now lp (word_of draws.old.stream.now 0) ∷ []) [] }
+        ensures same_reference { IsSameSource draws.old draws.new }
+        ensures drawn { drawn_in draws.new ≡ drawn_in draws.old + 1 }
+        ensures stream { stream_in draws.new ≡ moved (stream_in draws.old) 1 }
+        ensures out { out.new ≡ with_requests out.old (departure self.now lp (word_of (stream_in draws.old) 0) ∷ []) [] }
     {
         let wait = draws.below(u64::from(self.service));
         out.send(lp, 1 + wait, 0, JobEvent::Depart);

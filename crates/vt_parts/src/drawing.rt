@@ -3,6 +3,7 @@
 ghost use Rattle.std.specs.Prelude.{◌≡◌, ◌+◌, ◌^◌, ◌<◌, ◌≤◌, length};
 ghost use Rattle.std.specs.List.{sum};
 ghost use Rattle.vt_model.specs.declared.limits.TheConstants.{MAX_DRAWS};
+ghost use Rattle.vt_model.specs.Drawn.{drawn_in, stream_in, IsSameSource};
 ghost use Rattle.vt_stream.specs.Words.{word_of, moved};
 ghost use Rattle.vt_parts.specs.Drawing.{happens, chosen, weight_drawn, failures, tries};
 
@@ -11,13 +12,13 @@ use vt_model::Draws;
 /// Whether something happens that does so `numerator` times out of `denominator`, which is from 1 to 2^32. It draws one word, for
 /// which there must be room ([`Draws::room`]).
 pub fn bernoulli(draws: &mut Draws<'_>, numerator: u64, denominator: u64) -> bool
-    requires room { draws.old.drawn < MAX_DRAWS }
+    requires room { drawn_in draws.old < MAX_DRAWS }
     requires low { 1 ≤ denominator }
     requires high { denominator ≤ 2 ^ 32 }
-    ensures value { result ≡ happens (word_of draws.old.stream.now 0) numerator denominator }
-    ensures same_reference { draws.new.stream.ghost_name ≡ draws.old.stream.ghost_name }
-    ensures stream { draws.new.stream.now ≡ moved draws.old.stream.now 1 }
-    ensures drawn { draws.new.drawn ≡ draws.old.drawn + 1 }
+    ensures value { result ≡ happens (word_of (stream_in draws.old) 0) numerator denominator }
+    ensures same_reference { IsSameSource draws.old draws.new }
+    ensures stream { stream_in draws.new ≡ moved (stream_in draws.old) 1 }
+    ensures drawn { drawn_in draws.new ≡ drawn_in draws.old + 1 }
 {
     draws.below(denominator) < numerator
 }
@@ -25,14 +26,14 @@ pub fn bernoulli(draws: &mut Draws<'_>, numerator: u64, denominator: u64) -> boo
 /// The index of one of these weights, each as likely as it is heavy. Their sum is from 1 to 2^32. It draws one word, for which there
 /// must be room ([`Draws::room`]).
 pub fn weighted(draws: &mut Draws<'_>, weights: &[u32]) -> usize
-    requires room { draws.old.drawn < MAX_DRAWS }
+    requires room { drawn_in draws.old < MAX_DRAWS }
     requires low { 1 ≤ sum weights.now }
     requires high { sum weights.now ≤ 2 ^ 32 }
-    ensures value { result ≡ weight_drawn weights.now (word_of draws.old.stream.now 0) }
+    ensures value { result ≡ weight_drawn weights.now (word_of (stream_in draws.old) 0) }
     ensures within { result < length weights.now }
-    ensures same_reference { draws.new.stream.ghost_name ≡ draws.old.stream.ghost_name }
-    ensures stream { draws.new.stream.now ≡ moved draws.old.stream.now 1 }
-    ensures drawn { draws.new.drawn ≡ draws.old.drawn + 1 }
+    ensures same_reference { IsSameSource draws.old draws.new }
+    ensures stream { stream_in draws.new ≡ moved (stream_in draws.old) 1 }
+    ensures drawn { drawn_in draws.new ≡ drawn_in draws.old + 1 }
 {
     let point = draws.below(total(weights));
     index_at(weights, point)
@@ -72,13 +73,13 @@ fn index_at(weights: &[u32], point: u64) -> usize
 /// It draws a word for each try: one more than the answer, but no more than `limit`. There must be room for `limit` words.
 pub fn geometric(draws: &mut Draws<'_>, numerator: u64, denominator: u64, limit: u32) -> u32
     requires some { 1 ≤ limit }
-    requires room { draws.old.drawn + limit ≤ MAX_DRAWS }
+    requires room { drawn_in draws.old + limit ≤ MAX_DRAWS }
     requires low { 1 ≤ denominator }
     requires high { denominator ≤ 2 ^ 32 }
-    ensures value { result ≡ failures (word_of draws.old.stream.now) numerator denominator limit }
-    ensures same_reference { draws.new.stream.ghost_name ≡ draws.old.stream.ghost_name }
-    ensures stream { draws.new.stream.now ≡ moved draws.old.stream.now (tries (word_of draws.old.stream.now) numerator denominator limit) }
-    ensures drawn { draws.new.drawn ≡ draws.old.drawn + tries (word_of draws.old.stream.now) numerator denominator limit }
+    ensures value { result ≡ failures (word_of (stream_in draws.old)) numerator denominator limit }
+    ensures same_reference { IsSameSource draws.old draws.new }
+    ensures stream { stream_in draws.new ≡ moved (stream_in draws.old) (tries (word_of (stream_in draws.old)) numerator denominator limit) }
+    ensures drawn { drawn_in draws.new ≡ drawn_in draws.old + tries (word_of (stream_in draws.old)) numerator denominator limit }
 {
     'tries: for failed in 0..limit {
         if bernoulli(draws, numerator, denominator) {

@@ -2,6 +2,7 @@
 
 ghost use Rattle.std.specs.Prelude.{◌≡◌, ◌+◌, ◌^◌, ◌<◌, ◌≤◌};
 ghost use Rattle.vt_model.specs.declared.limits.TheConstants.{MAX_DRAWS};
+ghost use Rattle.vt_model.specs.Drawn.{drawn_in, stream_in, IsSameSource};
 ghost use Rattle.vt_stream.specs.Words.{word_of, moved};
 ghost use Rattle.vt_parts.specs.Exponential.{minus_log, exponential_ticks};
 
@@ -34,13 +35,13 @@ const KNOTS: [u32; 65] = [
 /// number, before it is rounded, is off by at most 0.00003 times the mean, and its own mean is 1.000015 times the one asked for. The
 /// word 0, whose logarithm is infinite, gives 22.87 times the mean, which is the most.
 pub fn exponential(draws: &mut Draws<'_>, mean: u32) -> u64
-    requires room { draws.old.drawn < MAX_DRAWS }
+    requires room { drawn_in draws.old < MAX_DRAWS }
     requires high { mean ≤ 2 ^ 30 }
-    ensures value { result ≡ exponential_ticks (word_of draws.old.stream.now 0) mean }
+    ensures value { result ≡ exponential_ticks (word_of (stream_in draws.old) 0) mean }
     ensures within { result < 2 ^ 40 }
-    ensures same_reference { draws.new.stream.ghost_name ≡ draws.old.stream.ghost_name }
-    ensures stream { draws.new.stream.now ≡ moved draws.old.stream.now 1 }
-    ensures drawn { draws.new.drawn ≡ draws.old.drawn + 1 }
+    ensures same_reference { IsSameSource draws.old draws.new }
+    ensures stream { stream_in draws.new ≡ moved (stream_in draws.old) 1 }
+    ensures drawn { drawn_in draws.new ≡ drawn_in draws.old + 1 }
 {
     let log = minus_log(draws.word());
     (u64::from(mean) * log + ONE / 2) / ONE

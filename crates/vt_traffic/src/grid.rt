@@ -4,6 +4,7 @@ ghost use Rattle.std.specs.Prelude.{◌≡◌, ◌+◌, ◌<◌, ◌≤◌, [], 
 ghost use Rattle.vt_key.specs.Faults.{option_named};
 ghost use Rattle.vt_key.specs.declared.limits.TheConstants.{MAX_PROCESSES};
 ghost use Rattle.vt_model.specs.declared.limits.TheConstants.{MAX_DRAWS, MAX_SENDS, MAX_RECORDS};
+ghost use Rattle.vt_model.specs.Drawn.{drawn_in, stream_in, IsSameSource};
 ghost use Rattle.vt_stream.specs.Words.{word_of, moved};
 ghost use Rattle.vt_model.specs.Sends.{with_requests};
 ghost use Rattle.vt_traffic.specs.declared.grid.TheConstants.{MAX_CARS, MAX_GREEN, MAX_TRAVEL, MAX_TURNING};
@@ -107,11 +108,11 @@ impl Traffic {
 
     // Draws the road by which a car goes on that came by `road`.
     fn onward(&self, road: Road, draws: &mut Draws<'_>) -> Road
-        requires words { draws.old.drawn < MAX_DRAWS }
-        ensures road { result ≡ onward self.now road (word_of draws.old.stream.now 0) }
-        ensures same_reference { draws.new.stream.ghost_name ≡ draws.old.stream.ghost_name }
-        ensures drawn { draws.new.drawn ≡ draws.old.drawn + 1 }
-        ensures stream { draws.new.stream.now ≡ moved draws.old.stream.now 1 }
+        requires words { drawn_in draws.old < MAX_DRAWS }
+        ensures road { result ≡ onward self.now road (word_of (stream_in draws.old) 0) }
+        ensures same_reference { IsSameSource draws.old draws.new }
+        ensures drawn { drawn_in draws.new ≡ drawn_in draws.old + 1 }
+        ensures stream { stream_in draws.new ≡ moved (stream_in draws.old) 1 }
     {
         if draws.below(PERCENT) < u64::from(self.turning) {
             road.other()
@@ -141,16 +142,16 @@ impl Traffic {
         draws: &mut Draws<'_>,
         out: &mut Out<JunctionEvent>,
     )
-        requires words { draws.old.drawn + 1 < MAX_DRAWS }
+        requires words { drawn_in draws.old + 1 < MAX_DRAWS }
         requires known { lp < out.old.lps }
         requires few { out.old.lps ≤ MAX_PROCESSES }
         requires room { out.old.number < out.old.first + MAX_SENDS }
         requires emit_room { length out.old.records < MAX_RECORDS }
         ensures junction { junction.new ≡ gone (Some road) junction.old }
-        ensures same_reference { draws.new.stream.ghost_name ≡ draws.old.stream.ghost_name }
-        ensures drawn { draws.new.drawn ≡ draws.old.drawn + 2 }
-        ensures stream { draws.new.stream.now ≡ moved draws.old.stream.now 2 }
-        ensures out { out.new ≡ with_requests out.old (departure self.now out.old.lps lp road (word_of draws.old.stream.now) ∷ []) (departed junction.new ∷ []) }
+        ensures same_reference { IsSameSource draws.old draws.new }
+        ensures drawn { drawn_in draws.new ≡ drawn_in draws.old + 2 }
+        ensures stream { stream_in draws.new ≡ moved (stream_in draws.old) 2 }
+        ensures out { out.new ≡ with_requests out.old (departure self.now out.old.lps lp road (word_of (stream_in draws.old)) ∷ []) (departed junction.new ∷ []) }
     {
         junction.crossing = None;
         junction.passed = junction.passed.wrapping_add(1);
