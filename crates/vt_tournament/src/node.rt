@@ -111,6 +111,8 @@ impl Node {
 
     /// The better of two nodes: the lesser rank wins, and between equal ranks the lesser number. A node without a winner
     /// loses. Whole ranks are asked for only if the first parts are equal, which is rare.
+    // A call at each level would cost as much as the choice.
+    #[inline(always)]
     pub(crate) fn winner<C: Contestants>(self, other: Node, contestants: &C) -> Node
         requires few { length (C.entries contestants.now) ≤ 2 ^ 23 }
         requires fits { self ≡ node_of (contestant (C.entries contestants.now) self.number) }
