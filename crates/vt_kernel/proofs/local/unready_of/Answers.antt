@@ -1,4 +1,4 @@
-use Rattle.std.proofs.Common.{◌≡◌, ◌∙◌}
+use Rattle.std.proofs.Common.{◌∙◌, refl, sym}
 use Rattle.vt_kernel.specs.Held.{other_rank}
 use Rattle.vt_kernel.proofs.EnteringLemmas.{nothing-unready, tells-least}
 use Rattle.vt_kernel.proofs.local.unready_of.Goals as goal
@@ -10,4 +10,4 @@ pub returns-clause-told : goal.returns-clause-told
 returns-clause-told g c = tells-least c.args.process.now c.least_rank-least.result c.least_rank-least.ensures.rank c.least_rank-least.ensures.time c.least_rank-least.ensures.nothing
 
 pub returns-then-not-has_waiting-clause-rank : goal.returns-then-not-has_waiting-clause-rank
-returns-then-not-has_waiting-clause-rank g c = nothing-unready c.args.process.now c.args.ready.now c.requires.own c.if-is_some.ensures (c.has_waiting.ensures.0 c.if-not-has_waiting.ensures)
+returns-then-not-has_waiting-clause-rank g c = nothing-unready c.args.process.now c.args.ready.now c.requires.own (sym c.is_some.ensures ∙ c.if-is_some.true) (c.if-not-has_waiting.ensures.0 refl)
