@@ -1,113 +1,30 @@
 -- The number of cars is kept by a run.
-use Rattle.std.proofs.Common.{◌≡◌, ℕ, zero, suc, ◌+◌, ◌*◌, ◌^◌, ◌<◌, ◌≤◌, inl, inr, List, [], ◌∷◌, ◌++◌, Bool, true, false, not, filter, flat_map, map, nat_eq, if◌then◌else◌, sum_by, Option, Some, None, refl, sym, subst, ap, ◌∙◌, arith}
+use Rattle.std.proofs.Common.{◌≡◌, ℕ, zero, suc, ◌+◌, ◌*◌, ◌^◌, ◌<◌, ◌≤◌, inl, List, [], ◌∷◌, ◌++◌, false, not, filter, flat_map, nat_eq, sum_by, Option, Some, None, refl, sym, ap, arith}
 use Rattle.std.proofs.Math.Nat.{mul-le-mul}
-use Rattle.std.specs.List.{enumerate_from}
-use Rattle.std.proofs.lemmas.Bool.{eqb-true, eqb-false}
-use Rattle.std.proofs.lemmas.List.Sums.{sum_by-cons, sum_by-append}
-use Rattle.vt_key.specs.Times.{Time, time_before}
+use Rattle.std.proofs.lemmas.List.Sums.{sum_by-append}
 use Rattle.vt_key.specs.Order.{key_same}
 use Rattle.vt_model.specs.declared.sending.Sent.{Sent}
 use Rattle.vt_model.specs.declared.settings.Config.{Config}
-use Rattle.vt_model.specs.Sends.{SendRequest, receive_time, sent_event, sent_events}
 use Rattle.vt_model.specs.Simulation.{Triple, words_at, start_of, fire_of, after, after_from}
 use Rattle.vt_model.specs.Sequential.{RunState, events_of, least_event, fired_after, opening, with_event, next_state, step, after_steps, numbers_below}
 use Rattle.vt_model.specs.Histories.{Among, IsLawful}
 use Rattle.vt_model.proofs.LawLemmas.{lawful_of}
-use Rattle.vt_model.proofs.RunLemmas.{tested, after-snoc, events_of-same, events_of-other, known_sent, lists_of, least-found, IsReached, reached}
+use Rattle.vt_model.proofs.RunLemmas.{after-snoc, events_of-same, events_of-other, known_sent, lists_of, least-found, IsReached, reached}
 use Rattle.vt_model.specs.Settings.{end_of}
 use Rattle.vt_traffic.specs.declared.grid.Traffic.{Traffic}
 use Rattle.vt_traffic.specs.declared.junction.Junction.{Junction}
 use Rattle.vt_traffic.specs.declared.junction.JunctionEvent.{JunctionEvent}
 use Rattle.vt_traffic.specs.Traffic.{traffic_start, traffic_forward, traffic_handlers}
 use Rattle.vt_traffic.specs.TrafficLaws.{start_within, forward_within}
-use Rattle.vt_traffic.specs.Cars.{cars_at, cars_brought, cars_sent, cars_sent_past, cars_coming, grid, sent_past_from, cars_on_grid, cars_on_roads, cars_past_end}
+use Rattle.vt_traffic.specs.Cars.{cars_at, cars_brought, cars_sent_past, cars_coming, grid, sent_past_from, cars_on_grid, cars_on_roads, cars_past_end}
 use Rattle.vt_traffic.proofs.CarLemmas.{start-cars, start-sent, forward-cars}
 use Rattle.vt_traffic.proofs.DistinctLemmas.{flat-next, AreDistinct, sum_by-without, distinct_pending}
-
-is_not : (a b : ℕ) → (a ≡ b → ⊥) → nat_eq a b ≡ false
-is_not a b differ = search (arith)
-
--- sums over processes
-sum_by-both : (f g : ℕ → ℕ) (ps : List ℕ) → sum_by (λ p. f p + g p) ps ≡ sum_by f ps + sum_by g ps
-sum_by-both f g [] = refl
-sum_by-both f g (p ∷ ps) = omega (arith, sum_by-both f g ps, sum_by-cons (λ (q : ℕ). f q + g q) p ps, sum_by-cons f p ps, sum_by-cons g p ps)
-
-sum-next : (f : ℕ → ℕ) (n : ℕ) → sum_by f (numbers_below (suc n)) ≡ sum_by f (numbers_below n) + f n
-sum-next f n = omega (arith, sum_by-append f (numbers_below n) (n ∷ []), sum_by-cons f n [])
-
-sum_same : (f g : ℕ → ℕ) (n : ℕ) → ((p : ℕ) → p < n → f p ≡ g p) → sum_by f (numbers_below n) ≡ sum_by g (numbers_below n)
-sum_same f g zero same = refl
-sum_same f g (suc n) same =
-    let here : f n ≡ g n = same n (omega arith) in
-    omega (arith, sum-next f n, sum-next g n, here, sum_same f g n (λ p less. same p (omega arith)))
-
--- of two sums that differ at one place
-sum_one : (f g : ℕ → ℕ) (n d x y : ℕ) → d < n → ((p : ℕ) → nat_eq d p ≡ false → f p ≡ g p) → f d + x ≡ g d + y → sum_by f (numbers_below n) + x ≡ sum_by g (numbers_below n) + y
-sum_one f g zero d x y less same here = absurd (omega arith)
-sum_one f g (suc n) d x y less same here =
-    elim (tested (nat_eq d n)) [
-      | inl y' ↦
-          let at : d ≡ n = eqb-true d n y' in
-          let before = sum_same f g n (λ p below. same p (is_not d p (λ (is : d ≡ p). let below' : p < n = below in omega arith))) in
-          let there : f n + x ≡ g n + y = subst (λ (k : ℕ). f k + x ≡ g k + y) at here in
-          omega (arith, sum-next f n, sum-next g n, before, there)
-      | inr n' ↦
-          let other = eqb-false d n n' in let below : d < n = omega arith in
-          omega (arith, sum-next f n, sum-next g n, same n n', sum_one f g n d x y below same here)
-    ]
-
--- a part is at most the sum
-part-le : (f : ℕ → ℕ) (n d : ℕ) → d < n → f d ≤ sum_by f (numbers_below n)
-part-le f zero d less = absurd (omega arith)
-part-le f (suc n) d less =
-    elim (tested (nat_eq d n)) [
-      | inl y' ↦ let at : f d ≡ f n = ap f (eqb-true d n y') in omega (arith, sum-next f n, at)
-      | inr n' ↦
-          let other = eqb-false d n n' in
-          let below : d < n = omega arith in
-          omega (arith, sum-next f n, part-le f n d below)
-    ]
-
--- the car of a request
-abbrev car_of : SendRequest JunctionEvent → ℕ
-car_of r = cars_brought r.payload
+use Rattle.vt_traffic.proofs.SumLemmas.{sum_by-both, sum-next, sum_one, part-le}
+use Rattle.vt_traffic.proofs.SentLemmas.{sent_or_past}
 
 -- the car of a sent event
 abbrev car_in : Sent JunctionEvent → ℕ
 car_in e = cars_brought e.payload
-
-module _ (end lp : ℕ) (now : Time) where
-  abbrev car_past : SendRequest JunctionEvent → ℕ
-  car_past r = if time_before (receive_time now r) end then 0 else cars_brought r.payload
-
-  -- of the first request and those after it
-  sent-cons : (n : ℕ) (r : SendRequest JunctionEvent) (rs : List (SendRequest JunctionEvent))
-      → sent_events end lp now n (r ∷ rs) ≡ (if time_before (receive_time now r) end then (sent_event lp now (n, r) ∷ sent_events end lp now (n + 1) rs) else sent_events end lp now (n + 1) rs)
-  unfolding sent_events
-  sent-cons n r rs =
-      let later = filter (λ (q : ℕ × SendRequest JunctionEvent). time_before (receive_time now q.1) end) (enumerate_from (n + 1) rs) in
-      elim (time_before (receive_time now r) end) as (λ b. map (sent_event lp now) (if b then ((n, r) ∷ later) else later) ≡ (if b then (sent_event lp now (n, r) ∷ map (sent_event lp now) later) else map (sent_event lp now) later))
-      [ true ↦ refl | false ↦ refl ]
-
-  sent-nil : (n : ℕ) → sent_events {P = JunctionEvent} end lp now n [] ≡ []
-  unfolding sent_events
-  sent-nil n = refl
-
-  -- the cars of requests are sent or would arrive past the end
-  sent-cars : (n : ℕ) (rs : List (SendRequest JunctionEvent)) → cars_coming (sent_events end lp now n rs) + cars_sent_past end now rs ≡ cars_sent rs
-  sent-cars n [] = ap (λ (es : List (Sent JunctionEvent)). cars_coming es + 0) (sent-nil n)
-  sent-cars n (r ∷ rs) =
-      let rest = sent-cars (n + 1) rs in
-      let later = sent_events end lp now (n + 1) rs in
-      ap (λ (es : List (Sent JunctionEvent)). cars_coming es + cars_sent_past end now (r ∷ rs)) (sent-cons n r rs)
-      ∙ elim (tested (time_before (receive_time now r) end)) [
-        | inl soon ↦
-            ap (λ (b : Bool). cars_coming (if b then (sent_event lp now (n, r) ∷ later) else later) + cars_sent_past end now (r ∷ rs)) soon
-            ∙ omega (arith, rest, sum_by-cons car_in (sent_event lp now (n, r)) later, sum_by-cons car_past r rs, sum_by-cons car_of r rs, ap (λ (b : Bool). (if b then 0 else cars_brought r.payload)) soon)
-        | inr late ↦
-            ap (λ (b : Bool). cars_coming (if b then (sent_event lp now (n, r) ∷ later) else later) + cars_sent_past end now (r ∷ rs)) late
-            ∙ omega (arith, rest, sum_by-cons car_past r rs, sum_by-cons car_of r rs, ap (λ (b : Bool). (if b then 0 else cars_brought r.payload)) late)
-      ]
 
 module _ (m : Traffic) (c : Config) where
   -- the model's laws
@@ -125,7 +42,7 @@ module _ (m : Traffic) (c : Config) where
   fire-cars p t e fits =
       let words = words_at c.seed p t.place in
       let asked = (traffic_forward m c.lps p e.payload t.state words).send_requests in
-      omega (arith, forward-cars m c.lps p e.payload t.state words fits, sent-cars (end_of c) p e.key.time t.number asked)
+      omega (arith, forward-cars m c.lps p e.payload t.state words fits, sent_or_past cars_brought (end_of c) p e.key.time t.number asked)
 
   -- what a junction's events send past the end, with one more
   past-snoc : (p : ℕ) (t : Triple Junction) (es : List (Sent JunctionEvent)) (e : Sent JunctionEvent) → sent_past_from m c p t (es ++ e ∷ []) ≡ sent_past_from m c p t es + past_by p (after_from (grid m c) p t es) e
@@ -185,7 +102,7 @@ module _ (m : Traffic) (c : Config) where
   begins zero = omega arith
   begins (suc n) =
       let words = words_at c.seed n 0 in
-      let none = sent-cars (end_of c) n 0 0 (traffic_start m n words).send_requests in
+      let none = sent_or_past cars_brought (end_of c) n 0 0 (traffic_start m n words).send_requests in
       let sends = flat-next (λ (p : ℕ). ((grid m c).start p).sends) n in
       let more = sum_by-append car_in (flat_map (λ p. ((grid m c).start p).sends) (numbers_below n)) ((grid m c).start n).sends in
       let product : 2 * m.cars * suc n ≡ 2 * m.cars * n + 2 * m.cars = grind arith in
