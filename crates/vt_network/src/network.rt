@@ -72,7 +72,7 @@ pub struct Network {
 }
 
 impl Network {
-    ghost use Rattle.vt_network.specs.Network.{step, next_hop, one_more, made_sends, arrived, arrived_kept, arrived_sends, arrived_records, gone_on, gone_sends};
+    ghost use Rattle.vt_network.specs.Network.{step, next_hop, one_more, made_sends, arrived, arrived_kept, arrived_sends, arrived_records, gone_on, goes_on, gone_sends};
 
     /// The network whose chords lead `columns` (1 to 65,536) routers on, with up to `gap` ticks between two packets of a host,
     /// `service` ticks of work for a packet and `link` ticks on a link (each 1 to 1,000,000).
@@ -187,7 +187,7 @@ impl Network {
         router.queue.push(packet)
     }
 
-    #[tactic(auto, using(vt_model::proofs::RequestLemmas::no_requests, vt_model::proofs::RequestLemmas::sent_after))]
+    #[tactic(auto, using(vt_model::proofs::RequestLemmas::no_requests, vt_model::proofs::RequestLemmas::sent_then))]
     // The first packet goes on.
     fn serve(&self, lp: u32, router: &mut Router, out: &mut Out<NetworkEvent>) -> Option<Packet>
         requires known { lp < out.old.lps }
@@ -200,10 +200,20 @@ impl Network {
         let packet = router.queue.pop()?;
         let next = self.next_hop(lp, packet.dest, out.lps());
         out.send(next, u64::from(self.link), 0, NetworkEvent::Arrive(packet));
-        if !router.queue.is_empty() {
+        self.go_on(lp, &router.queue, out);
+        Some(packet)
+    }
+
+    #[tactic(auto, using(vt_model::proofs::RequestLemmas::no_requests))]
+    // The router goes on with the next packet, if there is one.
+    fn go_on(&self, lp: u32, queue: &Buffer, out: &mut Out<NetworkEvent>)
+        requires known { lp < out.old.lps }
+        requires room { out.old.number < out.old.first + MAX_SENDS }
+        ensures { out.new ≡ with_requests out.old (goes_on self.now lp queue.now) [] }
+    {
+        if !queue.is_empty() {
             out.send(lp, u64::from(self.service), 0, NetworkEvent::Served);
         }
-        Some(packet)
     }
 }
 
