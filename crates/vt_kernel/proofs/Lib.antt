@@ -13,7 +13,6 @@ pub mod PartingLemmas
 pub mod PlaceLemmas
 pub mod ReportLemmas
 pub mod SendLemmas
-pub mod Sizes
 pub mod TimeLemmas
 pub mod LocalLemmas
 pub mod DeliveryLemmas

@@ -5,7 +5,6 @@ mod ReadyLemmas
 mod LeastLemmas
 mod AcceptLemmas
 mod CancelLemmas
-mod Sizes
 mod Stamping
 pub mod RipeLemmas
 mod Ends

@@ -6,3 +6,4 @@ pub mod RunLemmas
 pub mod EndLemmas
 pub mod LawLemmas
 pub mod RequestLemmas
+pub mod Sizes

@@ -1,5 +1,4 @@
 pub mod InsertLemmas
-pub mod Sizes
 pub mod StartLemmas
 pub mod InsertedLemmas
 pub mod StepLemmas

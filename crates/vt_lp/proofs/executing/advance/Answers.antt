@@ -15,7 +15,7 @@ use Rattle.vt_model.proofs.LawLemmas.{lawful_of}
 use Rattle.vt_model.specs.Settings.{end_of}
 use Rattle.vt_steps.specs.Letters.{unstamped, stamped, signed}
 use Rattle.vt_lp.specs.Held.{AllWithinRun, IsReady}
-use Rattle.vt_lp.proofs.Sizes.{payload_place, kept_place}
+use Rattle.vt_model.proofs.Sizes.{payload_place, kept_place}
 use Rattle.vt_lp.proofs.Stamping.{letters-all, letters-within}
 use Rattle.vt_lp.proofs.Advancing.{remembers}
 use Rattle.vt_lp.proofs.executing.advance.Goals as goal

@@ -1,6 +1,4 @@
-use Rattle.std.proofs.Common.{◌≡◌, subst, ◌+◌, ◌<◌, ◌^◌, ◌≤◌, ◌∙◌, ◌++◌, List, [], drop, map, ap, sym, arith, max}
-use prog.Memory.{up, align, size}
-use denote.Memory.{lone}
+use Rattle.std.proofs.Common.{subst, ◌+◌, ◌∙◌, ◌++◌, List, [], drop, map, ap, sym}
 use Rattle.vt_model.specs.Settings.{end_of}
 use Rattle.vt_model.specs.Handler.{IsFresh}
 use Rattle.vt_model.specs.declared.rows.Record.{Record}
@@ -12,38 +10,25 @@ use Rattle.vt_model.proofs.LawLemmas.{lawful_of}
 use Rattle.vt_seq.specs.Queue.{all_inserted, AreNew}
 use Rattle.vt_seq.proofs.InsertedLemmas.{are_new}
 use Rattle.vt_seq.proofs.StepLemmas.{drop-among}
-use Rattle.vt_seq.proofs.Sizes.{payload_place, sent_align}
+use Rattle.vt_model.proofs.Sizes.{out_fits}
 use Rattle.vt_model.proofs.RowLemmas.{told_rows}
 use Rattle.vt_seq.proofs.advancing.advance.Goals as goal
 
 pub number-requires : goal.number-requires
-number-requires g c =
-    let bounds = g.met.M.Model.payload_align in
-    let small : size (lone g.row.M-Payload.mir) < 2 ^ 32 = g.met.M.Model.payload_size in
-    let place : up (align (lone g.row.M-Payload.mir)) 36 ≤ 36 + 16 = payload_place (align (lone g.row.M-Payload.mir)) bounds.0 bounds.1 in
-    let aligned : max 8 (max 4 (max (align (lone g.row.M-Payload.mir)) 1)) ≡ 8 = sent_align (align (lone g.row.M-Payload.mir)) bounds.1 in
-    simp aligned (omega (arith, place, small))
+number-requires g c = out_fits _ _ g.met.M.Model.payload_align g.met.M.Model.payload_size
 
 pub execute_into-kept-requires-send-M-Payload : goal.execute_into-kept-requires-send-M-Payload
 execute_into-kept-requires-send-M-Payload g c = λ _ _. c.type_bounds.send-M-Payload
 
 pub execute_into-kept-requires-after_bounds : goal.execute_into-kept-requires-after_bounds
 execute_into-kept-requires-after_bounds g c κs within =
-    let bounds = g.met.M.Model.payload_align in
-    let small : size (lone g.row.M-Payload.mir) < 2 ^ 32 = g.met.M.Model.payload_size in
-    let place : up (align (lone g.row.M-Payload.mir)) 36 ≤ 36 + 16 = payload_place (align (lone g.row.M-Payload.mir)) bounds.0 bounds.1 in
-    let aligned : max 8 (max 4 (max (align (lone g.row.M-Payload.mir)) 1)) ≡ 8 = sent_align (align (lone g.row.M-Payload.mir)) bounds.1 in
     let config = c.args.config in let event = c.args.event.now in let number = c.args.process.now.number in
     let fresh = subst (IsFresh c.renew.new.self event.dest) c.when.ensures c.renew.ensures.fresh in
     let whole = c.renew.ensures.whole ∙ (λ j. record { lps = config.lps; end = end_of config; lp = event.dest; time = c.when.ensures j; first = number; number = number; sends = []; records = [] }) in
-    (simp aligned (omega (arith, place, small)), (c.requires.known, (c.requires.stream, (fresh, whole))))
+    (out_fits _ _ g.met.M.Model.payload_align g.met.M.Model.payload_size, (c.requires.known, (c.requires.stream, (fresh, whole))))
 
 pub join-requires : goal.join-requires
 join-requires g c =
-    let bounds = g.met.M.Model.payload_align in
-    let small : size (lone g.row.M-Payload.mir) < 2 ^ 32 = g.met.M.Model.payload_size in
-    let place : up (align (lone g.row.M-Payload.mir)) 36 ≤ 36 + 16 = payload_place (align (lone g.row.M-Payload.mir)) bounds.0 bounds.1 in
-    let aligned : max 8 (max 4 (max (align (lone g.row.M-Payload.mir)) 1)) ≡ 8 = sent_align (align (lone g.row.M-Payload.mir)) bounds.1 in
     let model = c.args.model.now in
     let config = c.args.config in
     let event = c.args.event.now in
@@ -54,7 +39,7 @@ join-requires g c =
     let fired = sim.fire event.dest t event in
     let events = c.args.pending.now in
     let new : AreNew fired.sends (drop 1 events) = are_new event.dest p.number fired.triple.number fired.sends (drop 1 events) (lawful.numbered event.dest t event c.requires.known) (λ d m source. c.requires.earlier d (drop-among d events m) source) in
-    (simp aligned (omega (arith, place, small)), (c.requires.some, subst (λ (es : List (Sent _)). AreNew es (drop 1 events)) (sym c.execute_into-kept.ensures.fires.sends) new))
+    (out_fits _ _ g.met.M.Model.payload_align g.met.M.Model.payload_size, (c.requires.some, subst (λ (es : List (Sent _)). AreNew es (drop 1 events)) (sym c.execute_into-kept.ensures.fires.sends) new))
 
 pub returns-in-Ok-clause-done : goal.returns-in-Ok-clause-done
 returns-in-Ok-clause-done g c =

@@ -1,6 +1,4 @@
-use Rattle.std.proofs.Common.{◌≡◌, List, sym, subst, ◌<◌, ◌+◌, ◌^◌, ◌≤◌, ◌∙◌, [], ap, arith, max, rules}
-use prog.Memory.{up, align, size}
-use denote.Memory.{lone}
+use Rattle.std.proofs.Common.{◌≡◌, List, sym, subst, ◌<◌, ◌^◌, ◌≤◌, ◌∙◌, [], ap, arith, rules}
 use Rattle.vt_stream.specs.Words.{word_of, moved}
 use Rattle.vt_model.specs.Handler.{IsFresh}
 use Rattle.vt_model.specs.Sends.{Outgoing, with_requests}
@@ -13,40 +11,22 @@ use Rattle.vt_model.proofs.LawLemmas.{lawful_of}
 use Rattle.vt_model.specs.Settings.{end_of}
 use Rattle.vt_seq.specs.Queue.{all_inserted, AreNew}
 use Rattle.vt_seq.proofs.InsertedLemmas.{are_new}
-use Rattle.vt_seq.proofs.Sizes.{payload_place, sent_align}
+use Rattle.vt_model.proofs.Sizes.{out_fits}
 use Rattle.vt_seq.proofs.advancing.start_process.Goals as goal
 
 pub new-out-requires : goal.new-out-requires
 new-out-requires g c =
-    let bounds = g.met.M.Model.payload_align in
-    let small : size (lone g.row.M-Payload.mir) < 2 ^ 32 = g.met.M.Model.payload_size in
-    let place : up (align (lone g.row.M-Payload.mir)) 36 ≤ 36 + 16 = payload_place (align (lone g.row.M-Payload.mir)) bounds.0 bounds.1 in
-    let aligned : max 8 (max 4 (max (align (lone g.row.M-Payload.mir)) 1)) ≡ 8 = sent_align (align (lone g.row.M-Payload.mir)) bounds.1 in
-    (simp aligned (omega (arith, place, small)), (c.requires.known, ((let early : c.tick.result < end_of c.args.config = omega (arith, c.args.config.some_time, c.tick.ensures) in early), (let z : 0 ≤ 2 ^ 63 = omega arith in z))))
+    (out_fits _ _ g.met.M.Model.payload_align g.met.M.Model.payload_size, (c.requires.known, ((let early : c.tick.result < end_of c.args.config = omega (arith, c.args.config.some_time, c.tick.ensures) in early), (let z : 0 ≤ 2 ^ 63 = omega arith in z))))
 
 pub start-state-requires : goal.start-state-requires
 start-state-requires g c =
-    let bounds = g.met.M.Model.payload_align in
-    let small : size (lone g.row.M-Payload.mir) < 2 ^ 32 = g.met.M.Model.payload_size in
-    let place : up (align (lone g.row.M-Payload.mir)) 36 ≤ 36 + 16 = payload_place (align (lone g.row.M-Payload.mir)) bounds.0 bounds.1 in
-    let aligned : max 8 (max 4 (max (align (lone g.row.M-Payload.mir)) 1)) ≡ 8 = sent_align (align (lone g.row.M-Payload.mir)) bounds.1 in
-    (simp aligned (omega (arith, place, small)), (c.new-draws.ensures.undrawn, subst (IsFresh c.new-out.result c.args.p) c.tick.ensures c.new-out.ensures.fresh))
+    (out_fits _ _ g.met.M.Model.payload_align g.met.M.Model.payload_size, (c.new-draws.ensures.undrawn, subst (IsFresh c.new-out.result c.args.p) c.tick.ensures c.new-out.ensures.fresh))
 
 pub number-number-requires : goal.number-number-requires
-number-number-requires g c =
-    let bounds = g.met.M.Model.payload_align in
-    let small : size (lone g.row.M-Payload.mir) < 2 ^ 32 = g.met.M.Model.payload_size in
-    let place : up (align (lone g.row.M-Payload.mir)) 36 ≤ 36 + 16 = payload_place (align (lone g.row.M-Payload.mir)) bounds.0 bounds.1 in
-    let aligned : max 8 (max 4 (max (align (lone g.row.M-Payload.mir)) 1)) ≡ 8 = sent_align (align (lone g.row.M-Payload.mir)) bounds.1 in
-    simp aligned (omega (arith, place, small))
+number-number-requires g c = out_fits _ _ g.met.M.Model.payload_align g.met.M.Model.payload_size
 
 pub sends-requires : goal.sends-requires
-sends-requires g c =
-    let bounds = g.met.M.Model.payload_align in
-    let small : size (lone g.row.M-Payload.mir) < 2 ^ 32 = g.met.M.Model.payload_size in
-    let place : up (align (lone g.row.M-Payload.mir)) 36 ≤ 36 + 16 = payload_place (align (lone g.row.M-Payload.mir)) bounds.0 bounds.1 in
-    let aligned : max 8 (max 4 (max (align (lone g.row.M-Payload.mir)) 1)) ≡ 8 = sent_align (align (lone g.row.M-Payload.mir)) bounds.1 in
-    simp aligned (omega (arith, place, small))
+sends-requires g c = out_fits _ _ g.met.M.Model.payload_align g.met.M.Model.payload_size
 
 pub returns-clause-numbered : goal.returns-clause-numbered
 returns-clause-numbered g c =

@@ -1,6 +1,4 @@
-use Rattle.std.proofs.Common.{rules, arith, max, ◌≡◌, ℕ, suc, ◌+◌, ◌^◌, ◌<◌, ◌≤◌, ◌∙◌, List, [], length, slice_index_or, slice_set, sym, ap, subst, ◌⊎◌, inl, inr}
-use prog.Memory.{up, align, size}
-use denote.Memory.{lone}
+use Rattle.std.proofs.Common.{rules, ◌≡◌, ℕ, suc, ◌<◌, ◌≤◌, ◌∙◌, List, [], length, slice_index_or, slice_set, sym, ap, subst, ◌⊎◌, inl, inr}
 use Rattle.vt_key.specs.declared.fault.Fault.TheVariants.{Memory, Exhausted}
 use Rattle.std.proofs.Math.Logic.{∥∥₁_map, ∥∥₁_elim}
 use Rattle.std.proofs.Props.{props}
@@ -19,7 +17,7 @@ use Rattle.vt_seq.specs.Queue.{IsWithinRun}
 use Rattle.vt_model.specs.declared.process.Process.{Process}
 use Rattle.vt_seq.proofs.StepLemmas.{stands_step, either_way, taken_next, falls, counted_next, among-at, at-among, none_pending, set_same, in_err, set_all, first_there, none_there, numbers_below_next, next_triple, if_err}
 use Rattle.vt_seq.proofs.GivenLemmas.{adds_nothing, adds_step}
-use Rattle.vt_seq.proofs.Sizes.{payload_place, sent_align}
+use Rattle.vt_model.proofs.Sizes.{out_fits}
 use Rattle.vt_seq.proofs.engine.Engine.step.Goals as goal
 
 pub returns-in_default-clause-steps : goal.returns-in_default-clause-steps
@@ -38,10 +36,6 @@ advance-requires-send-M-Payload g c = λ _ _. c.type_bounds.send-M-Payload
 
 pub advance-requires-after_bounds : goal.advance-requires-after_bounds
 advance-requires-after_bounds g c κs within =
-    let bounds = g.met.M.Model.payload_align in
-    let small : size (lone g.row.M-Payload.mir) < 2 ^ 32 = g.met.M.Model.payload_size in
-    let place : up (align (lone g.row.M-Payload.mir)) 36 ≤ 36 + 16 = payload_place (align (lone g.row.M-Payload.mir)) bounds.0 bounds.1 in
-    let aligned : max 8 (max 4 (max (align (lone g.row.M-Payload.mir)) 1)) ≡ 8 = sent_align (align (lone g.row.M-Payload.mir)) bounds.1 in
     let model = c.args.self.now.model.now in
     let config = c.args.self.now.config in
     let sim = simulation_of (g.M.Model.handlers model) config in
@@ -55,7 +49,7 @@ advance-requires-after_bounds g c κs within =
     let taken = at-among (IsWithinRun sim.lps sim.end) items c.args.self.now.within_run e (subst (λ (f : Sent _). Among f items) there_first.1 (among-at items 0 e there_first.0)) in
     let numbered = subst (λ (o : Process _ _ _ _). o.number ≤ MAX_COUNT) (sym c.index_mut.ensures.value) (c.args.self.now.numbered e.dest p taken.known) in
     let stream = subst (λ (o : Process _ _ _ _). IsProcessStream config.seed e.dest o.stream) (sym c.index_mut.ensures.value) (c.args.self.now.streams e.dest p taken.known) in (
-      simp aligned (omega (arith, place, small)),
+      out_fits _ _ g.met.M.Model.payload_align g.met.M.Model.payload_size,
       (
         taken.known,
         (
