@@ -18,7 +18,7 @@ use Rattle.vt_model.proofs.RunLemmas.{known_sent, lists_of, reached}
 use Rattle.vt_seq.specs.Given.{records_to, BeginRun, AddsStep}
 use Rattle.vt_seq.specs.Limits.{IsCounted, IsCountedWhole}
 use Rattle.vt_seq.specs.StandsFor.{StandsAt, HasExecuted}
-use Rattle.vt_seq.proofs.StepLemmas.{step_is}
+use Rattle.vt_seq.proofs.StepLemmas.{IsNext, step_is, seated, none_pending}
 
 module _ {S P : Type 0} (sim : Simulation S P) where
   -- rows, with one more event
@@ -82,11 +82,12 @@ module _ {S P : Type 0} (sim : Simulation S P) (lawful : IsLawful sim) where
       record { rest = more.0; whole = sym (whole_records (end + n) none) ∙ more.1 }
 
   -- where nothing is pending, a step adds nothing
-  pub adds_nothing : (n : ℕ) (records : List Record) → (after_steps sim n).pending ≡ [] → AddsStep sim n records records
-  adds_nothing n records none = record {
+  pub adds_nothing : {M K : Type 0} (n : ℕ) (records : List Record) {pending : List (Sent P)} {processes : List (Process M S P K)}
+      → pending ≡ [] → StandsAt sim n pending processes → AddsStep sim n records records
+  adds_nothing n records {pending} none st = record {
     fresh = [];
     added = sym (append-nil records);
-    next = ap (λ (x : RunState P). records_of (rows_after sim [] x.executed)) (no_step sim lawful n none) ∙ sym (append-nil (records_to sim n));
+    next = ap (λ (x : RunState P). records_of (rows_after sim [] x.executed)) (no_step sim lawful n (none_pending (after_steps sim n).pending pending st.had none)) ∙ sym (append-nil (records_to sim n));
     begins = records_begin (suc n);
   }
 
@@ -106,18 +107,18 @@ module _ {S P : Type 0} (sim : Simulation S P) (lawful : IsLawful sim) where
 
 module _ {M S P K : Type 0} (sim : Simulation S P) (lawful : IsLawful sim) where
   -- the code's step adds the records of the definition's
-  pub adds_step : (n : ℕ) (e : Sent P) (pending after_pending : List (Sent P)) (processes : List (Process M S P K)) (records after_records : List Record) (p q : Process M S P K)
-      → StandsAt sim n pending processes → e.dest < sim.lps → 0 < length pending → slice_index_or pending 0 e ≡ e → slice_index_or processes e.dest p ≡ p
+  pub adds_step : (n : ℕ) {pending after_pending : List (Sent P)} {processes : List (Process M S P K)} {records after_records : List Record} {e : Sent P} {p : Process M S P K} (q : Process M S P K)
+      → StandsAt sim n pending processes → IsNext sim.lps sim.end pending processes e p
       → HasExecuted (sim.fire e.dest (triple_at p.state p.number p.stream) e) pending records q.state q.number q.stream after_pending after_records
       → AddsStep sim n records after_records
   unfolding fired_after
-  adds_step n e pending after_pending processes records after_records p q st dest some first at f =
+  adds_step n {records} {e} {p} q st next f =
       let x : RunState P = after_steps sim n in
-      let seat : triple_at p.state p.number p.stream ≡ after sim e.dest (events_of e.dest x.executed) = ap (λ (o : Process M S P K). triple_at o.state o.number o.stream) (sym at) ∙ st.triples e.dest p dest in
+      let seat = seated sim n st next in
       let is : sim.fire e.dest (triple_at p.state p.number p.stream) e ≡ fired_after sim x.executed e = ap (λ (t : Triple S). sim.fire e.dest t e) seat in
       record {
         fresh = records_of (fired_after sim x.executed e).rows;
         added = f.records ∙ ap (λ (g : Fired S P). records ++ records_of g.rows) is;
-        next = ap (λ (y : RunState P). records_of (rows_after sim [] y.executed)) (step_is sim lawful n e pending processes st some first) ∙ records-snoc sim x.executed e;
+        next = ap (λ (y : RunState P). records_of (rows_after sim [] y.executed)) (step_is sim lawful n st next) ∙ records-snoc sim x.executed e;
         begins = records_begin sim lawful (suc n);
       }
