@@ -174,14 +174,6 @@ module _ {P : Type 0} where
       ap (λ (es : List (Sent P)). slice_get es 0) (all_later y.event (events_in ys) [] (subst (λ (z : Entry P). (d : Sent P) → Among d (events_in ys) → KeyBefore d.key z.event.key → ⊥) at (top-least x ys h.1)))
       ∙ ap (λ (z : Entry P). Some z.event) (sym at)
 
-  pub none-first : (xs : List (Entry P)) → length xs ≡ 0 → in_order xs ≡ []
-  none-first [] h = refl
-  none-first (x ∷ xs) h = absurd (omega (arith, h))
-
-  pub some-first : (xs : List (Entry P)) → 0 < length (in_order xs) → 0 < length xs
-  some-first [] h = absurd (omega (arith, h))
-  some-first (x ∷ xs) h = let z : 0 < length (x ∷ xs) = omega arith in z
-
   -- without its top the heap has the events after the first
   pub popped : (x : Entry P) (xs ys : List (Entry P)) → IsQueue xs → IsPermutation xs (x ∷ ys) → IsHeap entry_cmp ys → IsUpperBound entry_cmp x ys → IsQueue ys × (in_order ys ≡ drop 1 (in_order xs))
   popped x xs ys q h heap bound =

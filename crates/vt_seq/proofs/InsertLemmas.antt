@@ -1,8 +1,8 @@
 -- Where an event is inserted.
-use Rattle.std.proofs.Common.{◌≡◌, List, [], ◌∷◌, ◌++◌, Bool, true, false, if◌then◌else◌, refl, ap}
+use Rattle.std.proofs.Common.{◌≡◌, List, ◌∷◌, Bool, true, false, if◌then◌else◌, ap}
 use Rattle.vt_key.specs.Order.{key_before}
 use Rattle.vt_model.specs.declared.sending.Sent.{Sent}
-use Rattle.vt_seq.specs.Queue.{inserted, all_inserted}
+use Rattle.vt_seq.specs.Queue.{inserted}
 
 module _ {P : Type 0} where
   pub inserted-here : (e d : Sent P) (ds : List (Sent P)) → key_before e.key d.key ≡ true → inserted e (d ∷ ds) ≡ e ∷ d ∷ ds
@@ -10,8 +10,3 @@ module _ {P : Type 0} where
 
   pub inserted-later : (e d : Sent P) (ds : List (Sent P)) → key_before e.key d.key ≡ false → inserted e (d ∷ ds) ≡ d ∷ inserted e ds
   inserted-later e d ds h = ap (λ (b : Bool). if b then (e ∷ d ∷ ds) else (d ∷ inserted e ds)) h
-
-  -- events inserted after others
-  pub all_inserted-append : (es fs ds : List (Sent P)) → all_inserted (es ++ fs) ds ≡ all_inserted fs (all_inserted es ds)
-  all_inserted-append [] fs ds = refl
-  all_inserted-append (e ∷ es) fs ds = all_inserted-append es fs (inserted e ds)

@@ -1,5 +1,5 @@
 -- What the fields stand for is what a contract sees.
-use Rattle.std.proofs.Common.{◌≡◌, ℕ, zero, suc, ◌<◌, ◌≤◌, List, [], ◌∷◌, ◌++◌, Bool, true, false, ◌&&◌, map, length, Some, slice_get, slice_index_or, Result, Ok, Err, IfOk, IfErr, refl, sym, ap, ◌∙◌, arith}
+use Rattle.std.proofs.Common.{◌≡◌, ℕ, zero, suc, ◌<◌, ◌≤◌, List, [], ◌∷◌, ◌++◌, Bool, true, false, ◌&&◌, map, length, Some, slice_get, slice_index_or, Result, Ok, Err, IfOk, refl, sym, ap, ◌∙◌, arith}
 use Rattle.std.proofs.Math.Logic.{∥∥₁_map, ∥∥₁_elim}
 use Rattle.std.proofs.Props.{props}
 use Rattle.std.specs.List.{list_all}
@@ -76,11 +76,6 @@ if_ok-map A B (Err e) a f = tt
 pub if_ok-both : {V E : Type 0} (A B C : V → Type 0) (r : Result V E) → IfOk r A → IfOk r B → ((v : V) → A v → B v → C v) → IfOk r C
 if_ok-both A B C (Ok v) a b f = f v a b
 if_ok-both A B C (Err e) a b f = tt
-
--- a fact of each refusal, from another
-pub if_err-map : {V E : Type 0} (A B : E → Type 0) (r : Result V E) → IfErr r A → ((e : E) → A e → B e) → IfErr r B
-if_err-map A B (Ok v) a f = tt
-if_err-map A B (Err e) a f = f e a
 
 module _ {M S P K : Type 0} (sim : Simulation S P) (model : M) (config : Config) where
   -- what a contract sees of these fields

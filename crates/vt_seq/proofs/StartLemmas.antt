@@ -1,10 +1,15 @@
 -- The processes that have started, and what they sent.
-use Rattle.std.proofs.Common.{◌≡◌, ℕ, ◌+◌, ◌<◌, List, [], ◌∷◌, ◌++◌, length, inl, inr, slice_index_or, true, false, nat_eq, zero, suc, refl, sym, ◌∙◌, ap, subst, arith}
+use Rattle.std.proofs.Common.{◌≡◌, ℕ, ◌+◌, ◌<◌, ◌≤◌, List, [], ◌∷◌, ◌++◌, length, inl, inr, slice_index_or, true, false, nat_eq, zero, suc, refl, sym, ◌∙◌, ap, subst, arith}
 use Rattle.std.proofs.lemmas.Bool.{eqb-true, eq-eqb}
 use Rattle.std.proofs.Common.{length-append}
 use Rattle.vt_model.specs.declared.sending.Sent.{Sent}
 use Rattle.vt_model.specs.Histories.{Among, IsRising, IsLawful}
-use Rattle.vt_model.specs.Simulation.{Simulation}
+use Rattle.vt_model.specs.Simulation.{Simulation, words_at, start_of}
+use Rattle.vt_model.specs.Handler.{StartResult}
+use Rattle.vt_model.specs.Sends.{Outgoing, with_requests}
+use Rattle.vt_model.specs.declared.limits.TheConstants.{MAX_DRAWS}
+use Rattle.vt_stream.specs.Words.{Stream, seed_key, word_of, moved}
+use Rattle.vt_model.proofs.FireLemmas.{IsStart, starts}
 use Rattle.vt_model.proofs.RunLemmas.{numbered-among, among-below, below-among, tested}
 use Rattle.vt_model.specs.Process.{triple_at}
 use Rattle.vt_seq.specs.StandsFor.{StandsAt, HasStarted}
@@ -97,10 +102,24 @@ module _ {M S P K : Type 0} (sim : Simulation S P) (lawful : IsLawful sim) where
       let source : d.key.source ≡ s.0 = from.0 in omega arith
 
   -- all started, the fields stand for the opening
-  pub stands_start : (pending : List (Sent P)) (processes : List (Process M S P K)) → AllStarted sim sim.lps pending processes → StandsAt sim 0 pending processes
-  stands_start pending processes h = record {
-    rising = h.rising;
-    sent = λ e m. let s = h.sent e m in below-among sim lawful (λ p. (sim.start p).sends) sim.lps s.0 e s.1 s.2;
-    had = λ e m. let s = among-below sim lawful (λ p. (sim.start p).sends) sim.lps e m in h.had e s.0 s.1 s.2;
-    triples = h.triples;
-  }
+  pub stands_start : (p : ℕ) {pending : List (Sent P)} {processes : List (Process M S P K)} → p ≡ sim.lps → AllStarted sim p pending processes → StandsAt sim 0 pending processes
+  stands_start p {pending} {processes} all started = go (subst (λ (k : ℕ). AllStarted sim k pending processes) all started) where
+    go : AllStarted sim sim.lps pending processes → StandsAt sim 0 pending processes
+    go h = record {
+      rising = h.rising;
+      sent = λ e m. let s = h.sent e m in below-among sim lawful (λ p. (sim.start p).sends) sim.lps s.0 e s.1 s.2;
+      had = λ e m. let s = among-below sim lawful (λ p. (sim.start p).sends) sim.lps e m in h.had e s.0 s.1 s.2;
+      triples = h.triples;
+    }
+
+-- a process's start, from what the calls of the code say of it
+pub started_so : {S P : Type 0} (seed end lps p : ℕ) (go : ℕ → ℕ → (ℕ → ℕ) → StartResult S P) {fresh w v : Stream} {o q : Outgoing P} {s : S} {tick : ℕ}
+    → w ≡ fresh → fresh ≡ record { key = seed_key seed; process = p; place = 0 }
+    → o ≡ record { lps = lps; end = end; lp = p; time = tick; first = 0; number = 0; sends = []; records = [] } → tick ≡ 0
+    → s ≡ (go o.lps p (word_of w)).state → v ≡ moved w (go o.lps p (word_of w)).drawn → q ≡ with_requests o (go o.lps p (word_of w)).send_requests []
+    → (go lps p (words_at seed p 0)).drawn ≤ MAX_DRAWS → IsStart (start_of end p (go lps p (words_at seed p 0))) s v q
+started_so seed end lps p go {w} {v} {o} {q} {s} drawn at whole first state stream out few =
+    starts seed end lps p (go lps p) w v o q s (drawn ∙ at)
+    (whole ∙ (λ j. record { lps = lps; end = end; lp = p; time = first j; first = 0; number = 0; sends = []; records = [] }))
+    (state ∙ (λ j. (go (whole j).lps p (word_of w)).state)) (stream ∙ (λ j. moved w (go (whole j).lps p (word_of w)).drawn)) few
+    (out ∙ (λ j. with_requests o (go (whole j).lps p (word_of w)).send_requests []))

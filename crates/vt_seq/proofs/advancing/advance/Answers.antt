@@ -1,4 +1,4 @@
-use Rattle.std.proofs.Common.{subst, ◌+◌, ◌∙◌, ◌++◌, List, [], drop, map, ap, sym}
+use Rattle.std.proofs.Common.{subst, ◌∙◌, ◌++◌, List, [], drop, map, ap, sym}
 use Rattle.vt_model.specs.Settings.{end_of}
 use Rattle.vt_model.specs.Handler.{IsFresh}
 use Rattle.vt_model.specs.declared.rows.Record.{Record}

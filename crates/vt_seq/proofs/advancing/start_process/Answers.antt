@@ -1,16 +1,16 @@
 use Rattle.std.proofs.Common.{◌≡◌, List, sym, subst, ◌<◌, ◌^◌, ◌≤◌, ◌∙◌, [], ap, arith, rules}
-use Rattle.vt_stream.specs.Words.{word_of, moved}
+use Rattle.vt_stream.specs.Words.{word_of}
 use Rattle.vt_model.specs.Handler.{IsFresh}
 use Rattle.vt_model.specs.Sends.{Outgoing, with_requests}
 use Rattle.vt_model.specs.Simulation.{words_at}
 use Rattle.vt_stream.proofs.WordLemmas.{word_below}
 use Rattle.vt_model.specs.declared.sending.Sent.{Sent}
 use Rattle.vt_model.specs.Simulation.{simulation_of}
-use Rattle.vt_model.proofs.FireLemmas.{starts}
 use Rattle.vt_model.proofs.LawLemmas.{lawful_of}
 use Rattle.vt_model.specs.Settings.{end_of}
 use Rattle.vt_seq.specs.Queue.{all_inserted, AreNew}
 use Rattle.vt_seq.proofs.InsertedLemmas.{are_new}
+use Rattle.vt_seq.proofs.StartLemmas.{started_so}
 use Rattle.vt_model.proofs.Sizes.{out_fits}
 use Rattle.vt_seq.proofs.advancing.start_process.Goals as goal
 
@@ -38,17 +38,11 @@ returns-clause-numbered g c =
 
 pub insert_all-requires : goal.insert_all-requires
 insert_all-requires g c =
-    let gives = (g.M.Model.handlers c.args.model.now).start in
     let w = g.met.M.Model.start_within c.args.model.now c.args.config.lps c.args.p (words_at c.args.config.seed c.args.p 0)
     c.requires.known (λ i. word_below _ _ _) in
-    let at = c.new-draws.ensures.stream ∙ c.new-stream.ensures in
-    let out : c.new-out.result ≡ record { lps = c.args.config.lps; end = (end_of c.args.config); lp = c.args.p; time = 0; first = 0; number = 0; sends = []; records = [] } = c.new-out.ensures.whole ∙ (λ j. record { lps = c.args.config.lps; end = (end_of c.args.config); lp = c.args.p; time = c.tick.ensures j; first = 0; number = 0; sends = []; records = [] }) in
-    let r = starts c.args.config.seed (end_of c.args.config) c.args.config.lps c.args.p (gives c.args.config.lps c.args.p) c.new-draws.result.stream.now c.start-state.new.draws.stream.now c.new-out.result c.start-state.new.out c.start-state.result
-    at out
-    (c.start-state.ensures.state ∙ (λ j. (gives (out j).lps c.args.p (word_of c.new-draws.result.stream.now)).state))
-    (c.start-state.ensures.stream ∙ (λ j. moved c.new-draws.result.stream.now (gives (out j).lps c.args.p (word_of c.new-draws.result.stream.now)).drawn))
-    w.few_words
-    (c.start-state.ensures.out ∙ (λ j. with_requests c.new-out.result (gives (out j).lps c.args.p (word_of c.new-draws.result.stream.now)).send_requests [])) in
+    let r = started_so c.args.config.seed (end_of c.args.config) c.args.config.lps c.args.p (g.M.Model.handlers c.args.model.now).start
+        c.new-draws.ensures.stream c.new-stream.ensures c.new-out.ensures.whole c.tick.ensures
+        c.start-state.ensures.state c.start-state.ensures.stream c.start-state.ensures.out w.few_words in
     let model = c.args.model.now in
     let config = c.args.config in
     let sim = simulation_of (g.M.Model.handlers model) config in
@@ -60,17 +54,11 @@ insert_all-requires g c =
 
 pub returns-clause-done : goal.returns-clause-done
 returns-clause-done g c =
-    let gives = (g.M.Model.handlers c.args.model.now).start in
     let w = g.met.M.Model.start_within c.args.model.now c.args.config.lps c.args.p (words_at c.args.config.seed c.args.p 0)
     c.requires.known (λ i. word_below _ _ _) in
-    let at = c.new-draws.ensures.stream ∙ c.new-stream.ensures in
-    let out : c.new-out.result ≡ record { lps = c.args.config.lps; end = (end_of c.args.config); lp = c.args.p; time = 0; first = 0; number = 0; sends = []; records = [] } = c.new-out.ensures.whole ∙ (λ j. record { lps = c.args.config.lps; end = (end_of c.args.config); lp = c.args.p; time = c.tick.ensures j; first = 0; number = 0; sends = []; records = [] }) in
-    let r = starts c.args.config.seed (end_of c.args.config) c.args.config.lps c.args.p (gives c.args.config.lps c.args.p) c.new-draws.result.stream.now c.start-state.new.draws.stream.now c.new-out.result c.start-state.new.out c.start-state.result
-    at out
-    (c.start-state.ensures.state ∙ (λ j. (gives (out j).lps c.args.p (word_of c.new-draws.result.stream.now)).state))
-    (c.start-state.ensures.stream ∙ (λ j. moved c.new-draws.result.stream.now (gives (out j).lps c.args.p (word_of c.new-draws.result.stream.now)).drawn))
-    w.few_words
-    (c.start-state.ensures.out ∙ (λ j. with_requests c.new-out.result (gives (out j).lps c.args.p (word_of c.new-draws.result.stream.now)).send_requests [])) in
+    let r = started_so c.args.config.seed (end_of c.args.config) c.args.config.lps c.args.p (g.M.Model.handlers c.args.model.now).start
+        c.new-draws.ensures.stream c.new-stream.ensures c.new-out.ensures.whole c.tick.ensures
+        c.start-state.ensures.state c.start-state.ensures.stream c.start-state.ensures.out w.few_words in
     record {
       triple = search (rules, r.triple, c.number-number.ensures);
       pending = c.in_ok-insert_all.ensures.events ∙ ap (λ (es : List (Sent _)). all_inserted es c.args.pending.now) (c.sends.ensures ∙ r.sends);

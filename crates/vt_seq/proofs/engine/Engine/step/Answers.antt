@@ -1,4 +1,4 @@
-use Rattle.std.proofs.Common.{rules, ◌≡◌, ℕ, suc, ◌<◌, ◌≤◌, List, length, slice_index_or, slice_set, sym, subst, ◌⊎◌, inl, inr}
+use Rattle.std.proofs.Common.{rules, ◌≡◌, ℕ, suc, ◌<◌, ◌≤◌, List, length, slice_index_or, sym, subst, ◌⊎◌, inl, inr}
 use Rattle.std.proofs.Math.Logic.{∥∥₁_map, ∥∥₁_elim}
 use Rattle.std.proofs.Props.{props}
 use base.Stored.{Coded-set}
@@ -15,7 +15,6 @@ use Rattle.vt_model.proofs.LawLemmas.{lawful_of}
 use Rattle.vt_model.proofs.Sizes.{out_fits}
 use Rattle.vt_seq.specs.Limits.{IsStepRefusal}
 use Rattle.vt_seq.specs.Queue.{IsWithinRun}
-use Rattle.vt_seq.specs.StandsFor.{StandsAt}
 use Rattle.vt_seq.proofs.StepLemmas.{next_of, seated_state, stands_step, stays_at, refused_next, unmoved, numbers_below_next, taken_next, falls, none_there, either_way, set_same, set_all, in_err, if_err}
 use Rattle.vt_seq.proofs.GivenLemmas.{adds_nothing, adds_step}
 use Rattle.vt_seq.proofs.engine.Engine.step.Given.{Over}
