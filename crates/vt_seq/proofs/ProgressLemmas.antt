@@ -28,7 +28,7 @@ both false b h = absurd (let w : false ≡ true = h in cc)
 
 module _ {P : Type 0} where
   -- the keys of the list rise strictly, as a test
-  pub are_rising : List (Sent P) → Bool
+  are_rising : List (Sent P) → Bool
   are_rising [] = true
   are_rising (e ∷ es) = list_all (λ d. key_before e.key d.key) es && are_rising es
 
@@ -42,12 +42,12 @@ module _ {P : Type 0} where
       let r = both (key_before k e.key) (list_all (λ (d : Sent P). key_before k d.key) es) h in
       (key_before-true k e.key r.0, tested-after k es r.1)
 
-  pub rising-tested : (es : List (Sent P)) → IsRising es → are_rising es ≡ true
+  rising-tested : (es : List (Sent P)) → IsRising es → are_rising es ≡ true
   unfolding are_rising
   rising-tested [] h = refl
   rising-tested (e ∷ es) h = ap (λ (b : Bool). b && are_rising es) (after-tested e.key es h.0) ∙ rising-tested es h.1
 
-  pub tested-rising : (es : List (Sent P)) → are_rising es ≡ true → IsRising es
+  tested-rising : (es : List (Sent P)) → are_rising es ≡ true → IsRising es
   unfolding are_rising
   tested-rising [] h = tt
   tested-rising (e ∷ es) h =
@@ -96,11 +96,11 @@ module _ {M S P K : Type 0} (sim : Simulation S P) (model : M) (config : Config)
     triples = λ p is. got (λ (q : Process M S P K). triple_at q.state q.number q.stream) _ processes p (omega (arith, there, is)) (λ d. st.triples p d is);
   }
 
-  -- and fields that are seen so stand for it, if their events rise
-  pub after-stands : (n : ℕ) (pending : List (Sent P)) (processes : List (Process M S P K)) → are_rising pending ≡ true
+  -- and fields that are seen so stand for it, if they stand for the run after some number of steps
+  pub after-stands : (n : ℕ) (pending : List (Sent P)) (processes : List (Process M S P K)) → ∥ ((m : ℕ) × StandsAt sim m pending processes) ∥₁
       → IsAt sim n (seen pending processes) → StandsAt sim n pending processes
-  after-stands n pending processes rises is = record {
-    rising = tested-rising pending rises;
+  after-stands n pending processes stands is = record {
+    rising = tested-rising pending (∥∥₁_elim stands (Prim.hlevel props) (λ x. rising-tested pending x.1.rising));
     sent = is.sent;
     had = is.had;
     triples = λ p d known. indexed (λ (q : Process M S P K). triple_at q.state q.number q.stream) _ processes p d (is.triples p known);

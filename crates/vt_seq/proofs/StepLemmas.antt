@@ -1,9 +1,9 @@
 -- One step of the code is one step of the definition.
-use Rattle.std.proofs.Common.{◌≡◌, ℕ, zero, suc, ◌+◌, ◌^◌, ◌<◌, ◌≤◌, inl, inr, List, [], ◌∷◌, ◌++◌, Bool, true, false, not, filter, drop, Option, Some, None, nat_eq, length, slice_get, slice_index_or, slice_set, Result, Ok, Err, IfOk, IfErr, IsErrAnd, refl, sym, subst, ap, ◌∙◌, arith}
+use Rattle.std.proofs.Common.{◌≡◌, ℕ, zero, suc, ◌+◌, ◌^◌, ◌<◌, ◌≤◌, inl, inr, List, [], ◌∷◌, ◌++◌, Bool, true, false, not, filter, drop, Option, Some, None, nat_eq, nat_lt, length, slice_get, slice_index_or, slice_set, Result, Ok, Err, IfOk, IfErr, IsErrAnd, refl, sym, subst, ap, ◌∙◌, arith}
 use Rattle.std.specs.List.{sum_by}
 use Rattle.std.proofs.lemmas.List.{set-get_or, get_or-set_same, get_or-set_other}
 use Rattle.std.proofs.lemmas.List.Sums.{sum_by-cons}
-use Rattle.std.proofs.lemmas.Bool.{eqb-true, eq-eqb}
+use Rattle.std.proofs.lemmas.Bool.{eqb-true, eq-eqb, ltb-true}
 use Rattle.vt_key.specs.declared.fault.Fault.{Fault}
 use Rattle.vt_key.specs.Times.{time_left}
 use Rattle.vt_key.specs.declared.limits.TheConstants.{MAX_COUNT}
@@ -82,6 +82,16 @@ module _ {M S P K : Type 0} (sim : Simulation S P) where
       → StandsAt sim n pending processes → IsNext sim.lps sim.end pending processes e p
       → triple_at p.state p.number p.stream ≡ after sim e.dest (events_of e.dest (after_steps sim n).executed)
   seated n {e} {p} st next = ap (λ (o : Process M S P K). triple_at o.state o.number o.stream) (sym next.at) ∙ st.triples e.dest p next.known
+
+  -- where a process stands that is looked up
+  pub looked_up : (n : ℕ) {pending : List (Sent P)} {processes found : List (Process M S P K)} {p : ℕ} {q : Process M S P K}
+      → StandsAt sim n pending processes → length processes ≡ sim.lps → found ≡ processes → true ≡ nat_lt p (length found) → q ≡ slice_index_or found p q
+      → (p < sim.lps) × (triple_at q.state q.number q.stream ≡ after sim p (events_of p (after_steps sim n).executed))
+  looked_up n {processes} {found} {p} {q} st there is some at =
+      let inside : p < length found = ltb-true p (length found) (sym some) in
+      let all : length found ≡ sim.lps = ap length is ∙ there in
+      let known : p < sim.lps = subst (λ (k : ℕ). p < k) all inside in
+      (known, ap (λ (o : Process M S P K). triple_at o.state o.number o.stream) (at ∙ ap (λ (l : List (Process M S P K)). slice_index_or l p q) is) ∙ st.triples p q known)
 
 module _ {M S P K : Type 0} (handlers : Handlers S P K) (c : Config) (IsState : S → Type 0)
     (start_state : (lps lp : ℕ) (words : ℕ → ℕ) → IsState (handlers.start lps lp words).state)

@@ -1,6 +1,4 @@
-use Rattle.std.proofs.Common.{rules, ◌≡◌, ℕ, suc, ◌≤◌, [], length, IfOk, IfErr, true, ap, subst, arith}
-use Rattle.std.proofs.Math.Logic.{∥∥₁_elim}
-use Rattle.std.proofs.Props.{props}
+use Rattle.std.proofs.Common.{rules, ◌≡◌, ℕ, suc, ◌≤◌, [], length, IfOk, IfErr, ap, subst, arith}
 use Rattle.vt_model.specs.Simulation.{simulation_of}
 use Rattle.vt_model.specs.declared.settings.Config.{Config}
 use Rattle.vt_model.proofs.LawLemmas.{lawful_of}
@@ -9,7 +7,7 @@ use Rattle.vt_model.specs.Settings.{end_of}
 use Rattle.vt_seq.specs.Given.{records_to, AddsStep}
 use Rattle.vt_seq.specs.Limits.{IsCounted, IsStepRefusal}
 use Rattle.vt_seq.specs.Standing.{Standing, IsAt, IsOnWay}
-use Rattle.vt_seq.proofs.ProgressLemmas.{seen-on_way, seen, are_rising, rising-tested, stands-after, after-stands, if_ok-map}
+use Rattle.vt_seq.proofs.ProgressLemmas.{seen-on_way, seen, stands-after, after-stands, if_ok-map}
 use Rattle.vt_seq.proofs.StepLemmas.{AreCounted, counted_at, none_pending}
 use Rattle.vt_seq.proofs.GivenLemmas.{whole_records}
 use Rattle.vt_seq.proofs.execution.Execution.step_reusing.Goals as goal
@@ -21,36 +19,33 @@ pub returns-clause-steps : goal.returns-clause-steps
 returns-clause-steps g c =
     let e = c.self.inside.engine in
     let sim = simulation_of (g.M.Model.handlers e.model.now) e.config in
-    let rises : are_rising e.pending ≡ true = ∥∥₁_elim e.stands (Prim.hlevel props) (λ x. rising-tested e.pending x.1.rising) in
     let f = c.step.new.self in
     let later = seen sim f.model.now f.config f.pending f.processes.items in
     let there : sim.lps ≤ length f.processes.items = search (rules, arith, f.all_there, c.step.ensures.config) in
     subst (λ (v : Standing _ _ _). (n : ℕ) → IsAt (simulation_of (g.M.Model.handlers v.model) v.config) n v → IfOk c.step.result (λ more. IsAt (simulation_of (g.M.Model.handlers v.model) v.config) (suc n) later))
     c.self.view_is
-    (λ n is. if_ok-map _ _ c.step.result (c.step.ensures.steps n (after-stands sim e.model.now e.config n e.pending e.processes.items rises is))
+    (λ n is. if_ok-map _ _ c.step.result (c.step.ensures.steps n (after-stands sim e.model.now e.config n e.pending e.processes.items e.stands is))
     (λ more st. stands-after sim f.model.now f.config (suc n) f.pending f.processes.items there st))
 
 pub returns-clause-refused : goal.returns-clause-refused
 returns-clause-refused g c =
     let e = c.self.inside.engine in
     let sim = simulation_of (g.M.Model.handlers e.model.now) e.config in
-    let rises : are_rising e.pending ≡ true = ∥∥₁_elim e.stands (Prim.hlevel props) (λ x. rising-tested e.pending x.1.rising) in
     subst (λ (v : Standing _ _ _). (n : ℕ) → IsAt (simulation_of (g.M.Model.handlers v.model) v.config) n v → IfErr c.step.result (IsStepRefusal (simulation_of (g.M.Model.handlers v.model) v.config) n))
     c.self.view_is
-    (λ n is. c.step.ensures.refused n (after-stands sim e.model.now e.config n e.pending e.processes.items rises is))
+    (λ n is. c.step.ensures.refused n (after-stands sim e.model.now e.config n e.pending e.processes.items e.stands is))
 
 pub returns-clause-counted : goal.returns-clause-counted
 returns-clause-counted g c =
     let e = c.self.inside.engine in
     let sim = simulation_of (g.M.Model.handlers e.model.now) e.config in
-    let rises : are_rising e.pending ≡ true = ∥∥₁_elim e.stands (Prim.hlevel props) (λ x. rising-tested e.pending x.1.rising) in
     let f = c.step.new.self in
     let there : length f.processes.items ≡ sim.lps = search (rules, arith, f.all_there, c.step.ensures.config) in
     let numbered : AreCounted sim.lps f.processes.items = subst (λ (lps : ℕ). AreCounted lps f.processes.items) (ap (λ (d : Config). d.lps) c.step.ensures.config) f.numbered in
     let lawful = lawful_of (g.M.Model.handlers e.model.now) e.config (g.met.M.Model.start_within e.model.now) (g.met.M.Model.forward_within e.model.now) in
     subst (λ (v : Standing _ _ _). (n : ℕ) → IsAt (simulation_of (g.M.Model.handlers v.model) v.config) n v → IfOk c.step.result (λ more. IsCounted (simulation_of (g.M.Model.handlers v.model) v.config) (suc n)))
     c.self.view_is
-    (λ n is. if_ok-map _ _ c.step.result (c.step.ensures.steps n (after-stands sim e.model.now e.config n e.pending e.processes.items rises is))
+    (λ n is. if_ok-map _ _ c.step.result (c.step.ensures.steps n (after-stands sim e.model.now e.config n e.pending e.processes.items e.stands is))
     (λ more st. counted_at sim lawful (suc n) f.pending f.processes.items st there numbered))
 
 pub returns-clause-reached : goal.returns-clause-reached
@@ -72,7 +67,6 @@ pub returns-clause-adds : goal.returns-clause-adds
 returns-clause-adds g c =
     let e = c.self.inside.engine in
     let sim = simulation_of (g.M.Model.handlers e.model.now) e.config in
-    let rises : are_rising e.pending ≡ true = ∥∥₁_elim e.stands (Prim.hlevel props) (λ x. rising-tested e.pending x.1.rising) in
     subst (λ (v : Standing _ _ _). (n : ℕ) → IsAt (simulation_of (g.M.Model.handlers v.model) v.config) n v → IfOk c.step.result (λ more. AddsStep (simulation_of (g.M.Model.handlers v.model) v.config) n c.args.records.now.items c.step.new.records.items))
     c.self.view_is
-    (λ n is. c.step.ensures.adds n (after-stands sim e.model.now e.config n e.pending e.processes.items rises is))
+    (λ n is. c.step.ensures.adds n (after-stands sim e.model.now e.config n e.pending e.processes.items e.stands is))
