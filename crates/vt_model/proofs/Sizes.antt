@@ -2,6 +2,8 @@
 use Rattle.std.proofs.Common.{◌≡◌, ℕ, zero, ◌+◌, ◌*◌, ◌-◌, ◌%◌, ◌^◌, ◌<◌, ◌≤◌, max, arith}
 use Rattle.std.proofs.Math.Nat.{mod-lt}
 use prog.Memory.{up}
+use Rattle.vt_model.specs.declared.settings.Config.{Config}
+use Rattle.vt_model.specs.Settings.{end_of}
 
 up_le : (k e b : ℕ) → 1 ≤ k → k ≤ 16 → e ≤ b → up k e ≤ b + 16
 up_le k e b pos small low =
@@ -67,3 +69,8 @@ out_fits k s bounds small =
     let at = payload_place k bounds.0 bounds.1 in
     let whole = at.whole in let place = at.place in
     simp whole (omega (arith, place, small))
+
+-- and this is all that an `Out` for the start of a process asks
+pub first_out : (k s : ℕ) (c : Config) {lp tick : ℕ} → (1 ≤ k) × (k ≤ 8) → s < 2 ^ 32 → lp < c.lps → tick ≡ 0
+    → (out_size k s < 2 ^ 63) × ((lp < c.lps) × ((tick < end_of c) × (0 ≤ 2 ^ 63)))
+first_out k s c bounds small known first = (out_fits k s bounds small, (known, (omega (arith, c.some_time, first), omega arith)))

@@ -1,11 +1,10 @@
-use Rattle.std.proofs.Common.{◌<◌, ◌^◌, ◌≤◌, ◌∙◌, ℕ, [], ap, arith}
-use Rattle.vt_model.proofs.Sizes.{out_fits}
+use Rattle.std.proofs.Common.{◌∙◌, ℕ, [], ap}
+use Rattle.vt_model.proofs.Sizes.{out_fits, first_out}
 use Rattle.vt_kernel.proofs.making.count_started.Goals as goal
 use Rattle.vt_model.specs.Settings.{end_of}
 
 pub new-out-requires : goal.new-out-requires
-new-out-requires g c =
-    (out_fits _ _ g.met.M.Model.payload_align g.met.M.Model.payload_size, (c.requires.known, ((let early : c.tick.result < (end_of c.args.config) = omega (arith, c.args.config.some_time, c.tick.ensures) in early), (let z : 0 ≤ 2 ^ 63 = omega arith in z))))
+new-out-requires g c = first_out _ _ c.args.config g.met.M.Model.payload_align g.met.M.Model.payload_size c.requires.known c.tick.ensures
 
 pub sends-requires : goal.sends-requires
 sends-requires g c = out_fits _ _ g.met.M.Model.payload_align g.met.M.Model.payload_size

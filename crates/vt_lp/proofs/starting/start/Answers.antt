@@ -1,4 +1,4 @@
-use Rattle.std.proofs.Common.{◌≡◌, ◌<◌, ◌^◌, ◌≤◌, ◌∙◌, ℕ, List, [], map, length, ap, sym, subst, arith}
+use Rattle.std.proofs.Common.{◌≡◌, ◌∙◌, ℕ, List, [], map, length, ap, sym, subst}
 use Rattle.vt_key.specs.declared.letter.Letter.{Letter}
 use Rattle.vt_key.specs.declared.letter.Sign.TheVariants.{Plus}
 use Rattle.vt_model.specs.declared.sending.Sent.{Sent}
@@ -7,13 +7,12 @@ use Rattle.vt_model.proofs.LawLemmas.{lawful_of}
 use Rattle.vt_model.specs.Settings.{end_of}
 use Rattle.vt_steps.specs.Letters.{stamped, signed}
 use Rattle.vt_lp.specs.Held.{AllWithinRun}
-use Rattle.vt_model.proofs.Sizes.{out_fits}
+use Rattle.vt_model.proofs.Sizes.{out_fits, first_out}
 use Rattle.vt_lp.proofs.Stamping.{length-letters, letters-within}
 use Rattle.vt_lp.proofs.starting.start.Goals as goal
 
 pub new-out-requires : goal.new-out-requires
-new-out-requires g c =
-    (out_fits _ _ g.met.M.Model.payload_align g.met.M.Model.payload_size, (c.requires.known, ((let early : c.tick.result < (end_of c.args.config) = omega (arith, c.args.config.some_time, c.tick.ensures) in early), (let z : 0 ≤ 2 ^ 63 = omega arith in z))))
+new-out-requires g c = first_out _ _ c.args.config g.met.M.Model.payload_align g.met.M.Model.payload_size c.requires.known c.tick.ensures
 
 pub sends-requires : goal.sends-requires
 sends-requires g c = out_fits _ _ g.met.M.Model.payload_align g.met.M.Model.payload_size

@@ -1,4 +1,4 @@
-use Rattle.std.proofs.Common.{rules, arith, ◌≡◌, ◌∙◌, ◌++◌, ◌+◌, ◌^◌, ◌<◌, ◌≤◌, ℕ, List, [], sym, ap, subst}
+use Rattle.std.proofs.Common.{rules, arith, ◌≡◌, ◌∙◌, ◌++◌, ◌+◌, ℕ, List, [], sym, ap, subst}
 use Rattle.std.proofs.lemmas.Result.{on_ok_weaker}
 use Rattle.vt_model.specs.declared.rows.Record.{Record}
 use Rattle.vt_model.specs.Settings.{end_of}
@@ -6,7 +6,7 @@ use Rattle.vt_model.specs.Simulation.{Simulation, simulation_of}
 use Rattle.vt_model.specs.Sequential.{seq_records}
 use Rattle.vt_seq.specs.Given.{records_to}
 use Rattle.vt_seq.specs.Standing.{IsAt}
-use Rattle.vt_model.proofs.Sizes.{out_fits}
+use Rattle.vt_model.proofs.Sizes.{out_fits, first_out}
 use Rattle.vt_seq.proofs.StepLemmas.{if_err, nil_of}
 use Rattle.vt_text.specs.Records.{first_line, record_lines}
 use Rattle.vt_text.specs.Writing.{AppendsBeginning, AppendsAllButHeld}
@@ -18,10 +18,7 @@ use Rattle.vt_runner.proofs.simulation.print_run.Goals as goal
 pub new-handler_out-requires : goal.new-handler_out-requires
 new-handler_out-requires g c =
     let config = c.args.options.now.config in
-    let known : 0 < config.lps = omega (arith, config.some_process) in
-    let early : c.tick.result < end_of config = omega (arith, config.some_time, c.tick.ensures) in
-    let numbered : 0 ≤ 2 ^ 63 = omega arith in
-    (out_fits _ _ g.met.M.Model.payload_align g.met.M.Model.payload_size, (known, (early, numbered)))
+    first_out _ _ config g.met.M.Model.payload_align g.met.M.Model.payload_size (omega (arith, config.some_process)) c.tick.ensures
 
 pub step_reusing-requires-after_bounds : goal.step_reusing-requires-after_bounds
 step_reusing-requires-after_bounds g c κs within = out_fits _ _ g.met.M.Model.payload_align g.met.M.Model.payload_size

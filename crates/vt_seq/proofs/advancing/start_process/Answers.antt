@@ -1,4 +1,4 @@
-use Rattle.std.proofs.Common.{◌≡◌, List, sym, subst, ◌<◌, ◌^◌, ◌≤◌, ◌∙◌, [], ap, arith, rules}
+use Rattle.std.proofs.Common.{◌≡◌, List, sym, subst, ◌<◌, ◌∙◌, [], ap, arith, rules}
 use Rattle.vt_stream.specs.Words.{word_of}
 use Rattle.vt_model.specs.Handler.{IsFresh}
 use Rattle.vt_model.specs.Sends.{Outgoing, with_requests}
@@ -11,12 +11,11 @@ use Rattle.vt_model.specs.Settings.{end_of}
 use Rattle.vt_seq.specs.Queue.{all_inserted, AreNew}
 use Rattle.vt_seq.proofs.InsertedLemmas.{are_new}
 use Rattle.vt_seq.proofs.StartLemmas.{started_so}
-use Rattle.vt_model.proofs.Sizes.{out_fits}
+use Rattle.vt_model.proofs.Sizes.{out_fits, first_out}
 use Rattle.vt_seq.proofs.advancing.start_process.Goals as goal
 
 pub new-out-requires : goal.new-out-requires
-new-out-requires g c =
-    (out_fits _ _ g.met.M.Model.payload_align g.met.M.Model.payload_size, (c.requires.known, ((let early : c.tick.result < end_of c.args.config = omega (arith, c.args.config.some_time, c.tick.ensures) in early), (let z : 0 ≤ 2 ^ 63 = omega arith in z))))
+new-out-requires g c = first_out _ _ c.args.config g.met.M.Model.payload_align g.met.M.Model.payload_size c.requires.known c.tick.ensures
 
 pub start-state-requires : goal.start-state-requires
 start-state-requires g c =
