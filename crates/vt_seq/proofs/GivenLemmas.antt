@@ -73,7 +73,7 @@ module _ {S P : Type 0} (sim : Simulation S P) (lawful : IsLawful sim) where
       ap (after_steps sim) one ∙ no_step sim lawful (k + end) none ∙ stays k
 
   -- the records of any number of steps begin those of the whole run
-  pub records_begin : (n : ℕ) → BeginRun sim (records_to sim n)
+  records_begin : (n : ℕ) → BeginRun sim (records_to sim n)
   records_begin n =
       let end : ℕ = weight sim (opening sim).pending in
       let more = steps_add sim n end in

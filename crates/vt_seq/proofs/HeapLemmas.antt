@@ -24,7 +24,7 @@ use Rattle.vt_seq.proofs.InsertedLemmas.{inserted-rising, inserted-sum, all_inse
 -- ---- how keys compare
 
 -- a key that is before another compares as less
-pub less-key : (a b : Key) → KeyBefore a b → key_cmp a b ≡ Less
+less-key : (a b : Key) → KeyBefore a b → key_cmp a b ≡ Less
 less-key a b (inl l) = sym (λ j. ordering_then (nat_cmp_is a.time b.time Less l j) (ordering_then (nat_cmp a.source b.source) (nat_cmp a.number b.number)))
 less-key a b (inr h) = elim h.1 [
   | inl l ↦ sym (λ j. ordering_then (nat_cmp_is a.time b.time Equal h.0 j) (ordering_then (nat_cmp_is a.source b.source Less l j) (nat_cmp a.number b.number)))

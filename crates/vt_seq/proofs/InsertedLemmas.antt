@@ -39,7 +39,7 @@ module _ {P : Type 0} where
             rw (inserted-later e d ds y) (inserted-after d.key e ds b r.0, inserted-rising e ds r.1 (λ f m. new f (inr m)))
       ]
 
-  pub inserted-among : (e : Sent P) (ds : List (Sent P)) (f : Sent P) → Among f (inserted e ds) → (f ≡ e) ⊎ Among f ds
+  inserted-among : (e : Sent P) (ds : List (Sent P)) (f : Sent P) → Among f (inserted e ds) → (f ≡ e) ⊎ Among f ds
   inserted-among e [] f m = elim m [ inl at ↦ inl at | inr never ↦ absurd never ]
   inserted-among e (d ∷ ds) f m =
       elim (tested (key_before e.key d.key)) [

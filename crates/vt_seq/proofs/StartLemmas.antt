@@ -18,11 +18,11 @@ use Rattle.vt_model.specs.declared.process.Process.{Process}
 use Rattle.vt_seq.proofs.InsertedLemmas.{all_inserted-among, among-all_inserted, all_inserted-rising}
 
 -- an item of a list with one more
-pub at-end : {X : Type 0} (xs : List X) (x d : X) → slice_index_or (xs ++ x ∷ []) (length xs) d ≡ x
+at-end : {X : Type 0} (xs : List X) (x d : X) → slice_index_or (xs ++ x ∷ []) (length xs) d ≡ x
 at-end [] x d = refl
 at-end (y ∷ ys) x d = at-end ys x d
 
-pub before-end : {X : Type 0} (xs : List X) (x d : X) (r : ℕ) → r < length xs → slice_index_or (xs ++ x ∷ []) r d ≡ slice_index_or xs r d
+before-end : {X : Type 0} (xs : List X) (x d : X) (r : ℕ) → r < length xs → slice_index_or (xs ++ x ∷ []) r d ≡ slice_index_or xs r d
 before-end [] x d r l = absurd (omega (arith, l))
 before-end (y ∷ ys) x d zero l = refl
 before-end (y ∷ ys) x d (suc r) l = before-end ys x d r (omega (arith, l))

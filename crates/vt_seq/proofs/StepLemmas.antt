@@ -31,12 +31,12 @@ use Rattle.vt_model.specs.declared.process.Process.{Process}
 use Rattle.vt_seq.proofs.InsertedLemmas.{all_inserted-among, among-all_inserted, all_inserted-rising, all_inserted-sum}
 
 -- a list is its first item and the others
-pub opened : {X : Type 0} (xs : List X) (x : X) → 0 < length xs → slice_index_or xs 0 x ≡ x → xs ≡ x ∷ drop 1 xs
+opened : {X : Type 0} (xs : List X) (x : X) → 0 < length xs → slice_index_or xs 0 x ≡ x → xs ≡ x ∷ drop 1 xs
 opened [] x l h = absurd (omega (arith, l))
 opened (y ∷ ys) x l h = ap (λ (z : _). z ∷ ys) h
 
 -- a list whose first item is looked up
-pub first_there : {X : Type 0} (xs : List X) (x : X) → Some x ≡ slice_get xs 0 → (0 < length xs) × (slice_index_or xs 0 x ≡ x)
+first_there : {X : Type 0} (xs : List X) (x : X) → Some x ≡ slice_get xs 0 → (0 < length xs) × (slice_index_or xs 0 x ≡ x)
 first_there [] x h = absurd (cc)
 first_there (y ∷ ys) x h = ((let l : 0 < length (y ∷ ys) = omega arith in l), (let e : y ≡ x = cc in e))
 
@@ -50,7 +50,7 @@ module _ {P : Type 0} where
   among-at (x ∷ xs) zero d l = inl refl
   among-at (x ∷ xs) (suc k) d l = inr (among-at xs k d (omega arith))
 
-  pub at-among : (Q : Sent P → Type 0) (xs : List (Sent P)) → ((k : ℕ) (d : Sent P) → k < length xs → Q (slice_index_or xs k d)) → (e : Sent P) → Among e xs → Q e
+  at-among : (Q : Sent P → Type 0) (xs : List (Sent P)) → ((k : ℕ) (d : Sent P) → k < length xs → Q (slice_index_or xs k d)) → (e : Sent P) → Among e xs → Q e
   at-among Q [] h e m = absurd m
   at-among Q (x ∷ xs) h e (inl at) = subst Q (sym at) (h 0 x (omega arith))
   at-among Q (x ∷ xs) h e (inr m) = at-among Q xs (λ k d l. h (suc k) d (omega arith)) e m
@@ -197,7 +197,7 @@ module _ {M S P K : Type 0} (sim : Simulation S P) (lawful : IsLawful sim) where
       (subst (λ (l : List (Sent P)). StandsFor sim (with_event sim x e) l (slice_set processes e.dest q)) (sym pending_is) stood)
 
   -- where the receiver of the next event stands after it
-  pub next_triple : (n : ℕ) {pending : List (Sent P)} {processes : List (Process M S P K)} {e : Sent P} {p : Process M S P K}
+  next_triple : (n : ℕ) {pending : List (Sent P)} {processes : List (Process M S P K)} {e : Sent P} {p : Process M S P K}
       → StandsAt sim n pending processes → IsNext sim.lps sim.end pending processes e p
       → (sim.fire e.dest (triple_at p.state p.number p.stream) e).triple ≡ after sim e.dest (events_of e.dest (after_steps sim (suc n)).executed)
   next_triple n {e} st next =
@@ -214,7 +214,7 @@ module _ {M S P K : Type 0} (sim : Simulation S P) (lawful : IsLawful sim) where
   counted_at n pending (x ∷ xs) st there numbered p is = subst (λ (t : Triple S). t.number ≤ MAX_COUNT) (st.triples p x is) (numbered p x is)
 
   -- and so they are after the next event, if its receiver's is
-  pub counted_next : (n : ℕ) {pending : List (Sent P)} {processes : List (Process M S P K)} {e : Sent P} {p : Process M S P K}
+  counted_next : (n : ℕ) {pending : List (Sent P)} {processes : List (Process M S P K)} {e : Sent P} {p : Process M S P K}
       → StandsAt sim n pending processes → IsNext sim.lps sim.end pending processes e p → AreCounted sim.lps processes → (sim.fire e.dest (triple_at p.state p.number p.stream) e).triple.number ≤ MAX_COUNT → IsCounted sim (suc n)
   counted_next n {pending} {processes} {e} st next numbered fits r is = elim (tested (nat_eq e.dest r)) [
     | inl y ↦

@@ -40,8 +40,8 @@ insert_all-requires g c =
     let w = g.met.M.Model.start_within c.args.model.now c.args.config.lps c.args.p (words_at c.args.config.seed c.args.p 0)
     c.requires.known (λ i. word_below _ _ _) in
     let r = started_so c.args.config.seed (end_of c.args.config) c.args.config.lps c.args.p (g.M.Model.handlers c.args.model.now).start
-        c.new-draws.ensures.stream c.new-stream.ensures c.new-out.ensures.whole c.tick.ensures
-        c.start-state.ensures.state c.start-state.ensures.stream c.start-state.ensures.out w.few_words in
+    c.new-draws.ensures.stream c.new-stream.ensures c.new-out.ensures.whole c.tick.ensures
+    c.start-state.ensures.state c.start-state.ensures.stream c.start-state.ensures.out w.few_words in
     let model = c.args.model.now in
     let config = c.args.config in
     let sim = simulation_of (g.M.Model.handlers model) config in
@@ -56,8 +56,8 @@ returns-clause-done g c =
     let w = g.met.M.Model.start_within c.args.model.now c.args.config.lps c.args.p (words_at c.args.config.seed c.args.p 0)
     c.requires.known (λ i. word_below _ _ _) in
     let r = started_so c.args.config.seed (end_of c.args.config) c.args.config.lps c.args.p (g.M.Model.handlers c.args.model.now).start
-        c.new-draws.ensures.stream c.new-stream.ensures c.new-out.ensures.whole c.tick.ensures
-        c.start-state.ensures.state c.start-state.ensures.stream c.start-state.ensures.out w.few_words in
+    c.new-draws.ensures.stream c.new-stream.ensures c.new-out.ensures.whole c.tick.ensures
+    c.start-state.ensures.state c.start-state.ensures.stream c.start-state.ensures.out w.few_words in
     record {
       triple = search (rules, r.triple, c.number-number.ensures);
       pending = c.in_ok-insert_all.ensures.events ∙ ap (λ (es : List (Sent _)). all_inserted es c.args.pending.now) (c.sends.ensures ∙ r.sends);

@@ -44,9 +44,25 @@ advance-requires-after_bounds g c κs within =
     let p = c.index_mut.result.now in
     let next = next_of c.in-Some.ensures c.index_mut.ensures.value s.within_run (search (rules, s.all_there)) in
     let numbered = subst (λ (o : Process _ _ _ _). o.number ≤ MAX_COUNT) next.at (s.numbered e.dest p next.known) in
-    let stream = subst (λ (o : Process _ _ _ _). IsProcessStream s.config.seed e.dest o.stream) next.at (s.streams e.dest p next.known) in
-    (out_fits _ _ g.met.M.Model.payload_align g.met.M.Model.payload_size, (next.known, (next.soon, (numbered, (stream, (next.some,
-      λ d m source. ∥∥₁_elim s.stands (Prim.hlevel props) (λ x. numbers_below_next _ (lawful g s.model.now s.config) x.0 x.1 next d m source)))))))
+    let stream = subst (λ (o : Process _ _ _ _). IsProcessStream s.config.seed e.dest o.stream) next.at (s.streams e.dest p next.known) in (
+      out_fits _ _ g.met.M.Model.payload_align g.met.M.Model.payload_size,
+      (
+        next.known,
+        (
+          next.soon,
+          (
+            numbered,
+            (
+              stream,
+              (
+                next.some,
+                λ d m source. ∥∥₁_elim s.stands (Prim.hlevel props) (λ x. numbers_below_next _ (lawful g s.model.now s.config) x.0 x.1 next d m source),
+              ),
+            ),
+          ),
+        ),
+      ),
+    )
 
 pub returns-clause-falls : goal.returns-clause-falls
 returns-clause-falls g c is =
@@ -72,8 +88,8 @@ returns-in_err-advance-clause-processes g c =
     let m = s.model.now in
     let next = next_of c.in-Some.ensures c.index_mut.ensures.value s.within_run (search (rules, s.all_there)) in
     in_err c.from_residual.result (∥∥₁_elim s.stands (Prim.hlevel (props, Coded-set g.row.M-State.coded)) (λ x.
-        set_same s.processes.items c.in-Some.event.dest c.index_mut.result.now c.advance.new.process next.at
-            (c.in_err-advance.ensures.process (seated_state (g.M.Model.handlers m) s.config (g.M.Model.IsState m) (g.met.M.Model.start_state m) (g.met.M.Model.forward_state m) x.0 x.1 next))))
+    set_same s.processes.items c.in-Some.event.dest c.index_mut.result.now c.advance.new.process next.at
+    (c.in_err-advance.ensures.process (seated_state (g.M.Model.handlers m) s.config (g.M.Model.IsState m) (g.met.M.Model.start_state m) (g.met.M.Model.forward_state m) x.0 x.1 next))))
 
 pub returns-in_err-advance-clause-refused : goal.returns-in_err-advance-clause-refused
 returns-in_err-advance-clause-refused g c n st =
