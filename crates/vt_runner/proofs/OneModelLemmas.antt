@@ -1,24 +1,17 @@
 -- What a program of one model does, by what its parts did.
-use Rattle.std.proofs.Common.{◌≡◌, ◌∙◌, ℕ, List, [], ◌∷◌, Option, Some, None, inl, ap, subst, length, codes, get_or}
-use Rattle.std.specs.Io.KnownBytes.{Appends, Keeps}
+use Rattle.std.proofs.Common.{◌≡◌, ◌∙◌, ℕ, List, [], ◌∷◌, Option, inl, ap, subst, length, get_or}
+use Rattle.std.specs.Io.KnownBytes.{Keeps}
 use Rattle.std.proofs.lemmas.List.{length-map}
 use Rattle.std.proofs.lemmas.Grind.{get_or_head}
 use Rattle.clap.specs.Words.{Text}
 use Rattle.vt_key.specs.declared.fault.Fault.{Fault}
-use Rattle.vt_key.specs.Faults.{option_named}
 use Rattle.vt_model.specs.Handler.{Handlers}
-use Rattle.vt_model.specs.Simulation.{simulation_of}
-use Rattle.vt_world.specs.Answers.{PassesAtStart}
-use Rattle.vt_options.specs.declared.choices.ReplaySettings.{ReplaySettings}
-use Rattle.vt_options.specs.declared.choices.RunSettings.{RunSettings}
 use Rattle.vt_options.specs.declared.own.Chosen.{Chosen}
 use Rattle.vt_options.specs.declared.own.OwnOption.{OwnOption}
-use Rattle.vt_options.specs.Own.{only, own_app, own_line, number_table, number_option, AreInRange, AreWithin, GiveModel, AskRunWith, AskReplayWith}
+use Rattle.vt_options.specs.Own.{only, own_app, own_line, number_table, number_option, AreInRange, AreWithin, GiveModel}
 use Rattle.vt_options.specs.Requests.{AskHelpOf, IsRefusedAsOf, IsRefusedByOf}
 use Rattle.vt_options.specs.Table.{Given, NumberOption}
-use Rattle.vt_runner.specs.Runs.{run_text, text_below, PassesInRun, StopsBy}
-use Rattle.vt_runner.specs.Replays.{IsReplayOf, AreRepliesOf, ReplaysBy, EndsReplayBy}
-use Rattle.vt_runner.specs.Models.{AnyHandlers, AskWith}
+use Rattle.vt_runner.specs.Models.{AnyHandlers}
 use Rattle.vt_runner.specs.OneModel.{meaning_of, MakesOf, IsDoneOf, EndsOf, AskBadLineOf}
 use Rattle.vt_runner.proofs.ModelsLemmas as models
 
@@ -56,34 +49,6 @@ module _ {M S P K : Type 0} (handlers : M → Handlers S P K) (Makes : List ℕ 
   pub bad_nothing_written : (words : List Text) (input old new : Option (List ℕ)) (fault : Fault) → AskBadLineOf handlers Makes name own words input → EndsOf handlers Makes name own fault words input old new → Keeps old new
   bad_nothing_written words input old new fault bad h = models.bad_nothing_written meaning Made name (only own) words input old new fault bad h
 
-  module _ (words : List Text) (input old new : Option (List ℕ)) where
-    -- a run of a model that the values make was written
-    pub run_done : (s : RunSettings) (chosen : Chosen) (model : M) → AskRunWith name (only own) words s chosen.model chosen.values.items → Makes chosen.values.items (Some model)
-        → Appends old new (run_text s.text (handlers model) s.config) → IsDoneOf handlers Makes name own words input old new
-    run_done s chosen model asked made h = models.run_done meaning Made name (only own) words input old new s chosen model asked made h
-
-    -- or it was refused
-    pub run_stopped : (s : RunSettings) (chosen : Chosen) (model : M) (fault : Fault) → AskRunWith name (only own) words s chosen.model chosen.values.items → Makes chosen.values.items (Some model)
-        → StopsBy s.synch (PassesInRun (handlers model) s.config) (text_below s.text (handlers model) s.config) (run_text s.text (handlers model) s.config) old new fault
-        → EndsOf handlers Makes name own fault words input old new
-    run_stopped s chosen model fault asked made h = inl (models.run_stopped meaning Made name (only own) words input old new s chosen model asked made fault h)
-
-    -- a replay on a model that the values make was written
-    pub replay_done : (s : ReplaySettings) (chosen : Chosen) (model : M) → AskReplayWith name (only own) words s chosen.model chosen.values.items → Makes chosen.values.items (Some model)
-        → ReplaysBy s.config (λ steps text. IsReplayOf s.text (handlers model) s.config s.serial steps text) input old new → IsDoneOf handlers Makes name own words input old new
-    replay_done s chosen model asked made h = models.replay_done meaning Made name (only own) words input old new s chosen model asked made h
-
-    -- or it was refused
-    pub replay_stopped : (s : ReplaySettings) (chosen : Chosen) (model : M) (fault : Fault) → AskReplayWith name (only own) words s chosen.model chosen.values.items → Makes chosen.values.items (Some model)
-        → EndsReplayBy s.config (λ steps text. IsReplayOf s.text (handlers model) s.config s.serial steps text) (λ steps text. AreRepliesOf (handlers model) s.config s.serial steps text) (PassesAtStart (simulation_of (handlers model) s.config) s.serial) input old new fault
-        → EndsOf handlers Makes name own fault words input old new
-    replay_stopped s chosen model fault asked made h = inl (models.replay_stopped meaning Made name (only own) words input old new s chosen model asked made fault h)
-
-    module _ (kept : Keeps old new) where
-      -- the values make no model
-      pub values_refused : (chosen : Chosen) (fault : Fault) → AskWith name (only own) words chosen → Makes chosen.values.items None → option_named fault ≡ Some (codes "values") → EndsOf handlers Makes name own fault words input old new
-      values_refused chosen fault asked none named = models.values_refused meaning Made name (only own) words input old new kept chosen fault asked none named
-
-      -- the words are refused
-      pub words_refused : (fault : Fault) → IsRefusedByOf (own_line name own) words fault → EndsOf handlers Makes name own fault words input old new
-      words_refused fault h = inl (models.words_refused meaning Made name (only own) words input old new kept fault h)
+  -- where the words are refused, nothing is written
+  pub words_refused : (words : List Text) (input old new : Option (List ℕ)) → Keeps old new → (fault : Fault) → IsRefusedByOf (own_line name own) words fault → EndsOf handlers Makes name own fault words input old new
+  words_refused words input old new kept fault h = inl (models.words_refused meaning Made name (only own) words input old new kept fault h)
