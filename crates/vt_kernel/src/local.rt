@@ -15,10 +15,10 @@ ghost use Rattle.vt_kernel.specs.Guards.{IsDone, AreWithinLimits, IsExecuteRefus
 use crate::contestants::{Teller, enter_ready, enter_unready, ready_at, unready_at};
 use crate::kernel::Kernel;
 use std::alloc::Global;
-use vt_key::{Fault, Rank, Stamp};
+use vt_key::{Fault, Rank, Stamp, When};
 use vt_lp::Lp;
 use vt_marks::Marks;
-use vt_model::{Config, Model as EventModel};
+use vt_model::{Config, Model as EventModel, Out};
 use vt_tournament::Tournament;
 
 impl<M: EventModel> Kernel<M> {
@@ -41,6 +41,28 @@ impl<M: EventModel> Kernel<M> {
         ensures but_processes { IfErr result (λ fault. self.new ≡ record self.old { processes = self.new.processes }) }
         ensures same { (self.new.worker ≡ self.old.worker) × (self.new.config ≡ self.old.config) }
     {
+        let mut out = Out::new(self.config, 0, When::tick(0), 0);
+        self.execute_reusing(alloc, model, lp, &mut out)
+    }
+
+    /// As [`Kernel::execute`], but uses for the handler an `out` that the caller lends, so that many events have one. Any `out`
+    /// serves, as `Out::new(config, 0, When::tick(0), 0)`. What is in it afterwards isn't said.
+    pub fn execute_reusing(
+        &mut self,
+        alloc: Global,
+        model: &M,
+        lp: u32,
+        out: &mut Out<M::Payload>,
+    ) -> Result<(), Fault>
+        ensures done { (part : Part _) → StandsFor (M.handlers model.now) self.old part → IfOk result (λ done. IsDone (M.handlers model.now) self.new (local_step (simulation_of (M.handlers model.now) self.old.config) self.old.worker (step.Execute lp) part)) }
+        ensures counted { (part : Part _) → StandsFor (M.handlers model.now) self.new part → IfOk result (λ done. AreWithinLimits (simulation_of (M.handlers model.now) self.old.config) lp part) }
+        ensures refused { (part : Part _) → StandsFor (M.handlers model.now) self.old part → IfErr result (λ fault. IsExecuteRefusal (simulation_of (M.handlers model.now) self.old.config) lp (local_step (simulation_of (M.handlers model.now) self.old.config) self.old.worker (step.Execute lp) part) fault) }
+        ensures unchanged { (part : Part _) → StandsFor (M.handlers model.now) self.old part → IfErr result (λ fault. self.new ≡ self.old) }
+        ensures restored { IfSome (process_of self.old lp) (λ process. M.IsState model.now process.triple.state) → IfErr result (λ fault. self.new ≡ self.old) }
+        ensures not_lawful { IfErr result (λ fault. fault ≡ NotLawful → self.new ≡ self.old) }
+        ensures but_processes { IfErr result (λ fault. self.new ≡ record self.old { processes = self.new.processes }) }
+        ensures same { (self.new.worker ≡ self.old.worker) × (self.new.config ≡ self.old.config) }
+    {
         let Some(place) = place_of(self.config, self.worker, lp) else {
             return Err(Fault::NotLawful);
         };
@@ -50,6 +72,7 @@ impl<M: EventModel> Kernel<M> {
             &mut self.serial,
             &mut self.outbox,
             &mut self.spare,
+            out,
         );
         enter(
             &mut self.ready,

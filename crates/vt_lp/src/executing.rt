@@ -25,7 +25,7 @@ use crate::past::Past;
 use crate::spare::Spare;
 use arrayvec::ArrayVec;
 use std::alloc::Global;
-use vt_key::{Event, Fault, Letter, MAX_COUNT, Sign};
+use vt_key::{Event, Fault, Letter, MAX_COUNT, Sign, When};
 use vt_list::{List, Parcel};
 use vt_model::{
     Bits, Config, MAX_DRAWS, MAX_RECORDS, Model as EventModel, Out, Process, Record, Sent, Undo,
@@ -78,10 +78,14 @@ impl<M: EventModel> Lp<M> {
         ensures within { AllWithinRun self.old.config outbox.old → AllWithinRun self.old.config outbox.new }
         ensures same { (self.new.lp ≡ self.old.lp) × (self.new.config ≡ self.old.config) }
     {
-        self.execute_reusing(alloc, model, serial, outbox, &mut Spare::new(alloc))
+        let mut out = Out::new(self.config, 0, When::tick(0), 0);
+        let mut spare = Spare::new(alloc);
+        self.execute_reusing(alloc, model, serial, outbox, &mut spare, &mut out)
     }
 
-    /// As [`Lp::execute`], but uses the memory of committed events as long as there is some, and then new memory.
+    /// As [`Lp::execute`], but uses the memory of committed events as long as there is some, and then new memory, and for the
+    /// handler an `out` that the caller lends, so that many events have one. Any `out` serves, as
+    /// `Out::new(config, 0, When::tick(0), 0)`. What is in it afterwards isn't said.
     pub fn execute_reusing(
         &mut self,
         alloc: Global,
@@ -89,6 +93,7 @@ impl<M: EventModel> Lp<M> {
         serial: &mut u64,
         outbox: &mut List<Letter<M::Payload>>,
         spare: &mut Spare<M::Payload, M::Kept>,
+        out: &mut Out<M::Payload>,
     ) -> Result<(), Fault>
         ensures done { let sim = simulation_of (M.handlers model.now) self.old.config in (h : LogicalProcess _) → StandsFor (M.handlers model.now) self.old h → IfOk result (λ _. IsDone (M.handlers model.now) self.new (execute_process sim self.old.lp (self.old.lp % self.old.config.workers) serial.old h) outbox.old outbox.new serial.old serial.new) }
         ensures refused { let sim = simulation_of (M.handlers model.now) self.old.config in (h : LogicalProcess _) → StandsFor (M.handlers model.now) self.old h → IfErr result (λ fault. IsExecuteRefusal sim self.old.lp serial.old (execute_process sim self.old.lp (self.old.lp % self.old.config.workers) serial.old h) fault) }
@@ -108,6 +113,7 @@ impl<M: EventModel> Lp<M> {
             &mut self.process,
             alloc,
             spare,
+            out,
             model,
             self.config,
             *serial,
@@ -157,6 +163,7 @@ fn advance<M: EventModel>(
     process: &mut Process<M>,
     alloc: Global,
     spare: &mut Spare<M::Payload, M::Kept>,
+    out: &mut Out<M::Payload>,
     model: &M,
     config: Config,
     serial: u64,
@@ -191,8 +198,8 @@ fn advance<M: EventModel>(
         dest: event.dest,
         payload: event.payload,
     };
-    let mut out = Out::new(config, event.dest, event.rank.key.when(), number);
-    let Undo { bits, kept, drawn } = process.execute_into(model, config, sent, &mut out);
+    out.renew(config, event.dest, event.rank.key.when(), number);
+    let Undo { bits, kept, drawn } = process.execute_into(model, config, sent, out);
     if out.number() > MAX_COUNT || !is_counted(serial, out.sends()) {
         process.undo(model, sent, bits, kept, drawn, number);
         return Err(Fault::Exhausted);
@@ -210,7 +217,7 @@ fn advance<M: EventModel>(
         bits,
         drawn,
         number,
-        records: out.into_records(),
+        records: out.take_records(),
         anti_messages,
     };
     Ok((trail, messages))

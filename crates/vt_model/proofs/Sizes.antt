@@ -12,24 +12,13 @@ up_le k e b pos small low =
     omega (arith, m)
 
 -- what a payload is aligned to, and where it is put in a `Sent`
-pub record IsPayloadPlace (k : ℕ) : Type 0 where
+record IsPayloadPlace (k : ℕ) : Type 0 where
   pub place : up k 28 ≤ 44
   pub whole : max 8 (max 4 (max k 1)) ≡ 8
 
-pub payload_place : (k : ℕ) → 1 ≤ k → k ≤ 8 → IsPayloadPlace k
+payload_place : (k : ℕ) → 1 ≤ k → k ≤ 8 → IsPayloadPlace k
 payload_place k low high = record {
   place = up_le k 28 28 low (omega (arith, high)) (omega arith);
-  whole = omega (arith, high);
-}
-
--- what is kept is aligned to, and where it is put behind the flags
-pub record IsKeptPlace (k : ℕ) : Type 0 where
-  pub place : up k 4 ≤ 20
-  pub whole : max 4 (max k 8) ≡ 8
-
-pub kept_place : (k : ℕ) → 1 ≤ k → k ≤ 8 → IsKeptPlace k
-kept_place k low high = record {
-  place = up_le k 4 4 low (omega (arith, high)) (omega arith);
   whole = omega (arith, high);
 }
 

@@ -140,8 +140,8 @@ impl<P: Copy> Out<P> {
         self.records.len() < MAX_RECORDS
     }
 
-    /// Whether a time is later than now: `delay` ticks from now, with this priority. It is where the delay is 1 or more, and
-    /// within the present tick where the priority is higher than now's.
+    /// Whether an event may be sent so: to be received `delay` ticks from now, with this priority. Its time of receipt has to be
+    /// later than now, so the delay is 1 or more, or it is 0 and the priority is higher than now's.
     pub fn later(&self, delay: u64, priority: u8) -> bool
         ensures { IsTrue result ↔ TimeBefore self.now.time (at (ticks_of self.now.time + delay) priority) }
     {
@@ -208,11 +208,12 @@ impl<P: Copy> Out<P> {
         self.records.as_slice()
     }
 
-    /// The records, in the order in which they were made, to be kept. For simulators.
-    pub fn into_records(self) -> ArrayVec<Record, MAX_RECORDS>
-        ensures { result.items ≡ self.records }
+    /// Takes the records out, in the order in which they were made, to be kept. None is left. For simulators.
+    pub fn take_records(&mut self) -> ArrayVec<Record, MAX_RECORDS>
+        ensures taken { result.items ≡ self.old.records }
+        ensures left { self.new ≡ record self.old { records = [] } }
     {
-        self.records
+        self.records.take()
     }
 }
 

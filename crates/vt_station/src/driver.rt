@@ -18,7 +18,7 @@ use std::sync::Wait;
 use std::thread::yield_now;
 use vt_board::Report;
 use vt_key::{Fault, When};
-use vt_model::Model as EventModel;
+use vt_model::{Model as EventModel, Out};
 
 /// How often in a row a worker tries again at once after it found a cell claimed by another place. Then it yields its
 /// processor.
@@ -214,12 +214,13 @@ impl<'a, M: EventModel> Driver<'a, M> {
         ensures lasting { IfErr result IsLasting }
     {
         let most = self.allowed();
+        let mut out = Out::new(self.worker.config(), 0, When::tick(0), 0);
         for done in 0..most {
             let Some(lp) = self.worker.kernel().next() else {
                 return Ok(done);
             };
             watch.before_execute(self.worker.number(), turn);
-            if !pass_over(self.worker.execute(lp))? {
+            if !pass_over(self.worker.execute_reusing(lp, &mut out))? {
                 return Ok(done);
             }
         }

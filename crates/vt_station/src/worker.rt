@@ -26,8 +26,8 @@ use std::alloc::Global;
 use std::marker::Model;
 use vt_board::Report;
 use vt_kernel::Kernel;
-use vt_key::{Fault, Stamp};
-use vt_model::{Config, Model as EventModel, Record};
+use vt_key::{Fault, Stamp, When};
+use vt_model::{Config, Model as EventModel, Out, Record};
 
 /// A worker: a kernel, and the place at a station by which it acts there.
 ///
@@ -139,7 +139,18 @@ impl<'a, M: EventModel> Worker<'a, M> {
         ensures refused { (part : Part _) → StandsFor (M.handlers self.old.model) self.old.kernel part → IfErr result (λ fault. IsExecuteRefusal (simulation_of (M.handlers self.old.model) self.old.kernel.config) lp (local_step (simulation_of (M.handlers self.old.model) self.old.kernel.config) self.old.kernel.worker (step.Execute lp) part) fault) }
         ensures kept { (part : Part _) → StandsFor (M.handlers self.old.model) self.old.kernel part → IfErr result (λ _. self.new.kernel ≡ self.old.kernel) }
     {
-        self.kernel.execute(self.alloc, self.model, lp)
+        let mut out = Out::new(self.config, 0, When::tick(0), 0);
+        self.execute_reusing(lp, &mut out)
+    }
+
+    /// As [`Worker::execute`], with an `out` that the caller lends, as [`Kernel::execute_reusing`] says.
+    pub fn execute_reusing(&mut self, lp: u32, out: &mut Out<M::Payload>) -> Result<(), Fault>
+        ensures place { IsAtSamePlace self.old self.new }
+        ensures done { (part : Part _) → StandsFor (M.handlers self.old.model) self.old.kernel part → IfOk result (λ done. IsDone (M.handlers self.old.model) self.new.kernel (local_step (simulation_of (M.handlers self.old.model) self.old.kernel.config) self.old.kernel.worker (step.Execute lp) part)) }
+        ensures refused { (part : Part _) → StandsFor (M.handlers self.old.model) self.old.kernel part → IfErr result (λ fault. IsExecuteRefusal (simulation_of (M.handlers self.old.model) self.old.kernel.config) lp (local_step (simulation_of (M.handlers self.old.model) self.old.kernel.config) self.old.kernel.worker (step.Execute lp) part) fault) }
+        ensures kept { (part : Part _) → StandsFor (M.handlers self.old.model) self.old.kernel part → IfErr result (λ _. self.new.kernel ≡ self.old.kernel) }
+    {
+        self.kernel.execute_reusing(self.alloc, self.model, lp, out)
     }
 
     /// Undoes the last past event of process `lp`.

@@ -1,7 +1,5 @@
-use Rattle.std.proofs.Common.{◌<◌, ◌^◌, ◌∙◌, List, [], map, ap, sym, subst, refl, arith}
+use Rattle.std.proofs.Common.{◌≤◌, ◌<◌, ◌^◌, ◌∙◌, inl, inr, List, [], map, length, ap, sym, subst, refl, arith}
 use Rattle.std.specs.List.{All}
-use prog.Memory.{align, size}
-use denote.Memory.{lone}
 use Rattle.vt_key.specs.Times.{TimeBefore}
 use Rattle.vt_key.specs.declared.letter.Letter.{Letter}
 use Rattle.vt_key.specs.declared.letter.Sign.TheVariants.{Plus, Minus}
@@ -10,71 +8,43 @@ use Rattle.vt_model.specs.declared.sending.Sent.{Sent}
 use Rattle.vt_model.specs.declared.rows.Record.{Record}
 use Rattle.vt_model.specs.Handler.{IsFresh}
 use Rattle.vt_model.specs.Process.{triple_at}
-use Rattle.vt_model.specs.Simulation.{simulation_of, rows_of}
+use Rattle.vt_model.specs.Simulation.{Triple, simulation_of, rows_of}
 use Rattle.vt_model.proofs.LawLemmas.{lawful_of}
 use Rattle.vt_model.specs.Settings.{end_of}
 use Rattle.vt_steps.specs.Letters.{unstamped, stamped, signed}
 use Rattle.vt_lp.specs.Held.{AllWithinRun, IsReady}
-use Rattle.vt_model.proofs.Sizes.{payload_place, kept_place}
+use Rattle.vt_model.proofs.Sizes.{out_fits}
 use Rattle.vt_lp.proofs.Stamping.{letters-all, letters-within}
 use Rattle.vt_lp.proofs.Advancing.{remembers}
 use Rattle.vt_lp.proofs.executing.advance.Goals as goal
+use Rattle.vt_lp.proofs.executing.advance.Goals.{then-number-gt-MAX_COUNT-via-then-number-gt-MAX_COUNT, then-number-gt-MAX_COUNT-via-else-number-gt-MAX_COUNT+then-not-is_counted}
 
 pub number-requires : goal.number-requires
-number-requires g c =
-    let bounds = g.met.M.Model.payload_align in
-    let at = payload_place (align (lone g.row.M-Payload.mir)) bounds.0 bounds.1 in
-    let al = at.whole in let place = at.place in
-    let size_small : size (lone g.row.M-Payload.mir) < 2 ^ 32 = g.met.M.Model.payload_size in
-    simp al (omega (arith, place, size_small))
+number-requires g c = out_fits _ _ g.met.M.Model.payload_align g.met.M.Model.payload_size
 
 pub sends-requires : goal.sends-requires
-sends-requires g c =
-    let bounds = g.met.M.Model.payload_align in
-    let at = payload_place (align (lone g.row.M-Payload.mir)) bounds.0 bounds.1 in
-    let al = at.whole in let place = at.place in
-    let size_small : size (lone g.row.M-Payload.mir) < 2 ^ 32 = g.met.M.Model.payload_size in
-    simp al (omega (arith, place, size_small))
+sends-requires g c = out_fits _ _ g.met.M.Model.payload_align g.met.M.Model.payload_size
 
 pub sends-requires-2 : goal.sends-requires-2
-sends-requires-2 g c =
-    let bounds = g.met.M.Model.payload_align in
-    let at = payload_place (align (lone g.row.M-Payload.mir)) bounds.0 bounds.1 in
-    let al = at.whole in let place = at.place in
-    let size_small : size (lone g.row.M-Payload.mir) < 2 ^ 32 = g.met.M.Model.payload_size in
-    simp al (omega (arith, place, size_small))
+sends-requires-2 g c = out_fits _ _ g.met.M.Model.payload_align g.met.M.Model.payload_size
 
-pub into_records-requires : goal.into_records-requires
-into_records-requires g c =
-    let bounds = g.met.M.Model.payload_align in
-    let at = payload_place (align (lone g.row.M-Payload.mir)) bounds.0 bounds.1 in
-    let al = at.whole in let place = at.place in
-    let size_small : size (lone g.row.M-Payload.mir) < 2 ^ 32 = g.met.M.Model.payload_size in
-    simp al (omega (arith, place, size_small))
+pub take_records-requires : goal.take_records-requires
+take_records-requires g c = out_fits _ _ g.met.M.Model.payload_align g.met.M.Model.payload_size
 
-pub new-out-requires : goal.new-out-requires
-new-out-requires g c =
-    let bounds = g.met.M.Model.payload_align in
-    let at = payload_place (align (lone g.row.M-Payload.mir)) bounds.0 bounds.1 in
-    let al = at.whole in let place = at.place in
-    let size_small : size (lone g.row.M-Payload.mir) < 2 ^ 32 = g.met.M.Model.payload_size in
+pub renew-requires : goal.renew-requires
+renew-requires g c =
     let early = subst (λ t. TimeBefore t (end_of c.args.config)) (sym c.when.ensures) c.requires.early in
-    (simp al (omega (arith, place, size_small)), (c.requires.known, (early, c.requires.numbered)))
+    (out_fits _ _ g.met.M.Model.payload_align g.met.M.Model.payload_size, (c.requires.known, (early, c.requires.numbered)))
+
+pub execute_into-drawn-requires-send-M-Payload : goal.execute_into-drawn-requires-send-M-Payload
+execute_into-drawn-requires-send-M-Payload g c = λ _ _. c.type_bounds.send-M-Payload
 
 pub execute_into-drawn-requires-after_bounds : goal.execute_into-drawn-requires-after_bounds
 execute_into-drawn-requires-after_bounds g c κs within =
-    let bounds = g.met.M.Model.payload_align in
-    let at = payload_place (align (lone g.row.M-Payload.mir)) bounds.0 bounds.1 in
-    let al = at.whole in let place = at.place in
-    let size_small : size (lone g.row.M-Payload.mir) < 2 ^ 32 = g.met.M.Model.payload_size in
-    let kept_bounds = g.met.M.Model.kept_align in
-    let kept = kept_place (align (lone g.row.M-Kept.mir)) kept_bounds.0 kept_bounds.1 in
-    let kept_al = kept.whole in let kept_at = kept.place in
-    let kept_small : size (lone g.row.M-Kept.mir) < 2 ^ 32 = g.met.M.Model.kept_size in
     let config = c.args.config in let event = c.args.event in let number = c.args.process.now.number in
-    let fresh = subst (IsFresh c.new-out.result event.dest) c.when.ensures c.new-out.ensures.fresh in
-    let whole = c.new-out.ensures.whole ∙ (λ j. record { lps = config.lps; end = end_of config; lp = event.dest; time = c.when.ensures j; first = number; number = number; sends = []; records = [] }) in
-    (simp (al, kept_al) (omega (arith, place, size_small, kept_at, kept_small)), (c.requires.known, (c.requires.stream, (fresh, whole))))
+    let fresh = subst (IsFresh c.renew.new.self event.dest) c.when.ensures c.renew.ensures.fresh in
+    let whole = c.renew.ensures.whole ∙ (λ j. record { lps = config.lps; end = end_of config; lp = event.dest; time = c.when.ensures j; first = number; number = number; sends = []; records = [] }) in
+    (out_fits _ _ g.met.M.Model.payload_align g.met.M.Model.payload_size, (c.requires.known, (c.requires.stream, (fresh, whole))))
 
 pub returns-clause-remembered : goal.returns-clause-remembered
 returns-clause-remembered g c ok =
@@ -91,7 +61,7 @@ returns-clause-remembered g c ok =
     (c.execute_into-drawn.ensures.undoes ok) refl c.execute_into-drawn.ensures.in_range c.execute_into-drawn.ensures.few
     (ap (λ (w : Stream). w.place) c.execute_into-drawn.ensures.stream)
     (c.in-Ok.ensures.anti_messages ∙ ap (λ (xs : List (Sent _)). map (signed Minus) (stamped c.owner-worker.result c.args.serial xs)) sends)
-    (ap (λ (xs : List Record). rows_of event.rank.key xs) c.into_records.ensures ∙ c.execute_into-drawn.ensures.fires.rows)
+    (ap (λ (xs : List Record). rows_of event.rank.key xs) c.take_records.ensures.taken ∙ c.execute_into-drawn.ensures.fires.rows)
 
 pub returns-clause-ready : goal.returns-clause-ready
 returns-clause-ready g c =
@@ -125,3 +95,24 @@ returns-clause-within g c =
     (sym (c.in-Ok.ensures.messages ∙ ap (λ (xs : List (Sent _)). map (signed Plus) (stamped c.owner-worker.result c.args.serial xs)) sends))
     (letters-within config.lps (end_of config) Plus c.owner-worker.result c.args.serial fired.sends
     (λ d m. lawful.known event.dest t (unstamped event) d c.requires.known m) (λ d m. lawful.ends event.dest t (unstamped event) d c.requires.known m))
+
+pub returns-then-number-gt-MAX_COUNT-clause-refused : goal.returns-then-number-gt-MAX_COUNT-clause-refused
+returns-then-number-gt-MAX_COUNT-clause-refused g c =
+    let fires = c.execute_into-drawn.ensures.fires in
+    let number = ap (λ (t : Triple _). t.number) fires.triple in
+    inl (
+      refl,
+      elim c.then-number-gt-MAX_COUNT.branch [
+        | then-number-gt-MAX_COUNT-via-then-number-gt-MAX_COUNT w ↦ inl (omega (arith, w.if-number-gt-MAX_COUNT.true, c.number.ensures, number))
+        | then-number-gt-MAX_COUNT-via-else-number-gt-MAX_COUNT+then-not-is_counted w ↦
+            let sends = ap length (w.sends.ensures ∙ fires.sends) in
+            inr (grind (arith, w.is_counted.ensures, w.if-not-is_counted.true, sends))
+      ],
+    )
+
+pub returns-in-Err-clause-refused : goal.returns-in-Err-clause-refused
+returns-in-Err-clause-refused g c =
+    let fires = c.execute_into-drawn.ensures.fires in
+    let number = ap (λ (t : Triple _). t.number) fires.triple in
+    let sends = ap length (c.sends.ensures ∙ fires.sends) in
+    inr (c.in-Err.ensures.refused, omega (arith, c.if-number-gt-MAX_COUNT.false, c.number.ensures, number), grind (arith, c.is_counted.ensures, c.if-not-is_counted.false, sends))

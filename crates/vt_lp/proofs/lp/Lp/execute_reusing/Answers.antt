@@ -1,4 +1,4 @@
-use Rattle.std.proofs.Common.{◌≡◌, ◌∙◌, ◌+◌, ◌-◌, ◌≤◌, ◌%◌, ◌^◌, ◌++◌, ◌∷◌, inr, List, map, length, sym, subst, refl, ap, arith}
+use Rattle.std.proofs.Common.{◌≡◌, ◌∙◌, ◌<◌, ◌+◌, ◌-◌, ◌≤◌, ◌%◌, ◌^◌, ◌++◌, ◌∷◌, inr, List, map, length, sym, subst, refl, ap, arith}
 use Rattle.std.specs.List.{All}
 use Rattle.std.proofs.lemmas.List.Elements.{All-head, All-append}
 use Rattle.vt_key.specs.declared.limits.TheConstants.{MAX_COUNT}
@@ -16,6 +16,7 @@ use Rattle.vt_steps.specs.ProcessSteps.{execute_process}
 use Rattle.vt_steps.proofs.MemoryLemmas.{is_where}
 use Rattle.vt_lp.specs.Held.{HeldProcess, StandsFor, AllWithinRun, IsWithinRun, IsOwnLetter, process_memory}
 use Rattle.vt_lp.specs.Guards.{IsDone, IsExecuteRefusal}
+use Rattle.vt_model.proofs.Sizes.{out_fits}
 use Rattle.vt_lp.proofs.Advancing.{place-back}
 use Rattle.vt_lp.proofs.Stamping.{length-letters}
 use Rattle.vt_lp.proofs.ExecuteLemmas.{ready-some, ready-own, execute-none, executes, refuses, came-back, inside-at, inside-more}
@@ -33,30 +34,18 @@ returns-in_default-clause-refused g c h s =
     (subst (λ step. IsExecuteRefusal (simulation_of handlers l.config) l.lp c.args.serial.now step NotLawful)
     (sym (execute-none handlers held w c.args.serial.now h (sym c.in_default.is ∙ c.ready_event.ensures.event) now)) refl)
 
-pub advance-requires-clause-known : goal.advance-requires-clause-known
-advance-requires-clause-known g c =
-    let l = c.self.inside in
-    let inside = c.self.invariant in
-    let event = c.in-Some.event in
-    let own = ready-own l.lp (end_of l.config) l.pending l.past event inside.own_pending c.in-Some.ensures.event in
-    let at = own.0 in
-    omega (arith, at, inside.known)
+pub advance-requires-send-M-Payload : goal.advance-requires-send-M-Payload
+advance-requires-send-M-Payload g c = λ _ _. c.type_bounds.send-M-Payload
 
-pub advance-requires-clause-early : goal.advance-requires-clause-early
-advance-requires-clause-early g c κs within =
+pub advance-requires-after_bounds : goal.advance-requires-after_bounds
+advance-requires-after_bounds g c κs within =
     let l = c.self.inside in
     let inside = c.self.invariant in
     let event = c.in-Some.event in
     let own = ready-own l.lp (end_of l.config) l.pending l.past event inside.own_pending c.in-Some.ensures.event in
-    own.1
-
-pub advance-requires-clause-stream : goal.advance-requires-clause-stream
-advance-requires-clause-stream g c κs within =
-    let l = c.self.inside in
-    let inside = c.self.invariant in
-    let event = c.in-Some.event in
-    let own = ready-own l.lp (end_of l.config) l.pending l.past event inside.own_pending c.in-Some.ensures.event in
-    record { key = inside.own_stream.key; process = inside.own_stream.process ∙ sym own.0 }
+    let at_own = own.0 in
+    let known : event.dest < l.config.lps = omega (arith, at_own, inside.known) in
+    (out_fits _ _ g.met.M.Model.payload_align g.met.M.Model.payload_size, (known, (own.1, (inside.few_sends, record { key = inside.own_stream.key; process = inside.own_stream.process ∙ sym own.0 }))))
 
 pub invariant_of-self : goal.invariant_of-self
 invariant_of-self g c =

@@ -1,16 +1,11 @@
-use Rattle.vt_steps.specs.declared.step.Step.TheVariants.{Execute}
-use Rattle.vt_station.proofs.ReachLemmas.{reaches-either}
+use Rattle.std.proofs.Common.{arith}
+use Rattle.vt_model.proofs.Sizes.{out_fits, first_out}
 use Rattle.vt_station.proofs.worker.Worker.execute.Goals as goal
 
-pub invariant_of-self : goal.invariant_of-self
-invariant_of-self g c =
-    let i = c.self.inside in
-    let H = g.M.Model.handlers i.model.now in
-    let before = c.self.invariant in
-    let after = c.execute in
-    record {
-      config_is = before.config_is;
-      table_is = before.table_is;
-      model_is = before.model_is;
-      reaches = reaches-either H i.station.now.table.shared.key.config i.place.seat.me.0 i.kernel after.new.self after.ensures.same before.reaches (Execute c.args.lp) after.result after.ensures.done after.ensures.unchanged;
-    }
+pub new-out-requires : goal.new-out-requires
+new-out-requires g c =
+    let config = c.self.inside.config in
+    first_out _ _ config g.met.M.Model.payload_align g.met.M.Model.payload_size (omega (arith, config.some_process)) c.tick.ensures
+
+pub execute_reusing-requires-after_bounds : goal.execute_reusing-requires-after_bounds
+execute_reusing-requires-after_bounds g c κs within = out_fits _ _ g.met.M.Model.payload_align g.met.M.Model.payload_size
