@@ -20,7 +20,7 @@ pub const MAX_DELAY: u32 = 1_000_000;
 /// The highest rise of a hop's priority.
 pub const MAX_RISE: u32 = u8::MAX as u32;
 
-/// A token on its way.
+/// A token on its way, which is the payload of the model [`Hop`].
 #[derive(Debug, Clone, Copy, PartialEq, Eq)]
 pub struct Token {
     /// The process that made it, plus one.
@@ -39,10 +39,14 @@ pub struct Token {
 /// priority that is so much higher, until that would be above 255.
 #[derive(Debug, Clone, Copy, PartialEq, Eq)]
 pub struct Hop {
-    hops: u32,
-    stride: u32,
-    delay: u32,
-    rise: u32,
+    /// How many hops each token makes, from 0 to 1,000,000.
+    pub hops: u32,
+    /// How many processes a hop leads on, from 0 to 65,535.
+    pub stride: u32,
+    /// How many ticks a hop takes, from 1 to 1,000,000.
+    pub delay: u32,
+    /// By how much the priority rises with a hop within the tick, from 0 (no such hop) to 255.
+    pub rise: u32,
     ghost few_hops: { hops ≤ MAX_HOPS },
     ghost short_stride: { stride ≤ MAX_STRIDE },
     ghost some_delay: { 1 ≤ delay },

@@ -34,10 +34,14 @@ const REMOTE: u32 = 0;
 /// events it has executed, modulo 2^64: the count is recorded under kind 2 at each event, and is the final value.
 #[derive(Debug, Clone, Copy, PartialEq, Eq)]
 pub struct Phold {
-    population: u32,
-    remote: u32,
-    lookahead: u32,
-    span: u32,
+    /// How many events each process starts with, from 0 to 16.
+    pub population: u32,
+    /// The percentage of events that go to a drawn process, from 0 to 100.
+    pub remote: u32,
+    /// The least number of ticks between an event and the one that it schedules, from 1 to 1,000,000.
+    pub lookahead: u32,
+    /// A draw below it is added to `lookahead`, in ticks, from 1 to 1,000,000.
+    pub span: u32,
     ghost few_events: { population ≤ MAX_POPULATION },
     ghost in_percent: { remote ≤ MAX_REMOTE },
     ghost some_lookahead: { 1 ≤ lookahead },

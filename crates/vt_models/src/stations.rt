@@ -56,9 +56,12 @@ pub struct Server {
 /// empty station does nothing. The final value of a station is how many jobs it has served.
 #[derive(Debug, Clone, Copy, PartialEq, Eq)]
 pub struct Stations {
-    jobs: u32,
-    service: u32,
-    travel: u32,
+    /// How many jobs each station begins with, from 0 to 1,000.
+    pub jobs: u32,
+    /// A service takes one tick and a draw below it, from 1 to 1,000,000.
+    pub service: u32,
+    /// How many ticks a passage takes, from 1 to 1,000,000.
+    pub travel: u32,
     ghost few_jobs: { jobs ≤ MAX_JOBS },
     ghost some_service: { 1 ≤ service },
     ghost short_service: { service ≤ MAX_SERVICE },

@@ -13,16 +13,16 @@ use crate::packet::{BLANK, Buffer, Packet, ROOM};
 use vt_key::{Fault, MAX_PROCESSES, When};
 use vt_model::{Bits, Draws, Model as EventModel, Out};
 
-/// The kind of a record of a packet that has arrived, by how long it was on its way.
+/// The kind of a record of a packet that has reached its host. Its value is how many ticks have passed since it was made.
 pub const DELIVERED: u32 = 1;
 
-/// The kind of a record of a packet that found a full buffer, by who had made it.
+/// The kind of a record of a packet that found a full buffer and was dropped. Its value is the router whose host had made it.
 pub const DROPPED: u32 = 2;
 
 /// The most ticks that an option may be.
 pub const MAX_TICKS: u32 = 1_000_000;
 
-/// What happens at a router.
+/// What happens at a router: the payload of the model [`Network`].
 #[derive(Debug, Clone, Copy, PartialEq, Eq)]
 pub enum NetworkEvent {
     /// The host at this router makes a packet.
@@ -58,14 +58,14 @@ pub struct Router {
 /// dropped under kind [`DROPPED`] by the router that made it. The final value of a router is how many packets it has dropped.
 #[derive(Debug, Clone, Copy, PartialEq, Eq)]
 pub struct Network {
-    /// The length of a chord.
-    columns: u32,
-    /// The longest time between two packets of a host.
-    gap: u32,
-    /// The ticks that a router works on a packet.
-    service: u32,
-    /// The ticks that a packet needs on a link.
-    link: u32,
+    /// How many routers a chord leads on, from 1 to 65,536.
+    pub columns: u32,
+    /// The longest time between two packets of a host, in ticks, from 1 to 1,000,000.
+    pub gap: u32,
+    /// The ticks that a router works on a packet, from 1 to 1,000,000.
+    pub service: u32,
+    /// The ticks that a packet needs on a link, from 1 to 1,000,000.
+    pub link: u32,
     ghost some_gap: { 1 ≤ gap },
     ghost some_service: { 1 ≤ service },
     ghost some_link: { 1 ≤ link },

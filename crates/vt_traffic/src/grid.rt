@@ -47,11 +47,16 @@ const ENTERED: u32 = 0;
 /// under kind 2, by how many have passed. The final value of a junction is how many cars have passed.
 #[derive(Debug, Clone, Copy, PartialEq, Eq)]
 pub struct Traffic {
-    columns: u32,
-    cars: u32,
-    green: u32,
-    travel: u32,
-    turning: u32,
+    /// How many junctions a row has, from 1 to 65,536.
+    pub columns: u32,
+    /// How many cars wait on each road of each junction at the start, from 0 to 1,000.
+    pub cars: u32,
+    /// How many ticks the lights stay, from 1 to 1,000,000.
+    pub green: u32,
+    /// The least number of ticks of a passage, from 1 to 1,000,000. A draw below it is added.
+    pub travel: u32,
+    /// The percentage of cars that turn, from 0 to 100.
+    pub turning: u32,
     ghost few_columns: { columns ≤ MAX_PROCESSES },
     ghost few_cars: { cars ≤ MAX_CARS },
     ghost some_green: { 1 ≤ green },
