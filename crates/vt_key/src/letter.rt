@@ -47,7 +47,7 @@ pub enum Colour {
 }
 
 impl Colour {
-    /// The other of the two colours.
+    /// The colour that a worker of this colour takes at its next cut.
     pub fn other(self) -> Colour
         ensures { result ≡ other_colour self }
     {

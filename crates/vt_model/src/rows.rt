@@ -16,7 +16,7 @@ pub struct Record {
     pub lp: u32,
     /// What the value is: each model names its own kinds.
     pub kind: u32,
-    /// The value.
+    /// What the event tells, as the model says for this kind: for instance a queue's length, or a time in ticks.
     pub value: u64,
 }
 
