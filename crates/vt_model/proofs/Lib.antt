@@ -7,3 +7,6 @@ pub mod EndLemmas
 pub mod LawLemmas
 pub mod RequestLemmas
 pub mod Sizes
+pub mod DistinctLemmas
+pub mod SumLemmas
+pub mod SentLemmas

@@ -22,6 +22,14 @@ sent_after o a b xs ns x before sent =
 pub sent_then : {P : Type 0} (o a b : Outgoing P) (x : SendRequest P) (xs : List (SendRequest P)) → a ≡ with_requests o (x ∷ []) [] → b ≡ with_requests a xs [] → b ≡ with_requests o (x ∷ xs) []
 sent_then o a b x xs sent more = more ∙ ap (λ (w : Outgoing _). with_requests w xs []) sent ∙ with_requests-append o (x ∷ []) xs [] []
 
+-- a record, then some sends, then others
+pub recorded_then_both : {P : Type 0} (o a b d : Outgoing P) (n : RecordRequest) (xs ys : List (SendRequest P))
+    → a ≡ with_requests o [] (n ∷ []) → b ≡ with_requests a xs [] → d ≡ with_requests b ys [] → d ≡ with_requests o (xs ++ ys) (n ∷ [])
+recorded_then_both o a b d n xs ys recorded some others =
+    others
+    ∙ ap (λ (w : Outgoing _). with_requests w ys []) (some ∙ ap (λ (w : Outgoing _). with_requests w xs []) recorded ∙ with_requests-append o [] xs (n ∷ []) [])
+    ∙ with_requests-append o xs ys (n ∷ []) []
+
 -- how many records there are
 abbrev pub record_count : {P : Type 0} → Outgoing P → ℕ
 record_count o = length o.records

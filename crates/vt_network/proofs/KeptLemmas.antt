@@ -14,9 +14,9 @@ use Rattle.vt_model.specs.Settings.{end_of}
 use Rattle.vt_model.proofs.LawLemmas.{lawful_of, after_state}
 use Rattle.vt_model.proofs.RunLemmas.{after-snoc, events_of-same, events_of-other, known_sent, lists_of, least-found, IsReached, reached}
 use Rattle.vt_parts.specs.Ring.{item_count}
-use Rattle.vt_traffic.proofs.DistinctLemmas.{flat-next, AreDistinct, sum_by-without, distinct_pending}
-use Rattle.vt_traffic.proofs.SumLemmas.{sum-next, sum_one}
-use Rattle.vt_traffic.proofs.SentLemmas.{sent_or_past}
+use Rattle.vt_model.proofs.DistinctLemmas.{flat-next, AreDistinct, sum_by-without, distinct_pending}
+use Rattle.vt_model.proofs.SumLemmas.{sum-next, sum_one}
+use Rattle.vt_model.proofs.SentLemmas.{sent_or_past}
 use Rattle.vt_network.specs.declared.network.Network.{Network}
 use Rattle.vt_network.specs.declared.network.Router.{Router}
 use Rattle.vt_network.specs.declared.network.NetworkEvent.{NetworkEvent}

@@ -18,9 +18,9 @@ use Rattle.vt_traffic.specs.Traffic.{traffic_start, traffic_forward, traffic_han
 use Rattle.vt_traffic.specs.TrafficLaws.{start_within, forward_within}
 use Rattle.vt_traffic.specs.Cars.{cars_at, cars_brought, cars_sent_past, cars_coming, grid, sent_past_from, cars_on_grid, cars_on_roads, cars_past_end}
 use Rattle.vt_traffic.proofs.CarLemmas.{start-cars, start-sent, forward-cars}
-use Rattle.vt_traffic.proofs.DistinctLemmas.{flat-next, AreDistinct, sum_by-without, distinct_pending}
-use Rattle.vt_traffic.proofs.SumLemmas.{sum_by-both, sum-next, sum_one, part-le}
-use Rattle.vt_traffic.proofs.SentLemmas.{sent_or_past}
+use Rattle.vt_model.proofs.DistinctLemmas.{flat-next, AreDistinct, sum_by-without, distinct_pending}
+use Rattle.vt_model.proofs.SumLemmas.{sum_by-both, sum-next, sum_one, part-le}
+use Rattle.vt_model.proofs.SentLemmas.{sent_or_past}
 
 -- the car of a sent event
 abbrev car_in : Sent JunctionEvent → ℕ
