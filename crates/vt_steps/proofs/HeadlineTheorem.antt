@@ -1,4 +1,4 @@
--- The whole sentence: all that is claimed of a reached world, put together.
+-- The guards that never fail, and the whole sentence.
 use Rattle.std.proofs.Common.{ℕ, List}
 use Rattle.vt_model.specs.Histories.{IsLawful}
 use Rattle.vt_model.specs.Simulation.{Simulation}
@@ -6,7 +6,6 @@ use Rattle.vt_steps.specs.declared.step.Step.{Step}
 use Rattle.vt_steps.specs.Claims.{DoGuardsPass, IsTimeWarpRight}
 use Rattle.vt_steps.specs.Next.{reached}
 use Rattle.vt_steps.proofs.Floors.{reached-times}
-use Rattle.vt_steps.proofs.HistoriesTheorem.{histories}
 use Rattle.vt_steps.proofs.LetterGuards.{accepts-done, homes-done}
 use Rattle.vt_steps.proofs.ReachedBooks.{closed-whole, reached-accounted, reached-falls}
 use Rattle.vt_steps.proofs.Records.{floors-right, records-right}
@@ -28,10 +27,8 @@ module _ {S P : Type 0} (sim : Simulation S P) (lawful : IsLawful sim) where
       let world = reached sim serial steps in
       let known = reached-accounted sim lawful serial steps in
       record {
-        histories = histories sim lawful serial steps;
         floors = floors-right sim lawful world known;
         records = records-right sim lawful world known;
-        guards = guards-pass serial steps;
         later = reached-falls sim lawful serial steps;
         closed = closed-whole sim lawful serial steps;
       }

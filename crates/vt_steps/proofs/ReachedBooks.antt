@@ -10,7 +10,7 @@ use Rattle.vt_model.specs.Sequential.{seq_events, seq_records}
 use Rattle.vt_model.specs.Simulation.{Simulation, after}
 use Rattle.vt_steps.specs.declared.step.Step.{Step}
 use Rattle.vt_steps.specs.declared.step.Step.TheVariants.{Commit, Close}
-use Rattle.vt_steps.specs.Claims.{IsProcess, IsWhole, NothingFalls}
+use Rattle.vt_steps.specs.Claims.{AreProcessesFinal, IsProcess, IsWhole, NothingFalls}
 use Rattle.vt_steps.specs.Letters.{unstamped}
 use Rattle.vt_steps.specs.Next.{close, commit, next, reached, refused, report_lawful, run}
 use Rattle.vt_steps.specs.World.{Entry, LogicalProcess, World, book_floor, book_records, entry_events, least, opening_world, triple_after}
@@ -134,18 +134,23 @@ module _ {S P : Type 0} (sim : Simulation S P) (lawful : IsLawful sim) (serial :
   quiet-triple quiet p process less is =
       ap (after sim p) (sym (early-events sim.end (entry_events (process.done ++ process.past)) (executed-ends p process is)) ∙ (reached-accounted sim lawful serial steps).histories sim.end p process less quiet is)
 
-  -- once closed the book holds the whole run and takes nothing more, and each process stands where the run leaves it
+  -- once closed nothing is unprocessed or travelling, so each process stands where the run leaves it
+  pub closed-finals : IsTrue (reached sim serial steps).book.is_closed → AreProcessesFinal sim (reached sim serial steps)
+  closed-finals shut =
+      let known = reached-accounted sim lawful serial steps in
+      let at_end = known.times.floors.closed shut in
+      let floors = floors-right sim lawful (reached sim serial steps) known in
+      quiet-triple (let a = floors.floor in let b = floors.announced in omega arith)
+
+  -- once closed the book holds the whole run and takes nothing more
   pub closed-whole : IsTrue (reached sim serial steps).book.is_closed → IsWhole sim (reached sim serial steps)
   closed-whole shut =
       let world = reached sim serial steps in
       let known = reached-accounted sim lawful serial steps in
       let at_end = known.times.floors.closed shut in
-      let floors = floors-right sim lawful world known in
-      let quiet : TimeAtMost sim.end (least sim.end world) = (let a = floors.floor in let b = floors.announced in omega arith) in
       record {
         at_end = at_end;
         records = (records-right sim lawful world known).records ∙ ap (seq_records sim) at_end;
         no_commit = λ w. closed-commit sim world w shut;
         no_close = closed-close sim world shut;
-        finals = quiet-triple quiet;
       }

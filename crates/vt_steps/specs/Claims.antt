@@ -82,15 +82,18 @@ module _ {S P : Type 0} (sim : Simulation S P) where
     pub announced : TimeAtMost old.board.announced new.board.announced
     pub begins : (rest : List Record) × (book_records sim.end new.book ≡ book_records sim.end old.book ++ rest)
 
-  -- a world whose book is closed: the floor is the end of the run, the book holds the whole run and takes nothing more, and
-  -- each process stands where the whole run leaves it
+  -- a world whose book is closed: the floor is the end of the run, and the book holds the whole run and takes nothing more
   pub record IsWhole (world : World P) : Type 0 where
     pub at_end : book_floor sim.end world.book ≡ sim.end
     pub records : book_records sim.end world.book ≡ seq_records sim sim.end
     pub no_commit : (w : ℕ) → next sim world (Commit w) ≡ refused world Closed
     pub no_close : next sim world Close ≡ refused world Closed
-    pub finals : (p : ℕ) (process : LogicalProcess P) → p < sim.lps → IsProcess world p process →
-        triple_after sim p (process.done ++ process.past) ≡ after sim p (seq_events sim p sim.end)
+
+  -- each process stands where the whole run leaves it
+  abbrev pub AreProcessesFinal : World P → Type 0
+  AreProcessesFinal world =
+      (p : ℕ) (process : LogicalProcess P) → p < sim.lps → IsProcess world p process →
+      triple_after sim p (process.done ++ process.past) ≡ after sim p (seq_events sim p sim.end)
 
   -- the copies, ranks and histories of a world are right
   pub record Histories (serial : ℕ) (world : World P) : Type 0 where
@@ -103,10 +106,8 @@ module _ {S P : Type 0} (sim : Simulation S P) where
   -- the least time of any unprocessed or travelling event or anti-message; once closed, the book holds the whole run and
   -- takes nothing more
   pub record Headline (serial : ℕ) (steps : List Step) : Type 0 where
-    pub histories : Histories serial (reached sim serial steps)
     pub floors : AreFloorsRight (reached sim serial steps)
     pub records : AreRecordsRight (reached sim serial steps)
-    pub guards : DoGuardsPass (reached sim serial steps)
     pub later : (more : List Step) → NothingFalls (reached sim serial steps) (run sim (reached sim serial steps) more)
     pub closed : IsTrue (reached sim serial steps).book.is_closed → IsWhole (reached sim serial steps)
 

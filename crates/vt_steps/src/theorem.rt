@@ -13,7 +13,7 @@ ghost use Rattle.vt_steps.specs.Rows.{rows_in_order};
 ghost use Rattle.vt_steps.specs.World.{Part, least};
 ghost use Rattle.vt_steps.specs.Finals.{worker_finals, part_values};
 ghost use Rattle.vt_steps.specs.Next.{reached, run};
-ghost use Rattle.vt_steps.specs.Claims.{AreFloorsRight, AreRecordsRight, NothingFalls, IsWhole, DoGuardsPass, IsTimeWarpRight};
+ghost use Rattle.vt_steps.specs.Claims.{AreFloorsRight, AreRecordsRight, NothingFalls, IsWhole, AreProcessesFinal, DoGuardsPass, IsTimeWarpRight};
 
 /// After any steps, the book's floor is at most the announced time. The announced time is at most the least time of
 /// any unprocessed or travelling event or anti-message. In any further steps neither falls, and the records that the
@@ -48,6 +48,9 @@ pub fn closed_book_is_whole<S, P>()
     ensures whole { (serial : ℕ) (steps : List Step) →
         IsTrue (reached sim serial steps).book.is_closed →
         IsWhole sim (reached sim serial steps) }
+    ensures finals { (serial : ℕ) (steps : List Step) →
+        IsTrue (reached sim serial steps).book.is_closed →
+        AreProcessesFinal sim (reached sim serial steps) }
     ensures stays { (serial : ℕ) (steps more : List Step) →
         IsTrue (reached sim serial steps).book.is_closed →
         (run sim (reached sim serial steps) more).book ≡ (reached sim serial steps).book }
@@ -83,8 +86,9 @@ pub fn guards_never_fail<S, P>()
 ///   once;
 /// - the announced time never falls, and never exceeds the least time of any unprocessed or travelling event or
 ///   anti-message;
-/// - once closed, the book holds the whole run and takes nothing more;
-/// - copies, ranks, histories and guards are right, as the theorems on them say.
+/// - once closed, the book holds the whole run and takes nothing more.
+///
+/// Copies, ranks, histories and guards have theorems of their own.
 pub fn headline<S, P>()
     ghost sim: { Simulation S P }
     requires { IsLawful sim }

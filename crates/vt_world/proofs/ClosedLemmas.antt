@@ -11,10 +11,10 @@ use Rattle.vt_steps.specs.declared.step.Step.{Step}
 use Rattle.vt_steps.specs.declared.step.Reply.{Reply}
 use Rattle.vt_steps.specs.World.{World, Book, book_floor}
 use Rattle.vt_steps.specs.Next.{next, run, reached}
-use Rattle.vt_steps.specs.Claims.{IsWhole}
+use Rattle.vt_steps.specs.Claims.{AreProcessesFinal, IsWhole}
 use Rattle.vt_steps.specs.Cells.{cell_of, book_cell}
 use Rattle.vt_steps.specs.StandsFor.{GoesOn}
-use Rattle.vt_steps.proofs.ReachedBooks.{closed-stays, closed-whole}
+use Rattle.vt_steps.proofs.ReachedBooks.{closed-finals, closed-stays, closed-whole}
 use Rattle.vt_steps.proofs.Refusals.{refusals as refusal-laws}
 use Rattle.vt_kernel.specs.Refusals.{IsStepRefusal}
 use Rattle.vt_world.specs.Held.{HeldWorld, world_memory, StandsForWorld, IsReached}
@@ -59,6 +59,10 @@ module _ {M S P K : Type 0} (handlers : Handlers S P K) (held : HeldWorld M S P 
     -- the whole run is there
     pub whole : (x : (serial : ℕ) × IsReached handlers serial held) → IsWhole (simulation_of handlers held.config) (reached (simulation_of handlers held.config) x.0 x.1.0)
     whole x = closed-whole (simulation_of handlers held.config) lawful x.0 x.1.0 (shut-there (reached (simulation_of handlers held.config) x.0 x.1.0) x.1.1)
+
+    -- each process stands where the whole run leaves it
+    pub finals : (x : (serial : ℕ) × IsReached handlers serial held) → AreProcessesFinal (simulation_of handlers held.config) (reached (simulation_of handlers held.config) x.0 x.1.0)
+    finals x = closed-finals (simulation_of handlers held.config) lawful x.0 x.1.0 (shut-there (reached (simulation_of handlers held.config) x.0 x.1.0) x.1.1)
 
     -- its floor is the end of the run
     pub floor-end : (x : (serial : ℕ) × IsReached handlers serial held) → floor_held held ≡ (end_of held.config)

@@ -19,7 +19,7 @@ use Rattle.vt_kernel.specs.Held.{HeldWorker, part_memory, process_of, IsProcessO
 use Rattle.vt_kernel.proofs.ProcessLemmas.{get-map_of, stands-at as process-stands-at}
 use Rattle.vt_world.specs.Held.{HeldWorld, AreWorkers, IsReached}
 use Rattle.vt_world.proofs.WorldLemmas.{stands-at, worker-at}
-use Rattle.vt_world.proofs.ClosedLemmas.{whole}
+use Rattle.vt_world.proofs.ClosedLemmas.{finals}
 
 -- what is some comes of something
 pub of-some : {X Y : Type 0} (f : X → Y) (o : Option X) (y : Y) → Some y ≡ option_map f o → (x : X) × (o ≡ Some x) × (y ≡ f x)
@@ -65,5 +65,5 @@ module _ {M S P K : Type 0} (handlers : Handlers S P K) (held : HeldWorld M S P 
       let number : process_at sim (0 + w) (0 + place) ≡ p = (let a : 0 + place ≡ place = omega arith in ap (λ n. n * held.config.workers + (0 + w)) a ∙ ap (λ n. place * held.config.workers + n) plain ∙ div-add-mod' p held.config.workers) in
       let stands : StandsForProcess sim p (process_memory handlers q) process.0 = subst (λ n. StandsForProcess sim n (process_memory handlers q) process.0) number process.2 in
       sym (is_where sim p (process_memory handlers q) process.0 stands)
-      ∙ (whole handlers held shut lawful x).finals p process.0 less (part.0, part.1, process.1)
+      ∙ finals handlers held shut lawful x p process.0 less (part.0, part.1, process.1)
       ∙ ap (after sim p) (events-end sim lawful p less)

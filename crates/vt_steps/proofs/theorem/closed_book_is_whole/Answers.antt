@@ -1,10 +1,11 @@
 use Rattle.vt_steps.specs.Next.{reached}
-use Rattle.vt_steps.proofs.ReachedBooks.{closed-stays, closed-whole}
+use Rattle.vt_steps.proofs.ReachedBooks.{closed-finals, closed-stays, closed-whole}
 use Rattle.vt_steps.proofs.theorem.closed_book_is_whole.Goals as goal
 
 pub returns : goal.returns
 returns g c =
     record {
       whole = λ serial steps shut. closed-whole g.sim c.requires.1.1 serial steps shut;
+      finals = λ serial steps shut. closed-finals g.sim c.requires.1.1 serial steps shut;
       stays = λ serial steps more shut. closed-stays g.sim (reached g.sim serial steps) more shut;
     }
