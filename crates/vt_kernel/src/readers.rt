@@ -1,12 +1,13 @@
 //! Readers of a worker's processes.
 
-ghost use Rattle.std.specs.Prelude.{◌≡◌, ◌⊎◌, ◌%◌, ◌^◌, length, map, Some, IfSome, IfNone, IfOk, IfErr, OnOk};
+ghost use Rattle.std.specs.Prelude.{◌≡◌, ◌⊎◌, ◌%◌, ◌^◌, length, Some, IfSome, IfNone, IfOk, IfErr, OnOk};
 ghost use Rattle.std.specs.Option.{option_copied, option_map};
 ghost use Rattle.vt_key.specs.declared.fault.Fault.TheVariants.{Memory, NotLawful};
 ghost use Rattle.vt_model.specs.Simulation.{simulation_of};
 ghost use Rattle.vt_steps.specs.World.{Part};
 ghost use Rattle.vt_steps.specs.Finals.{part_values};
 ghost use Rattle.vt_kernel.specs.Held.{StandsFor, held_values, process_of, IsProcessOf};
+ghost use Rattle.vt_lp.specs.Held.{executed_events};
 
 use crate::kernel::Kernel;
 use std::alloc::Global;
@@ -89,7 +90,7 @@ impl<M: EventModel> Kernel<M> {
     /// [`Fault::NotLawful`]: `p` isn't one of this worker's processes. [`Fault::Memory`]: it is, and memory was
     /// refused.
     pub fn past_events(&self, alloc: Global, p: u32) -> Result<Vec<Event<M::Payload>>, Fault>
-        ensures events { IfOk result (λ v. option_map (λ process. map (λ e. e.letter.event) process.past) (process_of self.now p) ≡ Some v.items) }
+        ensures events { IfOk result (λ v. option_map (λ process. executed_events process.past) (process_of self.now p) ≡ Some v.items) }
         ensures known { OnOk result (IsProcessOf self.now.config self.now.worker p) }
         ensures refused { IfErr result (λ fault. ((fault ≡ NotLawful) × (IsProcessOf self.now.config self.now.worker p → ⊥)) ⊎ ((fault ≡ Memory) × IsProcessOf self.now.config self.now.worker p)) }
     {

@@ -3,6 +3,7 @@ use Rattle.std.specs.Prelude.{◌≡◌, ℕ, ◌+◌, ◌-◌, ◌%◌, ◌^◌
 use Rattle.vt_key.specs.Times.{Time, TimeBefore}
 use Rattle.vt_key.specs.Order.{RankBefore}
 use Rattle.vt_key.specs.declared.limits.TheConstants.{MAX_COUNT}
+use Rattle.vt_key.specs.declared.letter.Event.{Event}
 use Rattle.vt_key.specs.declared.letter.Letter.{Letter}
 use Rattle.vt_key.specs.declared.letter.Sign.{Sign}
 use Rattle.vt_key.specs.declared.letter.Sign.TheVariants.{Plus, Minus}
@@ -17,6 +18,10 @@ use Rattle.vt_steps.specs.World.{LogicalProcess}
 use Rattle.vt_steps.specs.StandsFor.{Remembered, ProcessMemory, StandsForProcess}
 use Rattle.vt_pending.specs.Letters.{holds_rank}
 use Rattle.vt_lp.specs.declared.entry.PastEvent.{PastEvent}
+
+-- the events of these past events, in their order
+abbrev pub executed_events : {P K : Type 0} → List (PastEvent P K) → List (Event P)
+executed_events past = map (λ e. e.letter.event) past
 
 -- what a contract sees of a process: its number and the config, where it stands, and its past, pending and waiting
 pub record HeldProcess (S P K : Type 0) : Type 0 where

@@ -1,13 +1,13 @@
 //! Past events that are committed: their rows, and how they are forgotten.
 
-ghost use Rattle.std.specs.Prelude.{◌≡◌, ◌+◌, ◌++◌, List, map, length, IsFalse, IfOk, IfErr};
+ghost use Rattle.std.specs.Prelude.{◌≡◌, ◌+◌, ◌++◌, List, length, IsFalse, IfOk, IfErr};
 ghost use Rattle.vt_key.specs.declared.fault.Fault.TheVariants.{Memory};
 ghost use Rattle.vt_model.specs.declared.rows.Row.{Row};
 ghost use Rattle.vt_model.specs.Handler.{Handlers};
 ghost use Rattle.vt_model.specs.Simulation.{simulation_of, rows_of};
 ghost use Rattle.vt_steps.specs.World.{LogicalProcess};
 ghost use Rattle.vt_steps.specs.PartSteps.{ripe_rows, process_after_commit};
-ghost use Rattle.vt_lp.specs.Held.{StandsFor};
+ghost use Rattle.vt_lp.specs.Held.{StandsFor, executed_events};
 ghost use Rattle.vt_lp.specs.Ripe.{begins_ripe, unripe_events, rows_of_ripe};
 
 use crate::Lp;
@@ -25,7 +25,7 @@ impl<M: EventModel> Lp<M> {
     ///
     /// [`Fault::Memory`]: memory was refused.
     pub fn past_events(&self, alloc: Global) -> Result<Vec<Event<M::Payload>>, Fault>
-        ensures events { IfOk result (λ v. v.items ≡ map (λ e. e.letter.event) self.now.past) }
+        ensures events { IfOk result (λ v. v.items ≡ executed_events self.now.past) }
         ensures refused { IfErr result (λ fault. fault ≡ Memory) }
     {
         let mut events = Vec::new(alloc);
