@@ -1,6 +1,9 @@
 -- What is known of a world whose book is closed, and of a step that it is asked then.
 use Rattle.std.proofs.Common.{◌≡◌, ℕ, sym, ◌∙◌, ap, subst, inl, inr, [], ◌∷◌, Some, Ok, Err, Result}
 use Rattle.std.specs.Prelude.{IsTrue}
+use Rattle.std.proofs.Math.Logic.{∥∥₁_elim}
+use Rattle.std.proofs.Props.{props}
+use Rattle.vt_key.specs.Times.{Time}
 use Rattle.vt_key.specs.declared.fault.Fault.{Fault}
 use Rattle.vt_key.specs.declared.fault.Fault.TheVariants.{Closed}
 use Rattle.vt_model.specs.Handler.{Handlers}
@@ -17,7 +20,7 @@ use Rattle.vt_steps.specs.StandsFor.{GoesOn}
 use Rattle.vt_steps.proofs.ReachedBooks.{closed-finals, closed-stays, closed-whole}
 use Rattle.vt_steps.proofs.Refusals.{refusals as refusal-laws}
 use Rattle.vt_kernel.specs.Refusals.{IsStepRefusal}
-use Rattle.vt_world.specs.Held.{HeldWorld, world_memory, StandsForWorld, IsReached}
+use Rattle.vt_world.specs.Held.{HeldWorld, world_memory, StandsForWorld, IsReached, IsWorldInside}
 use Rattle.vt_world.specs.Calls.{floor_held}
 
 module _ {M S P K : Type 0} (handlers : Handlers S P K) (held : HeldWorld M S P K) (shut : IsTrue held.book.is_closed) where
@@ -55,15 +58,17 @@ module _ {M S P K : Type 0} (handlers : Handlers S P K) (held : HeldWorld M S P 
       let world = reached sim x.0 x.1.0 in
       sym (goes world x.1.1).1.book ∙ closed-stays sim world (step ∷ []) (shut-there world x.1.1) ∙ x.1.1.book
 
-  module _ (lawful : IsLawful (simulation_of handlers held.config)) where
-    -- the whole run is there
-    pub whole : (x : (serial : ℕ) × IsReached handlers serial held) → IsWhole (simulation_of handlers held.config) (reached (simulation_of handlers held.config) x.0 x.1.0)
-    whole x = closed-whole (simulation_of handlers held.config) lawful x.0 x.1.0 (shut-there (reached (simulation_of handlers held.config) x.0 x.1.0) x.1.1)
+module _ {M S P K : Type 0} {handlers : Handlers S P K} {held : HeldWorld M S P K} {board_end book_end : Time} (inside : IsWorldInside handlers held board_end book_end)
+    (shut : IsTrue held.book.is_closed) (lawful : IsLawful (simulation_of handlers held.config)) where
+  -- the whole run is there
+  pub whole : (x : (serial : ℕ) × IsReached handlers serial held) → IsWhole (simulation_of handlers held.config) (reached (simulation_of handlers held.config) x.0 x.1.0)
+  whole x = closed-whole (simulation_of handlers held.config) lawful x.0 x.1.0 (shut-there handlers held shut (reached (simulation_of handlers held.config) x.0 x.1.0) x.1.1)
 
-    -- each process stands where the whole run leaves it
-    pub finals : (x : (serial : ℕ) × IsReached handlers serial held) → AreProcessesFinal (simulation_of handlers held.config) (reached (simulation_of handlers held.config) x.0 x.1.0)
-    finals x = closed-finals (simulation_of handlers held.config) lawful x.0 x.1.0 (shut-there (reached (simulation_of handlers held.config) x.0 x.1.0) x.1.1)
+  -- each process stands where the whole run leaves it
+  pub finals : (x : (serial : ℕ) × IsReached handlers serial held) → AreProcessesFinal (simulation_of handlers held.config) (reached (simulation_of handlers held.config) x.0 x.1.0)
+  finals x = closed-finals (simulation_of handlers held.config) lawful x.0 x.1.0 (shut-there handlers held shut (reached (simulation_of handlers held.config) x.0 x.1.0) x.1.1)
 
-    -- its floor is the end of the run
-    pub floor-end : (x : (serial : ℕ) × IsReached handlers serial held) → floor_held held ≡ (end_of held.config)
-    floor-end x = subst (λ (b : Book). book_floor (end_of held.config) b ≡ (end_of held.config)) x.1.1.book (whole x).at_end
+  -- its floor is the end of the run
+  pub floor-end : floor_held held ≡ end_of held.config
+  floor-end = ∥∥₁_elim inside.is_reached (Prim.hlevel props) (λ (x : (serial : ℕ) × IsReached handlers serial held).
+      subst (λ (b : Book). book_floor (end_of held.config) b ≡ end_of held.config) x.1.1.book (whole x).at_end)

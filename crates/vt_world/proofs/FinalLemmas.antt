@@ -1,13 +1,16 @@
 -- The state of each process once the book is closed: where the whole sequential run leaves it.
-use Rattle.std.proofs.Common.{◌≡◌, ℕ, ◌+◌, ◌*◌, ◌/◌, ◌%◌, ◌<◌, Bool, nat_eq, List, map, refl, sym, ◌∙◌, ap, subst, arith, Option, Some, None, slice_get, if◌then◌else◌}
+use Rattle.std.proofs.Common.{◌≡◌, ℕ, ◌+◌, ◌*◌, ◌/◌, ◌%◌, ◌<◌, Bool, nat_eq, map, refl, sym, ◌∙◌, ap, subst, arith, Option, Some, None, slice_get, if◌then◌else◌}
 use Rattle.std.specs.Prelude.{IsTrue}
 use Rattle.std.specs.Option.{option_map}
+use Rattle.std.proofs.Math.Logic.{∥∥₁_elim}
+use Rattle.std.proofs.Props.{props}
 use Rattle.std.proofs.lemmas.Bool.{eq-eqb}
 use Rattle.std.proofs.Math.Nat.{div-add-mod'}
+use Rattle.vt_key.specs.Times.{Time}
 use Rattle.vt_model.specs.declared.settings.Config.{Config}
 use Rattle.vt_model.specs.Handler.{Handlers}
 use Rattle.vt_model.specs.Histories.{IsLawful}
-use Rattle.vt_model.specs.Simulation.{simulation_of, after}
+use Rattle.vt_model.specs.Simulation.{Triple, simulation_of, after}
 use Rattle.vt_model.specs.Sequential.{events_of, whole_run}
 use Rattle.vt_steps.specs.Next.{reached}
 use Rattle.vt_steps.specs.World.{process_at}
@@ -15,9 +18,9 @@ use Rattle.vt_steps.specs.StandsFor.{StandsForProcess}
 use Rattle.vt_steps.proofs.FinalValues.{events-end}
 use Rattle.vt_steps.proofs.MemoryLemmas.{is_where}
 use Rattle.vt_lp.specs.Held.{HeldProcess, process_memory}
-use Rattle.vt_kernel.specs.Held.{HeldWorker, part_memory, process_of, IsProcessOf}
+use Rattle.vt_kernel.specs.Held.{HeldWorker, part_memory, process_of}
 use Rattle.vt_kernel.proofs.ProcessLemmas.{get-map_of, stands-at as process-stands-at}
-use Rattle.vt_world.specs.Held.{HeldWorld, AreWorkers, IsReached}
+use Rattle.vt_world.specs.Held.{HeldWorld, IsReached, IsWorldInside}
 use Rattle.vt_world.proofs.WorldLemmas.{stands-at, worker-at}
 use Rattle.vt_world.proofs.ClosedLemmas.{finals}
 
@@ -35,28 +38,17 @@ module _ {S P K : Type 0} where
       subst (λ (c : Config). (if nat_eq (p % c.workers) k.worker then slice_get k.processes (p / c.workers) else None) ≡ Some q) same at in
       sym (ap (λ (b : Bool). if b then slice_get k.processes (p / config.workers) else None) (eq-eqb (p % config.workers) k.worker own)) ∙ here
 
-  -- a process of the run is one of its owner's
-  pub is-own : (config : Config) (workers : List (HeldWorker S P K)) (w p : ℕ) (k : HeldWorker S P K) → AreWorkers config 0 workers → w ≡ p % config.workers → p < config.lps → slice_get workers w ≡ Some k
-      → IsProcessOf k.config k.worker p
-  is-own config workers w p k are owner less at =
-      let who = worker-at config 0 w workers k are at in
-      let plain : 0 + w ≡ w = omega arith in
-      record {
-        known = subst (λ (c : Config). p < c.lps) (sym who.1) less;
-        own = ap (λ (c : Config). p % c.workers) who.1 ∙ sym owner ∙ sym (who.0 ∙ plain);
-      }
-
-module _ {M S P K : Type 0} (handlers : Handlers S P K) (held : HeldWorld M S P K) (are : AreWorkers held.config 0 held.workers) (shut : IsTrue held.book.is_closed)
-    (lawful : IsLawful (simulation_of handlers held.config)) where
+module _ {M S P K : Type 0} {handlers : Handlers S P K} {held : HeldWorld M S P K} {board_end book_end : Time} (inside : IsWorldInside handlers held board_end book_end)
+    (shut : IsTrue held.book.is_closed) (lawful : IsLawful (simulation_of handlers held.config)) where
   -- a process stands where the events of the whole run leave it
-  pub final-triple : (p : ℕ) (k : HeldWorker S P K) (q : HeldProcess S P K) → p < held.config.lps → slice_get held.workers (p % held.config.workers) ≡ Some k → process_of k p ≡ Some q
+  final-reached : (p : ℕ) (k : HeldWorker S P K) (q : HeldProcess S P K) → p < held.config.lps → slice_get held.workers (p % held.config.workers) ≡ Some k → process_of k p ≡ Some q
       → (x : (serial : ℕ) × IsReached handlers serial held) → q.triple ≡ after (simulation_of handlers held.config) p (events_of p (whole_run (simulation_of handlers held.config)))
-  final-triple p k q less at found x =
+  final-reached p k q less at found x =
       let sim = simulation_of handlers held.config in
       let world = reached sim x.0 x.1.0 in
       let w = p % held.config.workers in
       let place = p / held.config.workers in
-      let who = worker-at held.config 0 w held.workers k are at in
+      let who = worker-at held.config 0 w held.workers k inside.own_workers at in
       let plain : 0 + w ≡ w = omega arith in
       let own : w ≡ k.worker = sym (who.0 ∙ plain) in
       let part = stands-at sim 0 w (map (part_memory handlers) held.workers) world.parts (part_memory handlers k) x.1.1.parts (get-map_of (part_memory handlers) held.workers w k at) in
@@ -65,5 +57,9 @@ module _ {M S P K : Type 0} (handlers : Handlers S P K) (held : HeldWorld M S P 
       let number : process_at sim (0 + w) (0 + place) ≡ p = (let a : 0 + place ≡ place = omega arith in ap (λ n. n * held.config.workers + (0 + w)) a ∙ ap (λ n. place * held.config.workers + n) plain ∙ div-add-mod' p held.config.workers) in
       let stands : StandsForProcess sim p (process_memory handlers q) process.0 = subst (λ n. StandsForProcess sim n (process_memory handlers q) process.0) number process.2 in
       sym (is_where sim p (process_memory handlers q) process.0 stands)
-      ∙ finals handlers held shut lawful x p process.0 less (part.0, part.1, process.1)
+      ∙ finals inside shut lawful x p process.0 less (part.0, part.1, process.1)
       ∙ ap (after sim p) (events-end sim lawful p less)
+
+  pub final-value : (p : ℕ) {k : HeldWorker S P K} {q : HeldProcess S P K} → p < held.config.lps → slice_get held.workers (p % held.config.workers) ≡ Some k → process_of k p ≡ Some q
+      → handlers.finish p q.triple.state ≡ handlers.finish p (after (simulation_of handlers held.config) p (events_of p (whole_run (simulation_of handlers held.config)))).state
+  final-value p {k} {q} less at found = ∥∥₁_elim inside.is_reached (Prim.hlevel props) (λ x. ap (λ (t : Triple S). handlers.finish p t.state) (final-reached p k q less at found x))

@@ -1,5 +1,7 @@
 -- A step that is done passes no counter's limit: its worker and the board are within them afterwards.
-use Rattle.std.proofs.Common.{◌≡◌, ℕ, ◌%◌, ◌≤◌, inl, inr, sym, ◌∙◌, ap, subst, arith, Some, slice_get}
+use Rattle.std.proofs.Common.{◌≡◌, ℕ, ◌%◌, ◌≤◌, inl, inr, List, sym, ◌∙◌, ap, subst, arith, Some, slice_get, slice_set}
+use Rattle.vt_key.specs.Times.{Time}
+use Rattle.vt_key.specs.declared.letter.Mail.{Mail}
 use Rattle.vt_key.specs.declared.limits.TheConstants.{MAX_COUNT}
 use Rattle.vt_model.specs.declared.settings.Config.{Config}
 use Rattle.vt_model.specs.Handler.{Handlers}
@@ -10,33 +12,41 @@ use Rattle.vt_steps.specs.World.{Part, World, Board}
 use Rattle.vt_kernel.specs.Held.{HeldWorker, AreCounted, StandsFor as WorkerStandsFor}
 use Rattle.vt_kernel.specs.Guards.{AreWithinLimits}
 use Rattle.vt_kernel.specs.Refusals.{PassesLimit}
-use Rattle.vt_world.specs.Held.{HeldWorld, StandsForWorld, AreWorkers}
-use Rattle.vt_world.proofs.WorldLemmas.{worker-at, found}
-use Rattle.vt_world.proofs.Places.{same-there}
+use Rattle.vt_steps.proofs.Places.{get-put_same}
+use Rattle.vt_world.specs.Held.{HeldWorld, StandsForWorld, IsWorldInside}
+use Rattle.vt_world.proofs.WorldLemmas.{IsSame, found}
+use Rattle.vt_world.proofs.WorldSteps.{who}
+use Rattle.vt_world.proofs.Places.{same-there, are-workers}
 
-module _ {M S P K : Type 0} (handlers : Handlers S P K) (held : HeldWorld M S P K) where
+module _ {M S P K : Type 0} {handlers : Handlers S P K} {held : HeldWorld M S P K} {board_end book_end : Time} (inside : IsWorldInside handlers held board_end book_end)
+    (w : ℕ) {k : HeldWorker S P K} (at : slice_get held.workers w ≡ Some k) (new : HeldWorker S P K) (same : IsSame new k) where
   -- after a cut
-  pub cut-within : (w : ℕ) → held.board.rounds ≤ MAX_COUNT → (world : World P) → StandsForWorld handlers held world → PassesLimit (simulation_of handlers held.config) (Cut w) world → ⊥
-  cut-within w few world h past =
-      let same = ap (λ (b : Board). b.rounds) h.board in
-      omega (arith, few, past, same)
+  pub cut-within : {board : Board} → board.rounds ≤ MAX_COUNT → (world : World P) → StandsForWorld handlers (record held { workers = slice_set held.workers w new; board = board }) world
+      → PassesLimit (simulation_of handlers held.config) (Cut w) world → ⊥
+  cut-within few world h past =
+      let rounds = ap (λ (b : Board). b.rounds) h.board in
+      omega (arith, few, past, rounds)
 
-  module _ (are : AreWorkers held.config 0 held.workers) (w : ℕ) (k : HeldWorker S P K) (at : slice_get held.workers w ≡ Some k) where
+  module _ (inboxes : List (List (Mail P))) where
+    -- the world with the worker and the inboxes that a step leaves
+    abbrev pub stepped : HeldWorld M S P K
+    stepped = record held { workers = slice_set held.workers w new; inboxes = inboxes }
+
     -- the worker stands for its part
-    stands-there : (world : World P) → StandsForWorld handlers held world → (part : Part P) → slice_get world.parts w ≡ Some part → WorkerStandsFor handlers k part
+    stands-there : (world : World P) → StandsForWorld handlers stepped world → (part : Part P) → slice_get world.parts w ≡ Some part → WorkerStandsFor handlers new part
     stands-there world h part there =
-        let f = found handlers held world w k are h at in
-        subst (WorkerStandsFor handlers k) (same-there world.parts w f.part part f.there there) f.stands
+        let f = found handlers stepped world w new (are-workers inside w at new same) h (get-put_same held.workers w k new at) in
+        subst (WorkerStandsFor handlers new) (same-there world.parts w f.part part f.there there) f.stands
 
     -- after a send
-    pub send-within : (v : ℕ) → ((part : Part P) → WorkerStandsFor handlers k part → count_of part.sent part.colour ≤ MAX_COUNT) → (world : World P) → StandsForWorld handlers held world → PassesLimit (simulation_of handlers held.config) (Send w v) world → ⊥
+    pub send-within : (v : ℕ) → ((part : Part P) → WorkerStandsFor handlers new part → count_of part.sent part.colour ≤ MAX_COUNT) → (world : World P) → StandsForWorld handlers stepped world → PassesLimit (simulation_of handlers held.config) (Send w v) world → ⊥
     send-within v few world h past =
         let most = few past.0 (stands-there world h past.0 past.1) in
         let over = past.2 in
         omega (arith, most, over)
 
     -- after a fetch
-    pub fetch-within : AreCounted k.got → (world : World P) → StandsForWorld handlers held world → PassesLimit (simulation_of handlers held.config) (Fetch w) world → ⊥
+    pub fetch-within : AreCounted new.got → (world : World P) → StandsForWorld handlers stepped world → PassesLimit (simulation_of handlers held.config) (Fetch w) world → ⊥
     fetch-within few world h past =
         let s = stands-there world h past.0 past.1 in
         let white = ap (λ (c : Counts). c.white) s.got in
@@ -49,13 +59,12 @@ module _ {M S P K : Type 0} (handlers : Handlers S P K) (held : HeldWorld M S P 
         ]
 
     -- after an execution
-    pub execute-within : (p : ℕ) → p % held.config.workers ≡ w → ((part : Part P) → WorkerStandsFor handlers k part → AreWithinLimits (simulation_of handlers k.config) p part)
-        → (world : World P) → StandsForWorld handlers held world → PassesLimit (simulation_of handlers held.config) (Execute p) world → ⊥
+    pub execute-within : (p : ℕ) → p % held.config.workers ≡ w → ((part : Part P) → WorkerStandsFor handlers new part → AreWithinLimits (simulation_of handlers k.config) p part)
+        → (world : World P) → StandsForWorld handlers stepped world → PassesLimit (simulation_of handlers held.config) (Execute p) world → ⊥
     execute-within p own counted world h past =
         let sim = simulation_of handlers held.config in
-        let is = worker-at held.config 0 w held.workers k are at in
         let s = stands-there world h past.0 (ap (slice_get world.parts) (sym own) ∙ past.1) in
-        let few : AreWithinLimits sim p past.0 = subst (λ (c : Config). AreWithinLimits (simulation_of handlers c) p past.0) is.1 (counted past.0 s) in
+        let few : AreWithinLimits sim p past.0 = subst (λ (c : Config). AreWithinLimits (simulation_of handlers c) p past.0) (who inside at).1 (counted past.0 s) in
         elim past.2 [
           | inl a ↦ (let few_made = few.serial in omega (arith, a, few_made))
           | inr b ↦ (let over = b.2 in let few_sends = few.number b.0 b.1 in omega (arith, over, few_sends))

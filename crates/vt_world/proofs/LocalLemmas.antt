@@ -1,5 +1,6 @@
 -- The local steps of a worker as steps of the world.
 use Rattle.std.proofs.Common.{◌≡◌, ℕ, ◌/◌, ◌%◌, ◌<◌, inl, inr, refl, sym, ◌∙◌, ap, subst, arith, Option, Some, None, Err, slice_get, slice_set}
+use Rattle.std.proofs.Math.Logic.{∥∥₁_map}
 use Rattle.std.specs.Option.{option_map}
 use Rattle.vt_key.specs.Times.{Time}
 use Rattle.vt_key.specs.declared.limits.TheConstants.{MAX_COUNT}
@@ -12,7 +13,7 @@ use Rattle.vt_steps.specs.declared.step.Step.{Step}
 use Rattle.vt_steps.specs.declared.step.Step.TheVariants.{Execute, Accept}
 use Rattle.vt_steps.specs.declared.step.Reply.TheVariants.{Done}
 use Rattle.vt_steps.specs.World.{LogicalProcess, Part, World}
-use Rattle.vt_steps.specs.Next.{Outcome, next, replied, with_part, done_or_refused}
+use Rattle.vt_steps.specs.Next.{Outcome, next, reached, replied, with_part, done_or_refused}
 use Rattle.vt_steps.specs.StandsFor.{GoesOn}
 use Rattle.vt_lp.specs.Guards.{number_of}
 use Rattle.vt_kernel.specs.Held.{HeldWorker, StandsFor as WorkerStandsFor}
@@ -20,27 +21,23 @@ use Rattle.vt_kernel.specs.Local.{local_step}
 use Rattle.vt_kernel.specs.Guards.{IsDone, IsExecuteRefusal, IsAcceptRefusal}
 use Rattle.vt_kernel.specs.Refusals.{IsStepRefusal, PassesLimit}
 use Rattle.vt_steps.proofs.Places.{get-put_same}
-use Rattle.vt_world.specs.Held.{HeldWorld, world_memory, StandsForWorld, AreWorkers, IsWorldInside}
-use Rattle.vt_world.proofs.ReachedLemmas.{inside_view}
-use Rattle.vt_world.proofs.WorldLemmas.{IsLocalAt, IsFound, found, next-locally, local-done, local-refused}
+use Rattle.vt_world.specs.Held.{HeldWorld, world_memory, StandsForWorld, IsReached, IsWorldInside}
+use Rattle.vt_world.proofs.WorldLemmas.{IsSame, IsLocalAt, IsFound, found, next-locally, local-done, local-refused}
 use Rattle.vt_world.proofs.WorldSteps.{who}
 use Rattle.vt_world.proofs.Places.{inside-worker}
 
-module _ {M S P K : Type 0} (handlers : Handlers S P K) (held : HeldWorld M S P K) where
+module _ {M S P K : Type 0} {handlers : Handlers S P K} {held : HeldWorld M S P K} {board_end book_end : Time} (inside : IsWorldInside handlers held board_end book_end) where
   -- a step that isn't lawful, answered so
   pub answered-fault : (step : Step) (fault : Fault) → fault ≡ NotLawful
       → GoesOn (simulation_of handlers held.config) step (Err NotLawful) (world_memory handlers held) (world_memory handlers held)
       → GoesOn (simulation_of handlers held.config) step (Err fault) (world_memory handlers held) (world_memory handlers held)
   answered-fault step fault is goes = subst (λ f. GoesOn (simulation_of handlers held.config) step (Err f) (world_memory handlers held) (world_memory handlers held)) (sym is) goes
 
-module _ {M S P K : Type 0} (handlers : Handlers S P K) (held : HeldWorld M S P K) (are : AreWorkers held.config 0 held.workers) where
   -- a step that isn't lawful for its worker, answered so
-  pub local-unlawful : (w : ℕ) (k : HeldWorker S P K) (step : Step) (fault : Fault) → slice_get held.workers w ≡ Some k → IsLocalAt (simulation_of handlers held.config) w step
-      → fault ≡ NotLawful → ((part : Part P) → WorkerStandsFor handlers k part → local_step (simulation_of handlers k.config) k.worker step part ≡ None)
+  pub local-unlawful : (w : ℕ) {k : HeldWorker S P K} → slice_get held.workers w ≡ Some k → (step : Step) → IsLocalAt (simulation_of handlers held.config) w step
+      → (fault : Fault) → fault ≡ NotLawful → ((part : Part P) → WorkerStandsFor handlers k part → local_step (simulation_of handlers k.config) k.worker step part ≡ None)
       → GoesOn (simulation_of handlers held.config) step (Err fault) (world_memory handlers held) (world_memory handlers held)
-  local-unlawful w k step fault at is not_lawful none =
-      subst (λ f. GoesOn (simulation_of handlers held.config) step (Err f) (world_memory handlers held) (world_memory handlers held)) (sym not_lawful)
-      (local-refused handlers held w k step are at is none)
+  local-unlawful w at step is fault not_lawful none = answered-fault step fault not_lawful (local-refused inside w at step is none)
 
   -- what a local step of a worker comes to in a world
   locally-is : (world : World P) (w : ℕ) (step : Step) (part : Part P) (after : Option (Part P)) → IsLocalAt (simulation_of handlers held.config) w step → slice_get world.parts w ≡ Some part
@@ -49,20 +46,20 @@ module _ {M S P K : Type 0} (handlers : Handlers S P K) (held : HeldWorld M S P 
       next-locally (simulation_of handlers held.config) world w step part is there ∙ ap (λ s. done_or_refused world (option_map (with_part world w) s)) e
 
   -- why Execute is refused
-  pub execute-why : (p w : ℕ) (k : HeldWorker S P K) (fault : Fault) → slice_get held.workers w ≡ Some k → p % held.config.workers ≡ w
+  pub execute-why : (w : ℕ) {k : HeldWorker S P K} → slice_get held.workers w ≡ Some k → (p : ℕ) → p % held.config.workers ≡ w → (fault : Fault)
       → ((part : Part P) → WorkerStandsFor handlers k part → IsExecuteRefusal (simulation_of handlers k.config) p (local_step (simulation_of handlers k.config) k.worker (Execute p) part) fault)
       → (world : World P) → StandsForWorld handlers held world → IsStepRefusal (simulation_of handlers held.config) (Execute p) world fault
-  execute-why p w k fault at own why world s = go (local_step sim w (Execute p) f.part) refl refusal
+  execute-why w {k} at p own fault why world s = go (local_step sim w (Execute p) f.part) refl refusal
     where
       sim : Simulation S P
       sim = simulation_of handlers held.config
 
       f : IsFound handlers held world w k
-      f = found handlers held world w k are s at
+      f = found handlers held world w k inside.own_workers s at
 
       refusal : IsExecuteRefusal sim p (local_step sim w (Execute p) f.part) fault
       refusal =
-          let is = who handlers held are w k at in
+          let is = who inside at in
           subst (λ u. IsExecuteRefusal sim p (local_step sim u (Execute p) f.part) fault) is.0
           (subst (λ (c : Config). IsExecuteRefusal (simulation_of handlers c) p (local_step (simulation_of handlers c) k.worker (Execute p) f.part) fault) is.1 (why f.part f.stands))
 
@@ -117,20 +114,20 @@ module _ {M S P K : Type 0} (handlers : Handlers S P K) (held : HeldWorld M S P 
           ]
 
   -- why Accept is refused
-  pub accept-why : (w i : ℕ) (k : HeldWorker S P K) (fault : Fault) → slice_get held.workers w ≡ Some k
+  pub accept-why : (w : ℕ) {k : HeldWorker S P K} → slice_get held.workers w ≡ Some k → (i : ℕ) (fault : Fault)
       → ((part : Part P) → WorkerStandsFor handlers k part → IsAcceptRefusal (local_step (simulation_of handlers k.config) k.worker (Accept k.worker i) part) fault)
       → (world : World P) → StandsForWorld handlers held world → IsStepRefusal (simulation_of handlers held.config) (Accept w i) world fault
-  accept-why w i k fault at why world s = go (local_step sim w (Accept w i) f.part) refl refusal
+  accept-why w {k} at i fault why world s = go (local_step sim w (Accept w i) f.part) refl refusal
     where
       sim : Simulation S P
       sim = simulation_of handlers held.config
 
       f : IsFound handlers held world w k
-      f = found handlers held world w k are s at
+      f = found handlers held world w k inside.own_workers s at
 
       refusal : IsAcceptRefusal (local_step sim w (Accept w i) f.part) fault
       refusal =
-          let is = who handlers held are w k at in
+          let is = who inside at in
           subst (λ u. IsAcceptRefusal (local_step sim u (Accept u i) f.part) fault) is.0
           (subst (λ (c : Config). IsAcceptRefusal (local_step (simulation_of handlers c) k.worker (Accept k.worker i) f.part) fault) is.1 (why f.part f.stands))
 
@@ -138,10 +135,20 @@ module _ {M S P K : Type 0} (handlers : Handlers S P K) (held : HeldWorld M S P 
       go None e r = inl (ap (λ (o : Outcome P). o.answer) (locally-is world w (Accept w i) f.part None refl f.there e) ∙ ap Err (sym r))
       go (Some after) e r = inr (Done, ap (λ (o : Outcome P). o.answer) (locally-is world w (Accept w i) f.part (Some after) refl f.there e), inr (r, tt, λ past. past))
 
-module _ {M S P K : Type 0} (handlers : Handlers S P K) (held : HeldWorld M S P K) {board_end book_end : Time} (inside : IsWorldInside handlers held board_end book_end) where
+module _ {M S P K : Type 0} {handlers : Handlers S P K} {held : HeldWorld M S P K} {board_end book_end : Time} (inside : IsWorldInside handlers held board_end book_end) (w : ℕ) {k : HeldWorker S P K} (at : slice_get held.workers w ≡ Some k) where
   -- what a world keeps to after a local step
-  pub inside-local : (w : ℕ) (k new : HeldWorker S P K) (step : Step) → slice_get held.workers w ≡ Some k → new.worker ≡ k.worker → new.config ≡ k.config → IsLocalAt (simulation_of handlers held.config) w step
+  pub inside-local : (step : Step) → IsLocalAt (simulation_of handlers held.config) w step → (new : HeldWorker S P K) → IsSame new k
       → ((part : Part P) → WorkerStandsFor handlers k part → IsDone handlers new (local_step (simulation_of handlers k.config) k.worker step part))
-      → IsWorldInside handlers (inside_view held.model held.config (slice_set held.workers w new) held.inboxes held.board held.book) board_end book_end
-  inside-local w k new step at same_worker same_config is done =
-      inside-worker handlers held inside step Done w k new held.board held.book at same_worker same_config refl refl (local-done handlers held w k new step inside.own_workers at same_worker same_config is done)
+      → IsWorldInside handlers (record held { workers = slice_set held.workers w new }) board_end book_end
+  inside-local step is new same done = inside-worker inside w at new same step Done held.board held.book refl refl (local-done inside w at step is new same done)
+
+  -- a worker stands for some part
+  pub some-part : ∥ ((part : Part P) × WorkerStandsFor handlers k part) ∥₁
+  some-part = ∥∥₁_map inside.is_reached (λ (x : (serial : ℕ) × IsReached handlers serial held).
+      let f = found handlers held (reached (simulation_of handlers held.config) x.0 x.1.0) w k inside.own_workers x.1.1 at in
+      (f.part, f.stands))
+
+  -- what a worker says of a step of its own number, said of its place
+  pub at-place : (step : ℕ → Step) (Said : Option (Part P) → Type 0) → ((part : Part P) → WorkerStandsFor handlers k part → Said (local_step (simulation_of handlers k.config) k.worker (step k.worker) part))
+      → (part : Part P) → WorkerStandsFor handlers k part → Said (local_step (simulation_of handlers k.config) k.worker (step w) part)
+  at-place step Said said part stands = subst (λ v. Said (local_step (simulation_of handlers k.config) k.worker (step v) part)) (who inside at).0 (said part stands)

@@ -1,5 +1,5 @@
 -- The past events of a process, in memory and in the worlds that memory stands for.
-use Rattle.std.proofs.Common.{◌≡◌, ℕ, ◌+◌, ◌/◌, ◌%◌, ◌<◌, ◌≤◌, Bool, true, false, nat_eq, List, [], ◌∷◌, ◌++◌, map, refl, sym, ◌∙◌, ap, subst, arith, Option, Some, None, Result, Ok, Err, IfOk, IfErr, OnOk, slice_get, if◌then◌else◌}
+use Rattle.std.proofs.Common.{◌≡◌, ℕ, ◌/◌, ◌%◌, ◌<◌, ◌≤◌, Bool, true, false, nat_eq, List, [], ◌∷◌, ◌++◌, map, refl, sym, ◌∙◌, ap, subst, arith, Option, Some, None, Result, Ok, Err, IfOk, IfErr, OnOk, slice_get, if◌then◌else◌}
 use Rattle.std.specs.Option.{option_map}
 use Rattle.std.proofs.Math.Logic.{∥∥₁_map}
 use Rattle.std.proofs.lemmas.List.{map-append}
@@ -22,11 +22,13 @@ use Rattle.vt_lp.specs.Held.{process_memory, remembered}
 use Rattle.vt_lp.specs.declared.entry.PastEvent.{PastEvent}
 use Rattle.vt_kernel.specs.Held.{HeldWorker, IsProcessOf, process_of}
 use Rattle.vt_kernel.proofs.ProcessLemmas.{get-map_of, stands-at}
-use Rattle.vt_world.specs.Held.{HeldWorld, StandsForWorld, IsReached, AreWorkers}
+use Rattle.vt_world.specs.Held.{HeldWorld, StandsForWorld, IsReached, IsWorldInside}
 use Rattle.vt_world.specs.Calls.{least_held}
 use Rattle.vt_world.specs.Answers.{IsPastIn, EndsSequential, past_events}
 use Rattle.vt_world.proofs.ReachedLemmas.{least-same}
-use Rattle.vt_world.proofs.WorldLemmas.{found, worker-at}
+use Rattle.vt_world.proofs.WorldLemmas.{found}
+use Rattle.vt_world.proofs.WorldSteps.{who}
+use Rattle.vt_world.proofs.Places.{is-own}
 
 -- what is made of an item that a test lets through
 passed : {X Y : Type 0} (test : Bool) (item : Option X) (make : X → Y) (y : Y) → option_map make (if test then item else None) ≡ Some y → (x : X) × (item ≡ Some x) × (make x ≡ y)
@@ -58,22 +60,15 @@ entries-known : {P : Type 0} (entries : List (Entry P)) → entry_events entries
 entries-known [] = refl
 entries-known (x ∷ xs) = ap (λ es. unstamped x.event ∷ es) (entries-known xs)
 
-module _ {M S P K : Type 0} (handlers : Handlers S P K) (held : HeldWorld M S P K) (are : AreWorkers held.config 0 held.workers)
-    (p : ℕ) (k : HeldWorker S P K) (at : slice_get held.workers (p % held.config.workers) ≡ Some k) where
+module _ {M S P K : Type 0} {handlers : Handlers S P K} {held : HeldWorld M S P K} {board_end book_end : Time} (inside : IsWorldInside handlers held board_end book_end)
+    (p : ℕ) {k : HeldWorker S P K} (at : slice_get held.workers (p % held.config.workers) ≡ Some k) where
   -- the worker has the process where the world does
   pub own-process : IsProcessOf k.config k.worker p → p < held.config.lps
-  own-process is =
-      let who = worker-at held.config 0 (p % held.config.workers) held.workers k are at in
-      subst (λ (c : Config). p < c.lps) who.1 is.known
+  own-process is = subst (λ (c : Config). p < c.lps) (who inside at).1 is.known
 
   pub no-process : (IsProcessOf k.config k.worker p → ⊥) → held.config.lps ≤ p
   no-process none =
-      let who = worker-at held.config 0 (p % held.config.workers) held.workers k are at in
-      let plain : 0 + p % held.config.workers ≡ p % held.config.workers = omega arith in
-      let never : p < held.config.lps → ⊥ = λ less. none (record {
-        known = subst (λ (c : Config). p < c.lps) (sym who.1) less;
-        own = ap (λ (c : Config). p % c.workers) who.1 ∙ sym (who.0 ∙ plain);
-      }) in
+      let never : p < held.config.lps → ⊥ = λ less. none (is-own inside p at less) in
       omega (arith, never)
 
   -- its past events are those in each world that it stands for
@@ -81,23 +76,22 @@ module _ {M S P K : Type 0} (handlers : Handlers S P K) (held : HeldWorld M S P 
       → IsPastIn (simulation_of handlers held.config) world p events
   past-in events is world h =
       let event : Entry P → Event P = λ entry. entry.event in
-      let who = worker-at held.config 0 (p % held.config.workers) held.workers k are at in
-      let f = found handlers held world (p % held.config.workers) k are h at in
+      let f = found handlers held world (p % held.config.workers) k inside.own_workers h at in
       let q = passed (nat_eq (p % k.config.workers) k.worker) (slice_get k.processes (p / k.config.workers)) past_events events is in
       let s = stands-at (simulation_of handlers k.config) k.worker 0 (p / k.config.workers) (map (process_memory handlers) k.processes) f.part.processes (process_memory handlers q.0) f.stands.processes
       (get-map_of (process_memory handlers) k.processes (p / k.config.workers) q.0 q.1) in
       let past : map event s.0.past ≡ events = ap (map event) s.2.past ∙ remembered-events handlers q.0.lp q.0.past ∙ q.2 in
       record {
         process = s.0;
-        there = (f.part, f.there, subst (λ (c : Config). slice_get f.part.processes (p / c.workers) ≡ Some s.0) who.1 s.1);
+        there = (f.part, f.there, subst (λ (c : Config). slice_get f.part.processes (p / c.workers) ≡ Some s.0) (who inside at).1 s.1);
         past = past;
         last = map-append event s.0.done s.0.past ∙ ap (λ es. map event s.0.done ++ es) past;
       }
 
   -- and the last ones of the sequential run's, wherever nothing is before a time
-  pub past-sequential : IsLawful (simulation_of handlers held.config) → ∥ ((serial : ℕ) × IsReached handlers serial held) ∥₁ → (events : List (Event P)) → option_map past_events (process_of k p) ≡ Some events
+  pub past-sequential : IsLawful (simulation_of handlers held.config) → (events : List (Event P)) → option_map past_events (process_of k p) ≡ Some events
       → p < held.config.lps → (t : Time) → TimeAtMost t (least_held held) → EndsSequential (simulation_of handlers held.config) p t events
-  past-sequential lawful was events is known t quiet = ∥∥₁_map was (λ (x : (serial : ℕ) × IsReached handlers serial held).
+  past-sequential lawful events is known t quiet = ∥∥₁_map inside.is_reached (λ (x : (serial : ℕ) × IsReached handlers serial held).
       let sim = simulation_of handlers held.config in
       let world = reached sim x.0 x.1.0 in
       let here = past-in events is world x.1.1 in

@@ -1,5 +1,5 @@
 -- Workers and inboxes looked up and changed, and what a world keeps to then.
-use Rattle.std.proofs.Common.{◌≡◌, ℕ, zero, suc, ◌+◌, ◌<◌, List, [], ◌∷◌, length, refl, sym, ◌∙◌, subst, arith, Some, None, Ok, slice_get, slice_set, slice_index_or}
+use Rattle.std.proofs.Common.{◌≡◌, ℕ, zero, suc, ◌+◌, ◌%◌, ◌<◌, List, [], ◌∷◌, length, refl, sym, ◌∙◌, ap, subst, arith, Some, None, Ok, slice_get, slice_set, slice_index_or}
 use Rattle.std.proofs.lemmas.List.{length-set}
 use Rattle.std.proofs.lemmas.Option.{slice_get_read}
 use Rattle.vt_key.specs.Times.{Time}
@@ -11,19 +11,13 @@ use Rattle.vt_steps.specs.declared.step.Step.{Step}
 use Rattle.vt_steps.specs.declared.step.Reply.{Reply}
 use Rattle.vt_steps.specs.World.{Board, Book}
 use Rattle.vt_steps.specs.StandsFor.{GoesOn}
-use Rattle.vt_kernel.specs.Held.{HeldWorker, AllOwnMail}
+use Rattle.vt_kernel.specs.Held.{HeldWorker, AllOwnMail, IsProcessOf}
+use Rattle.vt_kernel.proofs.SettlingLemmas.{put-there}
 use Rattle.vt_world.specs.Held.{HeldWorld, world_memory, AreWorkers, AreInboxes, IsWorldInside}
 use Rattle.vt_world.proofs.ReachedLemmas.{inside_view}
-use Rattle.vt_world.proofs.WorldLemmas.{worker-at, workers-changed}
+use Rattle.vt_world.proofs.WorldLemmas.{IsSame, worker-at, workers-changed}
+use Rattle.vt_world.proofs.WorldSteps.{who}
 use Rattle.vt_world.proofs.StepLemmas.{inside-stepped}
-
--- the worker and the inbox that an index finds
-module _ {M S P K : Type 0} {handlers : Handlers S P K} {held : HeldWorld M S P K} {board_end book_end : Time} (h : IsWorldInside handlers held board_end book_end) (w : ℕ) where
-  pub worker-there : (k : HeldWorker S P K) → w < held.config.workers → k ≡ slice_index_or held.workers w k → slice_get held.workers w ≡ Some k
-  worker-there k below is = slice_get_read held.workers (length held.workers) w k refl (let size = h.all_workers in omega (arith, size, below)) is
-
-  pub inbox-there : (inbox : List (Mail P)) → w < held.config.workers → inbox ≡ slice_index_or held.inboxes w inbox → slice_get held.inboxes w ≡ Some inbox
-  inbox-there inbox below is = slice_get_read held.inboxes (length held.inboxes) w inbox refl (let size = h.all_inboxes in omega (arith, size, below)) is
 
 -- what is there is one
 pub same-there : {X : Type 0} (xs : List X) (i : ℕ) (x y : X) → slice_get xs i ≡ Some x → slice_get xs i ≡ Some y → x ≡ y
@@ -58,28 +52,65 @@ module _ {P : Type 0} (config : Config) where
       let here : base + suc w ≡ (base + 1) + w = omega arith in
       (h.0, inboxes-changed (base + 1) w xs inbox h.1 (subst (λ n. AllOwnMail config n inbox) here own))
 
-module _ {M S P K : Type 0} (handlers : Handlers S P K) (held : HeldWorld M S P K) {board_end book_end : Time} (inside : IsWorldInside handlers held board_end book_end) where
+-- the worker and the inbox that an index finds
+module _ {M S P K : Type 0} {handlers : Handlers S P K} {held : HeldWorld M S P K} {board_end book_end : Time} (inside : IsWorldInside handlers held board_end book_end) {w : ℕ} where
+  pub worker-there : {k : HeldWorker S P K} → w < held.config.workers → k ≡ slice_index_or held.workers w k → slice_get held.workers w ≡ Some k
+  worker-there {k} below is = slice_get_read held.workers (length held.workers) w k refl (let size = inside.all_workers in omega (arith, size, below)) is
+
+  pub inbox-there : {inbox : List (Mail P)} → w < held.config.workers → inbox ≡ slice_index_or held.inboxes w inbox → slice_get held.inboxes w ≡ Some inbox
+  inbox-there {inbox} below is = slice_get_read held.inboxes (length held.inboxes) w inbox refl (let size = inside.all_inboxes in omega (arith, size, below)) is
+
+  -- the mail of an inbox is its worker's
+  pub own-mail : {inbox : List (Mail P)} → slice_get held.inboxes w ≡ Some inbox → AllOwnMail held.config w inbox
+  own-mail {inbox} here = let plain : 0 + w ≡ w = omega arith in subst (λ n. AllOwnMail held.config n inbox) plain (inbox-at held.config 0 w held.inboxes inbox inside.own_inboxes here)
+
+-- a world of which a part was put back as it was
+module _ {M S P K : Type 0} {handlers : Handlers S P K} {held : HeldWorld M S P K} {board_end book_end : Time} (inside : IsWorldInside handlers held board_end book_end) where
+  pub put-back : (w : ℕ) {k new : HeldWorker S P K} {inboxes : List (List (Mail P))} → slice_get held.workers w ≡ Some k → new ≡ k → inboxes ≡ held.inboxes
+      → record held { workers = slice_set held.workers w new; inboxes = inboxes } ≡ held
+  put-back w {k} {new} at same unread =
+      let workers : slice_set held.workers w new ≡ held.workers = ap (slice_set held.workers w) same ∙ put-there held.workers w k at in
+      (λ j. record held { workers = workers j; inboxes = unread j })
+
+  pub mail-back : (w : ℕ) {inbox new : List (Mail P)} → slice_get held.inboxes w ≡ Some inbox → new ≡ inbox → slice_set held.inboxes w new ≡ held.inboxes
+  mail-back w {inbox} here same = ap (slice_set held.inboxes w) same ∙ put-there held.inboxes w inbox here
+
+  pub board-back : {board : Board} → board ≡ held.board → record held { board = board } ≡ held
+  board-back same = ap (λ b. record held { board = b }) same
+
+  pub book-back : {book : Book} → book ≡ held.book → record held { book = book } ≡ held
+  book-back same = ap (λ b. record held { book = b }) same
+
+-- the worker that has a process
+module _ {M S P K : Type 0} {handlers : Handlers S P K} {held : HeldWorld M S P K} {board_end book_end : Time} (inside : IsWorldInside handlers held board_end book_end) (p : ℕ) {k : HeldWorker S P K} where
+  pub owner-there : {owner : ℕ} → owner ≡ p % held.config.workers → owner < held.config.workers → k ≡ slice_index_or held.workers owner k → slice_get held.workers (p % held.config.workers) ≡ Some k
+  owner-there owns below is = subst (λ w. slice_get held.workers w ≡ Some k) owns (worker-there inside below is)
+
+  pub is-own : slice_get held.workers (p % held.config.workers) ≡ Some k → p < held.config.lps → IsProcessOf k.config k.worker p
+  is-own at less =
+      let is = who inside at in
+      record { known = subst (λ (c : Config). p < c.lps) (sym is.1) less; own = ap (λ (c : Config). p % c.workers) is.1 ∙ sym is.0 }
+
+module _ {M S P K : Type 0} {handlers : Handlers S P K} {held : HeldWorld M S P K} {board_end book_end : Time} (inside : IsWorldInside handlers held board_end book_end) (w : ℕ) {k : HeldWorker S P K} (at : slice_get held.workers w ≡ Some k) (new : HeldWorker S P K) (same : IsSame new k) where
   -- the workers after one of them changed
-  pub are-workers : (w : ℕ) (k new : HeldWorker S P K) → slice_get held.workers w ≡ Some k → new.worker ≡ k.worker → new.config ≡ k.config → AreWorkers held.config 0 (slice_set held.workers w new)
-  are-workers w k new at same_worker same_config =
+  pub are-workers : AreWorkers held.config 0 (slice_set held.workers w new)
+  are-workers =
       let is = worker-at held.config 0 w held.workers k inside.own_workers at in
-      workers-changed held.config 0 w held.workers new inside.own_workers (same_worker ∙ is.0) (same_config ∙ is.1)
+      workers-changed held.config 0 w held.workers new inside.own_workers (same.0 ∙ is.0) (same.1 ∙ is.1)
 
   -- a step changes a worker
-  pub inside-worker : (step : Step) (reply : Reply) (w : ℕ) (k new : HeldWorker S P K) (board : Board) (book : Book) {new_board_end new_book_end : Time}
-      → slice_get held.workers w ≡ Some k → new.worker ≡ k.worker → new.config ≡ k.config → new_board_end ≡ board_end → new_book_end ≡ book_end
+  pub inside-worker : (step : Step) (reply : Reply) (board : Board) (book : Book) {new_board_end new_book_end : Time} → new_board_end ≡ board_end → new_book_end ≡ book_end
       → GoesOn (simulation_of handlers held.config) step (Ok reply) (world_memory handlers held) (world_memory handlers (inside_view held.model held.config (slice_set held.workers w new) held.inboxes board book))
       → IsWorldInside handlers (inside_view held.model held.config (slice_set held.workers w new) held.inboxes board book) new_board_end new_book_end
-  inside-worker step reply w k new board book at same_worker same_config same_board same_book goes =
-      inside-stepped handlers held inside step reply (slice_set held.workers w new) held.inboxes board book (length-set held.workers w new) (are-workers w k new at same_worker same_config)
+  inside-worker step reply board book same_board same_book goes =
+      inside-stepped inside step reply (slice_set held.workers w new) held.inboxes board book (length-set held.workers w new) are-workers
       refl inside.own_inboxes same_board same_book goes
 
   -- a step changes a worker and an inbox
-  pub inside-mail : (step : Step) (reply : Reply) (w v : ℕ) (k new : HeldWorker S P K) (inbox : List (Mail P))
-      → slice_get held.workers w ≡ Some k → new.worker ≡ k.worker → new.config ≡ k.config → AllOwnMail held.config v inbox
+  pub inside-mail : (step : Step) (reply : Reply) (v : ℕ) (inbox : List (Mail P)) → AllOwnMail held.config v inbox
       → GoesOn (simulation_of handlers held.config) step (Ok reply) (world_memory handlers held) (world_memory handlers (inside_view held.model held.config (slice_set held.workers w new) (slice_set held.inboxes v inbox) held.board held.book))
       → IsWorldInside handlers (inside_view held.model held.config (slice_set held.workers w new) (slice_set held.inboxes v inbox) held.board held.book) board_end book_end
-  inside-mail step reply w v k new inbox at same_worker same_config own goes =
+  inside-mail step reply v inbox own goes =
       let here : v ≡ 0 + v = omega arith in
-      inside-stepped handlers held inside step reply (slice_set held.workers w new) (slice_set held.inboxes v inbox) held.board held.book (length-set held.workers w new) (are-workers w k new at same_worker same_config)
+      inside-stepped inside step reply (slice_set held.workers w new) (slice_set held.inboxes v inbox) held.board held.book (length-set held.workers w new) are-workers
       (length-set held.inboxes v inbox) (inboxes-changed held.config 0 v held.inboxes inbox inside.own_inboxes (subst (λ n. AllOwnMail held.config n inbox) here own)) refl refl goes

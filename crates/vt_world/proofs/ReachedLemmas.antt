@@ -1,7 +1,9 @@
 -- What is known of a world in memory, since it stands for a reached one.
 use Rattle.std.proofs.Common.{◌≡◌, ℕ, ◌+◌, List, [], ◌∷◌, ◌++◌, map, refl, ◌∙◌, ap, subst}
 use Rattle.std.specs.List.{flat_map}
-use Rattle.vt_key.specs.Times.{TimeAtMost}
+use Rattle.std.proofs.Math.Logic.{∥∥₁_elim}
+use Rattle.std.proofs.Props.{props}
+use Rattle.vt_key.specs.Times.{Time, TimeAtMost}
 use Rattle.vt_key.specs.declared.letter.Mail.{Mail}
 use Rattle.vt_model.specs.declared.settings.Config.{Config}
 use Rattle.vt_model.specs.Handler.{Handlers}
@@ -19,7 +21,7 @@ use Rattle.vt_steps.proofs.Records.{floors-right, records-right}
 use Rattle.vt_lp.specs.Held.{HeldProcess, process_memory}
 use Rattle.vt_kernel.specs.Held.{HeldWorker, part_memory}
 use Rattle.vt_kernel.specs.Guards.{held_letters}
-use Rattle.vt_world.specs.Held.{HeldWorld, StandsForWorld, IsReached}
+use Rattle.vt_world.specs.Held.{HeldWorld, StandsForWorld, IsReached, IsWorldInside}
 use Rattle.vt_world.specs.Calls.{least_held, floor_held}
 
 module _ {S P K : Type 0} (handlers : Handlers S P K) (sim : Simulation S P) where
@@ -54,29 +56,28 @@ module _ {M S P K : Type 0} (handlers : Handlers S P K) (held : HeldWorld M S P 
       ap (λ ls. least_time (end_of held.config) (ls ++ map (λ (mail : Mail P). mail.letter) (flat_map (λ inbox. inbox) world.inboxes))) (part-letters handlers (simulation_of handlers held.config) 0 held.workers world.parts h.parts)
       ∙ ap (λ is. least_time (end_of held.config) (flat_map held_letters held.workers ++ map (λ (mail : Mail P). mail.letter) (flat_map (λ inbox. inbox) is))) h.inboxes
 
-module _ {M S P K : Type 0} (handlers : Handlers S P K) (held : HeldWorld M S P K) (lawful : IsLawful (simulation_of handlers held.config)) where
+module _ {M S P K : Type 0} {handlers : Handlers S P K} {held : HeldWorld M S P K} {board_end book_end : Time} (inside : IsWorldInside handlers held board_end book_end) (lawful : IsLawful (simulation_of handlers held.config)) where
   floors : (x : (serial : ℕ) × IsReached handlers serial held) → AreFloorsRight (simulation_of handlers held.config) (reached (simulation_of handlers held.config) x.0 x.1.0)
   floors x = floors-right (simulation_of handlers held.config) lawful (reached (simulation_of handlers held.config) x.0 x.1.0) (reached-accounted (simulation_of handlers held.config) lawful x.0 x.1.0)
 
   -- the floor is at most the announced time
-  pub floor-announced : (x : (serial : ℕ) × IsReached handlers serial held) → TimeAtMost (floor_held held) held.board.announced
-  floor-announced x =
+  pub floor-announced : TimeAtMost (floor_held held) held.board.announced
+  floor-announced = ∥∥₁_elim inside.is_reached (Prim.hlevel props) (λ (x : (serial : ℕ) × IsReached handlers serial held).
       subst (λ (b : Board). TimeAtMost (floor_held held) b.announced) x.1.1.board
-      (subst (λ (b : Book). TimeAtMost (book_floor (end_of held.config) b) (reached (simulation_of handlers held.config) x.0 x.1.0).board.announced) x.1.1.book (floors x).floor)
+      (subst (λ (b : Book). TimeAtMost (book_floor (end_of held.config) b) (reached (simulation_of handlers held.config) x.0 x.1.0).board.announced) x.1.1.book (floors x).floor))
 
   -- and that at most the least time
-  pub announced-least : (x : (serial : ℕ) × IsReached handlers serial held) → TimeAtMost held.board.announced (least_held held)
-  announced-least x =
+  pub announced-least : TimeAtMost held.board.announced (least_held held)
+  announced-least = ∥∥₁_elim inside.is_reached (Prim.hlevel props) (λ (x : (serial : ℕ) × IsReached handlers serial held).
       subst (λ (b : Board). TimeAtMost b.announced (least_held held)) x.1.1.board
-      (subst (λ t. TimeAtMost (reached (simulation_of handlers held.config) x.0 x.1.0).board.announced t) (least-same handlers held (reached (simulation_of handlers held.config) x.0 x.1.0) x.1.1) (floors x).announced)
+      (subst (λ t. TimeAtMost (reached (simulation_of handlers held.config) x.0 x.1.0).board.announced t) (least-same handlers held (reached (simulation_of handlers held.config) x.0 x.1.0) x.1.1) (floors x).announced))
 
   -- the book's records are the sequential run's below the floor
-  pub records-sequential : (x : (serial : ℕ) × IsReached handlers serial held)
-      → book_records (end_of held.config) held.book ≡ seq_records (simulation_of handlers held.config) (floor_held held)
-  records-sequential x =
+  pub records-sequential : book_records book_end held.book ≡ seq_records (simulation_of handlers held.config) (floor_held held)
+  records-sequential = ap (λ t. book_records t held.book) inside.same_book_end ∙ ∥∥₁_elim inside.is_reached (Prim.hlevel props) (λ (x : (serial : ℕ) × IsReached handlers serial held).
       let world = reached (simulation_of handlers held.config) x.0 x.1.0 in
       let right = records-right (simulation_of handlers held.config) lawful world (reached-accounted (simulation_of handlers held.config) lawful x.0 x.1.0) in
-      subst (λ (b : Book). book_records (end_of held.config) b ≡ seq_records (simulation_of handlers held.config) (book_floor (end_of held.config) b)) x.1.1.book right.records
+      subst (λ (b : Book). book_records (end_of held.config) b ≡ seq_records (simulation_of handlers held.config) (book_floor (end_of held.config) b)) x.1.1.book right.records)
 
 -- what a contract sees of a world with these fields
 abbrev pub inside_view : {M S P K : Type 0} → M → Config → List (HeldWorker S P K) → List (List (Mail P)) → Board → Book → HeldWorld M S P K

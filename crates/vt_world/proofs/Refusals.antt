@@ -1,6 +1,7 @@
 -- Why a step is refused, by why the worker's or the board's part of it is.
 use Rattle.std.proofs.Common.{◌≡◌, ℕ, ◌+◌, ◌<◌, ◌≤◌, ◌⊎◌, inl, inr, true, false, List, [], ◌++◌, length, refl, sym, ◌∙◌, ap, subst, arith, Option, Some, None, Ok, Err, slice_get, slice_set, nat_le, if◌then◌else◌}
 use Rattle.std.proofs.lemmas.Bool.Decides.{nat_tests}
+use Rattle.std.proofs.lemmas.Option.{slice_get_past}
 use Rattle.vt_key.specs.Times.{Time}
 use Rattle.vt_key.specs.declared.limits.TheConstants.{MAX_COUNT}
 use Rattle.vt_key.specs.declared.letter.Colour.{Colour}
@@ -20,7 +21,7 @@ use Rattle.vt_steps.specs.Letters.{Counts, count_of, raised, count_colour, is_em
 use Rattle.vt_steps.specs.World.{Part, World, Board}
 use Rattle.vt_steps.specs.PartSteps.{letters_for, part_after_send, mail_of_send, part_after_fetch, part_after_cut}
 use Rattle.vt_steps.specs.BoardSteps.{cut_board}
-use Rattle.vt_steps.specs.Next.{Outcome, next, refused, replied, done_or_refused, send, cut}
+use Rattle.vt_steps.specs.Next.{Outcome, next, refused, replied, done_or_refused, send}
 use Rattle.vt_steps.specs.StandsFor.{GoesOn}
 use Rattle.vt_kernel.specs.Held.{HeldWorker, StandsFor as WorkerStandsFor}
 use Rattle.vt_kernel.specs.Guards.{IsSendRefusal}
@@ -28,23 +29,16 @@ use Rattle.vt_board.specs.Calls.{counted, cut_outcome}
 use Rattle.vt_kernel.specs.Refusals.{IsStepRefusal, PassesLimit}
 use Rattle.vt_board.proofs.CellSteps.{next-cut}
 use Rattle.vt_steps.proofs.Places.{get-put_same}
-use Rattle.vt_world.specs.Held.{HeldWorld, world_memory, StandsForWorld, AreWorkers}
-use Rattle.vt_world.proofs.WorldLemmas.{found}
+use Rattle.vt_world.specs.Held.{HeldWorld, world_memory, StandsForWorld, IsWorldInside}
+use Rattle.vt_world.proofs.WorldLemmas.{IsSame, found}
 use Rattle.vt_world.proofs.CellSteps.{next-send, next-not_send, next-fetch, next-not_fetch}
-use Rattle.vt_world.proofs.WorldSteps.{who, goes, gone, cut-refused}
+use Rattle.vt_world.proofs.WorldSteps.{who, goes, cut-done, cut-refused}
 use Rattle.vt_world.proofs.Places.{some-at}
 
 -- a raised count
 pub count-raised : (counts : Counts) (colour : Colour) (n : ℕ) → count_of (raised counts colour n) colour ≡ count_of counts colour + n
 count-raised counts White n = refl
 count-raised counts Red n = refl
-
--- how much mail of each colour is got after a fetch
-pub got-white : (counts : Counts) (n m : ℕ) → (raised (raised counts White n) Red m).white ≡ counts.white + n
-got-white counts n m = refl
-
-pub got-red : (counts : Counts) (n m : ℕ) → (raised (raised counts White n) Red m).red ≡ counts.red + m
-got-red counts n m = refl
 
 -- a cut that the board counts, and one that it doesn't
 pub counted-ok : (board : Option Board) (new : Board) → counted board ≡ Ok new → board ≡ Some new
@@ -82,7 +76,7 @@ counted-err (Some board) fault h =
           inr (board, refl, same, past))
     ] refl h
 
-module _ {M S P K : Type 0} (handlers : Handlers S P K) (held : HeldWorld M S P K) (are : AreWorkers held.config 0 held.workers) where
+module _ {M S P K : Type 0} {handlers : Handlers S P K} {held : HeldWorld M S P K} {board_end book_end : Time} (inside : IsWorldInside handlers held board_end book_end) where
   -- a step that the definitions do, and that passes a limit
   pub exhausted : (world : World P) (step : Step) (reply : Reply) (new : World P) (fault : Fault) → next (simulation_of handlers held.config) world step ≡ replied new reply
       → fault ≡ Exhausted → PassesLimit (simulation_of handlers held.config) step new → IsStepRefusal (simulation_of handlers held.config) step world fault
@@ -90,39 +84,40 @@ module _ {M S P K : Type 0} (handlers : Handlers S P K) (held : HeldWorld M S P 
       inr (reply, ap (λ (o : Outcome P). o.answer) is, inl (why, subst (λ (o : Outcome P). PassesLimit (simulation_of handlers held.config) step o.world) (sym is) past))
 
   -- Send of a worker to one that there is not
-  pub send-nowhere : (w v : ℕ) → slice_get held.inboxes v ≡ None
+  pub send-nowhere : (w : ℕ) {v : ℕ} → held.config.workers ≤ v
       → GoesOn (simulation_of handlers held.config) (Send w v) (Err NotLawful) (world_memory handlers held) (world_memory handlers held)
   unfolding next send
-  send-nowhere w v none world h =
+  send-nowhere w {v} past world h =
+      let none = slice_get_past held.inboxes v (let size = inside.all_inboxes in omega (arith, size, past)) in
       let box : slice_get world.inboxes v ≡ None = ap (λ xs. slice_get xs v) h.inboxes ∙ none in
-      goes handlers held are world (Send w v) (refused world NotLawful) (Err NotLawful) held
+      goes handlers held world (Send w v) (refused world NotLawful) (Err NotLawful) held
       (ap (λ i. done_or_refused world (send (simulation_of handlers held.config) world w v (slice_get world.parts w) i)) box ∙ none-sent (slice_get world.parts w)) refl refl h
     where
       none-sent : (q : Option (Part P)) → done_or_refused world (send (simulation_of handlers held.config) world w v q None) ≡ refused world NotLawful
       none-sent None = refl
       none-sent (Some part) = refl
 
-  -- Cut of a worker that there is not
-  pub cut-nobody : (w : ℕ) → slice_get held.workers w ≡ None
-      → GoesOn (simulation_of handlers held.config) (Cut w) (Err NotLawful) (world_memory handlers held) (world_memory handlers held)
-  unfolding next cut
-  cut-nobody w none world h =
-      goes handlers held are world (Cut w) (refused world NotLawful) (Err NotLawful) held
-      (ap (λ q. done_or_refused world (cut (simulation_of handlers held.config) world w q (cut_board (end_of held.config) w world.board))) (gone handlers held are world w h none)) refl refl h
-
   -- why Cut is refused
-  pub cut-why : (board_end : Time) (w : ℕ) (fault : Fault) → board_end ≡ (end_of held.config) → w < length held.workers → cut_outcome board_end w held.board ≡ Err fault
+  pub cut-why : {w : ℕ} → w < held.config.workers → (fault : Fault) → cut_outcome board_end w held.board ≡ Err fault
       → (world : World P) → StandsForWorld handlers held world → IsStepRefusal (simulation_of handlers held.config) (Cut w) world fault
-  cut-why board_end w fault same below h world s =
-      let k = some-at held.workers w below in
-      let outcome : counted (cut_board (end_of held.config) w held.board) ≡ Err fault = ap (λ t. cut_outcome t w held.board) (sym same) ∙ h in
+  cut-why {w} below fault h world s =
+      let k = some-at held.workers w (let size = inside.all_workers in omega (arith, size, below)) in
+      let outcome : counted (cut_board (end_of held.config) w held.board) ≡ Err fault = ap (λ t. cut_outcome t w held.board) (sym inside.same_board_end) ∙ h in
       elim (counted-err (cut_board (end_of held.config) w held.board) fault outcome) [
-        | inl a ↦ inl ((cut-refused handlers held are w a.0 world s).0 ∙ ap Err (sym a.1))
+        | inl a ↦ inl ((cut-refused inside w a.0 world s).0 ∙ ap Err (sym a.1))
         | inr a ↦
-            (let f = found handlers held world w k.0 are s k.1 in
+            (let f = found handlers held world w k.0 inside.own_workers s k.1 in
             let next_is = next-cut (simulation_of handlers held.config) world w f.part a.0 f.there (ap (λ b. cut_board (end_of held.config) w b) s.board ∙ a.1) in
             exhausted world (Cut w) Done (record world { parts = slice_set world.parts w (part_after_cut (end_of held.config) world.board.announced f.part); board = a.0 }) fault next_is a.2 a.3)
       ]
+
+  -- a cut that the board counts
+  pub cut-counted : (w : ℕ) {k : HeldWorker S P K} {board : Board} {announced : Time} → slice_get held.workers w ≡ Some k → counted (cut_board board_end w held.board) ≡ Ok board → announced ≡ held.board.announced
+      → (new : HeldWorker S P K) → IsSame new k → ((part : Part P) → WorkerStandsFor handlers k part → WorkerStandsFor handlers new (part_after_cut (end_of k.config) announced part))
+      → GoesOn (simulation_of handlers held.config) (Cut w) (Ok Done) (world_memory handlers held) (world_memory handlers (record held { workers = slice_set held.workers w new; board = board }))
+  cut-counted w {k} {board} at counts said new same done =
+      cut-done inside w at (ap (λ t. cut_board t w held.board) (sym inside.same_board_end) ∙ counted-ok (cut_board board_end w held.board) board counts) new same
+      (λ part s. subst (λ t. WorkerStandsFor handlers new (part_after_cut (end_of k.config) t part)) said (done part s))
 
   -- how much of its colour a worker has sent after a send
   sent-after : (sim : Simulation S P) (v : ℕ) (part : Part P) → count_of (part_after_send sim v part).sent (part_after_send sim v part).colour ≡ count_of part.sent part.colour + length (letters_for sim v part)
@@ -130,13 +125,13 @@ module _ {M S P K : Type 0} (handlers : Handlers S P K) (held : HeldWorld M S P 
   sent-after sim v part = count-raised part.sent part.colour (length (letters_for sim v part))
 
   -- why Send is refused
-  pub send-why : (w v : ℕ) (k : HeldWorker S P K) (inbox : List (Mail P)) (fault : Fault) → slice_get held.workers w ≡ Some k → slice_get held.inboxes v ≡ Some inbox
+  pub send-why : (w v : ℕ) {k : HeldWorker S P K} {inbox : List (Mail P)} → slice_get held.workers w ≡ Some k → slice_get held.inboxes v ≡ Some inbox → (fault : Fault)
       → ((part : Part P) → WorkerStandsFor handlers k part → IsSendRefusal (simulation_of handlers k.config) k.worker v part fault)
       → (world : World P) → StandsForWorld handlers held world → IsStepRefusal (simulation_of handlers held.config) (Send w v) world fault
-  send-why w v k inbox fault at here why world s =
+  send-why w v {k} {inbox} at here fault why world s =
       let sim = simulation_of handlers held.config in
-      let is = who handlers held are w k at in
-      let f = found handlers held world w k are s at in
+      let is = who inside at in
+      let f = found handlers held world w k inside.own_workers s at in
       let refusal : IsSendRefusal sim w v f.part fault = subst (λ u. IsSendRefusal sim u v f.part fault) is.0 (subst (λ (c : Config). IsSendRefusal (simulation_of handlers c) k.worker v f.part fault) is.1 (why f.part f.stands)) in
       let box : slice_get world.inboxes v ≡ Some inbox = ap (λ xs. slice_get xs v) s.inboxes ∙ here in
       let after = record world { parts = slice_set world.parts w (part_after_send sim v f.part); inboxes = slice_set world.inboxes v (inbox ++ mail_of_send sim v f.part) } in
@@ -172,13 +167,13 @@ module _ {M S P K : Type 0} (handlers : Handlers S P K) (held : HeldWorld M S P 
   got-after inbox part = (refl, refl)
 
   -- why Fetch is refused
-  pub fetch-why : (w : ℕ) (k : HeldWorker S P K) (inbox : List (Mail P)) (fault : Fault) → slice_get held.workers w ≡ Some k → slice_get held.inboxes w ≡ Some inbox
+  pub fetch-why : (w : ℕ) {k : HeldWorker S P K} {inbox : List (Mail P)} → slice_get held.workers w ≡ Some k → slice_get held.inboxes w ≡ Some inbox → (fault : Fault)
       → (((fault ≡ NotLawful) × (is_empty k.arrived ≡ false)) ⊎ ((fault ≡ Exhausted) × (is_empty k.arrived ≡ true)
       × ((MAX_COUNT < k.got.white + count_colour White inbox) ⊎ (MAX_COUNT < k.got.red + count_colour Red inbox))))
       → (world : World P) → StandsForWorld handlers held world → IsStepRefusal (simulation_of handlers held.config) (Fetch w) world fault
-  fetch-why w k inbox fault at here why world s =
+  fetch-why w {k} {inbox} at here fault why world s =
       let sim = simulation_of handlers held.config in
-      let f = found handlers held world w k are s at in
+      let f = found handlers held world w k inside.own_workers s at in
       let box : slice_get world.inboxes w ≡ Some inbox = ap (λ xs. slice_get xs w) s.inboxes ∙ here in
       let after = record world { parts = slice_set world.parts w (part_after_fetch inbox f.part); inboxes = slice_set world.inboxes w [] } in
       let there = get-put_same world.parts w f.part (part_after_fetch inbox f.part) f.there in

@@ -77,10 +77,7 @@ module _ {M S P K : Type 0} (handlers : Handlers S P K) (step : Step) (old new :
         | inr a ↦ a
       ]
 
--- a step that was done, and one that is passed over
-pub answered-ok : {M S P K : Type 0} (handlers : Handlers S P K) (step : Step) (old new : HeldWorld M S P K) (reply : Reply) → IsStepOf handlers step old new (Ok reply) → IsAnsweredBy handlers step old new 0
-answered-ok handlers step old new reply is = record { answer = Ok reply; goes = is.done; counted = refl; one = omega arith }
-
+-- a step that is passed over
 pub answered-err : {M S P K : Type 0} (handlers : Handlers S P K) (step : Step) (old new : HeldWorld M S P K) (fault : Fault) → IsStepOf handlers step old new (Err fault) → (fault ≡ NotLawful) ⊎ (fault ≡ Closed)
     → IsAnsweredBy handlers step old new 1
 answered-err handlers step old new fault is plain = record { answer = Err fault; goes = refused-goes handlers step old new fault is plain; counted = refl; one = omega arith }

@@ -104,9 +104,15 @@ module _ {M S P K : Type 0} (meaning : M → Handlers S P K) {held seen : HeldWo
       → IsStepOf (meaning seen.model) step seen new result
   step-unlawful inside new step fault result is same goes = step-refused inside new step fault result is same (λ world h. inl (goes world h).0)
 
+  -- a step is refused before anything was changed
+  pub step-left : {board_end book_end : Time} → IsWorldInside (meaning held.model) held board_end book_end → (step : Step) (fault : Fault)
+      → GoesOn (simulation_of (meaning held.model) held.config) step (Err fault) (world_memory (meaning held.model) held) (world_memory (meaning held.model) held)
+      → IsStepOf (meaning seen.model) step seen seen (Err fault)
+  step-left inside step fault goes = step-unlawful inside seen step fault (Err fault) refl (sym seen_is) goes
+
 -- ---- what a world keeps to, after a step
 
-module _ {M S P K : Type 0} (handlers : Handlers S P K) (held : HeldWorld M S P K) {board_end book_end : Time} (inside : IsWorldInside handlers held board_end book_end) where
+module _ {M S P K : Type 0} {handlers : Handlers S P K} {held : HeldWorld M S P K} {board_end book_end : Time} (inside : IsWorldInside handlers held board_end book_end) where
   pub inside-stepped : (step : Step) (reply : Reply) (workers : List (HeldWorker S P K)) (inboxes : List (List (Mail P))) (board : Board) (book : Book) {new_board_end new_book_end : Time}
       → length workers ≡ length held.workers → AreWorkers held.config 0 workers → length inboxes ≡ length held.inboxes → AreInboxes held.config 0 inboxes
       → new_board_end ≡ board_end → new_book_end ≡ book_end
@@ -127,9 +133,9 @@ module _ {M S P K : Type 0} (handlers : Handlers S P K) (held : HeldWorld M S P 
   }
 
   -- nothing has changed
-  pub inside-same : (new : HeldWorld M S P K) {new_board_end new_book_end : Time} → new ≡ held → new_board_end ≡ board_end → new_book_end ≡ book_end
+  pub inside-same : {new : HeldWorld M S P K} {new_board_end new_book_end : Time} → new ≡ held → new_board_end ≡ board_end → new_book_end ≡ book_end
       → IsWorldInside handlers new new_board_end new_book_end
-  inside-same new {new_board_end} {new_book_end} same same_board same_book =
+  inside-same {new} {new_board_end} {new_book_end} same same_board same_book =
       subst (λ (v : HeldWorld M S P K). IsWorldInside handlers v new_board_end new_book_end) (sym same)
       (subst (λ e. IsWorldInside handlers held e new_book_end) (sym same_board) (subst (λ e. IsWorldInside handlers held board_end e) (sym same_book) inside))
 
@@ -143,7 +149,7 @@ refusal-cases false false Taken Refused h = inr (inl (refl, refl, h))
 refusal-cases false true Taken Refused h = inr (inr (refl, refl, h))
 
 module _ {M S P K : Type 0} (handlers : Handlers S P K) (model : M) (config : Config) (workers : List (HeldWorker S P K)) (inboxes : List (List (Mail P))) (board : Board)
-    (of : RunBook) (same_end : of.end ≡ (end_of config)) (are : AreWorkers config 0 workers) where
+    (of : RunBook) (same_end : of.end ≡ (end_of config)) where
   -- what the book refuses to close, the world does
   pub close-refuses : {X : Type 0} (new : RunBook) (result : Result X Fault) (x : X) (fault : Fault) (Kept : Type 0) → result ≡ Err fault
       → MatchOption (refusal_of_close of) ((result ≡ Ok x) × Kept) (λ f. (result ≡ Err f) × (new ≡ of))
@@ -155,12 +161,12 @@ module _ {M S P K : Type 0} (handlers : Handlers S P K) (model : M) (config : Co
         | inl a ↦
             let e : Err fault ≡ Err Closed = sym is ∙ a.1.0 in
             let f : Closed ≡ fault = cc in
-            (a.1.1, subst (λ v. GoesOn (simulation_of handlers config) Close (Err v) (world_memory handlers held) (world_memory handlers held)) f (close-closed handlers held are a.0))
+            (a.1.1, subst (λ v. GoesOn (simulation_of handlers config) Close (Err v) (world_memory handlers held) (world_memory handlers held)) f (close-closed handlers held a.0))
         | inr b ↦ elim b [
           | inl a ↦
               let e : Err fault ≡ Err NotLawful = sym is ∙ a.2.0 in
               let f : NotLawful ≡ fault = cc in
-              (a.2.1, subst (λ v. GoesOn (simulation_of handlers config) Close (Err v) (world_memory handlers held) (world_memory handlers held)) f (close-refused handlers held are a.0 (sym lawful ∙ a.1)))
+              (a.2.1, subst (λ v. GoesOn (simulation_of handlers config) Close (Err v) (world_memory handlers held) (world_memory handlers held)) f (close-refused handlers held a.0 (sym lawful ∙ a.1)))
           | inr a ↦ absurd (let e : Err fault ≡ Ok x = sym is ∙ a.2.0 in cc)
         ]
       ]
@@ -180,7 +186,7 @@ module _ {M S P K : Type 0} (handlers : Handlers S P K) (model : M) (config : Co
           | inr a ↦ (
             a.2.1,
             subst (λ (r : RunBook). GoesOn (simulation_of handlers config) Close (Ok Done) (world_memory handlers held) (world_memory handlers (inside_view model config workers inboxes board r.book))) (sym a.2.1)
-                (close-done handlers held are a.0 (sym lawful ∙ a.1)),
+                (close-done handlers held a.0 (sym lawful ∙ a.1)),
           )
         ]
       ]

@@ -2,6 +2,7 @@
 use Rattle.std.proofs.Common.{◌≡◌, ℕ, zero, suc, ◌+◌, ◌/◌, ◌%◌, inl, inr, Bool, List, [], ◌∷◌, map, refl, sym, ◌∙◌, ap, subst, arith, Option, Some, None, Ok, Err, slice_get, slice_set, if◌then◌else◌}
 use Rattle.std.specs.Option.{option_and_then, option_map}
 use Rattle.std.proofs.lemmas.Bool.Decides.{eqb_tells}
+use Rattle.vt_key.specs.Times.{Time}
 use Rattle.vt_key.specs.declared.fault.Fault.TheVariants.{NotLawful}
 use Rattle.vt_model.specs.declared.settings.Config.{Config}
 use Rattle.vt_model.specs.Handler.{Handlers}
@@ -18,7 +19,7 @@ use Rattle.vt_kernel.specs.Guards.{IsDone}
 use Rattle.vt_kernel.specs.Local.{at_own, local_step}
 use Rattle.vt_kernel.proofs.ProcessLemmas.{map-put, get-map_of}
 use Rattle.vt_kernel.proofs.OwnSteps.{own}
-use Rattle.vt_world.specs.Held.{HeldWorld, world_memory, StandsForWorld, AreWorkers}
+use Rattle.vt_world.specs.Held.{HeldWorld, world_memory, StandsForWorld, AreWorkers, IsWorldInside}
 
 module _ {S P : Type 0} (sim : Simulation S P) where
   -- a value at a place stands for the part of that worker
@@ -165,22 +166,30 @@ module _ {M S P K : Type 0} (handlers : Handlers S P K) where
       subst (λ ms. StandForParts sim 0 ms (slice_set world.parts w part)) (sym (map-put (part_memory handlers) held.workers w k))
       (stand-changed sim 0 w (map (part_memory handlers) held.workers) world.parts (part_memory handlers k) part h.parts moved)
 
+-- a worker that may differ from another in all but its number and config
+abbrev pub IsSame : {S P K : Type 0} → HeldWorker S P K → HeldWorker S P K → Type 0
+IsSame new k = (new.worker ≡ k.worker) × (new.config ≡ k.config)
+
+pub is-same : {S P K : Type 0} (new k : HeldWorker S P K) → new ≡ k → IsSame new k
+is-same new k same = (ap (λ x. x.worker) same, ap (λ x. x.config) same)
+
+module _ {M S P K : Type 0} {handlers : Handlers S P K} {held : HeldWorld M S P K} {board_end book_end : Time} (inside : IsWorldInside handlers held board_end book_end)
+    (w : ℕ) {k : HeldWorker S P K} (at : slice_get held.workers w ≡ Some k) (step : Step) (is : IsLocalAt (simulation_of handlers held.config) w step) where
   -- a local step that is done by the worker is done by the world
-  pub local-done : (held : HeldWorld M S P K) (w : ℕ) (k new : HeldWorker S P K) (step : Step) → AreWorkers held.config 0 held.workers
-      → slice_get held.workers w ≡ Some k → new.worker ≡ k.worker → new.config ≡ k.config → IsLocalAt (simulation_of handlers held.config) w step
+  pub local-done : (new : HeldWorker S P K) → IsSame new k
       → ((part : Part P) → WorkerStandsFor handlers k part → IsDone handlers new (local_step (simulation_of handlers k.config) k.worker step part))
       → GoesOn (simulation_of handlers held.config) step (Ok Done) (world_memory handlers held) (world_memory handlers (record held { workers = slice_set held.workers w new }))
-  local-done held w k new step are at same_worker same_config is done world h =
+  local-done new same done world h =
       let sim = simulation_of handlers held.config in
-      let who = worker-at held.config 0 w held.workers k are at in
+      let who = worker-at held.config 0 w held.workers k inside.own_workers at in
       let plain : 0 + w ≡ w = omega arith in
-      let f = found held world w k are h at in
+      let f = found handlers held world w k inside.own_workers h at in
       let d = done f.part f.stands in
       let lawful : local_step sim w step f.part ≡ Some d.part =
       ap (λ v. local_step sim v step f.part) (sym (who.0 ∙ plain)) ∙ ap (λ (c : Config). local_step (simulation_of handlers c) k.worker step f.part) (sym who.1) ∙ d.lawful in
       let out = next-locally sim world w step f.part is f.there ∙ ap (λ s. done_or_refused world (option_map (with_part world w) s)) lawful in
       let stands : StandsForWorld handlers (record held { workers = slice_set held.workers w new }) (with_part world w d.part) = record {
-        parts = part-changed held world w new d.part h (same_worker ∙ who.0 ∙ plain) (same_config ∙ who.1) d.stands;
+        parts = part-changed handlers held world w new d.part h (same.0 ∙ who.0 ∙ plain) (same.1 ∙ who.1) d.stands;
         inboxes = h.inboxes;
         board = h.board;
         book = h.book;
@@ -190,15 +199,13 @@ module _ {M S P K : Type 0} (handlers : Handlers S P K) where
       )
 
   -- one that is not lawful for the worker is not for the world, which stays
-  pub local-refused : (held : HeldWorld M S P K) (w : ℕ) (k : HeldWorker S P K) (step : Step) → AreWorkers held.config 0 held.workers
-      → slice_get held.workers w ≡ Some k → IsLocalAt (simulation_of handlers held.config) w step
-      → ((part : Part P) → WorkerStandsFor handlers k part → local_step (simulation_of handlers k.config) k.worker step part ≡ None)
+  pub local-refused : ((part : Part P) → WorkerStandsFor handlers k part → local_step (simulation_of handlers k.config) k.worker step part ≡ None)
       → GoesOn (simulation_of handlers held.config) step (Err NotLawful) (world_memory handlers held) (world_memory handlers held)
-  local-refused held w k step are at is none world h =
+  local-refused none world h =
       let sim = simulation_of handlers held.config in
-      let who = worker-at held.config 0 w held.workers k are at in
+      let who = worker-at held.config 0 w held.workers k inside.own_workers at in
       let plain : 0 + w ≡ w = omega arith in
-      let f = found held world w k are h at in
+      let f = found handlers held world w k inside.own_workers h at in
       let gone : local_step sim w step f.part ≡ None =
       ap (λ v. local_step sim v step f.part) (sym (who.0 ∙ plain)) ∙ ap (λ (c : Config). local_step (simulation_of handlers c) k.worker step f.part) (sym who.1) ∙ none f.part f.stands in
       let out = next-locally sim world w step f.part is f.there ∙ ap (λ s. done_or_refused world (option_map (with_part world w) s)) gone in

@@ -1,5 +1,6 @@
 -- What the calls of a worker, the board and the book do is what the step of the world does.
-use Rattle.std.proofs.Common.{◌≡◌, ℕ, zero, suc, ◌+◌, true, false, List, [], ◌∷◌, ◌++◌, map, refl, sym, ◌∙◌, ap, subst, arith, Some, None, Result, Ok, Err, slice_get, slice_set}
+use Rattle.std.proofs.Common.{◌≡◌, ℕ, zero, suc, ◌+◌, ◌≤◌, true, false, List, [], ◌∷◌, ◌++◌, map, refl, sym, ◌∙◌, ap, subst, arith, Some, None, Result, Ok, Err, slice_get, slice_set}
+use Rattle.std.proofs.lemmas.Option.{slice_get_past}
 use Rattle.vt_key.specs.Times.{Time}
 use Rattle.vt_key.specs.declared.letter.Mail.{Mail}
 use Rattle.vt_key.specs.declared.fault.Fault.{Fault}
@@ -19,206 +20,22 @@ use Rattle.std.specs.Option.{option_and_then, option_map}
 use Rattle.vt_steps.specs.PartSteps.{home, accept, part_after_send, mail_of_send, part_after_fetch, part_after_cut, report_sent, report_got, report_least, part_after_commit, rows_of_commit}
 use Rattle.vt_steps.specs.BoardSteps.{cut_board, may_report, with_report, board_after_report, report_reply}
 use Rattle.vt_steps.specs.BookSteps.{may_commit, with_rows, may_close, closed_book}
-use Rattle.vt_steps.specs.Next.{Outcome, next, refused, replied, with_part, done_or_refused, may_send, report_lawful}
+use Rattle.vt_steps.specs.Next.{Outcome, next, refused, replied, with_part, done_or_refused, may_send, cut, report_lawful}
 use Rattle.vt_steps.specs.StandsFor.{GoesOn}
 use Rattle.vt_kernel.specs.Held.{HeldWorker, part_memory, StandsFor as WorkerStandsFor}
 use Rattle.vt_board.proofs.CellSteps.{next-cut, next-not_cut, next-report, next-not_report, next-report_nobody}
-use Rattle.vt_book.proofs.CellSteps.{next-commit, next-not_commit, next-commit_closed, next-close, next-not_close, next-close_closed, next-commit_nobody}
-use Rattle.vt_world.specs.Held.{HeldWorld, world_memory, StandsForWorld, AreWorkers}
-use Rattle.vt_world.proofs.WorldLemmas.{nobody-at, worker-at, found, part-changed}
-use Rattle.vt_world.proofs.CellSteps.{next-send, next-not_send, next-fetch, next-not_fetch, next-send_nobody, next-fetch_nobody}
+use Rattle.vt_book.proofs.CellSteps.{next-commit, next-commit_closed, next-close, next-not_close, next-close_closed, next-commit_nobody}
+use Rattle.vt_world.specs.Held.{HeldWorld, world_memory, StandsForWorld, IsWorldInside}
+use Rattle.vt_world.proofs.WorldLemmas.{IsSame, nobody-at, worker-at, found, part-changed}
+use Rattle.vt_world.proofs.CellSteps.{next-send, next-fetch, next-send_nobody, next-fetch_nobody}
 
-module _ {M S P K : Type 0} (handlers : Handlers S P K) (held : HeldWorld M S P K) (are : AreWorkers held.config 0 held.workers) where
-  -- the worker at its place is it
-  pub who : (w : ℕ) (k : HeldWorker S P K) → slice_get held.workers w ≡ Some k → (k.worker ≡ w) × (k.config ≡ held.config)
-  who w k at =
-      let is = worker-at held.config 0 w held.workers k are at in
-      let plain : 0 + w ≡ w = omega arith in
-      (is.0 ∙ plain, is.1)
-
+module _ {M S P K : Type 0} (handlers : Handlers S P K) (held : HeldWorld M S P K) where
   -- an outcome of the definitions, and what stands for its world
   pub goes : (world : World P) (step : Step) (outcome : Outcome P) (answer : Result Reply Fault) (new : HeldWorld M S P K)
       → next (simulation_of handlers held.config) world step ≡ outcome → outcome.answer ≡ answer → new.config ≡ held.config → StandsForWorld handlers new outcome.world
       → ((next (simulation_of handlers held.config) world step).answer ≡ answer) × StandsForWorld handlers new (next (simulation_of handlers held.config) world step).world
   goes world step outcome answer new is answers of stands =
       (ap (λ (o : Outcome P). o.answer) is ∙ answers, subst (λ (o : Outcome P). StandsForWorld handlers new o.world) (sym is) stands)
-
-  pub send-done : (w v : ℕ) (k new : HeldWorker S P K) (inbox new_inbox : List (Mail P)) → slice_get held.workers w ≡ Some k → slice_get held.inboxes v ≡ Some inbox
-      → new.worker ≡ k.worker → new.config ≡ k.config
-      → ((part : Part P) → WorkerStandsFor handlers k part → (may_send (simulation_of handlers k.config) k.worker v part ≡ true)
-      × WorkerStandsFor handlers new (part_after_send (simulation_of handlers k.config) v part) × (new_inbox ≡ inbox ++ mail_of_send (simulation_of handlers k.config) v part))
-      → GoesOn (simulation_of handlers held.config) (Send w v) (Ok Done) (world_memory handlers held)
-      (world_memory handlers (record held { workers = slice_set held.workers w new; inboxes = slice_set held.inboxes v new_inbox }))
-  send-done w v k new inbox new_inbox at here same_worker same_config done world h =
-      let sim = simulation_of handlers held.config in
-      let is = who w k at in
-      let f = found handlers held world w k are h at in
-      let d = subst (λ (c : Config). (may_send (simulation_of handlers c) k.worker v f.part ≡ true) × WorkerStandsFor handlers new (part_after_send (simulation_of handlers c) v f.part)
-      × (new_inbox ≡ inbox ++ mail_of_send (simulation_of handlers c) v f.part)) is.1 (done f.part f.stands) in
-      let may : may_send sim w v f.part ≡ true = ap (λ u. may_send sim u v f.part) (sym is.0) ∙ d.0 in
-      let box : slice_get world.inboxes v ≡ Some inbox = ap (λ xs. slice_get xs v) h.inboxes ∙ here in
-      goes world (Send w v) (replied (record world { parts = slice_set world.parts w (part_after_send sim v f.part); inboxes = slice_set world.inboxes v (inbox ++ mail_of_send sim v f.part) }) Done)
-      (Ok Done) (record held { workers = slice_set held.workers w new; inboxes = slice_set held.inboxes v new_inbox })
-      (next-send sim world w v f.part inbox f.there box may) refl refl
-      (record {
-        parts = part-changed handlers held world w new (part_after_send sim v f.part) h (same_worker ∙ is.0) (same_config ∙ is.1) d.1;
-        inboxes = ap (λ xs. slice_set xs v (inbox ++ mail_of_send sim v f.part)) h.inboxes ∙ ap (λ m. slice_set held.inboxes v m) (sym d.2);
-        board = h.board;
-        book = h.book;
-      })
-
-  pub send-refused : (w v : ℕ) (k : HeldWorker S P K) → slice_get held.workers w ≡ Some k
-      → ((part : Part P) → WorkerStandsFor handlers k part → may_send (simulation_of handlers k.config) k.worker v part ≡ false)
-      → GoesOn (simulation_of handlers held.config) (Send w v) (Err NotLawful) (world_memory handlers held) (world_memory handlers held)
-  send-refused w v k at none world h =
-      let sim = simulation_of handlers held.config in
-      let is = who w k at in
-      let f = found handlers held world w k are h at in
-      let may : may_send sim w v f.part ≡ false =
-      ap (λ u. may_send sim u v f.part) (sym is.0) ∙ ap (λ (c : Config). may_send (simulation_of handlers c) k.worker v f.part) (sym is.1) ∙ none f.part f.stands in
-      goes world (Send w v) (refused world NotLawful) (Err NotLawful) held (next-not_send sim world w v f.part f.there may) refl refl h
-
-  pub fetch-done : (w : ℕ) (k new : HeldWorker S P K) (inbox : List (Mail P)) → slice_get held.workers w ≡ Some k → slice_get held.inboxes w ≡ Some inbox
-      → new.worker ≡ k.worker → new.config ≡ k.config
-      → ((part : Part P) → WorkerStandsFor handlers k part → (is_empty part.arrived ≡ true) × WorkerStandsFor handlers new (part_after_fetch inbox part))
-      → GoesOn (simulation_of handlers held.config) (Fetch w) (Ok Done) (world_memory handlers held)
-      (world_memory handlers (record held { workers = slice_set held.workers w new; inboxes = slice_set held.inboxes w [] }))
-  fetch-done w k new inbox at here same_worker same_config done world h =
-      let sim = simulation_of handlers held.config in
-      let is = who w k at in
-      let f = found handlers held world w k are h at in
-      let d = done f.part f.stands in
-      let box : slice_get world.inboxes w ≡ Some inbox = ap (λ xs. slice_get xs w) h.inboxes ∙ here in
-      goes world (Fetch w) (replied (record world { parts = slice_set world.parts w (part_after_fetch inbox f.part); inboxes = slice_set world.inboxes w [] }) Done)
-      (Ok Done) (record held { workers = slice_set held.workers w new; inboxes = slice_set held.inboxes w [] })
-      (next-fetch sim world w f.part inbox f.there box d.0) refl refl
-      (record {
-        parts = part-changed handlers held world w new (part_after_fetch inbox f.part) h (same_worker ∙ is.0) (same_config ∙ is.1) d.1;
-        inboxes = ap (λ xs. slice_set xs w []) h.inboxes;
-        board = h.board;
-        book = h.book;
-      })
-
-  pub fetch-refused : (w : ℕ) (k : HeldWorker S P K) → slice_get held.workers w ≡ Some k
-      → ((part : Part P) → WorkerStandsFor handlers k part → is_empty part.arrived ≡ false)
-      → GoesOn (simulation_of handlers held.config) (Fetch w) (Err NotLawful) (world_memory handlers held) (world_memory handlers held)
-  fetch-refused w k at none world h =
-      let f = found handlers held world w k are h at in
-      goes world (Fetch w) (refused world NotLawful) (Err NotLawful) held (next-not_fetch (simulation_of handlers held.config) world w f.part f.there (none f.part f.stands)) refl refl h
-
-  pub cut-done : (w : ℕ) (k new : HeldWorker S P K) (board : Board) → slice_get held.workers w ≡ Some k → cut_board (end_of held.config) w held.board ≡ Some board
-      → new.worker ≡ k.worker → new.config ≡ k.config
-      → ((part : Part P) → WorkerStandsFor handlers k part → WorkerStandsFor handlers new (part_after_cut (end_of k.config) held.board.announced part))
-      → GoesOn (simulation_of handlers held.config) (Cut w) (Ok Done) (world_memory handlers held)
-      (world_memory handlers (record held { workers = slice_set held.workers w new; board = board }))
-  cut-done w k new board at cuts same_worker same_config done world h =
-      let sim = simulation_of handlers held.config in
-      let is = who w k at in
-      let f = found handlers held world w k are h at in
-      let d = subst (λ (c : Config). WorkerStandsFor handlers new (part_after_cut (end_of c) held.board.announced f.part)) is.1 (done f.part f.stands) in
-      let e = subst (λ (b : Board). WorkerStandsFor handlers new (part_after_cut (end_of held.config) b.announced f.part)) (sym h.board) d in
-      goes world (Cut w) (replied (record world { parts = slice_set world.parts w (part_after_cut (end_of held.config) world.board.announced f.part); board = board }) Done)
-      (Ok Done) (record held { workers = slice_set held.workers w new; board = board })
-      (next-cut sim world w f.part board f.there (ap (λ b. cut_board (end_of held.config) w b) h.board ∙ cuts)) refl refl
-      (record {
-        parts = part-changed handlers held world w new (part_after_cut (end_of held.config) world.board.announced f.part) h (same_worker ∙ is.0) (same_config ∙ is.1) e;
-        inboxes = h.inboxes;
-        board = refl;
-        book = h.book;
-      })
-
-  pub cut-refused : (w : ℕ) → cut_board (end_of held.config) w held.board ≡ None
-      → GoesOn (simulation_of handlers held.config) (Cut w) (Err NotLawful) (world_memory handlers held) (world_memory handlers held)
-  cut-refused w none world h =
-      goes world (Cut w) (refused world NotLawful) (Err NotLawful) held
-      (next-not_cut (simulation_of handlers held.config) world w (ap (λ b. cut_board (end_of held.config) w b) h.board ∙ none)) refl refl h
-
-  -- the world after a lawful report stands as the worker and the board do
-  reported : (world : World P) (w : ℕ) (new : HeldWorker S P K) (part : Part P) (board : Board) → StandsForWorld handlers held world → new.worker ≡ w → new.config ≡ held.config
-      → WorkerStandsFor handlers new (record part { floor = (board_after_report (end_of held.config) board).announced })
-      → StandsForWorld handlers (record held { workers = slice_set held.workers w new; board = board_after_report (end_of held.config) board }) (report_lawful (simulation_of handlers held.config) world w part board).world
-  unfolding report_lawful
-  reported world w new part board h is of stands = record {
-    parts = part-changed handlers held world w new (record part { floor = (board_after_report (end_of held.config) board).announced }) h is of stands;
-    inboxes = h.inboxes;
-    board = refl;
-    book = h.book;
-  }
-
-  answered : (world : World P) (w : ℕ) (part : Part P) (board : Board) → (report_lawful (simulation_of handlers held.config) world w part board).answer ≡ Ok (report_reply board)
-  unfolding report_lawful
-  answered world w part board = refl
-
-  pub report-done : (w : ℕ) (k new : HeldWorker S P K) (sent got : ℕ) (least : Time) → slice_get held.workers w ≡ Some k
-      → may_report w least held.board ≡ true → new.worker ≡ k.worker → new.config ≡ k.config
-      → ((part : Part P) → WorkerStandsFor handlers k part → (sent ≡ report_sent part) × (got ≡ report_got part) × (least ≡ report_least (end_of k.config) part)
-      × WorkerStandsFor handlers new (record part { floor = (board_after_report (end_of held.config) (with_report w sent got least held.board)).announced }))
-      → GoesOn (simulation_of handlers held.config) (Report w) (Ok (report_reply (with_report w sent got least held.board))) (world_memory handlers held)
-      (world_memory handlers (record held { workers = slice_set held.workers w new; board = board_after_report (end_of held.config) (with_report w sent got least held.board) }))
-  report-done w k new sent got least at may same_worker same_config done world h =
-      let sim = simulation_of handlers held.config in
-      let is = who w k at in
-      let f = found handlers held world w k are h at in
-      let d = done f.part f.stands in
-      let value : report_least (end_of held.config) f.part ≡ least = ap (λ (c : Config). report_least (end_of c) f.part) (sym is.1) ∙ sym d.2 in
-      let lawful : may_report w (report_least (end_of held.config) f.part) world.board ≡ true = ap (λ t. may_report w t world.board) value ∙ ap (may_report w least) h.board ∙ may in
-      let board : with_report w (report_sent f.part) (report_got f.part) (report_least (end_of held.config) f.part) world.board ≡ with_report w sent got least held.board =
-      ap (λ n. with_report w n (report_got f.part) (report_least (end_of held.config) f.part) world.board) (sym d.0)
-      ∙ ap (λ n. with_report w sent n (report_least (end_of held.config) f.part) world.board) (sym d.1)
-      ∙ ap (λ t. with_report w sent got t world.board) value
-      ∙ ap (with_report w sent got least) h.board in
-      goes world (Report w) (report_lawful sim world w f.part (with_report w sent got least held.board))
-      (Ok (report_reply (with_report w sent got least held.board))) (record held { workers = slice_set held.workers w new; board = board_after_report (end_of held.config) (with_report w sent got least held.board) })
-      (next-report sim world w f.part f.there lawful ∙ ap (report_lawful sim world w f.part) board) (answered world w f.part (with_report w sent got least held.board)) refl
-      (reported world w new f.part (with_report w sent got least held.board) h (same_worker ∙ is.0) (same_config ∙ is.1) d.3)
-
-  pub report-refused : (w : ℕ) (k : HeldWorker S P K) (least : Time) → slice_get held.workers w ≡ Some k → may_report w least held.board ≡ false
-      → ((part : Part P) → WorkerStandsFor handlers k part → least ≡ report_least (end_of k.config) part)
-      → GoesOn (simulation_of handlers held.config) (Report w) (Err NotLawful) (world_memory handlers held) (world_memory handlers held)
-  report-refused w k least at may none world h =
-      let is = who w k at in
-      let f = found handlers held world w k are h at in
-      let value : report_least (end_of held.config) f.part ≡ least = ap (λ (c : Config). report_least (end_of c) f.part) (sym is.1) ∙ sym (none f.part f.stands) in
-      goes world (Report w) (refused world NotLawful) (Err NotLawful) held
-      (next-not_report (simulation_of handlers held.config) world w f.part f.there (ap (λ t. may_report w t world.board) value ∙ ap (may_report w least) h.board ∙ may)) refl refl h
-
-  pub commit-done : (w : ℕ) (k new : HeldWorker S P K) (rows : List Row) → slice_get held.workers w ≡ Some k → held.book.is_closed ≡ false
-      → may_commit (slice_get held.book.floors w) k.floor ≡ true → new.worker ≡ k.worker → new.config ≡ k.config
-      → ((part : Part P) → WorkerStandsFor handlers k part → (rows ≡ rows_of_commit (simulation_of handlers k.config) k.worker part) × WorkerStandsFor handlers new (part_after_commit part))
-      → GoesOn (simulation_of handlers held.config) (Commit w) (Ok Done) (world_memory handlers held)
-      (world_memory handlers (record held { workers = slice_set held.workers w new; book = with_rows w rows k.floor held.book }))
-  commit-done w k new rows at is_open may same_worker same_config done world h =
-      let sim = simulation_of handlers held.config in
-      let is = who w k at in
-      let f = found handlers held world w k are h at in
-      let d = done f.part f.stands in
-      let own_rows : rows_of_commit sim w f.part ≡ rows = ap (λ v. rows_of_commit sim v f.part) (sym is.0) ∙ ap (λ (c : Config). rows_of_commit (simulation_of handlers c) k.worker f.part) (sym is.1) ∙ sym d.0 in
-      let lawful : may_commit (slice_get world.book.floors w) f.part.floor ≡ true = ap (λ (b : Book). may_commit (slice_get b.floors w) f.part.floor) h.book ∙ ap (λ t. may_commit (slice_get held.book.floors w) t) f.stands.floor ∙ may in
-      let book : with_rows w (rows_of_commit sim w f.part) f.part.floor world.book ≡ with_rows w rows k.floor held.book =
-      ap (λ rs. with_rows w rs f.part.floor world.book) own_rows ∙ ap (λ t. with_rows w rows t world.book) f.stands.floor ∙ ap (with_rows w rows k.floor) h.book in
-      goes world (Commit w) (replied (record world { parts = slice_set world.parts w (part_after_commit f.part); book = with_rows w (rows_of_commit sim w f.part) f.part.floor world.book }) Done)
-      (Ok Done) (record held { workers = slice_set held.workers w new; book = with_rows w rows k.floor held.book })
-      (next-commit sim world w f.part f.there (ap (λ (b : Book). b.is_closed) h.book ∙ is_open) lawful) refl refl
-      (record {
-        parts = part-changed handlers held world w new (part_after_commit f.part) h (same_worker ∙ is.0) (same_config ∙ is.1) d.1;
-        inboxes = h.inboxes;
-        board = h.board;
-        book = book;
-      })
-
-  pub commit-refused : (w : ℕ) (k : HeldWorker S P K) → slice_get held.workers w ≡ Some k → held.book.is_closed ≡ false
-      → may_commit (slice_get held.book.floors w) k.floor ≡ false
-      → GoesOn (simulation_of handlers held.config) (Commit w) (Err NotLawful) (world_memory handlers held) (world_memory handlers held)
-  commit-refused w k at is_open may world h =
-      let f = found handlers held world w k are h at in
-      let no : may_commit (slice_get world.book.floors w) f.part.floor ≡ false = ap (λ (b : Book). may_commit (slice_get b.floors w) f.part.floor) h.book ∙ ap (λ t. may_commit (slice_get held.book.floors w) t) f.stands.floor ∙ may in
-      goes world (Commit w) (refused world NotLawful) (Err NotLawful) held
-      (next-not_commit (simulation_of handlers held.config) world w f.part f.there (ap (λ (b : Book). b.is_closed) h.book ∙ is_open) no) refl refl h
-
-  pub commit-closed : (w : ℕ) → held.book.is_closed ≡ true
-      → GoesOn (simulation_of handlers held.config) (Commit w) (Err Closed) (world_memory handlers held) (world_memory handlers held)
-  commit-closed w closed world h =
-      goes world (Commit w) (refused world Closed) (Err Closed) held (next-commit_closed (simulation_of handlers held.config) world w (ap (λ (b : Book). b.is_closed) h.book ∙ closed)) refl refl h
 
   pub close-done : held.book.is_closed ≡ false → may_close (end_of held.config) held.book ≡ true
       → GoesOn (simulation_of handlers held.config) Close (Ok Done) (world_memory handlers held) (world_memory handlers (record held { book = closed_book held.book }))
@@ -239,48 +56,203 @@ module _ {M S P K : Type 0} (handlers : Handlers S P K) (held : HeldWorld M S P 
   close-closed closed world h =
       goes world Close (refused world Closed) (Err Closed) held (next-close_closed (simulation_of handlers held.config) world (ap (λ (b : Book). b.is_closed) h.book ∙ closed)) refl refl h
 
-  -- ---- steps of a worker that there is not
+module _ {M S P K : Type 0} {handlers : Handlers S P K} {held : HeldWorld M S P K} {board_end book_end : Time} (inside : IsWorldInside handlers held board_end book_end) where
+  -- the worker at its place is it
+  pub who : {w : ℕ} {k : HeldWorker S P K} → slice_get held.workers w ≡ Some k → (k.worker ≡ w) × (k.config ≡ held.config)
+  who {w} {k} at =
+      let is = worker-at held.config 0 w held.workers k inside.own_workers at in
+      let plain : 0 + w ≡ w = omega arith in
+      (is.0 ∙ plain, is.1)
 
-  pub gone : (world : World P) (w : ℕ) → StandsForWorld handlers held world → slice_get held.workers w ≡ None → slice_get world.parts w ≡ None
-  gone world w h none = nobody-at (simulation_of handlers held.config) 0 w (map (part_memory handlers) held.workers) world.parts h.parts (no-image held.workers w none)
+  pub send-done : (w v : ℕ) {k : HeldWorker S P K} {inbox old : List (Mail P)} → slice_get held.workers w ≡ Some k → slice_get held.inboxes v ≡ Some inbox → old ≡ inbox
+      → (new : HeldWorker S P K) (new_inbox : List (Mail P)) → IsSame new k
+      → ((part : Part P) → WorkerStandsFor handlers k part → (may_send (simulation_of handlers k.config) k.worker v part ≡ true)
+      × WorkerStandsFor handlers new (part_after_send (simulation_of handlers k.config) v part) × (new_inbox ≡ old ++ mail_of_send (simulation_of handlers k.config) v part))
+      → GoesOn (simulation_of handlers held.config) (Send w v) (Ok Done) (world_memory handlers held)
+      (world_memory handlers (record held { workers = slice_set held.workers w new; inboxes = slice_set held.inboxes v new_inbox }))
+  send-done w v {k} {inbox} {old} at here seen new new_inbox same done world h =
+      let sim = simulation_of handlers held.config in
+      let is = who at in
+      let f = found handlers held world w k inside.own_workers h at in
+      let d = subst (λ (c : Config). (may_send (simulation_of handlers c) k.worker v f.part ≡ true) × WorkerStandsFor handlers new (part_after_send (simulation_of handlers c) v f.part)
+      × (new_inbox ≡ old ++ mail_of_send (simulation_of handlers c) v f.part)) is.1 (done f.part f.stands) in
+      let may : may_send sim w v f.part ≡ true = ap (λ u. may_send sim u v f.part) (sym is.0) ∙ d.0 in
+      let box : slice_get world.inboxes v ≡ Some inbox = ap (λ xs. slice_get xs v) h.inboxes ∙ here in
+      goes handlers held world (Send w v) (replied (record world { parts = slice_set world.parts w (part_after_send sim v f.part); inboxes = slice_set world.inboxes v (inbox ++ mail_of_send sim v f.part) }) Done)
+      (Ok Done) (record held { workers = slice_set held.workers w new; inboxes = slice_set held.inboxes v new_inbox })
+      (next-send sim world w v f.part inbox f.there box may) refl refl
+      (record {
+        parts = part-changed handlers held world w new (part_after_send sim v f.part) h (same.0 ∙ is.0) (same.1 ∙ is.1) d.1;
+        inboxes = ap (λ xs. slice_set xs v (inbox ++ mail_of_send sim v f.part)) h.inboxes ∙ ap (slice_set held.inboxes v) (ap (λ ms. ms ++ mail_of_send sim v f.part) (sym seen) ∙ sym d.2);
+        board = h.board;
+        book = h.book;
+      })
+
+  pub fetch-done : (w : ℕ) {k : HeldWorker S P K} {inbox mail left : List (Mail P)} → slice_get held.workers w ≡ Some k → slice_get held.inboxes w ≡ Some inbox → mail ≡ inbox → left ≡ []
+      → (new : HeldWorker S P K) → IsSame new k
+      → ((part : Part P) → WorkerStandsFor handlers k part → (is_empty part.arrived ≡ true) × WorkerStandsFor handlers new (part_after_fetch mail part))
+      → GoesOn (simulation_of handlers held.config) (Fetch w) (Ok Done) (world_memory handlers held)
+      (world_memory handlers (record held { workers = slice_set held.workers w new; inboxes = slice_set held.inboxes w left }))
+  fetch-done w {k} {inbox} {mail} {left} at here seen none new same done world h =
+      let sim = simulation_of handlers held.config in
+      let is = who at in
+      let f = found handlers held world w k inside.own_workers h at in
+      let d = subst (λ ms. (is_empty f.part.arrived ≡ true) × WorkerStandsFor handlers new (part_after_fetch ms f.part)) seen (done f.part f.stands) in
+      let box : slice_get world.inboxes w ≡ Some inbox = ap (λ xs. slice_get xs w) h.inboxes ∙ here in
+      goes handlers held world (Fetch w) (replied (record world { parts = slice_set world.parts w (part_after_fetch inbox f.part); inboxes = slice_set world.inboxes w [] }) Done)
+      (Ok Done) (record held { workers = slice_set held.workers w new; inboxes = slice_set held.inboxes w left })
+      (next-fetch sim world w f.part inbox f.there box d.0) refl refl
+      (record {
+        parts = part-changed handlers held world w new (part_after_fetch inbox f.part) h (same.0 ∙ is.0) (same.1 ∙ is.1) d.1;
+        inboxes = ap (λ xs. slice_set xs w []) h.inboxes ∙ ap (slice_set held.inboxes w) (sym none);
+        board = h.board;
+        book = h.book;
+      })
+
+  pub cut-done : (w : ℕ) {k : HeldWorker S P K} {board : Board} → slice_get held.workers w ≡ Some k → cut_board (end_of held.config) w held.board ≡ Some board
+      → (new : HeldWorker S P K) → IsSame new k
+      → ((part : Part P) → WorkerStandsFor handlers k part → WorkerStandsFor handlers new (part_after_cut (end_of k.config) held.board.announced part))
+      → GoesOn (simulation_of handlers held.config) (Cut w) (Ok Done) (world_memory handlers held)
+      (world_memory handlers (record held { workers = slice_set held.workers w new; board = board }))
+  cut-done w {k} {board} at cuts new same done world h =
+      let sim = simulation_of handlers held.config in
+      let is = who at in
+      let f = found handlers held world w k inside.own_workers h at in
+      let d = subst (λ (c : Config). WorkerStandsFor handlers new (part_after_cut (end_of c) held.board.announced f.part)) is.1 (done f.part f.stands) in
+      let e = subst (λ (b : Board). WorkerStandsFor handlers new (part_after_cut (end_of held.config) b.announced f.part)) (sym h.board) d in
+      goes handlers held world (Cut w) (replied (record world { parts = slice_set world.parts w (part_after_cut (end_of held.config) world.board.announced f.part); board = board }) Done)
+      (Ok Done) (record held { workers = slice_set held.workers w new; board = board })
+      (next-cut sim world w f.part board f.there (ap (λ b. cut_board (end_of held.config) w b) h.board ∙ cuts)) refl refl
+      (record {
+        parts = part-changed handlers held world w new (part_after_cut (end_of held.config) world.board.announced f.part) h (same.0 ∙ is.0) (same.1 ∙ is.1) e;
+        inboxes = h.inboxes;
+        board = refl;
+        book = h.book;
+      })
+
+  pub cut-refused : (w : ℕ) → cut_board (end_of held.config) w held.board ≡ None
+      → GoesOn (simulation_of handlers held.config) (Cut w) (Err NotLawful) (world_memory handlers held) (world_memory handlers held)
+  cut-refused w none world h =
+      goes handlers held world (Cut w) (refused world NotLawful) (Err NotLawful) held
+      (next-not_cut (simulation_of handlers held.config) world w (ap (λ b. cut_board (end_of held.config) w b) h.board ∙ none)) refl refl h
+
+  -- the world after a lawful report stands as the worker and the board do
+  reported : (world : World P) (w : ℕ) (new : HeldWorker S P K) (part : Part P) (board : Board) → StandsForWorld handlers held world → new.worker ≡ w → new.config ≡ held.config
+      → WorkerStandsFor handlers new (record part { floor = (board_after_report (end_of held.config) board).announced })
+      → StandsForWorld handlers (record held { workers = slice_set held.workers w new; board = board_after_report (end_of held.config) board }) (report_lawful (simulation_of handlers held.config) world w part board).world
+  unfolding report_lawful
+  reported world w new part board h is of stands = record {
+    parts = part-changed handlers held world w new (record part { floor = (board_after_report (end_of held.config) board).announced }) h is of stands;
+    inboxes = h.inboxes;
+    board = refl;
+    book = h.book;
+  }
+
+  answered : (world : World P) (w : ℕ) (part : Part P) (board : Board) → (report_lawful (simulation_of handlers held.config) world w part board).answer ≡ Ok (report_reply board)
+  unfolding report_lawful
+  answered world w part board = refl
+
+  pub report-done : (w : ℕ) {k : HeldWorker S P K} → slice_get held.workers w ≡ Some k → (new : HeldWorker S P K) → IsSame new k
+      → (sent got : ℕ) {least : Time} → may_report w least held.board ≡ true
+      → ((part : Part P) → WorkerStandsFor handlers k part → (sent ≡ report_sent part) × (got ≡ report_got part) × (least ≡ report_least (end_of k.config) part)
+      × WorkerStandsFor handlers new (record part { floor = (board_after_report (end_of held.config) (with_report w sent got least held.board)).announced }))
+      → GoesOn (simulation_of handlers held.config) (Report w) (Ok (report_reply (with_report w sent got least held.board))) (world_memory handlers held)
+      (world_memory handlers (record held { workers = slice_set held.workers w new; board = board_after_report (end_of held.config) (with_report w sent got least held.board) }))
+  report-done w {k} at new same sent got {least} may done world h =
+      let sim = simulation_of handlers held.config in
+      let is = who at in
+      let f = found handlers held world w k inside.own_workers h at in
+      let d = done f.part f.stands in
+      let value : report_least (end_of held.config) f.part ≡ least = ap (λ (c : Config). report_least (end_of c) f.part) (sym is.1) ∙ sym d.2 in
+      let lawful : may_report w (report_least (end_of held.config) f.part) world.board ≡ true = ap (λ t. may_report w t world.board) value ∙ ap (may_report w least) h.board ∙ may in
+      let board : with_report w (report_sent f.part) (report_got f.part) (report_least (end_of held.config) f.part) world.board ≡ with_report w sent got least held.board =
+      ap (λ n. with_report w n (report_got f.part) (report_least (end_of held.config) f.part) world.board) (sym d.0)
+      ∙ ap (λ n. with_report w sent n (report_least (end_of held.config) f.part) world.board) (sym d.1)
+      ∙ ap (λ t. with_report w sent got t world.board) value
+      ∙ ap (with_report w sent got least) h.board in
+      goes handlers held world (Report w) (report_lawful sim world w f.part (with_report w sent got least held.board))
+      (Ok (report_reply (with_report w sent got least held.board))) (record held { workers = slice_set held.workers w new; board = board_after_report (end_of held.config) (with_report w sent got least held.board) })
+      (next-report sim world w f.part f.there lawful ∙ ap (report_lawful sim world w f.part) board) (answered world w f.part (with_report w sent got least held.board)) refl
+      (reported world w new f.part (with_report w sent got least held.board) h (same.0 ∙ is.0) (same.1 ∙ is.1) d.3)
+
+  pub report-refused : (w : ℕ) {k : HeldWorker S P K} → slice_get held.workers w ≡ Some k → {least : Time} → may_report w least held.board ≡ false
+      → ((part : Part P) → WorkerStandsFor handlers k part → least ≡ report_least (end_of k.config) part)
+      → GoesOn (simulation_of handlers held.config) (Report w) (Err NotLawful) (world_memory handlers held) (world_memory handlers held)
+  report-refused w {k} at {least} may none world h =
+      let is = who at in
+      let f = found handlers held world w k inside.own_workers h at in
+      let value : report_least (end_of held.config) f.part ≡ least = ap (λ (c : Config). report_least (end_of c) f.part) (sym is.1) ∙ sym (none f.part f.stands) in
+      goes handlers held world (Report w) (refused world NotLawful) (Err NotLawful) held
+      (next-not_report (simulation_of handlers held.config) world w f.part f.there (ap (λ t. may_report w t world.board) value ∙ ap (may_report w least) h.board ∙ may)) refl refl h
+
+  pub commit-done : (w : ℕ) {k : HeldWorker S P K} → slice_get held.workers w ≡ Some k → held.book.is_closed ≡ false
+      → may_commit (slice_get held.book.floors w) k.floor ≡ true → (new : HeldWorker S P K) → IsSame new k → (rows : List Row)
+      → ((part : Part P) → WorkerStandsFor handlers k part → (rows ≡ rows_of_commit (simulation_of handlers k.config) k.worker part) × WorkerStandsFor handlers new (part_after_commit part))
+      → GoesOn (simulation_of handlers held.config) (Commit w) (Ok Done) (world_memory handlers held)
+      (world_memory handlers (record held { workers = slice_set held.workers w new; book = with_rows w rows k.floor held.book }))
+  commit-done w {k} at is_open may new same rows done world h =
+      let sim = simulation_of handlers held.config in
+      let is = who at in
+      let f = found handlers held world w k inside.own_workers h at in
+      let d = done f.part f.stands in
+      let own_rows : rows_of_commit sim w f.part ≡ rows = ap (λ v. rows_of_commit sim v f.part) (sym is.0) ∙ ap (λ (c : Config). rows_of_commit (simulation_of handlers c) k.worker f.part) (sym is.1) ∙ sym d.0 in
+      let lawful : may_commit (slice_get world.book.floors w) f.part.floor ≡ true = ap (λ (b : Book). may_commit (slice_get b.floors w) f.part.floor) h.book ∙ ap (λ t. may_commit (slice_get held.book.floors w) t) f.stands.floor ∙ may in
+      let book : with_rows w (rows_of_commit sim w f.part) f.part.floor world.book ≡ with_rows w rows k.floor held.book =
+      ap (λ rs. with_rows w rs f.part.floor world.book) own_rows ∙ ap (λ t. with_rows w rows t world.book) f.stands.floor ∙ ap (with_rows w rows k.floor) h.book in
+      goes handlers held world (Commit w) (replied (record world { parts = slice_set world.parts w (part_after_commit f.part); book = with_rows w (rows_of_commit sim w f.part) f.part.floor world.book }) Done)
+      (Ok Done) (record held { workers = slice_set held.workers w new; book = with_rows w rows k.floor held.book })
+      (next-commit sim world w f.part f.there (ap (λ (b : Book). b.is_closed) h.book ∙ is_open) lawful) refl refl
+      (record {
+        parts = part-changed handlers held world w new (part_after_commit f.part) h (same.0 ∙ is.0) (same.1 ∙ is.1) d.1;
+        inboxes = h.inboxes;
+        board = h.board;
+        book = book;
+      })
+
+  pub commit-closed : (w : ℕ) → held.book.is_closed ≡ true
+      → GoesOn (simulation_of handlers held.config) (Commit w) (Err Closed) (world_memory handlers held) (world_memory handlers held)
+  commit-closed w closed world h =
+      goes handlers held world (Commit w) (refused world Closed) (Err Closed) held (next-commit_closed (simulation_of handlers held.config) world w (ap (λ (b : Book). b.is_closed) h.book ∙ closed)) refl refl h
+
+-- ---- steps of a worker that there is not
+
+module _ {M S P K : Type 0} {handlers : Handlers S P K} {held : HeldWorld M S P K} {board_end book_end : Time} (inside : IsWorldInside handlers held board_end book_end)
+    {w : ℕ} (past : held.config.workers ≤ w) where
+  -- where a world refuses a step of a worker that isn't there
+  pub of-nobody : (step : Step) → ((world : World P) → StandsForWorld handlers held world → slice_get world.parts w ≡ None → next (simulation_of handlers held.config) world step ≡ refused world NotLawful)
+      → GoesOn (simulation_of handlers held.config) step (Err NotLawful) (world_memory handlers held) (world_memory handlers held)
+  of-nobody step refuses world h = goes handlers held world step (refused world NotLawful) (Err NotLawful) held (refuses world h gone) refl refl h
     where
       no-image : (xs : List (HeldWorker S P K)) (i : ℕ) → slice_get xs i ≡ None → slice_get (map (part_memory handlers) xs) i ≡ None
       no-image [] i is = refl
       no-image (x ∷ xs) zero is = absurd (let k : Some x ≡ None = is in cc)
       no-image (x ∷ xs) (suc i) is = no-image xs i is
 
-  pub send-nobody : (w v : ℕ) → slice_get held.workers w ≡ None
-      → GoesOn (simulation_of handlers held.config) (Send w v) (Err NotLawful) (world_memory handlers held) (world_memory handlers held)
-  send-nobody w v none world h =
-      goes world (Send w v) (refused world NotLawful) (Err NotLawful) held (next-send_nobody (simulation_of handlers held.config) world w v (gone world w h none)) refl refl h
+      gone : slice_get world.parts w ≡ None
+      gone =
+          let none = slice_get_past held.workers w (let size = inside.all_workers in omega (arith, size, past)) in
+          nobody-at (simulation_of handlers held.config) 0 w (map (part_memory handlers) held.workers) world.parts h.parts (no-image held.workers w none)
 
-  pub fetch-nobody : (w : ℕ) → slice_get held.workers w ≡ None
-      → GoesOn (simulation_of handlers held.config) (Fetch w) (Err NotLawful) (world_memory handlers held) (world_memory handlers held)
-  fetch-nobody w none world h =
-      goes world (Fetch w) (refused world NotLawful) (Err NotLawful) held (next-fetch_nobody (simulation_of handlers held.config) world w (gone world w h none)) refl refl h
+  pub send-nobody : (v : ℕ) → GoesOn (simulation_of handlers held.config) (Send w v) (Err NotLawful) (world_memory handlers held) (world_memory handlers held)
+  send-nobody v = of-nobody (Send w v) (λ world h gone. next-send_nobody (simulation_of handlers held.config) world w v gone)
 
-  pub report-nobody : (w : ℕ) → slice_get held.workers w ≡ None
-      → GoesOn (simulation_of handlers held.config) (Report w) (Err NotLawful) (world_memory handlers held) (world_memory handlers held)
-  report-nobody w none world h =
-      goes world (Report w) (refused world NotLawful) (Err NotLawful) held (next-report_nobody (simulation_of handlers held.config) world w (gone world w h none)) refl refl h
+  pub fetch-nobody : GoesOn (simulation_of handlers held.config) (Fetch w) (Err NotLawful) (world_memory handlers held) (world_memory handlers held)
+  fetch-nobody = of-nobody (Fetch w) (λ world h gone. next-fetch_nobody (simulation_of handlers held.config) world w gone)
 
-  pub commit-nobody : (w : ℕ) → slice_get held.workers w ≡ None → held.book.is_closed ≡ false
-      → GoesOn (simulation_of handlers held.config) (Commit w) (Err NotLawful) (world_memory handlers held) (world_memory handlers held)
-  commit-nobody w none is_open world h =
-      goes world (Commit w) (refused world NotLawful) (Err NotLawful) held
-      (next-commit_nobody (simulation_of handlers held.config) world w (gone world w h none) (ap (λ (b : Book). b.is_closed) h.book ∙ is_open)) refl refl h
+  pub cut-nobody : GoesOn (simulation_of handlers held.config) (Cut w) (Err NotLawful) (world_memory handlers held) (world_memory handlers held)
+  unfolding next cut
+  cut-nobody = of-nobody (Cut w) (λ world h gone. ap (λ q. done_or_refused world (cut (simulation_of handlers held.config) world w q (cut_board (end_of held.config) w world.board))) gone)
 
-  -- Home and Accept of a worker that there is not
-  pub home-nobody : (w : ℕ) → slice_get held.workers w ≡ None
-      → GoesOn (simulation_of handlers held.config) (Home w) (Err NotLawful) (world_memory handlers held) (world_memory handlers held)
+  pub report-nobody : GoesOn (simulation_of handlers held.config) (Report w) (Err NotLawful) (world_memory handlers held) (world_memory handlers held)
+  report-nobody = of-nobody (Report w) (λ world h gone. next-report_nobody (simulation_of handlers held.config) world w gone)
+
+  pub commit-nobody : held.book.is_closed ≡ false → GoesOn (simulation_of handlers held.config) (Commit w) (Err NotLawful) (world_memory handlers held) (world_memory handlers held)
+  commit-nobody is_open = of-nobody (Commit w) (λ world h gone. next-commit_nobody (simulation_of handlers held.config) world w gone (ap (λ (b : Book). b.is_closed) h.book ∙ is_open))
+
+  pub home-nobody : GoesOn (simulation_of handlers held.config) (Home w) (Err NotLawful) (world_memory handlers held) (world_memory handlers held)
   unfolding next
-  home-nobody w none world h =
-      goes world (Home w) (refused world NotLawful) (Err NotLawful) held
-      (ap (λ q. done_or_refused world (option_map (with_part world w) (option_and_then (home (simulation_of handlers held.config) w) q))) (gone world w h none)) refl refl h
+  home-nobody = of-nobody (Home w) (λ world h gone. ap (λ q. done_or_refused world (option_map (with_part world w) (option_and_then (home (simulation_of handlers held.config) w) q))) gone)
 
-  pub accept-nobody : (w i : ℕ) → slice_get held.workers w ≡ None
-      → GoesOn (simulation_of handlers held.config) (Accept w i) (Err NotLawful) (world_memory handlers held) (world_memory handlers held)
+  pub accept-nobody : (i : ℕ) → GoesOn (simulation_of handlers held.config) (Accept w i) (Err NotLawful) (world_memory handlers held) (world_memory handlers held)
   unfolding next
-  accept-nobody w i none world h =
-      goes world (Accept w i) (refused world NotLawful) (Err NotLawful) held
-      (ap (λ q. done_or_refused world (option_map (with_part world w) (option_and_then (accept (simulation_of handlers held.config) i) q))) (gone world w h none)) refl refl h
+  accept-nobody i = of-nobody (Accept w i) (λ world h gone. ap (λ q. done_or_refused world (option_map (with_part world w) (option_and_then (accept (simulation_of handlers held.config) i) q))) gone)

@@ -1,7 +1,5 @@
 use Rattle.std.proofs.Common.{◌≡◌, ℕ, ◌∙◌, map, sym, ap, subst}
 use Rattle.std.specs.List.{All, flat_map}
-use Rattle.std.proofs.Math.Logic.{∥∥₁_elim}
-use Rattle.std.proofs.Props.{props}
 use Rattle.vt_key.specs.Times.{TimeAtMost, earlier}
 use Rattle.vt_key.specs.declared.letter.Mail.{Mail}
 use Rattle.vt_model.proofs.LawLemmas.{lawful_of}
@@ -13,7 +11,7 @@ use Rattle.vt_kernel.proofs.TimeLemmas.{least_time-append}
 use Rattle.vt_world.specs.Calls.{least_held}
 use Rattle.vt_world.specs.Held.{HeldWorld}
 use Rattle.vt_world.proofs.LeastLemmas.{workers-end}
-use Rattle.vt_world.proofs.ReachedLemmas.{announced-least, inside_view, least-same}
+use Rattle.vt_world.proofs.ReachedLemmas.{announced-least, least-same}
 use Rattle.vt_world.proofs.world.World.least.Goals as goal
 
 pub least_of_workers-held-requires-clause-same_end : goal.least_of_workers-held-requires-clause-same_end
@@ -26,7 +24,6 @@ pub returns-clause-value : goal.returns-clause-value
 returns-clause-value g c =
     let i = c.self.inside in
     let end = end_of i.config in
-    let held = inside_view i.model.now i.config i.kernels.items i.inboxes.items i.board.board i.book.book in
     let at_workers : c.least_of_workers-held.result ≡ least_time end (flat_map held_letters i.kernels.items) =
     c.least_of_workers-held.ensures ∙ (λ j. least_time (c.end-end.ensures j) (flat_map held_letters (c.deref.ensures.value j))) in
     let travelling : c.least_of_inboxes-travelling.result ≡ least_time end (map (λ (mail : Mail _). mail.letter) (flat_map (λ inbox. inbox) i.inboxes.items)) =
@@ -45,8 +42,6 @@ pub returns-clause-announced : goal.returns-clause-announced
 returns-clause-announced g c =
     let i = c.self.inside in
     let m = i.model.now in
-    let held = inside_view m i.config i.kernels.items i.inboxes.items i.board.board i.book.book in
-    let lawful = lawful_of (g.M.Model.handlers m) i.config (g.met.M.Model.start_within m) (g.met.M.Model.forward_within m) in
-    let below = ∥∥₁_elim c.self.invariant.is_reached (Prim.hlevel props) (announced-least (g.M.Model.handlers m) held lawful) in
+    let below = announced-least c.self.invariant (lawful_of (g.M.Model.handlers m) i.config (g.met.M.Model.start_within m) (g.met.M.Model.forward_within m)) in
     subst (TimeAtMost c.args.self.now.board.announced) (sym (returns-clause-value g c))
     (subst (λ (v : HeldWorld _ _ _ _). TimeAtMost v.board.announced (least_held v)) c.self.view_is below)
