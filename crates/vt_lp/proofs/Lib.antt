@@ -1,3 +1,4 @@
+mod ProcessView
 mod RisingLemmas
 mod PastLemmas
 mod ReachLemmas

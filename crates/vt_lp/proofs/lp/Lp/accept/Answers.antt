@@ -5,7 +5,6 @@ use Rattle.vt_key.specs.declared.letter.Letter.{Letter}
 use Rattle.vt_key.specs.declared.letter.Sign.{Sign}
 use Rattle.vt_key.specs.declared.letter.Sign.TheVariants.{Plus, Minus}
 use Rattle.vt_key.specs.Times.{TimeBefore}
-use Rattle.vt_model.specs.Process.{triple_at}
 use Rattle.vt_model.specs.Settings.{end_of}
 use Rattle.vt_steps.specs.Letters.{has_rank}
 use Rattle.vt_steps.specs.ProcessSteps.{accept_process}
@@ -13,6 +12,7 @@ use Rattle.vt_lp.specs.declared.entry.PastEvent.{PastEvent}
 use Rattle.vt_lp.specs.Held.{HeldProcess, StandsFor, IsProcessInside}
 use Rattle.vt_lp.specs.Guards.{IsDone, holds_letter, would_lead, TellsSame}
 use Rattle.vt_lp.proofs.AcceptLemmas.{either, ok-is, err-is, accept-none, accepts-message, accepts-anti_message, inside-message, inside-anti_message, message-behind, anti_message-behind}
+use Rattle.vt_lp.proofs.ProcessView.{process_view}
 use Rattle.vt_lp.proofs.lp.Lp.accept.Goals.{in-Plus, in-Plus-2, in-Minus}
 use Rattle.vt_lp.proofs.lp.Lp.accept.Goals as goal
 
@@ -63,14 +63,7 @@ invariant_of-self-in-Minus g c =
 pub returns-in-Ok-clause-done : goal.returns-in-Ok-clause-done
 returns-in-Ok-clause-done g c handlers h s =
     let inside = c.self.inside in
-    let held : HeldProcess _ _ _ = record {
-      lp = inside.lp;
-      config = inside.config;
-      triple = triple_at inside.process.state inside.process.number inside.process.stream;
-      past = inside.past;
-      pending = inside.pending;
-      waiting = inside.waiting;
-    } in
+    let held = process_view inside.lp inside.config inside.process.state inside.process.number inside.process.stream inside.past inside.pending inside.waiting in
     let stands = subst (λ (v : HeldProcess _ _ _). StandsFor handlers v h) (sym c.self.view_is) s in
     let x = c.args.letter in
     let own : c.get.result.now ≡ x = c.get.ensures in
@@ -99,14 +92,7 @@ returns-in-Ok-clause-done g c handlers h s =
 pub returns-in-Err-clause-refused : goal.returns-in-Err-clause-refused
 returns-in-Err-clause-refused g c handlers h s =
     let inside = c.self.inside in
-    let held : HeldProcess _ _ _ = record {
-      lp = inside.lp;
-      config = inside.config;
-      triple = triple_at inside.process.state inside.process.number inside.process.stream;
-      past = inside.past;
-      pending = inside.pending;
-      waiting = inside.waiting;
-    } in
+    let held = process_view inside.lp inside.config inside.process.state inside.process.number inside.process.stream inside.past inside.pending inside.waiting in
     let stands = subst (λ (v : HeldProcess _ _ _). StandsFor handlers v h) (sym c.self.view_is) s in
     let x = c.args.letter in
     let own : c.get.result.now ≡ x = c.get.ensures in
@@ -131,14 +117,7 @@ returns-in-Err-clause-refused g c handlers h s =
 pub returns-in-Ok-clause-behind : goal.returns-in-Ok-clause-behind
 returns-in-Ok-clause-behind g c later =
     let inside = c.self.inside in
-    let held : HeldProcess _ _ _ = record {
-      lp = inside.lp;
-      config = inside.config;
-      triple = triple_at inside.process.state inside.process.number inside.process.stream;
-      past = inside.past;
-      pending = inside.pending;
-      waiting = inside.waiting;
-    } in
+    let held = process_view inside.lp inside.config inside.process.state inside.process.number inside.process.stream inside.past inside.pending inside.waiting in
     let x = c.args.letter in
     let own : c.get.result.now ≡ x = c.get.ensures in
     let behind = subst (λ (v : HeldProcess _ _ _). would_lead v.pending v.waiting x.sign x ≡ false) (sym c.self.view_is) later in

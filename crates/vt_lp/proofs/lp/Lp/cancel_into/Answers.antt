@@ -1,8 +1,8 @@
 use Rattle.std.proofs.Common.{◌≡◌, ◌∙◌, true, false, length, suc, ap, sym, subst}
-use Rattle.vt_model.specs.Process.{triple_at}
 use Rattle.vt_lp.specs.Held.{HeldProcess, StandsFor}
 use Rattle.vt_lp.specs.Guards.{can_annihilate}
 use Rattle.vt_lp.proofs.CancelLemmas.{cancel-none, cancels, inside-cancelled, fewer-both, taken-both, two-more}
+use Rattle.vt_lp.proofs.ProcessView.{process_view}
 use Rattle.vt_lp.proofs.lp.Lp.cancel_into.Goals as goal
 
 pub returns-then-not-annihilate-clause-refused : goal.returns-then-not-annihilate-clause-refused
@@ -21,14 +21,7 @@ invariant_of-self g c =
 pub returns-clause-done : goal.returns-clause-done
 returns-clause-done g c handlers h s =
     let inside = c.self.inside in
-    let held : HeldProcess _ _ _ = record {
-      lp = inside.lp;
-      config = inside.config;
-      triple = triple_at inside.process.state inside.process.number inside.process.stream;
-      past = inside.past;
-      pending = inside.pending;
-      waiting = inside.waiting;
-    } in
+    let held = process_view inside.lp inside.config inside.process.state inside.process.number inside.process.stream inside.past inside.pending inside.waiting in
     let stands = subst (λ (v : HeldProcess _ _ _). StandsFor handlers v h) (sym c.self.view_is) s in
     let can : can_annihilate c.args.stamp held.pending held.waiting ≡ true = sym c.annihilate.ensures ∙ c.if-not-annihilate.false in
     cancels handlers held h c.args.stamp c.take_stamp-message.new.self c.take_stamp-anti_message.new.self c.take_stamp-message.ensures.others c.take_stamp-anti_message.ensures.others can stands

@@ -20,14 +20,14 @@ use Rattle.vt_model.proofs.Sizes.{out_fits}
 use Rattle.vt_lp.proofs.Advancing.{place-back}
 use Rattle.vt_lp.proofs.Stamping.{length-letters}
 use Rattle.vt_lp.proofs.ExecuteLemmas.{ready-some, ready-own, execute-none, executes, refuses, came-back, inside-at, inside-more}
+use Rattle.vt_lp.proofs.ProcessView.{process_view}
 use Rattle.vt_lp.proofs.lp.Lp.execute_reusing.Goals as goal
 
 pub returns-in_default-clause-refused : goal.returns-in_default-clause-refused
 returns-in_default-clause-refused g c h s =
     let handlers = g.M.Model.handlers c.args.model.now in
     let l = c.self.inside in
-    let inside = c.self.invariant in
-    let held : HeldProcess _ _ _ = record { lp = l.lp; config = l.config; triple = triple_at l.process.state l.process.number l.process.stream; past = l.past; pending = l.pending; waiting = l.waiting } in
+    let held = process_view l.lp l.config l.process.state l.process.number l.process.stream l.past l.pending l.waiting in
     let w = l.lp % l.config.workers in
     let now = subst (λ (v : HeldProcess _ _ _). StandsFor handlers v h) (sym c.self.view_is) s in
     subst (λ (v : HeldProcess _ _ _). IsExecuteRefusal (simulation_of handlers v.config) v.lp c.args.serial.now (execute_process (simulation_of handlers v.config) v.lp (v.lp % v.config.workers) c.args.serial.now h) NotLawful) c.self.view_is
@@ -61,7 +61,7 @@ returns-in-Err-clause-refused g c h s =
     let handlers = g.M.Model.handlers c.args.model.now in
     let l = c.self.inside in
     let inside = c.self.invariant in
-    let held : HeldProcess _ _ _ = record { lp = l.lp; config = l.config; triple = triple_at l.process.state l.process.number l.process.stream; past = l.past; pending = l.pending; waiting = l.waiting } in
+    let held = process_view l.lp l.config l.process.state l.process.number l.process.stream l.past l.pending l.waiting in
     let w = l.lp % l.config.workers in
     let event = c.in-Some.event in
     let own = ready-own l.lp (end_of l.config) l.pending l.past event inside.own_pending c.in-Some.ensures.event in
@@ -73,14 +73,12 @@ pub returns-in-Err-clause-unchanged : goal.returns-in-Err-clause-unchanged
 returns-in-Err-clause-unchanged g c h s =
     let handlers = g.M.Model.handlers c.args.model.now in
     let l = c.self.inside in
-    let inside = c.self.invariant in
-    let held : HeldProcess _ _ _ = record { lp = l.lp; config = l.config; triple = triple_at l.process.state l.process.number l.process.stream; past = l.past; pending = l.pending; waiting = l.waiting } in
-    let w = l.lp % l.config.workers in
+    let held = process_view l.lp l.config l.process.state l.process.number l.process.stream l.past l.pending l.waiting in
     let now = subst (λ (v : HeldProcess _ _ _). StandsFor handlers v h) (sym c.self.view_is) s in
     let ok = subst (λ (t : Triple _). g.M.Model.IsState c.args.model.now t.state) (is_where (simulation_of handlers l.config) l.lp (process_memory handlers held) h now)
     (after_state handlers l.config (g.M.Model.IsState c.args.model.now) (g.met.M.Model.start_state c.args.model.now) (g.met.M.Model.forward_state c.args.model.now) l.lp (entry_events (h.done ++ h.past))) in
     let same = c.in-Err.ensures.unchanged ok in
-    (λ j. record { lp = l.lp; config = l.config; triple = triple_at (same j).state (same j).number (same j).stream; past = l.past; pending = l.pending; waiting = l.waiting }) ∙ c.self.view_is
+    (λ j. process_view l.lp l.config (same j).state (same j).number (same j).stream l.past l.pending l.waiting) ∙ c.self.view_is
 
 pub keep-requires-clause-some : goal.keep-requires-clause-some
 keep-requires-clause-some g c = ready-some c.self.inside.pending c.self.inside.past c.in-Some.event c.in-Some.ensures.event
@@ -104,7 +102,7 @@ returns-in-Err-keep-clause-refused g c h s =
     let handlers = g.M.Model.handlers c.args.model.now in
     let l = c.self.inside in
     let inside = c.self.invariant in
-    let held : HeldProcess _ _ _ = record { lp = l.lp; config = l.config; triple = triple_at l.process.state l.process.number l.process.stream; past = l.past; pending = l.pending; waiting = l.waiting } in
+    let held = process_view l.lp l.config l.process.state l.process.number l.process.stream l.past l.pending l.waiting in
     let w = l.lp % l.config.workers in
     let event = c.in-Some.event in
     let own = ready-own l.lp (end_of l.config) l.pending l.past event inside.own_pending c.in-Some.ensures.event in
@@ -117,11 +115,8 @@ pub returns-in-Err-keep-clause-unchanged : goal.returns-in-Err-keep-clause-uncha
 returns-in-Err-keep-clause-unchanged g c h s =
     let handlers = g.M.Model.handlers c.args.model.now in
     let l = c.self.inside in
-    let inside = c.self.invariant in
-    let held : HeldProcess _ _ _ = record { lp = l.lp; config = l.config; triple = triple_at l.process.state l.process.number l.process.stream; past = l.past; pending = l.pending; waiting = l.waiting } in
-    let w = l.lp % l.config.workers in
+    let held = process_view l.lp l.config l.process.state l.process.number l.process.stream l.past l.pending l.waiting in
     let event = c.in-Some.event in
-    let own = ready-own l.lp (end_of l.config) l.pending l.past event inside.own_pending c.in-Some.ensures.event in
     let now = subst (λ (v : HeldProcess _ _ _). StandsFor handlers v h) (sym c.self.view_is) s in
     let ok = subst (λ (t : Triple _). g.M.Model.IsState c.args.model.now t.state) (is_where (simulation_of handlers l.config) l.lp (process_memory handlers held) h now)
     (after_state handlers l.config (g.M.Model.IsState c.args.model.now) (g.met.M.Model.start_state c.args.model.now) (g.met.M.Model.forward_state c.args.model.now) l.lp (entry_events (h.done ++ h.past))) in
@@ -148,9 +143,7 @@ pub overflow_add-serial : goal.overflow_add-serial
 overflow_add-serial g c =
     let handlers = g.M.Model.handlers c.args.model.now in
     let l = c.self.inside in
-    let inside = c.self.invariant in
-    let held : HeldProcess _ _ _ = record { lp = l.lp; config = l.config; triple = triple_at l.process.state l.process.number l.process.stream; past = l.past; pending = l.pending; waiting = l.waiting } in
-    let w = l.lp % l.config.workers in
+    let held = process_view l.lp l.config l.process.state l.process.number l.process.stream l.past l.pending l.waiting in
     let event = c.in-Some.event in
     let all : length c.in-Ok.advanced.1 ≡ length ((simulation_of handlers l.config).fire event.dest held.triple (unstamped event)).sends = ap length c.in-Ok.ensures.messages ∙ length-letters Plus _ _ _ in
     omega (arith, c.len.ensures, all, c.in-Ok.ensures.counted)
@@ -159,9 +152,7 @@ pub returns-clause-counted : goal.returns-clause-counted
 returns-clause-counted g c =
     let handlers = g.M.Model.handlers c.args.model.now in
     let l = c.self.inside in
-    let inside = c.self.invariant in
-    let held : HeldProcess _ _ _ = record { lp = l.lp; config = l.config; triple = triple_at l.process.state l.process.number l.process.stream; past = l.past; pending = l.pending; waiting = l.waiting } in
-    let w = l.lp % l.config.workers in
+    let held = process_view l.lp l.config l.process.state l.process.number l.process.stream l.past l.pending l.waiting in
     let event = c.in-Some.event in
     let all : length c.in-Ok.advanced.1 ≡ length ((simulation_of handlers l.config).fire event.dest held.triple (unstamped event)).sends = ap length c.in-Ok.ensures.messages ∙ length-letters Plus _ _ _ in
     (c.advance.ensures.numbered, omega (arith, c.len.ensures, all, c.in-Ok.ensures.counted))
@@ -178,7 +169,7 @@ returns-clause-done g c h s =
     let handlers = g.M.Model.handlers c.args.model.now in
     let l = c.self.inside in
     let inside = c.self.invariant in
-    let held : HeldProcess _ _ _ = record { lp = l.lp; config = l.config; triple = triple_at l.process.state l.process.number l.process.stream; past = l.past; pending = l.pending; waiting = l.waiting } in
+    let held = process_view l.lp l.config l.process.state l.process.number l.process.stream l.past l.pending l.waiting in
     let w = l.lp % l.config.workers in
     let event = c.in-Some.event in
     let own = ready-own l.lp (end_of l.config) l.pending l.past event inside.own_pending c.in-Some.ensures.event in
@@ -190,7 +181,7 @@ returns-clause-done g c h s =
     let fired = (simulation_of handlers l.config).fire event.dest held.triple (unstamped event) in
     let all : length c.in-Ok.advanced.1 ≡ length ((simulation_of handlers l.config).fire event.dest held.triple (unstamped event)).sends = ap length c.in-Ok.ensures.messages ∙ length-letters Plus _ _ _ in
     let mine : All (IsOwnLetter l.lp (end_of l.config) Plus) (k.0 ∷ c.keep.new.pending) = subst (λ (xs : List (Letter _)). All (IsOwnLetter l.lp (end_of l.config) Plus) xs) k.1 inside.own_pending in
-    let new : HeldProcess _ _ _ = record { lp = l.lp; config = l.config; triple = triple_at after.state after.number after.stream; past = c.keep.new.past; pending = c.keep.new.pending; waiting = l.waiting } in
+    let new = process_view l.lp l.config after.state after.number after.stream c.keep.new.past c.keep.new.pending l.waiting in
     subst (λ (v : HeldProcess _ _ _). IsDone handlers new (execute_process (simulation_of handlers v.config) v.lp (v.lp % v.config.workers) c.args.serial.now h) c.args.outbox.now c.append.new.self c.args.serial.now (c.args.serial.now + c.len.result)) c.self.view_is
     (executes handlers held w c.args.serial.now h k.0 c.keep.new.pending event.dest event (triple_at after.state after.number after.stream) c.in-Ok.advanced.0
     c.keep.new.past c.args.outbox.now c.append.new.self c.in-Ok.advanced.1 (c.args.serial.now + c.len.result)
@@ -205,7 +196,7 @@ returns-in-Err-clause-restored g c is_state =
     let l = c.self.inside in
     let ok = subst (λ (v : HeldProcess _ _ _). g.M.Model.IsState c.args.model.now v.triple.state) (sym c.self.view_is) is_state in
     let same = c.in-Err.ensures.unchanged ok in
-    (λ j. record { lp = l.lp; config = l.config; triple = triple_at (same j).state (same j).number (same j).stream; past = l.past; pending = l.pending; waiting = l.waiting }) ∙ c.self.view_is
+    (λ j. process_view l.lp l.config (same j).state (same j).number (same j).stream l.past l.pending l.waiting) ∙ c.self.view_is
 
 pub returns-in-Err-clause-but_state : goal.returns-in-Err-clause-but_state
 returns-in-Err-clause-but_state g c =
@@ -219,7 +210,7 @@ pub returns-in-Err-keep-clause-restored : goal.returns-in-Err-keep-clause-restor
 returns-in-Err-keep-clause-restored g c is_state =
     let handlers = g.M.Model.handlers c.args.model.now in
     let l = c.self.inside in
-    let held : HeldProcess _ _ _ = record { lp = l.lp; config = l.config; triple = triple_at l.process.state l.process.number l.process.stream; past = l.past; pending = l.pending; waiting = l.waiting } in
+    let held = process_view l.lp l.config l.process.state l.process.number l.process.stream l.past l.pending l.waiting in
     let event = c.in-Some.event in
     let ok = subst (λ (v : HeldProcess _ _ _). g.M.Model.IsState c.args.model.now v.triple.state) (sym c.self.view_is) is_state in
     let left = c.in-Err-keep.ensures.unchanged in

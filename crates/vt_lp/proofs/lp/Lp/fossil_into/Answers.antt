@@ -1,7 +1,7 @@
 use Rattle.std.proofs.Common.{sym, subst}
-use Rattle.vt_model.specs.Process.{triple_at}
 use Rattle.vt_lp.specs.Held.{HeldProcess, StandsFor}
 use Rattle.vt_lp.proofs.RipeLemmas.{inside-committed, commits}
+use Rattle.vt_lp.proofs.ProcessView.{process_view}
 use Rattle.vt_lp.proofs.lp.Lp.fossil_into.Goals as goal
 
 pub invariant_of-self : goal.invariant_of-self
@@ -13,13 +13,6 @@ invariant_of-self g c =
 pub returns-clause-committed : goal.returns-clause-committed
 returns-clause-committed g c handlers h s =
     let inside = c.self.inside in
-    let held : HeldProcess _ _ _ = record {
-      lp = inside.lp;
-      config = inside.config;
-      triple = triple_at inside.process.state inside.process.number inside.process.stream;
-      past = inside.past;
-      pending = inside.pending;
-      waiting = inside.waiting;
-    } in
+    let held = process_view inside.lp inside.config inside.process.state inside.process.number inside.process.stream inside.past inside.pending inside.waiting in
     let stands = subst (λ (v : HeldProcess _ _ _). StandsFor handlers v h) (sym c.self.view_is) s in
     commits handlers c.args.floor held h c.drop_ripe.new.past c.drop_ripe.ensures.unripe stands

@@ -9,13 +9,14 @@ use Rattle.vt_model.specs.Settings.{end_of}
 use Rattle.vt_lp.specs.declared.entry.PastEvent.{PastEvent}
 use Rattle.vt_lp.specs.Held.{HeldProcess, StandsFor, AllWithinRun, IsWithinRun, IsOwnEvent, IsNotPending}
 use Rattle.vt_lp.proofs.UndoLemmas.{undo-none, undoes, inside-less, All-front, ready-within, length-push, length-insert}
+use Rattle.vt_lp.proofs.ProcessView.{process_view}
 use Rattle.vt_lp.proofs.lp.Lp.undo.Goals as goal
 
 pub returns-then-not-must_undo_last-clause-refused : goal.returns-then-not-must_undo_last-clause-refused
 returns-then-not-must_undo_last-clause-refused g c h s =
     let l = c.self.inside in
     let handlers = g.M.Model.handlers c.args.model.now in
-    let held : HeldProcess _ _ _ = record { lp = l.lp; config = l.config; triple = triple_at l.process.state l.process.number l.process.stream; past = l.past; pending = l.pending; waiting = l.waiting } in
+    let held = process_view l.lp l.config l.process.state l.process.number l.process.stream l.past l.pending l.waiting in
     let now = subst (λ (v : HeldProcess _ _ _). StandsFor handlers v h) (sym c.self.view_is) s in
     undo-none handlers held h (sym c.must_undo_last.ensures ∙ c.if-not-must_undo_last.true) now
 
@@ -34,7 +35,6 @@ insert-requires g c =
     let inside = c.self.invariant in
     let e = c.into_value-letter.result in
     let longer : l.past ≡ c.pop_back.new.self ++ e ∷ [] = c.in-Some.ensures ∙ ap (λ (x : PastEvent _ _). c.pop_back.new.self ++ x ∷ []) (sym c.into_value-letter.ensures) in
-    let mine = (All-front (IsOwnEvent l.config l.lp) c.pop_back.new.self e (subst (λ (xs : List (PastEvent _ _)). All (IsOwnEvent l.config l.lp) xs) longer inside.own_past)).1 in
     (All-front (IsNotPending l.pending) c.pop_back.new.self e (subst (λ (xs : List (PastEvent _ _)). All (IsNotPending l.pending) xs) longer inside.apart)).1
 
 pub invariant_of-self-2 : goal.invariant_of-self-2
@@ -59,7 +59,7 @@ returns-clause-done g c h s =
     let longer : l.past ≡ c.pop_back.new.self ++ e ∷ [] = c.in-Some.ensures ∙ ap (λ (x : PastEvent _ _). c.pop_back.new.self ++ x ∷ []) (sym c.into_value-letter.ensures) in
     let mine = (All-front (IsOwnEvent l.config l.lp) c.pop_back.new.self e (subst (λ (xs : List (PastEvent _ _)). All (IsOwnEvent l.config l.lp) xs) longer inside.own_past)).1 in
     let handlers = g.M.Model.handlers c.args.model.now in
-    let held : HeldProcess _ _ _ = record { lp = l.lp; config = l.config; triple = triple_at l.process.state l.process.number l.process.stream; past = l.past; pending = l.pending; waiting = l.waiting } in
+    let held = process_view l.lp l.config l.process.state l.process.number l.process.stream l.past l.pending l.waiting in
     let now = subst (λ (v : HeldProcess _ _ _). StandsFor handlers v h) (sym c.self.view_is) s in
     let got : c.get.result.now ≡ e.letter = c.get.ensures in
     let state = c.undo.ensures.state ∙ (λ j. handlers.reverse (got j).event.dest (got j).event.rank.key.time (got j).event.payload l.process.state e.bits e.kept) in
@@ -82,10 +82,8 @@ returns-clause-within g c =
 pub returns-clause-shorter : goal.returns-clause-shorter
 returns-clause-shorter g c =
     let l = c.self.inside in
-    let inside = c.self.invariant in
     let e = c.into_value-letter.result in
     let longer : l.past ≡ c.pop_back.new.self ++ e ∷ [] = c.in-Some.ensures ∙ ap (λ (x : PastEvent _ _). c.pop_back.new.self ++ x ∷ []) (sym c.into_value-letter.ensures) in
-    let mine = (All-front (IsOwnEvent l.config l.lp) c.pop_back.new.self e (subst (λ (xs : List (PastEvent _ _)). All (IsOwnEvent l.config l.lp) xs) longer inside.own_past)).1 in
     let past : length l.past ≡ length c.pop_back.new.self + 1 = ap length longer ∙ length-push c.pop_back.new.self e in
     let pending : length c.insert.new.self ≡ length l.pending + 1 = ap length c.insert.ensures.letters ∙ length-insert e.letter l.pending in
     subst (λ (v : HeldProcess _ _ _). (suc (length c.pop_back.new.self) ≡ length v.past) × (length c.insert.new.self ≡ suc (length v.pending)) × (l.waiting ≡ v.waiting)) c.self.view_is

@@ -1,0 +1,12 @@
+-- A process as contracts see it, by its fields.
+use Rattle.std.proofs.Common.{ℕ, List}
+use Rattle.vt_key.specs.declared.letter.Letter.{Letter}
+use Rattle.vt_stream.specs.Words.{Stream}
+use Rattle.vt_model.specs.declared.settings.Config.{Config}
+use Rattle.vt_model.specs.Process.{triple_at}
+use Rattle.vt_lp.specs.declared.entry.PastEvent.{PastEvent}
+use Rattle.vt_lp.specs.Held.{HeldProcess}
+
+-- what a contract sees of a process with these fields
+abbrev pub process_view : {S P K : Type 0} → ℕ → Config → S → ℕ → Stream → List (PastEvent P K) → List (Letter P) → List (Letter P) → HeldProcess S P K
+process_view lp config state number stream past pending waiting = record { lp = lp; config = config; triple = triple_at state number stream; past = past; pending = pending; waiting = waiting }
