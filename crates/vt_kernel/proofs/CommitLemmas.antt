@@ -74,11 +74,15 @@ module _ {S P K : Type 0} (floor : Time) where
   }
 
   -- of the processes one is changed
-  pub one-forgotten : (processes : List (HeldProcess S P K)) (place : ℕ) (q new : HeldProcess S P K) → slice_get processes place ≡ Some q → IsForgotten floor q new
+  pub one-forgotten : (processes : List (HeldProcess S P K)) (place : ℕ) (q new : HeldProcess S P K) → slice_get processes place ≡ Some q
+      → ((handlers : Handlers S P K) (process : LogicalProcess P) → ProcessStandsFor handlers q process → ProcessStandsFor handlers new (process_after_commit floor process))
+      → (new.lp ≡ q.lp) × (new.config ≡ q.config) × (new.triple ≡ q.triple) × (new.pending ≡ q.pending) × (new.waiting ≡ q.waiting)
       → HasForgotten floor place processes (slice_set processes place new)
-  one-forgotten processes place q new at h = record {
+  one-forgotten processes place q new at committed same = record {
     process = new;
-    forgotten = λ d. subst (λ x. IsForgotten floor x new) (sym (get_or_from_slice_get processes place q d at)) h;
+    forgotten = λ d.
+        subst (λ x. IsForgotten floor x new) (sym (get_or_from_slice_get processes place q d at))
+        (record { committed = committed; lp = same.0; config = same.1; pending = same.3; waiting = same.4 });
     others = refl;
   }
 

@@ -32,9 +32,6 @@ module _ {S P K : Type 0} (entry : HeldProcess S P K → Option Rank) where
   entries-length [] = refl
   entries-length (x ∷ xs) = let more : max (length (x ∷ xs)) 1 ≡ length (x ∷ xs) = omega arith in length-map (x ∷ xs) entry ∙ sym more
 
-  pub entries-within : (processes : List (HeldProcess S P K)) (place : ℕ) → place < length processes → place < length (entries_of entry processes)
-  entries-within processes place less = let size = entries-length processes in omega (arith, size, less)
-
   -- the entry of a process
   pub entry-there : (processes : List (HeldProcess S P K)) (place : ℕ) (q : HeldProcess S P K) → slice_get processes place ≡ Some q → slice_index_or (entries_of entry processes) place None ≡ entry q
   entry-there processes place q at = get_or_from_slice_get (entries_of entry processes) place (entry q) None (entered-at entry processes place q at)

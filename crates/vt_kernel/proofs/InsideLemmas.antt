@@ -9,18 +9,17 @@ use Rattle.vt_lp.specs.Held.{HeldProcess, AllWithinRun}
 use Rattle.vt_kernel.specs.Held.{IsWorkerInside, AllOwnMail, AreCounted}
 
 module _ {S P K : Type 0} {config : Config} {w : ℕ} {processes : List (HeldProcess S P K)} {outbox : List (Letter P)} {arrived : List (Mail P)} {sent got : Counts} {serial : ℕ} {ready unready : List Node} {marked : List Bool} where
-  -- other mail that has arrived, and other counts of what was got
-  pub inside-arrived : (mails : List (Mail P)) (counts : Counts) → AllOwnMail config w mails → AreCounted counts →
+  inside-with : (letters : List (Letter P)) (mails : List (Mail P)) (made_counts got_counts : Counts) → AllWithinRun config letters → AllOwnMail config w mails → AreCounted made_counts → AreCounted got_counts →
       IsWorkerInside config w processes outbox arrived sent got serial ready unready marked →
-      IsWorkerInside config w processes outbox mails sent counts serial ready unready marked
-  inside-arrived mails counts own few h = record {
+      IsWorkerInside config w processes letters mails made_counts got_counts serial ready unready marked
+  inside-with letters mails made_counts got_counts within own few_made few_got h = record {
     known = h.known;
     all_there = h.all_there;
     own_processes = h.own_processes;
-    sendable = h.sendable;
+    sendable = within;
     own_mail = own;
-    few_sent = h.few_sent;
-    few_got = few;
+    few_sent = few_made;
+    few_got = few_got;
     few_made = h.few_made;
     ready_entered = h.ready_entered;
     unready_entered = h.unready_entered;
@@ -28,21 +27,14 @@ module _ {S P K : Type 0} {config : Config} {w : ℕ} {processes : List (HeldPro
     past_marked = h.past_marked;
   }
 
+  -- other mail that has arrived, and other counts of what was got
+  pub inside-arrived : (mails : List (Mail P)) (counts : Counts) → AllOwnMail config w mails → AreCounted counts →
+      IsWorkerInside config w processes outbox arrived sent got serial ready unready marked →
+      IsWorkerInside config w processes outbox mails sent counts serial ready unready marked
+  inside-arrived mails counts own few h = inside-with outbox mails sent counts h.sendable own h.few_sent few h
+
   -- another outbox, and other counts of what was sent
   pub inside-outbox : (letters : List (Letter P)) (counts : Counts) → AllWithinRun config letters → AreCounted counts →
       IsWorkerInside config w processes outbox arrived sent got serial ready unready marked →
       IsWorkerInside config w processes letters arrived counts got serial ready unready marked
-  inside-outbox letters counts within few h = record {
-    known = h.known;
-    all_there = h.all_there;
-    own_processes = h.own_processes;
-    sendable = within;
-    own_mail = h.own_mail;
-    few_sent = few;
-    few_got = h.few_got;
-    few_made = h.few_made;
-    ready_entered = h.ready_entered;
-    unready_entered = h.unready_entered;
-    least_told = h.least_told;
-    past_marked = h.past_marked;
-  }
+  inside-outbox letters counts within few h = inside-with letters arrived counts got within h.own_mail few h.few_got h

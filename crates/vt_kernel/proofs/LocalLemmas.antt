@@ -58,22 +58,28 @@ all-changed Q [] i x h q = h
 all-changed Q (y ∷ ys) zero x h q = All-cons Q x ys q (All-tail Q y ys h)
 all-changed Q (y ∷ ys) (suc i) x h q = All-cons Q y (slice_set ys i x) (All-head Q y ys h) (all-changed Q ys i x (All-tail Q y ys h) q)
 
+-- this is the place of a process of this number, which is one of the worker's
+abbrev pub IsOwnPlace : Config → ℕ → ℕ → ℕ → Type 0
+IsOwnPlace config w p place = (place ≡ p / config.workers) × (p % config.workers ≡ w) × (p < config.lps)
+
 module _ {S P K : Type 0} {config : Config} {w : ℕ} {processes : List (HeldProcess S P K)} {outbox : List (Letter P)} {arrived : List (Mail P)} {sent got : Counts} {serial : ℕ} {ready unready : List Node} {marked : List Bool}
     (h : IsWorkerInside config w processes outbox arrived sent got serial ready unready marked) where
   -- the place of one of the worker's processes is within
-  pub place-within : (p place : ℕ) → 1 ≤ config.workers → place ≡ p / config.workers → p % config.workers ≡ w → p < config.lps → place < length processes
-  place-within p place some is own less =
-      let known = place-known config.lps config.workers w p some less own in
+  pub place-within : (p place : ℕ) → IsOwnPlace config w p place → place < length processes
+  place-within p place own =
+      let some : 1 ≤ config.workers = (let few = h.known in omega (arith, few)) in
+      let known = place-known config.lps config.workers w p some own.2 own.1 in
       let all = h.all_there in
+      let is = own.0 in
       omega (arith, known, all, is)
 
   -- a process that has changed and has entered the tournaments again, with what was made by it
-  pub inside-changed : (place : ℕ) (q new : HeldProcess S P K) (letters : List (Letter P)) (next : ℕ) (now : List (HeldProcess S P K)) (new_ready new_unready : List Node) (new_marked : List Bool)
+  pub inside-changed : (place : ℕ) {q : HeldProcess S P K} (new : HeldProcess S P K) {letters : List (Letter P)} {next : ℕ} {now : List (HeldProcess S P K)} {new_ready new_unready : List Node} {new_marked : List Bool}
       → slice_get processes place ≡ Some q → new.lp ≡ q.lp → new.config ≡ q.config → now ≡ slice_set processes place new
       → IsTournamentOf (entries_of ready_of now) new_ready → IsTournamentOf (entries_of unready_of now) new_unready → ((held : HeldProcess S P K) → slice_get now place ≡ Some held → new_marked ≡ slice_set marked place (has_past held))
       → ((held : HeldProcess S P K) → slice_get now place ≡ Some held → TellsLeast held) → AllWithinRun config letters → next ≤ MAX_COUNT
       → IsWorkerInside config w (slice_set processes place new) letters arrived sent got next new_ready new_unready new_marked
-  inside-changed place q new letters next now new_ready new_unready new_marked at same_lp same_config is ready_now unready_now marks told within few =
+  inside-changed place {q} new {letters} {next} {now} {new_ready} {new_unready} {new_marked} at same_lp same_config is ready_now unready_now marks told within few =
       let there : slice_get now place ≡ Some new = ap (λ ps. slice_get ps place) is ∙ get-put_same processes place q new at in
       let who = process-at config w 0 place processes q h.own_processes at in
       record {

@@ -11,6 +11,3 @@ module _ {X : Type 0} (test : X → Bool) (x : X) (xs : List X) where
 
   pub passes-others : test x ≡ true → filter (λ (y : X). not (test y)) (x ∷ xs) ≡ filter (λ (y : X). not (test y)) xs
   passes-others e = ap (λ (b : Bool). cond (not b) (x ∷ filter (λ (y : X). not (test y)) xs) (filter (λ (y : X). not (test y)) xs)) e
-
-  pub fails-others : test x ≡ false → filter (λ (y : X). not (test y)) (x ∷ xs) ≡ x ∷ filter (λ (y : X). not (test y)) xs
-  fails-others e = ap (λ (b : Bool). cond (not b) (x ∷ filter (λ (y : X). not (test y)) xs) (filter (λ (y : X). not (test y)) xs)) e

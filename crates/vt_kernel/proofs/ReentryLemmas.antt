@@ -1,39 +1,50 @@
 -- The process that a call changes: it is there, and enters its tournaments again.
-use Rattle.std.proofs.Common.{◌≡◌, ◌∙◌, ℕ, ◌/◌, ◌%◌, ◌<◌, ◌≤◌, Bool, true, nat_lt, List, length, refl, sym, ap, subst, Some, slice_get, slice_set, slice_index_or}
+use Rattle.std.proofs.Common.{◌≡◌, ◌∙◌, ℕ, ◌+◌, ◌*◌, ◌/◌, ◌%◌, ◌<◌, Bool, true, nat_lt, List, ◌++◌, length, refl, sym, ap, subst, arith, Some, slice_get, slice_set, slice_index_or}
+use Rattle.std.proofs.Math.Nat.{div-add-mod'}
 use Rattle.std.proofs.lemmas.Bool.{ltb-true}
+use Rattle.std.specs.List.{find}
+use Rattle.vt_key.specs.Times.{TimeBefore}
 use Rattle.vt_key.specs.declared.letter.Letter.{Letter}
 use Rattle.vt_key.specs.declared.letter.Mail.{Mail}
+use Rattle.vt_list.specs.First.{before_first, from_first, without_first}
+use Rattle.vt_list.proofs.Firsts.{TakesOff, taken-first}
 use Rattle.vt_model.specs.declared.settings.Config.{Config}
+use Rattle.vt_model.specs.Settings.{end_of}
 use Rattle.vt_steps.specs.Letters.{Counts}
 use Rattle.vt_tournament.specs.declared.node.Node.{Node}
 use Rattle.vt_tournament.specs.Contest.{WasTournamentOf}
 use Rattle.vt_lp.specs.Held.{HeldProcess}
+use Rattle.vt_kernel.specs.Guards.{is_for_worker}
 use Rattle.vt_kernel.specs.Held.{IsWorkerInside, IsOwnMail, entries_of, ready_of, unready_of}
 use Rattle.vt_kernel.proofs.EnteringLemmas.{in-changed, was-entered}
-use Rattle.vt_kernel.proofs.LocalLemmas.{index-get, place-within}
-use Rattle.vt_kernel.proofs.DeliveryLemmas.{get-all}
-
--- this is the place of a process of this number, which is one of the worker's
-abbrev pub IsOwnPlace : Config → ℕ → ℕ → ℕ → Type 0
-IsOwnPlace config w p place = (place ≡ p / config.workers) × (p % config.workers ≡ w) × (p < config.lps)
+use Rattle.vt_kernel.proofs.ProcessLemmas.{process-at}
+use Rattle.vt_kernel.proofs.LocalLemmas.{IsOwnPlace, index-get, place-within}
+use Rattle.vt_kernel.proofs.DeliveryLemmas.{get-all, found-in}
 
 module _ {S P K : Type 0} {config : Config} {w : ℕ} {processes : List (HeldProcess S P K)} {outbox : List (Letter P)} {arrived : List (Mail P)} {sent got : Counts} {serial : ℕ} {ready unready : List Node} {marked : List Bool}
-    (h : IsWorkerInside config w processes outbox arrived sent got serial ready unready marked) (some : 1 ≤ config.workers) where
+    (h : IsWorkerInside config w processes outbox arrived sent got serial ready unready marked) where
   -- the process that an index finds
-  pub process-there : (p place : ℕ) (old : HeldProcess S P K) → IsOwnPlace config w p place → slice_index_or processes place old ≡ old → slice_get processes place ≡ Some old
-  process-there p place old own found = index-get processes place old (place-within h p place some own.0 own.1 own.2) found
+  pub process-there : (p place : ℕ) {old : HeldProcess S P K} → IsOwnPlace config w p place → slice_index_or processes place old ≡ old → slice_get processes place ≡ Some old
+  process-there p place {old} own found = index-get processes place old (place-within h p place own) found
 
-  module _ (p place : ℕ) (old new : HeldProcess S P K) (now : List (HeldProcess S P K)) (own : IsOwnPlace config w p place) (found : slice_index_or processes place old ≡ old) (is : now ≡ slice_set processes place new) where
+  module _ (p place : ℕ) {old : HeldProcess S P K} (new : HeldProcess S P K) {now : List (HeldProcess S P K)} (own : IsOwnPlace config w p place) (found : slice_index_or processes place old ≡ old) (is : now ≡ slice_set processes place new) where
     -- it is still there once it has changed
     pub still-there : place < length now
-    still-there = in-changed processes now place old new (process-there p place old own found) is
+    still-there = in-changed processes now place old new (process-there p place own found) is
 
     -- the tournaments were those of the other processes, and of it before
     pub was-in-ready : WasTournamentOf place (entries_of ready_of now) ready
-    was-in-ready = was-entered ready_of processes now place old new ready (process-there p place old own found) is h.ready_entered
+    was-in-ready = was-entered ready_of processes now place old new ready (process-there p place own found) is h.ready_entered
 
     pub was-in-unready : WasTournamentOf place (entries_of unready_of now) unready
-    was-in-unready = was-entered unready_of processes now place old new unready (process-there p place old own found) is h.unready_entered
+    was-in-unready = was-entered unready_of processes now place old new unready (process-there p place own found) is h.unready_entered
+
+  -- a process that is there has its number and the worker's config
+  pub process-is : (p place : ℕ) {old : HeldProcess S P K} → IsOwnPlace config w p place → slice_get processes place ≡ Some old → (p ≡ old.lp) × (old.config ≡ config)
+  process-is p place {old} own at =
+      let who = process-at config w 0 place processes old h.own_processes at in
+      let plain : 0 + place ≡ p / config.workers = (let is = own.0 in omega (arith, is)) in
+      (sym (who.0 ∙ ap (λ n. (0 + place) * config.workers + n) (sym own.1) ∙ ap (λ n. n * config.workers + p % config.workers) plain ∙ div-add-mod' p config.workers), who.1)
 
   -- mail that has arrived, and the place of its receiver
   pub record Addressed (at : ℕ) (mail : Mail P) : Type 0 where
@@ -41,8 +52,23 @@ module _ {S P K : Type 0} {config : Config} {w : ℕ} {processes : List (HeldPro
     pub own : IsOwnMail config w mail
     pub place : IsOwnPlace config w mail.letter.event.dest (mail.letter.event.dest / config.workers)
 
-  pub addressed : (at : ℕ) (mail : Mail P) (now : List (Mail P)) → now ≡ arrived → nat_lt at (length now) ≡ true → mail ≡ slice_index_or now at mail → Addressed at mail
-  addressed at mail now is inside found =
+  pub addressed : (at : ℕ) (mail : Mail P) {now : List (Mail P)} → now ≡ arrived → nat_lt at (length now) ≡ true → mail ≡ slice_index_or now at mail → Addressed at mail
+  addressed at mail {now} is inside found =
       let there = index-get arrived at mail (subst (λ (l : List (Mail P)). at < length l) is (ltb-true at (length now) inside)) (sym (found ∙ ap (λ (l : List (Mail P)). slice_index_or l at mail) is)) in
       let own = get-all (IsOwnMail config w) arrived at mail h.own_mail there in
       record { there = there; own = own; place = (refl, own.own, own.within.known) }
+
+  -- a letter that is taken off the outbox for one of the worker's processes
+  pub record TakenOff (letter : Letter P) (rest : List (Letter P)) : Type 0 where
+    pub there : find (is_for_worker config w) outbox ≡ Some letter
+    pub left : rest ≡ without_first (is_for_worker config w) outbox
+    pub place : IsOwnPlace config w letter.event.dest (letter.event.dest / config.workers)
+    pub soon : TimeBefore letter.event.rank.key.time (end_of config)
+
+  pub taken-off : (before from rest : List (Letter P)) (letter taken : Letter P) → before ≡ before_first (is_for_worker config w) outbox → from ≡ from_first (is_for_worker config w) outbox
+      → TakesOff (λ (l : Letter P). l) from (Some taken) rest → letter ≡ taken → TakenOff letter (before ++ rest)
+  taken-off before from rest letter taken before_is from_is told got =
+      let off = taken-first (is_for_worker config w) (λ (l : Letter P). l) outbox before from rest (Some taken) before_is from_is told in
+      let there : find (is_for_worker config w) outbox ≡ Some letter = sym off.0 ∙ ap Some (sym got) in
+      let own = found-in h letter there in
+      record { there = there; left = off.1; place = (refl, own.0, own.1.known); soon = own.1.soon }

@@ -22,7 +22,7 @@ use Rattle.vt_kernel.specs.Local.{local_step, local_steps, AreSettling, IsSettle
 use Rattle.vt_lp.specs.Held.{HeldProcess, StandsFor as ProcessStandsFor}
 use Rattle.vt_lp.specs.Guards.{IsDone as ProcessIsDone, can_annihilate}
 use Rattle.vt_kernel.specs.Settled.{and_then, nothing_done, LedTo, not_moved, undone, cancelled, IsLed, IsSettledTo}
-use Rattle.vt_kernel.proofs.OwnSteps.{own-step, no-process, not-own}
+use Rattle.vt_kernel.proofs.OwnSteps.{own-step}
 
 -- what is written twice at a place is what was written last
 pub put-put : {X : Type 0} (xs : List X) (i : ℕ) (x y : X) → slice_set (slice_set xs i x) i y ≡ slice_set xs i y
@@ -129,13 +129,6 @@ module _ {S P : Type 0} (sim : Simulation S P) (w : ℕ) where
     no_undo = own-step sim w p undo_process part process own there ∙ ap (option_map (with_effect part (p / sim.workers))) no_undo;
     no_cancel = λ stamp. own-step sim w p (cancel_process stamp) part process own there ∙ ap (option_map (with_effect part (p / sim.workers))) (no_cancel stamp);
   }
-
-  -- and where it has no such process
-  pub settled-elsewhere : (p : ℕ) (part : Part P) → (p % sim.workers ≡ w → ⊥) → IsSettled sim w p part
-  settled-elsewhere p part apart = record { no_undo = not-own sim w p _ apart; no_cancel = λ stamp. not-own sim w p _ apart }
-
-  pub settled-nowhere : (p : ℕ) (part : Part P) → slice_get part.processes (p / sim.workers) ≡ None → IsSettled sim w p part
-  settled-nowhere p part gone = record { no_undo = no-process sim w p undo_process part gone; no_cancel = λ stamp. no-process sim w p (cancel_process stamp) part gone }
 
 -- ---- a process that is being settled
 

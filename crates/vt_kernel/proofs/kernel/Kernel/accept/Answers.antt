@@ -1,6 +1,5 @@
-use Rattle.std.proofs.Common.{rules, ◌≡◌, ◌/◌, ◌%◌, ◌≤◌, ◌∙◌, length, slice_set, None, List, [], sym, ap, subst, refl, arith, true, false, ◌+◌, ◌*◌}
+use Rattle.std.proofs.Common.{rules, ◌≡◌, ◌/◌, ◌≤◌, ◌∙◌, length, slice_set, None, List, [], sym, ap, subst, refl, arith, true, false}
 use Rattle.std.proofs.lemmas.Option.{slice_get_past}
-use Rattle.std.proofs.Math.Nat.{div-add-mod'}
 use Rattle.vt_key.specs.Times.{TimeBefore}
 use Rattle.vt_key.specs.declared.fault.Fault.{Fault}
 use Rattle.vt_key.specs.declared.fault.Fault.TheVariants.{NotLawful, Memory}
@@ -16,12 +15,11 @@ use Rattle.vt_lp.specs.Guards.{holds_letter, would_lead, IsDone as ProcessIsDone
 use Rattle.vt_kernel.specs.Held.{HeldWorker, IsOwnMail, AllOwnMail, IsWorkerInside, StandsFor}
 use Rattle.vt_kernel.specs.Local.{local_step}
 use Rattle.vt_kernel.specs.Guards.{IsDone, IsAcceptRefusal}
-use Rattle.vt_kernel.proofs.ProcessLemmas.{process-at}
 use Rattle.vt_kernel.proofs.EnteringLemmas.{entered-behind}
 use Rattle.vt_kernel.proofs.LocalLemmas.{worker_view, place-within, inside-changed, written-same}
 use Rattle.vt_kernel.proofs.InsideLemmas.{inside-arrived}
 use Rattle.vt_kernel.proofs.DeliveryLemmas.{accept-done, accept-nothing, accept-refused, accept-lawful, held-refused, removed-all}
-use Rattle.vt_kernel.proofs.ReentryLemmas.{process-there, still-there, was-in-ready, was-in-unready, addressed}
+use Rattle.vt_kernel.proofs.ReentryLemmas.{process-there, process-is, still-there, was-in-ready, was-in-unready, addressed}
 use Rattle.vt_kernel.proofs.kernel.Kernel.accept.Goals as goal
 
 pub returns-in_default-clause-refused : goal.returns-in_default-clause-refused
@@ -37,33 +35,31 @@ pub index-requires : goal.index-requires
 index-requires g c =
     let i = c.self.inside in
     let mail = c.in-Some.mail.now in
-    let letter = mail.letter in
-    let place = letter.event.dest / i.config.workers in
-    let lookup = c.in-Some.ensures.lookup in
-    let a = addressed c.self.invariant i.config.some_worker c.args.i mail c.deref.result.now c.deref.ensures.value (sym lookup.0) lookup.1 in
-    let less = place-within c.self.invariant letter.event.dest place i.config.some_worker refl a.own.own a.own.within.known in
+    let dest = mail.letter.event.dest in
+    let place = dest / c.self.inside.config.workers in
+    let a = addressed c.self.invariant c.args.i mail c.deref.ensures.value (sym c.in-Some.ensures.lookup.0) c.in-Some.ensures.lookup.1 in
+    let less = place-within c.self.invariant _ _ a.place in
     search (rules, less)
 
 pub returns-in_default-letter-clause-refused : goal.returns-in_default-letter-clause-refused
 returns-in_default-letter-clause-refused g c handlers part s =
     let i = c.self.inside in
     let mail = c.in-Some.mail.now in
-    let letter = mail.letter in
-    let place = letter.event.dest / i.config.workers in
-    let lookup = c.in-Some.ensures.lookup in
-    let a = addressed c.self.invariant i.config.some_worker c.args.i mail c.deref.result.now c.deref.ensures.value (sym lookup.0) lookup.1 in
+    let dest = mail.letter.event.dest in
+    let place = dest / c.self.inside.config.workers in
+    let a = addressed c.self.invariant c.args.i mail c.deref.ensures.value (sym c.in-Some.ensures.lookup.0) c.in-Some.ensures.lookup.1 in
     let held = worker_view i.worker i.config i.processes.items i.outbox i.arrived.items i.colour i.sent i.got i.red_minimum i.floor i.serial in
     let stands = subst (λ (v : HeldWorker _ _ _). StandsFor handlers v part) (sym c.self.view_is) s in
     let q = c.index.result.now in
-    let at = process-there c.self.invariant i.config.some_worker letter.event.dest place q a.place (sym c.index.ensures) in
+    let at = process-there c.self.invariant _ _ a.place (sym c.index.ensures) in
     let after = local_step (simulation_of handlers i.config) i.worker (step.Accept i.worker c.args.i) part in
     let told = c.unmade.ensures in
     subst (λ (v : HeldWorker _ _ _). IsAcceptRefusal (local_step (simulation_of handlers v.config) v.worker (step.Accept v.worker c.args.i) part) c.unmade.result) c.self.view_is
-    (elim (holds_letter q.pending q.waiting q.past letter.sign letter.event.rank) as (λ b. holds_letter q.pending q.waiting q.past letter.sign letter.event.rank ≡ b → IsAcceptRefusal after c.unmade.result) [
+    (elim (holds_letter q.pending q.waiting q.past mail.letter.sign mail.letter.event.rank) as (λ b. holds_letter q.pending q.waiting q.past mail.letter.sign mail.letter.event.rank ≡ b → IsAcceptRefusal after c.unmade.result) [
       | true ↦ λ is.
           subst (λ (fault : Fault). IsAcceptRefusal after fault) (sym (told.held is))
           (subst (λ x. IsAcceptRefusal x NotLawful) (sym (accept-refused handlers held c.self.invariant.own_processes part stands c.args.i mail place q a.there refl a.own.own at
-          (λ process st. held-refused handlers q letter process st is))) refl)
+          (λ process st. held-refused handlers q mail.letter process st is))) refl)
       | false ↦ λ is.
           subst (λ (fault : Fault). IsAcceptRefusal after fault) (sym (told.new is))
           (subst (λ x. IsAcceptRefusal x Memory) (sym (accept-lawful handlers held c.self.invariant.own_processes part stands c.args.i mail place q a.there refl a.own.own at is).1) refl)
@@ -73,51 +69,36 @@ pub index_mut-process-requires : goal.index_mut-process-requires
 index_mut-process-requires g c =
     let i = c.self.inside in
     let mail = c.in-Some.mail.now in
-    let letter = mail.letter in
-    let place = letter.event.dest / i.config.workers in
-    let lookup = c.in-Some.ensures.lookup in
-    let a = addressed c.self.invariant i.config.some_worker c.args.i mail c.deref.result.now c.deref.ensures.value (sym lookup.0) lookup.1 in
-    let less = place-within c.self.invariant letter.event.dest place i.config.some_worker refl a.own.own a.own.within.known in
+    let dest = mail.letter.event.dest in
+    let place = dest / c.self.inside.config.workers in
+    let a = addressed c.self.invariant c.args.i mail c.deref.ensures.value (sym c.in-Some.ensures.lookup.0) c.in-Some.ensures.lookup.1 in
+    let less = place-within c.self.invariant _ _ a.place in
     search (rules, less)
 
 pub accept-requires-clause-dest : goal.accept-requires-clause-dest
 accept-requires-clause-dest g c κs within =
-    let i = c.self.inside in
     let mail = c.in-Some.mail.now in
-    let letter = mail.letter in
-    let place = letter.event.dest / i.config.workers in
-    let lookup = c.in-Some.ensures.lookup in
-    let a = addressed c.self.invariant i.config.some_worker c.args.i mail c.deref.result.now c.deref.ensures.value (sym lookup.0) lookup.1 in
-    let made : c.in-Ok.parcel ≡ letter = c.in-Ok.ensures.made in
-    let old = c.index_mut-process.result.now in
-    let at = process-there c.self.invariant i.config.some_worker letter.event.dest place old a.place (sym c.index_mut-process.ensures.value) in
-    let who = process-at i.config i.worker 0 place i.processes.items old c.self.invariant.own_processes at in
-    ap (λ (l : Letter _). l.event.dest) made ∙ sym (who.0 ∙ ap (λ n. (0 + place) * i.config.workers + n) (sym a.own.own) ∙ ap (λ n. n * i.config.workers + letter.event.dest % i.config.workers) (let plain : 0 + place ≡ place = omega arith in plain) ∙ div-add-mod' letter.event.dest i.config.workers)
+    let a = addressed c.self.invariant c.args.i mail c.deref.ensures.value (sym c.in-Some.ensures.lookup.0) c.in-Some.ensures.lookup.1 in
+    let at = process-there c.self.invariant _ _ a.place (sym c.index_mut-process.ensures.value) in
+    ap (λ (l : Letter _). l.event.dest) c.in-Ok.ensures.made ∙ (process-is c.self.invariant _ _ a.place at).0
 
 pub accept-requires-clause-soon : goal.accept-requires-clause-soon
 accept-requires-clause-soon g c κs within =
-    let i = c.self.inside in
     let mail = c.in-Some.mail.now in
-    let letter = mail.letter in
-    let place = letter.event.dest / i.config.workers in
-    let lookup = c.in-Some.ensures.lookup in
-    let a = addressed c.self.invariant i.config.some_worker c.args.i mail c.deref.result.now c.deref.ensures.value (sym lookup.0) lookup.1 in
-    let made : c.in-Ok.parcel ≡ letter = c.in-Ok.ensures.made in
-    let old = c.index_mut-process.result.now in
-    let at = process-there c.self.invariant i.config.some_worker letter.event.dest place old a.place (sym c.index_mut-process.ensures.value) in
-    let who = process-at i.config i.worker 0 place i.processes.items old c.self.invariant.own_processes at in
-    subst (λ (l : Letter _). TimeBefore l.event.rank.key.time (end_of old.config)) (sym made) (subst (λ (k : Config). TimeBefore letter.event.rank.key.time (end_of k)) (sym who.1) a.own.within.soon)
+    let a = addressed c.self.invariant c.args.i mail c.deref.ensures.value (sym c.in-Some.ensures.lookup.0) c.in-Some.ensures.lookup.1 in
+    let at = process-there c.self.invariant _ _ a.place (sym c.index_mut-process.ensures.value) in
+    subst (λ (l : Letter _). TimeBefore l.event.rank.key.time (end_of c.index_mut-process.result.now.config)) (sym c.in-Ok.ensures.made)
+    (subst (λ (k : Config). TimeBefore mail.letter.event.rank.key.time (end_of k)) (sym (process-is c.self.invariant _ _ a.place at).1) a.own.within.soon)
 
 pub invariant_of-self-in-Err : goal.invariant_of-self-in-Err
 invariant_of-self-in-Err g c =
     let i = c.self.inside in
     let mail = c.in-Some.mail.now in
-    let letter = mail.letter in
-    let place = letter.event.dest / i.config.workers in
-    let lookup = c.in-Some.ensures.lookup in
-    let a = addressed c.self.invariant i.config.some_worker c.args.i mail c.deref.result.now c.deref.ensures.value (sym lookup.0) lookup.1 in
+    let dest = mail.letter.event.dest in
+    let place = dest / c.self.inside.config.workers in
+    let a = addressed c.self.invariant c.args.i mail c.deref.ensures.value (sym c.in-Some.ensures.lookup.0) c.in-Some.ensures.lookup.1 in
     let old = c.index_mut-process.result.now in
-    let at = process-there c.self.invariant i.config.some_worker letter.event.dest place old a.place (sym c.index_mut-process.ensures.value) in
+    let at = process-there c.self.invariant _ _ a.place (sym c.index_mut-process.ensures.value) in
     subst (λ (ps : List (HeldProcess _ _ _)). IsWorkerInside i.config i.worker ps i.outbox i.arrived.items i.sent i.got i.serial i.ready i.unready i.marked)
     (sym (written-same i.processes.items place old c.accept.new.self at c.in-Err.ensures.kept.2)) c.self.invariant
 
@@ -125,63 +106,47 @@ pub returns-in-Err-clause-refused : goal.returns-in-Err-clause-refused
 returns-in-Err-clause-refused g c handlers part s =
     let i = c.self.inside in
     let mail = c.in-Some.mail.now in
-    let letter = mail.letter in
-    let place = letter.event.dest / i.config.workers in
-    let lookup = c.in-Some.ensures.lookup in
-    let a = addressed c.self.invariant i.config.some_worker c.args.i mail c.deref.result.now c.deref.ensures.value (sym lookup.0) lookup.1 in
-    let made : c.in-Ok.parcel ≡ letter = c.in-Ok.ensures.made in
+    let dest = mail.letter.event.dest in
+    let place = dest / c.self.inside.config.workers in
+    let a = addressed c.self.invariant c.args.i mail c.deref.ensures.value (sym c.in-Some.ensures.lookup.0) c.in-Some.ensures.lookup.1 in
     let old = c.index_mut-process.result.now in
-    let at = process-there c.self.invariant i.config.some_worker letter.event.dest place old a.place (sym c.index_mut-process.ensures.value) in
+    let at = process-there c.self.invariant _ _ a.place (sym c.index_mut-process.ensures.value) in
     let held = worker_view i.worker i.config i.processes.items i.outbox i.arrived.items i.colour i.sent i.got i.red_minimum i.floor i.serial in
     let stands = subst (λ (v : HeldWorker _ _ _). StandsFor handlers v part) (sym c.self.view_is) s in
     let none = accept-refused handlers held c.self.invariant.own_processes part stands c.args.i mail place old a.there refl a.own.own at
-    (λ process st. subst (λ (l : Letter _). accept_process l process ≡ None) made (c.in-Err.ensures.refused handlers process st)) in
+    (λ process st. subst (λ (l : Letter _). accept_process l process ≡ None) c.in-Ok.ensures.made (c.in-Err.ensures.refused handlers process st)) in
     subst (λ (v : HeldWorker _ _ _). IsAcceptRefusal (local_step (simulation_of handlers v.config) v.worker (step.Accept v.worker c.args.i) part) c.in-Err.fault) c.self.view_is
     (subst (λ x. IsAcceptRefusal x c.in-Err.fault) (sym none) c.in-Err.ensures.kept.0)
 
 pub enter_accepted-requires-clause-there : goal.enter_accepted-requires-clause-there
 enter_accepted-requires-clause-there g c κs within =
-    let i = c.self.inside in
     let mail = c.in-Some.mail.now in
-    let letter = mail.letter in
-    let place = letter.event.dest / i.config.workers in
-    let lookup = c.in-Some.ensures.lookup in
-    let a = addressed c.self.invariant i.config.some_worker c.args.i mail c.deref.result.now c.deref.ensures.value (sym lookup.0) lookup.1 in
-    still-there c.self.invariant i.config.some_worker letter.event.dest place c.index_mut-process.result.now c.accept.new.self c.deref-2.result.now a.place (sym c.index_mut-process.ensures.value) c.deref-2.ensures.value
+    let a = addressed c.self.invariant c.args.i mail c.deref.ensures.value (sym c.in-Some.ensures.lookup.0) c.in-Some.ensures.lookup.1 in
+    still-there c.self.invariant _ _ c.accept.new.self a.place (sym c.index_mut-process.ensures.value) c.deref-2.ensures.value
 
 pub enter_accepted-requires-clause-in_ready : goal.enter_accepted-requires-clause-in_ready
 enter_accepted-requires-clause-in_ready g c κs within =
-    let i = c.self.inside in
     let mail = c.in-Some.mail.now in
-    let letter = mail.letter in
-    let place = letter.event.dest / i.config.workers in
-    let lookup = c.in-Some.ensures.lookup in
-    let a = addressed c.self.invariant i.config.some_worker c.args.i mail c.deref.result.now c.deref.ensures.value (sym lookup.0) lookup.1 in
-    was-in-ready c.self.invariant i.config.some_worker letter.event.dest place c.index_mut-process.result.now c.accept.new.self c.deref-2.result.now a.place (sym c.index_mut-process.ensures.value) c.deref-2.ensures.value
+    let a = addressed c.self.invariant c.args.i mail c.deref.ensures.value (sym c.in-Some.ensures.lookup.0) c.in-Some.ensures.lookup.1 in
+    was-in-ready c.self.invariant _ _ c.accept.new.self a.place (sym c.index_mut-process.ensures.value) c.deref-2.ensures.value
 
 pub enter_accepted-requires-clause-in_unready : goal.enter_accepted-requires-clause-in_unready
 enter_accepted-requires-clause-in_unready g c κs within =
-    let i = c.self.inside in
     let mail = c.in-Some.mail.now in
-    let letter = mail.letter in
-    let place = letter.event.dest / i.config.workers in
-    let lookup = c.in-Some.ensures.lookup in
-    let a = addressed c.self.invariant i.config.some_worker c.args.i mail c.deref.result.now c.deref.ensures.value (sym lookup.0) lookup.1 in
-    was-in-unready c.self.invariant i.config.some_worker letter.event.dest place c.index_mut-process.result.now c.accept.new.self c.deref-2.result.now a.place (sym c.index_mut-process.ensures.value) c.deref-2.ensures.value
+    let a = addressed c.self.invariant c.args.i mail c.deref.ensures.value (sym c.in-Some.ensures.lookup.0) c.in-Some.ensures.lookup.1 in
+    was-in-unready c.self.invariant _ _ c.accept.new.self a.place (sym c.index_mut-process.ensures.value) c.deref-2.ensures.value
 
 pub enter_accepted-requires-clause-behind : goal.enter_accepted-requires-clause-behind
 enter_accepted-requires-clause-behind g c κs within later =
     let i = c.self.inside in
     let mail = c.in-Some.mail.now in
-    let letter = mail.letter in
-    let place = letter.event.dest / i.config.workers in
-    let lookup = c.in-Some.ensures.lookup in
-    let a = addressed c.self.invariant i.config.some_worker c.args.i mail c.deref.result.now c.deref.ensures.value (sym lookup.0) lookup.1 in
+    let dest = mail.letter.event.dest in
+    let place = dest / c.self.inside.config.workers in
+    let a = addressed c.self.invariant c.args.i mail c.deref.ensures.value (sym c.in-Some.ensures.lookup.0) c.in-Some.ensures.lookup.1 in
     let old = c.index_mut-process.result.now in
-    let at = process-there c.self.invariant i.config.some_worker letter.event.dest place old a.place (sym c.index_mut-process.ensures.value) in
+    let at = process-there c.self.invariant _ _ a.place (sym c.index_mut-process.ensures.value) in
     let same = c.in_default-accept.ensures.same in
-    let made : c.in-Ok.parcel ≡ letter = c.in-Ok.ensures.made in
-    let behind = subst (λ (l : Letter _). would_lead old.pending old.waiting l.sign l ≡ false) (sym made) (sym c.would_lead-leads.ensures ∙ later) in
+    let behind = subst (λ (l : Letter _). would_lead old.pending old.waiting l.sign l ≡ false) (sym c.in-Ok.ensures.made) (sym c.would_lead-leads.ensures ∙ later) in
     entered-behind i.processes.items c.deref-2.result.now place old c.accept.new.self i.ready i.unready i.marked at c.deref-2.ensures.value same.1 same.3
     (c.in_default-accept.ensures.behind behind) c.self.invariant.ready_entered c.self.invariant.unready_entered c.self.invariant.past_marked c.self.invariant.least_told
 
@@ -189,31 +154,25 @@ pub invariant_of-self-2 : goal.invariant_of-self-2
 invariant_of-self-2 g c =
     let i = c.self.inside in
     let mail = c.in-Some.mail.now in
-    let letter = mail.letter in
-    let place = letter.event.dest / i.config.workers in
-    let lookup = c.in-Some.ensures.lookup in
-    let a = addressed c.self.invariant i.config.some_worker c.args.i mail c.deref.result.now c.deref.ensures.value (sym lookup.0) lookup.1 in
-    let old = c.index_mut-process.result.now in
-    let at = process-there c.self.invariant i.config.some_worker letter.event.dest place old a.place (sym c.index_mut-process.ensures.value) in
-    let new = c.accept.new.self in
+    let dest = mail.letter.event.dest in
+    let place = dest / c.self.inside.config.workers in
+    let a = addressed c.self.invariant c.args.i mail c.deref.ensures.value (sym c.in-Some.ensures.lookup.0) c.in-Some.ensures.lookup.1 in
+    let at = process-there c.self.invariant _ _ a.place (sym c.index_mut-process.ensures.value) in
     let same = c.in_default-accept.ensures.same in
     let rest = removed-all (IsOwnMail i.config i.worker) i.arrived.items c.args.i c.self.invariant.own_mail in
     inside-arrived c.remove.new.self.items i.got (subst (λ (ms : List (Mail _)). AllOwnMail i.config i.worker ms) (sym c.remove.ensures.items) rest) c.self.invariant.few_got
-    (inside-changed c.self.invariant place old new i.outbox i.serial c.deref-2.result.now c.enter_accepted.new.ready c.enter_accepted.new.unready c.enter_accepted.new.marked at same.0 same.1 c.deref-2.ensures.value
-    c.enter_accepted.ensures.ready c.enter_accepted.ensures.unready c.enter_accepted.ensures.marked c.enter_accepted.ensures.told
+    (inside-changed c.self.invariant place c.accept.new.self at same.0 same.1 c.deref-2.ensures.value c.enter_accepted.ensures.ready c.enter_accepted.ensures.unready c.enter_accepted.ensures.marked c.enter_accepted.ensures.told
     c.self.invariant.sendable c.self.invariant.few_made)
 
 pub returns-clause-done : goal.returns-clause-done
 returns-clause-done g c handlers part s =
     let i = c.self.inside in
     let mail = c.in-Some.mail.now in
-    let letter = mail.letter in
-    let place = letter.event.dest / i.config.workers in
-    let lookup = c.in-Some.ensures.lookup in
-    let a = addressed c.self.invariant i.config.some_worker c.args.i mail c.deref.result.now c.deref.ensures.value (sym lookup.0) lookup.1 in
-    let made : c.in-Ok.parcel ≡ letter = c.in-Ok.ensures.made in
+    let dest = mail.letter.event.dest in
+    let place = dest / c.self.inside.config.workers in
+    let a = addressed c.self.invariant c.args.i mail c.deref.ensures.value (sym c.in-Some.ensures.lookup.0) c.in-Some.ensures.lookup.1 in
     let old = c.index_mut-process.result.now in
-    let at = process-there c.self.invariant i.config.some_worker letter.event.dest place old a.place (sym c.index_mut-process.ensures.value) in
+    let at = process-there c.self.invariant _ _ a.place (sym c.index_mut-process.ensures.value) in
     let held = worker_view i.worker i.config i.processes.items i.outbox i.arrived.items i.colour i.sent i.got i.red_minimum i.floor i.serial in
     let stands = subst (λ (v : HeldWorker _ _ _). StandsFor handlers v part) (sym c.self.view_is) s in
     let new = c.accept.new.self in
@@ -223,4 +182,4 @@ returns-clause-done g c handlers part s =
     (subst (λ (ms : List (Mail _)). IsDone handlers (view ms) (local_step (simulation_of handlers i.config) i.worker (step.Accept i.worker c.args.i) part)) (sym c.remove.ensures.items)
     (accept-done handlers held c.self.invariant.own_processes part stands c.args.i mail place old new a.there refl a.own.own at
     same.0 same.1
-    (λ process st. subst (λ (l : Letter _). ProcessIsDone handlers new (accept_process l process) [] [] 0 0) made (c.in_default-accept.ensures.done handlers process st))))
+    (λ process st. subst (λ (l : Letter _). ProcessIsDone handlers new (accept_process l process) [] [] 0 0) c.in-Ok.ensures.made (c.in_default-accept.ensures.done handlers process st))))

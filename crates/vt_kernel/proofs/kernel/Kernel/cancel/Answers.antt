@@ -20,14 +20,13 @@ returns-in_default-clause-refused g c handlers part s =
 
 pub index_mut-requires : goal.index_mut-requires
 index_mut-requires g c =
-    let own = c.in-Some.ensures.own in
-    let less = place-within c.self.invariant c.args.lp c.in-Some.place c.self.inside.config.some_worker own.0 own.1 own.2 in
+    let less = place-within c.self.invariant c.args.lp c.in-Some.place c.in-Some.ensures.own in
     search (rules, less)
 
 pub invariant_of-self : goal.invariant_of-self
 invariant_of-self g c =
     let i = c.self.inside in
-    let at = process-there c.self.invariant i.config.some_worker c.args.lp c.in-Some.place c.index_mut.result.now c.in-Some.ensures.own (sym c.index_mut.ensures.value) in
+    let at = process-there c.self.invariant c.args.lp c.in-Some.place c.in-Some.ensures.own (sym c.index_mut.ensures.value) in
     subst (λ (ps : List (HeldProcess _ _ _)). IsWorkerInside i.config i.worker ps i.outbox i.arrived.items i.sent i.got i.serial i.ready i.unready i.marked)
     (sym (written-same i.processes.items c.in-Some.place c.index_mut.result.now c.cancel_into.new.self at c.in-Err.ensures.kept.1)) c.self.invariant
 
@@ -36,32 +35,28 @@ returns-in-Err-clause-refused g c handlers part s =
     let i = c.self.inside in
     let held = worker_view i.worker i.config i.processes.items i.outbox i.arrived.items i.colour i.sent i.got i.red_minimum i.floor i.serial in
     let own = c.in-Some.ensures.own in
-    let at = process-there c.self.invariant i.config.some_worker c.args.lp c.in-Some.place c.index_mut.result.now c.in-Some.ensures.own (sym c.index_mut.ensures.value) in
+    let at = process-there c.self.invariant c.args.lp c.in-Some.place c.in-Some.ensures.own (sym c.index_mut.ensures.value) in
     subst (λ (v : HeldWorker _ _ _). local_step (simulation_of handlers v.config) v.worker (step.Cancel c.args.lp c.args.stamp) part ≡ None) c.self.view_is
     (changed-refused handlers held c.self.invariant.own_processes part (subst (λ (v : HeldWorker _ _ _). StandsFor handlers v part) (sym c.self.view_is) s)
     c.args.lp c.in-Some.place c.index_mut.result.now (cancel_process c.args.stamp) own.0 own.1 at (λ process st. c.in-Err.ensures.refused handlers process st))
 
 pub enter-requires-clause-there : goal.enter-requires-clause-there
 enter-requires-clause-there g c κs within =
-    still-there c.self.invariant c.self.inside.config.some_worker c.args.lp c.in-Some.place c.index_mut.result.now c.cancel_into.new.self c.deref.result.now c.in-Some.ensures.own (sym c.index_mut.ensures.value) c.deref.ensures.value
+    still-there c.self.invariant c.args.lp c.in-Some.place c.cancel_into.new.self c.in-Some.ensures.own (sym c.index_mut.ensures.value) c.deref.ensures.value
 
 pub enter-requires-clause-in_ready : goal.enter-requires-clause-in_ready
 enter-requires-clause-in_ready g c κs within =
-    was-in-ready c.self.invariant c.self.inside.config.some_worker c.args.lp c.in-Some.place c.index_mut.result.now c.cancel_into.new.self c.deref.result.now c.in-Some.ensures.own (sym c.index_mut.ensures.value) c.deref.ensures.value
+    was-in-ready c.self.invariant c.args.lp c.in-Some.place c.cancel_into.new.self c.in-Some.ensures.own (sym c.index_mut.ensures.value) c.deref.ensures.value
 
 pub enter-requires-clause-in_unready : goal.enter-requires-clause-in_unready
 enter-requires-clause-in_unready g c κs within =
-    was-in-unready c.self.invariant c.self.inside.config.some_worker c.args.lp c.in-Some.place c.index_mut.result.now c.cancel_into.new.self c.deref.result.now c.in-Some.ensures.own (sym c.index_mut.ensures.value) c.deref.ensures.value
+    was-in-unready c.self.invariant c.args.lp c.in-Some.place c.cancel_into.new.self c.in-Some.ensures.own (sym c.index_mut.ensures.value) c.deref.ensures.value
 
 pub invariant_of-self-2 : goal.invariant_of-self-2
 invariant_of-self-2 g c =
-    let i = c.self.inside in
-    let old = c.index_mut.result.now in
-    let new = c.cancel_into.new.self in
-    let at = process-there c.self.invariant i.config.some_worker c.args.lp c.in-Some.place old c.in-Some.ensures.own (sym c.index_mut.ensures.value) in
+    let at = process-there c.self.invariant c.args.lp c.in-Some.place c.in-Some.ensures.own (sym c.index_mut.ensures.value) in
     let same = c.in_default-cancel_into.ensures.same in
-    inside-changed c.self.invariant c.in-Some.place old new i.outbox i.serial c.deref.result.now c.enter.new.ready c.enter.new.unready c.enter.new.marked at same.0 same.1 c.deref.ensures.value
-    c.enter.ensures.ready c.enter.ensures.unready c.enter.ensures.marked c.enter.ensures.told c.self.invariant.sendable c.self.invariant.few_made
+    inside-changed c.self.invariant c.in-Some.place c.cancel_into.new.self at same.0 same.1 c.deref.ensures.value c.enter.ensures.ready c.enter.ensures.unready c.enter.ensures.marked c.enter.ensures.told c.self.invariant.sendable c.self.invariant.few_made
 
 pub returns-clause-done : goal.returns-clause-done
 returns-clause-done g c handlers part s =
@@ -70,7 +65,7 @@ returns-clause-done g c handlers part s =
     let own = c.in-Some.ensures.own in
     let old = c.index_mut.result.now in
     let new = c.cancel_into.new.self in
-    let at = process-there c.self.invariant i.config.some_worker c.args.lp c.in-Some.place old c.in-Some.ensures.own (sym c.index_mut.ensures.value) in
+    let at = process-there c.self.invariant c.args.lp c.in-Some.place c.in-Some.ensures.own (sym c.index_mut.ensures.value) in
     let same = c.in_default-cancel_into.ensures.same in
     subst (λ (v : HeldWorker _ _ _). IsDone handlers (worker_view i.worker i.config (slice_set i.processes.items c.in-Some.place new) i.outbox i.arrived.items i.colour i.sent i.got i.red_minimum i.floor i.serial)
     (local_step (simulation_of handlers v.config) v.worker (step.Cancel c.args.lp c.args.stamp) part)) c.self.view_is

@@ -14,21 +14,20 @@ use Rattle.vt_kernel.proofs.kernel.Kernel.settle.Goals as goal
 
 pub index_mut-requires : goal.index_mut-requires
 index_mut-requires g c =
-    let own = c.in-Some.ensures.own in
-    let less = place-within c.self.invariant c.args.lp c.in-Some.place c.self.inside.config.some_worker own.0 own.1 own.2 in
+    let less = place-within c.self.invariant c.args.lp c.in-Some.place c.in-Some.ensures.own in
     search (rules, less)
 
 pub enter-requires-clause-there : goal.enter-requires-clause-there
 enter-requires-clause-there g c κs within =
-    still-there c.self.invariant c.self.inside.config.some_worker c.args.lp c.in-Some.place c.index_mut.result.now c.settle_process-settling.new.process c.deref.result.now c.in-Some.ensures.own (sym c.index_mut.ensures.value) c.deref.ensures.value
+    still-there c.self.invariant c.args.lp c.in-Some.place c.settle_process-settling.new.process c.in-Some.ensures.own (sym c.index_mut.ensures.value) c.deref.ensures.value
 
 pub enter-requires-clause-in_ready : goal.enter-requires-clause-in_ready
 enter-requires-clause-in_ready g c κs within =
-    was-in-ready c.self.invariant c.self.inside.config.some_worker c.args.lp c.in-Some.place c.index_mut.result.now c.settle_process-settling.new.process c.deref.result.now c.in-Some.ensures.own (sym c.index_mut.ensures.value) c.deref.ensures.value
+    was-in-ready c.self.invariant c.args.lp c.in-Some.place c.settle_process-settling.new.process c.in-Some.ensures.own (sym c.index_mut.ensures.value) c.deref.ensures.value
 
 pub enter-requires-clause-in_unready : goal.enter-requires-clause-in_unready
 enter-requires-clause-in_unready g c κs within =
-    was-in-unready c.self.invariant c.self.inside.config.some_worker c.args.lp c.in-Some.place c.index_mut.result.now c.settle_process-settling.new.process c.deref.result.now c.in-Some.ensures.own (sym c.index_mut.ensures.value) c.deref.ensures.value
+    was-in-unready c.self.invariant c.args.lp c.in-Some.place c.settle_process-settling.new.process c.in-Some.ensures.own (sym c.index_mut.ensures.value) c.deref.ensures.value
 
 pub returns-in_default-clause-settles : goal.returns-in_default-clause-settles
 returns-in_default-clause-settles g c part s =
@@ -46,13 +45,11 @@ pub invariant_of-self : goal.invariant_of-self
 invariant_of-self g c =
     let i = c.self.inside in
     let old = c.index_mut.result.now in
-    let new = c.settle_process-settling.new.process in
-    let at = process-there c.self.invariant i.config.some_worker c.args.lp c.in-Some.place old c.in-Some.ensures.own (sym c.index_mut.ensures.value) in
+    let at = process-there c.self.invariant c.args.lp c.in-Some.place c.in-Some.ensures.own (sym c.index_mut.ensures.value) in
     let f = process-at i.config i.worker 0 c.in-Some.place i.processes.items old c.self.invariant.own_processes at in
     let same = c.settle_process-settling.ensures.same in
     let within = subst (λ (k : Config). AllWithinRun k i.outbox → AllWithinRun k c.settle_process-settling.new.outbox) f.1 c.settle_process-settling.ensures.within in
-    inside-changed c.self.invariant c.in-Some.place old new c.settle_process-settling.new.outbox i.serial c.deref.result.now c.enter.new.ready c.enter.new.unready c.enter.new.marked at same.0 same.1 c.deref.ensures.value
-    c.enter.ensures.ready c.enter.ensures.unready c.enter.ensures.marked c.enter.ensures.told (within c.self.invariant.sendable) c.self.invariant.few_made
+    inside-changed c.self.invariant c.in-Some.place c.settle_process-settling.new.process at same.0 same.1 c.deref.ensures.value c.enter.ensures.ready c.enter.ensures.unready c.enter.ensures.marked c.enter.ensures.told (within c.self.invariant.sendable) c.self.invariant.few_made
 
 pub returns-then-settling-clause-settles : goal.returns-then-settling-clause-settles
 returns-then-settling-clause-settles g c part s =
@@ -62,7 +59,7 @@ returns-then-settling-clause-settles g c part s =
     let own = c.in-Some.ensures.own in
     let old = c.index_mut.result.now in
     let new = c.settle_process-settling.new.process in
-    let at = process-there c.self.invariant i.config.some_worker c.args.lp c.in-Some.place old c.in-Some.ensures.own (sym c.index_mut.ensures.value) in
+    let at = process-there c.self.invariant c.args.lp c.in-Some.place c.in-Some.ensures.own (sym c.index_mut.ensures.value) in
     let same = c.settle_process-settling.ensures.same in
     let h = subst (λ (v : HeldWorker _ _ _). StandsFor handlers v part) (sym c.self.view_is) s in
     let done = settled-worker handlers held c.self.invariant.own_processes part h c.args.lp c.in-Some.place c.settle_process-settling.result.undone old new c.settle_process-settling.new.outbox own.0 own.1 at same.0 same.1 c.settle_process-settling.ensures.settled in
@@ -74,7 +71,7 @@ pub invariant_of-self-else-settling : goal.invariant_of-self-else-settling
 invariant_of-self-else-settling g c =
     let i = c.self.inside in
     let old = c.index_mut.result.now in
-    let at = process-there c.self.invariant i.config.some_worker c.args.lp c.in-Some.place old c.in-Some.ensures.own (sym c.index_mut.ensures.value) in
+    let at = process-there c.self.invariant c.args.lp c.in-Some.place c.in-Some.ensures.own (sym c.index_mut.ensures.value) in
     let kept = c.settle_process-settling.ensures.unchanged c.if-settling.false in
     subst (λ (ps : List (HeldProcess _ _ _)). IsWorkerInside i.config i.worker ps c.settle_process-settling.new.outbox i.arrived.items i.sent i.got i.serial i.ready i.unready i.marked)
     (sym (written-same i.processes.items c.in-Some.place old c.settle_process-settling.new.process at kept.0))
@@ -88,7 +85,7 @@ returns-else-settling-clause-settles g c part s =
     let own = c.in-Some.ensures.own in
     let old = c.index_mut.result.now in
     let new = c.settle_process-settling.new.process in
-    let at = process-there c.self.invariant i.config.some_worker c.args.lp c.in-Some.place old c.in-Some.ensures.own (sym c.index_mut.ensures.value) in
+    let at = process-there c.self.invariant c.args.lp c.in-Some.place c.in-Some.ensures.own (sym c.index_mut.ensures.value) in
     let same = c.settle_process-settling.ensures.same in
     let h = subst (λ (v : HeldWorker _ _ _). StandsFor handlers v part) (sym c.self.view_is) s in
     let done = settled-worker handlers held c.self.invariant.own_processes part h c.args.lp c.in-Some.place c.settle_process-settling.result.undone old new c.settle_process-settling.new.outbox own.0 own.1 at same.0 same.1 c.settle_process-settling.ensures.settled in
