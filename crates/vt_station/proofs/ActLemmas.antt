@@ -20,7 +20,8 @@ use Rattle.vt_steps.specs.Next.{may_send}
 use Rattle.vt_steps.specs.Cells.{in_inbox, on_board, in_book, Acted, left_alone, act_cut, act_report, act}
 use Rattle.vt_steps.proofs.Tests.{both_pass}
 use Rattle.vt_kernel.specs.Held.{HeldWorker, StandsFor}
-use Rattle.vt_station.specs.Calls.{Acts}
+use Rattle.vt_station.specs.declared.view.View.{View}
+use Rattle.vt_station.specs.Calls.{Acts, Reaches}
 
 module _ {S P : Type 0} (sim : Simulation S P) where
   pub act-send : (w v : ℕ) (part : Part P) (mails : List (Mail P)) → may_send sim w v part ≡ true →
@@ -100,3 +101,8 @@ fetches-nothing handlers config w k empty = record {
   worker = refl;
   config_is = refl;
 }
+
+module _ {S P K : Type 0} {handlers : Handlers S P K} {config : Config} {view : View P} {k : HeldWorker S P K} (r : Reaches handlers config view k) where
+  -- the kernel of a place sends to a worker of the run
+  pub sent-within : (v : ℕ) → may_send (simulation_of handlers k.config) k.worker v r.part ≡ true → v < config.workers
+  sent-within v may = subst (λ (f : Config). v < f.workers) r.config_is (sent-known (simulation_of handlers k.config) k.worker v r.part k.config.some_worker may)

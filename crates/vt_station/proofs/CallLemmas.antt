@@ -4,13 +4,14 @@ use Rattle.vt_key.specs.Times.{Time}
 use Rattle.vt_key.specs.declared.letter.Mail.{Mail}
 use Rattle.vt_model.specs.declared.settings.Config.{Config}
 use Rattle.vt_model.specs.Handler.{Handlers}
+use Rattle.vt_model.specs.Histories.{IsLawful}
 use Rattle.vt_model.specs.Simulation.{Simulation, simulation_of}
 use Rattle.vt_steps.specs.declared.step.Step.{Step}
 use Rattle.vt_steps.specs.declared.step.Step.TheVariants.{Close}
 use Rattle.vt_steps.specs.declared.step.Reply.{Reply}
 use Rattle.vt_steps.specs.declared.step.Reply.TheVariants.{Done}
-use Rattle.vt_steps.specs.World.{Part}
-use Rattle.vt_steps.specs.Cells.{inbox_of, board_cell, book_cell, Cell, in_inbox, on_board, in_book, content}
+use Rattle.vt_steps.specs.World.{Part, World}
+use Rattle.vt_steps.specs.Cells.{inbox_of, Cell, in_inbox, on_board, in_book, content}
 use Rattle.vt_steps.specs.Marked.{shown}
 use Rattle.vt_kernel.specs.Held.{HeldWorker}
 use Rattle.vt_station.specs.declared.slot.Slot.{Slot}
@@ -18,7 +19,7 @@ use Rattle.vt_station.specs.declared.view.View.{View}
 use Rattle.vt_station.specs.Hands.{Hand, holding}
 use Rattle.vt_station.specs.Slots.{held_in}
 use Rattle.vt_station.specs.Kept.{Sat, Rests}
-use Rattle.vt_station.specs.Calls.{Unvisited, Known, Took, Holding, IsDoneAt, Closes, Visited}
+use Rattle.vt_station.specs.Calls.{Unvisited, Known, Took, TookThere, Holding, IsDoneAt, Closes, Visited}
 use Rattle.vt_station.proofs.Cells.{inbox-name, board-name, book-name, inbox-holds, board-holds, book-holds}
 
 -- a view that differs in its hand alone
@@ -81,7 +82,7 @@ module _ {S P K : Type 0} (handlers : Handlers S P K) (config : Config) (v w : V
   pub visited-there : (lent done : HeldWorker S P K) → WithHand v w → before ≡ lent → left ≡ done → Visited handlers config w before step reply left w.seen after → Visited handlers config v lent step reply done v.seen after
   visited-there lent done h was is r = subst (λ (k : HeldWorker S P K × HeldWorker S P K). Visited handlers config v k.0 step reply k.1 v.seen after) (λ i. (was i, is i)) (visited-held h r)
 
-module _ {S P : Type 0} (sim : Simulation S P) (config : Config) (m after : Sat P) (k : ℕ) (rests : Rests m) (t : Took sim config m k after) where
+module _ {S P : Type 0} {sim : Simulation S P} {config : Config} {m after : Sat P} {k : ℕ} (t : Took sim config m k after) (rests : Rests m) where
   -- a claim leaves the place as it was
   pub took-place : WithHand m.0 after.0
   took-place = (holding k (held_in t.slot), ap (λ (x : Sat P). x.0) t.after_is)
@@ -103,16 +104,17 @@ module _ {S P : Type 0} (sim : Simulation S P) (config : Config) (m after : Sat 
       let mails = inbox-holds world k (held_in t.slot) at in
       (mails.0, took-held (in_inbox mails.0) mails.1, mails.1)
 
+  took-there : IsLawful sim → (there : World P → Cell P) → held_in t.slot ≡ there (shown sim t.known.log) → TookThere sim config there m k after
+  took-there lawful there is = record { lawful = lawful; cell = held_in t.slot; known = t.known; holds = took-held (there (shown sim t.known.log)) is; place = took-place }
+
   -- the board's cell holds the board of the shown world
-  pub took-board : k ≡ sim.workers → Holding config after k (on_board (shown sim t.known.log).board) (on_board (shown sim t.known.log).board)
-  took-board is =
+  pub took-board : IsLawful sim → k ≡ sim.workers → TookThere sim config (λ world. on_board world.board) m k after
+  took-board lawful is =
       let world = shown sim t.known.log in
-      let at : content world board_cell ≡ Some (held_in t.slot) = ap (content world) (sym (board-name sim.workers k is)) ∙ t.known.shows in
-      took-held (on_board world.board) (board-holds world (held_in t.slot) at)
+      took-there lawful (λ n. on_board n.board) (board-holds world (held_in t.slot) (ap (content world) (sym (board-name sim.workers k is)) ∙ t.known.shows))
 
   -- and the book's cell its book
-  pub took-book : sim.workers < k → Holding config after k (in_book (shown sim t.known.log).book) (in_book (shown sim t.known.log).book)
-  took-book more =
+  pub took-book : IsLawful sim → sim.workers < k → TookThere sim config (λ world. in_book world.book) m k after
+  took-book lawful more =
       let world = shown sim t.known.log in
-      let at : content world book_cell ≡ Some (held_in t.slot) = ap (content world) (sym (book-name sim.workers k more)) ∙ t.known.shows in
-      took-held (in_book world.book) (book-holds world (held_in t.slot) at)
+      took-there lawful (λ n. in_book n.book) (book-holds world (held_in t.slot) (ap (content world) (sym (book-name sim.workers k more)) ∙ t.known.shows))

@@ -1,5 +1,5 @@
 -- A commit at the claimed book.
-use Rattle.std.proofs.Common.{◌≡◌, ℕ, true, false, ◌&&◌, List, map, refl, sym, ◌∙◌, ap, Result, Ok, Err, MatchResult, IfOk, slice_get}
+use Rattle.std.proofs.Common.{◌≡◌, ℕ, true, false, ◌&&◌, List, refl, sym, ◌∙◌, ap, Result, Ok, Err, MatchResult, IfOk, slice_get}
 use Rattle.vt_key.specs.Times.{Time, time_at_most}
 use Rattle.vt_key.specs.declared.fault.Fault.TheVariants.{Memory, Closed}
 use Rattle.vt_model.specs.declared.rows.Row.{Row}
@@ -14,8 +14,7 @@ use Rattle.vt_steps.specs.World.{Part, Book, book_floor}
 use Rattle.vt_steps.specs.PartSteps.{part_after_commit, rows_of_commit}
 use Rattle.vt_steps.specs.BookSteps.{may_commit, with_rows}
 use Rattle.vt_steps.specs.Cells.{Cell, Acted, in_book}
-use Rattle.vt_steps.specs.Marked.{answered, has_closed, shown}
-use Rattle.vt_steps.proofs.OwnCloses.{closed-known}
+use Rattle.vt_steps.specs.Marked.{shown}
 use Rattle.vt_steps.proofs.Tests.{both_pass}
 use Rattle.vt_kernel.specs.Held.{HeldWorker, StandsFor}
 use Rattle.vt_book.specs.Books.{may_hand, are_within}
@@ -48,7 +47,7 @@ module _ {S P K : Type 0} (handlers : Handlers S P K) (config : Config) (lawful 
 
   pub hand-lawful : (rows : List Row) (floor : Time) → floor ≡ k.floor → rows ≡ rows_of_commit (simulation_of handlers k.config) k.worker r.part → may_hand (record { end = (end_of config); book = book }) v.worker rows floor ≡ true
   hand-lawful rows floor is rows_are =
-      refusal.commit-may sim v cell found known r.steps r.part r.led lawful rows floor (rows_are ∙ rows-own r.part) (r.stands.floor ∙ sym is)
+      refusal.commit-may known r.steps r.part r.led lawful rows floor (rows_are ∙ rows-own r.part) (r.stands.floor ∙ sym is)
 
   pub may-there : (rows : List Row) (floor : Time) → floor ≡ k.floor → rows ≡ rows_of_commit (simulation_of handlers k.config) k.worker r.part → may_commit (slice_get book.floors v.worker) k.floor ≡ true
   may-there rows floor is rows_are =
@@ -70,21 +69,17 @@ module _ {S P K : Type 0} (handlers : Handlers S P K) (config : Config) (lawful 
   pub commit-left : (rows : List Row) (floor left : Time) → book.is_closed ≡ false → floor ≡ k.floor → rows ≡ rows_of_commit (simulation_of handlers k.config) k.worker r.part →
       left ≡ book_floor (end_of config) (with_rows v.worker rows floor book) → IsFloorLeft sim v (Commit v.worker) left
   commit-left rows floor left open_is is rows_are left_is =
-      refusal.commit-floor sim v cell found known r.steps r.part r.led lawful rows floor left (rows_are ∙ rows-own r.part) (r.stands.floor ∙ sym is) open_is
+      refusal.commit-floor known r.steps r.part r.led lawful rows floor left (rows_are ∙ rows-own r.part) (r.stands.floor ∙ sym is) open_is
       (ap (may_commit (slice_get book.floors v.worker)) r.stands.floor ∙ may-there rows floor is rows_are) left_is
 
   may-own : may_commit (slice_get book.floors v.worker) r.part.floor ≡ true
   may-own =
       let rows = rows_of_commit sim v.worker r.part in
       (both_pass (may_commit (slice_get book.floors v.worker) r.part.floor) (time_at_most r.part.floor (end_of config) && are_within (slice_get book.floors v.worker) r.part.floor rows)
-      (refusal.commit-may sim v cell found known r.steps r.part r.led lawful rows r.part.floor refl refl)).0
+      (refusal.commit-may known r.steps r.part r.led lawful rows r.part.floor refl refl)).0
 
   pub refused-closed : book.is_closed ≡ true → IsCommitRefusal sim v Closed
-  refused-closed closed = refusal.commit-closed sim v cell found known r.steps r.part r.led lawful closed
+  refused-closed closed = refusal.commit-closed known r.steps r.part r.led lawful closed
 
   pub refused-memory : book.is_closed ≡ false → IsCommitRefusal sim v Memory
-  refused-memory open_is = refusal.commit-memory sim v cell found known r.steps r.part r.led lawful open_is may-own
-
--- where a place has closed the book, it finds it closed
-pub once-closed : {S P : Type 0} (sim : Simulation S P) (v : View P) (cell : ℕ) (found : Cell P) (known : Known sim v cell found) → has_closed (map answered v.mine) ≡ true → (shown sim known.log).book.is_closed ≡ true
-once-closed sim v cell found known h = closed-known sim v.worker known.log known.right (ap has_closed known.mine ∙ h)
+  refused-memory open_is = refusal.commit-memory known r.steps r.part r.led lawful open_is may-own

@@ -11,7 +11,6 @@ use Rattle.vt_station.specs.declared.slot.Slot.{Slot}
 use Rattle.vt_station.specs.Slots.{held_in, IsSlotOf}
 use Rattle.vt_station.specs.Kept.{Sat}
 use Rattle.vt_station.specs.Calls.{Holding}
-use Rattle.vt_station.proofs.Cells.{same-found}
 
 -- ---- results
 
@@ -71,7 +70,3 @@ module _ {P : Type 0} (config : Config) (m : Sat P) (k : ℕ) (found now : Cell 
     now_is = is;
     right = right;
   }
-
--- what a seat found in a cell is one thing
-pub held-book : {P : Type 0} (config : Config) (m : Sat P) (k : ℕ) (a b : Book) (x y : Cell P) → Holding config m k (in_book a) x → Holding config m k (in_book b) y → a ≡ b
-held-book config m k a b x y h i = same-book a b (same-found k k (in_book a) (in_book b) (sym h.hand ∙ i.hand))

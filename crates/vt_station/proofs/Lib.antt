@@ -14,8 +14,10 @@ pub mod AloneLemmas
 pub mod Opening
 pub mod BoardLemmas
 pub mod BookLemmas
+pub mod BookAt
 pub mod RefusalLemmas
 pub mod CommitAt
 pub mod ReachLemmas
+pub mod WorkLemmas
 pub mod FinalLemmas
 pub mod CrewLemmas

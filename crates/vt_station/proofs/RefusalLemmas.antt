@@ -44,7 +44,7 @@ use Rattle.vt_station.proofs.BoardLemmas.{fails-first}
 use Rattle.vt_station.proofs.BookLemmas.{all-within, run-one}
 use Rattle.vt_station.proofs.Releases.{steps-lead}
 
-module _ {S P : Type 0} (sim : Simulation S P) (v : View P) (k : ℕ) (cell : Cell P) (known : Known sim v k cell) (steps : List Step) (before : Part P) (led : local_steps sim v.worker steps v.part ≡ Some before) where
+module _ {S P : Type 0} {sim : Simulation S P} {v : View P} {k : ℕ} {cell : Cell P} (known : Known sim v k cell) (steps : List Step) (before : Part P) (led : local_steps sim v.worker steps v.part ≡ Some before) where
   -- the world that was shown, and the same after the place's local steps
   abbrev there : World P
   there = shown sim known.log

@@ -22,9 +22,11 @@ use Rattle.vt_steps.proofs.Changes.{chain_has}
 use Rattle.vt_steps.proofs.LocalLeads.{leads, leads-nowhere}
 use Rattle.vt_kernel.specs.Held.{HeldWorker}
 use Rattle.vt_kernel.specs.Local.{local_step, local_steps}
+use Rattle.vt_station.specs.declared.view.View.{View}
+use Rattle.vt_station.specs.Hands.{empty_hand}
 use Rattle.vt_station.specs.Slots.{cell_count, word_at, empty_word, claimed_word, home_word, cell_at, held_in}
 use Rattle.vt_station.specs.Kept.{Sat, HasGrown, Kept, Rests}
-use Rattle.vt_station.specs.Calls.{seen_or, Unvisited, Closes, Reaches, Visited, Acts, Holding, ShowsFloor, MaySee}
+use Rattle.vt_station.specs.Calls.{seen_or, Unvisited, Closes, Known, Reaches, Visited, Acts, Holding, ShowsFloor, MaySee}
 use Rattle.vt_station.proofs.Growth.{grown-not}
 use Rattle.vt_station.proofs.Keeps.{releases, Looked, looks}
 
@@ -104,6 +106,33 @@ module _ {S P K : Type 0} (handlers : Handlers S P K) (config : Config) (lawful 
         },
       ))
 
+  -- what local steps and then one step at the cell leave of the view, where the cell had this in it
+  visited-at : (k : ℕ) (v : View P) (found now : Cell P) (before left : HeldWorker S P K) (step : Step) (reply : Reply) → IsAny (cell_of step) (cell_at config.workers k)
+      → (does : Acts handlers config step reply before found left now) (way : Reaches handlers config v before) (known : Known (simulation_of handlers config) v k found)
+      → Visited handlers config v before step reply left v.seen (record v {
+        part = (does.acts way.part way.stands).0;
+        mine = v.mine ++ (made_done way.steps ++ record { step = step; reply = reply } ∷ []);
+        log = known.log ++ marked v.worker (way.steps ++ step ∷ []);
+        hand = empty_hand;
+      })
+  visited-at k v found now before left step reply at does way known =
+      let a = does.acts way.part way.stands in
+      record {
+        visits = record {
+          steps = way.steps;
+          part = way.part;
+          led = way.led;
+          stood = way.stands;
+          mine = refl;
+          at = record { cell = k; about = at; found = found; now = now; known = known; gives = a.1; log = refl };
+          does = does;
+          stands = a.2;
+        };
+        same = record { worker = refl; made = refl; waiting = refl };
+        floor = refl;
+        rests = refl;
+      }
+
   -- after local steps and one step at the cell
   pub leaves-visited : (slots id k x : ℕ) (m : Sat P) (found now : Cell P) (before left : HeldWorker S P K) (step : Step) (reply : Reply) → k < cell_count config.workers
       → x ≢ claimed_word → (x ≡ empty_word → now ≡ in_inbox [])
@@ -119,24 +148,7 @@ module _ {S P K : Type 0} (handlers : Handlers S P K) (config : Config) (lawful 
       (λ (n : ℕ) (after : Sat P). (after.1 ≡ []) × Visited handlers config m.0 before step reply left m.0.seen after.0) near home (λ e _. h.now_is ∙ empty e) h.carried h.hand h.right
       (subst (λ (c : Cell P). Leads sim m.0.worker (cell_at sim.workers k) m.0.part found (way.steps ++ step ∷ []) a.0 c (made_done way.steps ++ record { step = step; reply = reply } ∷ [])) (sym h.now_is) goes)
       (λ log _. grown-not m.0.worker (log ++ marked m.0.worker (way.steps ++ step ∷ []))) (inl (le_refl m.0.seen))
-      (λ n known. (
-        refl,
-        record {
-          visits = record {
-            steps = way.steps;
-            part = way.part;
-            led = way.led;
-            stood = way.stands;
-            mine = refl;
-            at = record { cell = k; about = at; found = found; now = now; known = known; gives = a.1; log = refl };
-            does = does;
-            stands = a.2;
-          };
-          same = record { worker = refl; made = refl; waiting = refl };
-          floor = refl;
-          rests = refl;
-        },
-      ))
+      (λ n known. (refl, visited-at k m.0 found now before left step reply at does way known))
 
   -- at a load that finds an inbox empty, after local steps and one step that finds it so and leaves it so
   pub leaves-looked : (slots id k : ℕ) (m : Sat P) (before left : HeldWorker S P K) (step : Step) (reply : Reply) → k < config.workers → Rests m
@@ -148,24 +160,8 @@ module _ {S P K : Type 0} (handlers : Handlers S P K) (config : Config) (lawful 
       let a = does.acts way.part way.stands in
       looks sim config lawful slots id k m (way.steps ++ step ∷ []) a.0 (made_done way.steps ++ record { step = step; reply = reply } ∷ [])
       (λ after. (after.1 ≡ []) × Visited handlers config m.0 before step reply left m.0.seen after.0) near rests
-      (leads sim m.0.worker (cell_at sim.workers k) way.steps step m.0.part way.part a.0 (in_inbox []) (in_inbox []) reply (steps-lead sim m.0.worker way.steps m.0.part way.part way.led) whose at a.1) (λ known. (
-        refl,
-        record {
-          visits = record {
-            steps = way.steps;
-            part = way.part;
-            led = way.led;
-            stood = way.stands;
-            mine = refl;
-            at = record { cell = k; about = at; found = in_inbox []; now = in_inbox []; known = known; gives = a.1; log = refl };
-            does = does;
-            stands = a.2;
-          };
-          same = record { worker = refl; made = refl; waiting = refl };
-          floor = refl;
-          rests = refl;
-        },
-      ))
+      (leads sim m.0.worker (cell_at sim.workers k) way.steps step m.0.part way.part a.0 (in_inbox []) (in_inbox []) reply (steps-lead sim m.0.worker way.steps m.0.part way.part way.led) whose at a.1)
+      (λ known. (refl, visited-at k m.0 (in_inbox []) (in_inbox []) before left step reply at does way known))
 
   -- after a close
   pub leaves-closed : (slots id k : ℕ) (m : Sat P) (seen : Time) (found now : Cell P) → k < cell_count config.workers → cell_at config.workers k ≡ book_cell → Holding config m k found now

@@ -19,7 +19,7 @@ pub record AtWork (M S P K : Type 0) : Type 0 where
 -- steps lead from what the place left to what the kernel stands for
 pub record IsAtWork {M S P K : Type 0} (handlers : M → Handlers S P K) (told : M) (config : Config) (table : TableId) (w : AtWork M S P K) : Type 0 where
   pub config_is : config ≡ w.config
-  pub table_is : w.table ≡ table
+  pub table_is : table ≡ w.table
   pub model_is : told ≡ w.model
   pub reaches : Reaches (handlers w.model) w.config w.view w.kernel
 

@@ -10,13 +10,14 @@ use Rattle.vt_key.specs.declared.limits.TheConstants.{MAX_COUNT}
 use Rattle.vt_model.specs.declared.rows.Record.{Record}
 use Rattle.vt_model.specs.declared.settings.Config.{Config}
 use Rattle.vt_model.specs.Handler.{Handlers}
+use Rattle.vt_model.specs.Histories.{IsLawful}
 use Rattle.vt_model.specs.Simulation.{Simulation, simulation_of}
 use Rattle.vt_model.specs.Sequential.{seq_records}
 use Rattle.vt_steps.specs.declared.step.Step.{Step}
 use Rattle.vt_steps.specs.declared.step.Step.TheVariants.{Cut, Report, Commit, Close}
 use Rattle.vt_steps.specs.declared.step.Reply.{Reply}
 use Rattle.vt_steps.specs.declared.step.Reply.TheVariants.{Done}
-use Rattle.vt_steps.specs.World.{Part, book_floor}
+use Rattle.vt_steps.specs.World.{Part, World, book_floor}
 use Rattle.vt_steps.specs.Letters.{Counts, is_empty, count_of, count_colour}
 use Rattle.vt_steps.specs.PartSteps.{letters_for}
 use Rattle.vt_steps.specs.Next.{next, run, reached, may_send}
@@ -29,7 +30,7 @@ use Rattle.vt_kernel.specs.Guards.{IsSendRefusal}
 use Rattle.vt_kernel.specs.Refusals.{IsStepRefusal}
 use Rattle.vt_station.specs.declared.slot.Slot.{Slot}
 use Rattle.vt_station.specs.declared.view.View.{View}
-use Rattle.vt_station.specs.Hands.{empty_hand, holding}
+use Rattle.vt_station.specs.Hands.{Hand, empty_hand, holding}
 use Rattle.vt_station.specs.Slots.{cell_at, held_in, IsSlotOf}
 use Rattle.vt_station.specs.Kept.{Sat, HasGrown}
 
@@ -157,6 +158,14 @@ pub record Holding {P : Type 0} (config : Config) (m : Sat P) (k : ℕ) (found n
   pub carried : m.1 ≡ (k, slot) ∷ []
   pub now_is : held_in slot ≡ now
   pub right : IsSlotOf config k slot
+
+-- the seat has claimed cell k, and holds what this reads of the shown world. Its place is as it was
+pub record TookThere {S P : Type 0} (sim : Simulation S P) (config : Config) (there : World P → Cell P) (m : Sat P) (k : ℕ) (after : Sat P) : Type 0 where
+  pub lawful : IsLawful sim
+  pub cell : Cell P
+  pub known : Known sim m.0 k cell
+  pub holds : Holding config after k (there (shown sim known.log)) (there (shown sim known.log))
+  pub place : (hand : Hand P) × (after.0 ≡ record m.0 { hand = hand })
 
 -- the floor that a place is shown by this cell: it is the book, and has this floor
 abbrev pub ShowsFloor : {P : Type 0} → Time → Time → Cell P → Type 0

@@ -156,7 +156,7 @@ impl<M: EventModel> Station<M> {
     {
         let batch = batch_of(alloc, kernel);
         let floor = kernel.floor();
-        if !self.claim(seat, self.workers + 1) {
+        if !self.claim_book(seat) {
             return Err(Fault::Busy);
         }
         match self.hand_in(seat, worker, batch, floor) {
@@ -188,7 +188,7 @@ impl<M: EventModel> Station<M> {
         ensures refused { let key = self.now.table.shared.key in IfErr result (λ fault. IsCloseRefusal (simulation_of (M.handlers key.model.value) key.config) seat.old.me.0 fault) }
         ensures closed { IsRefusedOnceClosed seat.old.me.0 result }
     {
-        if !self.claim(seat, self.workers + 1) {
+        if !self.claim_book(seat) {
             return Err(Fault::Busy);
         }
         match self.close_book(seat) {
@@ -213,7 +213,7 @@ impl<M: EventModel> Station<M> {
             (λ _. Stays seat.old.me.0 seat.new.me.0) }
         ensures refused { let key = self.now.table.shared.key in IfErr result (λ fault. IsRecordsRefusal (simulation_of (M.handlers key.model.value) key.config) fault) }
     {
-        if !self.claim(seat, self.workers + 1) {
+        if !self.claim_book(seat) {
             return Err(Fault::Busy);
         }
         match self.copy_records(alloc, seat) {
@@ -241,7 +241,7 @@ impl<M: EventModel> Station<M> {
         ensures refused { IfErr result (λ fault. (fault ≡ Busy) × (1 < (station_config self.now).workers)) }
     {
         let Place { mut seat, .. } = place;
-        if !self.claim(&mut seat, self.workers + 1) {
+        if !self.claim_book(&mut seat) {
             return Err(Fault::Busy);
         }
         Ok(self.take_records(alloc, &mut seat))

@@ -56,7 +56,7 @@ impl<M: EventModel> Station<M> {
             (λ _. Stays seat.old.me.0 seat.new.me.0 × (kernel.new ≡ kernel.old)) }
         ensures refused { let key = self.now.table.shared.key in IfErr result (λ fault. IsCutRefusal (simulation_of (M.handlers key.model.value) key.config) seat.old.me.0 fault) }
     {
-        if !self.claim(seat, self.workers) {
+        if !self.claim_board(seat) {
             return Err(Fault::Busy);
         }
         let before = Snapshot::of(kernel);
@@ -127,7 +127,7 @@ impl<M: EventModel> Station<M> {
         ensures refused { let key = self.now.table.shared.key in IfErr result (λ fault. IsReportRefusal (simulation_of (M.handlers key.model.value) key.config) seat.old.me.0 fault) }
     {
         let (sent, got, least) = kernel.report_values();
-        if !self.claim(seat, self.workers) {
+        if !self.claim_board(seat) {
             return Err(Fault::Busy);
         }
         let before = Snapshot::of(kernel);

@@ -1,19 +1,20 @@
 //! The station and its places.
 
-ghost use Rattle.std.specs.Prelude.{◌≡◌, ◌<◌, ◌≤◌, [], true, false, Ok};
+ghost use Rattle.std.specs.Prelude.{◌≡◌, ◌<◌, ◌≤◌, ◌+◌, [], true, false, Ok};
 ghost use Rattle.atomic_table.specs.Table.{Allows};
+ghost use Rattle.vt_model.specs.Histories.{IsLawful};
 ghost use Rattle.vt_model.specs.Simulation.{simulation_of};
 ghost use Rattle.vt_model.specs.Settings.{end_of};
 ghost use Rattle.vt_steps.specs.declared.step.Step.TheVariants.{Close};
 ghost use Rattle.vt_steps.specs.declared.step.Reply.TheVariants.{Done};
 ghost use Rattle.vt_steps.specs.World.{Part};
-ghost use Rattle.vt_steps.specs.Cells.{Cell, in_inbox, worker_of, cell_of, book_cell, act};
+ghost use Rattle.vt_steps.specs.Cells.{Cell, in_inbox, on_board, in_book, worker_of, cell_of, book_cell, act};
 ghost use Rattle.vt_steps.specs.Laws.{IsAny};
 ghost use Rattle.vt_key.specs.declared.limits.TheConstants.{MAX_WORKERS};
 ghost use Rattle.vt_station.specs.Slots.{cell_count, word_at, claimed_word, cell_at};
 ghost use Rattle.vt_station.specs.Kept.{Kept, Rests};
 ghost use Rattle.vt_station.specs.Commits.{CommitsTo, Commits};
-ghost use Rattle.vt_station.specs.Calls.{IsShown, Took, Holding, Acts, MaySee, Reaches, Visited, Unvisited, Closes, ShowsFloor, seen_or};
+ghost use Rattle.vt_station.specs.Calls.{IsShown, Took, TookThere, Holding, Acts, MaySee, Reaches, Visited, Unvisited, Closes, ShowsFloor, seen_or};
 
 use crate::rule::{About, Aim, Law, Tell};
 use crate::slot::Slot;
@@ -88,57 +89,51 @@ pub(crate) fn words_of(cells: usize) -> usize
     STRIDE * cells
 }
 
-/// Puts the word that says that a cell is claimed in the place of the cell's word, and returns what stood there. `_told`
-/// only fixes the type of the aim.
-fn swap<M: EventModel, J: Aim<M::Payload>, T>(
-    shelf: &Shelf<M>,
-    seat: &mut Seat<M>,
-    cell: usize,
-    _told: &T,
-) -> u64
-    requires table { seat.old.table_id ≡ shelf.now.table_id }
-    requires few { cell < cell_count MAX_WORKERS }
-    requires near { word_at cell < shelf.now.table_id.words }
-    requires allowed { Allows (Kept (simulation_of (M.handlers shelf.now.key.model.value) shelf.now.key.config) shelf.now.key.config) shelf.now.table_id.slots seat.old.id seat.old.me (word_at cell) (λ _. claimed_word) J.after }
-    ensures same { (seat.new.table_id ≡ seat.old.table_id) × (seat.new.id ≡ seat.old.id) }
-    ensures told { J.after result seat.new.me }
-{
-    shelf.swap::<Tell<J>>(seat, words_of(cell), CLAIMED)
-}
+impl<M: EventModel> Station<M> {
+    /// The index of the word of a cell.
+    fn word_of(&self, cell: usize) -> usize
+        requires near { cell < cell_count self.now.workers }
+        ensures word { result ≡ word_at cell }
+        ensures within { result < self.now.table.shared.table_id.words }
+        ensures near { let config = self.now.table.shared.key.config in cell < cell_count config.workers }
+    {
+        words_of(cell)
+    }
 
-/// Stores a word. `_told` only fixes the type of the aim.
-fn store<M: EventModel, J: Aim<M::Payload>, T>(
-    shelf: &Shelf<M>,
-    seat: &mut Seat<M>,
-    cell: usize,
-    word: u64,
-    _told: &T,
-)
-    requires table { seat.old.table_id ≡ shelf.now.table_id }
-    requires few { cell < cell_count MAX_WORKERS }
-    requires near { word_at cell < shelf.now.table_id.words }
-    requires allowed { Allows (Kept (simulation_of (M.handlers shelf.now.key.model.value) shelf.now.key.config) shelf.now.key.config) shelf.now.table_id.slots seat.old.id seat.old.me (word_at cell) (λ _. word) (λ _. J.after word) }
-    ensures same { (seat.new.table_id ≡ seat.old.table_id) × (seat.new.id ≡ seat.old.id) }
-    ensures told { J.after word seat.new.me }
-{
-    shelf.store::<Tell<J>>(seat, words_of(cell), word);
-}
+    /// Puts the word that says that a cell is claimed in the place of the cell's word, and returns what stood there. `_told`
+    /// only fixes the type of the aim.
+    fn swap<J: Aim<M::Payload>, T>(&self, seat: &mut Seat<M>, cell: usize, _told: &T) -> u64
+        requires table { seat.old.table_id ≡ self.now.table.shared.table_id }
+        requires near { cell < cell_count self.now.workers }
+        requires allowed { let shelf = self.now.table.shared in cell < cell_count shelf.key.config.workers → Allows (Kept (simulation_of (M.handlers shelf.key.model.value) shelf.key.config) shelf.key.config) shelf.table_id.slots seat.old.id seat.old.me (word_at cell) (λ _. claimed_word) J.after }
+        ensures told { (seat.new.table_id ≡ seat.old.table_id) × (seat.new.id ≡ seat.old.id) × J.after result seat.new.me }
+    {
+        self.table
+            .shared
+            .swap::<Tell<J>>(seat, self.word_of(cell), CLAIMED)
+    }
 
-/// Loads a word. `_told` only fixes the type of the aim.
-fn load<M: EventModel, J: Aim<M::Payload>, T>(
-    shelf: &Shelf<M>,
-    seat: &mut Seat<M>,
-    cell: usize,
-    _told: &T,
-) -> u64
-    requires table { seat.old.table_id ≡ shelf.now.table_id }
-    requires few { cell < cell_count MAX_WORKERS }
-    requires near { word_at cell < shelf.now.table_id.words }
-    requires allowed { Allows (Kept (simulation_of (M.handlers shelf.now.key.model.value) shelf.now.key.config) shelf.now.key.config) shelf.now.table_id.slots seat.old.id seat.old.me (word_at cell) (λ n. n) J.after }
-    ensures same { (seat.new.table_id ≡ seat.old.table_id) × (seat.new.id ≡ seat.old.id) }
-    ensures told { J.after result seat.new.me }
-{
-    shelf.load::<Tell<J>>(seat, words_of(cell))
+    /// Stores a word. `_told` only fixes the type of the aim.
+    fn store<J: Aim<M::Payload>, T>(&self, seat: &mut Seat<M>, cell: usize, word: u64, _told: &T)
+        requires table { seat.old.table_id ≡ self.now.table.shared.table_id }
+        requires near { cell < cell_count self.now.workers }
+        requires allowed { let shelf = self.now.table.shared in let sim = simulation_of (M.handlers shelf.key.model.value) shelf.key.config in IsLawful sim → cell < cell_count shelf.key.config.workers → Allows (Kept sim shelf.key.config) shelf.table_id.slots seat.old.id seat.old.me (word_at cell) (λ _. word) (λ _. J.after word) }
+        ensures told { (seat.new.table_id ≡ seat.old.table_id) × (seat.new.id ≡ seat.old.id) × J.after word seat.new.me }
+    {
+        self.table
+            .shared
+            .store::<Tell<J>>(seat, self.word_of(cell), word);
+    }
+
+    /// Loads a word. `_told` only fixes the type of the aim.
+    fn load<J: Aim<M::Payload>, T>(&self, seat: &mut Seat<M>, cell: usize, _told: &T) -> u64
+        requires table { seat.old.table_id ≡ self.now.table.shared.table_id }
+        requires near { cell < cell_count self.now.workers }
+        requires allowed { let shelf = self.now.table.shared in let sim = simulation_of (M.handlers shelf.key.model.value) shelf.key.config in IsLawful sim → Allows (Kept sim shelf.key.config) shelf.table_id.slots seat.old.id seat.old.me (word_at cell) (λ n. n) J.after }
+        ensures told { (seat.new.table_id ≡ seat.old.table_id) × (seat.new.id ≡ seat.old.id) × J.after result seat.new.me }
+    {
+        self.table.shared.load::<Tell<J>>(seat, self.word_of(cell))
+    }
 }
 
 impl<M: EventModel> Station<M> {
@@ -151,7 +146,29 @@ impl<M: EventModel> Station<M> {
         ensures claimed { let key = self.now.table.shared.key in result ≡ true → Took (simulation_of (M.handlers key.model.value) key.config) key.config seat.old.me cell seat.new.me }
         ensures busy { result ≡ false → (seat.new.me ≡ seat.old.me) × (1 < self.now.workers) }
     {
-        swap::<M, Brand, ()>(&self.table.shared, seat, cell, &()) != CLAIMED
+        self.swap::<Brand, ()>(seat, cell, &()) != CLAIMED
+    }
+
+    /// Tries once to claim the board.
+    pub(crate) fn claim_board(&self, seat: &mut Seat<M>) -> bool
+        requires table { seat.old.table_id ≡ self.now.table.shared.table_id }
+        requires rests { Rests seat.old.me }
+        ensures same { (seat.new.table_id ≡ seat.old.table_id) × (seat.new.id ≡ seat.old.id) }
+        ensures claimed { let key = self.now.table.shared.key in result ≡ true → TookThere (simulation_of (M.handlers key.model.value) key.config) key.config (λ world. on_board world.board) seat.old.me self.now.workers seat.new.me }
+        ensures busy { result ≡ false → (seat.new.me ≡ seat.old.me) × (1 < self.now.workers) }
+    {
+        self.claim(seat, self.workers)
+    }
+
+    /// Tries once to claim the book.
+    pub(crate) fn claim_book(&self, seat: &mut Seat<M>) -> bool
+        requires table { seat.old.table_id ≡ self.now.table.shared.table_id }
+        requires rests { Rests seat.old.me }
+        ensures same { (seat.new.table_id ≡ seat.old.table_id) × (seat.new.id ≡ seat.old.id) }
+        ensures claimed { let key = self.now.table.shared.key in result ≡ true → TookThere (simulation_of (M.handlers key.model.value) key.config) key.config (λ world. in_book world.book) seat.old.me (self.now.workers + 1) seat.new.me }
+        ensures busy { result ≡ false → (seat.new.me ≡ seat.old.me) × (1 < self.now.workers) }
+    {
+        self.claim(seat, self.workers + 1)
     }
 
     /// Reads one word of the table and changes nothing. The read tells contracts that some list of steps leads to a world in
@@ -163,7 +180,7 @@ impl<M: EventModel> Station<M> {
         ensures unchanged { seat.new.me ≡ seat.old.me }
         ensures shown { let key = self.now.table.shared.key in IsShown (simulation_of (M.handlers key.model.value) key.config) seat.old.me.0 }
     {
-        let _ = load::<M, Brand, ()>(&self.table.shared, seat, 0, &());
+        let _ = self.load::<Brand, ()>(seat, 0, &());
     }
 
     /// Looks at a worker's inbox by one load, and answers whether it is empty. If it is, the worker's steps that find it
@@ -179,7 +196,7 @@ impl<M: EventModel> Station<M> {
         ensures done { let key = self.now.table.shared.key in result ≡ true → Visited (M.handlers key.model.value) key.config seat.old.me.0 visit.now.before.value visit.now.step visit.now.reply visit.now.left.value seat.old.me.0.seen seat.new.me.0 }
         ensures not { result ≡ false → seat.new.me ≡ seat.old.me }
     {
-        load::<M, Brand, Visit<M>>(&self.table.shared, seat, cell, visit) == EMPTY
+        self.load::<Brand, Visit<M>>(seat, cell, visit) == EMPTY
     }
 
     /// Gives a cell back after a step. The worker's steps are put behind all others in the list of steps.
@@ -193,7 +210,7 @@ impl<M: EventModel> Station<M> {
         ensures same { (seat.new.table_id ≡ seat.old.table_id) × (seat.new.id ≡ seat.old.id) × Rests seat.new.me }
         ensures done { let key = self.now.table.shared.key in Visited (M.handlers key.model.value) key.config seat.old.me.0 visit.now.before.value visit.now.step visit.now.reply visit.now.left.value seat.old.me.0.seen seat.new.me.0 }
     {
-        store::<M, Brand, Visit<M>>(&self.table.shared, seat, cell, HOME, visit);
+        self.store::<Brand, Visit<M>>(seat, cell, HOME, visit);
     }
 
     /// Gives an inbox back empty after a step. The worker's steps are put behind all others in the list of steps.
@@ -207,7 +224,7 @@ impl<M: EventModel> Station<M> {
         ensures same { (seat.new.table_id ≡ seat.old.table_id) × (seat.new.id ≡ seat.old.id) × Rests seat.new.me }
         ensures done { let key = self.now.table.shared.key in Visited (M.handlers key.model.value) key.config seat.old.me.0 visit.now.before.value visit.now.step visit.now.reply visit.now.left.value seat.old.me.0.seen seat.new.me.0 }
     {
-        store::<M, Brand, Visit<M>>(&self.table.shared, seat, cell, EMPTY, visit);
+        self.store::<Brand, Visit<M>>(seat, cell, EMPTY, visit);
     }
 
     /// Gives a cell back unchanged; a floor of the book may have been shown.
@@ -218,7 +235,7 @@ impl<M: EventModel> Station<M> {
         ensures same { (seat.new.table_id ≡ seat.old.table_id) × (seat.new.id ≡ seat.old.id) × Rests seat.new.me }
         ensures stays { Unvisited seat.old.me.0 (seen_or seat.old.me.0.seen seen) seat.new.me.0 }
     {
-        store::<M, Brand, Option<When>>(&self.table.shared, seat, cell, HOME, &seen);
+        self.store::<Brand, Option<When>>(seat, cell, HOME, &seen);
     }
 
     /// Gives the cell of the book back after a commit. The worker's steps are put behind all others in the list of steps,
@@ -234,7 +251,7 @@ impl<M: EventModel> Station<M> {
         ensures same { (seat.new.table_id ≡ seat.old.table_id) × (seat.new.id ≡ seat.old.id) × Rests seat.new.me }
         ensures done { let key = self.now.table.shared.key in Commits (M.handlers key.model.value) key.config seat.old.me.0 lent.now.worker lent.now.kernel.value lent.now.seen seat.new.me.0 }
     {
-        store::<M, Brand, Lent<M>>(&self.table.shared, seat, cell, HOME, lent);
+        self.store::<Brand, Lent<M>>(seat, cell, HOME, lent);
     }
 
     /// Gives the cell of the book back closed.
@@ -247,6 +264,6 @@ impl<M: EventModel> Station<M> {
         ensures same { (seat.new.table_id ≡ seat.old.table_id) × (seat.new.id ≡ seat.old.id) × Rests seat.new.me }
         ensures done { let key = self.now.table.shared.key in Closes (simulation_of (M.handlers key.model.value) key.config) seat.old.me.0 seen seat.new.me.0 }
     {
-        store::<M, Brand, When>(&self.table.shared, seat, cell, HOME, &seen);
+        self.store::<Brand, When>(seat, cell, HOME, &seen);
     }
 }

@@ -1,7 +1,6 @@
 use Rattle.std.proofs.Common.{◌≡◌, refl, sym, ap, subst, ◌∙◌}
 use Rattle.vt_model.specs.declared.settings.Config.{Config}
 use Rattle.vt_model.specs.Simulation.{simulation_of}
-use Rattle.vt_model.proofs.LawLemmas.{lawful_of}
 use Rattle.vt_model.specs.Settings.{end_of}
 use Rattle.vt_steps.specs.declared.step.Step.TheVariants.{Cut}
 use Rattle.vt_steps.specs.declared.step.Reply.TheVariants.{Done}
@@ -12,29 +11,22 @@ use Rattle.vt_kernel.specs.Held.{HeldWorker, StandsFor}
 use Rattle.vt_board.specs.Calls.{cut_outcome}
 use Rattle.vt_station.specs.Calls.{Acts}
 use Rattle.vt_station.proofs.ActLemmas.{act-cut}
-use Rattle.vt_station.proofs.CallLemmas.{took-board, took-place, visited-there}
+use Rattle.vt_station.proofs.CallLemmas.{visited-there}
 use Rattle.vt_station.proofs.RefusalLemmas.{cut-refused}
 use Rattle.vt_station.proofs.station.Station.cut_at.Goals as goal
 
 pub cut_board-requires-clause-held : goal.cut_board-requires-clause-held
-cut_board-requires-clause-held g c κs within =
-    let key = c.args.self.now.table.shared.key in
-    let sim = simulation_of (g.M.Model.handlers key.model.value) key.config in
-    let counted = c.args.self.now.counted in
-    let t = c.if-not-claim.ensures.claimed refl in
-    ((shown sim t.known.log).board, took-board sim key.config c.args.seat.now.me c.claim.new.seat.me c.args.self.now.workers c.requires.rests t (sym counted))
+cut_board-requires-clause-held g c κs within = (_, (c.if-not-claim_board.ensures.claimed refl).holds)
 
 pub release_visit-requires-clause-held : goal.release_visit-requires-clause-held
 release_visit-requires-clause-held g c κs within =
     let key = c.args.self.now.table.shared.key in
     let H = g.M.Model.handlers key.model.value in
     let sim = simulation_of H key.config in
-    let counted = c.args.self.now.counted in
     let k = c.args.kernel.now in
-    let t = c.if-not-claim.ensures.claimed refl in
+    let t = c.if-not-claim_board.ensures.claimed refl in
     let board = (shown sim t.known.log).board in
-    let took = took-board sim key.config c.args.seat.now.me c.claim.new.seat.me c.args.self.now.workers c.requires.rests t (sym counted) in
-    let d = c.in-Ok.ensures.done board took in
+    let d = c.in-Ok.ensures.done board t.holds in
     let same : k.config ≡ key.config = c.requires.kernel.config_is in
     let end : (end_of k.config) ≡ (end_of key.config) = ap (λ (f : Config). (end_of f)) same in
     let acts : Acts H key.config (Cut c.args.worker) Done k (on_board board) c.turn.new.self (on_board d.0) = record {
@@ -57,23 +49,14 @@ release_visit-requires-clause-held g c κs within =
 pub returns-in-Err-clause-refused : goal.returns-in-Err-clause-refused
 returns-in-Err-clause-refused g c =
     let key = c.args.self.now.table.shared.key in
-    let m = key.model.value in
-    let H = g.M.Model.handlers m in
-    let sim = simulation_of H key.config in
-    let counted = c.args.self.now.counted in
-    let t = c.if-not-claim.ensures.claimed refl in
-    let board = (shown sim t.known.log).board in
-    let took = took-board sim key.config c.args.seat.now.me c.claim.new.seat.me c.args.self.now.workers c.requires.rests t (sym counted) in
-    let d = c.in-Err.ensures.done board took in
+    let t = c.if-not-claim_board.ensures.claimed refl in
+    let board = (shown (simulation_of (g.M.Model.handlers key.model.value) key.config) t.known.log).board in
     let r = c.requires.kernel in
-    cut-refused sim c.args.seat.now.me.0 c.args.self.now.workers _ t.known r.steps r.part r.led (lawful_of H key.config (g.met.M.Model.start_within m) (g.met.M.Model.forward_within m)) c.in-Err.fault
-    (ap (λ w. cut_outcome (end_of key.config) w board) c.requires.worker ∙ d.1)
+    cut-refused t.known r.steps r.part r.led t.lawful c.in-Err.fault (ap (λ w. cut_outcome (end_of key.config) w board) c.requires.worker ∙ (c.in-Err.ensures.done board t.holds).1)
 
 pub returns-in-Ok-clause-done : goal.returns-in-Ok-clause-done
 returns-in-Ok-clause-done g c =
     let key = c.args.self.now.table.shared.key in
-    let H = g.M.Model.handlers key.model.value in
-    let t = c.if-not-claim.ensures.claimed refl in
-    let place = took-place (simulation_of H key.config) key.config c.args.seat.now.me c.claim.new.seat.me c.args.self.now.workers c.requires.rests t in
-    visited-there H key.config c.args.seat.now.me.0 c.cut_board.new.seat.me.0 c.of-before.result.value c.of.result.value (Cut c.args.worker) Done c.release_visit.new.seat.me.0
+    let place = (c.if-not-claim_board.ensures.claimed refl).place in
+    visited-there (g.M.Model.handlers key.model.value) key.config c.args.seat.now.me.0 c.cut_board.new.seat.me.0 c.of-before.result.value c.of.result.value (Cut c.args.worker) Done c.release_visit.new.seat.me.0
     c.args.kernel.now c.turn.new.self (place.0, c.in-Ok.ensures.same.2 ∙ place.1) c.of-before.ensures c.of.ensures c.release_visit.ensures.done

@@ -15,7 +15,7 @@ returns-in-Ok-clause-done g c =
     let H = g.M.Model.handlers key.model.value in
     let sim = simulation_of H key.config in
     let t = subst (λ (m : Sat _). Took sim key.config m c.args.worker c.claim.new.seat.me) (c.if-finds_nothing.ensures.not refl) (c.if-not-claim.ensures.claimed refl) in
-    let place = took-place sim key.config c.args.seat.now.me c.claim.new.seat.me c.args.worker c.requires.rests t in
+    let place = took-place t c.requires.rests in
     visited-there H key.config c.args.seat.now.me.0 c.take_letters.new.seat.me.0 c.of-before.result.value c.of.result.value (Fetch c.args.worker) Done c.release_emptied.new.seat.me.0
     c.args.kernel.now c.take_letters.new.kernel (place.0, c.in-Ok.ensures.same.2 ∙ place.1) c.of-before.ensures c.of.ensures c.release_emptied.ensures.done
 
@@ -29,7 +29,7 @@ returns-in-Err-clause-refused g c part s =
     let known = c.requires.known in
     let near : w < key.config.workers = omega arith in
     let t = subst (λ (m : Sat _). Took sim key.config m w c.claim.new.seat.me) (c.if-finds_nothing.ensures.not refl) (c.if-not-claim.ensures.claimed refl) in
-    let box = took-inbox sim key.config c.args.seat.now.me c.claim.new.seat.me w c.requires.rests t near in
+    let box = took-inbox t c.requires.rests near in
     elim (c.in-Err.ensures.refused box.0 box.1) [
       | inl x ↦ inl (x.0, ap is_empty s.arrived ∙ x.1)
       | inr x ↦ inr (

@@ -4,5 +4,5 @@ use Rattle.vt_station.proofs.station.Station.look_at.Given as goal
 
 abbrev pub ghosts-load : goal.ghosts-load
 ghosts-load g a =
-    let key = a.shelf.now.key in
+    let key = a.self.now.table.shared.key in
     record { after = λ n m. Read (simulation_of (g.M.Model.handlers key.model.value) key.config) key.config a.seat.now.me m }

@@ -22,7 +22,6 @@ pub returns-clause-done : goal.returns-clause-done
 returns-clause-done g c =
     let key = c.args.self.now.table.shared.key in
     let H = g.M.Model.handlers key.model.value in
-    let sim = simulation_of H key.config in
     let m = c.args.seat.now.me in
     let mails = c.requires.held.0 in
     let held = c.requires.held.1 in

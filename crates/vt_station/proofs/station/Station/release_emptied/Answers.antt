@@ -1,36 +1,12 @@
-use Rattle.std.proofs.Common.{◌<◌, [], refl, arith}
-use Rattle.vt_model.proofs.LawLemmas.{lawful_of}
+use Rattle.std.proofs.Common.{[], refl}
 use Rattle.vt_steps.specs.Cells.{in_inbox}
-use Rattle.vt_station.specs.Slots.{cell_count, empty_word}
+use Rattle.vt_station.specs.Slots.{empty_word}
 use Rattle.vt_station.proofs.Releases.{empty-not_claimed, leaves-visited}
 use Rattle.vt_station.proofs.station.Station.release_emptied.Goals as goal
 
-pub store-requires-clause-few : goal.store-requires-clause-few
-store-requires-clause-few g c =
-    let counted = c.args.self.now.counted in
-    let few = c.args.self.now.table.shared.key.config.few_workers in
-    let near = c.requires.near in
-    omega arith
-
-pub store-requires-clause-near : goal.store-requires-clause-near
-store-requires-clause-near g c =
-    let words = c.args.self.now.words in
-    let near = c.requires.near in
-    omega arith
-
 pub store-requires-clause-allowed : goal.store-requires-clause-allowed
-store-requires-clause-allowed g c κs within =
+store-requires-clause-allowed g c κs within lawful near =
     let key = c.args.self.now.table.shared.key in
-    let m = key.model.value in
-    let counted = c.args.self.now.counted in
-    let near : c.args.cell < cell_count key.config.workers = (let n = c.requires.near in omega arith) in
     let h = c.requires.held in
     let v = c.args.visit.now in
-    leaves-visited (g.M.Model.handlers m) key.config (lawful_of (g.M.Model.handlers m) key.config (g.met.M.Model.start_within m) (g.met.M.Model.forward_within m))
-    c.args.self.now.table.shared.table_id.slots c.args.seat.now.id c.args.cell empty_word c.args.seat.now.me h.0 (in_inbox []) v.before.value v.left.value v.step v.reply near empty-not_claimed (λ _. refl) c.requires.marks.0 c.requires.marks.1 h.1 h.2 c.requires.kernel
-
-pub returns-clause-same : goal.returns-clause-same
-returns-clause-same g c = (c.store.ensures.same.0, c.store.ensures.same.1, (c.store.ensures.told.1.rests, c.store.ensures.told.0))
-
-pub returns-clause-done : goal.returns-clause-done
-returns-clause-done g c = c.store.ensures.told.1
+    leaves-visited (g.M.Model.handlers key.model.value) key.config lawful c.args.self.now.table.shared.table_id.slots c.args.seat.now.id c.args.cell empty_word c.args.seat.now.me h.0 (in_inbox []) v.before.value v.left.value v.step v.reply near empty-not_claimed (λ _. refl) c.requires.marks.0 c.requires.marks.1 h.1 h.2 c.requires.kernel

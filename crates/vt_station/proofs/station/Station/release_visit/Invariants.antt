@@ -4,6 +4,6 @@ use Rattle.vt_station.proofs.station.Station.release_visit.Given as goal
 
 abbrev pub ghosts-store : goal.ghosts-store
 ghosts-store g a =
-    let key = a.shelf.now.key in
+    let key = a.self.now.table.shared.key in
     let v = a._told.now in
     record { after = λ n m. (m.1 ≡ []) × Visited (g.M.Model.handlers key.model.value) key.config a.seat.now.me.0 v.before.value v.step v.reply v.left.value a.seat.now.me.0.seen m.0 }

@@ -16,33 +16,26 @@ use Rattle.vt_board.specs.Calls.{takes_report}
 use Rattle.vt_board.proofs.CellSteps.{least-ends}
 use Rattle.vt_station.specs.Calls.{Acts, Visited, IsReportRefusal}
 use Rattle.vt_station.proofs.ActLemmas.{act-report}
-use Rattle.vt_station.proofs.CallLemmas.{took-board, took-place, visited-there}
+use Rattle.vt_station.proofs.CallLemmas.{visited-there}
 use Rattle.vt_station.proofs.RefusalLemmas.{report-refused}
 use Rattle.vt_station.proofs.station.Station.report_at.Goals as goal
 
 pub report_board-requires-clause-held : goal.report_board-requires-clause-held
-report_board-requires-clause-held g c κs within =
-    let key = c.args.self.now.table.shared.key in
-    let sim = simulation_of (g.M.Model.handlers key.model.value) key.config in
-    let counted = c.args.self.now.counted in
-    let t = c.if-not-claim.ensures.claimed refl in
-    ((shown sim t.known.log).board, took-board sim key.config c.args.seat.now.me c.claim.new.seat.me c.args.self.now.workers c.requires.rests t (sym counted))
+report_board-requires-clause-held g c κs within = (_, (c.if-not-claim_board.ensures.claimed refl).holds)
 
 pub release_visit-requires-clause-held : goal.release_visit-requires-clause-held
 release_visit-requires-clause-held g c κs within =
     let key = c.args.self.now.table.shared.key in
     let H = g.M.Model.handlers key.model.value in
     let sim = simulation_of H key.config in
-    let counted = c.args.self.now.counted in
     let k = c.args.kernel.now in
     let w = c.args.worker in
     let sent = c.report_values-sent.result.0 in
     let got = c.report_values-sent.result.1 in
     let least = c.report_values-sent.result.2 in
-    let t = c.if-not-claim.ensures.claimed refl in
+    let t = c.if-not-claim_board.ensures.claimed refl in
     let board = (shown sim t.known.log).board in
-    let took = took-board sim key.config c.args.seat.now.me c.claim.new.seat.me c.args.self.now.workers c.requires.rests t (sym counted) in
-    let d = c.in-Ok.ensures.done board took in
+    let d = c.in-Ok.ensures.done board t.holds in
     let with_its = with_report w sent got least board in
     let new = board_after_report (end_of key.config) with_its in
     let end : (end_of k.config) ≡ (end_of key.config) = ap (λ (f : Config). (end_of f)) c.requires.kernel.config_is in
@@ -74,13 +67,11 @@ returns-in-Err-clause-refused g c =
     let key = c.args.self.now.table.shared.key in
     let H = g.M.Model.handlers key.model.value in
     let sim = simulation_of H key.config in
-    let counted = c.args.self.now.counted in
     let k = c.args.kernel.now in
     let least = c.report_values-sent.result.2 in
-    let t = c.if-not-claim.ensures.claimed refl in
+    let t = c.if-not-claim_board.ensures.claimed refl in
     let board = (shown sim t.known.log).board in
-    let took = took-board sim key.config c.args.seat.now.me c.claim.new.seat.me c.args.self.now.workers c.requires.rests t (sym counted) in
-    let d = c.in-Err.ensures.done board took in
+    let d = c.in-Err.ensures.done board t.holds in
     let r = c.requires.kernel in
     let end : (end_of k.config) ≡ (end_of key.config) = ap (λ (f : Config). (end_of f)) r.config_is in
     let v = c.report_values-sent.ensures.reports H r.part r.stands in
@@ -88,15 +79,14 @@ returns-in-Err-clause-refused g c =
     let value = c.report_values-sent.ensures.least in
     let ends : TimeAtMost least (end_of key.config) = omega (arith, bound, value, end) in
     subst (IsReportRefusal sim c.args.seat.now.me.0) (sym d.2)
-    (report-refused sim c.args.seat.now.me.0 c.args.self.now.workers _ t.known r.steps r.part r.led least (v.2 ∙ ap (λ e. report_least e r.part) end)
+    (report-refused t.known r.steps r.part r.led least (v.2 ∙ ap (λ e. report_least e r.part) end)
     (ap (λ w. takes_report (end_of key.config) w least board) c.requires.worker ∙ d.1) ends)
 
 pub returns-in-Ok-clause-done : goal.returns-in-Ok-clause-done
 returns-in-Ok-clause-done g c =
     let key = c.args.self.now.table.shared.key in
     let H = g.M.Model.handlers key.model.value in
-    let t = c.if-not-claim.ensures.claimed refl in
-    let place = took-place (simulation_of H key.config) key.config c.args.seat.now.me c.claim.new.seat.me c.args.self.now.workers c.requires.rests t in
+    let place = (c.if-not-claim_board.ensures.claimed refl).place in
     let v = c.args.seat.now.me.0 in
     subst (λ (r : Reply). Visited H key.config v c.args.kernel.now (Report c.args.worker) r c.set_floor.new.self v.seen c.release_visit.new.seat.me.0) c.reply_of.ensures
     (visited-there H key.config v c.report_board.new.seat.me.0 c.of-before.result.value c.of.result.value (Report c.args.worker) c.reply_of.result c.release_visit.new.seat.me.0

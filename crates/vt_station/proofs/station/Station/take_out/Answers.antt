@@ -1,36 +1,17 @@
-use Rattle.std.proofs.Common.{◌≡◌, ◌+◌, [], refl, sym, ap, ◌∙◌, arith}
-use Rattle.vt_model.specs.Simulation.{simulation_of}
-use Rattle.vt_model.proofs.LawLemmas.{lawful_of}
+use Rattle.std.proofs.Common.{[], refl, sym, ap, ◌∙◌}
 use Rattle.vt_model.specs.Settings.{end_of}
 use Rattle.vt_steps.specs.World.{book_floor, book_records}
-use Rattle.vt_steps.specs.Marked.{shown}
-use Rattle.vt_station.proofs.HeldLemmas.{held-book}
-use Rattle.vt_station.proofs.CallLemmas.{took-book}
+use Rattle.vt_station.proofs.BookAt.{book-is}
 use Rattle.vt_station.proofs.RefusalLemmas as refusal
 use Rattle.vt_station.proofs.station.Station.take_out.Goals as goal
 
 pub take_records-requires-clause-held : goal.take_records-requires-clause-held
-take_records-requires-clause-held g c κs within =
-    let key = c.args.self.now.table.shared.key in
-    let sim = simulation_of (g.M.Model.handlers key.model.value) key.config in
-    let counted = c.args.self.now.counted in
-    let t = c.if-not-claim.ensures.claimed refl in
-    ((shown sim t.known.log).book, took-book sim key.config c.args.place.seat.me c.claim.new.seat.me (c.args.self.now.workers + 1) c.args.place.rests t (omega arith))
+take_records-requires-clause-held g c κs within = (_, (c.if-not-claim_book.ensures.claimed refl).holds)
 
 pub returns-clause-shown : goal.returns-clause-shown
 returns-clause-shown g c =
-    let key = c.args.self.now.table.shared.key in
-    let m = key.model.value in
-    let H = g.M.Model.handlers m in
-    let sim = simulation_of H key.config in
-    let lawful = lawful_of H key.config (g.met.M.Model.start_within m) (g.met.M.Model.forward_within m) in
-    let counted = c.args.self.now.counted in
-    let t = c.if-not-claim.ensures.claimed refl in
-    let v = c.args.place.seat.me.0 in
-    let cell = c.args.self.now.workers + 1 in
-    let book = (shown sim t.known.log).book in
-    let took = took-book sim key.config c.args.place.seat.me c.claim.new.seat.me cell c.args.place.rests t (omega arith) in
+    let end = end_of c.args.self.now.table.shared.key.config in
+    let t = c.if-not-claim_book.ensures.claimed refl in
     let d = c.take_records.ensures in
-    let same : book ≡ d.0 = held-book key.config c.claim.new.seat.me cell book d.0 _ _ took d.1 in
-    let floor = book_floor (end_of key.config) book in
-    (floor, refusal.records-shown sim v cell _ t.known [] v.part refl lawful floor c.take_records.result.items refl (d.2 ∙ ap (book_records (end_of key.config)) (sym same)))
+    let same = sym (book-is t d.1) in
+    (book_floor end d.0, refusal.records-shown t.known [] c.args.place.seat.me.0.part refl t.lawful (book_floor end d.0) c.take_records.result.items (ap (book_floor end) same) (d.2 ∙ ap (book_records end) same))

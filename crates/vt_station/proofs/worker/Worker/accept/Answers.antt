@@ -1,16 +1,6 @@
 use Rattle.vt_steps.specs.declared.step.Step.TheVariants.{Accept}
-use Rattle.vt_station.proofs.ReachLemmas.{reaches-either}
+use Rattle.vt_station.proofs.WorkLemmas.{stepped-at-work}
 use Rattle.vt_station.proofs.worker.Worker.accept.Goals as goal
 
 pub invariant_of-self : goal.invariant_of-self
-invariant_of-self g c =
-    let i = c.self.inside in
-    let H = g.M.Model.handlers i.model.now in
-    let before = c.self.invariant in
-    let after = c.accept in
-    record {
-      config_is = before.config_is;
-      table_is = before.table_is;
-      model_is = before.model_is;
-      reaches = reaches-either H i.station.now.table.shared.key.config i.place.seat.me.0 i.kernel after.new.self after.ensures.same before.reaches (Accept i.kernel.worker c.args.i) after.result (after.ensures.done H) (λ _ _. after.ensures.kept);
-    }
+invariant_of-self g c = stepped-at-work c.self.invariant (Accept c.self.inside.kernel.worker c.args.i) c.accept.result c.accept.ensures.same (c.accept.ensures.done (g.M.Model.handlers c.self.inside.model.now)) (λ _ _. c.accept.ensures.kept)

@@ -5,28 +5,15 @@ use Rattle.vt_model.specs.Settings.{end_of}
 use Rattle.vt_steps.specs.declared.step.Step.TheVariants.{Commit}
 use Rattle.vt_steps.specs.declared.step.Reply.TheVariants.{Done}
 use Rattle.vt_station.specs.AtWork.{AtWork}
-use Rattle.vt_station.specs.Calls.{Reaches, Visited, Stays, ShowsFloor, IsFloorLeft}
+use Rattle.vt_station.specs.Calls.{Visited, Stays, ShowsFloor, IsFloorLeft}
+use Rattle.vt_station.proofs.WorkLemmas.{kernel-ready, called-at-work}
 use Rattle.vt_station.proofs.worker.Worker.commit.Goals as goal
 
 pub invariant_of-self : goal.invariant_of-self
-invariant_of-self g c =
-    let i = c.self.inside in
-    let before = c.self.invariant in
-    let after = c.commit in
-    record {
-      config_is = before.config_is;
-      table_is = before.table_is ∙ sym after.ensures.same.0;
-      model_is = before.model_is;
-      reaches = subst (λ (m : g.row.M.Denot). Reaches (g.M.Model.handlers m) i.station.now.table.shared.key.config after.new.place.seat.me.0 after.new.kernel) before.model_is after.ensures.ready;
-    }
-
-pub commit-requires-clause-own : goal.commit-requires-clause-own
-commit-requires-clause-own g c κs within = sym c.self.invariant.table_is
+invariant_of-self g c = called-at-work c.self.invariant c.commit.ensures.same.0 c.commit.ensures.ready
 
 pub commit-requires-clause-kernel : goal.commit-requires-clause-kernel
-commit-requires-clause-kernel g c κs within =
-    let i = c.self.inside in
-    subst (λ (m : g.row.M.Denot). Reaches (g.M.Model.handlers m) i.station.now.table.shared.key.config i.place.seat.me.0 i.kernel) (sym c.self.invariant.model_is) c.self.invariant.reaches
+commit-requires-clause-kernel g c κs within = kernel-ready c.self.invariant
 
 pub returns-clause-done : goal.returns-clause-done
 returns-clause-done g c =

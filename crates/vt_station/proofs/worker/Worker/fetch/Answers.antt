@@ -1,23 +1,8 @@
-use Rattle.std.proofs.Common.{sym, ◌∙◌, subst}
-use Rattle.vt_station.specs.Calls.{Reaches}
+use Rattle.vt_station.proofs.WorkLemmas.{kernel-ready, called-at-work}
 use Rattle.vt_station.proofs.worker.Worker.fetch.Goals as goal
 
 pub invariant_of-self : goal.invariant_of-self
-invariant_of-self g c =
-    let i = c.self.inside in
-    let before = c.self.invariant in
-    let after = c.fetch in
-    record {
-      config_is = before.config_is;
-      table_is = before.table_is ∙ sym after.ensures.same.0;
-      model_is = before.model_is;
-      reaches = subst (λ (m : g.row.M.Denot). Reaches (g.M.Model.handlers m) i.station.now.table.shared.key.config after.new.place.seat.me.0 after.new.kernel) before.model_is after.ensures.ready;
-    }
-
-pub fetch-requires-clause-own : goal.fetch-requires-clause-own
-fetch-requires-clause-own g c κs within = sym c.self.invariant.table_is
+invariant_of-self g c = called-at-work c.self.invariant c.fetch.ensures.same.0 c.fetch.ensures.ready
 
 pub fetch-requires-clause-kernel : goal.fetch-requires-clause-kernel
-fetch-requires-clause-kernel g c κs within =
-    let i = c.self.inside in
-    subst (λ (m : g.row.M.Denot). Reaches (g.M.Model.handlers m) i.station.now.table.shared.key.config i.place.seat.me.0 i.kernel) (sym c.self.invariant.model_is) c.self.invariant.reaches
+fetch-requires-clause-kernel g c κs within = kernel-ready c.self.invariant

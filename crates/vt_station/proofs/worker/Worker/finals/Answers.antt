@@ -10,22 +10,14 @@ use Rattle.vt_station.specs.declared.view.View.{View}
 use Rattle.vt_station.specs.AtWork.{AtWork}
 use Rattle.vt_station.specs.Calls.{IsShown, Reaches}
 use Rattle.vt_station.proofs.FinalLemmas.{finals-right}
+use Rattle.vt_station.proofs.WorkLemmas.{stays-at-work}
 use Rattle.vt_station.proofs.worker.Worker.finals.Goals as goal
-
-pub look-requires-clause-own : goal.look-requires-clause-own
-look-requires-clause-own g c κs within = sym c.self.invariant.table_is
 
 pub invariant_of-self : goal.invariant_of-self
 invariant_of-self g c =
     let i = c.self.inside in
-    let before = c.self.invariant in
-    let after = c.look in
-    record {
-      config_is = before.config_is;
-      table_is = before.table_is ∙ sym after.ensures.same.0;
-      model_is = before.model_is;
-      reaches = subst (λ (v : View g.row.M-Payload.Denot). Reaches (g.M.Model.handlers i.model.now) i.station.now.table.shared.key.config v i.kernel) (sym after.ensures.unchanged) before.reaches;
-    }
+    stays-at-work c.self.invariant c.look.ensures.same.0
+    (subst (λ (v : View g.row.M-Payload.Denot). Reaches (g.M.Model.handlers i.model.now) i.station.now.table.shared.key.config v i.kernel) (sym c.look.ensures.unchanged) c.self.invariant.reaches)
 
 pub returns-clause-values : goal.returns-clause-values
 returns-clause-values g c =

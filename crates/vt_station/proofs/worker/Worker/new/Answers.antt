@@ -11,7 +11,7 @@ invariant_of-result g c =
     let made = c.in-Ok.ensures.made in
     record {
       config_is = sym c.requires.told.1;
-      table_is = sym c.requires.place.table_is;
+      table_is = c.requires.place.table_is;
       model_is = c.requires.told.0;
       reaches = subst (λ (config : Config). Reaches H config a.place.seat.me.0 c.in-Ok.kernel) (sym c.requires.told.1)
           (reaches-opening H a.config a.w a.place.seat.me c.in-Ok.kernel c.requires.place.opens made.0 made.1 c.in-Ok.ensures.opening);
