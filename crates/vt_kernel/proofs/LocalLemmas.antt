@@ -159,6 +159,9 @@ module _ {S P K : Type 0} (handlers : Handlers S P K) (held : HeldWorker S P K) 
 pub written-same : {X : Type 0} (xs : List X) (i : ℕ) (old new : X) → slice_get xs i ≡ Some old → new ≡ old → slice_set xs i new ≡ xs
 written-same xs i old new there same = ap (λ x. slice_set xs i x) same ∙ put-there xs i old there
 
+pub written-back : {X : Type 0} (xs : List X) (i : ℕ) {old new : X} → i < length xs → old ≡ slice_index_or xs i old → new ≡ old → slice_set xs i new ≡ xs
+written-back xs i {old} {new} within is same = written-same xs i old new (index-get xs i old within (sym is)) same
+
 -- the process that was found is that of its number
 pub own-process : {S P K : Type 0} (held : HeldWorker S P K) (p place : ℕ) (q : HeldProcess S P K)
     → place ≡ p / held.config.workers → p % held.config.workers ≡ held.worker → slice_get held.processes place ≡ Some q → process_of held p ≡ Some q

@@ -15,7 +15,7 @@ use Rattle.vt_kernel.specs.Settled.{LedTo, IsSettledTo}
 use Rattle.vt_kernel.proofs.ProcessLemmas.{stands-after}
 use Rattle.vt_kernel.proofs.OwnSteps.{found, IsFound}
 use Rattle.vt_kernel.proofs.SettlingLemmas.{led-at, are-settling, settled-at}
-use Rattle.vt_kernel.proofs.LocalLemmas.{unknown-refused}
+use Rattle.vt_kernel.proofs.LocalLemmas.{IsOwnPlace, unknown-refused}
 
 module _ {S P K : Type 0} (handlers : Handlers S P K) (held : HeldWorker S P K) (are : AreProcesses held.config held.worker 0 held.processes) (part : Part P) (h : StandsFor handlers held part) where
   -- at a process that is none of the worker's there is nothing to settle
@@ -69,3 +69,14 @@ module _ {S P K : Type 0} (handlers : Handlers S P K) (held : HeldWorker S P K) 
       subst (λ k. (after : Part P) × SettlesTo (simulation_of handlers held.config) held.worker p part after count
       × StandsFor handlers (record held { processes = slice_set held.processes k new; outbox = outbox }) after) (sym is)
       (found-settled p count q new outbox own f same_lp same_config (settled f.process f.stands))
+
+-- the same of a worker as contracts see it
+pub settled-seen : {S P K : Type 0} (handlers : Handlers S P K) {held seen : HeldWorker S P K} → held ≡ seen → AreProcesses held.config held.worker 0 held.processes → (part : Part P) → StandsFor handlers seen part
+    → (p place count : ℕ) {q : HeldProcess S P K} (new : HeldProcess S P K) (outbox : List (Letter P)) → IsOwnPlace held.config held.worker p place → slice_get held.processes place ≡ Some q → (new.lp ≡ q.lp) × (new.config ≡ q.config)
+    → ((process : LogicalProcess P) → ProcessStandsFor handlers q process → IsSettledTo handlers process new held.outbox outbox count)
+    → (after : Part P) × SettlesTo (simulation_of handlers seen.config) seen.worker p part after count
+    × StandsFor handlers (record held { processes = slice_set held.processes place new; outbox = outbox }) after
+settled-seen {S} {P} {K} handlers {held} seen_is are part s p place count {q} new outbox own at same settled =
+    subst (λ (v : HeldWorker S P K). (after : Part P) × SettlesTo (simulation_of handlers v.config) v.worker p part after count
+    × StandsFor handlers (record held { processes = slice_set held.processes place new; outbox = outbox }) after) seen_is
+    (settled-worker handlers held are part (subst (λ (v : HeldWorker S P K). StandsFor handlers v part) (sym seen_is) s) p place count q new outbox own.0 own.1 at same.0 same.1 settled)

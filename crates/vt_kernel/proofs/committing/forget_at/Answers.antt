@@ -6,7 +6,7 @@ use Rattle.vt_lp.specs.Held.{HeldProcess}
 use Rattle.vt_kernel.specs.Held.{AreMarked, has_past, entries_of, ready_of, unready_of}
 use Rattle.vt_kernel.proofs.EnteringLemmas.{in-changed, was-entered, ready-kept, unready-kept, nobody-unready, entry-kept}
 use Rattle.vt_kernel.proofs.CommitLemmas.{one-forgotten}
-use Rattle.vt_kernel.proofs.LocalLemmas.{index-get, written-same}
+use Rattle.vt_kernel.proofs.LocalLemmas.{index-get, written-back}
 use Rattle.vt_kernel.proofs.ProcessLemmas.{marked-changed, past-told}
 use Rattle.vt_kernel.proofs.committing.forget_at.Goals as goal
 
@@ -48,16 +48,12 @@ returns-in-Some-clause-unready g c = subst (λ (ps : List (HeldProcess _ _ _)). 
 
 pub returns-else-fossil_into-clause-entered : goal.returns-else-fossil_into-clause-entered
 returns-else-fossil_into-clause-entered g c =
-    let old = c.args.processes.now.items in
-    let at = index-get old c.args.place c.index_mut.result.now c.requires.there (sym c.index_mut.ensures.value) in
-    let same = written-same old c.args.place c.index_mut.result.now c.fossil_into.new.self at (c.fossil_into.ensures.unchanged c.if-fossil_into.false) in
+    let same = written-back c.args.processes.now.items c.args.place c.requires.there c.index_mut.ensures.value (c.fossil_into.ensures.unchanged c.if-fossil_into.false) in
     subst (λ (ps : List (HeldProcess _ _ _)). IsTournamentOf (entries_of ready_of ps) c.args.ready.now) (sym same) c.requires.entered
 
 pub returns-else-fossil_into-clause-unready : goal.returns-else-fossil_into-clause-unready
 returns-else-fossil_into-clause-unready g c =
-    let old = c.args.processes.now.items in
-    let at = index-get old c.args.place c.index_mut.result.now c.requires.there (sym c.index_mut.ensures.value) in
-    let same = written-same old c.args.place c.index_mut.result.now c.fossil_into.new.self at (c.fossil_into.ensures.unchanged c.if-fossil_into.false) in
+    let same = written-back c.args.processes.now.items c.args.place c.requires.there c.index_mut.ensures.value (c.fossil_into.ensures.unchanged c.if-fossil_into.false) in
     subst (λ (ps : List (HeldProcess _ _ _)). IsTournamentOf (entries_of unready_of ps) c.args.unready.now) (sym same) c.requires.unready
 
 pub returns-in-Some-clause-marked : goal.returns-in-Some-clause-marked
@@ -69,9 +65,7 @@ returns-in-Some-clause-marked g c =
 
 pub returns-else-fossil_into-clause-marked : goal.returns-else-fossil_into-clause-marked
 returns-else-fossil_into-clause-marked g c =
-    let old = c.args.processes.now.items in
-    let at = index-get old c.args.place c.index_mut.result.now c.requires.there (sym c.index_mut.ensures.value) in
-    let same = written-same old c.args.place c.index_mut.result.now c.fossil_into.new.self at (c.fossil_into.ensures.unchanged c.if-fossil_into.false) in
+    let same = written-back c.args.processes.now.items c.args.place c.requires.there c.index_mut.ensures.value (c.fossil_into.ensures.unchanged c.if-fossil_into.false) in
     subst (λ (ps : List (HeldProcess _ _ _)). AreMarked c.args.marked.now ps) (sym same) c.requires.marked
 
 pub index-requires : goal.index-requires

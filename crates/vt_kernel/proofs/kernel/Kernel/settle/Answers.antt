@@ -1,14 +1,13 @@
-use Rattle.std.proofs.Common.{rules, List, slice_set, sym, subst}
+use Rattle.std.proofs.Common.{rules, List, sym, subst}
 use Rattle.vt_model.specs.declared.settings.Config.{Config}
 use Rattle.vt_model.specs.Simulation.{simulation_of}
-use Rattle.vt_steps.specs.World.{Part}
 use Rattle.vt_key.specs.declared.letter.Letter.{Letter}
 use Rattle.vt_lp.specs.Held.{HeldProcess, AllWithinRun}
 use Rattle.vt_kernel.specs.Held.{HeldWorker, IsWorkerInside, StandsFor}
 use Rattle.vt_kernel.specs.Guards.{SettlesTo}
 use Rattle.vt_kernel.proofs.ProcessLemmas.{process-at}
 use Rattle.vt_kernel.proofs.LocalLemmas.{worker_view, place-within, written-same, inside-changed}
-use Rattle.vt_kernel.proofs.SettledWorker.{unknown-settled, settled-worker}
+use Rattle.vt_kernel.proofs.SettledWorker.{unknown-settled, settled-seen}
 use Rattle.vt_kernel.proofs.ReentryLemmas.{process-there, still-there, was-in-ready, was-in-unready}
 use Rattle.vt_kernel.proofs.kernel.Kernel.settle.Goals as goal
 
@@ -53,19 +52,10 @@ invariant_of-self g c =
 
 pub returns-then-settling-clause-settles : goal.returns-then-settling-clause-settles
 returns-then-settling-clause-settles g c part s =
-    let i = c.self.inside in
-    let handlers = g.M.Model.handlers c.args.model.now in
-    let held = worker_view i.worker i.config i.processes.items i.outbox i.arrived.items i.colour i.sent i.got i.red_minimum i.floor i.serial in
-    let own = c.in-Some.ensures.own in
-    let old = c.index_mut.result.now in
-    let new = c.settle_process-settling.new.process in
+    let settling = c.settle_process-settling in
     let at = process-there c.self.invariant c.args.lp c.in-Some.place c.in-Some.ensures.own (sym c.index_mut.ensures.value) in
-    let same = c.settle_process-settling.ensures.same in
-    let h = subst (λ (v : HeldWorker _ _ _). StandsFor handlers v part) (sym c.self.view_is) s in
-    let done = settled-worker handlers held c.self.invariant.own_processes part h c.args.lp c.in-Some.place c.settle_process-settling.result.undone old new c.settle_process-settling.new.outbox own.0 own.1 at same.0 same.1 c.settle_process-settling.ensures.settled in
-    subst (λ (v : HeldWorker _ _ _). (after : Part _) × SettlesTo (simulation_of handlers v.config) v.worker c.args.lp part after c.settle_process-settling.result.undone
-    × StandsFor handlers (worker_view i.worker i.config (slice_set i.processes.items c.in-Some.place new) c.settle_process-settling.new.outbox i.arrived.items i.colour i.sent i.got i.red_minimum i.floor i.serial) after)
-    c.self.view_is done
+    settled-seen (g.M.Model.handlers c.args.model.now) c.self.view_is c.self.invariant.own_processes part s c.args.lp c.in-Some.place settling.result.undone settling.new.process settling.new.outbox
+    c.in-Some.ensures.own at settling.ensures.same settling.ensures.settled
 
 pub invariant_of-self-else-settling : goal.invariant_of-self-else-settling
 invariant_of-self-else-settling g c =
@@ -79,16 +69,7 @@ invariant_of-self-else-settling g c =
 
 pub returns-else-settling-clause-settles : goal.returns-else-settling-clause-settles
 returns-else-settling-clause-settles g c part s =
-    let i = c.self.inside in
-    let handlers = g.M.Model.handlers c.args.model.now in
-    let held = worker_view i.worker i.config i.processes.items i.outbox i.arrived.items i.colour i.sent i.got i.red_minimum i.floor i.serial in
-    let own = c.in-Some.ensures.own in
-    let old = c.index_mut.result.now in
-    let new = c.settle_process-settling.new.process in
+    let settling = c.settle_process-settling in
     let at = process-there c.self.invariant c.args.lp c.in-Some.place c.in-Some.ensures.own (sym c.index_mut.ensures.value) in
-    let same = c.settle_process-settling.ensures.same in
-    let h = subst (λ (v : HeldWorker _ _ _). StandsFor handlers v part) (sym c.self.view_is) s in
-    let done = settled-worker handlers held c.self.invariant.own_processes part h c.args.lp c.in-Some.place c.settle_process-settling.result.undone old new c.settle_process-settling.new.outbox own.0 own.1 at same.0 same.1 c.settle_process-settling.ensures.settled in
-    subst (λ (v : HeldWorker _ _ _). (after : Part _) × SettlesTo (simulation_of handlers v.config) v.worker c.args.lp part after c.settle_process-settling.result.undone
-    × StandsFor handlers (worker_view i.worker i.config (slice_set i.processes.items c.in-Some.place new) c.settle_process-settling.new.outbox i.arrived.items i.colour i.sent i.got i.red_minimum i.floor i.serial) after)
-    c.self.view_is done
+    settled-seen (g.M.Model.handlers c.args.model.now) c.self.view_is c.self.invariant.own_processes part s c.args.lp c.in-Some.place settling.result.undone settling.new.process settling.new.outbox
+    c.in-Some.ensures.own at settling.ensures.same settling.ensures.settled
