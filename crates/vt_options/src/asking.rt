@@ -15,7 +15,7 @@ use crate::refusing::help_of;
 use crate::texts::{
     END, LPS, OptionText, REPLAY_WORKERS, SEED, SERIAL, SYNCH, TEXT, TURNS, WORKERS,
 };
-use crate::{MAX_TURNS, ReplaySettings, RunSettings};
+use crate::{MAX_TURNS, ReplaySettings, RunSettings, Task};
 use clap::{ArgMatches, Error};
 use std::alloc::{AllocError, Global};
 use std::convert::AsStr;
@@ -24,10 +24,8 @@ use vt_key::{Fault, MAX_COUNT};
 /// What the command line of a program asks for.
 #[derive(Debug, Drop)]
 pub enum Request {
-    /// A run with these settings, of this model with these values of its options.
-    Run(RunSettings, Chosen),
-    /// A replay with these settings, on this model with these values of its options.
-    Replay(ReplaySettings, Chosen),
+    /// A task, for this model with these values of its options.
+    Task(Task, Chosen),
     /// Help, with its text.
     Help(String),
 }
@@ -183,10 +181,10 @@ fn request_of(alloc: Global, matches: &ArgMatches, table: &ModelTable<'_>) -> Re
     };
     if name == "run" {
         let (settings, chosen) = read_run(alloc, inner, table)?;
-        Ok(Request::Run(settings, chosen))
+        Ok(Request::Task(Task::Run(settings), chosen))
     } else if name == "replay" {
         let (settings, chosen) = read_replay(alloc, inner, table)?;
-        Ok(Request::Replay(settings, chosen))
+        Ok(Request::Task(Task::Replay(settings), chosen))
     } else {
         Err(Fault::BadOption("command-line"))
     }

@@ -36,3 +36,12 @@ pub struct ReplaySettings {
     /// The version of the text in which the records are printed.
     pub text: Version,
 }
+
+/// What a program does with a model.
+#[derive(Debug, Clone, Copy)]
+pub enum Task {
+    /// A run with these settings.
+    Run(RunSettings),
+    /// A replay with these settings.
+    Replay(ReplaySettings),
+}

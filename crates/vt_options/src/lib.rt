@@ -18,7 +18,7 @@ mod refusing;
 mod texts;
 
 pub use asking::{Request, read_request};
-pub use choices::{ReplaySettings, RunSettings, Synch};
+pub use choices::{ReplaySettings, RunSettings, Synch, Task};
 pub use hinting::hint;
 pub use limits::MAX_TURNS;
 pub use line::ProgramTexts;

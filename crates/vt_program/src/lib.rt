@@ -16,7 +16,7 @@ ghost use Rattle.vt_program.specs.Refusals.{TellsRefusal, status_of};
 ghost use Rattle.vt_program.specs.Outcomes.{AskWithBadLine, IsDone, EndsBy};
 
 pub use models::TwarpModel;
-use models::{model_of, replay, simulate};
+use models::{carry_out, model_of};
 pub use refusal::tell_refusal;
 use std::alloc::Global;
 use std::convert::AsStr;
@@ -46,13 +46,9 @@ fn answer<H: Threads + Wait + Sync, S: AsStr, R: Read, W: Watch + Sync, O: Write
 {
     match read_request(alloc, words)? {
         Request::Help(text) => write_bytes(out, text.as_bytes()),
-        Request::Run(settings, chosen) => {
+        Request::Task(task, chosen) => {
             let model = model_of(&chosen);
-            simulate(rt, alloc, &model, &settings, watch, out)
-        }
-        Request::Replay(settings, chosen) => {
-            let model = model_of(&chosen);
-            replay(alloc, &model, &settings, reader, out)
+            carry_out(rt, alloc, &model, &task, watch, reader, out)
         }
     }
 }

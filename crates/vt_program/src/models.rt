@@ -1,13 +1,8 @@
 //! The models of the program: how each is made, run and replayed.
 
-ghost use Rattle.std.specs.Prelude.{◌≡◌, ◌≤◌, OnOk, IfErr, Some};
-ghost use Rattle.std.specs.Io.KnownBytes.{Appends};
-ghost use Rattle.vt_key.specs.declared.limits.TheConstants.{MAX_COUNT};
-ghost use Rattle.vt_model.specs.Simulation.{simulation_of};
-ghost use Rattle.vt_world.specs.Answers.{PassesAtStart};
+ghost use Rattle.std.specs.Prelude.{◌≡◌, OnOk, IfErr, Some};
 ghost use Rattle.vt_options.specs.Own.{AreInRange};
-ghost use Rattle.vt_runner.specs.Runs.{run_text, text_below, PassesInRun, StopsBy};
-ghost use Rattle.vt_runner.specs.Replays.{IsReplayOf, AreRepliesOf, ReplaysBy, EndsReplayBy};
+ghost use Rattle.vt_runner.specs.Tasks.{IsCounted, IsTaskDone, TaskEnds, KeepsInput};
 ghost use Rattle.vt_command.specs.Table.{hop_table, phold_table, stations_table};
 ghost use Rattle.vt_program.specs.Models.{IsChoice, IsMadeOf, hop_values, phold_values, stations_values, meaning_of};
 
@@ -17,7 +12,7 @@ use std::sync::Wait;
 use std::thread::Threads;
 use vt_key::Fault;
 use vt_models::{Hop, Phold, Stations};
-use vt_options::{Chosen, ReplaySettings, RunSettings};
+use vt_options::{Chosen, Task};
 use vt_station::Watch;
 
 /// One of the models of the program, made of the values of its options.
@@ -83,42 +78,26 @@ pub(crate) fn model_of(chosen: &Chosen) -> TwarpModel
     }
 }
 
-/// Simulates a model, as [`vt_runner::simulate`] does.
-pub(crate) fn simulate<H: Threads + Wait + Sync, W: Watch + Sync, O: Write>(
+/// Runs a model or replays steps on it, as [`vt_runner::carry_out`] does.
+pub(crate) fn carry_out<H: Threads + Wait + Sync, W: Watch + Sync, R: Read, O: Write>(
     rt: &H,
     alloc: Global,
     model: &TwarpModel,
-    settings: &RunSettings,
+    task: &Task,
     watch: &W,
+    input: &mut R,
     out: &mut O,
 ) -> Result<(), Fault>
-    ensures ok { OnOk result (Appends (O.contents out.old) (O.contents out.new) (run_text settings.now.text (meaning_of model.now).handlers settings.now.config)) }
-    ensures err { IfErr result (StopsBy settings.now.synch (PassesInRun (meaning_of model.now).handlers settings.now.config) (text_below settings.now.text (meaning_of model.now).handlers settings.now.config) (run_text settings.now.text (meaning_of model.now).handlers settings.now.config) (O.contents out.old) (O.contents out.new)) }
+    requires counted { IsCounted task.now }
+    ensures ok { OnOk result (IsTaskDone (meaning_of model.now).handlers task.now (R.remaining input.old) (O.contents out.old) (O.contents out.new)) }
+    ensures err { IfErr result (TaskEnds (meaning_of model.now).handlers task.now (R.remaining input.old) (O.contents out.old) (O.contents out.new)) }
+    ensures unread { KeepsInput task.now (R.remaining input.old) (R.remaining input.new) }
 {
     match model {
-        TwarpModel::Hop(hop) => vt_runner::simulate(rt, alloc, hop, settings, watch, out),
-        TwarpModel::Phold(phold) => vt_runner::simulate(rt, alloc, phold, settings, watch, out),
+        TwarpModel::Hop(hop) => vt_runner::carry_out(rt, alloc, hop, task, watch, input, out),
+        TwarpModel::Phold(phold) => vt_runner::carry_out(rt, alloc, phold, task, watch, input, out),
         TwarpModel::Stations(stations) => {
-            vt_runner::simulate(rt, alloc, stations, settings, watch, out)
+            vt_runner::carry_out(rt, alloc, stations, task, watch, input, out)
         }
-    }
-}
-
-/// Replays the steps of a text on a model, as [`vt_runner::replay`] does.
-pub(crate) fn replay<R: Read, O: Write>(
-    alloc: Global,
-    model: &TwarpModel,
-    settings: &ReplaySettings,
-    reader: &mut R,
-    out: &mut O,
-) -> Result<(), Fault>
-    requires counted { settings.now.serial ≤ MAX_COUNT }
-    ensures ok { OnOk result (ReplaysBy settings.now.config (λ steps. IsReplayOf settings.now.text (meaning_of model.now).handlers settings.now.config settings.now.serial steps) (R.remaining reader.old) (O.contents out.old) (O.contents out.new)) }
-    ensures err { IfErr result (EndsReplayBy settings.now.config (λ steps. IsReplayOf settings.now.text (meaning_of model.now).handlers settings.now.config settings.now.serial steps) (λ steps. AreRepliesOf (meaning_of model.now).handlers settings.now.config settings.now.serial steps) (PassesAtStart (simulation_of (meaning_of model.now).handlers settings.now.config) settings.now.serial) (R.remaining reader.old) (O.contents out.old) (O.contents out.new)) }
-{
-    match model {
-        TwarpModel::Hop(hop) => vt_runner::replay(alloc, hop, settings, reader, out),
-        TwarpModel::Phold(phold) => vt_runner::replay(alloc, phold, settings, reader, out),
-        TwarpModel::Stations(stations) => vt_runner::replay(alloc, stations, settings, reader, out),
     }
 }

@@ -1,25 +1,22 @@
 -- What a program of models does, by what its parts did.
-use Rattle.std.proofs.Common.{◌≡◌, ◌∙◌, ℕ, ◌≤◌, List, Option, Some, None, inl, inr, sym, ap, length, codes}
-use Rattle.std.specs.Io.KnownBytes.{Appends, Keeps}
+use Rattle.std.proofs.Common.{◌≡◌, ◌∙◌, ℕ, List, Option, Some, None, inl, inr, sym, ap, length, codes}
+use Rattle.std.specs.Io.KnownBytes.{Keeps}
 use Rattle.std.proofs.lemmas.List.{length-map}
 use Rattle.clap.specs.Words.{Text}
 use Rattle.vt_key.specs.declared.fault.Fault.{Fault}
 use Rattle.vt_key.specs.declared.fault.Fault.TheVariants.{Memory, NotLawful, Busy, Closed, Exhausted, TurnsSpent, BadOption, BadStep, Output}
-use Rattle.vt_key.specs.declared.limits.TheConstants.{MAX_COUNT}
 use Rattle.vt_key.specs.Faults.{option_named}
-use Rattle.vt_options.specs.declared.choices.ReplaySettings.{ReplaySettings}
-use Rattle.vt_options.specs.declared.choices.RunSettings.{RunSettings}
+use Rattle.vt_options.specs.declared.choices.Task.{Task}
+use Rattle.vt_options.specs.declared.choices.Task.TheVariants.{Run, Replay}
 use Rattle.vt_options.specs.declared.own.Chosen.{Chosen}
+use Rattle.vt_options.specs.Asked.{AskTaskWith}
 use Rattle.vt_options.specs.Line.{given_by}
-use Rattle.vt_options.specs.Own.{Models, app_for, line_for, GiveValues, AskRunWith, AskReplayWith}
-use Rattle.vt_options.specs.Requests.{AskHelpOf, IsRefusedAsOf, IsRefusedByOf}
+use Rattle.vt_options.specs.Own.{Models, app_for, line_for, GiveModel, GiveValues}
+use Rattle.vt_options.specs.Requests.{AreBy, AskHelpOf, IsRefusedAsOf, IsRefusedByOf}
 use Rattle.vt_options.specs.Table.{Given, NumberOption, value_in}
-use Rattle.vt_model.specs.Simulation.{simulation_of}
-use Rattle.vt_world.specs.Answers.{PassesAtStart}
-use Rattle.vt_runner.specs.Runs.{run_text, text_below, PassesInRun, StopsBy}
-use Rattle.vt_runner.specs.Replays.{IsReplayOf, AreRepliesOf, ReplaysBy, EndsReplayBy}
+use Rattle.vt_runner.specs.Tasks.{IsCounted, KeepsInput, IsTaskDone, TaskEnds}
 use Rattle.vt_runner.specs.Outcomes.{IsAsked, EndsWith}
-use Rattle.vt_runner.specs.Models.{AnyHandlers, program_of, AskWith, IsDoneFor, EndsFor, AskBadLineFor}
+use Rattle.vt_runner.specs.Models.{AnyHandlers, program_of, IsDoneFor, EndsFor, AskBadLineFor}
 use Rattle.vt_runner.proofs.OutcomeLemmas as outcomes
 
 -- as many values are given as there are options
@@ -27,9 +24,20 @@ pub values_are : (given : Given) (table : List NumberOption) (values : List ℕ)
 values_are given table values h = sym (length-map values Some) ∙ sym (ap length h) ∙ length-map table (value_in given)
 
 module _ (name : Text) (models : Models) (words : List Text) where
+  -- the words give the model's index and values
+  pub task_given : (task : Task) (k : ℕ) (vs : List ℕ) → AskTaskWith name models words task k vs → GiveModel models (given_by (app_for name models) words) k vs
+  task_given (Run s) k vs asked = asked.options.model
+  task_given (Replay s) k vs asked = asked.options.model
+
   -- serials begin within their limit
-  pub serial_counted : (s : ReplaySettings) (k : ℕ) (vs : List ℕ) → AskReplayWith name models words s k vs → s.serial ≤ MAX_COUNT
-  serial_counted s k vs asked = outcomes.serial_counted (given_by (app_for name models) words) s.serial asked.options.settings.serial
+  pub task_counted : (task : Task) (k : ℕ) (vs : List ℕ) → AskTaskWith name models words task k vs → IsCounted task
+  task_counted (Run s) k vs asked = tt
+  task_counted (Replay s) k vs asked = outcomes.serial_counted (given_by (app_for name models) words) s.serial asked.options.settings.serial
+
+  -- words that aren't those of a replay let nothing be read
+  pub task_unread : (task : Task) (k : ℕ) (vs : List ℕ) (old new : Option (List ℕ)) → AskTaskWith name models words task k vs → KeepsInput task old new → ¬ AreBy (app_for name models) (codes "replay") words → Keeps old new
+  task_unread (Run s) k vs old new asked kept no_replay = kept
+  task_unread (Replay s) k vs old new asked kept no_replay = absurd (no_replay asked.replay)
 
 module _ {C : Type 0} (meaning : C → AnyHandlers) (Makes : Chosen → Option C → Type 0) (name : Text) (models : Models) where
   -- what the words ask for is what the command line says
@@ -59,30 +67,21 @@ module _ {C : Type 0} (meaning : C → AnyHandlers) (Makes : Chosen → Option C
   bad_nothing_written words input old new fault bad (inr h) = h.kept
 
   module _ (words : List Text) (input old new : Option (List ℕ)) where
-    module _ (s : RunSettings) (chosen : Chosen) (model : C) (asked : AskRunWith name models words s chosen.model chosen.values.items) (made : Makes chosen (Some model)) where
-      -- a run of a model that the choice makes was written
-      pub run_done : Appends old new (run_text s.text (meaning model).handlers s.config) → IsDoneFor meaning Makes name models words input old new
-      run_done h = inr (inl (record { options = record { settings = s; chosen = chosen; model = model }; asked = record { asked = asked; made = made }; written = h }))
+    -- a task for a model that the choice makes was done
+    pub task_done : (task : Task) (chosen : Chosen) (model : C) → AskTaskWith name models words task chosen.model chosen.values.items → Makes chosen (Some model) → IsTaskDone (meaning model).handlers task input old new → IsDoneFor meaning Makes name models words input old new
+    task_done (Run s) chosen model asked made h = inr (inl (record { options = record { settings = s; chosen = chosen; model = model }; asked = record { asked = asked; made = made }; written = h }))
+    task_done (Replay s) chosen model asked made h = inr (inr (record { options = record { settings = s; chosen = chosen; model = model }; asked = record { asked = asked; made = made }; replayed = h }))
 
-      -- or it was refused
-      pub run_stopped : (fault : Fault) → StopsBy s.synch (PassesInRun (meaning model).handlers s.config) (text_below s.text (meaning model).handlers s.config) (run_text s.text (meaning model).handlers s.config) old new fault
-          → EndsWith (program_of meaning Makes name models) words fault input old new
-      run_stopped fault h = outcomes.run_ends (program_of meaning Makes name models) words (record { settings = s; chosen = chosen; model = model }) input old new (record { asked = asked; made = made }) fault h
-
-    module _ (s : ReplaySettings) (chosen : Chosen) (model : C) (asked : AskReplayWith name models words s chosen.model chosen.values.items) (made : Makes chosen (Some model)) where
-      -- a replay on a model that the choice makes was written
-      pub replay_done : ReplaysBy s.config (λ steps text. IsReplayOf s.text (meaning model).handlers s.config s.serial steps text) input old new → IsDoneFor meaning Makes name models words input old new
-      replay_done h = inr (inr (record { options = record { settings = s; chosen = chosen; model = model }; asked = record { asked = asked; made = made }; replayed = h }))
-
-      -- or it was refused
-      pub replay_stopped : (fault : Fault) → EndsReplayBy s.config (λ steps text. IsReplayOf s.text (meaning model).handlers s.config s.serial steps text) (λ steps text. AreRepliesOf (meaning model).handlers s.config s.serial steps text) (PassesAtStart (simulation_of (meaning model).handlers s.config) s.serial) input old new fault
-          → EndsWith (program_of meaning Makes name models) words fault input old new
-      replay_stopped fault h = outcomes.replay_ends (program_of meaning Makes name models) words (record { settings = s; chosen = chosen; model = model }) input old new fault (record { asked = asked; made = made }) h
+    -- or it was refused
+    pub task_ends : (task : Task) (chosen : Chosen) (model : C) → AskTaskWith name models words task chosen.model chosen.values.items → Makes chosen (Some model) → (fault : Fault) → TaskEnds (meaning model).handlers task input old new fault → EndsWith (program_of meaning Makes name models) words fault input old new
+    task_ends (Run s) chosen model asked made fault h = outcomes.run_ends (program_of meaning Makes name models) words (record { settings = s; chosen = chosen; model = model }) input old new (record { asked = asked; made = made }) fault h
+    task_ends (Replay s) chosen model asked made fault h = outcomes.replay_ends (program_of meaning Makes name models) words (record { settings = s; chosen = chosen; model = model }) input old new fault (record { asked = asked; made = made }) h
 
   module _ (words : List Text) (input old new : Option (List ℕ)) (kept : Keeps old new) where
     -- the choice makes no model
-    pub values_refused : (chosen : Chosen) (fault : Fault) → AskWith name models words chosen → Makes chosen None → option_named fault ≡ Some (codes "values") → EndsFor meaning Makes name models fault words input old new
-    values_refused chosen fault asked none named = inr (record { chosen = chosen; asked = asked; refused = none; named = named; kept = kept })
+    pub values_refused : (task : Task) (chosen : Chosen) (fault : Fault) → AskTaskWith name models words task chosen.model chosen.values.items → Makes chosen None → option_named fault ≡ Some (codes "values") → EndsFor meaning Makes name models fault words input old new
+    values_refused (Run s) chosen fault asked none named = inr (record { chosen = chosen; asked = inl (s, asked); refused = none; named = named; kept = kept })
+    values_refused (Replay s) chosen fault asked none named = inr (record { chosen = chosen; asked = inr (s, asked); refused = none; named = named; kept = kept })
 
     -- the words are refused
     pub words_refused : (fault : Fault) → IsRefusedByOf (line_for name models) words fault → EndsWith (program_of meaning Makes name models) words fault input old new

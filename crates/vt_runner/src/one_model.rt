@@ -10,7 +10,7 @@ ghost use Rattle.vt_options.specs.Requests.{AreBy, AskHelpOf, IsRefusedAsOf};
 ghost use Rattle.vt_runner.specs.Refusals.{TellsRefusalOf, status_of};
 ghost use Rattle.vt_runner.specs.OneModel.{IsDoneOf, EndsOf, AskBadLineOf};
 
-use crate::{replay, simulate, tell_refusal};
+use crate::{carry_out, tell_refusal};
 use std::alloc::Global;
 use std::convert::AsStr;
 use std::io::{Read, Write};
@@ -76,17 +76,11 @@ where
     };
     match read_request(alloc, texts, &table, words)? {
         Request::Help(text) => write_bytes(out, text.as_bytes()),
-        Request::Run(settings, chosen) => {
+        Request::Task(task, chosen) => {
             let Some(model) = make(chosen.values.as_slice()) else {
                 return Err(Fault::BadOption("values"));
             };
-            simulate(rt, alloc, &model, &settings, watch, out)
-        }
-        Request::Replay(settings, chosen) => {
-            let Some(model) = make(chosen.values.as_slice()) else {
-                return Err(Fault::BadOption("values"));
-            };
-            replay(alloc, &model, &settings, reader, out)
+            carry_out(rt, alloc, &model, &task, watch, reader, out)
         }
     }
 }

@@ -6,7 +6,7 @@ use std::test::Fail;
 use vt_command::{Request, read_request};
 use vt_key::Fault;
 use vt_model::Config;
-use vt_options::{Chosen, ReplaySettings, RunSettings, Synch};
+use vt_options::{Chosen, ReplaySettings, RunSettings, Synch, Task};
 use vt_text::Version;
 
 /// An option with the ends of its range, a text beyond each end, and its default.
@@ -163,7 +163,7 @@ fn fault_of(
 /// The settings of a line and what it chooses, where it is one of a run.
 fn run_of(alloc: Global, words: &[&str]) -> Option<(RunSettings, Chosen)> {
     match asked(alloc, words) {
-        Ok(Request::Run(settings, chosen)) => Some((settings, chosen)),
+        Ok(Request::Task(Task::Run(settings), chosen)) => Some((settings, chosen)),
         _ => None,
     }
 }
@@ -171,7 +171,7 @@ fn run_of(alloc: Global, words: &[&str]) -> Option<(RunSettings, Chosen)> {
 /// The settings of a line and what it chooses, where it is one of a replay.
 fn replay_of(alloc: Global, words: &[&str]) -> Option<(ReplaySettings, Chosen)> {
     match asked(alloc, words) {
-        Ok(Request::Replay(settings, chosen)) => Some((settings, chosen)),
+        Ok(Request::Task(Task::Replay(settings), chosen)) => Some((settings, chosen)),
         _ => None,
     }
 }
