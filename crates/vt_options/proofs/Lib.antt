@@ -2,3 +2,4 @@ pub mod LineLemmas
 pub mod RequestLemmas
 pub mod OwnLemmas
 pub mod ModelLemmas
+pub mod TakenLemmas

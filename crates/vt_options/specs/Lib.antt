@@ -4,3 +4,4 @@ pub mod Settings
 pub mod Requests
 pub mod Own
 pub mod Asked
+pub mod Taken

@@ -5,14 +5,11 @@ ghost use Rattle.vt_options.specs.Own.{AllHaveDefaults};
 use crate::asking::{read_request, table_matches};
 use crate::line::ProgramTexts;
 use crate::own::{ModelTable, OwnOption};
-use crate::texts::{END, LPS, OptionText, SEED, SERIAL, SYNCH, TEXT, TURNS, WORKERS};
+use crate::texts::{EVERY_MODEL, OptionText};
 use clap::{ArgMatches, Error};
 use std::alloc::Global;
 use std::convert::AsStr;
 use vt_key::Fault;
-
-/// The options of every model, each once.
-static EVERY_MODEL: [OptionText; 8] = [SYNCH, WORKERS, LPS, END, SEED, TURNS, SERIAL, TEXT];
 
 /// Which values an option takes, where a table has it.
 fn takes_of(options: &[OptionText], name: &str) -> Option<&'static str> {

@@ -15,6 +15,7 @@ mod models;
 mod own;
 mod reading;
 mod refusing;
+mod taken;
 mod texts;
 
 pub use asking::{Request, read_request};
@@ -23,4 +24,5 @@ pub use hinting::hint;
 pub use limits::MAX_TURNS;
 pub use line::ProgramTexts;
 pub use own::{Chosen, ModelOptions, ModelTable, OwnOption};
+pub use taken::taken_name;
 pub use texts::{GENERAL, OptionText};

@@ -98,3 +98,8 @@ pub(crate) const TEXT: OptionText = OptionText {
     takes: "1 or 2",
     help: "Version of the text of records: 1 has no priorities, 2 has them [default: 2]",
 };
+
+/// The options of every model, each once.
+pub(crate) static EVERY_MODEL: [OptionText; 8] = [
+    SYNCH, WORKERS, LPS, END, SEED, TURNS, SERIAL, TEXT,
+];

@@ -8,6 +8,7 @@ ghost use Rattle.vt_key.specs.Faults.{option_named};
 ghost use Rattle.vt_key.specs.declared.fault.Fault.{Fault};
 ghost use Rattle.vt_key.specs.declared.fault.Fault.TheVariants.{Memory};
 ghost use Rattle.vt_options.specs.Own.{HaveDefaults, AreWithin};
+ghost use Rattle.vt_options.specs.Taken.{own_names, taken_in};
 ghost use Rattle.vt_runner.specs.Refusals.{TellsRefusalOf, status_of};
 ghost use Rattle.vt_runner.specs.OneModel.{IsDoneOf, EndsOf};
 
@@ -20,7 +21,7 @@ use std::sync::Wait;
 use std::thread::Threads;
 use vt_key::Fault;
 use vt_model::Model as EventModel;
-use vt_options::{ModelOptions, ModelTable, OwnOption, ProgramTexts, hint};
+use vt_options::{ModelOptions, ModelTable, OwnOption, ProgramTexts, hint, taken_name};
 use vt_station::Watch;
 
 /// The process's words. No contract says that they are these: the library's `env::args` has none.
@@ -44,6 +45,9 @@ pub fn words_of<H: Env + AllocGlobal>(rt: &H) -> Result<Vec<String>, Fault>
 /// which come in the order of `own`, each in its range. `None`: these values make no model, and the program refuses them.
 ///
 /// No contract says what the words of the process are: status 0 means that for some words all that they ask for was written.
+///
+/// An option of the model with the name of an option of every model, of help, or of another of the model's is refused before
+/// anything else: the line is `NAME: refused 7 bad option OPTION`, the status is 2, and nothing was read or written.
 pub fn run_program<
     H: Threads + Wait + Sync + Env + AllocGlobal,
     M: EventModel + Sync + Drop,
@@ -71,7 +75,13 @@ where
         × (((words : List Text) × EndsOf M.handlers (λ values made. FnReturnsAt F.Fn make values made) texts.now.name.now own.now fault words (R.remaining streams.old.input) (O.contents streams.old.output) (O.contents streams.new.output))
         ⊎ Keeps (O.contents streams.old.output) (O.contents streams.new.output))
         × TellsRefusalOf texts.now.name.now fault (E.contents streams.old.errors) (E.contents streams.new.errors) }
+    ensures taken { (name : Text) → taken_in (own_names own.now) ≡ Some name → (result ≡ 2)
+        × Keeps (R.remaining streams.old.input) (R.remaining streams.new.input) × Keeps (O.contents streams.old.output) (O.contents streams.new.output)
+        × ((fault : Fault) × (option_named fault ≡ Some name) × TellsRefusalOf texts.now.name.now fault (E.contents streams.old.errors) (E.contents streams.new.errors)) }
 {
+    if let Some(name) = taken_name(own) {
+        return tell_refusal(&mut streams.errors, texts.name, Fault::BadOption(name));
+    }
     match words_of(rt) {
         Ok(words) => model_program(
             rt,
@@ -87,8 +97,8 @@ where
     }
 }
 
-/// A line for a terminal where [`run_program`] has refused the words of the process: which word it was, and what is allowed. None
-/// where the words aren't refused, or memory was.
+/// A line for a terminal where [`run_program`] has refused the words of the process: which word it was, and what is allowed; or
+/// that an option's name is taken. None where nothing of it is refused, or memory was.
 pub fn hint_of_process<H: Env + AllocGlobal>(
     rt: &H,
     texts: &ProgramTexts,
@@ -96,6 +106,10 @@ pub fn hint_of_process<H: Env + AllocGlobal>(
 ) -> Option<String>
     requires defaults { HaveDefaults own.now }
 {
+    if let Some(name) = taken_name(own) {
+        let program = texts.name;
+        return format!(in rt.alloc(); "{program}: another option of it is named --{name} too").ok();
+    }
     let Ok(words) = words_of(rt) else {
         return None;
     };

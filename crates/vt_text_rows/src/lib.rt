@@ -9,3 +9,5 @@ mod hints;
 mod records;
 #[cfg(test)]
 mod steps;
+#[cfg(test)]
+mod taken;

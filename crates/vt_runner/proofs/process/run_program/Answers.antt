@@ -1,5 +1,13 @@
-use Rattle.std.proofs.Common.{inl}
+use Rattle.std.proofs.Common.{◌∙◌, inl, inr}
+use Rattle.std.proofs.KnownBytes.{Keeps-refl}
+use Rattle.vt_key.specs.declared.fault.Fault.TheVariants.{BadOption}
 use Rattle.vt_runner.proofs.process.run_program.Goals as goal
+
+pub returns-in-Some-clause-refused : goal.returns-in-Some-clause-refused
+returns-in-Some-clause-refused g c = λ refused. (BadOption c.in-Some.name, c.tell_refusal.ensures.status, inr (Keeps-refl _), c.tell_refusal.ensures.told)
+
+pub returns-in-Some-clause-taken : goal.returns-in-Some-clause-taken
+returns-in-Some-clause-taken g c = λ name is. (c.tell_refusal.ensures.status, Keeps-refl _, Keeps-refl _, (BadOption c.in-Some.name, c.in-Some.ensures ∙ is, c.tell_refusal.ensures.told))
 
 pub returns-in-Ok-clause-done : goal.returns-in-Ok-clause-done
 returns-in-Ok-clause-done g c = λ done. (_, c.model_program.ensures.done done)

@@ -1,0 +1,10 @@
+use Rattle.std.proofs.Common.{◌≡◌, length}
+use Rattle.vt_options.specs.Taken.{own_names, taken_in}
+use Rattle.vt_options.proofs.taken.taken_name.Given as goal
+
+-- no option so far has a name that is taken
+abbrev pub invariant-loop-option : goal.invariant-loop-option
+invariant-loop-option l = taken_in (own_names l.own) ≡ taken_in (own_names l.rest)
+
+abbrev pub decreases-loop-option : goal.decreases-loop-option
+decreases-loop-option l = length l.rest

@@ -1,0 +1,54 @@
+//! Options of a model whose names are taken.
+
+ghost use Rattle.std.specs.Prelude.{◌≡◌, option_map};
+ghost use Rattle.vt_options.specs.Line.{names_of};
+ghost use Rattle.vt_options.specs.Taken.{is_among, is_general, own_names, taken_in};
+
+use crate::own::OwnOption;
+use crate::texts::{EVERY_MODEL, OptionText};
+
+/// Whether one of these options has the name.
+fn has_text(options: &[OptionText], name: &str) -> bool
+    ensures { result ≡ is_among (names_of options.now) name.now }
+{
+    for option in options {
+        if option.name == name {
+            return true;
+        }
+    }
+    false
+}
+
+/// Whether one of a model's options has the name.
+fn has_own(own: &[OwnOption], name: &str) -> bool
+    ensures { result ≡ is_among (own_names own.now) name.now }
+{
+    for option in own {
+        if option.name == name {
+            return true;
+        }
+    }
+    false
+}
+
+/// Whether an option of every model has the name, or help.
+fn is_taken(name: &str) -> bool
+    ensures { result ≡ is_general name.now }
+{
+    has_text(&EVERY_MODEL, name) || name == "help"
+}
+
+/// The name of the first option of a model that is also the name of an option of every model, of help, or of an option behind it.
+/// A command line would set both by one word.
+pub fn taken_name(own: &[OwnOption]) -> Option<&'static str>
+    ensures { option_map (λ name. name.now) result ≡ taken_in (own_names own.now) }
+{
+    let mut rest = own;
+    while let Some((option, others)) = rest.split_first() {
+        if is_taken(option.name) || has_own(others, option.name) {
+            return Some(option.name);
+        }
+        rest = others;
+    }
+    None
+}
