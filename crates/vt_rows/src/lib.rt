@@ -3,14 +3,4 @@
 #![tactic(auto)]
 
 #[cfg(test)]
-mod models;
-#[cfg(test)]
-mod pending;
-#[cfg(test)]
-mod pieces;
-#[cfg(test)]
-mod sequential;
-#[cfg(test)]
-mod streams;
-#[cfg(test)]
-mod tournament;
+mod tests;

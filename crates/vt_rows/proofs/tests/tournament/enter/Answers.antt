@@ -2,7 +2,7 @@ use Rattle.std.proofs.Common.{◌≡◌, ◌<◌, ◌∙◌, ℕ, List, Option, 
 use Rattle.std.proofs.lemmas.List.{length-set, set-set, set-get_or}
 use Rattle.vt_key.specs.declared.order.Rank.{Rank}
 use Rattle.vt_tournament.specs.Contest.{IsTournamentOf}
-use Rattle.vt_rows.proofs.tournament.enter.Goals as goal
+use Rattle.vt_rows.proofs.tests.tournament.enter.Goals as goal
 
 pub set-requires-clause-known : goal.set-requires-clause-known
 set-requires-clause-known c = subst (λ (n : ℕ). c.args.number < n) (sym (length-set c.args.five.now.entries c.args.number c.args.entry)) c.requires.known

@@ -1,22 +1,14 @@
 //! Whole runs of the hop model.
 
+use crate::tests::told::are_told;
 use std::alloc::AllocGlobal;
 use std::process::Abort;
 use std::rt::{self, HostRuntime};
+use std::test::Fail;
 use vt_key::{Fault, When};
-use vt_model::{Config, Record};
+use vt_model::Config;
 use vt_models::Hop;
 use vt_seq::Sequential;
-
-fn record(time: u64, lp: u32, kind: u32, value: u64) -> Record {
-    Record {
-        time,
-        priority: 0,
-        lp,
-        kind,
-        value,
-    }
-}
 
 // A run of the model by so many processes, up to this tick.
 fn opened<'m>(
@@ -30,9 +22,13 @@ fn opened<'m>(
 }
 
 // The whole run must have exactly these records.
-fn runs(rt: &(impl Abort + AllocGlobal), run: &mut Sequential<'_, Hop>, want: &[Record]) {
-    let records = run.run(rt.alloc()).expect(rt, "run");
-    assert_eq!(rt; records.as_slice(), want);
+fn runs(
+    rt: &(impl Abort + AllocGlobal),
+    run: &mut Sequential<'_, Hop>,
+    want: &str,
+) -> Result<(), Fail> {
+    let records = run.run(rt.alloc())?;
+    are_told(rt, &records, want)
 }
 
 // These must be the records so far, of those before this time.
@@ -40,10 +36,10 @@ fn shows_below(
     rt: &(impl Abort + AllocGlobal),
     run: &Sequential<'_, Hop>,
     time: When,
-    want: &[Record],
-) {
-    let below = run.records_below(rt.alloc(), time).expect(rt, "records");
-    assert_eq!(rt; below.as_slice(), want);
+    want: &str,
+) -> Result<(), Fail> {
+    let below = run.records_below(rt.alloc(), time)?;
+    are_told(rt, &below, want)
 }
 
 // The processes must have these final values.
@@ -67,113 +63,82 @@ fn has_number(rt: &impl Abort, run: &Sequential<'_, Hop>, lp: u32, want: Option<
 }
 
 #[test]
-fn two_tokens_hop_twice(rt: HostRuntime) {
+fn two_tokens_hop_twice(rt: HostRuntime) -> Result<(), Fail> {
     let model = Hop::new(2, 1, 2, 0).expect(&rt, "options");
     let mut run = opened(&rt, &model, 2, 10);
-    let want = [
-        record(1, 0, 1, 1),
-        record(2, 1, 1, 2),
-        record(3, 1, 1, 513),
-        record(4, 0, 1, 258),
-        record(5, 0, 1, 66049),
-        record(6, 1, 1, 131330),
-    ];
-    runs(&rt, &mut run, &want);
+    let want = "1 0 0 1 1\n2 0 1 1 2\n3 0 1 1 513\n4 0 0 1 258\n5 0 0 1 66049\n6 0 1 1 131330\n";
+    runs(&rt, &mut run, want)?;
     ends_with(&rt, &run, &[66049, 131330]);
+    Ok(())
 }
 
 #[test]
-fn events_of_one_time_go_by_key(rt: HostRuntime) {
+fn events_of_one_time_go_by_key(rt: HostRuntime) -> Result<(), Fail> {
     let model = Hop::new(1, 1, 1, 0).expect(&rt, "options");
-    let want = [
-        record(1, 0, 1, 1),
-        record(2, 1, 1, 1),
-        record(2, 1, 1, 258),
-        record(3, 0, 1, 258),
-    ];
-    runs(&rt, &mut opened(&rt, &model, 2, 10), &want);
+    let want = "1 0 0 1 1\n2 0 1 1 1\n2 0 1 1 258\n3 0 0 1 258\n";
+    runs(&rt, &mut opened(&rt, &model, 2, 10), want)
 }
 
 #[test]
-fn sources_break_ties_and_not_receivers(rt: HostRuntime) {
+fn sources_break_ties_and_not_receivers(rt: HostRuntime) -> Result<(), Fail> {
     let model = Hop::new(1, 2, 1, 0).expect(&rt, "options");
-    let want = [record(1, 0, 1, 1), record(2, 2, 1, 1), record(2, 1, 1, 2)];
-    runs(&rt, &mut opened(&rt, &model, 3, 3), &want);
+    let want = "1 0 0 1 1\n2 0 2 1 1\n2 0 1 1 2\n";
+    runs(&rt, &mut opened(&rt, &model, 3, 3), want)
 }
 
 #[test]
-fn sends_past_the_end_take_numbers(rt: HostRuntime) {
+fn sends_past_the_end_take_numbers(rt: HostRuntime) -> Result<(), Fail> {
     let model = Hop::new(2, 1, 2, 0).expect(&rt, "options");
     let mut run = opened(&rt, &model, 2, 4);
-    let want = [record(1, 0, 1, 1), record(2, 1, 1, 2), record(3, 1, 1, 513)];
-    runs(&rt, &mut run, &want);
+    let want = "1 0 0 1 1\n2 0 1 1 2\n3 0 1 1 513\n";
+    runs(&rt, &mut run, want)?;
     has_number(&rt, &run, 0, Some(2));
     has_number(&rt, &run, 1, Some(3));
-}
-
-// The same within a tick.
-fn prior(time: u64, priority: u8, lp: u32, value: u64) -> Record {
-    Record {
-        time,
-        priority,
-        lp,
-        kind: 1,
-        value,
-    }
+    Ok(())
 }
 
 #[test]
-fn tokens_hop_within_a_tick(rt: HostRuntime) {
+fn tokens_hop_within_a_tick(rt: HostRuntime) -> Result<(), Fail> {
     let model = Hop::new(2, 1, 2, 100).expect(&rt, "options");
-    let want = [
-        prior(1, 0, 0, 1),
-        prior(1, 100, 1, 1),
-        prior(1, 200, 0, 257),
-        prior(2, 0, 1, 258),
-        prior(2, 100, 0, 65_794),
-        prior(2, 200, 1, 66_050),
-    ];
-    runs(&rt, &mut opened(&rt, &model, 2, 10), &want);
+    let want =
+        "1 0 0 1 1\n1 100 1 1 1\n1 200 0 1 257\n2 0 1 1 258\n2 100 0 1 65794\n2 200 1 1 66050\n";
+    runs(&rt, &mut opened(&rt, &model, 2, 10), want)
 }
 
 // One process, whose token comes back three times: the third time there is no higher priority, and it takes the delay.
-fn three_rises(rt: &(impl Abort + AllocGlobal), end: u64, want: &[Record]) {
+fn three_rises(rt: &(impl Abort + AllocGlobal), end: u64, want: &str) -> Result<(), Fail> {
     let model = Hop::new(3, 0, 2, 100).expect(rt, "options");
     let mut run = opened(rt, &model, 1, end);
-    runs(rt, &mut run, want);
+    runs(rt, &mut run, want)?;
     has_number(rt, &run, 0, Some(4));
+    Ok(())
 }
 
 #[test]
-fn past_the_last_priority_the_delay_counts(rt: HostRuntime) {
-    let want = [
-        prior(1, 0, 0, 1),
-        prior(1, 100, 0, 257),
-        prior(1, 200, 0, 65_793),
-        prior(3, 0, 0, 16_843_009),
-    ];
-    three_rises(&rt, 10, &want);
-    three_rises(&rt, 2, &want[..3]);
+fn past_the_last_priority_the_delay_counts(rt: HostRuntime) -> Result<(), Fail> {
+    let all = "1 0 0 1 1\n1 100 0 1 257\n1 200 0 1 65793\n3 0 0 1 16843009\n";
+    three_rises(&rt, 10, all)?;
+    three_rises(&rt, 2, "1 0 0 1 1\n1 100 0 1 257\n1 200 0 1 65793\n")
 }
 
 #[test]
-fn nothing_happens_before_time_one(rt: HostRuntime) {
+fn nothing_happens_before_time_one(rt: HostRuntime) -> Result<(), Fail> {
     let model = Hop::new(2, 1, 2, 0).expect(&rt, "options");
     let mut run = opened(&rt, &model, 2, 1);
     steps(&rt, &mut run, false);
-    runs(&rt, &mut run, &[]);
+    runs(&rt, &mut run, "")
 }
 
 #[test]
-fn a_run_is_read_on_its_way(rt: HostRuntime) {
+fn a_run_is_read_on_its_way(rt: HostRuntime) -> Result<(), Fail> {
     let model = Hop::new(2, 1, 2, 0).expect(&rt, "options");
     let mut run = opened(&rt, &model, 2, 10);
     for _ in 0..3 {
         steps(&rt, &mut run, true);
     }
-    let all = [record(1, 0, 1, 1), record(2, 1, 1, 2), record(3, 1, 1, 513)];
-    shows_below(&rt, &run, When::tick(3), &all[..2]);
-    shows_below(&rt, &run, When::tick(10), &all);
+    shows_below(&rt, &run, When::tick(3), "1 0 0 1 1\n2 0 1 1 2\n")?;
+    let all = "1 0 0 1 1\n2 0 1 1 2\n3 0 1 1 513\n";
+    shows_below(&rt, &run, When::tick(10), all)?;
     has_no_finals(&rt, &run);
     for _ in 3..6 {
         steps(&rt, &mut run, true);
@@ -181,4 +146,5 @@ fn a_run_is_read_on_its_way(rt: HostRuntime) {
     steps(&rt, &mut run, false);
     has_number(&rt, &run, 0, Some(3));
     has_number(&rt, &run, 2, None);
+    Ok(())
 }
