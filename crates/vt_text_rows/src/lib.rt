@@ -2,12 +2,4 @@
 #![tactic(auto)]
 
 #[cfg(test)]
-mod command;
-#[cfg(test)]
-mod hints;
-#[cfg(test)]
-mod records;
-#[cfg(test)]
-mod steps;
-#[cfg(test)]
-mod taken;
+mod tests;

@@ -144,6 +144,11 @@ fn replay_ranges(alloc: Global) -> Result<Vec<Range>, AllocError> {
     Ok(ranges)
 }
 
+/// The words of a line.
+pub(crate) fn words_of(alloc: Global, line: &str) -> Result<Vec<&str>, AllocError> {
+    line.split_ascii_whitespace().collect(alloc)
+}
+
 /// The option with this text behind `=`.
 pub(crate) fn option_word(alloc: Global, name: &str, text: &str) -> Result<String, AllocError> {
     format!(in alloc; "--{name}={text}")
@@ -160,19 +165,27 @@ fn fault_of(
     Ok(read_request(alloc, &["twarp", subcommand, word.as_str()]).err())
 }
 
-/// The settings of a line and what it chooses, where it is one of a run.
-fn run_of(alloc: Global, words: &[&str]) -> Option<(RunSettings, Chosen)> {
-    match asked(alloc, words) {
-        Ok(Request::Task(Task::Run(settings), chosen)) => Some((settings, chosen)),
-        _ => None,
+/// Settings that a line may ask for.
+trait Settings {
+    /// These settings and what else is chosen, where they are asked for.
+    fn told(request: Request) -> Option<(Self, Chosen)>;
+}
+
+impl Settings for RunSettings {
+    fn told(request: Request) -> Option<(RunSettings, Chosen)> {
+        match request {
+            Request::Task(Task::Run(settings), chosen) => Some((settings, chosen)),
+            _ => None,
+        }
     }
 }
 
-/// The settings of a line and what it chooses, where it is one of a replay.
-fn replay_of(alloc: Global, words: &[&str]) -> Option<(ReplaySettings, Chosen)> {
-    match asked(alloc, words) {
-        Ok(Request::Task(Task::Replay(settings), chosen)) => Some((settings, chosen)),
-        _ => None,
+impl Settings for ReplaySettings {
+    fn told(request: Request) -> Option<(ReplaySettings, Chosen)> {
+        match request {
+            Request::Task(Task::Replay(settings), chosen) => Some((settings, chosen)),
+            _ => None,
+        }
     }
 }
 
@@ -280,41 +293,24 @@ fn the_first_bad_option_of_the_table_is_named(rt: HostRuntime) -> Result<(), Fai
     Ok(())
 }
 
-/// Asserts that a line of a run has these settings, and chooses the model of this index with these values.
-fn expect_run(
+/// Asserts that a line asks for these settings, and chooses the model of this index with these values.
+fn expect<S: Settings + PartialEq + Drop>(
     rt: &(impl Abort + AllocGlobal),
     line: &str,
-    expected: &RunSettings,
+    expected: &S,
     model: usize,
     values: &[u32],
 ) -> Result<(), Fail> {
-    let words: Vec<&str> = line.split_ascii_whitespace().collect(rt.alloc())?;
-    let Some((settings, chosen)) = run_of(rt.alloc(), words.as_slice()) else {
-        assert!(rt; false, "{line}");
-        return Ok(());
-    };
-    assert_eq!(rt; settings, *expected, "{line}");
-    assert_eq!(rt; chosen.model, model, "{line}");
-    assert_eq!(rt; chosen.values.as_slice(), values, "{line}");
-    Ok(())
-}
-
-/// Asserts that a line of a replay has these settings, and chooses the model of this index with these values.
-fn expect_replay(
-    rt: &(impl Abort + AllocGlobal),
-    line: &str,
-    expected: &ReplaySettings,
-    model: usize,
-    values: &[u32],
-) -> Result<(), Fail> {
-    let words: Vec<&str> = line.split_ascii_whitespace().collect(rt.alloc())?;
-    let Some((settings, chosen)) = replay_of(rt.alloc(), words.as_slice()) else {
-        assert!(rt; false, "{line}");
-        return Ok(());
-    };
-    assert_eq!(rt; settings, *expected, "{line}");
-    assert_eq!(rt; chosen.model, model, "{line}");
-    assert_eq!(rt; chosen.values.as_slice(), values, "{line}");
+    let words = words_of(rt.alloc(), line)?;
+    let request = asked(rt.alloc(), words.as_slice())?;
+    match S::told(request) {
+        Some((settings, chosen)) => {
+            assert!(rt; settings == *expected, "{line}");
+            assert_eq!(rt; chosen.model, model, "{line}");
+            assert_eq!(rt; chosen.values.as_slice(), values, "{line}");
+        }
+        None => assert!(rt; false, "{line}"),
+    }
     Ok(())
 }
 
@@ -326,18 +322,18 @@ fn options_have_defaults(rt: HostRuntime) -> Result<(), Fail> {
         turns: 10_000_000,
         text: Version::Two,
     };
-    expect_run(&rt, "twarp run", &run, 0, &[2, 1, 2, 0])?;
-    expect_run(&rt, "twarp run --model=hop", &run, 0, &[2, 1, 2, 0])?;
-    expect_run(&rt, "twarp run --model=phold", &run, 1, &[1, 0, 1, 1])?;
-    expect_run(&rt, "twarp run --model=stations", &run, 2, &[1, 1, 1])?;
+    expect(&rt, "twarp run", &run, 0, &[2, 1, 2, 0])?;
+    expect(&rt, "twarp run --model=hop", &run, 0, &[2, 1, 2, 0])?;
+    expect(&rt, "twarp run --model=phold", &run, 1, &[1, 0, 1, 1])?;
+    expect(&rt, "twarp run --model=stations", &run, 2, &[1, 1, 1])?;
     let replay = ReplaySettings {
         config: Config::new(2, 1, 10, 0)?,
         serial: 0,
         text: Version::Two,
     };
-    expect_replay(&rt, "twarp replay", &replay, 0, &[2, 1, 2, 0])?;
-    expect_replay(&rt, "twarp replay --model phold", &replay, 1, &[1, 0, 1, 1])?;
-    expect_replay(&rt, "twarp replay --model stations", &replay, 2, &[1, 1, 1])
+    expect(&rt, "twarp replay", &replay, 0, &[2, 1, 2, 0])?;
+    expect(&rt, "twarp replay --model phold", &replay, 1, &[1, 0, 1, 1])?;
+    expect(&rt, "twarp replay --model stations", &replay, 2, &[1, 1, 1])
 }
 
 /// Options of all models, and of every model.
@@ -360,7 +356,7 @@ fn given_options_are_taken(rt: HostRuntime) -> Result<(), Fail> {
     ];
     for (index, (model, values)) in models.into_iter().enumerate() {
         let line = format!(in rt.alloc(); "twarp run {GIVEN} --turns 5 --synch 3 --model={model}")?;
-        expect_run(&rt, line.as_str(), &expected, index, values)?;
+        expect(&rt, line.as_str(), &expected, index, values)?;
     }
     Ok(())
 }
@@ -373,7 +369,7 @@ fn given_options_of_a_replay_are_taken(rt: HostRuntime) -> Result<(), Fail> {
         text: Version::One,
     };
     let line = format!(in rt.alloc(); "twarp replay {GIVEN} --serial=5 --model phold")?;
-    expect_replay(&rt, line.as_str(), &expected, 1, &[6, 19, 18, 17])
+    expect(&rt, line.as_str(), &expected, 1, &[6, 19, 18, 17])
 }
 
 #[test]
@@ -397,7 +393,7 @@ fn other_lines_are_no_command_lines(rt: HostRuntime) -> Result<(), Fail> {
         "twarp --version",
     ];
     for line in lines {
-        let words: Vec<&str> = line.split_ascii_whitespace().collect(rt.alloc())?;
+        let words = words_of(rt.alloc(), line)?;
         let fault = read_request(rt.alloc(), words.as_slice()).err();
         assert_eq!(rt; fault, Some(Fault::BadOption("command-line")), "{line}");
     }

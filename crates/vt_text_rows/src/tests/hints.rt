@@ -1,6 +1,6 @@
 //! What a terminal is told of a command line that is refused.
 
-use crate::command::{RANGES, Range, SERIAL, option_word};
+use crate::tests::command::{RANGES, Range, SERIAL, option_word, words_of};
 use std::alloc::Global;
 use std::process::Abort;
 use std::test::Fail;
@@ -39,7 +39,7 @@ fn hints_tell_the_ranges(rt: HostRuntime) -> Result<(), Fail> {
 }
 
 fn expect(rt: &(impl Abort + AllocGlobal), line: &str, wanted: &str) -> Result<(), Fail> {
-    let words: Vec<&str> = line.split_ascii_whitespace().collect(rt.alloc())?;
+    let words = words_of(rt.alloc(), line)?;
     let said = hint_of(rt.alloc(), words.as_slice());
     assert!(rt; said.as_str() == wanted, "{line}: {said}");
     Ok(())

@@ -1,5 +1,7 @@
 //! Step texts that are read, and replies and states that are printed.
 
+use crate::tests::records::{FIRST, record};
+use crate::tests::writers::{Narrow, writer_with_room};
 use std::alloc::{AllocGlobal, Global};
 use std::io::{self, Error, ErrorKind, Read, Write};
 use std::process::Abort;
@@ -13,69 +15,49 @@ use vt_step_text::{
 use vt_steps::{Reply, Step};
 use vt_text::{TextBuffer, Version};
 
-/// A straggler at equal time: the steps up to the close of the book.
-const STRAGGLER: &str = "\
-home 0
-home 1
-execute 1
-execute 0
-send 0 1
-fetch 1
-accept 1 0
-undo 1
-execute 1
-execute 1
-send 1 0
-fetch 0
-accept 0 0
-accept 0 0
-accept 0 0
-cancel 0 1 1
-execute 0
-cut 0
-cut 1
-report 0
-report 1
-cut 0
-commit 0
-commit 1
-close
-";
+/// The stamp of the event that is cancelled.
+const OLD: Stamp = Stamp {
+    worker: 1,
+    serial: 1,
+};
 
-/// The same steps.
-static STRAGGLER_STEPS: [Step; 25] = [
-    Step::Home(0),
-    Step::Home(1),
-    Step::Execute(1),
-    Step::Execute(0),
-    Step::Send(0, 1),
-    Step::Fetch(1),
-    Step::Accept(1, 0),
-    Step::Undo(1),
-    Step::Execute(1),
-    Step::Execute(1),
-    Step::Send(1, 0),
-    Step::Fetch(0),
-    Step::Accept(0, 0),
-    Step::Accept(0, 0),
-    Step::Accept(0, 0),
-    Step::Cancel(
-        0,
-        Stamp {
-            worker: 1,
-            serial: 1,
-        },
-    ),
-    Step::Execute(0),
-    Step::Cut(0),
-    Step::Cut(1),
-    Step::Report(0),
-    Step::Report(1),
-    Step::Cut(0),
-    Step::Commit(0),
-    Step::Commit(1),
-    Step::Close,
+/// A straggler at equal time: the lines up to the close of the book, and the step that each says.
+static STRAGGLER: [(&str, Step); 25] = [
+    ("home 0", Step::Home(0)),
+    ("home 1", Step::Home(1)),
+    ("execute 1", Step::Execute(1)),
+    ("execute 0", Step::Execute(0)),
+    ("send 0 1", Step::Send(0, 1)),
+    ("fetch 1", Step::Fetch(1)),
+    ("accept 1 0", Step::Accept(1, 0)),
+    ("undo 1", Step::Undo(1)),
+    ("execute 1", Step::Execute(1)),
+    ("execute 1", Step::Execute(1)),
+    ("send 1 0", Step::Send(1, 0)),
+    ("fetch 0", Step::Fetch(0)),
+    ("accept 0 0", Step::Accept(0, 0)),
+    ("accept 0 0", Step::Accept(0, 0)),
+    ("accept 0 0", Step::Accept(0, 0)),
+    ("cancel 0 1 1", Step::Cancel(0, OLD)),
+    ("execute 0", Step::Execute(0)),
+    ("cut 0", Step::Cut(0)),
+    ("cut 1", Step::Cut(1)),
+    ("report 0", Step::Report(0)),
+    ("report 1", Step::Report(1)),
+    ("cut 0", Step::Cut(0)),
+    ("commit 0", Step::Commit(0)),
+    ("commit 1", Step::Commit(1)),
+    ("close", Step::Close),
 ];
+
+/// The text of the straggler.
+fn straggler(alloc: Global) -> Result<Vec<u8>, Fail> {
+    let mut text = Vec::new(alloc);
+    for (line, _) in &STRAGGLER {
+        writeln!(text, "{line}")?;
+    }
+    Ok(text)
+}
 
 /// The steps of a text of two processes on two workers.
 fn steps_of(alloc: Global, text: &[u8]) -> Result<Vec<NumberedStep>, Fault> {
@@ -92,10 +74,11 @@ fn bad_line_of(alloc: Global, text: &[u8]) -> Option<u64> {
 
 #[test]
 fn reads_a_worked_replay(rt: HostRuntime) -> Result<(), Fail> {
-    let steps = steps_of(rt.alloc(), STRAGGLER.as_bytes())?;
-    assert_eq!(rt; steps.len(), STRAGGLER_STEPS.len());
+    let text = straggler(rt.alloc())?;
+    let steps = steps_of(rt.alloc(), text.as_slice())?;
+    assert_eq!(rt; steps.len(), STRAGGLER.len());
     let mut line = 1u64;
-    for (read, step) in steps.iter().zip(STRAGGLER_STEPS.iter()) {
+    for (read, (_, step)) in steps.iter().zip(STRAGGLER.iter()) {
         assert_eq!(rt; *read, NumberedStep { line, step: *step });
         line = line.saturating_add(1);
     }
@@ -246,12 +229,12 @@ fn the_longest_input_is_read(rt: HostRuntime) -> Result<(), Fail> {
 
 /// A reader that gives a number of pieces of a text and then fails.
 #[derive(Drop)]
-struct Failing {
-    rest: &'static [u8],
+struct Failing<'a> {
+    rest: &'a [u8],
     reads: usize,
 }
 
-impl Read for Failing {
+impl<'a> Read for Failing<'a> {
     fn read(&mut self, buf: &mut [u8]) -> io::Result<usize> {
         if self.reads == 0 {
             return Err(Error::from(ErrorKind::Interrupted));
@@ -267,7 +250,8 @@ impl Read for Failing {
 
 #[test]
 fn a_failed_read_refuses_the_input(rt: HostRuntime) -> Result<(), Fail> {
-    let rest = STRAGGLER.as_bytes();
+    let text = straggler(rt.alloc())?;
+    let rest = text.as_slice();
     let pieces = rest.len().div_ceil(10);
     for reads in 0..=pieces {
         let fault = read_input(rt.alloc(), &mut Failing { rest, reads }).err();
@@ -277,39 +261,6 @@ fn a_failed_read_refuses_the_input(rt: HostRuntime) -> Result<(), Fail> {
     let input = read_input(rt.alloc(), &mut Failing { rest, reads })?;
     assert!(rt; input.as_slice() == rest);
     Ok(())
-}
-
-/// A writer that has room for a number of bytes and then fails, and counts its calls.
-#[derive(Drop)]
-struct Narrow {
-    taken: Vec<u8>,
-    room: usize,
-    calls: usize,
-}
-
-impl Write for Narrow {
-    fn write(&mut self, buf: &[u8]) -> io::Result<usize> {
-        self.calls = self.calls.saturating_add(1);
-        let count = self.room.min(buf.len());
-        if count == 0 {
-            return Err(Error::from(ErrorKind::StorageFull));
-        }
-        self.room -= count;
-        self.taken.extend_from_slice(&buf[..count])?;
-        Ok(count)
-    }
-
-    fn flush(&mut self) -> io::Result<()> {
-        Ok(())
-    }
-}
-
-fn writer_with_room(rt: &HostRuntime, room: usize) -> Narrow {
-    Narrow {
-        taken: Vec::new(rt.alloc()),
-        room,
-        calls: 0,
-    }
 }
 
 // The line of this answer must be this text.
@@ -344,36 +295,9 @@ fn prints_a_line_for_each_kind_of_answer(rt: HostRuntime) -> Result<(), Fail> {
 }
 
 /// The records of a straggler's run.
-static STRAGGLER_RECORDS: [Record; 4] = [
-    Record {
-        time: 1,
-        priority: 0,
-        lp: 0,
-        kind: 1,
-        value: 1,
-    },
-    Record {
-        time: 2,
-        priority: 0,
-        lp: 1,
-        kind: 1,
-        value: 1,
-    },
-    Record {
-        time: 2,
-        priority: 0,
-        lp: 1,
-        kind: 1,
-        value: 258,
-    },
-    Record {
-        time: 3,
-        priority: 0,
-        lp: 0,
-        kind: 1,
-        value: 258,
-    },
-];
+fn straggler_records() -> [Record; 4] {
+    [FIRST, record(2, 1, 1), record(2, 1, 258), record(3, 0, 258)]
+}
 
 /// What the world shows at the end of it.
 const STRAGGLER_STATE: &str =
@@ -383,7 +307,7 @@ const STRAGGLER_STATE: &str =
 fn prints_what_the_world_shows(rt: HostRuntime) -> Result<(), Fail> {
     let end = When::tick(10);
     let mut text = Vec::new(rt.alloc());
-    print_state(&mut text, end, end, end, &STRAGGLER_RECORDS, Version::One)?;
+    print_state(&mut text, end, end, end, &straggler_records(), Version::One)?;
     assert!(rt; text.as_slice() == STRAGGLER_STATE.as_bytes());
     let mut early = Vec::new(rt.alloc());
     let times = [When::new(3, 5), When::new(1, 6), When::new(2, 7)];
@@ -407,7 +331,7 @@ fn print_gathered(writer: &mut Narrow) -> Result<(), Fault> {
         end,
         end,
         end,
-        &STRAGGLER_RECORDS,
+        &straggler_records(),
         Version::One,
     )?;
     text.flush(writer)

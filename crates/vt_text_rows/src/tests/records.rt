@@ -1,5 +1,6 @@
 //! Records that are printed, numbers that are read, and bytes that are written.
 
+use crate::tests::writers::writer_with_room;
 use std::alloc::AllocGlobal;
 use std::io::{self, Error, ErrorKind, Write};
 use std::process::Abort;
@@ -11,13 +12,23 @@ use vt_text::{
 };
 
 /// The one record of a hop run of one process without hops.
-const FIRST: Record = Record {
+pub(crate) const FIRST: Record = Record {
     time: 1,
     priority: 0,
     lp: 0,
     kind: 1,
     value: 1,
 };
+
+/// Another record of priority 0 and kind 1.
+pub(crate) fn record(time: u64, lp: u32, value: u64) -> Record {
+    Record {
+        time,
+        lp,
+        value,
+        ..FIRST
+    }
+}
 
 const LARGEST: Record = Record {
     time: u64::MAX,
@@ -61,39 +72,6 @@ impl Write for Scripted {
     }
 }
 
-/// A writer that has room for a number of bytes and then fails, and counts its calls.
-#[derive(Drop)]
-struct Narrow {
-    taken: Vec<u8>,
-    room: usize,
-    calls: usize,
-}
-
-impl Write for Narrow {
-    fn write(&mut self, buf: &[u8]) -> io::Result<usize> {
-        self.calls = self.calls.saturating_add(1);
-        let count = self.room.min(buf.len());
-        if count == 0 {
-            return Err(Error::from(ErrorKind::StorageFull));
-        }
-        self.room -= count;
-        self.taken.extend_from_slice(&buf[..count])?;
-        Ok(count)
-    }
-
-    fn flush(&mut self) -> io::Result<()> {
-        Ok(())
-    }
-}
-
-fn writer_with_room(rt: &impl AllocGlobal, room: usize) -> Narrow {
-    Narrow {
-        taken: Vec::new(rt.alloc()),
-        room,
-        calls: 0,
-    }
-}
-
 fn printed(rt: &HostRuntime, calls: [Call; 3]) -> (Result<(), Fault>, Vec<u8>) {
     let mut writer = Scripted {
         taken: Vec::new(rt.alloc()),
@@ -125,44 +103,16 @@ fn prints_nothing_of_no_records(rt: HostRuntime) {
 }
 
 /// The records of two tokens that hop twice.
-const HOP: [Record; 6] = [
-    FIRST,
-    Record {
-        time: 2,
-        priority: 0,
-        lp: 1,
-        kind: 1,
-        value: 2,
-    },
-    Record {
-        time: 3,
-        priority: 0,
-        lp: 1,
-        kind: 1,
-        value: 513,
-    },
-    Record {
-        time: 4,
-        priority: 0,
-        lp: 0,
-        kind: 1,
-        value: 258,
-    },
-    Record {
-        time: 5,
-        priority: 0,
-        lp: 0,
-        kind: 1,
-        value: 66_049,
-    },
-    Record {
-        time: 6,
-        priority: 0,
-        lp: 1,
-        kind: 1,
-        value: 131_330,
-    },
-];
+fn hop() -> [Record; 6] {
+    [
+        FIRST,
+        record(2, 1, 2),
+        record(3, 1, 513),
+        record(4, 0, 258),
+        record(5, 0, 66_049),
+        record(6, 1, 131_330),
+    ]
+}
 
 /// Their text in version 2.
 const HOP_TEXT: &str =
@@ -171,7 +121,7 @@ const HOP_TEXT: &str =
 // Prints them into a writer with so much room: the result must be this, and what was taken a beginning of the text.
 fn takes_a_beginning(rt: &(impl Abort + AllocGlobal), room: usize, expected: Result<(), Fault>) {
     let mut writer = writer_with_room(rt, room);
-    assert_eq!(rt; print_records(&mut writer, &HOP, Version::Two), expected);
+    assert_eq!(rt; print_records(&mut writer, &hop(), Version::Two), expected);
     assert_eq!(rt; writer.taken.len(), room);
     assert!(rt; HOP_TEXT.as_bytes().starts_with(writer.taken.as_slice()));
 }
