@@ -3,16 +3,4 @@
 #![tactic(auto)]
 
 #[cfg(test)]
-mod bytes;
-#[cfg(test)]
-mod cases;
-#[cfg(test)]
-mod faults;
-#[cfg(test)]
-mod replays;
-#[cfg(test)]
-mod running;
-#[cfg(test)]
-mod runs;
-#[cfg(test)]
-mod workers;
+mod tests;

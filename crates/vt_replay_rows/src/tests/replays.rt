@@ -1,9 +1,9 @@
 //! Replays that are read and run to their end.
 
-use crate::cases::{CASES, Case, straggler};
-use crate::running::expect;
+use crate::tests::cases::{CASES, Case, straggler};
+use crate::tests::running::expect;
 use std::alloc::{AllocError, Global};
-use std::io::{self, Read};
+use std::io::{self, Read, Write};
 use std::test::Fail;
 
 /// Adds the first lines of a text.
@@ -15,16 +15,31 @@ fn put_lines(text: &mut Vec<u8>, lines: &str, count: usize) -> Result<(), AllocE
     Ok(())
 }
 
+/// Adds the steps of a case that come after the straggler's, and what they are answered.
+fn put_steps(text: &mut Vec<u8>, replies: &mut Vec<u8>, case: &Case) -> Result<(), Fail> {
+    let mut line = case.begins;
+    for step in case.steps.split("; ") {
+        let (step, answer) = step.split_once(" -> ").unwrap_or((step, "ok"));
+        if !step.is_empty() {
+            line = line.saturating_add(1);
+            writeln!(text, "{step}")?;
+            writeln!(replies, "{line} {answer}")?;
+        }
+    }
+    Ok(())
+}
+
 /// The step text of a case, and its output.
-fn texts_of(alloc: Global, case: &Case) -> Result<(Vec<u8>, Vec<u8>), AllocError> {
+fn texts_of(alloc: Global, case: &Case) -> Result<(Vec<u8>, Vec<u8>), Fail> {
     let (steps, replies) = straggler();
     let mut text = Vec::new(alloc);
-    put_lines(&mut text, steps, case.begins)?;
-    text.extend_from_slice(case.steps.as_bytes())?;
     let mut output = Vec::new(alloc);
+    put_lines(&mut text, steps, case.begins)?;
     put_lines(&mut output, replies, case.begins)?;
-    output.extend_from_slice(case.replies.as_bytes())?;
-    output.extend_from_slice(case.shown.as_bytes())?;
+    put_steps(&mut text, &mut output, case)?;
+    for line in case.shown.split("; ") {
+        writeln!(output, "{line}")?;
+    }
     Ok((text, output))
 }
 

@@ -47,10 +47,13 @@ pub(crate) struct Narrow {
     pub(crate) most: usize,
     pub(crate) calls: usize,
     pub(crate) full: Full,
+    /// How often it was called.
+    pub(crate) called: usize,
 }
 
 impl Write for Narrow {
     fn write(&mut self, buf: &[u8]) -> io::Result<usize> {
+        self.called = self.called.saturating_add(1);
         let count = self.room.min(self.most).min(buf.len());
         if count == 0 || self.calls == 0 {
             return match self.full {
@@ -70,12 +73,13 @@ impl Write for Narrow {
     }
 }
 
-/// The status, and what was written to the two writers.
+/// The status, what was written to the two writers, and how often the second one was called.
 #[derive(Debug, Drop)]
 pub(crate) struct Outcome {
     pub(crate) status: u8,
     pub(crate) out: Vec<u8>,
     pub(crate) err: Vec<u8>,
+    pub(crate) err_called: usize,
 }
 
 /// A writer that takes all that it is given, as long as there is room.
@@ -86,6 +90,7 @@ pub(crate) fn writer_with_room(alloc: Global, room: usize) -> Narrow {
         most: usize::MAX,
         calls: usize::MAX,
         full: Full::Fails,
+        called: 0,
     }
 }
 
@@ -112,6 +117,7 @@ pub(crate) fn run_into<R: Read>(
         status,
         out: out.taken,
         err: err.taken,
+        err_called: err.called,
     })
 }
 
@@ -137,8 +143,20 @@ pub(crate) fn expect<R: Read>(
     err: &[u8],
 ) -> Result<(), Fail> {
     let outcome = run_within(rt, line, reader, 100_000)?;
+    is_outcome(rt, line, &outcome, status, out, err);
+    Ok(())
+}
+
+/// Asserts what came of a line.
+pub(crate) fn is_outcome(
+    rt: &impl Abort,
+    line: &str,
+    outcome: &Outcome,
+    status: u8,
+    out: &[u8],
+    err: &[u8],
+) {
     assert_eq!(rt; outcome.status, status, "{line}");
     assert!(rt; outcome.out.as_slice() == out, "{line}");
     assert!(rt; outcome.err.as_slice() == err, "{line}");
-    Ok(())
 }

@@ -1,7 +1,7 @@
 //! Replays that are refused.
 
-use crate::cases::straggler;
-use crate::running::{Failing, expect, run_within};
+use crate::tests::cases::straggler;
+use crate::tests::running::{Failing, expect, run_within};
 use std::io::{ErrorKind, Read};
 use std::process::Abort;
 use std::sync::Wait;
@@ -10,36 +10,51 @@ use std::thread::Threads;
 
 const TWO_WORKERS: &str = "twarp replay --hops 1 --delay 1 --workers 2 --text 1";
 
-/// Texts with a bad line, of two processes on one worker, and the first bad line of each.
-static BAD_TEXTS: [(&str, &str); 20] = [
-    ("home 0\nexecute 9", "2"),
-    ("execute 99\n", "1"),
-    ("home  0\n", "1"),
-    (" home 0\n", "1"),
-    ("home 0 \n", "1"),
-    (" \n", "1"),
-    ("\t\n", "1"),
-    ("home 0\r\n", "1"),
-    ("Home 0\n", "1"),
-    ("close 1\n", "1"),
-    ("accept 0\n", "1"),
-    ("accept 0 18446744073709551616\n", "1"),
-    ("accept 0 000000000000000000001\n", "1"),
-    ("#", "1"),
-    ("execute 2\n", "1"),
-    ("home 1\n", "1"),
-    ("send 0 1\n", "1"),
-    ("cancel 0 1 0\n", "1"),
-    ("home 0\n#\n\ncut 1\nhome 1\n", "4"),
-    ("home 0\nexecute 0\nundo 0\nclosed\n", "4"),
+/// Texts whose first line is bad, of two processes on one worker.
+static BAD_AT_ONCE: [&str; 17] = [
+    "execute 99\n",
+    "home  0\n",
+    " home 0\n",
+    "home 0 \n",
+    " \n",
+    "\t\n",
+    "home 0\r\n",
+    "Home 0\n",
+    "close 1\n",
+    "accept 0\n",
+    "accept 0 18446744073709551616\n",
+    "accept 0 000000000000000000001\n",
+    "#",
+    "execute 2\n",
+    "home 1\n",
+    "send 0 1\n",
+    "cancel 0 1 0\n",
 ];
+
+/// Texts with a later bad line, and the number of the first.
+static BAD_LATER: [(&str, u64); 3] = [
+    ("home 0\nexecute 9", 2),
+    ("home 0\n#\n\ncut 1\nhome 1\n", 4),
+    ("home 0\nexecute 0\nundo 0\nclosed\n", 4),
+];
+
+fn names_line(
+    rt: &(impl Abort + AllocGlobal + Threads + Wait + Sync),
+    text: &str,
+    line: u64,
+) -> Result<(), Fail> {
+    let refusal = format!(in rt.alloc(); "twarp: refused 8 bad step at line {line}\n")?;
+    let mut reader = text.as_bytes();
+    expect(rt, "twarp replay", &mut reader, 3, b"", refusal.as_bytes())
+}
 
 #[test]
 fn the_first_bad_line_is_named_and_nothing_is_run(rt: HostRuntime) -> Result<(), Fail> {
-    for (text, line) in &BAD_TEXTS {
-        let refusal = format!(in rt.alloc(); "twarp: refused 8 bad step at line {line}\n")?;
-        let mut reader = text.as_bytes();
-        expect(&rt, "twarp replay", &mut reader, 3, b"", refusal.as_bytes())?;
+    for text in &BAD_AT_ONCE {
+        names_line(&rt, text, 1)?;
+    }
+    for (text, line) in &BAD_LATER {
+        names_line(&rt, text, *line)?;
     }
     Ok(())
 }

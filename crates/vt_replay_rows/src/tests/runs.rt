@@ -1,12 +1,12 @@
 //! Runs through the whole program: what is printed, and what is refused.
 
-use std::io::{self, Error, ErrorKind, Write};
+use crate::tests::running::{Outcome, is_outcome, run_into, writer_with_room};
 use std::process::Abort;
 use std::sync::Wait;
 use std::test::Fail;
 use std::thread::Threads;
 use vt_key::Fault;
-use vt_program::{Unwatched, program, tell_refusal};
+use vt_program::tell_refusal;
 
 /// What `twarp run --text 1` prints.
 pub(crate) const SIX_LINES: &str =
@@ -24,39 +24,6 @@ pub(crate) const RISING_LINES: &str =
 pub(crate) const RISING_RECORDS: &str = "twarp-records 2\n\
     1 0 0 1 1\n1 100 1 1 1\n1 200 0 1 257\n2 0 1 1 258\n2 100 0 1 65794\n2 200 1 1 66050\n";
 
-/// A writer that has room for a number of bytes and then fails, and counts its calls.
-#[derive(Drop)]
-struct Narrow {
-    taken: Vec<u8>,
-    room: usize,
-    calls: usize,
-}
-
-impl Write for Narrow {
-    fn write(&mut self, buf: &[u8]) -> io::Result<usize> {
-        self.calls = self.calls.saturating_add(1);
-        let count = self.room.min(buf.len());
-        if count == 0 {
-            return Err(Error::from(ErrorKind::StorageFull));
-        }
-        self.room -= count;
-        self.taken.extend_from_slice(&buf[..count])?;
-        Ok(count)
-    }
-
-    fn flush(&mut self) -> io::Result<()> {
-        Ok(())
-    }
-}
-
-/// The status, and what was written to the two writers.
-#[derive(Debug, Drop)]
-pub(crate) struct Outcome {
-    pub(crate) status: u8,
-    pub(crate) out: Vec<u8>,
-    pub(crate) err: Vec<u8>,
-}
-
 /// Runs the program on the words of a line, with so much room for its output and for its refusals.
 pub(crate) fn run_within(
     rt: &(impl Abort + AllocGlobal + Threads + Wait + Sync),
@@ -64,36 +31,15 @@ pub(crate) fn run_within(
     room: usize,
     err_room: usize,
 ) -> Result<Outcome, Fail> {
-    let words: Vec<&str> = line.split_ascii_whitespace().collect(rt.alloc())?;
-    let mut out = Narrow {
-        taken: Vec::new(rt.alloc()),
-        room,
-        calls: 0,
-    };
-    let mut err = Narrow {
-        taken: Vec::new(rt.alloc()),
-        room: err_room,
-        calls: 0,
-    };
+    let out = writer_with_room(rt.alloc(), room);
+    let err = writer_with_room(rt.alloc(), err_room);
     let mut reader: &[u8] = b"unread";
-    let status = program(
-        rt,
-        rt.alloc(),
-        words.as_slice(),
-        &mut reader,
-        &mut out,
-        &mut err,
-        &Unwatched,
-    );
+    let outcome = run_into(rt, line, &mut reader, out, err)?;
     assert!(rt;
-        reader.len() == 6 && err.calls <= 1 + err.taken.len() / err_room.max(1),
+        reader.len() == 6 && outcome.err_called <= 1 + outcome.err.len() / err_room.max(1),
         "{line}"
     );
-    Ok(Outcome {
-        status,
-        out: out.taken,
-        err: err.taken,
-    })
+    Ok(outcome)
 }
 
 /// Asserts what the program does on the words of a line.
@@ -105,9 +51,7 @@ pub(crate) fn expect(
     err: &str,
 ) -> Result<(), Fail> {
     let outcome = run_within(rt, line, 100_000, 100_000)?;
-    assert_eq!(rt; outcome.status, status, "{line}");
-    assert!(rt; outcome.out.as_slice() == out.as_bytes(), "{line}");
-    assert!(rt; outcome.err.as_slice() == err.as_bytes(), "{line}");
+    is_outcome(rt, line, &outcome, status, out.as_bytes(), err.as_bytes());
     Ok(())
 }
 
@@ -239,24 +183,37 @@ fn ends_at_the_end_of_virtual_time(rt: HostRuntime) -> Result<(), Fail> {
     )
 }
 
-/// Words of runs, and what they print in the second version of the text of records, which is the one by default.
-static SECOND_VERSION: [(&str, &str); 7] = [
-    ("run", SIX_RECORDS),
-    ("run --text 2", SIX_RECORDS),
-    ("run --rise 0 --population 16", SIX_RECORDS),
-    ("run --rise 100", RISING_RECORDS),
-    ("run --rise 100 --synch 3 --workers 2", RISING_RECORDS),
-    ("run --end 1", "twarp-records 2\n"),
-    ("run --end 1 --synch 3 --workers 2", "twarp-records 2\n"),
-];
-
-#[test]
-fn prints_the_second_version_by_default(rt: HostRuntime) -> Result<(), Fail> {
-    for (words, records) in &SECOND_VERSION {
-        let line = format!(in rt.alloc(); "twarp {words}")?;
-        expect(&rt, line.as_str(), 0, records, "")?;
+// Each of these lines must print this.
+fn expect_each(
+    rt: &(impl Abort + AllocGlobal + Threads + Wait + Sync),
+    lines: &[&str],
+    out: &str,
+) -> Result<(), Fail> {
+    for line in lines {
+        expect(rt, line, 0, out, "")?;
     }
     Ok(())
+}
+
+/// The second version of the text of records is the one by default.
+#[test]
+fn prints_the_second_version_by_default(rt: HostRuntime) -> Result<(), Fail> {
+    let six = [
+        "twarp run",
+        "twarp run --text 2",
+        "twarp run --rise 0 --population 16",
+    ];
+    expect_each(&rt, &six, SIX_RECORDS)?;
+    let rising = [
+        "twarp run --rise 100",
+        "twarp run --rise 100 --synch 3 --workers 2",
+    ];
+    expect_each(&rt, &rising, RISING_RECORDS)?;
+    let empty = [
+        "twarp run --end 1",
+        "twarp run --end 1 --synch 3 --workers 2",
+    ];
+    expect_each(&rt, &empty, "twarp-records 2\n")
 }
 
 #[test]

@@ -1,6 +1,6 @@
 //! Runs on workers through the whole program.
 
-use crate::runs::{RISING_LINES, SIX_LINES, expect, run_within};
+use crate::tests::runs::{RISING_LINES, SIX_LINES, expect, run_within};
 use std::process::Abort;
 use std::sync::Wait;
 use std::test::Fail;

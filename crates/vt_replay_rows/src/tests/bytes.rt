@@ -1,8 +1,8 @@
 //! Writers that take few bytes, or few calls, and then no more.
 
-use crate::cases::straggler;
-use crate::running::{Full, Narrow, Outcome, run_into, writer_with_room};
-use crate::runs::{SIX_LINES, SIX_RECORDS};
+use crate::tests::cases::straggler;
+use crate::tests::running::{Full, Narrow, Outcome, run_into, writer_with_room};
+use crate::tests::runs::{SIX_LINES, SIX_RECORDS};
 use std::alloc::{AllocError, Global};
 use std::process::Abort;
 use std::sync::Wait;
@@ -53,13 +53,9 @@ fn writes_a_beginning(
     most: usize,
     full: Full,
 ) -> Result<(), Fail> {
-    let out = Narrow {
-        taken: Vec::new(rt.alloc()),
-        room,
-        most,
-        calls: usize::MAX,
-        full,
-    };
+    let mut out = writer_with_room(rt.alloc(), room);
+    out.most = most;
+    out.full = full;
     let outcome = run_case(rt, case, out)?;
     assert_eq!(rt; outcome.status, 1, "{room} {most} {full:?}");
     assert_eq!(rt; outcome.out.len(), room, "{most} {full:?}");
@@ -98,48 +94,41 @@ fn joined(alloc: Global, first: &str, second: &str) -> Result<Vec<u8>, AllocErro
     Ok(text)
 }
 
+// A run that prints these records and has this status, written to each of its beginnings.
+fn runs_to_each_beginning(
+    rt: &(impl Abort + AllocGlobal + Threads + Wait + Sync),
+    line: &'static str,
+    records: &str,
+    status: u8,
+) -> Result<(), Fail> {
+    let case = Written {
+        line,
+        input: b"unread",
+        output: records.as_bytes(),
+        status,
+    };
+    writes_each_beginning(rt, &case)
+}
+
 #[test]
 fn a_full_writer_leaves_a_beginning_of_a_run(rt: HostRuntime) -> Result<(), Fail> {
     assert_eq!(rt; (SIX_LINES.len(), SIX_RECORDS.len()), (61, 89));
-    for (line, records) in [
-        ("twarp run --synch 1 --text 1", SIX_LINES),
-        ("twarp run --synch 3 --workers 2 --text 1", SIX_LINES),
-        ("twarp run", SIX_RECORDS),
-        ("twarp run --synch 3 --workers 2", SIX_RECORDS),
-    ] {
-        let case = Written {
-            line,
-            input: b"unread",
-            output: records.as_bytes(),
-            status: 0,
-        };
-        writes_each_beginning(&rt, &case)?;
-    }
-    Ok(())
+    runs_to_each_beginning(&rt, "twarp run --synch 1 --text 1", SIX_LINES, 0)?;
+    let on_workers = "twarp run --synch 3 --workers 2 --text 1";
+    runs_to_each_beginning(&rt, on_workers, SIX_LINES, 0)?;
+    runs_to_each_beginning(&rt, "twarp run", SIX_RECORDS, 0)?;
+    let on_workers = "twarp run --synch 3 --workers 2";
+    runs_to_each_beginning(&rt, on_workers, SIX_RECORDS, 0)
 }
 
 #[test]
 fn a_full_writer_leaves_a_beginning_of_a_stopped_run(rt: HostRuntime) -> Result<(), Fail> {
-    for (line, records) in [
-        (
-            "twarp run --synch 3 --workers 1 --turns 2 --text 1",
-            FOUR_LINES,
-        ),
-        ("twarp run --synch 3 --workers 1 --turns 2", FOUR_RECORDS),
-        (
-            "twarp run --synch 3 --workers 2 --turns 1",
-            "twarp-records 2\n",
-        ),
-    ] {
-        let case = Written {
-            line,
-            input: b"unread",
-            output: records.as_bytes(),
-            status: 1,
-        };
-        writes_each_beginning(&rt, &case)?;
-    }
-    Ok(())
+    let two_turns = "twarp run --synch 3 --workers 1 --turns 2 --text 1";
+    runs_to_each_beginning(&rt, two_turns, FOUR_LINES, 1)?;
+    let two_turns = "twarp run --synch 3 --workers 1 --turns 2";
+    runs_to_each_beginning(&rt, two_turns, FOUR_RECORDS, 1)?;
+    let one_turn = "twarp run --synch 3 --workers 2 --turns 1";
+    runs_to_each_beginning(&rt, one_turn, "twarp-records 2\n", 1)
 }
 
 #[test]
