@@ -3,16 +3,4 @@
 #![tactic(auto)]
 
 #[cfg(test)]
-mod choosing;
-#[cfg(test)]
-mod cuts;
-#[cfg(test)]
-mod mail;
-#[cfg(test)]
-mod pair;
-#[cfg(test)]
-mod refusals;
-#[cfg(test)]
-mod rollbacks;
-#[cfg(test)]
-mod told;
+mod tests;

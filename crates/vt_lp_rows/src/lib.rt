@@ -3,12 +3,4 @@
 #![tactic(auto)]
 
 #[cfg(test)]
-mod commits;
-#[cfg(test)]
-mod counting;
-#[cfg(test)]
-mod refusals;
-#[cfg(test)]
-mod rollbacks;
-#[cfg(test)]
-mod stage;
+mod tests;

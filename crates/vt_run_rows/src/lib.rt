@@ -3,14 +3,4 @@
 #![tactic(auto)]
 
 #[cfg(test)]
-mod dice;
-#[cfg(test)]
-mod finals;
-#[cfg(test)]
-mod random;
-#[cfg(test)]
-mod running;
-#[cfg(test)]
-mod stopped;
-#[cfg(test)]
-mod watching;
+mod tests;

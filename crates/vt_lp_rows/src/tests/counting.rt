@@ -1,6 +1,6 @@
 //! How often a process calls its model's handlers.
 
-use crate::stage::{Stage, letter};
+use crate::tests::stage::{Stage, letter};
 use std::alloc::AllocGlobal;
 use std::cell::Cell;
 use std::process::Abort;

@@ -1,6 +1,6 @@
 //! Rows of past events below a floor, and what is left when they are forgotten.
 
-use crate::stage::{RowTold, Stage, letter};
+use crate::tests::stage::{RowTold, Stage, letter};
 use std::alloc::AllocGlobal;
 use std::process::Abort;
 use std::rt::HostRuntime;

@@ -1,6 +1,6 @@
 //! What a run tells what watches it.
 
-use crate::running::{all_records, gives, two_hops};
+use crate::tests::running::{all_records, gives, two_hops};
 use std::rt::{self, HostRuntime};
 use std::sync::atomic::{AtomicU64, Ordering};
 use vt_model::Config;

@@ -1,7 +1,7 @@
 //! A worker with several processes, and with several other workers.
 
-use crate::pair::Worker;
-use crate::told::{LetterTold, is_mail};
+use crate::tests::pair::Worker;
+use crate::tests::told::{LetterTold, is_mail};
 use std::alloc::AllocGlobal;
 use std::process::Abort;
 use std::rt::{self, HostRuntime};
@@ -20,7 +20,7 @@ fn opened(
 ) -> Worker {
     let model = Hop::new(1, stride, 1, 0).expect(rt, "options");
     let config = Config::new(lps, workers, 10, 0).expect(rt, "config");
-    Worker::new(rt, model, config, number).expect(rt, "memory")
+    Worker::new(rt, model, config, number, None).expect(rt, "memory")
 }
 
 // The call must have been answered so.

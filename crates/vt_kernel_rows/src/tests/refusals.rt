@@ -1,6 +1,6 @@
 //! What is refused for want of serials, and what is left then. What a refusal for memory leaves, `refusals_demo` tells.
 
-use crate::pair::Worker;
+use crate::tests::pair::Worker;
 use std::process::Abort;
 use std::rt::{self, HostRuntime};
 use vt_kernel::Kernel;
@@ -42,9 +42,9 @@ fn serials_end_at_their_limit(rt: HostRuntime) {
     let limit = 1 << 63;
     let model = Hop::new(1, 0, 1, 0).expect(&rt, "options");
     let config = Config::new(1, 1, 10, 0).expect(&rt, "config");
-    let refused = Worker::with_serial(&rt, model, config, 0, limit);
+    let refused = Worker::new(&rt, model, config, 0, Some(limit));
     assert_eq!(rt; refused.err(), Some(Fault::Exhausted));
-    let made = Worker::with_serial(&rt, model, config, 0, limit - 1);
+    let made = Worker::new(&rt, model, config, 0, Some(limit - 1));
     let mut worker = made.expect(&rt, "memory");
     is_answered(&rt, worker.home(), Ok(()));
     let before = (Some(0), Some(1), Some(0), limit, 0, Some(1));

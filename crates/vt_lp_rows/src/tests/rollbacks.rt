@@ -1,6 +1,6 @@
 //! A process runs ahead, and is rolled back by a straggler and by an anti-message.
 
-use crate::stage::{Stage, Told, letter};
+use crate::tests::stage::{Stage, Told, letter};
 use std::alloc::AllocGlobal;
 use std::process::Abort;
 use std::rt::{self, HostRuntime};

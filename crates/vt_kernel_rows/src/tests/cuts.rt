@@ -1,7 +1,7 @@
 //! What workers report, and what they commit below a floor.
 
-use crate::pair::{ANNIHILATE, DELIVERY, Pair, ROLLBACK, SENT_AGAIN};
-use crate::told::RecordTold;
+use crate::tests::pair::{ANNIHILATE, DELIVERY, Pair, ROLLBACK, RUN_AHEAD, SENT_AGAIN};
+use crate::tests::told::RecordTold;
 use std::rt::HostRuntime;
 use vt_key::Colour;
 use vt_steps::Step;
@@ -17,8 +17,7 @@ fn a_whole_run_is_committed(rt: HostRuntime) {
         &[Step::Accept(0, 0), Step::Accept(0, 0), Step::Accept(0, 0)],
     );
     pair.steps(&rt, &[ANNIHILATE, Step::Execute(0)]);
-    pair.first.turn(0);
-    pair.second.turn(0);
+    pair.turn();
     // Sent 1 + 3 and got 3 + 1: nothing travels, and the least of all is the end of the run.
     pair.first.reports(&rt, 1, 3, 10);
     pair.second.reports(&rt, 3, 1, 10);
@@ -62,8 +61,7 @@ fn a_travelling_letter_makes_the_counts_differ(rt: HostRuntime) {
         Step::Send(0, 1),
     ];
     let mut pair = Pair::after(&rt, &steps);
-    pair.first.turn(0);
-    pair.second.turn(0);
+    pair.turn();
     pair.first.reports(&rt, 1, 0, 10);
     pair.second.reports(&rt, 0, 0, 2);
     pair.steps(&rt, &[Step::Fetch(1)]);
@@ -74,8 +72,7 @@ fn a_travelling_letter_makes_the_counts_differ(rt: HostRuntime) {
 #[test]
 fn what_was_sent_after_the_cut_counts_by_its_time(rt: HostRuntime) {
     let mut pair = Pair::rolled_back(&rt);
-    pair.first.turn(0);
-    pair.second.turn(0);
+    pair.turn();
     pair.steps(&rt, &[Step::Send(1, 0)]);
     pair.first.awaits(&rt, Colour::Red, &SENT_AGAIN);
     pair.second.has_cut(&rt, Colour::Red, 3, 0);
@@ -88,8 +85,7 @@ fn what_was_sent_after_the_cut_counts_by_its_time(rt: HostRuntime) {
 #[test]
 fn red_mail_counts_for_the_next_round(rt: HostRuntime) {
     let mut pair = Pair::rolled_back(&rt);
-    pair.first.turn(0);
-    pair.second.turn(0);
+    pair.turn();
     pair.steps(&rt, &[Step::Send(1, 0)]);
     // The announced time is 3. The second worker learns it by its report, the first one by its next cut.
     pair.second.set_floor(3);
@@ -106,15 +102,7 @@ fn red_mail_counts_for_the_next_round(rt: HostRuntime) {
 fn the_least_time_is_that_of_all_letters(rt: HostRuntime) {
     let mut pair = Pair::after(&rt, &[]);
     pair.second.tells_least(&rt, 2);
-    pair.steps(
-        &rt,
-        &[
-            Step::Home(0),
-            Step::Home(1),
-            Step::Execute(1),
-            Step::Execute(0),
-        ],
-    );
+    pair.steps(&rt, &RUN_AHEAD);
     // Its message for process 0, of time 3, is in the outbox.
     pair.second.tells_least(&rt, 3);
     pair.steps(&rt, &[Step::Send(0, 1), Step::Fetch(1)]);

@@ -1,13 +1,13 @@
 //! A straggler, and an anti-message, which may overtake its message.
 
-use crate::pair::{ANNIHILATE, Pair, STRAGGLER, TAKEN_BACK};
+use crate::tests::pair::{ANNIHILATE, Pair, TAKEN_BACK};
 use std::rt::HostRuntime;
 use vt_key::Colour;
 use vt_steps::Step;
 
 #[test]
 fn a_straggler_is_undone(rt: HostRuntime) {
-    let mut pair = Pair::after(&rt, &STRAGGLER);
+    let mut pair = Pair::straggling(&rt);
     pair.second.shows(&rt, (2, 2, 1, 0));
     pair.second.chooses(&rt, None);
     pair.refuses(&rt, Step::Execute(1));

@@ -1,7 +1,7 @@
 //! Pseudo-random runs of all three models, the same ones each time, and large ones, beside the sequential simulator.
 
-use crate::dice::Dice;
-use crate::running::agrees;
+use crate::tests::dice::Dice;
+use crate::tests::running::agrees;
 use std::rt::HostRuntime;
 use vt_key::MAX_WORKERS;
 use vt_model::Config;

@@ -1,6 +1,6 @@
 //! Mail that leaves, and mail that is taken in.
 
-use crate::pair::{DELIVERY, Pair, SENT_AGAIN, STRAGGLER};
+use crate::tests::pair::{DELIVERY, Pair, SENT_AGAIN};
 use std::rt::HostRuntime;
 use vt_key::{Colour, Sign};
 use vt_steps::Step;
@@ -23,7 +23,7 @@ fn all_letters_for_a_worker_leave_at_once(rt: HostRuntime) {
 
 #[test]
 fn mail_is_taken_in_where_nothing_is_left(rt: HostRuntime) {
-    let mut pair = Pair::after(&rt, &STRAGGLER);
+    let mut pair = Pair::straggling(&rt);
     pair.steps(&rt, &[Step::Undo(1)]);
     pair.steps(&rt, &DELIVERY);
     pair.steps(&rt, &[Step::Execute(1), Step::Execute(1), Step::Send(1, 0)]);

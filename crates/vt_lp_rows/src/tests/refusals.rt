@@ -1,6 +1,6 @@
 //! What is refused for want of memory or of serials, and what never is.
 
-use crate::stage::{Stage, Told};
+use crate::tests::stage::{Stage, Told};
 use std::alloc::{AllocGlobal, Global};
 use std::process::Abort;
 use std::rt::{self, HostRuntime};

@@ -3,7 +3,7 @@
 ghost use Rattle.std.specs.Prelude.{◌≡◌};
 ghost use Rattle.vt_kernel.specs.Held.{AllOwnMail};
 
-use crate::told::{LetterTold, RecordTold, are_rows, is_mail};
+use crate::tests::told::{LetterTold, RecordTold, are_rows, is_mail};
 use std::alloc::AllocGlobal;
 use std::process::Abort;
 use std::{mem, rt};
@@ -31,36 +31,23 @@ pub(crate) struct Worker {
 pub(crate) type ProcessTold = (u64, u64, usize, usize);
 
 impl Worker {
-    /// A worker at the opening, whose next serial is 0.
+    /// A worker at the opening, whose starts are stamped from this serial on, or from 0.
     pub(crate) fn new(
         rt: &(impl Abort + AllocGlobal),
         model: Hop,
         config: Config,
         number: u32,
+        serial: Option<u64>,
     ) -> Result<Worker, Fault> {
         assert!(rt; number < config.workers);
-        match Kernel::new(rt.alloc(), &model, config, number) {
-            Ok(kernel) => Ok(Worker {
-                kernel,
-                inbox: Vec::new(rt.alloc()),
-                model,
-                config,
-                number,
-            }),
-            Err(fault) => Err(fault),
-        }
-    }
-
-    /// A worker at the opening, whose starts are stamped from this serial on.
-    pub(crate) fn with_serial(
-        rt: &(impl Abort + AllocGlobal),
-        model: Hop,
-        config: Config,
-        number: u32,
-        serial: u64,
-    ) -> Result<Worker, Fault> {
-        assert!(rt; number < config.workers && serial <= 1 << 63);
-        match Kernel::with_serial(rt.alloc(), &model, config, number, serial) {
+        let made = match serial {
+            Some(serial) => {
+                assert!(rt; serial <= 1 << 63);
+                Kernel::with_serial(rt.alloc(), &model, config, number, serial)
+            }
+            None => Kernel::new(rt.alloc(), &model, config, number),
+        };
+        match made {
             Ok(kernel) => Ok(Worker {
                 kernel,
                 inbox: Vec::new(rt.alloc()),
@@ -218,8 +205,8 @@ impl Pair {
     pub(crate) fn new(rt: &(impl Abort + AllocGlobal)) -> Result<Pair, Fault> {
         let model = Hop::new(1, 1, 1, 0)?;
         let config = Config::new(2, 2, 10, 0)?;
-        let first = Worker::new(rt, model, config, 0)?;
-        let second = Worker::new(rt, model, config, 1)?;
+        let first = Worker::new(rt, model, config, 0, None)?;
+        let second = Worker::new(rt, model, config, 1, None)?;
         Ok(Pair { first, second })
     }
 
@@ -230,9 +217,16 @@ impl Pair {
         pair
     }
 
+    /// Both workers when a straggler has come to process 1.
+    pub(crate) fn straggling(rt: &(impl Abort + AllocGlobal)) -> Pair {
+        let mut pair = Pair::after(rt, &RUN_AHEAD);
+        pair.steps(rt, &ARRIVAL);
+        pair
+    }
+
     /// Both workers when process 1 was rolled back and executed both tokens in their order.
     pub(crate) fn rolled_back(rt: &(impl Abort + AllocGlobal)) -> Pair {
-        let mut pair = Pair::after(rt, &STRAGGLER);
+        let mut pair = Pair::straggling(rt);
         pair.steps(rt, &ROLLBACK);
         pair
     }
@@ -271,6 +265,12 @@ impl Pair {
         }
     }
 
+    /// Both workers' part of the first cut.
+    pub(crate) fn turn(&mut self) {
+        self.first.turn(0);
+        self.second.turn(0);
+    }
+
     /// Does these steps. Each must be lawful.
     pub(crate) fn steps(&mut self, rt: &(impl Abort + AllocGlobal), steps: &[Step]) {
         for step in steps {
@@ -284,17 +284,16 @@ impl Pair {
     }
 }
 
-/// The second worker runs ahead: process 1 executes its own token, of time 2, before the token of process 0, which is at time
-/// 2 too and has the lesser key, reaches it.
-pub(crate) const STRAGGLER: [Step; 7] = [
+/// The second worker runs ahead: process 1 executes its own token, of time 2.
+pub(crate) const RUN_AHEAD: [Step; 4] = [
     Step::Home(0),
     Step::Home(1),
     Step::Execute(1),
     Step::Execute(0),
-    Step::Send(0, 1),
-    Step::Fetch(1),
-    Step::Accept(1, 0),
 ];
+
+/// Then the token of process 0, which is at time 2 too and has the lesser key, reaches process 1.
+pub(crate) const ARRIVAL: [Step; 3] = [Step::Send(0, 1), Step::Fetch(1), Step::Accept(1, 0)];
 
 /// Then process 1 is rolled back, and executes both tokens in their order.
 pub(crate) const ROLLBACK: [Step; 3] = [Step::Undo(1), Step::Execute(1), Step::Execute(1)];

@@ -1,6 +1,6 @@
 //! Final values from workers, beside those of the sequential simulator.
 
-use crate::running::{TURNS, agrees_to_finals, all_records, two_hops};
+use crate::tests::running::{TURNS, agrees_to_finals, all_records, two_hops};
 use std::rt::{self, HostRuntime};
 use vt_key::Fault;
 use vt_model::Config;

@@ -1,0 +1,9 @@
+//! Workers, and mail between two of them.
+
+mod choosing;
+mod cuts;
+mod mail;
+mod pair;
+mod refusals;
+mod rollbacks;
+mod told;

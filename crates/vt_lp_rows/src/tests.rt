@@ -1,0 +1,7 @@
+//! One process.
+
+mod commits;
+mod counting;
+mod refusals;
+mod rollbacks;
+mod stage;

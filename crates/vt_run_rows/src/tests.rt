@@ -1,0 +1,8 @@
+//! Runs on workers.
+
+mod dice;
+mod finals;
+mod random;
+mod running;
+mod stopped;
+mod watching;
