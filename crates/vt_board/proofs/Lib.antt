@@ -1,4 +1,3 @@
 pub mod Flags
 pub mod PassLemmas
 pub mod Sums
-pub mod CellSteps

@@ -6,5 +6,4 @@ pub mod FloorLemmas
 pub mod KeptLemmas
 pub mod RunLemmas
 pub mod SpanLemmas
-pub mod CellSteps
 pub mod CommitRows

@@ -24,12 +24,11 @@ use Rattle.vt_steps.specs.StandsFor.{ProcessMemory, StandForProcesses}
 use Rattle.vt_lp.specs.Held.{HeldProcess, process_memory, AllWithinRun, StandsFor as ProcessStandsFor}
 use Rattle.vt_lp.specs.Guards.{IsDone as ProcessIsDone}
 use Rattle.vt_kernel.specs.Held.{HeldWorker, IsWorkerInside, StandsFor, AreProcesses, process_of, has_past, TellsLeast, ready_of, unready_of, entries_of}
-use Rattle.vt_kernel.specs.Local.{at_own}
 use Rattle.vt_kernel.specs.Guards.{IsDone}
 use Rattle.vt_kernel.proofs.ProcessLemmas.{process-at, processes-changed, marked-changed, place-known, place-unknown, get-past}
 use Rattle.vt_steps.proofs.Places.{get-put_same}
 use Rattle.vt_kernel.proofs.SettlingLemmas.{put-there}
-use Rattle.vt_kernel.proofs.OwnSteps.{not-own, no-process, found, done-at, refused-at, IsFound}
+use Rattle.vt_kernel.proofs.OwnSteps.{at_own, not-own, no-process, found, done-at, refused-at, IsFound}
 
 -- what a contract sees of a worker with these fields
 abbrev pub worker_view : {S P K : Type 0} → ℕ → Config → List (HeldProcess S P K) → List (Letter P) → List (Mail P) → Colour → Counts → Counts → Time → Time → ℕ → HeldWorker S P K

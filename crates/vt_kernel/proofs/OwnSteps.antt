@@ -11,28 +11,41 @@ use Rattle.vt_model.specs.Handler.{Handlers}
 use Rattle.vt_model.specs.Simulation.{Simulation, Triple, simulation_of}
 use Rattle.vt_steps.specs.World.{LogicalProcess, Part, process_at}
 use Rattle.vt_steps.specs.ProcessSteps.{ProcessEffect, execute_process}
-use Rattle.vt_steps.specs.PartSteps.{with_effect, at_process}
+use Rattle.vt_steps.specs.PartSteps.{with_effect, at_process, execute}
+use Rattle.vt_steps.specs.declared.step.Step.TheVariants.{Execute}
 use Rattle.vt_steps.specs.StandsFor.{StandsForProcess}
 use Rattle.vt_steps.proofs.Places.{get-put_same}
 use Rattle.vt_steps.proofs.MemoryLemmas.{is_where}
 use Rattle.vt_lp.specs.Held.{HeldProcess, process_memory, StandsFor as ProcessStandsFor}
 use Rattle.vt_lp.specs.Guards.{IsDone as ProcessIsDone, IsExecuteRefusal as ProcessIsExecuteRefusal, number_of}
 use Rattle.vt_kernel.specs.Held.{HeldWorker, StandsFor, AreProcesses}
-use Rattle.vt_kernel.specs.Local.{at_own}
+use Rattle.vt_kernel.specs.Local.{if_own, local_step}
 use Rattle.vt_kernel.specs.Guards.{IsDone, AreWithinLimits, IsExecuteRefusal, NumberIs}
 use Rattle.vt_kernel.proofs.ProcessLemmas.{get-map_of, stands-at, process-at, stands-after}
 
 module _ {S P : Type 0} (sim : Simulation S P) (w : ℕ) where
+  -- a step at process p, where it is one of worker w
+  abbrev pub at_own : ℕ → Option (Part P) → Option (Part P)
+  at_own p step = if_own sim w (Some (p % sim.workers)) step
+
   -- a step of another worker's process is not lawful
-  pub not-own : (p : ℕ) (step : Option (Part P)) → (p % sim.workers ≡ w → ⊥) → at_own sim w p step ≡ None
+  pub not-own : (p : ℕ) (step : Option (Part P)) → (p % sim.workers ≡ w → ⊥) → at_own p step ≡ None
   not-own p step apart = elim (eqb_tells (p % sim.workers) w) [ inl e ↦ absurd (apart e.1) | inr e ↦ ap (λ (b : Bool). if b then step else None) e.0 ]
 
-  pub own : (p : ℕ) (step : Option (Part P)) → p % sim.workers ≡ w → at_own sim w p step ≡ step
+  pub own : (p : ℕ) (step : Option (Part P)) → p % sim.workers ≡ w → at_own p step ≡ step
   own p step is = elim (eqb_tells (p % sim.workers) w) [ inl e ↦ ap (λ (b : Bool). if b then step else None) e.0 | inr e ↦ absurd (e.1 is) ]
+
+  -- Execute of the worker, by the worker's number
+  pub own-execute : (p : ℕ) (part : Part P) → local_step sim w (Execute p) part ≡ at_own p (execute sim w (p / sim.workers) part)
+  own-execute p part =
+      elim (eqb_tells (p % sim.workers) w) [
+        | inl e ↦ ap (λ v. at_own p (execute sim v (p / sim.workers) part)) e.1
+        | inr e ↦ not-own p (execute sim (p % sim.workers) (p / sim.workers) part) e.1 ∙ sym (not-own p (execute sim w (p / sim.workers) part) e.1)
+      ]
 
   -- a step at a process that is not there is not lawful
   pub no-process : (p : ℕ) (step : LogicalProcess P → Option (ProcessEffect P)) (part : Part P) → slice_get part.processes (p / sim.workers) ≡ None
-      → at_own sim w p (at_process step (p / sim.workers) part) ≡ None
+      → at_own p (at_process step (p / sim.workers) part) ≡ None
   no-process p step part gone =
       let none = ap (λ q. option_map (with_effect part (p / sim.workers)) (option_and_then step q)) gone in
       elim (eqb_tells (p % sim.workers) w) [ inl e ↦ ap (λ (b : Bool). if b then at_process step (p / sim.workers) part else None) e.0 ∙ none | inr e ↦ ap (λ (b : Bool). if b then at_process step (p / sim.workers) part else None) e.0 ]
@@ -40,7 +53,7 @@ module _ {S P : Type 0} (sim : Simulation S P) (w : ℕ) where
   -- a step at a process that is there is what it is at the process
   pub own-step : (p : ℕ) (step : LogicalProcess P → Option (ProcessEffect P)) (part : Part P) (process : LogicalProcess P) → p % sim.workers ≡ w
       → slice_get part.processes (p / sim.workers) ≡ Some process
-      → at_own sim w p (at_process step (p / sim.workers) part) ≡ option_map (with_effect part (p / sim.workers)) (step process)
+      → at_own p (at_process step (p / sim.workers) part) ≡ option_map (with_effect part (p / sim.workers)) (step process)
   own-step p step part process is there =
       own p (at_process step (p / sim.workers) part) is ∙ ap (λ q. option_map (with_effect part (p / sim.workers)) (option_and_then step q)) there
 

@@ -20,7 +20,7 @@ use Rattle.vt_lp.specs.Guards.{may_come_after, ready_rank}
 use Rattle.vt_kernel.specs.Held.{HeldWorker, StandsFor, AreProcesses, ready_of}
 use Rattle.vt_kernel.specs.Local.{local_step}
 use Rattle.vt_kernel.proofs.ProcessLemmas.{get-past}
-use Rattle.vt_kernel.proofs.OwnSteps.{not-own, no-process, own-step, found, refused-at}
+use Rattle.vt_kernel.proofs.OwnSteps.{own-execute, not-own, no-process, own-step, found, refused-at}
 use Rattle.vt_kernel.proofs.LocalLemmas.{stand-length, execute-step}
 
 -- ---- lists and options
@@ -108,7 +108,7 @@ module _ {S P K : Type 0} (handlers : Handlers S P K) where
         let f = found handlers held part p there.0 h are own there.1 in
         let step = execute-step handlers held part p in
         let done = ready-lawful sim (place * held.config.workers + held.worker) held.worker part.serial there.0 f.process rank f.stands there.2 in
-        (with_effect part place done.0, own-step sim held.worker p step part f.process own f.there ∙ ap (option_map (with_effect part place)) done.1)
+        (with_effect part place done.0, own-execute sim held.worker p part ∙ own-step sim held.worker p step part f.process own f.there ∙ ap (option_map (with_effect part place)) done.1)
 
     pub unlawful-at : ((place : ℕ) (rank : Rank) → slice_get (map ready_of held.processes) place ≡ Some (Some rank) → ⊥)
         → (p : ℕ) → local_step (simulation_of handlers held.config) held.worker (Execute p) part ≡ None
@@ -116,7 +116,8 @@ module _ {S P K : Type 0} (handlers : Handlers S P K) where
         let sim = simulation_of handlers held.config in
         let place = p / held.config.workers in
         let step = execute-step handlers held part p in
-        elim (eqb_tells (p % held.config.workers) held.worker) [
+        own-execute sim held.worker p part
+        ∙ elim (eqb_tells (p % held.config.workers) held.worker) [
           | inr e ↦ not-own sim held.worker p _ e.1
           | inl e ↦
               one-of (slice_get held.processes place)

@@ -17,7 +17,7 @@ use Rattle.vt_model.specs.Settings.{end_of}
 use Rattle.vt_steps.specs.Letters.{Counts, count_of, raised}
 use Rattle.vt_steps.specs.World.{Part}
 use Rattle.vt_steps.specs.PartSteps.{is_for, letters_for}
-use Rattle.vt_steps.specs.Next.{may_send}
+use Rattle.vt_steps.specs.CellSteps.{may_send}
 use Rattle.vt_lp.specs.Held.{AllWithinRun, IsWithinRun}
 use Rattle.vt_kernel.specs.Held.{HeldWorker, StandsFor, AreCounted, AllOwnMail, IsOwnMail}
 use Rattle.vt_kernel.specs.Guards.{is_for_worker, mailed, IsSendRefusal}

@@ -15,7 +15,7 @@ use Rattle.vt_steps.specs.declared.step.Step.{Step}
 use Rattle.vt_steps.specs.Letters.{count_of}
 use Rattle.vt_steps.specs.World.{LogicalProcess, Part}
 use Rattle.vt_steps.specs.PartSteps.{letters_for, process_after_commit}
-use Rattle.vt_steps.specs.Next.{may_send}
+use Rattle.vt_steps.specs.CellSteps.{may_send}
 use Rattle.vt_lp.specs.Held.{HeldProcess, StandsFor as ProcessStandsFor}
 use Rattle.vt_lp.specs.Guards.{number_of}
 use Rattle.vt_kernel.specs.Held.{HeldWorker, StandsFor}

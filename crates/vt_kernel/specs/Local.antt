@@ -1,27 +1,24 @@
 -- Lists of local steps at one part.
-use Rattle.std.specs.Prelude.{◌≡◌, ℕ, ◌/◌, ◌%◌, nat_eq, ◌⊎◌, Bool, true, false, List, [], ◌∷◌, length, if◌then◌else◌, Option, Some, None}
+use Rattle.std.specs.Prelude.{◌≡◌, ℕ, nat_eq, ◌⊎◌, Bool, true, false, List, [], ◌∷◌, length, if◌then◌else◌, Option, Some, None}
 use Rattle.std.specs.List.{filter}
 use Rattle.std.specs.Option.{option_and_then}
 use Rattle.vt_key.specs.declared.order.Stamp.{Stamp}
 use Rattle.vt_model.specs.Simulation.{Simulation}
 use Rattle.vt_steps.specs.declared.step.Step.{Step}
-use Rattle.vt_steps.specs.declared.step.Step.TheVariants.{Execute, Undo, Cancel, Home, Accept}
+use Rattle.vt_steps.specs.declared.step.Step.TheVariants.{Undo, Cancel}
 use Rattle.vt_steps.specs.World.{Part}
-use Rattle.vt_steps.specs.PartSteps.{execute, undo, cancel, home, accept}
+use Rattle.vt_steps.specs.PartSteps.{act_locally}
+use Rattle.vt_steps.specs.Cells.{worker_of}
 
 module _ {S P : Type 0} (sim : Simulation S P) (w : ℕ) where
-  -- a step at process p, where it is one of worker w; no step of this worker is lawful at another's
-  abbrev pub at_own : ℕ → Option (Part P) → Option (Part P)
-  at_own p step = if nat_eq (p % sim.workers) w then step else None
+  -- a step on the part of this worker, where that is w; no step of w is lawful at another's part
+  abbrev pub if_own : Option ℕ → Option (Part P) → Option (Part P)
+  if_own None step = None
+  if_own (Some v) step = if nat_eq v w then step else None
 
   -- a local step of worker w on its part, if it is lawful
   abbrev pub local_step : Step → Part P → Option (Part P)
-  local_step (Execute p) part = at_own p (execute sim w (p / sim.workers) part)
-  local_step (Undo p) part = at_own p (undo (p / sim.workers) part)
-  local_step (Cancel p stamp) part = at_own p (cancel (p / sim.workers) stamp part)
-  local_step (Home v) part = if nat_eq v w then home sim w part else None
-  local_step (Accept v i) part = if nat_eq v w then accept sim i part else None
-  local_step _ part = None
+  local_step step part = if_own (worker_of sim step) (act_locally sim step part)
 
   -- a list of local steps, each of them lawful
   abbrev pub local_steps : List Step → Part P → Option (Part P)

@@ -8,7 +8,7 @@ ghost use Rattle.vt_model.specs.Simulation.{simulation_of};
 ghost use Rattle.vt_steps.specs.Letters.{count_of};
 ghost use Rattle.vt_steps.specs.World.{Part};
 ghost use Rattle.vt_steps.specs.PartSteps.{letters_for};
-ghost use Rattle.vt_steps.specs.Next.{may_send};
+ghost use Rattle.vt_steps.specs.CellSteps.{may_send};
 ghost use Rattle.vt_kernel.specs.Held.{StandsFor};
 ghost use Rattle.vt_kernel.specs.Guards.{IsSendRefusal};
 

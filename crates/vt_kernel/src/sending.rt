@@ -13,7 +13,7 @@ ghost use Rattle.vt_model.specs.Settings.{end_of};
 ghost use Rattle.vt_steps.specs.Letters.{count_of, least_time, raised};
 ghost use Rattle.vt_steps.specs.World.{Part};
 ghost use Rattle.vt_steps.specs.PartSteps.{part_after_send, mail_of_send};
-ghost use Rattle.vt_steps.specs.Next.{may_send};
+ghost use Rattle.vt_steps.specs.CellSteps.{may_send};
 ghost use Rattle.vt_kernel.specs.Held.{StandsFor, AllOwnMail};
 ghost use Rattle.vt_kernel.specs.Guards.{is_for_worker, mailed, IsSendRefusal};
 

@@ -1,5 +1,6 @@
 -- Where there is one worker, a call is refused as the definitions refuse its step after the place's own steps.
 use Rattle.std.proofs.Common.{◌≡◌, ◌⊎◌, inl, inr, ℕ, ◌<◌, Bool, true, false, cond, List, [], ◌∷◌, ◌++◌, map, refl, sym, ◌∙◌, ap, subst, arith, Option, Some, None, Result, Ok, Err, MatchResult, IfErr, slice_get}
+use Rattle.std.specs.Option.{option_map}
 use Rattle.vt_key.specs.declared.fault.Fault.{Fault}
 use Rattle.vt_key.specs.declared.fault.Fault.TheVariants.{Memory, NotLawful, Closed, Exhausted}
 use Rattle.vt_key.specs.Times.{Time}
@@ -11,16 +12,17 @@ use Rattle.vt_steps.specs.declared.step.Step.{Step}
 use Rattle.vt_steps.specs.declared.step.Step.TheVariants.{Cut, Report, Commit, Close}
 use Rattle.vt_steps.specs.declared.step.Reply.{Reply}
 use Rattle.vt_steps.specs.declared.step.Reply.TheVariants.{Done}
-use Rattle.vt_steps.specs.BoardSteps.{all_set, is_clear, cut_board, may_report, with_report, report_reply}
-use Rattle.vt_steps.specs.BookSteps.{may_commit, with_rows, may_close, closed_book}
-use Rattle.vt_steps.specs.PartSteps.{report_sent, report_got, report_least, part_after_commit, rows_of_commit}
+use Rattle.vt_steps.specs.BoardSteps.{all_set, is_clear, cut_board, may_report, with_report}
+use Rattle.vt_steps.specs.PartSteps.{part_after_cut, report_sent, report_got, report_least}
 use Rattle.vt_steps.specs.World.{Part, Board, Book, World, opening_world}
-use Rattle.vt_steps.specs.Cells.{board_cell, book_cell, CellName, Cell, on_board, in_book, content, worker_of, cell_of, Acted, left_alone, act_cut, act_report, act}
+use Rattle.vt_steps.specs.Cells.{board_cell, book_cell, CellName, Cell, on_board, in_book, content, worker_of, cell_of, Acted, left_alone, acted_at, acted_close, act}
+use Rattle.vt_steps.specs.CellSteps.{CellEffect, cut, reported, report, commit, close}
 use Rattle.vt_steps.specs.Claims.{DoGuardsPass}
 use Rattle.vt_steps.specs.Laws.{IsAny}
 use Rattle.vt_steps.specs.Marked.{Marked, Made, Answered, answered, unmarked, Each, own_steps_of, shown}
 use Rattle.vt_steps.specs.Next.{Outcome, next, run, reached}
 use Rattle.vt_steps.proofs.CellLemmas.{next-acts_on_one_cell}
+use Rattle.vt_steps.proofs.Outcomes.{unless_closed-shut}
 use Rattle.vt_steps.proofs.HeadlineTheorem.{guards-pass}
 use Rattle.vt_steps.proofs.LocalLeads.{local-does}
 use Rattle.vt_steps.proofs.MarkedRuns.{steps-append}
@@ -74,43 +76,46 @@ may-tells w value board may =
 module _ {S P : Type 0} (sim : Simulation S P) where
   -- a cut whatever the part is
   cut-any : (w : ℕ) (board : Board) (part other : Part P) → (act sim (Cut w) part (on_board board)).answer ≡ (act sim (Cut w) other (on_board board)).answer
-  unfolding act
+  unfolding act cut
   cut-any w board part other = by_cut (cut_board sim.end w board)
     where
-      by_cut : (o : Option Board) → (act_cut sim part board o).answer ≡ (act_cut sim other board o).answer
+      after_cut : Part P → Option Board → Option (CellEffect P Board)
+      after_cut own o = option_map (λ new. record { part = part_after_cut sim.end board.announced own; cell = new; reply = Done }) o
+
+      by_cut : (o : Option Board) → (acted_at part on_board board (after_cut part o)).answer ≡ (acted_at other on_board board (after_cut other o)).answer
       by_cut None = refl
       by_cut (Some new) = refl
 
   close-any : (book : Book) (part other : Part P) → (act sim Close part (in_book book)).answer ≡ (act sim Close other (in_book book)).answer
   unfolding act
-  close-any book part other = by_case book.is_closed (may_close sim.end book)
+  close-any book part other = by_case book.is_closed (close sim book)
     where
-      by_case : (b c : Bool) → (let x : Acted P = cond b (left_alone part (in_book book) Closed) (cond c (record { part = part; cell = in_book (closed_book book); answer = Ok Done }) (left_alone part (in_book book) NotLawful)) in x.answer)
-          ≡ (let x : Acted P = cond b (left_alone other (in_book book) Closed) (cond c (record { part = other; cell = in_book (closed_book book); answer = Ok Done }) (left_alone other (in_book book) NotLawful)) in x.answer)
-      by_case true c = refl
-      by_case false true = refl
-      by_case false false = refl
+      by_case : (b : Bool) (o : Option Book) → (let x : Acted P = cond b (left_alone part (in_book book) Closed) (acted_close part book o) in x.answer)
+          ≡ (let x : Acted P = cond b (left_alone other (in_book book) Closed) (acted_close other book o) in x.answer)
+      by_case true o = refl
+      by_case false None = refl
+      by_case false (Some new) = refl
 
   -- a report is refused as not lawful alone
   report-refused : (w : ℕ) (board : Board) (part : Part P) (fault : Fault) → (act sim (Report w) part (on_board board)).answer ≡ Err fault → fault ≡ NotLawful
   unfolding act
-  report-refused w board part fault e = by_case (may_report w (report_least sim.end part) board) e
+  report-refused w board part fault = by_case (report sim w part board)
     where
-      by_case : (b : Bool) → (let x : Acted P = cond b (act_report sim part (with_report w (report_sent part) (report_got part) (report_least sim.end part) board)) (left_alone part (on_board board) NotLawful) in x.answer) ≡ Err fault → fault ≡ NotLawful
-      by_case true h = absurd (let k : Ok (report_reply (with_report w (report_sent part) (report_got part) (report_least sim.end part) board)) ≡ Err fault = h in cc)
-      by_case false h = let k : ◌≡◌ {A = Result Reply Fault} (Err NotLawful) (Err fault) = h in cc
+      by_case : (o : Option (CellEffect P Board)) → (acted_at part on_board board o).answer ≡ Err fault → fault ≡ NotLawful
+      by_case None h = let k : ◌≡◌ {A = Result Reply Fault} (Err NotLawful) (Err fault) = h in cc
+      by_case (Some effect) h = absurd (let k : Ok effect.reply ≡ Err fault = h in cc)
 
   -- it is refused where the board doesn't take it
   report-not : (w : ℕ) (board : Board) (part : Part P) → may_report w (report_least sim.end part) board ≡ false → (act sim (Report w) part (on_board board)).answer ≡ Err NotLawful
-  unfolding act
+  unfolding act report
   report-not w board part may =
-      ap (λ b. (let x : Acted P = cond b (act_report sim part (with_report w (report_sent part) (report_got part) (report_least sim.end part) board)) (left_alone part (on_board board) NotLawful) in x.answer)) may
+      ap (λ b. (let x : Acted P = acted_at part on_board board (cond b (Some (reported sim part (with_report w (report_sent part) (report_got part) (report_least sim.end part) board))) None) in x.answer)) may
 
   -- on a closed book a commit is refused as closed
   commit-on_closed : (w : ℕ) (book : Book) (part : Part P) → book.is_closed ≡ true → (act sim (Commit w) part (in_book book)).answer ≡ Err Closed
   unfolding act
   commit-on_closed w book part closed =
-      ap (λ b. (let x : Acted P = cond b (left_alone part (in_book book) Closed) (cond (may_commit (slice_get book.floors w) part.floor) (record { part = part_after_commit part; cell = in_book (with_rows w (rows_of_commit sim w part) part.floor book); answer = Ok Done }) (left_alone part (in_book book) NotLawful)) in x.answer)) closed
+      ap (λ (a : Acted P). a.answer) (unless_closed-shut book (left_alone part (in_book book)) (acted_at part in_book book (commit sim w part book)) closed)
 
 -- ---- the calls
 

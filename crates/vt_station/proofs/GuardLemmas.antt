@@ -1,5 +1,5 @@
 -- A post or a fetch that isn't lawful is refused so.
-use Rattle.std.proofs.Common.{◌≡◌, inl, inr, ℕ, Bool, true, false, cond, [], ◌++◌, refl, sym, ◌∙◌, ap, Result, Ok, Err, MatchResult, IfErr}
+use Rattle.std.proofs.Common.{◌≡◌, inl, inr, ℕ, Bool, true, false, cond, [], ◌++◌, refl, sym, ◌∙◌, ap, Some, None, Result, Ok, Err, MatchResult, IfErr}
 use Rattle.vt_key.specs.Times.{Time}
 use Rattle.vt_key.specs.declared.fault.Fault.{Fault}
 use Rattle.vt_key.specs.declared.fault.Fault.TheVariants.{NotLawful}
@@ -10,26 +10,26 @@ use Rattle.vt_steps.specs.declared.step.Step.TheVariants.{Send, Fetch}
 use Rattle.vt_steps.specs.declared.step.Reply.{Reply}
 use Rattle.vt_steps.specs.declared.step.Reply.TheVariants.{Done}
 use Rattle.vt_steps.specs.Letters.{is_empty}
-use Rattle.vt_steps.specs.Next.{may_send}
+use Rattle.vt_steps.specs.CellSteps.{may_send, send, fetch}
 use Rattle.vt_steps.specs.PartSteps.{part_after_send, mail_of_send, part_after_fetch}
 use Rattle.vt_steps.specs.World.{Part}
-use Rattle.vt_steps.specs.Cells.{Cell, in_inbox, Acted, left_alone, act}
+use Rattle.vt_steps.specs.Cells.{Cell, in_inbox, Acted, acted_at, act}
 use Rattle.vt_kernel.specs.Held.{HeldWorker, StandsFor}
 use Rattle.vt_station.specs.declared.view.View.{View}
 use Rattle.vt_station.specs.Calls.{Visited, IsPostRefusal, IsFetchRefusal}
 
 module _ {S P : Type 0} (sim : Simulation S P) (part : Part P) where
   unsent : (w v : ℕ) (cell : Cell P) → may_send sim w v part ≡ false → (act sim (Send w v) part cell).answer ≡ Err NotLawful
-  unfolding act
+  unfolding act send
   unsent w v (in_inbox mails) no_send =
-      ap (λ b. (let a : Acted P = cond b (record { part = part_after_send sim v part; cell = in_inbox (mails ++ mail_of_send sim v part); answer = Ok Done }) (left_alone part (in_inbox mails) NotLawful) in a.answer)) no_send
+      ap (λ b. (let a : Acted P = acted_at part in_inbox mails (cond b (Some (record { part = part_after_send sim v part; cell = mails ++ mail_of_send sim v part; reply = Done })) None) in a.answer)) no_send
   unsent w v (Rattle.vt_steps.specs.Cells.on_board board) no_send = refl
   unsent w v (Rattle.vt_steps.specs.Cells.in_book book) no_send = refl
 
   unfetched : (w : ℕ) (cell : Cell P) → is_empty part.arrived ≡ false → (act sim (Fetch w) part cell).answer ≡ Err NotLawful
-  unfolding act
+  unfolding act fetch
   unfetched w (in_inbox mails) full =
-      ap (λ b. (let a : Acted P = cond b (record { part = part_after_fetch mails part; cell = in_inbox []; answer = Ok Done }) (left_alone part (in_inbox mails) NotLawful) in a.answer)) full
+      ap (λ b. (let a : Acted P = acted_at part in_inbox mails (cond b (Some (record { part = part_after_fetch mails part; cell = []; reply = Done })) None) in a.answer)) full
   unfetched w (Rattle.vt_steps.specs.Cells.on_board board) full = refl
   unfetched w (Rattle.vt_steps.specs.Cells.in_book book) full = refl
 

@@ -35,8 +35,7 @@ use Rattle.vt_steps.proofs.OwnCuts.{refused-cut-known}
 use Rattle.vt_board.specs.Calls.{counted, cut_outcome, takes_report}
 use Rattle.vt_kernel.specs.Local.{local_steps}
 use Rattle.vt_kernel.specs.Refusals.{IsStepRefusal}
-use Rattle.vt_board.proofs.CellSteps.{next-cut, next-not_cut, next-not_report}
-use Rattle.vt_book.proofs.CellSteps.{next-commit, next-commit_closed, next-not_close, next-close_closed}
+use Rattle.vt_steps.proofs.CellSteps.{next-cut, next-not_cut, next-not_report, next-commit, next-commit_closed, next-not_close, next-close_closed}
 use Rattle.vt_book.proofs.CommitRows.{IsBetween, commit-between}
 use Rattle.vt_station.specs.declared.view.View.{View}
 use Rattle.vt_station.specs.Calls.{Known, IsRefusedBy, IsCutRefusal, IsReportRefusal, IsCommitRefusal, IsCloseRefusal, IsFloorLeft, AreRecordsShown}

@@ -1,5 +1,5 @@
 -- The release after each call, in the words of its contract.
-use Rattle.std.proofs.Common.{◌≡◌, ◌≢◌, ◌⊎◌, inl, inr, ℕ, ◌%◌, ◌/◌, ◌<◌, arith, cond, List, [], ◌∷◌, ◌++◌, refl, sym, ◌∙◌, ap, subst, le_refl, nat_eq, Option, Some, None, Ok}
+use Rattle.std.proofs.Common.{◌≡◌, ◌≢◌, ◌⊎◌, inl, inr, ℕ, ◌%◌, ◌<◌, arith, cond, List, [], ◌∷◌, ◌++◌, refl, sym, ◌∙◌, ap, subst, le_refl, nat_eq, Option, Some, None, Ok}
 use Rattle.std.proofs.lemmas.List.{append-nil}
 use Rattle.std.proofs.lemmas.Bool.Decides.{eqb_tells}
 use Rattle.atomic_table.specs.Table.{Allows}
@@ -14,7 +14,7 @@ use Rattle.vt_steps.specs.declared.step.Step.TheVariants.{Execute, Undo, Cancel,
 use Rattle.vt_steps.specs.declared.step.Reply.{Reply}
 use Rattle.vt_steps.specs.declared.step.Reply.TheVariants.{Done}
 use Rattle.vt_steps.specs.World.{Part}
-use Rattle.vt_steps.specs.PartSteps.{execute, undo, cancel, home, accept}
+use Rattle.vt_steps.specs.PartSteps.{act_locally, home}
 use Rattle.vt_steps.specs.Cells.{book_cell, Cell, in_inbox, worker_of, cell_of, acted_locally, act}
 use Rattle.vt_steps.specs.Laws.{IsAny}
 use Rattle.vt_steps.specs.Marked.{Made, marked, made_done, LeadsLocally, LeadLocally, Leads}
@@ -43,25 +43,25 @@ module _ {S P : Type 0} (sim : Simulation S P) (w : ℕ) where
   step-leads : (step : Step) (part new : Part P) → local_step sim w step part ≡ Some new → LeadsLocally sim w step part new
   unfolding act
   step-leads (Execute p) part new e =
-      let h = if-own (p % sim.workers) (execute sim w (p / sim.workers) part) new e in
-      record { own = ap (λ n. Some n) h.0; local = refl; done = λ cell. ap (λ n. acted_locally part cell (execute sim n (p / sim.workers) part)) h.0 ∙ ap (acted_locally part cell) h.1 }
+      let h = if-own (p % sim.workers) (act_locally sim (Execute p) part) new e in
+      record { own = ap (λ n. Some n) h.0; local = refl; done = λ cell. ap (acted_locally part cell) h.1 }
   step-leads (Undo p) part new e =
-      let h = if-own (p % sim.workers) (undo (p / sim.workers) part) new e in
+      let h = if-own (p % sim.workers) (act_locally sim (Undo p) part) new e in
       record { own = ap (λ n. Some n) h.0; local = refl; done = λ cell. ap (acted_locally part cell) h.1 }
   step-leads (Cancel p stamp) part new e =
-      let h = if-own (p % sim.workers) (cancel (p / sim.workers) stamp part) new e in
+      let h = if-own (p % sim.workers) (act_locally sim (Cancel p stamp) part) new e in
       record { own = ap (λ n. Some n) h.0; local = refl; done = λ cell. ap (acted_locally part cell) h.1 }
   step-leads (Home v) part new e =
-      let h = if-own v (home sim w part) new e in
-      record { own = ap (λ n. Some n) h.0; local = refl; done = λ cell. ap (λ n. acted_locally part cell (home sim n part)) h.0 ∙ ap (acted_locally part cell) h.1 }
-  step-leads (Accept v i) part new e =
-      let h = if-own v (accept sim i part) new e in
+      let h = if-own v (act_locally sim (Home v) part) new e in
       record { own = ap (λ n. Some n) h.0; local = refl; done = λ cell. ap (acted_locally part cell) h.1 }
-  step-leads (Send v u) part new e = absurd (let h : None ≡ Some new = e in cc)
-  step-leads (Fetch v) part new e = absurd (let h : None ≡ Some new = e in cc)
-  step-leads (Cut v) part new e = absurd (let h : None ≡ Some new = e in cc)
-  step-leads (Report v) part new e = absurd (let h : None ≡ Some new = e in cc)
-  step-leads (Commit v) part new e = absurd (let h : None ≡ Some new = e in cc)
+  step-leads (Accept v i) part new e =
+      let h = if-own v (act_locally sim (Accept v i) part) new e in
+      record { own = ap (λ n. Some n) h.0; local = refl; done = λ cell. ap (acted_locally part cell) h.1 }
+  step-leads (Send v u) part new e = absurd (let h : None ≡ Some new = (if-own v None new e).1 in cc)
+  step-leads (Fetch v) part new e = absurd (let h : None ≡ Some new = (if-own v None new e).1 in cc)
+  step-leads (Cut v) part new e = absurd (let h : None ≡ Some new = (if-own v None new e).1 in cc)
+  step-leads (Report v) part new e = absurd (let h : None ≡ Some new = (if-own v None new e).1 in cc)
+  step-leads (Commit v) part new e = absurd (let h : None ≡ Some new = (if-own v None new e).1 in cc)
   step-leads Close part new e = absurd (let h : None ≡ Some new = e in cc)
 
   pub steps-lead : (steps : List Step) (part new : Part P) → local_steps sim w steps part ≡ Some new → LeadLocally sim w steps part new

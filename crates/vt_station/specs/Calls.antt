@@ -20,7 +20,8 @@ use Rattle.vt_steps.specs.declared.step.Reply.TheVariants.{Done}
 use Rattle.vt_steps.specs.World.{Part, World, book_floor}
 use Rattle.vt_steps.specs.Letters.{Counts, is_empty, count_of, count_colour}
 use Rattle.vt_steps.specs.PartSteps.{letters_for}
-use Rattle.vt_steps.specs.Next.{next, run, reached, may_send}
+use Rattle.vt_steps.specs.CellSteps.{may_send}
+use Rattle.vt_steps.specs.Next.{next, run, reached}
 use Rattle.vt_steps.specs.Cells.{Cell, in_inbox, in_book, content, cell_of, act}
 use Rattle.vt_steps.specs.Laws.{IsAny}
 use Rattle.vt_steps.specs.Marked.{Marked, marked, answered, made_done, Each, IsMarkedRight, own_steps_of, shown, has_cut_since, has_closed}

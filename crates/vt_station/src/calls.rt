@@ -9,7 +9,7 @@ ghost use Rattle.vt_steps.specs.declared.step.Step.TheVariants as step;
 ghost use Rattle.vt_steps.specs.declared.step.Reply.TheVariants as reply;
 ghost use Rattle.vt_steps.specs.World.{Part};
 ghost use Rattle.vt_steps.specs.Letters.{is_empty};
-ghost use Rattle.vt_steps.specs.Next.{may_send};
+ghost use Rattle.vt_steps.specs.CellSteps.{may_send};
 ghost use Rattle.vt_board.specs.Calls.{reply_of};
 ghost use Rattle.vt_kernel.specs.Held.{StandsFor};
 ghost use Rattle.vt_station.specs.Told.{station_model, station_config, station_table, place_table, place_worker, place_view};

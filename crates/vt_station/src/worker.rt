@@ -8,7 +8,7 @@ ghost use Rattle.vt_model.specs.Settings.{end_of};
 ghost use Rattle.vt_steps.specs.World.{Part, opening_part};
 ghost use Rattle.vt_steps.specs.Finals.{worker_finals};
 ghost use Rattle.vt_steps.specs.Letters.{is_empty};
-ghost use Rattle.vt_steps.specs.Next.{may_send};
+ghost use Rattle.vt_steps.specs.CellSteps.{may_send};
 ghost use Rattle.vt_steps.specs.declared.step.Step.TheVariants as step;
 ghost use Rattle.vt_steps.specs.declared.step.Reply.TheVariants as reply;
 ghost use Rattle.vt_board.specs.Calls.{reply_of};

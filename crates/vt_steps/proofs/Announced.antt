@@ -17,7 +17,6 @@ use Rattle.vt_model.specs.Histories.{IsLawful}
 use Rattle.vt_steps.specs.BoardSteps.{all_set, is_clear, with_open_round, with_report, board_after_report}
 use Rattle.vt_steps.specs.Copies.{letter_weight, part_entries, letter_sum, entry_sum}
 use Rattle.vt_steps.specs.Letters.{signed, count_colour}
-use Rattle.vt_steps.specs.Next.{report_lawful}
 use Rattle.vt_steps.specs.PartSteps.{part_after_send, part_after_fetch, part_after_cut, part_after_commit, report_sent, report_got, report_least}
 use Rattle.vt_steps.specs.World.{Part, World, opening_part, opening_world, start_events, all_letters, least}
 use Rattle.vt_steps.proofs.Balance.{commit-balance}
@@ -54,7 +53,7 @@ entries-put old w part after is kept none =
 module _ {S P : Type 0} (sim : Simulation S P) (lawful : IsLawful sim) (t : Time) (old new : World P) where
   -- of each change
   change-kept : Change sim old new → IsTimeSound sim t old → IsShaped sim new → IsTimeSound sim t new
-  unfolding part_after_send part_after_fetch part_after_cut report_lawful part_after_commit
+  unfolding part_after_send part_after_fetch part_after_cut part_after_commit
   change-kept (stays e) g shape = subst (IsTimeSound sim t) (sym e) g
   change-kept (local w part after is change e) g shape =
       let none = g.entries in

@@ -17,7 +17,7 @@ use Rattle.vt_model.specs.Simulation.{Simulation}
 use Rattle.vt_model.specs.declared.sending.Sent.{Sent}
 use Rattle.vt_steps.specs.Copies.{entry_sum, letter_sum, letter_weight, mail_weight, part_entries, part_sum, process_entries, process_sum, serial_at}
 use Rattle.vt_steps.specs.Letters.{has_stamp, signed, stamped, unstamped, without_first}
-use Rattle.vt_steps.specs.Next.{report_lawful, with_part}
+use Rattle.vt_steps.specs.Next.{with_part}
 use Rattle.vt_steps.specs.PartSteps.{is_below, is_for, mail_of_send, part_after_commit, part_after_cut, part_after_fetch, part_after_send, process_after_commit, with_effect}
 use Rattle.vt_steps.specs.ProcessSteps.{ProcessEffect, effect_of_execute, effect_of_undo, with_letter}
 use Rattle.vt_steps.specs.World.{Entry, LogicalProcess, Part, World, process_at, triple_after}
@@ -385,7 +385,7 @@ fetch-copies old new w part inbox is in_is none parts inboxes =
 
 -- each change
 pub change-copies : {S P : Type 0} (sim : Simulation S P) (old new : World P) → Change sim old new → CopyChange old new
-unfolding part_after_cut part_after_commit report_lawful
+unfolding part_after_cut part_after_commit
 change-copies sim old new (stays e) = parts_stay old new (ap (λ n. n.parts) e) (ap (λ n. n.inboxes) e)
 change-copies sim old new (local w part after is change e) = local-copies sim old new w part after is e change
 change-copies sim old new (sends w v part inbox is in_is e) = send-copies sim old new w v part inbox is in_is (ap (λ n. n.parts) e) (ap (λ n. n.inboxes) e)

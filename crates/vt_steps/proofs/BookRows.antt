@@ -15,7 +15,6 @@ use Rattle.vt_model.specs.Simulation.{Simulation, Triple, after_from}
 use Rattle.vt_steps.specs.Copies.{process_sum}
 use Rattle.vt_steps.specs.BookSteps.{with_rows}
 use Rattle.vt_steps.specs.Letters.{stamped, unstamped}
-use Rattle.vt_steps.specs.Next.{report_lawful}
 use Rattle.vt_steps.specs.PartSteps.{is_below, ripe, ripe_rows, rows_of_commit, rows_of_processes, process_after_commit, part_after_send, part_after_fetch, part_after_cut, part_after_commit}
 use Rattle.vt_steps.specs.ProcessSteps.{ProcessEffect, effect_of_execute, effect_of_undo, with_letter}
 use Rattle.vt_steps.specs.Rows.{rows_from}
@@ -205,7 +204,7 @@ module _ {S P : Type 0} (sim : Simulation S P) (old new : World P) (b : IsBooked
 
   -- of each change
   pub booked-kept : Change sim old new → AreTimesSound sim old → DoPastsRise old → IsBooked sim new
-  unfolding part_after_send part_after_fetch part_after_cut report_lawful part_after_commit rows_of_commit with_rows
+  unfolding part_after_send part_after_fetch part_after_cut part_after_commit rows_of_commit with_rows
   booked-kept (stays e) s rise = subst (IsBooked sim) (sym e) b
   booked-kept (local w part after is change e) s rise =
       part-booked w part after is (ap (λ n. n.parts) e) (ap (λ n. n.book) e)

@@ -1,9 +1,8 @@
 -- What a step does, case by case: each proof about `next` goes over these cases, and opens no definition of a step.
-use Rattle.std.proofs.Common.{◌≡◌, ℕ, ◌/◌, ◌%◌, Bool, true, false, not, cond, ◌&&◌, List, [], ◌∷◌, ◌++◌, refl, ◌∙◌, ap, Option, Some, None, slice_get, slice_set, ◌==◌}
-use Rattle.std.specs.List.{find, last_or, remove, list_any}
+use Rattle.std.proofs.Common.{◌≡◌, ℕ, ◌/◌, ◌%◌, Bool, true, false, cond, List, [], ◌∷◌, ◌++◌, refl, ◌∙◌, ap, Option, Some, None, slice_get, slice_set}
+use Rattle.std.specs.List.{find, last_or, remove}
 use Rattle.std.specs.Option.{option_map, option_and_then}
 use Rattle.vt_key.specs.Order.{key_same}
-use Rattle.vt_key.specs.declared.fault.Fault.TheVariants.{Closed, NotLawful}
 use Rattle.vt_key.specs.declared.letter.Letter.{Letter}
 use Rattle.vt_key.specs.declared.letter.Mail.{Mail}
 use Rattle.vt_key.specs.declared.order.Stamp.{Stamp}
@@ -11,13 +10,14 @@ use Rattle.vt_model.specs.Simulation.{Simulation}
 use Rattle.vt_steps.specs.BoardSteps.{cut_board, may_report, with_report}
 use Rattle.vt_steps.specs.BookSteps.{may_commit, may_close, with_rows}
 use Rattle.vt_steps.specs.Letters.{has_stamp, is_empty, without_first}
-use Rattle.vt_steps.specs.Next.{Outcome, close, commit, cut, done_or_refused, fetch, locally, next, refused, replied, report, report_lawful, run, send, unless_closed, with_part}
+use Rattle.vt_steps.specs.CellSteps.{CellEffect, close, commit, cut, fetch, may_send, report, reported, send}
+use Rattle.vt_steps.specs.Next.{at_cell, done_or_refused, locally, next, refused, run, with_board, with_book, with_inbox, with_part}
 use Rattle.vt_steps.specs.PartSteps.{accept_mail, at_process, deliver, home_letter, is_for, mail_of_send, part_after_commit, part_after_cut, part_after_fetch, part_after_send, report_got, report_least, report_sent, rows_of_commit, with_effect}
 use Rattle.vt_steps.specs.ProcessSteps.{ProcessEffect, accept_process, are_opposite, cancel_process, effect_of_execute, effect_of_undo, execute_least, holds, may_follow, must_undo, undo_last, with_letter}
-use Rattle.vt_steps.specs.World.{Board, Entry, LogicalProcess, Part, World, process_at}
-use Rattle.vt_steps.specs.declared.step.Reply.TheVariants.{Done}
+use Rattle.vt_steps.specs.World.{Board, Book, Entry, LogicalProcess, Part, World, process_at}
 use Rattle.vt_steps.specs.declared.step.Step.{Step}
 use Rattle.vt_steps.specs.declared.step.Step.TheVariants.{Accept, Cancel, Close, Commit, Cut, Execute, Fetch, Home, Report, Send, Undo}
+use Rattle.vt_steps.proofs.Outcomes.{at_cell-either, done_or_refused-either, locally-either, unless_closed-either}
 
 -- what a process does in a step of its own: it executes its least pending event, undoes its last past one, or a message
 -- and its anti-message annihilate each other
@@ -46,6 +46,10 @@ pub data Local {S P : Type 0} (sim : Simulation S P) (w : ℕ) (old new : Part P
       slice_get part.processes place ≡ Some process → place ≡ letter.event.dest / sim.workers → holds process letter.sign letter.event.rank ≡ false →
       new ≡ with_effect part place (record { process = with_letter process letter.sign letter; letters = []; serials = 0 }) → Local sim w old new
 
+-- the world after a lawful report of w on this board
+abbrev pub with_reported : {S P : Type 0} → Simulation S P → World P → ℕ → Part P → Board → World P
+with_reported sim world w part board = let effect = reported sim part board in with_board (with_part world w effect.part) effect.cell
+
 -- what a step does to a world: nothing, or one of these
 pub data Change {S P : Type 0} (sim : Simulation S P) (old new : World P) : Type 0 where
   stays : new ≡ old → Change sim old new
@@ -57,7 +61,7 @@ pub data Change {S P : Type 0} (sim : Simulation S P) (old new : World P) : Type
   cuts : (w : ℕ) (part : Part P) (board : Board) → slice_get old.parts w ≡ Some part → cut_board sim.end w old.board ≡ Some board →
       new ≡ record old { parts = slice_set old.parts w (part_after_cut sim.end old.board.announced part); board = board } → Change sim old new
   reports : (w : ℕ) (part : Part P) → slice_get old.parts w ≡ Some part → may_report w (report_least sim.end part) old.board ≡ true →
-      new ≡ (report_lawful sim old w part (with_report w (report_sent part) (report_got part) (report_least sim.end part) old.board)).world → Change sim old new
+      new ≡ with_reported sim old w part (with_report w (report_sent part) (report_got part) (report_least sim.end part) old.board) → Change sim old new
   commits : (w : ℕ) (part : Part P) → slice_get old.parts w ≡ Some part → old.book.is_closed ≡ false → may_commit (slice_get old.book.floors w) part.floor ≡ true →
       new ≡ record old { parts = slice_set old.parts w (part_after_commit part); book = with_rows w (rows_of_commit sim w part) part.floor old.book } → Change sim old new
   closes : old.book.is_closed ≡ false → may_close sim.end old.book ≡ true →
@@ -154,93 +158,75 @@ accept_takes sim w i old new (Some mail) is e = deliver_takes sim w old _ new ma
 
 -- ---- at a world
 
+-- a list that is empty
+pub empty_is : {X : Type 0} (xs : List X) → is_empty xs ≡ true → xs ≡ []
+empty_is [] e = refl
+empty_is (x ∷ xs) e = absurd (let h : false ≡ true = e in cc)
+
 -- a local step
 locally_changes : {S P : Type 0} (sim : Simulation S P) (old : World P) (w : ℕ) (step : Part P → Option (Part P)) →
     ((part after : Part P) → step part ≡ Some after → Local sim w part after) → Change sim old (locally old w step).world
-locally_changes {P = P} sim old w step means = from_part (slice_get old.parts w) refl
-  where
-    from_new : (part : Part P) (after : Option (Part P)) → slice_get old.parts w ≡ Some part → step part ≡ after →
-        Change sim old (done_or_refused old (option_map (with_part old w) after)).world
-    from_new part None is e = stays refl
-    from_new part (Some after) is e = local w part after is (means part after e) refl
+locally_changes sim old w step means =
+    locally-either old w step (λ o. Change sim old o.world) (stays refl) (λ part after is e. local w part after is (means part after e) refl)
 
-    from_part : (o : Option (Part P)) → slice_get old.parts w ≡ o → Change sim old (done_or_refused old (option_map (with_part old w) (option_and_then step o))).world
-    from_part None is = stays refl
-    from_part (Some part) is = from_new part (step part) is refl
+-- a step at a cell
+cell_changes : {S P C : Type 0} (sim : Simulation S P) (old : World P) (w : ℕ) (put : World P → C → World P) (step : Part P → C → Option (CellEffect P C)) (cell : Option C) →
+    ((part : Part P) (held : C) (effect : CellEffect P C) → slice_get old.parts w ≡ Some part → cell ≡ Some held → step part held ≡ Some effect →
+    Change sim old (put (with_part old w effect.part) effect.cell)) →
+    Change sim old (at_cell old w put step cell).world
+cell_changes sim old w put step cell means = at_cell-either old w put step cell (λ o. Change sim old o.world) (stays refl) means
 
 -- Send
-send_changes : {S P : Type 0} (sim : Simulation S P) (old : World P) (w v : ℕ) (part : Option (Part P)) (inbox : Option (List (Mail P))) →
-    slice_get old.parts w ≡ part → slice_get old.inboxes v ≡ inbox → Change sim old (done_or_refused old (send sim old w v part inbox)).world
+send_changes : {S P : Type 0} (sim : Simulation S P) (old : World P) (w v : ℕ) → Change sim old (at_cell old w (with_inbox v) (send sim w v) (slice_get old.inboxes v)).world
 unfolding send
-send_changes sim old w v None inbox is in_is = stays refl
-send_changes sim old w v (Some part) None is in_is = stays refl
-send_changes sim old w v (Some part) (Some inbox) is in_is =
-    elim (not (w == v) && list_any (is_for sim v) part.outbox) as
-    (λ b. Change sim old (done_or_refused old (cond b (Some (record old { parts = slice_set old.parts w (part_after_send sim v part); inboxes = slice_set old.inboxes v (inbox ++ mail_of_send sim v part) })) None)).world)
-    [ true ↦ sends w v part inbox is in_is refl | false ↦ stays refl ]
+send_changes {P = P} sim old w v =
+    cell_changes sim old w (with_inbox v) (send sim w v) (slice_get old.inboxes v) (λ part inbox effect is holds e.
+    (let has = if_has (may_send sim w v part) _ effect e in
+    sends w v part inbox is holds (ap (λ (x : CellEffect P (List (Mail P))). with_inbox v (with_part old w x.part) x.cell) has.1)))
 
 -- Fetch
-fetch_changes : {S P : Type 0} (sim : Simulation S P) (old : World P) (w : ℕ) (part : Option (Part P)) (inbox : Option (List (Mail P))) →
-    slice_get old.parts w ≡ part → slice_get old.inboxes w ≡ inbox → Change sim old (done_or_refused old (fetch old w part inbox)).world
+fetch_changes : {S P : Type 0} (sim : Simulation S P) (old : World P) (w : ℕ) → Change sim old (at_cell old w (with_inbox w) fetch (slice_get old.inboxes w)).world
 unfolding fetch
-fetch_changes sim old w None inbox is in_is = stays refl
-fetch_changes sim old w (Some part) None is in_is = stays refl
-fetch_changes {P = P} sim old w (Some part) (Some inbox) is in_is = by_arrived part.arrived refl
-  where
-    by_arrived : (mails : List (Mail P)) → part.arrived ≡ mails →
-        Change sim old (done_or_refused old (cond (is_empty mails) (Some (record old { parts = slice_set old.parts w (part_after_fetch inbox part); inboxes = slice_set old.inboxes w [] })) None)).world
-    by_arrived [] none = fetches w part inbox is in_is none refl
-    by_arrived (mail ∷ mails) some = stays refl
+fetch_changes {P = P} sim old w =
+    cell_changes sim old w (with_inbox w) fetch (slice_get old.inboxes w) (λ part inbox effect is holds e.
+    (let has = if_has (is_empty part.arrived) _ effect e in
+    fetches w part inbox is holds (empty_is part.arrived has.0) (ap (λ (x : CellEffect P (List (Mail P))). with_inbox w (with_part old w x.part) x.cell) has.1)))
 
 -- Cut
-cut_changes : {S P : Type 0} (sim : Simulation S P) (old : World P) (w : ℕ) (part : Option (Part P)) (board : Option Board) →
-    slice_get old.parts w ≡ part → cut_board sim.end w old.board ≡ board → Change sim old (done_or_refused old (cut sim old w part board)).world
+cut_changes : {S P : Type 0} (sim : Simulation S P) (old : World P) (w : ℕ) → Change sim old (at_cell old w with_board (cut sim w) (Some old.board)).world
 unfolding cut
-cut_changes sim old w None board is cut_is = stays refl
-cut_changes sim old w (Some part) None is cut_is = stays refl
-cut_changes sim old w (Some part) (Some board) is cut_is = cuts w part board is cut_is refl
+cut_changes {P = P} sim old w =
+    cell_changes sim old w with_board (cut sim w) (Some old.board) (λ part board effect is holds e.
+    (let same : old.board ≡ board = cc in
+    let has = map_has _ (cut_board sim.end w old.board) effect (ap (λ b. cut sim w part b) same ∙ e) in
+    cuts w part has.0 is has.1 (ap (λ (x : CellEffect P Board). with_board (with_part old w x.part) x.cell) has.2)))
 
 -- Report
-report_changes : {S P : Type 0} (sim : Simulation S P) (old : World P) (w : ℕ) (part : Option (Part P)) →
-    slice_get old.parts w ≡ part → Change sim old (report sim old w part).world
+report_changes : {S P : Type 0} (sim : Simulation S P) (old : World P) (w : ℕ) → Change sim old (at_cell old w with_board (report sim w) (Some old.board)).world
 unfolding report
-report_changes sim old w None is = stays refl
-report_changes {P = P} sim old w (Some part) is = by_test (may_report w (report_least sim.end part) old.board) refl
-  where
-    by_test : (b : Bool) → may_report w (report_least sim.end part) old.board ≡ b →
-        Change sim old (let outcome : Outcome P = cond b (report_lawful sim old w part (with_report w (report_sent part) (report_got part) (report_least sim.end part) old.board)) (refused old NotLawful) in outcome.world)
-    by_test true e = reports w part is e refl
-    by_test false e = stays refl
+report_changes {P = P} sim old w =
+    cell_changes sim old w with_board (report sim w) (Some old.board) (λ part board effect is holds e.
+    (let same : old.board ≡ board = cc in
+    let has = if_has (may_report w (report_least sim.end part) old.board) _ effect (ap (λ b. report sim w part b) same ∙ e) in
+    reports w part is has.0 (ap (λ (x : CellEffect P Board). with_board (with_part old w x.part) x.cell) has.1)))
 
 -- Commit
-commit_changes : {S P : Type 0} (sim : Simulation S P) (old : World P) (w : ℕ) (part : Option (Part P)) →
-    slice_get old.parts w ≡ part → old.book.is_closed ≡ false → Change sim old (commit sim old w part).world
+commit_changes : {S P : Type 0} (sim : Simulation S P) (old : World P) (w : ℕ) → old.book.is_closed ≡ false → Change sim old (at_cell old w with_book (commit sim w) (Some old.book)).world
 unfolding commit
-commit_changes sim old w None is open_is = stays refl
-commit_changes {P = P} sim old w (Some part) is open_is = by_test (may_commit (slice_get old.book.floors w) part.floor) refl
-  where
-    by_test : (b : Bool) → may_commit (slice_get old.book.floors w) part.floor ≡ b →
-        Change sim old (let outcome : Outcome P = cond b (replied (record old { parts = slice_set old.parts w (part_after_commit part); book = with_rows w (rows_of_commit sim w part) part.floor old.book }) Done) (refused old NotLawful) in outcome.world)
-    by_test true e = commits w part is open_is e refl
-    by_test false e = stays refl
+commit_changes {P = P} sim old w open_is =
+    cell_changes sim old w with_book (commit sim w) (Some old.book) (λ part book effect is holds e.
+    (let same : old.book ≡ book = cc in
+    let has = if_has (may_commit (slice_get old.book.floors w) part.floor) _ effect (ap (λ b. commit sim w part b) same ∙ e) in
+    commits w part is open_is has.0 (ap (λ (x : CellEffect P Book). with_book (with_part old w x.part) x.cell) has.1)))
 
 -- Close
-close_changes : {S P : Type 0} (sim : Simulation S P) (old : World P) → old.book.is_closed ≡ false → Change sim old (close sim old).world
+close_changes : {S P : Type 0} (sim : Simulation S P) (old : World P) → old.book.is_closed ≡ false → Change sim old (done_or_refused old (option_map (with_book old) (close sim old.book))).world
 unfolding close
-close_changes {P = P} sim old open_is = by_test (may_close sim.end old.book) refl
-  where
-    by_test : (b : Bool) → may_close sim.end old.book ≡ b →
-        Change sim old (let outcome : Outcome P = cond b (replied (record old { book = record old.book { is_closed = true } }) Done) (refused old NotLawful) in outcome.world)
-    by_test true e = closes open_is e refl
-    by_test false e = stays refl
-
--- a step that a closed book refuses
-unless_changes : {S P : Type 0} (sim : Simulation S P) (old : World P) (outcome : Outcome P) → (old.book.is_closed ≡ false → Change sim old outcome.world) → Change sim old (unless_closed old outcome).world
-unless_changes {P = P} sim old outcome means = by_test old.book.is_closed refl
-  where
-    by_test : (b : Bool) → old.book.is_closed ≡ b → Change sim old (let o : Outcome P = cond b (refused old Closed) outcome in o.world)
-    by_test true e = stays refl
-    by_test false e = means e
+close_changes sim old open_is =
+    done_or_refused-either old (option_map (with_book old) (close sim old.book)) (λ o. Change sim old o.world) (stays refl) (λ new e.
+    (let at = map_has (with_book old) (close sim old.book) new e in
+    let has = if_has (may_close sim.end old.book) _ at.0 at.1 in
+    closes open_is has.0 (at.2 ∙ ap (with_book old) has.1)))
 
 -- each step
 pub next_changes : {S P : Type 0} (sim : Simulation S P) (old : World P) (step : Step) → Change sim old (next sim old step).world
@@ -250,12 +236,12 @@ next_changes sim old (Undo p) = locally_changes sim old (p % sim.workers) _ (λ 
 next_changes sim old (Cancel p stamp) = locally_changes sim old (p % sim.workers) _ (λ part after. at_process_acts sim (p % sim.workers) _ (p / sim.workers) part after (λ process acted. cancel_acts sim _ _ _ process stamp acted))
 next_changes sim old (Home w) = locally_changes sim old w _ (λ part after. home_takes sim w part after (find (is_for sim w) part.outbox) refl)
 next_changes sim old (Accept w i) = locally_changes sim old w _ (λ part after. accept_takes sim w i part after (slice_get part.arrived i) refl)
-next_changes sim old (Send w v) = send_changes sim old w v _ _ refl refl
-next_changes sim old (Fetch w) = fetch_changes sim old w _ _ refl refl
-next_changes sim old (Cut w) = cut_changes sim old w _ _ refl refl
-next_changes sim old (Report w) = report_changes sim old w _ refl
-next_changes sim old (Commit w) = unless_changes sim old _ (λ open_is. commit_changes sim old w _ refl open_is)
-next_changes sim old Close = unless_changes sim old _ (λ open_is. close_changes sim old open_is)
+next_changes sim old (Send w v) = send_changes sim old w v
+next_changes sim old (Fetch w) = fetch_changes sim old w
+next_changes sim old (Cut w) = cut_changes sim old w
+next_changes sim old (Report w) = report_changes sim old w
+next_changes sim old (Commit w) = unless_closed-either old.book (refused old) _ (λ o. Change sim old o.world) (λ shut. stays refl) (commit_changes sim old w)
+next_changes sim old Close = unless_closed-either old.book (refused old) _ (λ o. Change sim old o.world) (λ shut. stays refl) (close_changes sim old)
 
 -- what each change keeps, each run keeps
 pub run_keeps : {S P : Type 0} (sim : Simulation S P) (Keeps : World P → Type 0) → ((old new : World P) → Change sim old new → Keeps old → Keeps new) →

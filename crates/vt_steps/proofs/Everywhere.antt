@@ -11,7 +11,6 @@ use Rattle.vt_model.specs.Histories.{Among}
 use Rattle.vt_model.specs.Simulation.{Simulation, Triple}
 use Rattle.vt_model.specs.declared.sending.Sent.{Sent}
 use Rattle.vt_steps.specs.Letters.{has_stamp, signed, stamped, unstamped}
-use Rattle.vt_steps.specs.Next.{report_lawful}
 use Rattle.vt_steps.specs.PartSteps.{is_below, is_for, mail_of_send, part_after_commit, part_after_cut, part_after_fetch, part_after_send, process_after_commit, ripe, with_effect}
 use Rattle.vt_steps.specs.ProcessSteps.{ProcessEffect, effect_of_execute, effect_of_undo, with_letter}
 use Rattle.vt_steps.specs.World.{Entry, LogicalProcess, Part, World, all_letters, letters_in, opening_part, opening_world, process_at, process_count, start_events, triple_after}
@@ -235,7 +234,7 @@ module _ {S P : Type 0} (sim : Simulation S P) where
 
   -- each change
   pub change-spread : (old new : World P) → IsShaped sim old → Change sim old new → Spread sim old new
-  unfolding part_after_send mail_of_send part_after_fetch part_after_cut part_after_commit report_lawful
+  unfolding part_after_send mail_of_send part_after_fetch part_after_cut part_after_commit
   change-spread old new shape (stays e) = kept (λ Q h. subst (InWorld Q) (sym e) h)
   change-spread old new shape (local w part after is change e) =
       elim (local-spread sim w part after change) [

@@ -14,7 +14,7 @@ use Rattle.vt_model.specs.Histories.{IsLawful}
 use Rattle.vt_steps.specs.declared.step.Step.{Step}
 use Rattle.vt_steps.specs.BoardSteps.{all_set, is_clear, with_open_round, with_report, after_pass, board_after_report}
 use Rattle.vt_steps.specs.BookSteps.{may_commit, with_rows}
-use Rattle.vt_steps.specs.Next.{next, run, report_lawful, reached}
+use Rattle.vt_steps.specs.Next.{next, run, reached}
 use Rattle.vt_steps.specs.PartSteps.{part_after_send, part_after_fetch, part_after_cut, part_after_commit, report_sent, report_got, report_least}
 use Rattle.vt_steps.specs.World.{Part, Board, Book, World, opening_part, opening_world, least_floor, book_floor}
 use Rattle.vt_steps.proofs.Announced.{IsTimeSound, time-kept, opening-time-sound}
@@ -153,7 +153,7 @@ module _ {S P : Type 0} (sim : Simulation S P) (old new : World P) (least_end : 
 
   -- of each change
   pub floors-kept : Change sim old new → FloorsKept sim.end old new
-  unfolding part_after_send part_after_fetch part_after_cut report_lawful part_after_commit with_rows with_report
+  unfolding part_after_send part_after_fetch part_after_cut part_after_commit with_rows with_report
   floors-kept (stays e) = subst (FloorsKept sim.end old) (sym e) (record { sound = f; announced = le_refl _; floor = le_refl _ })
   floors-kept (local w part after is change e) =
       floor-stays w part after is (local-floor sim w part after change) (ap (λ n. n.parts) e) (ap (λ n. n.board) e) (ap (λ n. n.book) e)

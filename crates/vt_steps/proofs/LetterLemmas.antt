@@ -1,5 +1,5 @@
 -- Which steps make letters and which take them away: what each step does to a sum over all letters, whatever the weight.
-use Rattle.std.proofs.Common.{◌≡◌, ℕ, ◌+◌, ◌/◌, ◌%◌, true, false, cond, List, [], ◌∷◌, ◌++◌, map, refl, sym, ◌∙◌, ap, subst, arith, Option, Some, None, Ok, Err, slice_get, slice_set}
+use Rattle.std.proofs.Common.{◌≡◌, ℕ, ◌+◌, ◌/◌, ◌%◌, true, false, List, [], ◌∷◌, ◌++◌, map, refl, sym, ◌∙◌, ap, subst, arith, Option, Some, None, Ok, Err, slice_get}
 use Rattle.std.specs.List.{find, last_or, sum_by, filter}
 use Rattle.std.specs.Option.{option_map, option_and_then}
 use Rattle.std.proofs.lemmas.List.Sums.{sum_by-cons, sum_by-append}
@@ -9,24 +9,26 @@ use Rattle.vt_key.specs.declared.letter.Letter.{Letter}
 use Rattle.vt_key.specs.declared.letter.Mail.{Mail}
 use Rattle.vt_key.specs.declared.letter.Sign.{Sign}
 use Rattle.vt_key.specs.declared.letter.Sign.TheVariants.{Plus, Minus}
-use Rattle.vt_key.specs.declared.fault.Fault.TheVariants.{NotLawful, Closed}
+use Rattle.vt_key.specs.declared.fault.Fault.TheVariants.{NotLawful}
 use Rattle.vt_model.specs.Simulation.{Simulation}
 use Rattle.vt_steps.specs.declared.step.Step.{Step}
 use Rattle.vt_steps.specs.declared.step.Step.TheVariants.{Execute, Undo, Cancel, Home, Send, Fetch, Accept, Cut, Report, Commit, Close}
 use Rattle.vt_steps.specs.declared.step.Reply.TheVariants.{Done}
 use Rattle.vt_steps.specs.Letters.{signed, stamped, unstamped, has_stamp, is_empty}
-use Rattle.vt_steps.specs.World.{Entry, LogicalProcess, Part, Board, World, process_at, triple_after}
+use Rattle.vt_steps.specs.World.{Entry, LogicalProcess, Part, Board, Book, World, process_at, triple_after}
 use Rattle.vt_steps.specs.ProcessSteps.{ProcessEffect, may_follow, must_undo, are_opposite, holds, effect_of_execute, effect_of_undo, execute_least, execute_process, undo_last, undo_process, cancel_process, accept_process}
-use Rattle.vt_steps.specs.PartSteps.{execute, undo, cancel, with_effect, at_process, is_for, deliver, home, home_letter, accept, accept_mail, part_after_send, mail_of_send, part_after_fetch, part_after_cut, report_sent, report_got, report_least, part_after_commit, rows_of_commit}
-use Rattle.vt_steps.specs.Next.{Outcome, refused, replied, done_or_refused, with_part, locally, may_send, send, fetch, cut, report, report_lawful, commit, close, unless_closed, next}
-use Rattle.vt_steps.specs.BoardSteps.{cut_board, may_report, with_report, board_after_report}
-use Rattle.vt_steps.specs.BookSteps.{may_commit, with_rows, may_close, closed_book}
+use Rattle.vt_steps.specs.PartSteps.{execute, undo, cancel, with_effect, at_process, is_for, deliver, home, home_letter, accept, accept_mail, part_after_send, mail_of_send, part_after_fetch, part_after_cut, report_least}
+use Rattle.vt_steps.specs.CellSteps.{CellEffect, may_send, send, fetch, cut, report, commit, close}
+use Rattle.vt_steps.specs.Next.{refused, done_or_refused, with_part, with_inbox, with_board, with_book, locally, at_cell, next}
+use Rattle.vt_steps.specs.BoardSteps.{cut_board, may_report}
+use Rattle.vt_steps.specs.BookSteps.{may_commit}
 use Rattle.vt_steps.specs.Copies.{letter_weight, mail_weight, part_sum, letter_sum}
 use Rattle.vt_steps.specs.Laws.{IsMessageExecuted, IsEventUndone, AreBothGone, AreLettersKept, AreLettersRight}
 use Rattle.vt_key.specs.Order.{key_same}
 use Rattle.vt_key.proofs.OrderLemmas.{key_same-true, stamp_same-true}
 use Rattle.vt_steps.proofs.Lists.{find-passes}
-use Rattle.vt_steps.proofs.Changes.{Leaves, homes, arrives, map_has, chain_has, if_has, unless_has}
+use Rattle.vt_steps.proofs.Changes.{Leaves, homes, arrives, map_has, chain_has, if_has, unless_has, empty_is}
+use Rattle.vt_steps.proofs.Outcomes.{locally-either, at_cell-either, done_or_refused-either, unless_closed-either}
 use Rattle.vt_steps.proofs.Sums.{sum_by-put, sum_by-single, sum_by-map, sum_by-filters}
 use Rattle.vt_steps.proofs.Balance.{ProcessBalance, PartBalance, execute-balance, undo-balance, cancel-balance, effect-balance, takes-balance, with_part-balance, commit-balance}
 
@@ -218,15 +220,9 @@ cancel-letters {P = P} sim world p stamp done =
 -- whatever a local step makes of the part, the letters are kept
 locally-kept : {P : Type 0} (world : World P) (w : ℕ) (step : Part P → Option (Part P)) →
     ((part new : Part P) → step part ≡ Some new → PartBalance part new [] [] [] []) → AreLettersKept world (locally world w step).world
-locally-kept {P = P} world w step kept = by_part (slice_get world.parts w) refl
-  where
-    by_new : (part : Part P) (o : Option (Part P)) → slice_get world.parts w ≡ Some part → step part ≡ o → AreLettersKept world (done_or_refused world (option_map (with_part world w) o)).world
-    by_new part None is takes = λ f. refl
-    by_new part (Some new) is takes = λ f. (let b = (with_part-balance world w part new _ _ _ _ is (kept part new takes)).letters f in omega arith)
-
-    by_part : (o : Option (Part P)) → slice_get world.parts w ≡ o → AreLettersKept world (done_or_refused world (option_map (with_part world w) (option_and_then step o))).world
-    by_part None is = λ f. refl
-    by_part (Some part) is = by_new part (step part) is refl
+locally-kept world w step kept =
+    locally-either world w step (λ o. AreLettersKept world o.world) (λ f. refl) (λ part new is takes f.
+    (let b = (with_part-balance world w part new _ _ _ _ is (kept part new takes)).letters f in omega arith))
 
 -- a letter that leaves the outbox or the arrived mail goes to its process
 deliver-balance : {S P : Type 0} (sim : Simulation S P) (w : ℕ) (old part new : Part P) (letter : Letter P) → Leaves sim w old part letter → deliver sim part letter ≡ Some new →
@@ -249,103 +245,81 @@ accept-balance : {S P : Type 0} (sim : Simulation S P) (w i : ℕ) (part new : P
 accept-balance sim w i part new None is e = absurd (let h : None ≡ Some new = e in cc)
 accept-balance sim w i part new (Some mail) is e = deliver-balance sim w part _ new mail.letter (arrives i mail is refl refl) e
 
+-- whatever is done at a cell, the letters are kept
+cell-kept : {P C : Type 0} (world : World P) (w : ℕ) (put : World P → C → World P) (step : Part P → C → Option (CellEffect P C)) (cell : Option C) →
+    ((part : Part P) (held : C) (effect : CellEffect P C) → slice_get world.parts w ≡ Some part → cell ≡ Some held → step part held ≡ Some effect →
+    AreLettersKept world (put (with_part world w effect.part) effect.cell)) →
+    AreLettersKept world (at_cell world w put step cell).world
+cell-kept world w put step cell kept = at_cell-either world w put step cell (λ o. AreLettersKept world o.world) (λ f. refl) kept
+
 -- the letters for v go from an outbox to an inbox
-send-kept : {S P : Type 0} (sim : Simulation S P) (world : World P) (w v : ℕ) (part : Option (Part P)) (inbox : Option (List (Mail P))) →
-    slice_get world.parts w ≡ part → slice_get world.inboxes v ≡ inbox → AreLettersKept world (done_or_refused world (send sim world w v part inbox)).world
+send-kept : {S P : Type 0} (sim : Simulation S P) (world : World P) (w v : ℕ) → AreLettersKept world (at_cell world w (with_inbox v) (send sim w v) (slice_get world.inboxes v)).world
 unfolding send letter_sum part_after_send mail_of_send
-send-kept sim world w v None inbox is holds f = refl
-send-kept sim world w v (Some part) None is holds f = refl
-send-kept {P = P} sim world w v (Some part) (Some inbox) is holds f =
-    elim (may_send sim w v part) as (λ b.
-    letter_sum f (done_or_refused world (cond b (Some (record world { parts = slice_set world.parts w (part_after_send sim v part); inboxes = slice_set world.inboxes v (inbox ++ mail_of_send sim v part) })) None)).world
-    ≡ letter_sum f world) [
-      | false ↦ refl
-      | true ↦
-          (let x = sum_by-put (part_sum f) world.parts w part (part_after_send sim v part) is in
-          let z = sum_by-put (sum_by (mail_weight f)) world.inboxes v inbox (inbox ++ mail_of_send sim v part) holds in
-          let a = sum_by-append (mail_weight f) inbox (mail_of_send sim v part) in
-          let b = sum_by-filters (letter_weight f) (is_for sim v) part.outbox in
-          let wrap : Letter P → Mail P = λ letter. record { letter = letter; colour = part.colour } in
-          let c = sum_by-map (mail_weight f) wrap (filter (is_for sim v) part.outbox) in
-          omega arith)
-    ]
+send-kept {P = P} sim world w v =
+    cell-kept world w (with_inbox v) (send sim w v) (slice_get world.inboxes v) (λ part inbox effect is holds e f.
+    (let has = if_has (may_send sim w v part) _ effect e in
+    let same = ap (λ (n : CellEffect P (List (Mail P))). letter_sum f (with_inbox v (with_part world w n.part) n.cell)) has.1 in
+    let x = sum_by-put (part_sum f) world.parts w part (part_after_send sim v part) is in
+    let z = sum_by-put (sum_by (mail_weight f)) world.inboxes v inbox (inbox ++ mail_of_send sim v part) holds in
+    let a = sum_by-append (mail_weight f) inbox (mail_of_send sim v part) in
+    let b = sum_by-filters (letter_weight f) (is_for sim v) part.outbox in
+    let wrap : Letter P → Mail P = λ letter. record { letter = letter; colour = part.colour } in
+    let c = sum_by-map (mail_weight f) wrap (filter (is_for sim v) part.outbox) in
+    omega arith))
 
 -- an inbox becomes what has arrived
-fetch-kept : {P : Type 0} (world : World P) (w : ℕ) (part : Option (Part P)) (inbox : Option (List (Mail P))) →
-    slice_get world.parts w ≡ part → slice_get world.inboxes w ≡ inbox → AreLettersKept world (done_or_refused world (fetch world w part inbox)).world
+fetch-kept : {P : Type 0} (world : World P) (w : ℕ) → AreLettersKept world (at_cell world w (with_inbox w) fetch (slice_get world.inboxes w)).world
 unfolding fetch letter_sum part_after_fetch
-fetch-kept world w None inbox is holds f = refl
-fetch-kept world w (Some part) None is holds f = refl
-fetch-kept {P = P} world w (Some part) (Some inbox) is holds f = by_arrived part.arrived refl
-  where
-    by_arrived : (mails : List (Mail P)) → part.arrived ≡ mails →
-        letter_sum f (done_or_refused world (cond (is_empty mails) (Some (record world { parts = slice_set world.parts w (part_after_fetch inbox part); inboxes = slice_set world.inboxes w [] })) None)).world
-        ≡ letter_sum f world
-    by_arrived (mail ∷ mails) some = refl
-    by_arrived [] none =
-        let empty : List (Mail P) = [] in
-        let x = sum_by-put (part_sum f) world.parts w part (part_after_fetch inbox part) is in
-        let z = sum_by-put (sum_by (mail_weight f)) world.inboxes w inbox empty holds in
-        let a = ap (sum_by (mail_weight f)) none in
-        omega arith
+fetch-kept {P = P} world w =
+    cell-kept world w (with_inbox w) fetch (slice_get world.inboxes w) (λ part inbox effect is holds e f.
+    (let has = if_has (is_empty part.arrived) _ effect e in
+    let same = ap (λ (n : CellEffect P (List (Mail P))). letter_sum f (with_inbox w (with_part world w n.part) n.cell)) has.1 in
+    let empty : List (Mail P) = [] in
+    let x = sum_by-put (part_sum f) world.parts w part (part_after_fetch inbox part) is in
+    let z = sum_by-put (sum_by (mail_weight f)) world.inboxes w inbox empty holds in
+    let a = ap (sum_by (mail_weight f)) (empty_is part.arrived has.0) in
+    omega arith))
 
 -- a part gives way to one with the same letters, and the inboxes stay
-part-kept : {P : Type 0} (old new : World P) (w : ℕ) (part after : Part P) → slice_get old.parts w ≡ Some part → new.parts ≡ slice_set old.parts w after → new.inboxes ≡ old.inboxes →
-    ((f : Sign → Event P → ℕ) → part_sum f after ≡ part_sum f part) → AreLettersKept old new
+part-kept : {P C : Type 0} (world : World P) (w : ℕ) (put : World P → C → World P) (step : Part P → C → Option (CellEffect P C)) (cell : Option C) →
+    ((new : World P) (c : C) → (put new c).parts ≡ new.parts) → ((new : World P) (c : C) → (put new c).inboxes ≡ new.inboxes) →
+    ((part : Part P) (held : C) (effect : CellEffect P C) → step part held ≡ Some effect → (f : Sign → Event P → ℕ) → part_sum f effect.part ≡ part_sum f part) →
+    AreLettersKept world (at_cell world w put step cell).world
 unfolding letter_sum
-part-kept old new w part after is parts inboxes same f =
-    let x = sum_by-put (part_sum f) old.parts w part after is in
-    let y = ap (sum_by (part_sum f)) parts in
-    let z = ap (sum_by (sum_by (mail_weight f))) inboxes in
-    let e = same f in
-    omega arith
+part-kept world w put step cell parts inboxes kept =
+    cell-kept world w put step cell (λ part held effect is holds e f.
+    (let new = with_part world w effect.part in
+    let x = sum_by-put (part_sum f) world.parts w part effect.part is in
+    let y = ap (sum_by (part_sum f)) (parts new effect.cell) in
+    let z = ap (sum_by (sum_by (mail_weight f))) (inboxes new effect.cell) in
+    let same = kept part held effect e f in
+    omega arith))
 
-cut-kept : {S P : Type 0} (sim : Simulation S P) (world : World P) (w : ℕ) (part : Option (Part P)) (board : Option Board) → slice_get world.parts w ≡ part →
-    AreLettersKept world (done_or_refused world (cut sim world w part board)).world
+cut-kept : {S P : Type 0} (sim : Simulation S P) (world : World P) (w : ℕ) → AreLettersKept world (at_cell world w with_board (cut sim w) (Some world.board)).world
 unfolding cut part_after_cut
-cut-kept sim world w None board is f = refl
-cut-kept sim world w (Some part) None is f = refl
-cut-kept sim world w (Some part) (Some board) is f = part-kept world _ w part (part_after_cut sim.end world.board.announced part) is refl refl (λ g. refl) f
+cut-kept {P = P} sim world w =
+    part-kept world w with_board (cut sim w) (Some world.board) (λ new c. refl) (λ new c. refl) (λ part board effect e f.
+    ap (λ (n : CellEffect P Board). part_sum f n.part) (map_has _ (cut_board sim.end w board) effect e).2)
 
-report-kept : {S P : Type 0} (sim : Simulation S P) (world : World P) (w : ℕ) (part : Option (Part P)) → slice_get world.parts w ≡ part →
-    AreLettersKept world (report sim world w part).world
-unfolding report report_lawful
-report-kept sim world w None is f = refl
-report-kept sim world w (Some part) is f =
-    let board = with_report w (report_sent part) (report_got part) (report_least sim.end part) world.board in
-    elim (may_report w (report_least sim.end part) world.board) as (λ b.
-    letter_sum f (let outcome : Outcome _ = cond b (report_lawful sim world w part board) (refused world NotLawful) in outcome.world) ≡ letter_sum f world) [
-      | false ↦ refl
-      | true ↦ part-kept world (report_lawful sim world w part board).world w part (record part { floor = (board_after_report sim.end board).announced }) is refl refl (λ g. refl) f
-    ]
+report-kept : {S P : Type 0} (sim : Simulation S P) (world : World P) (w : ℕ) → AreLettersKept world (at_cell world w with_board (report sim w) (Some world.board)).world
+unfolding report
+report-kept {P = P} sim world w =
+    part-kept world w with_board (report sim w) (Some world.board) (λ new c. refl) (λ new c. refl) (λ part board effect e f.
+    ap (λ (n : CellEffect P Board). part_sum f n.part) (if_has (may_report w (report_least sim.end part) board) _ effect e).1)
 
-commit-kept : {S P : Type 0} (sim : Simulation S P) (world : World P) (w : ℕ) (part : Option (Part P)) → slice_get world.parts w ≡ part →
-    AreLettersKept world (commit sim world w part).world
+commit-kept : {S P : Type 0} (sim : Simulation S P) (world : World P) (w : ℕ) → AreLettersKept world (at_cell world w with_book (commit sim w) (Some world.book)).world
 unfolding commit
-commit-kept sim world w None is f = refl
-commit-kept {P = P} sim world w (Some part) is f =
-    let new : World P = record world { parts = slice_set world.parts w (part_after_commit part); book = with_rows w (rows_of_commit sim w part) part.floor world.book } in
-    elim (may_commit (slice_get world.book.floors w) part.floor) as (λ b.
-    letter_sum f (let outcome : Outcome P = cond b (replied new Done) (refused world NotLawful) in outcome.world) ≡ letter_sum f world) [
-      | false ↦ refl
-      | true ↦ part-kept world new w part (part_after_commit part) is refl refl (λ g. (let b = (commit-balance part).letters g in omega arith)) f
-    ]
+commit-kept {P = P} sim world w =
+    part-kept world w with_book (commit sim w) (Some world.book) (λ new c. refl) (λ new c. refl) (λ part book effect e f.
+    (let same = ap (λ (n : CellEffect P Book). part_sum f n.part) (if_has (may_commit (slice_get book.floors w) part.floor) _ effect e).1 in
+    let b = (commit-balance part).letters f in
+    omega arith))
 
-close-kept : {S P : Type 0} (sim : Simulation S P) (world : World P) → AreLettersKept world (close sim world).world
-unfolding close letter_sum
-close-kept {P = P} sim world f =
-    elim (may_close sim.end world.book) as (λ b.
-    letter_sum f (let outcome : Outcome P = cond b (replied (record world { book = closed_book world.book }) Done) (refused world NotLawful) in outcome.world) ≡ letter_sum f world) [
-      | false ↦ refl
-      | true ↦ refl
-    ]
-
-unless-kept : {P : Type 0} (world : World P) (outcome : Outcome P) → AreLettersKept world outcome.world → AreLettersKept world (unless_closed world outcome).world
-unless-kept {P = P} world outcome kept f =
-    elim (world.book.is_closed) as (λ b. letter_sum f (let o : Outcome P = cond b (refused world Closed) outcome in o.world) ≡ letter_sum f world) [
-      | true ↦ refl
-      | false ↦ kept f
-    ]
+close-kept : {S P : Type 0} (sim : Simulation S P) (world : World P) → AreLettersKept world (done_or_refused world (option_map (with_book world) (close sim world.book))).world
+unfolding letter_sum
+close-kept sim world =
+    done_or_refused-either world (option_map (with_book world) (close sim world.book)) (λ o. AreLettersKept world o.world) (λ f. refl) (λ new e f.
+    ap (letter_sum f) (map_has (with_book world) (close sim world.book) new e).2)
 
 moves-kept : {S P : Type 0} (sim : Simulation S P) (world : World P) (step : Step) → ((p : ℕ) → step ≡ Execute p → ⊥) → ((p : ℕ) → step ≡ Undo p → ⊥) →
     ((p : ℕ) (stamp : Stamp) → step ≡ Cancel p stamp → ⊥) → AreLettersKept world (next sim world step).world
@@ -355,12 +329,12 @@ moves-kept sim world (Undo p) x u c = absurd (u p refl)
 moves-kept sim world (Cancel p stamp) x u c = absurd (c p stamp refl)
 moves-kept sim world (Home w) x u c = locally-kept world w (home sim w) (λ part new e. home-balance sim w part new (find (is_for sim w) part.outbox) refl e)
 moves-kept sim world (Accept w i) x u c = locally-kept world w (accept sim i) (λ part new e. accept-balance sim w i part new (slice_get part.arrived i) refl e)
-moves-kept sim world (Send w v) x u c = send-kept sim world w v (slice_get world.parts w) (slice_get world.inboxes v) refl refl
-moves-kept sim world (Fetch w) x u c = fetch-kept world w (slice_get world.parts w) (slice_get world.inboxes w) refl refl
-moves-kept sim world (Cut w) x u c = cut-kept sim world w (slice_get world.parts w) (cut_board sim.end w world.board) refl
-moves-kept sim world (Report w) x u c = report-kept sim world w (slice_get world.parts w) refl
-moves-kept sim world (Commit w) x u c = unless-kept world (commit sim world w (slice_get world.parts w)) (commit-kept sim world w (slice_get world.parts w) refl)
-moves-kept sim world Close x u c = unless-kept world (close sim world) (close-kept sim world)
+moves-kept sim world (Send w v) x u c = send-kept sim world w v
+moves-kept sim world (Fetch w) x u c = fetch-kept world w
+moves-kept sim world (Cut w) x u c = cut-kept sim world w
+moves-kept sim world (Report w) x u c = report-kept sim world w
+moves-kept sim world (Commit w) x u c = unless_closed-either world.book (refused world) _ (λ o. AreLettersKept world o.world) (λ shut f. refl) (λ is_open. commit-kept sim world w)
+moves-kept sim world Close x u c = unless_closed-either world.book (refused world) _ (λ o. AreLettersKept world o.world) (λ shut f. refl) (λ is_open. close-kept sim world)
 
 pub letters_right : {S P : Type 0} (sim : Simulation S P) (world : World P) → AreLettersRight sim world
 letters_right sim world = record {

@@ -2,7 +2,9 @@ pub mod Lists
 pub mod Places
 pub mod Sums
 pub mod Stamped
+pub mod Outcomes
 pub mod Changes
+pub mod CellSteps
 pub mod Shape
 pub mod Balance
 pub mod Everywhere

@@ -1,25 +1,21 @@
 -- What the steps of one worker do to its part and to one cell they do in every world that has these two: local steps, and then
 -- one step at the cell. So they may stand last, whatever the other workers did since the first of them.
-use Rattle.std.proofs.Common.{◌≡◌, ℕ, ◌%◌, Bool, true, false, cond, List, [], ◌∷◌, ◌++◌, map, refl, sym, ◌∙◌, ap, subst, Option, Some, None, Ok, slice_get, slice_set}
+use Rattle.std.proofs.Common.{◌≡◌, ℕ, ◌%◌, true, false, List, [], ◌∷◌, ◌++◌, map, refl, sym, ◌∙◌, ap, subst, Option, Some, None, Ok, slice_get, slice_set}
 use Rattle.std.specs.Option.{option_map, is_none}
-use Rattle.std.proofs.lemmas.List.{append-nil}
-use Rattle.vt_key.specs.declared.letter.Mail.{Mail}
 use Rattle.vt_model.specs.Simulation.{Simulation}
 use Rattle.vt_steps.specs.declared.step.Step.{Step}
 use Rattle.vt_steps.specs.declared.step.Step.TheVariants.{Execute, Undo, Cancel, Home, Send, Fetch, Accept, Cut, Report, Commit, Close}
 use Rattle.vt_steps.specs.declared.step.Reply.{Reply}
 use Rattle.vt_steps.specs.declared.step.Reply.TheVariants.{Done}
-use Rattle.vt_steps.specs.BoardSteps.{cut_board, may_report, with_report}
-use Rattle.vt_steps.specs.BookSteps.{may_commit, with_rows, may_close, closed_book}
-use Rattle.vt_steps.specs.Cells.{CellName, inbox_of, board_cell, book_cell, Cell, in_inbox, on_board, in_book, content, with_content, worker_of, cell_of, is_local, Acted, left_alone, acted_locally, act_cut, act_report, on_open_book, act, put_back}
+use Rattle.vt_steps.specs.Cells.{CellName, inbox_of, board_cell, book_cell, Cell, in_inbox, on_board, in_book, content, with_content, worker_of, cell_of, Acted, left_alone, acted_locally, acted_at, acted_close, act, put_back}
 use Rattle.vt_steps.specs.Laws.{IsAny, IsRefused, ActsOnOneCell}
-use Rattle.vt_steps.specs.Letters.{is_empty}
-use Rattle.vt_steps.specs.Marked.{Marked, Made, Answered, answered, unmarked, marked, made_done, Each, IsMarkedRight, own_steps, LeadsLocally, LeadLocally, DoesSo, Leads}
-use Rattle.vt_steps.specs.Next.{Outcome, next, run, close, may_send}
-use Rattle.vt_steps.specs.PartSteps.{execute, undo, cancel, home, accept, part_after_send, mail_of_send, part_after_fetch, part_after_commit, report_sent, report_got, report_least, rows_of_commit}
-use Rattle.vt_steps.specs.World.{Part, Board, Book, World}
+use Rattle.vt_steps.specs.Marked.{Marked, Made, Answered, answered, unmarked, marked, made_done, Each, IsMarkedRight, own_steps, LeadLocally, DoesSo, Leads}
+use Rattle.vt_steps.specs.CellSteps.{CellEffect, send, fetch, cut, report, commit, close}
+use Rattle.vt_steps.specs.Next.{next, run, refused, with_book}
+use Rattle.vt_steps.specs.World.{Part, Book, World}
 use Rattle.vt_steps.proofs.CellLemmas.{next-acts_on_one_cell}
 use Rattle.vt_steps.proofs.Changes.{map_has}
+use Rattle.vt_steps.proofs.Outcomes.{done_or_refused-either, unless_closed-either}
 use Rattle.vt_steps.proofs.MarkedRuns.{each-append, marked-append, own-append, own-first, steps-append, unmarked-marked}
 use Rattle.vt_steps.proofs.Places.{get-put_same, get-put_other}
 
@@ -42,14 +38,13 @@ module _ {S P : Type 0} (sim : Simulation S P) where
   locally-kind part cell None = same-kind cell
   locally-kind part cell (Some new) = same-kind cell
 
-  cut-kind : (part : Part P) (board : Board) (o : Option Board) → AreOneKind {P = P} (on_board board) (act_cut sim part board o).cell
-  cut-kind part board None = tt
-  cut-kind part board (Some new) = tt
+  cell-kind : {C : Type 0} (part : Part P) (kind : C → Cell P) (held : C) (o : Option (CellEffect P C)) → ((a b : C) → AreOneKind (kind a) (kind b)) → AreOneKind (kind held) (acted_at part kind held o).cell
+  cell-kind part kind held None same = same held held
+  cell-kind part kind held (Some effect) same = same held effect.cell
 
-  -- of two outcomes
-  either-kind : (cell : Cell P) (b : Bool) (x y : Acted P) → AreOneKind cell x.cell → AreOneKind cell y.cell → AreOneKind cell (let z : Acted P = cond b x y in z.cell)
-  either-kind cell true x y h k = h
-  either-kind cell false x y h k = k
+  close-kind : (part : Part P) (book : Book) (o : Option Book) → AreOneKind (in_book book) (acted_close part book o).cell
+  close-kind part book None = tt
+  close-kind part book (Some new) = tt
 
   -- a step leaves an inbox an inbox, the board the board, and the book the book
   pub act-kind : (step : Step) (part : Part P) (cell : Cell P) → AreOneKind cell (act sim step part cell).cell
@@ -59,26 +54,26 @@ module _ {S P : Type 0} (sim : Simulation S P) where
   act-kind (Cancel p stamp) part cell = locally-kind part cell _
   act-kind (Home w) part cell = locally-kind part cell _
   act-kind (Accept w i) part cell = locally-kind part cell _
-  act-kind (Send w v) part (in_inbox inbox) = either-kind (in_inbox inbox) (may_send sim w v part) _ _ tt tt
+  act-kind (Send w v) part (in_inbox inbox) = cell-kind part in_inbox inbox (send sim w v part inbox) (λ a b. tt)
   act-kind (Send w v) part (on_board board) = tt
   act-kind (Send w v) part (in_book book) = tt
-  act-kind (Fetch w) part (in_inbox inbox) = either-kind (in_inbox inbox) (is_empty part.arrived) _ _ tt tt
+  act-kind (Fetch w) part (in_inbox inbox) = cell-kind part in_inbox inbox (fetch part inbox) (λ a b. tt)
   act-kind (Fetch w) part (on_board board) = tt
   act-kind (Fetch w) part (in_book book) = tt
   act-kind (Cut w) part (in_inbox inbox) = tt
-  act-kind (Cut w) part (on_board board) = cut-kind part board (cut_board sim.end w board)
+  act-kind (Cut w) part (on_board board) = cell-kind part on_board board (cut sim w part board) (λ a b. tt)
   act-kind (Cut w) part (in_book book) = tt
   act-kind (Report w) part (in_inbox inbox) = tt
-  act-kind (Report w) part (on_board board) = either-kind (on_board board) (may_report w (report_least sim.end part) board) _ _ tt tt
+  act-kind (Report w) part (on_board board) = cell-kind part on_board board (report sim w part board) (λ a b. tt)
   act-kind (Report w) part (in_book book) = tt
   act-kind (Commit w) part (in_inbox inbox) = tt
   act-kind (Commit w) part (on_board board) = tt
   act-kind (Commit w) part (in_book book) =
-      either-kind (in_book book) book.is_closed _ _ tt (either-kind (in_book book) (may_commit (slice_get book.floors w) part.floor) _ _ tt tt)
+      unless_closed-either book (left_alone part (in_book book)) _ (λ a. AreOneKind (in_book book) a.cell) (λ shut. tt) (λ is_open. cell-kind part in_book book (commit sim w part book) (λ a b. tt))
   act-kind Close part (in_inbox inbox) = tt
   act-kind Close part (on_board board) = tt
   act-kind Close part (in_book book) =
-      either-kind (in_book book) book.is_closed _ _ tt (either-kind (in_book book) (may_close sim.end book) _ _ tt tt)
+      unless_closed-either book (left_alone part (in_book book)) _ (λ a. AreOneKind (in_book book) a.cell) (λ shut. tt) (λ is_open. close-kind part book (close sim book))
 
 -- ---- a cell that is put back
 
@@ -243,13 +238,12 @@ module _ {S P : Type 0} (sim : Simulation S P) where
   no-worker_close (Report w) none = absurd (let h : Some w ≡ None = none in cc)
   no-worker_close (Commit w) none = absurd (let h : Some w ≡ None = none in cc)
 
-  either-parts : (b : Bool) (world : World P) (x y : Outcome P) → x.world.parts ≡ world.parts → y.world.parts ≡ world.parts → (let z : Outcome P = cond b x y in z.world.parts) ≡ world.parts
-  either-parts true world x y h k = h
-  either-parts false world x y h k = k
-
   close-parts : (world : World P) → (next sim world Close).world.parts ≡ world.parts
-  unfolding next close
-  close-parts world = either-parts world.book.is_closed world _ _ refl (either-parts (may_close sim.end world.book) world _ _ refl refl)
+  unfolding next
+  close-parts world =
+      unless_closed-either world.book (refused world) _ (λ o. o.world.parts ≡ world.parts) (λ shut. refl)
+      (λ is_open. done_or_refused-either world (option_map (with_book world) (close sim world.book)) (λ o. o.world.parts ≡ world.parts) refl (λ new e.
+      ap (λ (n : World P). n.parts) (map_has (with_book world) (close sim world.book) new e).2))
 
   -- a step changes no part but that of the worker that makes it
   pub others-part : (world : World P) (step : Step) (w q : ℕ) → IsAny (worker_of sim step) w → ¬ (q ≡ w) → slice_get (next sim world step).world.parts q ≡ slice_get world.parts q

@@ -11,7 +11,7 @@ use Rattle.vt_steps.specs.declared.step.Step.{Step}
 use Rattle.vt_steps.specs.Letters.{Counts, is_colour, count_of, raised, count_colour}
 use Rattle.vt_steps.specs.World.{Part, World}
 use Rattle.vt_steps.specs.PartSteps.{letters_for, part_after_send, mail_of_send, part_after_fetch, part_after_cut, part_after_commit}
-use Rattle.vt_steps.specs.Next.{next, report_lawful}
+use Rattle.vt_steps.specs.Next.{next}
 use Rattle.vt_steps.specs.Laws.{IsMailKept}
 use Rattle.vt_steps.proofs.Sums.{sum_by-put}
 use Rattle.vt_steps.proofs.Changes.{Leaves, homes, arrives, Local, acts, takes, Change, stays, local, sends, fetches, cuts, reports, commits, closes, next_changes}
@@ -119,7 +119,7 @@ still-kept {P = P} old new parts inboxes c =
     omega arith
 
 change-mail_kept : {S P : Type 0} (sim : Simulation S P) (old new : World P) → Change sim old new → IsMailKept old new
-unfolding part_after_cut part_after_commit report_lawful
+unfolding part_after_cut part_after_commit
 change-mail_kept sim old new (stays e) = still-kept old new (ap (λ n. n.parts) e) (ap (λ n. n.inboxes) e)
 change-mail_kept sim old new (local w part after is change e) = part-kept old new w part after is (local-same_mail sim w part after change) (ap (λ n. n.parts) e) (ap (λ n. n.inboxes) e)
 change-mail_kept sim old new (sends w v part inbox is holds e) = send-kept sim old new w v part inbox is holds (ap (λ n. n.parts) e) (ap (λ n. n.inboxes) e)

@@ -1,11 +1,11 @@
 -- Runs of marked steps: one list and then another, and what a worker's own steps leave alone.
-use Rattle.std.proofs.Common.{◌≡◌, ℕ, Bool, true, false, cond, List, [], ◌∷◌, ◌++◌, map, refl, sym, ◌∙◌, ap, subst, arith, inl, inr, ◌⊎◌, nat_eq}
+use Rattle.std.proofs.Common.{◌≡◌, ℕ, Bool, true, false, cond, List, [], ◌∷◌, ◌++◌, refl, sym, ◌∙◌, ap, subst, nat_eq}
 use Rattle.std.proofs.Common.{eq-eqb, ne_eqb}
 use Rattle.std.proofs.lemmas.List.{append_assoc, append-nil}
 use Rattle.vt_model.specs.Simulation.{Simulation}
 use Rattle.vt_steps.specs.declared.step.Step.{Step}
-use Rattle.vt_steps.specs.Marked.{Marked, Made, Answered, answered, unmarked, marked, Each, IsMarkedRight, own_steps, shown, own_steps_of}
-use Rattle.vt_steps.specs.Next.{Outcome, next, run, reached}
+use Rattle.vt_steps.specs.Marked.{Marked, Answered, unmarked, marked, Each, IsMarkedRight, own_steps, shown}
+use Rattle.vt_steps.specs.Next.{next, run}
 use Rattle.vt_steps.specs.World.{World, opening_world}
 
 -- ---- lists

@@ -1,22 +1,22 @@
 -- What a closed book and a close tell: a worker that closed the book has closed it for good; where it is closed each worker's
 -- floor is the end of the run; and a close is refused only where the book's floor is below the end.
-use Rattle.std.proofs.Common.{◌≡◌, ◌⊎◌, inl, inr, ℕ, ◌<◌, ◌≤◌, Bool, true, false, cond, ◌||◌, List, [], ◌∷◌, ◌++◌, length, refl, sym, ◌∙◌, ap, subst, arith, Option, Some, None, Ok, Err, slice_get, nat_eq}
-use Rattle.std.specs.List.{list_any}
+use Rattle.std.proofs.Common.{◌≡◌, inl, inr, ℕ, true, false, cond, List, [], ◌∷◌, ◌++◌, sym, ◌∙◌, ap, arith, Some, slice_get, nat_eq}
+use Rattle.std.specs.Option.{option_map}
 use Rattle.std.proofs.lemmas.List.Folds.{list_any-append}
 use Rattle.std.proofs.lemmas.Bool.Decides.{nat_tests}
 use Rattle.std.proofs.lemmas.Option.{slice_get_within}
-use Rattle.vt_key.specs.Times.{Time, TimeAtMost, TimeBefore, time_same}
-use Rattle.vt_key.specs.declared.fault.Fault.TheVariants.{NotLawful, Closed}
+use Rattle.vt_key.specs.Times.{TimeAtMost, TimeBefore, time_same}
 use Rattle.vt_model.specs.Histories.{IsLawful}
 use Rattle.vt_model.specs.Simulation.{Simulation}
 use Rattle.vt_steps.specs.declared.step.Step.{Step}
 use Rattle.vt_steps.specs.declared.step.Step.TheVariants.{Execute, Undo, Cancel, Home, Send, Fetch, Accept, Cut, Report, Commit, Close}
-use Rattle.vt_steps.specs.declared.step.Reply.{Reply}
-use Rattle.vt_steps.specs.declared.step.Reply.TheVariants.{Done}
-use Rattle.vt_steps.specs.BookSteps.{may_close, closed_book}
+use Rattle.vt_steps.specs.BookSteps.{may_close}
 use Rattle.vt_steps.specs.Marked.{Marked, Answered, unmarked, Each, IsMarkedRight, own_steps, shown, own_steps_of, is_close_done, has_closed}
-use Rattle.vt_steps.specs.Next.{Outcome, next, run, refused, replied, close, unless_closed}
+use Rattle.vt_steps.specs.CellSteps.{close}
+use Rattle.vt_steps.specs.Next.{Outcome, next, run, refused, with_book}
 use Rattle.vt_steps.specs.World.{Part, World, opening_world, book_floor}
+use Rattle.vt_steps.proofs.Changes.{if_has, map_has}
+use Rattle.vt_steps.proofs.Outcomes.{done_or_refused-either, unless_closed-either}
 use Rattle.vt_steps.proofs.Floors.{reached-times, floor-announced, floor-at}
 use Rattle.vt_steps.proofs.MarkedRuns.{own-keeps}
 use Rattle.vt_steps.proofs.Places.{get-within}
@@ -24,21 +24,18 @@ use Rattle.vt_steps.proofs.ReachedBooks.{closed-stays}
 use Rattle.vt_steps.proofs.Tests.{either_passes}
 
 module _ {S P : Type 0} (sim : Simulation S P) where
+  abbrev Closes : Outcome P → Type 0
+  Closes o = is_close_done Close o.answer ≡ true → o.world.book.is_closed ≡ true
+
   -- a close that is done closes the book
   close-closes : (world : World P) → is_close_done Close (next sim world Close).answer ≡ true → (next sim world Close).world.book.is_closed ≡ true
   unfolding next close
-  close-closes world done =
-      elim world.book.is_closed as (λ b.
-      is_close_done Close (let o : Outcome P = cond b (refused world Closed) (cond (may_close sim.end world.book) (replied (record world { book = closed_book world.book }) Done) (refused world NotLawful)) in o.answer) ≡ true →
-      (let o : Outcome P = cond b (refused world Closed) (cond (may_close sim.end world.book) (replied (record world { book = closed_book world.book }) Done) (refused world NotLawful)) in o.world.book.is_closed) ≡ true) [
-        | true ↦ λ h. absurd (let k : false ≡ true = h in cc)
-        | false ↦ elim (may_close sim.end world.book) as (λ b.
-            is_close_done Close (let o : Outcome P = cond b (replied (record world { book = closed_book world.book }) Done) (refused world NotLawful) in o.answer) ≡ true →
-            (let o : Outcome P = cond b (replied (record world { book = closed_book world.book }) Done) (refused world NotLawful) in o.world.book.is_closed) ≡ true) [
-              | true ↦ λ h. refl
-              | false ↦ λ h. absurd (let k : false ≡ true = h in cc)
-            ]
-      ] done
+  close-closes world =
+      unless_closed-either world.book (refused world) _ Closes (λ shut done. absurd (let k : false ≡ true = done in cc))
+      (λ is_open. done_or_refused-either world (option_map (with_book world) (close sim world.book)) Closes (λ done. absurd (let k : false ≡ true = done in cc)) (λ new e done.
+      (let at = map_has (with_book world) (close sim world.book) new e in
+      let has = if_has (may_close sim.end world.book) _ at.0 at.1 in
+      ap (λ (n : World P). n.book.is_closed) (at.2 ∙ ap (with_book world) has.1))))
 
   -- a step that is a close that was done closes the book
   close-step : (world : World P) (step : Step) → is_close_done step (next sim world step).answer ≡ true → (next sim world step).world.book.is_closed ≡ true

@@ -1,12 +1,9 @@
 -- A worker that has cut in the open round has cut since it was last told of an announcement: so its cut is refused only then.
-use Rattle.std.proofs.Common.{◌≡◌, ◌⊎◌, inl, inr, ℕ, zero, suc, ◌+◌, ◌<◌, ◌≤◌, Bool, true, false, cond, not, List, [], ◌∷◌, ◌++◌, length, replicate, refl, sym, ◌∙◌, ap, subst, arith, Option, Some, None, Result, Ok, Err, slice_get, slice_set, nat_eq, eq-eqb, ne_eqb}
-use Rattle.std.specs.Option.{option_map, option_and_then}
-use Rattle.std.proofs.lemmas.List.{append-nil}
+use Rattle.std.proofs.Common.{◌≡◌, inl, inr, ℕ, zero, suc, ◌+◌, ◌<◌, Bool, true, false, cond, List, [], ◌∷◌, ◌++◌, length, replicate, refl, sym, ◌∙◌, ap, subst, arith, Option, Some, None, Result, Ok, slice_get, slice_set, nat_eq}
+use Rattle.std.specs.Option.{option_map}
 use Rattle.std.proofs.lemmas.Bool.Decides.{eqb_tells}
 use Rattle.vt_key.specs.Times.{Time, opening_time}
 use Rattle.vt_key.specs.declared.fault.Fault.{Fault}
-use Rattle.vt_key.specs.declared.fault.Fault.TheVariants.{NotLawful, Closed}
-use Rattle.vt_key.specs.declared.letter.Mail.{Mail}
 use Rattle.vt_model.specs.Histories.{IsLawful}
 use Rattle.vt_model.specs.Simulation.{Simulation}
 use Rattle.vt_steps.specs.declared.step.Step.{Step}
@@ -14,16 +11,16 @@ use Rattle.vt_steps.specs.declared.step.Step.TheVariants.{Execute, Undo, Cancel,
 use Rattle.vt_steps.specs.declared.step.Reply.{Reply}
 use Rattle.vt_steps.specs.declared.step.Reply.TheVariants.{Done, Waiting, Again, Announced}
 use Rattle.vt_steps.specs.BoardSteps.{all_set, is_clear, with_open_round, cut_board, may_report, with_report, after_pass, board_after_report, report_reply}
-use Rattle.vt_steps.specs.BookSteps.{may_commit, may_close}
 use Rattle.vt_steps.specs.Cells.{worker_of}
 use Rattle.vt_steps.specs.Laws.{IsAny}
-use Rattle.vt_steps.specs.Letters.{is_empty}
 use Rattle.vt_steps.specs.Marked.{Marked, Answered, unmarked, Each, IsMarkedRight, own_steps, shown, own_steps_of, cut_by_now, has_cut_since}
-use Rattle.vt_steps.specs.Next.{Outcome, next, run, refused, replied, done_or_refused, with_part, locally, may_send, send, fetch, cut, report, report_lawful, commit, close, unless_closed}
+use Rattle.vt_steps.specs.CellSteps.{CellEffect, send, fetch, cut, report, commit, close}
+use Rattle.vt_steps.specs.Next.{Outcome, next, refused, with_part, with_inbox, with_board, with_book, effect_in, at_cell}
 use Rattle.vt_steps.specs.PartSteps.{report_sent, report_got, report_least}
-use Rattle.vt_steps.specs.World.{Part, Board, World, opening_world, opening_board}
-use Rattle.vt_steps.proofs.Changes.{if_has}
-use Rattle.vt_steps.proofs.Flags.{none-set, clear-is}
+use Rattle.vt_steps.specs.World.{Part, Board, World, opening_world}
+use Rattle.vt_steps.proofs.Changes.{if_has, map_has}
+use Rattle.vt_steps.proofs.Outcomes.{at_cell-either, done_or_refused-either, unless_closed-either}
+use Rattle.vt_steps.proofs.Flags.{none-set}
 use Rattle.vt_steps.proofs.Floors.{reached-times}
 use Rattle.vt_steps.proofs.Locals.{local-changes_one_part}
 use Rattle.vt_steps.proofs.MarkedRuns.{own-keeps}
@@ -39,39 +36,6 @@ data OnBoard {P : Type 0} (end : Time) (old : Board) (step : Step) (outcome : Ou
   cuts : (v : ℕ) → step ≡ Cut v → cut_board end v old ≡ Some outcome.world.board → outcome.answer ≡ Ok Done → OnBoard end old step outcome
   reports : old.is_open ≡ true → outcome.world.board.has_cut ≡ old.has_cut →
       (outcome.world.board.is_open ≡ true → (so_far : Bool) → cut_by_now so_far step outcome.answer ≡ so_far) → OnBoard end old step outcome
-
-module _ {P : Type 0} where
-  -- what is done elsewhere
-  done-board : (world : World P) (o : Option (World P)) → ((new : World P) → o ≡ Some new → new.board ≡ world.board) → (done_or_refused world o).world.board ≡ world.board
-  done-board world None same = refl
-  done-board world (Some new) same = same new refl
-
-  send-board : {S : Type 0} (sim : Simulation S P) (world : World P) (w v : ℕ) (part : Option (Part P)) (inbox : Option (List (Mail P))) (new : World P) →
-      send sim world w v part inbox ≡ Some new → new.board ≡ world.board
-  unfolding send
-  send-board sim world w v None inbox new e = absurd (let h : None ≡ Some new = e in cc)
-  send-board sim world w v (Some part) None new e = absurd (let h : None ≡ Some new = e in cc)
-  send-board sim world w v (Some part) (Some inbox) new e = ap (λ (n : World P). n.board) (if_has (may_send sim w v part) _ new e).1
-
-  fetch-board : (world : World P) (w : ℕ) (part : Option (Part P)) (inbox : Option (List (Mail P))) (new : World P) → fetch world w part inbox ≡ Some new → new.board ≡ world.board
-  unfolding fetch
-  fetch-board world w None inbox new e = absurd (let h : None ≡ Some new = e in cc)
-  fetch-board world w (Some part) None new e = absurd (let h : None ≡ Some new = e in cc)
-  fetch-board world w (Some part) (Some inbox) new e = ap (λ (n : World P). n.board) (if_has (is_empty part.arrived) _ new e).1
-
-  -- one of two outcomes
-  either-board : (b : Bool) (world : World P) (x y : Outcome P) → x.world.board ≡ world.board → y.world.board ≡ world.board → (let z : Outcome P = cond b x y in z.world.board) ≡ world.board
-  either-board true world x y h k = h
-  either-board false world x y h k = k
-
-  commit-board : {S : Type 0} (sim : Simulation S P) (world : World P) (w : ℕ) (part : Option (Part P)) → (commit sim world w part).world.board ≡ world.board
-  unfolding commit
-  commit-board sim world w None = refl
-  commit-board sim world w (Some part) = either-board (may_commit (slice_get world.book.floors w) part.floor) world _ _ refl refl
-
-  close-board : {S : Type 0} (sim : Simulation S P) (world : World P) → (close sim world).world.board ≡ world.board
-  unfolding close
-  close-board sim world = either-board (may_close sim.end world.book) world _ _ refl refl
 
 -- a report leaves who has cut
 report-has_cut : (end : Time) (board : Board) → (board_after_report end board).has_cut ≡ board.has_cut
@@ -104,24 +68,31 @@ report-open end board v is_open so_far =
     ] is_open
 
 module _ {S P : Type 0} (sim : Simulation S P) where
-  cut-board : (world : World P) (v : ℕ) (part : Option (Part P)) (board : Option Board) → cut_board sim.end v world.board ≡ board →
-      OnBoard sim.end world.board (Cut v) (done_or_refused world (cut sim world v part board))
-  unfolding cut
-  cut-board world v None board is = stays refl (λ so_far. refl)
-  cut-board world v (Some part) None is = stays refl (λ so_far. refl)
-  cut-board world v (Some part) (Some board) is = cuts v refl is refl
+  -- a step at another cell than the board, which is no news to its worker
+  elsewhere : {C : Type 0} (world : World P) (step : Step) (w : ℕ) (put : World P → C → World P) (does : Part P → C → Option (CellEffect P C)) (cell : Option C) →
+      ((answer : Result Reply Fault) (so_far : Bool) → cut_by_now so_far step answer ≡ so_far) → ((new : World P) (c : C) → (put new c).board ≡ new.board) →
+      OnBoard sim.end world.board step (at_cell world w put does cell)
+  elsewhere world step w put does cell no_news leaves =
+      at_cell-either world w put does cell (OnBoard sim.end world.board step) (stays refl (no_news _)) (λ part held effect is holds e.
+      stays (leaves (with_part world w effect.part) effect.cell) (no_news _))
 
-  report-board : (world : World P) (v : ℕ) (part : Option (Part P)) → OnBoard sim.end world.board (Report v) (report sim world v part)
-  unfolding report report_lawful with_report
-  report-board world v None = stays refl (λ so_far. refl)
-  report-board world v (Some part) = by_test (may_report v (report_least sim.end part) world.board) refl
-    where
-      by_test : (b : Bool) → may_report v (report_least sim.end part) world.board ≡ b →
-          OnBoard sim.end world.board (Report v) (cond b (report_lawful sim world v part (with_report v (report_sent part) (report_got part) (report_least sim.end part) world.board)) (refused world NotLawful))
-      by_test true may =
-          let board = with_report v (report_sent part) (report_got part) (report_least sim.end part) world.board in
-          reports (both_pass world.board.is_open _ may).0 (report-has_cut sim.end board) (report-open sim.end board v)
-      by_test false may = stays refl (λ so_far. refl)
+  cut-board : (world : World P) (v : ℕ) → OnBoard sim.end world.board (Cut v) (at_cell world v with_board (cut sim v) (Some world.board))
+  unfolding cut
+  cut-board world v =
+      at_cell-either world v with_board (cut sim v) (Some world.board) (OnBoard sim.end world.board (Cut v)) (stays refl (λ so_far. refl)) (λ part board effect is holds e.
+      (let same : world.board ≡ board = cc in
+      let has = map_has _ (cut_board sim.end v world.board) effect (ap (cut sim v part) same ∙ e) in
+      cuts v refl (has.1 ∙ ap (λ (x : CellEffect P Board). Some x.cell) (sym has.2)) (ap (λ (x : CellEffect P Board). Ok x.reply) has.2)))
+
+  report-board : (world : World P) (v : ℕ) → OnBoard sim.end world.board (Report v) (at_cell world v with_board (report sim v) (Some world.board))
+  unfolding report with_report
+  report-board world v =
+      at_cell-either world v with_board (report sim v) (Some world.board) (OnBoard sim.end world.board (Report v)) (stays refl (λ so_far. refl)) (λ part held effect is holds e.
+      (let same : world.board ≡ held = cc in
+      let has = if_has (may_report v (report_least sim.end part) world.board) _ effect (ap (report sim v part) same ∙ e) in
+      let board = with_report v (report_sent part) (report_got part) (report_least sim.end part) world.board in
+      subst (λ (x : CellEffect P Board). OnBoard sim.end world.board (Report v) (effect_in world v with_board (Some x))) (sym has.1)
+      (reports (both_pass world.board.is_open _ has.0).0 (report-has_cut sim.end board) (report-open sim.end board v))))
 
   on-board : (world : World P) (step : Step) → OnBoard sim.end world.board step (next sim world step)
   unfolding next
@@ -130,12 +101,17 @@ module _ {S P : Type 0} (sim : Simulation S P) where
   on-board world (Cancel p stamp) = stays (local-changes_one_part sim world (Cancel p stamp) refl).board (λ so_far. refl)
   on-board world (Home w) = stays (local-changes_one_part sim world (Home w) refl).board (λ so_far. refl)
   on-board world (Accept w i) = stays (local-changes_one_part sim world (Accept w i) refl).board (λ so_far. refl)
-  on-board world (Send w v) = stays (done-board world _ (send-board sim world w v (slice_get world.parts w) (slice_get world.inboxes v))) (λ so_far. refl)
-  on-board world (Fetch w) = stays (done-board world _ (fetch-board world w (slice_get world.parts w) (slice_get world.inboxes w))) (λ so_far. refl)
-  on-board world (Cut w) = cut-board world w (slice_get world.parts w) (cut_board sim.end w world.board) refl
-  on-board world (Report w) = report-board world w (slice_get world.parts w)
-  on-board world (Commit w) = stays (either-board world.book.is_closed world _ _ refl (commit-board sim world w (slice_get world.parts w))) (λ so_far. refl)
-  on-board world Close = stays (either-board world.book.is_closed world _ _ refl (close-board sim world)) (λ so_far. refl)
+  on-board world (Send w v) = elsewhere world (Send w v) w (with_inbox v) (send sim w v) (slice_get world.inboxes v) (λ answer so_far. refl) (λ new c. refl)
+  on-board world (Fetch w) = elsewhere world (Fetch w) w (with_inbox w) fetch (slice_get world.inboxes w) (λ answer so_far. refl) (λ new c. refl)
+  on-board world (Cut w) = cut-board world w
+  on-board world (Report w) = report-board world w
+  on-board world (Commit w) =
+      unless_closed-either world.book (refused world) _ (OnBoard sim.end world.board (Commit w)) (λ shut. stays refl (λ so_far. refl))
+      (λ is_open. elsewhere world (Commit w) w with_book (commit sim w) (Some world.book) (λ answer so_far. refl) (λ new c. refl))
+  on-board world Close =
+      unless_closed-either world.book (refused world) _ (OnBoard sim.end world.board Close) (λ shut. stays refl (λ so_far. refl))
+      (λ is_open. done_or_refused-either world (option_map (with_book world) (close sim world.book)) (OnBoard sim.end world.board Close) (stays refl (λ so_far. refl)) (λ new e.
+      stays (ap (λ (n : World P). n.board) (map_has (with_book world) (close sim world.book) new e).2) (λ so_far. refl)))
 
 -- ---- the invariant
 

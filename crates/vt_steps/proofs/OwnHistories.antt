@@ -15,7 +15,7 @@ use Rattle.vt_model.specs.Simulation.{Simulation, Triple, after_from}
 use Rattle.vt_model.specs.declared.sending.Sent.{Sent}
 use Rattle.vt_steps.specs.declared.step.Step.{Step}
 use Rattle.vt_steps.specs.Letters.{has_stamp, signed, stamped, unstamped}
-use Rattle.vt_steps.specs.Next.{reached, report_lawful}
+use Rattle.vt_steps.specs.Next.{reached}
 use Rattle.vt_steps.specs.PartSteps.{is_below, is_for, mail_of_send, part_after_commit, part_after_cut, part_after_fetch, part_after_send, process_after_commit}
 use Rattle.vt_steps.specs.ProcessSteps.{ProcessEffect, effect_of_execute, effect_of_undo, with_letter}
 use Rattle.vt_steps.specs.World.{Entry, LogicalProcess, Part, World, entry_events, opening_part, opening_world, process_at, process_count, triple_after}
@@ -181,7 +181,7 @@ module _ {S P : Type 0} (sim : Simulation S P) where
 
   -- each change keeps it
   own-kept : (old new : World P) → Change sim old new → IsOwnWorld sim old → IsOwnWorld sim new
-  unfolding part_after_send mail_of_send part_after_fetch part_after_cut part_after_commit report_lawful
+  unfolding part_after_send mail_of_send part_after_fetch part_after_cut part_after_commit
   own-kept old new (stays e) h = subst (IsOwnWorld sim) (sym e) h
   own-kept old new (local w part after is change e) h = record {
     parts = part-own old new w part after is (ap (λ n. n.parts) e) h (local-own sim w part after change);

@@ -16,7 +16,7 @@ use Rattle.vt_model.specs.Simulation.{Simulation}
 use Rattle.vt_steps.specs.declared.step.Step.{Step}
 use Rattle.vt_steps.specs.Claims.{DoRanksRise, IsProcess}
 use Rattle.vt_steps.specs.Letters.{letter_time, stamped, unstamped}
-use Rattle.vt_steps.specs.Next.{reached, report_lawful}
+use Rattle.vt_steps.specs.Next.{reached}
 use Rattle.vt_steps.specs.PartSteps.{is_below, part_after_commit, part_after_cut, part_after_fetch, part_after_send, process_after_commit, with_effect}
 use Rattle.vt_steps.specs.ProcessSteps.{ProcessEffect, effect_of_execute, effect_of_undo, may_follow, with_letter}
 use Rattle.vt_steps.specs.World.{Entry, LogicalProcess, Part, World, all_letters, least, letters_in, opening_part, opening_world, process_at, process_count, triple_after}
@@ -177,7 +177,7 @@ module _ {S P : Type 0} (sim : Simulation S P) where
   -- each change keeps it, where no floor is after the announced time, no letter is before that, and it does not fall
   change-ordered : (old new : World P) → Change sim old new → TimeAtMost old.board.announced (least sim.end old) → ((w : ℕ) (part : Part P) → slice_get old.parts w ≡ Some part → TimeAtMost part.floor old.board.announced) →
       TimeAtMost old.board.announced new.board.announced → IsOrderedWorld old → IsOrderedWorld new
-  unfolding part_after_send part_after_fetch part_after_cut report_lawful
+  unfolding part_after_send part_after_fetch part_after_cut
   change-ordered old new (stays e) low floors up h = subst IsOrderedWorld (sym e) h
   change-ordered old new (local w part after is change e) low floors up h =
       let late : (letter : Letter P) → Among letter (letters_in part) → TimeAtMost part.floor (letter_time letter) =

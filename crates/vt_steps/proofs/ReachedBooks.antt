@@ -1,18 +1,17 @@
 -- The book in every reached world: it is accounted for, nothing falls in any further steps, and once closed it is whole.
-use Rattle.std.proofs.Common.{◌≡◌, ℕ, ◌/◌, ◌%◌, ◌<◌, true, false, cond, List, [], ◌∷◌, ◌++◌, refl, sym, subst, ◌∙◌, ap, arith, slice_get}
+use Rattle.std.proofs.Common.{◌≡◌, ℕ, ◌/◌, ◌%◌, ◌<◌, true, false, List, [], ◌∷◌, ◌++◌, refl, sym, subst, ◌∙◌, ap, arith}
 use Rattle.std.specs.Prelude.{IsTrue}
 use Rattle.vt_key.specs.Order.{RankBefore}
 use Rattle.vt_key.specs.Times.{TimeAtMost, TimeBefore}
-use Rattle.vt_key.specs.declared.fault.Fault.TheVariants.{Closed}
 use Rattle.vt_model.specs.declared.sending.Sent.{Sent}
 use Rattle.vt_model.specs.Histories.{IsLawful}
 use Rattle.vt_model.specs.Sequential.{seq_events, seq_records}
 use Rattle.vt_model.specs.Simulation.{Simulation, after}
 use Rattle.vt_steps.specs.declared.step.Step.{Step}
-use Rattle.vt_steps.specs.declared.step.Step.TheVariants.{Commit, Close}
 use Rattle.vt_steps.specs.Claims.{AreProcessesFinal, IsProcess, IsWhole, NothingFalls}
 use Rattle.vt_steps.specs.Letters.{unstamped}
-use Rattle.vt_steps.specs.Next.{close, commit, next, reached, refused, report_lawful, run}
+use Rattle.vt_steps.specs.Next.{next, reached, run}
+use Rattle.vt_steps.proofs.CellSteps.{next-commit_closed, next-close_closed}
 use Rattle.vt_steps.specs.World.{Entry, LogicalProcess, World, book_floor, book_records, entry_events, least, opening_world, triple_after}
 use Rattle.vt_steps.proofs.BookRows.{IsBooked, booked-kept, opening-booked}
 use Rattle.vt_steps.proofs.Bounds.{IsBounded, reached-bounds}
@@ -87,19 +86,8 @@ module _ {S P : Type 0} (sim : Simulation S P) (lawful : IsLawful sim) (serial :
 
 -- ---- a closed book
 
--- it takes no commit
-closed-commit : {S P : Type 0} (sim : Simulation S P) (world : World P) (w : ℕ) → IsTrue world.book.is_closed → next sim world (Commit w) ≡ refused world Closed
-unfolding next
-closed-commit sim world w shut = ap (λ b. cond b (refused world Closed) (commit sim world w (slice_get world.parts w))) shut
-
--- and no close
-closed-close : {S P : Type 0} (sim : Simulation S P) (world : World P) → IsTrue world.book.is_closed → next sim world Close ≡ refused world Closed
-unfolding next
-closed-close sim world shut = ap (λ b. cond b (refused world Closed) (close sim world)) shut
-
 -- no change touches it
 closed-change : {S P : Type 0} (sim : Simulation S P) (old new : World P) → Change sim old new → IsTrue old.book.is_closed → new.book ≡ old.book
-unfolding report_lawful
 closed-change sim old new (stays e) shut = ap (λ n. n.book) e
 closed-change sim old new (local w part after is change e) shut = ap (λ n. n.book) e
 closed-change sim old new (sends w v part inbox is in_is e) shut = ap (λ n. n.book) e
@@ -151,6 +139,6 @@ module _ {S P : Type 0} (sim : Simulation S P) (lawful : IsLawful sim) (serial :
       record {
         at_end = at_end;
         records = (records-right sim lawful world known).records ∙ ap (seq_records sim) at_end;
-        no_commit = λ w. closed-commit sim world w shut;
-        no_close = closed-close sim world shut;
+        no_commit = λ w. next-commit_closed sim world w shut;
+        no_close = next-close_closed sim world shut;
       }

@@ -1,5 +1,5 @@
 -- How a step ends: refused, with nothing changed, or done.
-use Rattle.std.proofs.Common.{◌≡◌, ℕ, ◌⊎◌, inl, inr, ◌/◌, ◌%◌, Bool, true, false, cond, refl, sym, ◌∙◌, ap, subst, Option, Some, None, Ok, Err, slice_get, length, replicate, nat_eq}
+use Rattle.std.proofs.Common.{◌≡◌, ℕ, ◌⊎◌, inl, inr, ◌/◌, ◌%◌, true, false, cond, refl, sym, ◌∙◌, ap, subst, Option, Some, None, Ok, Err, slice_get, length, replicate, nat_eq}
 use Rattle.std.specs.Option.{option_map, option_and_then}
 use Rattle.vt_key.specs.Times.{Time}
 use Rattle.vt_key.specs.declared.fault.Fault.{Fault}
@@ -12,10 +12,14 @@ use Rattle.vt_steps.specs.declared.step.Reply.TheVariants.{Done, Waiting, Again,
 use Rattle.vt_steps.specs.World.{Part, Board, World}
 use Rattle.vt_steps.specs.PartSteps.{execute, undo, cancel, home, accept, report_sent, report_got, report_least}
 use Rattle.vt_steps.specs.BoardSteps.{all_set, cut_board, may_report, with_report, after_pass, board_after_report, report_reply}
-use Rattle.vt_steps.specs.BookSteps.{may_commit, may_close}
-use Rattle.vt_steps.specs.Next.{Outcome, refused, replied, done_or_refused, with_part, locally, send, fetch, cut, report, report_lawful, commit, close, unless_closed, next}
+use Rattle.vt_steps.specs.BookSteps.{may_commit, unless_closed}
+use Rattle.vt_steps.specs.CellSteps.{CellEffect, may_send, send, fetch, cut, report, commit, close}
+use Rattle.vt_steps.specs.Next.{Outcome, refused, replied, done_or_refused, with_part, with_inbox, with_board, with_book, locally, at_cell, next}
 use Rattle.vt_steps.specs.Cells.{inbox_of, board_cell, book_cell, cell_of}
 use Rattle.vt_steps.specs.Laws.{IsReportReply, IsReplyRight, IsRefusalRight}
+use Rattle.vt_steps.specs.Letters.{is_empty}
+use Rattle.vt_steps.proofs.Changes.{if_has, map_has}
+use Rattle.vt_steps.proofs.Outcomes.{at_cell-either, unless_closed-either, unless_closed-shut}
 
 -- a step is refused as not lawful, or done
 data Ends {P : Type 0} (world : World P) (outcome : Outcome P) : Type 0 where
@@ -29,42 +33,52 @@ done_or_refused-ends world (Some new) = done new refl
 locally-ends : {P : Type 0} (world : World P) (w : ℕ) (step : Part P → Option (Part P)) → Ends world (locally world w step)
 locally-ends world w step = done_or_refused-ends world (option_map (with_part world w) (option_and_then step (slice_get world.parts w)))
 
--- a step on the book, where the book is open
-book-ends : {P : Type 0} (world : World P) (test : Bool) (new : World P) → Ends world (cond test (replied new Done) (refused world NotLawful))
-book-ends world true new = done new refl
-book-ends world false new = not_lawful refl
+-- a step at a cell whose reply is that it is done
+cell-ends : {P C : Type 0} (world : World P) (w : ℕ) (put : World P → C → World P) (step : Part P → C → Option (CellEffect P C)) (cell : Option C) →
+    ((part : Part P) (held : C) (effect : CellEffect P C) → step part held ≡ Some effect → effect.reply ≡ Done) → Ends world (at_cell world w put step cell)
+cell-ends world w put step cell replies_done =
+    at_cell-either world w put step cell (Ends world) (not_lawful refl) (λ part held effect is holds e.
+    done (put (with_part world w effect.part) effect.cell) (ap (replied _) (replies_done part held effect e)))
 
-commit-ends : {S P : Type 0} (sim : Simulation S P) (world : World P) (w : ℕ) (part : Option (Part P)) → Ends world (commit sim world w part)
+send-ends : {S P : Type 0} (sim : Simulation S P) (world : World P) (w v : ℕ) → Ends world (at_cell world w (with_inbox v) (send sim w v) (slice_get world.inboxes v))
+unfolding send
+send-ends sim world w v =
+    cell-ends world w (with_inbox v) (send sim w v) (slice_get world.inboxes v) (λ part inbox effect e. ap (λ (x : CellEffect _ _). x.reply) (if_has (may_send sim w v part) _ effect e).1)
+
+fetch-ends : {P : Type 0} (world : World P) (w : ℕ) → Ends world (at_cell world w (with_inbox w) fetch (slice_get world.inboxes w))
+unfolding fetch
+fetch-ends world w =
+    cell-ends world w (with_inbox w) fetch (slice_get world.inboxes w) (λ part inbox effect e. ap (λ (x : CellEffect _ _). x.reply) (if_has (is_empty part.arrived) _ effect e).1)
+
+cut-ends : {S P : Type 0} (sim : Simulation S P) (world : World P) (w : ℕ) → Ends world (at_cell world w with_board (cut sim w) (Some world.board))
+unfolding cut
+cut-ends sim world w =
+    cell-ends world w with_board (cut sim w) (Some world.board) (λ part board effect e. ap (λ (x : CellEffect _ _). x.reply) (map_has _ (cut_board sim.end w board) effect e).2)
+
+commit-ends : {S P : Type 0} (sim : Simulation S P) (world : World P) (w : ℕ) → Ends world (at_cell world w with_book (commit sim w) (Some world.book))
 unfolding commit
-commit-ends sim world w None = not_lawful refl
-commit-ends sim world w (Some part) = book-ends world (may_commit (slice_get world.book.floors w) part.floor) _
-
-close-ends : {S P : Type 0} (sim : Simulation S P) (world : World P) → Ends world (close sim world)
-unfolding close
-close-ends sim world = book-ends world (may_close sim.end world.book) _
+commit-ends sim world w =
+    cell-ends world w with_book (commit sim w) (Some world.book) (λ part book effect e. ap (λ (x : CellEffect _ _). x.reply) (if_has (may_commit (slice_get book.floors w) part.floor) _ effect e).1)
 
 -- a report is refused as not lawful, or answered by the board
 data Reports {S P : Type 0} (sim : Simulation S P) (world : World P) (outcome : Outcome P) : Type 0 where
   not_reported : outcome ≡ refused world NotLawful → Reports sim world outcome
-  reports : (w : ℕ) (part : Part P) → outcome ≡ report_lawful sim world w part (with_report w (report_sent part) (report_got part) (report_least sim.end part) world.board) → Reports sim world outcome
+  reports : (new : World P) (board : Board) → board.announced ≡ world.board.announced → new.board ≡ board_after_report sim.end board → outcome ≡ replied new (report_reply board) → Reports sim world outcome
 
-report-ends : {S P : Type 0} (sim : Simulation S P) (world : World P) (w : ℕ) (part : Option (Part P)) → Reports sim world (report sim world w part)
-unfolding report
-report-ends sim world w None = not_reported refl
-report-ends {P = P} sim world w (Some part) = by_test (may_report w (report_least sim.end part) world.board)
-  where
-    lawful : Outcome P
-    lawful = report_lawful sim world w part (with_report w (report_sent part) (report_got part) (report_least sim.end part) world.board)
-
-    by_test : (b : Bool) → Reports sim world (cond b lawful (refused world NotLawful))
-    by_test true = reports w part refl
-    by_test false = not_reported refl
+report-ends : {S P : Type 0} (sim : Simulation S P) (world : World P) (w : ℕ) → Reports sim world (at_cell world w with_board (report sim w) (Some world.board))
+unfolding report with_report
+report-ends {P = P} sim world w =
+    at_cell-either world w with_board (report sim w) (Some world.board) (Reports sim world) (not_reported refl) (λ part board effect is holds e.
+    (let same : world.board ≡ board = cc in
+    let has = if_has (may_report w (report_least sim.end part) world.board) _ effect (ap (report sim w part) same ∙ e) in
+    reports (with_board (with_part world w effect.part) effect.cell) (with_report w (report_sent part) (report_got part) (report_least sim.end part) world.board) refl
+    (ap (λ (x : CellEffect P Board). x.cell) has.1) (ap (λ (x : CellEffect P Board). replied (with_board (with_part world w effect.part) effect.cell) x.reply) has.1)))
 
 -- each step, by how it ends
 data StepEnds {S P : Type 0} (sim : Simulation S P) (world : World P) (step : Step) : Type 0 where
   plain : ((w : ℕ) → step ≡ Report w → ⊥) → (cell_of step ≡ Some book_cell → ⊥) → Ends world (next sim world step) → StepEnds sim world step
   report_step : (w : ℕ) → step ≡ Report w → Reports sim world (next sim world step) → StepEnds sim world step
-  book_step : ((w : ℕ) → step ≡ Report w → ⊥) → cell_of step ≡ Some book_cell → (outcome : Outcome P) → next sim world step ≡ unless_closed world outcome → Ends world outcome → StepEnds sim world step
+  book_step : ((w : ℕ) → step ≡ Report w → ⊥) → cell_of step ≡ Some book_cell → (outcome : Outcome P) → next sim world step ≡ unless_closed world.book (refused world) outcome → Ends world outcome → StepEnds sim world step
 
 next-ends : {S P : Type 0} (sim : Simulation S P) (world : World P) (step : Step) → StepEnds sim world step
 unfolding next
@@ -73,12 +87,12 @@ next-ends sim world (Undo p) = plain (λ w e. let h : Undo p ≡ Report w = e in
 next-ends sim world (Cancel p stamp) = plain (λ w e. let h : Cancel p stamp ≡ Report w = e in cc) (λ e. let h : None ≡ Some book_cell = e in cc) (locally-ends world (p % sim.workers) (cancel (p / sim.workers) stamp))
 next-ends sim world (Home v) = plain (λ w e. let h : Home v ≡ Report w = e in cc) (λ e. let h : None ≡ Some book_cell = e in cc) (locally-ends world v (home sim v))
 next-ends sim world (Accept v i) = plain (λ w e. let h : Accept v i ≡ Report w = e in cc) (λ e. let h : None ≡ Some book_cell = e in cc) (locally-ends world v (accept sim i))
-next-ends sim world (Send v u) = plain (λ w e. let h : Send v u ≡ Report w = e in cc) (λ e. let h : Some (inbox_of u) ≡ Some book_cell = e in cc) (done_or_refused-ends world (send sim world v u (slice_get world.parts v) (slice_get world.inboxes u)))
-next-ends sim world (Fetch v) = plain (λ w e. let h : Fetch v ≡ Report w = e in cc) (λ e. let h : Some (inbox_of v) ≡ Some book_cell = e in cc) (done_or_refused-ends world (fetch world v (slice_get world.parts v) (slice_get world.inboxes v)))
-next-ends sim world (Cut v) = plain (λ w e. let h : Cut v ≡ Report w = e in cc) (λ e. let h : Some board_cell ≡ Some book_cell = e in cc) (done_or_refused-ends world (cut sim world v (slice_get world.parts v) (cut_board sim.end v world.board)))
-next-ends sim world (Report v) = report_step v refl (report-ends sim world v (slice_get world.parts v))
-next-ends sim world (Commit v) = book_step (λ w e. let h : Commit v ≡ Report w = e in cc) refl (commit sim world v (slice_get world.parts v)) refl (commit-ends sim world v (slice_get world.parts v))
-next-ends sim world Close = book_step (λ w e. let h : Close ≡ Report w = e in cc) refl (close sim world) refl (close-ends sim world)
+next-ends sim world (Send v u) = plain (λ w e. let h : Send v u ≡ Report w = e in cc) (λ e. let h : Some (inbox_of u) ≡ Some book_cell = e in cc) (send-ends sim world v u)
+next-ends sim world (Fetch v) = plain (λ w e. let h : Fetch v ≡ Report w = e in cc) (λ e. let h : Some (inbox_of v) ≡ Some book_cell = e in cc) (fetch-ends world v)
+next-ends sim world (Cut v) = plain (λ w e. let h : Cut v ≡ Report w = e in cc) (λ e. let h : Some board_cell ≡ Some book_cell = e in cc) (cut-ends sim world v)
+next-ends sim world (Report v) = report_step v refl (report-ends sim world v)
+next-ends sim world (Commit v) = book_step (λ w e. let h : Commit v ≡ Report w = e in cc) refl (at_cell world v with_book (commit sim v) (Some world.book)) refl (commit-ends sim world v)
+next-ends sim world Close = book_step (λ w e. let h : Close ≡ Report w = e in cc) refl (done_or_refused world (option_map (with_book world) (close sim world.book))) refl (done_or_refused-ends world (option_map (with_book world) (close sim world.book)))
 
 -- ---- refusals
 
@@ -104,26 +118,13 @@ ends-keep world outcome (not_lawful is) = refused-keeps world outcome NotLawful 
 ends-keep world outcome (done new is) = λ fault e. absurd (not_both outcome new Done fault is e)
 
 reports-keep : {S P : Type 0} (sim : Simulation S P) (world : World P) (outcome : Outcome P) → Reports sim world outcome → Kept world outcome
-unfolding report_lawful
 reports-keep sim world outcome (not_reported is) = refused-keeps world outcome NotLawful (inl refl) is
-reports-keep sim world outcome (reports w part is) = λ fault e. absurd (not_both outcome _ _ fault is e)
+reports-keep sim world outcome (reports new board kept after is) = λ fault e. absurd (not_both outcome new (report_reply board) fault is e)
 
 -- a book that is closed refuses as closed; one that is open lets the step end
-unless-ends : {P : Type 0} (world : World P) (outcome : Outcome P) →
-    ((world.book.is_closed ≡ true) × (unless_closed world outcome ≡ refused world Closed)) ⊎ ((world.book.is_closed ≡ false) × (unless_closed world outcome ≡ outcome))
-unless-ends {P = P} world outcome = by_test world.book.is_closed refl
-  where
-    by_test : (b : Bool) → world.book.is_closed ≡ b →
-        ((world.book.is_closed ≡ true) × (cond b (refused world Closed) outcome ≡ refused world Closed)) ⊎ ((world.book.is_closed ≡ false) × (cond b (refused world Closed) outcome ≡ outcome))
-    by_test true e = inl (e, refl)
-    by_test false e = inr (e, refl)
-
-book-keeps : {P : Type 0} (world : World P) (outcome : Outcome P) → Ends world outcome → Kept world (unless_closed world outcome)
+book-keeps : {P : Type 0} (world : World P) (outcome : Outcome P) → Ends world outcome → Kept world (unless_closed world.book (refused world) outcome)
 book-keeps world outcome ends =
-    elim (unless-ends world outcome) [
-      | inl h ↦ refused-keeps world (unless_closed world outcome) Closed (inr refl) h.1
-      | inr h ↦ subst (λ o. Kept world o) (sym h.1) (ends-keep world outcome ends)
-    ]
+    unless_closed-either world.book (refused world) outcome (Kept world) (λ shut. refused-keeps world (refused world Closed) Closed (inr refl) refl) (λ is_open. ends-keep world outcome ends)
 
 next-keeps : {S P : Type 0} (sim : Simulation S P) (world : World P) (step : Step) → StepEnds sim world step → Kept world (next sim world step)
 next-keeps sim world step (plain apart off ends) = ends-keep world (next sim world step) ends
@@ -140,25 +141,22 @@ never_closed world outcome (not_lawful is) e =
 never_closed world outcome (done new is) e = not_both outcome new Done Closed is e
 
 report-never_closed : {S P : Type 0} (sim : Simulation S P) (world : World P) (outcome : Outcome P) → Reports sim world outcome → outcome.answer ≡ Err Closed → ⊥
-unfolding report_lawful
 report-never_closed sim world outcome (not_reported is) e = never_closed world outcome (not_lawful is) e
-report-never_closed sim world outcome (reports w part is) e = not_both outcome _ _ Closed is e
+report-never_closed sim world outcome (reports new board kept after is) e = not_both outcome new (report_reply board) Closed is e
 
 closed-closes : {S P : Type 0} (sim : Simulation S P) (world : World P) (step : Step) → StepEnds sim world step → world.book.is_closed ≡ true → cell_of step ≡ Some book_cell → (next sim world step).answer ≡ Err Closed
 closed-closes sim world step (plain apart off ends) closed on = absurd (off on)
 closed-closes sim world step (report_step w is ends) closed on =
     absurd (let h : Some board_cell ≡ Some book_cell = ap cell_of (sym is) ∙ on in cc)
 closed-closes sim world step (book_step apart on outcome is ends) closed also =
-    ap (λ o. o.answer) is ∙ ap (λ b. (let o : Outcome _ = cond b (refused world Closed) outcome in o.answer)) closed
+    ap (λ o. o.answer) (is ∙ unless_closed-shut world.book (refused world) outcome closed)
 
 closed-only : {S P : Type 0} (sim : Simulation S P) (world : World P) (step : Step) → StepEnds sim world step → (next sim world step).answer ≡ Err Closed → (world.book.is_closed ≡ true) × (cell_of step ≡ Some book_cell)
 closed-only sim world step (plain apart off ends) e = absurd (never_closed world (next sim world step) ends e)
 closed-only sim world step (report_step w is ends) e = absurd (report-never_closed sim world (next sim world step) ends e)
 closed-only sim world step (book_step apart on outcome is ends) e =
-    elim (unless-ends world outcome) [
-      | inl h ↦ (h.0, on)
-      | inr h ↦ absurd (never_closed world outcome ends (sym (ap (λ o. o.answer) (is ∙ h.1)) ∙ e))
-    ]
+    unless_closed-either world.book (refused world) outcome (λ o. o.answer ≡ Err Closed → (world.book.is_closed ≡ true) × (cell_of step ≡ Some book_cell))
+    (λ shut h. (shut, on)) (λ is_open h. absurd (never_closed world outcome ends h)) (ap (λ o. o.answer) (sym is) ∙ e)
 
 pub refusals : {S P : Type 0} (sim : Simulation S P) (world : World P) (step : Step) → IsRefusalRight sim world step
 refusals sim world step =
@@ -182,12 +180,10 @@ reply-done world outcome reply (done new is) e =
     let h : Ok reply ≡ Ok Done = sym e ∙ a in
     cc
 
-book-reply : {P : Type 0} (world : World P) (outcome : Outcome P) (reply : Reply) → Ends world outcome → (unless_closed world outcome).answer ≡ Ok reply → reply ≡ Done
-book-reply world outcome reply ends e =
-    elim (unless-ends world outcome) [
-      | inl h ↦ absurd (let k : Ok reply ≡ Err Closed = sym e ∙ ap (λ o. o.answer) h.1 in cc)
-      | inr h ↦ reply-done world outcome reply ends (ap (λ o. o.answer) (sym h.1) ∙ e)
-    ]
+book-reply : {P : Type 0} (world : World P) (outcome : Outcome P) (reply : Reply) → Ends world outcome → (unless_closed world.book (refused world) outcome).answer ≡ Ok reply → reply ≡ Done
+book-reply world outcome reply ends =
+    unless_closed-either world.book (refused world) outcome (λ o. o.answer ≡ Ok reply → reply ≡ Done) (λ shut e. absurd (let h : Ok reply ≡ Err Closed = sym e in cc))
+    (λ is_open. reply-done world outcome reply ends)
 
 -- the board after a report, by whether it was the last one and whether the counts are equal
 board-replies : {P : Type 0} (end : Time) (old : World P) (new : World P) (board : Board) → board.announced ≡ old.board.announced → new.board ≡ board_after_report end board →
@@ -208,15 +204,13 @@ board-replies end old new board kept is =
     ] is
 
 reports-reply : {S P : Type 0} (sim : Simulation S P) (world : World P) (outcome : Outcome P) (reply : Reply) → Reports sim world outcome → outcome.answer ≡ Ok reply → IsReportReply world outcome.world reply
-unfolding report_lawful with_report
 reports-reply sim world outcome reply (not_reported is) e =
     absurd (let h : Ok reply ≡ Err NotLawful = sym e ∙ ap (λ o. o.answer) is in cc)
-reports-reply sim world outcome reply (reports w part is) e =
-    let board = with_report w (report_sent part) (report_got part) (report_least sim.end part) world.board in
+reports-reply sim world outcome reply (reports new board kept after is) e =
     let h : Ok (report_reply board) ≡ Ok reply = sym (ap (λ o. o.answer) is) ∙ e in
     let same : report_reply board ≡ reply = cc in
     subst (λ r. IsReportReply world outcome.world r) same
-    (board-replies sim.end world outcome.world board refl (ap (λ o. o.world.board) is))
+    (board-replies sim.end world outcome.world board kept (ap (λ o. o.world.board) is ∙ after))
 
 pub replies : {S P : Type 0} (sim : Simulation S P) (world : World P) (step : Step) → IsReplyRight sim world step
 replies sim world step = record {

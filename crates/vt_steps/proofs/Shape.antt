@@ -10,7 +10,7 @@ use Rattle.std.proofs.lemmas.List.FromFn.{length-map-range_with_len}
 use Rattle.std.proofs.lemmas.Option.{slice_get_within}
 use Rattle.vt_model.specs.Simulation.{Simulation}
 use Rattle.vt_steps.specs.declared.step.Step.{Step}
-use Rattle.vt_steps.specs.Next.{reached, report_lawful}
+use Rattle.vt_steps.specs.Next.{reached}
 use Rattle.vt_key.specs.declared.letter.Letter.{Letter}
 use Rattle.vt_steps.specs.World.{LogicalProcess, Part, World, process_at, process_count, opening_part, opening_world}
 use Rattle.vt_steps.specs.PartSteps.{part_after_commit, part_after_cut, part_after_fetch, part_after_send}
@@ -80,7 +80,7 @@ module _ {S P : Type 0} (sim : Simulation S P) where
 
   -- each change keeps the shape
   pub shape-kept : (old new : World P) → Change sim old new → IsShaped sim old → IsShaped sim new
-  unfolding part_after_send part_after_fetch part_after_cut part_after_commit report_lawful
+  unfolding part_after_send part_after_fetch part_after_cut part_after_commit
   shape-kept old new (stays e) h = subst (IsShaped sim) (sym e) h
   shape-kept old new (local w part after is change e) h =
       part-shaped old new w part after h is (ap (λ n. n.parts) e) (ap (λ n. length n.inboxes) e) (local-processes w part after change)

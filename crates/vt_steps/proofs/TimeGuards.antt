@@ -1,19 +1,19 @@
 -- The guards on times never fail: no report is below the announced time, and no floor below the hand-in floor.
-use Rattle.std.proofs.Common.{◌≡◌, ℕ, ◌<◌, true, false, cond, ◌∙◌, ap, arith, Some, slice_get, slice_set, Ok}
+use Rattle.std.proofs.Common.{◌≡◌, ℕ, ◌<◌, true, false, ◌∙◌, ap, arith, Some, slice_get, Ok}
 use Rattle.std.specs.Prelude.{IsTrue}
 use Rattle.std.proofs.Math.Nat.{le_refl}
 use Rattle.std.proofs.lemmas.Bool.Decides.{nat_tests}
 use Rattle.std.proofs.lemmas.Option.{slice_get_within}
 use Rattle.vt_key.specs.Times.{TimeAtMost, opening_time, time_at_most}
-use Rattle.vt_key.specs.declared.fault.Fault.TheVariants.{NotLawful, Closed}
 use Rattle.vt_model.specs.Simulation.{Simulation}
 use Rattle.vt_steps.specs.declared.step.Reply.TheVariants.{Done}
 use Rattle.vt_steps.specs.declared.step.Step.TheVariants.{Report, Commit}
-use Rattle.vt_steps.specs.BoardSteps.{all_set, is_clear, may_report, with_report, report_reply}
-use Rattle.vt_steps.specs.BookSteps.{may_commit, with_rows}
+use Rattle.vt_steps.specs.BoardSteps.{all_set, is_clear, may_report}
+use Rattle.vt_steps.specs.BookSteps.{may_commit}
 use Rattle.vt_steps.specs.Claims.{IsTaken}
-use Rattle.vt_steps.specs.Next.{Outcome, next, report, report_lawful, commit, refused, replied}
-use Rattle.vt_steps.specs.PartSteps.{part_after_commit, report_sent, report_got, report_least, rows_of_commit}
+use Rattle.vt_steps.specs.Next.{next}
+use Rattle.vt_steps.proofs.CellSteps.{next-report, next-commit}
+use Rattle.vt_steps.specs.PartSteps.{report_least}
 use Rattle.vt_steps.specs.World.{Part, World, letters_in}
 use Rattle.vt_steps.proofs.Early.{early_in, at-most-least, letters-early}
 use Rattle.vt_steps.proofs.Floors.{AreTimesSound}
@@ -49,16 +49,10 @@ module _ {S P : Type 0} (sim : Simulation S P) (world : World P) (s : AreTimesSo
 
   -- so its report is taken
   pub report-taken : (w : ℕ) → IsTrue world.board.is_open → IsTrue (all_set world.board.has_cut) → slice_get world.board.has_reported w ≡ Some false → IsTaken sim world (Report w)
-  unfolding next report report_lawful
   report-taken w open_is all clear =
       let size = (s.at opening_time).round.report_size in
       let part = get-within world.parts w (let a = slice_get_within world.board.has_reported w false clear in omega arith) in
-      let board = with_report w (report_sent part.0) (report_got part.0) (report_least sim.end part.0) world.board in
-      let may = may-report w part.0 part.1 open_is all clear in (
-        report_reply board,
-        ap (λ o. (report sim world w o).answer) part.1
-            ∙ ap (λ b. (let o : Outcome P = cond b (report_lawful sim world w part.0 board) (refused world NotLawful) in o.answer)) may,
-      )
+      (_, ap (λ o. o.answer) (next-report sim world w part.0 part.1 (may-report w part.0 part.1 open_is all clear)))
 
   -- ---- Commit
 
@@ -73,14 +67,7 @@ module _ {S P : Type 0} (sim : Simulation S P) (world : World P) (s : AreTimesSo
 
   -- so its commit is done, unless the book is closed
   pub commit-done : (w : ℕ) → w < sim.workers → world.book.is_closed ≡ false → (next sim world (Commit w)).answer ≡ Ok Done
-  unfolding next commit
   commit-done w within open_is =
       let size = (s.at opening_time).shape.parts in
       let part = get-within world.parts w (omega arith) in
-      let may = may-commit w part.0 part.1 in
-      ap (λ b. (let o : Outcome P = cond b (refused world Closed) (commit sim world w (slice_get world.parts w)) in o.answer)) open_is
-      ∙ ap (λ o. (commit sim world w o).answer) part.1
-      ∙ ap (λ b. (let o : Outcome P = cond b (replied (record world {
-        parts = slice_set world.parts w (part_after_commit part.0);
-        book = with_rows w (rows_of_commit sim w part.0) part.0.floor world.book;
-      }) Done) (refused world NotLawful) in o.answer)) may
+      ap (λ o. o.answer) (next-commit sim world w part.0 part.1 open_is (may-commit w part.0 part.1))

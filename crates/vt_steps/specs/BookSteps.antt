@@ -1,5 +1,7 @@
 -- What Commit and Close do on the book.
-use Rattle.std.specs.Prelude.{ℕ, Bool, true, false, List, ◌++◌, slice_set, Option, Some, None}
+use Rattle.std.specs.Prelude.{ℕ, Bool, true, false, List, ◌++◌, slice_set, if◌then◌else◌, Option, Some, None}
+use Rattle.vt_key.specs.declared.fault.Fault.{Fault}
+use Rattle.vt_key.specs.declared.fault.Fault.TheVariants.{Closed}
 use Rattle.vt_key.specs.Times.{Time, time_at_most, time_same}
 use Rattle.vt_model.specs.declared.rows.Row.{Row}
 use Rattle.vt_steps.specs.World.{Book, book_floor}
@@ -20,3 +22,7 @@ may_close end book = time_same (book_floor end book) end
 -- the closed book
 abbrev pub closed_book : Book → Book
 closed_book book = record book { is_closed = true }
+
+-- Commit and Close are refused as closed once the book is
+abbrev pub unless_closed : {X : Type 0} → Book → (Fault → X) → X → X
+unless_closed book refuse open_step = if book.is_closed then refuse Closed else open_step

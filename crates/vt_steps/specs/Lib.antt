@@ -5,6 +5,7 @@ pub mod ProcessSteps
 pub mod PartSteps
 pub mod BoardSteps
 pub mod BookSteps
+pub mod CellSteps
 pub mod Next
 pub mod Copies
 pub mod Cells

@@ -1,6 +1,6 @@
 -- Steps that are marked with the worker that makes them, and what each worker is answered in a run of them. Workers that
 -- share cells make such a run together, and each of them knows its own steps alone.
-use Rattle.std.specs.Prelude.{◌≡◌, ℕ, nat_eq, Bool, true, false, List, [], ◌∷◌, map, if◌then◌else◌, slice_get, Some, Result, Ok, Err}
+use Rattle.std.specs.Prelude.{◌≡◌, ℕ, nat_eq, Bool, true, false, List, [], ◌∷◌, map, if◌then◌else◌, slice_get, Some, Result, Ok}
 use Rattle.std.specs.List.{list_any}
 use Rattle.vt_key.specs.declared.fault.Fault.{Fault}
 use Rattle.vt_model.specs.Simulation.{Simulation}

@@ -10,6 +10,8 @@ use Rattle.vt_key.specs.declared.letter.Mail.{Mail}
 use Rattle.vt_key.specs.declared.letter.Colour.TheVariants.{White, Red}
 use Rattle.vt_model.specs.declared.rows.Row.{Row}
 use Rattle.vt_model.specs.Simulation.{Simulation}
+use Rattle.vt_steps.specs.declared.step.Step.{Step}
+use Rattle.vt_steps.specs.declared.step.Step.TheVariants.{Execute, Undo, Cancel, Home, Accept}
 use Rattle.vt_steps.specs.Letters.{least_time, without_first, count_of, raised, count_colour}
 use Rattle.vt_steps.specs.Rows.{rows_from}
 use Rattle.vt_steps.specs.World.{Entry, LogicalProcess, Part, letters_in, entry_events, triple_after, process_at}
@@ -71,6 +73,17 @@ module _ {S P : Type 0} (sim : Simulation S P) where
   -- Accept of the mail at index i
   abbrev pub accept : ℕ → Part P → Option (Part P)
   accept i part = accept_mail i part (slice_get part.arrived i)
+
+  -- ---- the five together
+
+  -- a local step on the part of its worker; no other step is on a part alone
+  abbrev pub act_locally : Step → Part P → Option (Part P)
+  act_locally (Execute p) part = execute sim (p % sim.workers) (p / sim.workers) part
+  act_locally (Undo p) part = undo (p / sim.workers) part
+  act_locally (Cancel p stamp) part = cancel (p / sim.workers) stamp part
+  act_locally (Home w) part = home w part
+  act_locally (Accept w i) part = accept i part
+  act_locally _ part = None
 
   -- ---- Send
 

@@ -27,7 +27,7 @@ use Rattle.vt_steps.proofs.Tests.{passes_both}
 use Rattle.vt_kernel.specs.Held.{HeldWorker, StandsFor as WorkerStandsFor}
 use Rattle.vt_book.specs.Books.{may_hand, is_within, are_within, refusal_of_hand, refusal_where}
 use Rattle.vt_kernel.specs.Refusals.{IsStepRefusal}
-use Rattle.vt_book.proofs.CellSteps.{next-commit}
+use Rattle.vt_steps.proofs.CellSteps.{next-commit}
 use Rattle.vt_book.proofs.CommitRows.{IsBetween, commit-between}
 use Rattle.vt_steps.specs.StandsFor.{GoesOn}
 use Rattle.vt_world.specs.Held.{HeldWorld, world_memory, StandsForWorld, IsReached, IsWorldInside}

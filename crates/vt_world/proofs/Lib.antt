@@ -1,5 +1,4 @@
 pub mod WorldLemmas
-pub mod CellSteps
 pub mod WorldSteps
 pub mod ReachedLemmas
 pub mod ClosedLemmas

@@ -21,17 +21,16 @@ use Rattle.vt_steps.specs.Letters.{Counts, count_of, raised, count_colour, is_em
 use Rattle.vt_steps.specs.World.{Part, World, Board}
 use Rattle.vt_steps.specs.PartSteps.{letters_for, part_after_send, mail_of_send, part_after_fetch, part_after_cut}
 use Rattle.vt_steps.specs.BoardSteps.{cut_board}
-use Rattle.vt_steps.specs.Next.{Outcome, next, refused, replied, done_or_refused, send}
+use Rattle.vt_steps.specs.Next.{Outcome, next, refused, replied}
 use Rattle.vt_steps.specs.StandsFor.{GoesOn}
 use Rattle.vt_kernel.specs.Held.{HeldWorker, StandsFor as WorkerStandsFor}
 use Rattle.vt_kernel.specs.Guards.{IsSendRefusal}
 use Rattle.vt_board.specs.Calls.{counted, cut_outcome}
 use Rattle.vt_kernel.specs.Refusals.{IsStepRefusal, PassesLimit}
-use Rattle.vt_board.proofs.CellSteps.{next-cut}
+use Rattle.vt_steps.proofs.CellSteps.{next-cut, next-send, next-not_send, next-fetch, next-not_fetch, next-send_nowhere}
 use Rattle.vt_steps.proofs.Places.{get-put_same}
 use Rattle.vt_world.specs.Held.{HeldWorld, world_memory, StandsForWorld, IsWorldInside}
 use Rattle.vt_world.proofs.WorldLemmas.{IsSame, found}
-use Rattle.vt_world.proofs.CellSteps.{next-send, next-not_send, next-fetch, next-not_fetch}
 use Rattle.vt_world.proofs.WorldSteps.{who, goes, cut-done, cut-refused}
 use Rattle.vt_world.proofs.Places.{some-at}
 
@@ -86,16 +85,10 @@ module _ {M S P K : Type 0} {handlers : Handlers S P K} {held : HeldWorld M S P 
   -- Send of a worker to one that there is not
   pub send-nowhere : (w : ℕ) {v : ℕ} → held.config.workers ≤ v
       → GoesOn (simulation_of handlers held.config) (Send w v) (Err NotLawful) (world_memory handlers held) (world_memory handlers held)
-  unfolding next send
   send-nowhere w {v} past world h =
       let none = slice_get_past held.inboxes v (let size = inside.all_inboxes in omega (arith, size, past)) in
-      let box : slice_get world.inboxes v ≡ None = ap (λ xs. slice_get xs v) h.inboxes ∙ none in
       goes handlers held world (Send w v) (refused world NotLawful) (Err NotLawful) held
-      (ap (λ i. done_or_refused world (send (simulation_of handlers held.config) world w v (slice_get world.parts w) i)) box ∙ none-sent (slice_get world.parts w)) refl refl h
-    where
-      none-sent : (q : Option (Part P)) → done_or_refused world (send (simulation_of handlers held.config) world w v q None) ≡ refused world NotLawful
-      none-sent None = refl
-      none-sent (Some part) = refl
+      (next-send_nowhere (simulation_of handlers held.config) world w v (ap (λ xs. slice_get xs v) h.inboxes ∙ none)) refl refl h
 
   -- why Cut is refused
   pub cut-why : {w : ℕ} → w < held.config.workers → (fault : Fault) → cut_outcome board_end w held.board ≡ Err fault

@@ -1,5 +1,5 @@
 -- A part of a world looked up and changed, and the steps of a part as steps of the world.
-use Rattle.std.proofs.Common.{◌≡◌, ℕ, zero, suc, ◌+◌, ◌/◌, ◌%◌, inl, inr, Bool, List, [], ◌∷◌, map, refl, sym, ◌∙◌, ap, subst, arith, Option, Some, None, Ok, Err, slice_get, slice_set, if◌then◌else◌}
+use Rattle.std.proofs.Common.{◌≡◌, ℕ, zero, suc, ◌+◌, ◌%◌, inl, inr, Bool, List, [], ◌∷◌, map, refl, sym, ◌∙◌, ap, subst, arith, Some, None, Ok, Err, slice_get, slice_set, if◌then◌else◌}
 use Rattle.std.specs.Option.{option_and_then, option_map}
 use Rattle.std.proofs.lemmas.Bool.Decides.{eqb_tells}
 use Rattle.vt_key.specs.Times.{Time}
@@ -11,14 +11,13 @@ use Rattle.vt_steps.specs.declared.step.Step.{Step}
 use Rattle.vt_steps.specs.declared.step.Step.TheVariants.{Execute, Undo, Cancel, Home, Send, Fetch, Accept, Cut, Report, Commit, Close}
 use Rattle.vt_steps.specs.declared.step.Reply.TheVariants.{Done}
 use Rattle.vt_steps.specs.World.{Part, World}
-use Rattle.vt_steps.specs.PartSteps.{execute, undo, cancel, home, accept}
+use Rattle.vt_steps.specs.PartSteps.{act_locally}
 use Rattle.vt_steps.specs.Next.{Outcome, next, with_part, done_or_refused, locally}
 use Rattle.vt_steps.specs.StandsFor.{PartMemory, StandsForPart, StandForParts, GoesOn}
 use Rattle.vt_kernel.specs.Held.{HeldWorker, part_memory, StandsFor as WorkerStandsFor}
 use Rattle.vt_kernel.specs.Guards.{IsDone}
-use Rattle.vt_kernel.specs.Local.{at_own, local_step}
+use Rattle.vt_kernel.specs.Local.{if_own, local_step}
 use Rattle.vt_kernel.proofs.ProcessLemmas.{map-put, get-map_of}
-use Rattle.vt_kernel.proofs.OwnSteps.{own}
 use Rattle.vt_world.specs.Held.{HeldWorld, world_memory, StandsForWorld, AreWorkers, IsWorldInside}
 
 module _ {S P : Type 0} (sim : Simulation S P) where
@@ -72,34 +71,23 @@ module _ {S P : Type 0} (sim : Simulation S P) where
   IsLocalAt w (Accept v i) = v ≡ w
   IsLocalAt w _ = ⊥
 
-  -- a step at another's process is none of its own
-  pub is-own : (w p : ℕ) (step : Option (Part P)) → p % sim.workers ≡ w → at_own sim w p step ≡ step
-  is-own w p step is = own sim w p step is
+  -- a local step of v is one of w, if they are one
+  locally-own : (world : World P) (v w : ℕ) (step : Step) (part : Part P) → v ≡ w → slice_get world.parts w ≡ Some part
+      → locally world v (act_locally sim step) ≡ done_or_refused world (option_map (with_part world w) (if_own sim w (Some v) (act_locally sim step part)))
+  locally-own world v w step part is there =
+      ap (λ u. locally world u (act_locally sim step)) is
+      ∙ ap (λ q. done_or_refused world (option_map (with_part world w) (option_and_then (act_locally sim step) q))) there
+      ∙ ap (λ s. done_or_refused world (option_map (with_part world w) s)) (sym (elim (eqb_tells v w) [ inl e ↦ ap (λ (b : Bool). if b then act_locally sim step part else None) e.0 | inr e ↦ absurd (e.1 is) ]))
 
   -- what a local step does to the part it does to the world
   pub next-locally : (world : World P) (w : ℕ) (step : Step) (part : Part P) → IsLocalAt w step → slice_get world.parts w ≡ Some part
       → next sim world step ≡ done_or_refused world (option_map (with_part world w) (local_step sim w step part))
   unfolding next
-  next-locally world w (Execute p) part is there =
-      ap (λ v. locally world v (execute sim v (p / sim.workers))) is
-      ∙ ap (λ q. done_or_refused world (option_map (with_part world w) (option_and_then (execute sim w (p / sim.workers)) q))) there
-      ∙ ap (λ s. done_or_refused world (option_map (with_part world w) s)) (sym (own sim w p (execute sim w (p / sim.workers) part) is))
-  next-locally world w (Undo p) part is there =
-      ap (λ v. locally world v (undo (p / sim.workers))) is
-      ∙ ap (λ q. done_or_refused world (option_map (with_part world w) (option_and_then (undo (p / sim.workers)) q))) there
-      ∙ ap (λ s. done_or_refused world (option_map (with_part world w) s)) (sym (own sim w p (undo (p / sim.workers) part) is))
-  next-locally world w (Cancel p stamp) part is there =
-      ap (λ v. locally world v (cancel (p / sim.workers) stamp)) is
-      ∙ ap (λ q. done_or_refused world (option_map (with_part world w) (option_and_then (cancel (p / sim.workers) stamp) q))) there
-      ∙ ap (λ s. done_or_refused world (option_map (with_part world w) s)) (sym (own sim w p (cancel (p / sim.workers) stamp part) is))
-  next-locally world w (Home v) part is there =
-      ap (λ v. locally world v (home sim v)) is
-      ∙ ap (λ q. done_or_refused world (option_map (with_part world w) (option_and_then (home sim w) q))) there
-      ∙ ap (λ s. done_or_refused world (option_map (with_part world w) s)) (sym (elim (eqb_tells v w) [ inl e ↦ ap (λ (b : Bool). if b then home sim w part else None) e.0 | inr e ↦ absurd (e.1 is) ]))
-  next-locally world w (Accept v i) part is there =
-      ap (λ v. locally world v (accept sim i)) is
-      ∙ ap (λ q. done_or_refused world (option_map (with_part world w) (option_and_then (accept sim i) q))) there
-      ∙ ap (λ s. done_or_refused world (option_map (with_part world w) s)) (sym (elim (eqb_tells v w) [ inl e ↦ ap (λ (b : Bool). if b then accept sim i part else None) e.0 | inr e ↦ absurd (e.1 is) ]))
+  next-locally world w (Execute p) part is there = locally-own world (p % sim.workers) w (Execute p) part is there
+  next-locally world w (Undo p) part is there = locally-own world (p % sim.workers) w (Undo p) part is there
+  next-locally world w (Cancel p stamp) part is there = locally-own world (p % sim.workers) w (Cancel p stamp) part is there
+  next-locally world w (Home v) part is there = locally-own world v w (Home v) part is there
+  next-locally world w (Accept v i) part is there = locally-own world v w (Accept v i) part is there
   next-locally world w (Send v u) part is there = absurd is
   next-locally world w (Fetch v) part is there = absurd is
   next-locally world w (Cut v) part is there = absurd is

@@ -20,14 +20,14 @@ use Rattle.std.specs.Option.{option_and_then, option_map}
 use Rattle.vt_steps.specs.PartSteps.{home, accept, part_after_send, mail_of_send, part_after_fetch, part_after_cut, report_sent, report_got, report_least, part_after_commit, rows_of_commit}
 use Rattle.vt_steps.specs.BoardSteps.{cut_board, may_report, with_report, board_after_report, report_reply}
 use Rattle.vt_steps.specs.BookSteps.{may_commit, with_rows, may_close, closed_book}
-use Rattle.vt_steps.specs.Next.{Outcome, next, refused, replied, with_part, done_or_refused, may_send, cut, report_lawful}
+use Rattle.vt_steps.specs.CellSteps.{may_send}
+use Rattle.vt_steps.specs.Next.{Outcome, next, refused, replied, with_part, done_or_refused}
+use Rattle.vt_steps.proofs.Changes.{with_reported}
 use Rattle.vt_steps.specs.StandsFor.{GoesOn}
 use Rattle.vt_kernel.specs.Held.{HeldWorker, part_memory, StandsFor as WorkerStandsFor}
-use Rattle.vt_board.proofs.CellSteps.{next-cut, next-not_cut, next-report, next-not_report, next-report_nobody}
-use Rattle.vt_book.proofs.CellSteps.{next-commit, next-commit_closed, next-close, next-not_close, next-close_closed, next-commit_nobody}
+use Rattle.vt_steps.proofs.CellSteps.{next-cut, next-not_cut, next-report, next-not_report, next-report_nobody, next-commit, next-commit_closed, next-close, next-not_close, next-close_closed, next-commit_nobody, next-send, next-fetch, next-send_nobody, next-fetch_nobody, next-cut_nobody}
 use Rattle.vt_world.specs.Held.{HeldWorld, world_memory, StandsForWorld, IsWorldInside}
 use Rattle.vt_world.proofs.WorldLemmas.{IsSame, nobody-at, worker-at, found, part-changed}
-use Rattle.vt_world.proofs.CellSteps.{next-send, next-fetch, next-send_nobody, next-fetch_nobody}
 
 module _ {M S P K : Type 0} (handlers : Handlers S P K) (held : HeldWorld M S P K) where
   -- an outcome of the definitions, and what stands for its world
@@ -139,18 +139,13 @@ module _ {M S P K : Type 0} {handlers : Handlers S P K} {held : HeldWorld M S P 
   -- the world after a lawful report stands as the worker and the board do
   reported : (world : World P) (w : ℕ) (new : HeldWorker S P K) (part : Part P) (board : Board) → StandsForWorld handlers held world → new.worker ≡ w → new.config ≡ held.config
       → WorkerStandsFor handlers new (record part { floor = (board_after_report (end_of held.config) board).announced })
-      → StandsForWorld handlers (record held { workers = slice_set held.workers w new; board = board_after_report (end_of held.config) board }) (report_lawful (simulation_of handlers held.config) world w part board).world
-  unfolding report_lawful
+      → StandsForWorld handlers (record held { workers = slice_set held.workers w new; board = board_after_report (end_of held.config) board }) (with_reported (simulation_of handlers held.config) world w part board)
   reported world w new part board h is of stands = record {
     parts = part-changed handlers held world w new (record part { floor = (board_after_report (end_of held.config) board).announced }) h is of stands;
     inboxes = h.inboxes;
     board = refl;
     book = h.book;
   }
-
-  answered : (world : World P) (w : ℕ) (part : Part P) (board : Board) → (report_lawful (simulation_of handlers held.config) world w part board).answer ≡ Ok (report_reply board)
-  unfolding report_lawful
-  answered world w part board = refl
 
   pub report-done : (w : ℕ) {k : HeldWorker S P K} → slice_get held.workers w ≡ Some k → (new : HeldWorker S P K) → IsSame new k
       → (sent got : ℕ) {least : Time} → may_report w least held.board ≡ true
@@ -170,9 +165,9 @@ module _ {M S P K : Type 0} {handlers : Handlers S P K} {held : HeldWorld M S P 
       ∙ ap (λ n. with_report w sent n (report_least (end_of held.config) f.part) world.board) (sym d.1)
       ∙ ap (λ t. with_report w sent got t world.board) value
       ∙ ap (with_report w sent got least) h.board in
-      goes handlers held world (Report w) (report_lawful sim world w f.part (with_report w sent got least held.board))
+      goes handlers held world (Report w) (replied (with_reported sim world w f.part (with_report w sent got least held.board)) (report_reply (with_report w sent got least held.board)))
       (Ok (report_reply (with_report w sent got least held.board))) (record held { workers = slice_set held.workers w new; board = board_after_report (end_of held.config) (with_report w sent got least held.board) })
-      (next-report sim world w f.part f.there lawful ∙ ap (report_lawful sim world w f.part) board) (answered world w f.part (with_report w sent got least held.board)) refl
+      (next-report sim world w f.part f.there lawful ∙ ap (λ b. replied (with_reported sim world w f.part b) (report_reply b)) board) refl refl
       (reported world w new f.part (with_report w sent got least held.board) h (same.0 ∙ is.0) (same.1 ∙ is.1) d.3)
 
   pub report-refused : (w : ℕ) {k : HeldWorker S P K} → slice_get held.workers w ≡ Some k → {least : Time} → may_report w least held.board ≡ false
@@ -240,8 +235,7 @@ module _ {M S P K : Type 0} {handlers : Handlers S P K} {held : HeldWorld M S P 
   fetch-nobody = of-nobody (Fetch w) (λ world h gone. next-fetch_nobody (simulation_of handlers held.config) world w gone)
 
   pub cut-nobody : GoesOn (simulation_of handlers held.config) (Cut w) (Err NotLawful) (world_memory handlers held) (world_memory handlers held)
-  unfolding next cut
-  cut-nobody = of-nobody (Cut w) (λ world h gone. ap (λ q. done_or_refused world (cut (simulation_of handlers held.config) world w q (cut_board (end_of held.config) w world.board))) gone)
+  cut-nobody = of-nobody (Cut w) (λ world h gone. next-cut_nobody (simulation_of handlers held.config) world w gone)
 
   pub report-nobody : GoesOn (simulation_of handlers held.config) (Report w) (Err NotLawful) (world_memory handlers held) (world_memory handlers held)
   report-nobody = of-nobody (Report w) (λ world h gone. next-report_nobody (simulation_of handlers held.config) world w gone)

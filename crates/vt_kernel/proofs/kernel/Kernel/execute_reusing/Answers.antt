@@ -14,7 +14,7 @@ use Rattle.vt_kernel.specs.Local.{local_step}
 use Rattle.vt_kernel.specs.Guards.{IsDone, AreWithinLimits, IsExecuteRefusal}
 use Rattle.vt_model.proofs.Sizes.{out_fits}
 use Rattle.vt_kernel.proofs.ProcessLemmas.{process-at, processes-changed}
-use Rattle.vt_kernel.proofs.OwnSteps.{found, within-limits, same-execute, refusal-at, own-step}
+use Rattle.vt_kernel.proofs.OwnSteps.{own-execute, found, within-limits, same-execute, refusal-at, own-step}
 use Rattle.vt_kernel.proofs.LocalLemmas.{worker_view, place-within, inside-changed, unknown-refused, written-same, either-way, at-found-done, execute-step, both-errors, own-process}
 use Rattle.vt_kernel.proofs.ReentryLemmas.{process-there, still-there, was-in-ready, was-in-unready}
 use Rattle.vt_kernel.proofs.kernel.Kernel.execute_reusing.Goals as goal
@@ -50,7 +50,7 @@ returns-in_default-clause-refused g c part s =
     let h = subst (λ (v : HeldWorker _ _ _). StandsFor handlers v part) (sym c.self.view_is) s in
     let none = unknown-refused handlers held c.self.invariant.own_processes part h c.args.lp (execute-step handlers held part c.args.lp) i.config.some_worker c.self.invariant.all_there c.in_default.ensures.other in
     subst (λ (v : HeldWorker _ _ _). IsExecuteRefusal (simulation_of handlers v.config) c.args.lp (local_step (simulation_of handlers v.config) v.worker (step.Execute c.args.lp) part) NotLawful) c.self.view_is
-    (subst (λ x. IsExecuteRefusal (simulation_of handlers i.config) c.args.lp x NotLawful) (sym none) refl)
+    (subst (λ x. IsExecuteRefusal (simulation_of handlers i.config) c.args.lp x NotLawful) (sym (own-execute (simulation_of handlers i.config) i.worker c.args.lp part ∙ none)) refl)
 
 pub invariant_of-self : goal.invariant_of-self
 invariant_of-self g c =
@@ -78,9 +78,12 @@ returns-clause-done g c part s =
     let one = same-execute handlers held part c.args.lp old f.process h own.1 f.lp f.config in
     subst (λ (v : HeldWorker _ _ _). IfOk c.execute_reusing-result.result (λ _. IsDone handlers (worker_view i.worker i.config (slice_set i.processes.items c.in-Some.place new) c.execute_reusing-result.new.outbox i.arrived.items i.colour i.sent i.got i.red_minimum i.floor c.execute_reusing-result.new.serial)
     (local_step (simulation_of handlers v.config) v.worker (step.Execute c.args.lp) part))) c.self.view_is
-    (IfOk-weaker c.execute_reusing-result.result _ _ (λ _ done. at-found-done handlers held c.self.invariant.own_processes part h c.args.lp c.in-Some.place old new c.execute_reusing-result.new.outbox c.execute_reusing-result.new.serial
+    (IfOk-weaker c.execute_reusing-result.result _ _ (λ _ done.
+    subst (λ x. IsDone handlers (worker_view i.worker i.config (slice_set i.processes.items c.in-Some.place new) c.execute_reusing-result.new.outbox i.arrived.items i.colour i.sent i.got i.red_minimum i.floor c.execute_reusing-result.new.serial) x)
+    (sym (own-execute (simulation_of handlers i.config) i.worker c.args.lp part))
+    (at-found-done handlers held c.self.invariant.own_processes part h c.args.lp c.in-Some.place old new c.execute_reusing-result.new.outbox c.execute_reusing-result.new.serial
     (execute-step handlers held part c.args.lp) own.0 own.1 f same.0 same.1
-    (subst (λ x. ProcessIsDone handlers new x i.outbox c.execute_reusing-result.new.outbox i.serial c.execute_reusing-result.new.serial) one done)) (c.execute_reusing-result.ensures.done f.process f.stands))
+    (subst (λ x. ProcessIsDone handlers new x i.outbox c.execute_reusing-result.new.outbox i.serial c.execute_reusing-result.new.serial) one done))) (c.execute_reusing-result.ensures.done f.process f.stands))
 
 pub returns-clause-counted : goal.returns-clause-counted
 returns-clause-counted g c part s =
@@ -115,7 +118,7 @@ returns-clause-refused g c part s =
     let at_worker = own-step sim i.worker c.args.lp (execute-step handlers held part c.args.lp) part f.process own.1 f.there in
     subst (λ (v : HeldWorker _ _ _). IfErr c.execute_reusing-result.result (λ fault. IsExecuteRefusal (simulation_of handlers v.config) c.args.lp (local_step (simulation_of handlers v.config) v.worker (step.Execute c.args.lp) part) fault)) c.self.view_is
     (IfErr-weaker c.execute_reusing-result.result _ _ (λ fault why.
-    subst (λ x. IsExecuteRefusal sim c.args.lp x fault) (sym at_worker)
+    subst (λ x. IsExecuteRefusal sim c.args.lp x fault) (sym (own-execute sim i.worker c.args.lp part ∙ at_worker))
     (refusal-at handlers held part c.args.lp (execute-step handlers held part c.args.lp f.process) f.process fault h f.there
     (subst (λ x. ProcessRefusal sim c.args.lp i.serial x fault) one
     (subst (λ k. ProcessRefusal sim k i.serial (execute_process (simulation_of handlers old.config) old.lp (old.lp % old.config.workers) i.serial f.process) fault) f.lp

@@ -6,16 +6,16 @@ use Rattle.vt_model.specs.Settings.{end_of}
 use Rattle.vt_steps.specs.declared.step.Step.TheVariants.{Report}
 use Rattle.vt_steps.specs.declared.step.Reply.{Reply}
 use Rattle.vt_steps.specs.BoardSteps.{may_report, with_report, board_after_report}
-use Rattle.vt_steps.specs.Cells.{on_board, act_report}
+use Rattle.vt_steps.specs.Cells.{on_board}
 use Rattle.vt_steps.specs.PartSteps.{report_sent, report_got, report_least}
 use Rattle.vt_steps.specs.Marked.{shown}
 use Rattle.vt_steps.proofs.Tests.{both_pass}
 use Rattle.vt_kernel.specs.Held.{HeldWorker, StandsFor}
 use Rattle.vt_kernel.specs.Guards.{held_letters}
 use Rattle.vt_board.specs.Calls.{takes_report}
-use Rattle.vt_board.proofs.CellSteps.{least-ends}
+use Rattle.vt_kernel.proofs.TimeLemmas.{least_time-low}
 use Rattle.vt_station.specs.Calls.{Acts, Visited, IsReportRefusal}
-use Rattle.vt_station.proofs.ActLemmas.{act-report}
+use Rattle.vt_station.proofs.ActLemmas.{act_report, act-report}
 use Rattle.vt_station.proofs.CallLemmas.{visited-there}
 use Rattle.vt_station.proofs.RefusalLemmas.{report-refused}
 use Rattle.vt_station.proofs.station.Station.report_at.Goals as goal
@@ -75,7 +75,7 @@ returns-in-Err-clause-refused g c =
     let r = c.requires.kernel in
     let end : (end_of k.config) ≡ (end_of key.config) = ap (λ (f : Config). (end_of f)) r.config_is in
     let v = c.report_values-sent.ensures.reports H r.part r.stands in
-    let bound = least-ends (end_of k.config) (held_letters k) in
+    let bound = least_time-low (end_of k.config) (held_letters k) in
     let value = c.report_values-sent.ensures.least in
     let ends : TimeAtMost least (end_of key.config) = omega (arith, bound, value, end) in
     subst (IsReportRefusal sim c.args.seat.now.me.0) (sym d.2)

@@ -5,7 +5,7 @@ use Rattle.vt_steps.specs.declared.step.Step.TheVariants.{Report}
 use Rattle.vt_kernel.specs.Guards.{held_letters}
 use Rattle.vt_board.specs.BoardOfRun.{BoardOfRun}
 use Rattle.vt_board.specs.Calls.{reply_of}
-use Rattle.vt_board.proofs.CellSteps.{least-ends}
+use Rattle.vt_kernel.proofs.TimeLemmas.{least_time-low}
 use Rattle.vt_model.proofs.LawLemmas.{lawful_of}
 use Rattle.vt_model.specs.Settings.{end_of}
 use Rattle.vt_world.proofs.StepLemmas.{step-done, step-unlawful, step-left, inside-same}
@@ -28,7 +28,7 @@ pub returns-in-Err : goal.returns-in-Err
 returns-in-Err g c =
     let k = c.index.result.now in
     let at = worker-there c.self.invariant c.if-w-self.false c.index.ensures in
-    let bound = least-ends (end_of k.config) (held_letters k) in
+    let bound = least_time-low (end_of k.config) (held_letters k) in
     let value = c.report_values-sent.ensures.least in
     let ends : TimeAtMost c.report_values-sent.result.2 (end_of k.config) = omega (arith, bound, value) in
     let kept = board-back c.self.invariant (ap (λ (b : BoardOfRun). b.board) c.in-Err.ensures.kept) in
