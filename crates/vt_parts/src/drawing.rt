@@ -9,8 +9,8 @@ ghost use Rattle.vt_parts.specs.Drawing.{happens, chosen, weight_drawn, failures
 
 use vt_model::Draws;
 
-/// Whether something happens that does so `numerator` times out of `denominator`, which is from 1 to 2^32. It draws one word, for
-/// which there must be room ([`Draws::room`]).
+/// Draws a yes or no: true with a probability of `numerator / denominator`, and always if that is above 1. The denominator is from 1
+/// to 2^32. It draws one word, for which there must be room ([`Draws::room`]).
 pub fn bernoulli(draws: &mut Draws<'_>, numerator: u64, denominator: u64) -> bool
     requires room { drawn_in draws.old < MAX_DRAWS }
     requires low { 1 ≤ denominator }
@@ -23,8 +23,8 @@ pub fn bernoulli(draws: &mut Draws<'_>, numerator: u64, denominator: u64) -> boo
     draws.below(denominator) < numerator
 }
 
-/// The index of one of these weights, each as likely as it is heavy. Their sum is from 1 to 2^32. It draws one word, for which there
-/// must be room ([`Draws::room`]).
+/// Draws an index of `weights`, each with a probability proportional to its weight. The sum of the weights is from 1 to 2^32. It draws
+/// one word, for which there must be room ([`Draws::room`]).
 pub fn weighted(draws: &mut Draws<'_>, weights: &[u32]) -> usize
     requires room { drawn_in draws.old < MAX_DRAWS }
     requires low { 1 ≤ sum weights.now }
@@ -67,8 +67,8 @@ fn index_at(weights: &[u32], point: u64) -> usize
     index
 }
 
-/// How often something fails before it happens, where it happens `numerator` times out of `denominator`, which is from 1 to 2^32. It is
-/// tried at most `limit` times, at least 1; where it never happens, the answer is `limit`.
+/// Draws the number of failures before the first success. Each try succeeds with a probability of `numerator / denominator`, whose
+/// denominator is from 1 to 2^32. There are at most `limit` tries, at least 1. If all fail, the answer is `limit`.
 ///
 /// It draws a word for each try: one more than the answer, but no more than `limit`. There must be room for `limit` words.
 pub fn geometric(draws: &mut Draws<'_>, numerator: u64, denominator: u64, limit: u32) -> u32

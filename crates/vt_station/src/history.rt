@@ -10,10 +10,10 @@ ghost use Rattle.vt_steps.specs.Marked.{Marked, marked, Each};
 ghost use Rattle.vt_station.specs.declared.view.View.{View};
 ghost use Rattle.vt_station.specs.Kept.{Standing, HasGrown, Kept};
 
-/// The list of all steps grows at its end alone. What the places left of it tells it: two lists of steps of so many workers
-/// are one, where each worker's place left a beginning of both, behind which the worker has made no step (`told`). So there
-/// is one list at each state of the table that keeps the rule (`one`). A visit changes one place's view, and leaves the list
-/// with its steps behind it: that is the list at the next state (`next`).
+/// There is one list of all steps, and it grows at its end alone. Each place knows the list as its last visit left it, and its
+/// worker has made no step since. These beginnings determine the list: two lists that fit all of them are equal (`told`). So
+/// each state of the table that keeps the rule has one list (`one`). A visit changes one place's view, and puts its steps at
+/// the end of the list: that is the list of the next state (`next`).
 pub fn places_tell_the_list<S, P>()
     ghost sim: { Simulation S P }
     ensures told { (workers : ℕ) (log other : List Marked) → Each (λ m. m.worker < workers) log → Each (λ m. m.worker < workers) other →
