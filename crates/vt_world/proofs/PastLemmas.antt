@@ -18,13 +18,13 @@ use Rattle.vt_steps.specs.World.{Entry, World, entry_events, least}
 use Rattle.vt_steps.specs.Next.{reached}
 use Rattle.vt_steps.specs.StandsFor.{entry_of}
 use Rattle.vt_steps.proofs.HistoriesTheorem.{histories}
-use Rattle.vt_lp.specs.Held.{process_memory, remembered}
+use Rattle.vt_lp.specs.Held.{HeldProcess, executed_events, process_memory, remembered}
 use Rattle.vt_lp.specs.declared.entry.PastEvent.{PastEvent}
 use Rattle.vt_kernel.specs.Held.{HeldWorker, IsProcessOf, process_of}
 use Rattle.vt_kernel.proofs.ProcessLemmas.{get-map_of, stands-at}
 use Rattle.vt_world.specs.Held.{HeldWorld, StandsForWorld, IsReached, IsWorldInside}
 use Rattle.vt_world.specs.Calls.{least_held}
-use Rattle.vt_world.specs.Answers.{IsPastIn, EndsSequential, past_events}
+use Rattle.vt_world.specs.Answers.{IsPastIn, EndsSequential}
 use Rattle.vt_world.proofs.ReachedLemmas.{least-same}
 use Rattle.vt_world.proofs.WorldLemmas.{found}
 use Rattle.vt_world.proofs.WorldSteps.{who}
@@ -72,12 +72,12 @@ module _ {M S P K : Type 0} {handlers : Handlers S P K} {held : HeldWorld M S P 
       omega (arith, never)
 
   -- its past events are those in each world that it stands for
-  pub past-in : (events : List (Event P)) → option_map past_events (process_of k p) ≡ Some events → (world : World P) → StandsForWorld handlers held world
+  pub past-in : (events : List (Event P)) → option_map (λ (process : HeldProcess _ _ _). executed_events process.past) (process_of k p) ≡ Some events → (world : World P) → StandsForWorld handlers held world
       → IsPastIn (simulation_of handlers held.config) world p events
   past-in events is world h =
       let event : Entry P → Event P = λ entry. entry.event in
       let f = found handlers held world (p % held.config.workers) k inside.own_workers h at in
-      let q = passed (nat_eq (p % k.config.workers) k.worker) (slice_get k.processes (p / k.config.workers)) past_events events is in
+      let q = passed (nat_eq (p % k.config.workers) k.worker) (slice_get k.processes (p / k.config.workers)) (λ (process : HeldProcess _ _ _). executed_events process.past) events is in
       let s = stands-at (simulation_of handlers k.config) k.worker 0 (p / k.config.workers) (map (process_memory handlers) k.processes) f.part.processes (process_memory handlers q.0) f.stands.processes
       (get-map_of (process_memory handlers) k.processes (p / k.config.workers) q.0 q.1) in
       let past : map event s.0.past ≡ events = ap (map event) s.2.past ∙ remembered-events handlers q.0.lp q.0.past ∙ q.2 in
@@ -89,7 +89,7 @@ module _ {M S P K : Type 0} {handlers : Handlers S P K} {held : HeldWorld M S P 
       }
 
   -- and the last ones of the sequential run's, wherever nothing is before a time
-  pub past-sequential : IsLawful (simulation_of handlers held.config) → (events : List (Event P)) → option_map past_events (process_of k p) ≡ Some events
+  pub past-sequential : IsLawful (simulation_of handlers held.config) → (events : List (Event P)) → option_map (λ (process : HeldProcess _ _ _). executed_events process.past) (process_of k p) ≡ Some events
       → p < held.config.lps → (t : Time) → TimeAtMost t (least_held held) → EndsSequential (simulation_of handlers held.config) p t events
   past-sequential lawful events is known t quiet = ∥∥₁_map inside.is_reached (λ (x : (serial : ℕ) × IsReached handlers serial held).
       let sim = simulation_of handlers held.config in

@@ -12,7 +12,7 @@ use Rattle.vt_model.specs.Simulation.{Simulation}
 use Rattle.vt_steps.specs.Letters.{unstamped}
 use Rattle.vt_steps.specs.World.{Entry, LogicalProcess, World, start_sends}
 use Rattle.vt_steps.specs.Claims.{IsProcess}
-use Rattle.vt_lp.specs.Held.{HeldProcess}
+use Rattle.vt_lp.specs.Held.{executed_events}
 use Rattle.vt_kernel.specs.Held.{process_of}
 use Rattle.vt_world.specs.Held.{HeldWorld}
 
@@ -41,10 +41,6 @@ module _ {S P : Type 0} (sim : Simulation S P) where
   abbrev pub EndsSequential : ℕ → Time → List (Event P) → Type 0
   EndsSequential p t events = ∥ ((first : List (Sent P)) × (seq_events sim p t ≡ first ++ events_before t (map unstamped events))) ∥₁
 
--- the past events of a process, in the order of their execution
-abbrev pub past_events : {S P K : Type 0} → HeldProcess S P K → List (Event P)
-past_events process = map (λ e. e.letter.event) process.past
-
 -- the past events of process p of a world; None where it has no such process
 abbrev pub past_of : {M S P K : Type 0} → HeldWorld M S P K → ℕ → Option (List (Event P))
-past_of held p = option_and_then (λ worker. option_map past_events (process_of worker p)) (slice_get held.workers (p % held.config.workers))
+past_of held p = option_and_then (λ worker. option_map (λ process. executed_events process.past) (process_of worker p)) (slice_get held.workers (p % held.config.workers))
