@@ -3,10 +3,10 @@
 use std::alloc::Global;
 use std::io;
 use vt_key::{Event, Fault, Rank, When};
-use vt_model::{Record, Row};
+use vt_model::Record;
 
 /// What a subject tells of itself, as numbers. The places that it doesn't need stay 0.
-pub(crate) type Told = [u64; 24];
+pub(crate) type Told = [u64; 5];
 
 /// What stands in the place of a number that isn't there.
 pub(crate) const NONE: u64 = u64::MAX;
@@ -80,6 +80,24 @@ pub(crate) fn tell_answer(
     }
 }
 
+/// Tells whether something was made, and hands it on where it was.
+pub(crate) fn tell_made<T: Drop>(
+    rt: &HostRuntime,
+    name: &str,
+    made: Result<T, Fault>,
+) -> io::Result<Option<T>> {
+    match made {
+        Ok(made) => {
+            tell_answer(rt, name, Ok(()))?;
+            Ok(Some(made))
+        }
+        Err(fault) => {
+            tell_answer(rt, name, Err(fault))?;
+            Ok(None)
+        }
+    }
+}
+
 /// A number for a list of records: other records have another one, but by chance.
 pub(crate) fn sum_of_records(records: &[Record]) -> u64 {
     let mut sum = 1u64;
@@ -91,21 +109,11 @@ pub(crate) fn sum_of_records(records: &[Record]) -> u64 {
     sum
 }
 
-/// A number for a list of rows.
-pub(crate) fn sum_of_rows(rows: &[Row]) -> u64 {
-    let mut sum = 1u64;
-    for row in rows {
-        sum = mixed(sum, time_told(row.key.when()));
-        sum = mixed(sum, row.rec.value);
-    }
-    sum
-}
-
 /// A number for a list of events.
 pub(crate) fn sum_of_events<P: Copy>(events: &[Event<P>]) -> u64 {
     let mut sum = 1u64;
     for event in events {
-        sum = mixed(sum, number_of(Some(event.rank)));
+        sum = mixed(sum, number_of(event.rank));
     }
     sum
 }
@@ -124,11 +132,9 @@ pub(crate) fn time_told(time: When) -> u64 {
     mixed(time.ticks(), u64::from(time.priority()))
 }
 
-/// A number for a rank that may be there.
-pub(crate) fn number_of(rank: Option<Rank>) -> u64 {
-    let Some(Rank { key, stamp }) = rank else {
-        return NONE;
-    };
+/// A number for a rank.
+fn number_of(rank: Rank) -> u64 {
+    let Rank { key, stamp } = rank;
     let by_key = mixed(
         mixed(time_told(key.when()), u64::from(key.source())),
         key.number(),

@@ -1,16 +1,13 @@
-//! Makes the calls that may take memory, and tells what came of each: `refusals_demo SCENARIO`, or all scenarios without a word.
+//! Makes the calls that may take memory and that no run of `twarp` makes, and tells what came of each: `refusals_demo SCENARIO`,
+//! or all scenarios without a word.
 //!
 //! Where a call is refused for memory, it compares all that readers tell with what they told before, and makes the same call
 //! again. A line for each: `NAME ok`, `NAME refused and kept` or `NAME refused and CHANGED`. A library that is preloaded
 //! and refuses memory shows by these lines what a refusal leaves.
 #![tactic(auto)]
 
-mod book;
 mod calls;
-mod kernel;
-mod process;
 mod sequential;
-mod small;
 mod station;
 mod world;
 
@@ -25,33 +22,15 @@ fn words_of(rt: &HostRuntime) -> io::Result<Vec<String>> {
 // Runs a scenario, and tells whether there is one of that name.
 fn run(rt: &HostRuntime, name: &str) -> io::Result<bool> {
     match name {
-        "parcel" => small::parcel(rt)?,
-        "tournament" => small::tournament(rt)?,
-        "steps" => small::steps(rt)?,
         "sequential" => sequential::events(rt)?,
-        "lp" => process::events(rt)?,
-        "kernel" => kernel::straggler(rt)?,
-        "book" => book::hand_ins(rt)?,
         "world" => world::straggler(rt)?,
-        "run" => world::list_of_steps(rt)?,
         "station" => station::straggler(rt)?,
         _ => return Ok(false),
     }
     Ok(true)
 }
 
-const SCENARIOS: [&str; 10] = [
-    "parcel",
-    "tournament",
-    "steps",
-    "sequential",
-    "lp",
-    "kernel",
-    "book",
-    "world",
-    "run",
-    "station",
-];
+const SCENARIOS: [&str; 3] = ["sequential", "world", "station"];
 
 fn run_named(rt: &HostRuntime) -> io::Result<bool> {
     let words = words_of(rt)?;

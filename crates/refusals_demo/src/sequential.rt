@@ -1,8 +1,8 @@
 //! The sequential simulator.
 
 use crate::calls::{
-    NONE, Subject, Told, counted, is_refused, sum_of_numbers, sum_of_records, tell_answer,
-    tell_refused, try_calls,
+    NONE, Subject, Told, counted, is_refused, mixed, sum_of_numbers, sum_of_records, tell_answer,
+    tell_made, tell_refused, try_calls,
 };
 use std::alloc::Global;
 use std::io;
@@ -11,6 +11,7 @@ use vt_model::Config;
 use vt_models::Hop;
 use vt_seq::Sequential;
 
+// Its calls say nothing: what is known of the run isn't carried from call to call.
 #[derive(Drop)]
 struct Run<'m> {
     run: Sequential<'m, Hop>,
@@ -21,6 +22,48 @@ enum Call {
     Step,
     RecordsBelow,
     Finals,
+}
+
+impl<'m> Run<'m> {
+    fn new(alloc: Global, model: &'m Hop, config: Config) -> Result<Run<'m>, Fault> {
+        match Sequential::new(alloc, model, config) {
+            Ok(run) => Ok(Run { run }),
+            Err(fault) => Err(fault),
+        }
+    }
+
+    fn step(&mut self) -> Result<bool, Fault> {
+        self.run.step()
+    }
+
+    // The whole run, which has this many records.
+    fn whole(&mut self, alloc: Global, records: usize) -> Result<(), Fault> {
+        match self.run.run(alloc) {
+            Ok(found) => counted(found.len(), records),
+            Err(fault) => Err(fault),
+        }
+    }
+
+    fn process_told(&self, p: u32) -> u64 {
+        let number = self.run.number(p).unwrap_or(NONE);
+        mixed(number, self.run.place(p).unwrap_or(NONE))
+    }
+
+    fn records_told(&self, alloc: Global) -> Option<u64> {
+        match self.run.records_below(alloc, When::tick(10)) {
+            Ok(records) => Some(sum_of_records(&records)),
+            Err(_) => None,
+        }
+    }
+
+    // No process has an end while an event is pending.
+    fn finals_told(&self, alloc: Global) -> Option<u64> {
+        match self.run.finals(alloc) {
+            Ok(finals) => Some(sum_of_numbers(&finals)),
+            Err(Fault::NotLawful) => Some(0),
+            Err(_) => None,
+        }
+    }
 }
 
 impl<'m> Subject for Run<'m> {
@@ -35,80 +78,53 @@ impl<'m> Subject for Run<'m> {
     }
 
     fn told(&mut self, alloc: Global) -> Told {
-        told(&self.run, alloc)
+        let records = match self.records_told(alloc) {
+            Some(records) => records,
+            None => self.records_told(alloc).unwrap_or(NONE),
+        };
+        let finals = match self.finals_told(alloc) {
+            Some(finals) => finals,
+            None => self.finals_told(alloc).unwrap_or(NONE),
+        };
+        [
+            self.process_told(0),
+            self.process_told(1),
+            records,
+            finals,
+            0,
+        ]
     }
 
     fn make(&mut self, alloc: Global, call: Call) -> Result<(), Fault> {
         match call {
-            Call::Step => self.run.step().map(|_| ()),
+            Call::Step => self.step().map(|_| ()),
             Call::RecordsBelow => self.run.records_below(alloc, When::tick(10)).map(|_| ()),
             Call::Finals => self.run.finals(alloc).map(|_| ()),
         }
     }
 }
 
-fn records_told(run: &Sequential<'_, Hop>, alloc: Global) -> Option<u64> {
-    match run.records_below(alloc, When::tick(10)) {
-        Ok(records) => Some(sum_of_records(&records)),
-        Err(_) => None,
-    }
-}
+const NEW: &str = "Sequential::new";
 
-// No process has an end while an event is pending.
-fn finals_told(run: &Sequential<'_, Hop>, alloc: Global) -> Option<u64> {
-    match run.finals(alloc) {
-        Ok(finals) => Some(sum_of_numbers(&finals)),
-        Err(Fault::NotLawful) => Some(0),
-        Err(_) => None,
-    }
-}
-
-fn told(run: &Sequential<'_, Hop>, alloc: Global) -> Told {
-    let mut told = [0; 24];
-    told[0] = run.number(0).unwrap_or(NONE);
-    told[1] = run.number(1).unwrap_or(NONE);
-    told[2] = run.place(0).unwrap_or(NONE);
-    told[3] = run.place(1).unwrap_or(NONE);
-    told[4] = match records_told(run, alloc) {
-        Some(records) => records,
-        None => records_told(run, alloc).unwrap_or(NONE),
-    };
-    told[5] = match finals_told(run, alloc) {
-        Some(finals) => finals,
-        None => finals_told(run, alloc).unwrap_or(NONE),
-    };
-    told
-}
-
-fn opened<'m>(
-    rt: &HostRuntime,
-    model: &'m Hop,
-    config: Config,
-) -> io::Result<Option<Sequential<'m, Hop>>> {
-    let mut made = Sequential::new(rt.alloc(), model, config);
+fn opened<'m>(rt: &HostRuntime, model: &'m Hop, config: Config) -> io::Result<Option<Run<'m>>> {
+    let mut made = Run::new(rt.alloc(), model, config);
     if is_refused(&made) {
-        tell_refused(rt, "Sequential::new", true)?;
-        made = Sequential::new(rt.alloc(), model, config);
+        tell_refused(rt, NEW, true)?;
+        made = Run::new(rt.alloc(), model, config);
     }
-    match made {
-        Ok(run) => {
-            tell_answer(rt, "Sequential::new", Ok(()))?;
-            Ok(Some(run))
-        }
-        Err(fault) => {
-            tell_answer(rt, "Sequential::new", Err(fault))?;
-            Ok(None)
-        }
-    }
+    tell_made(rt, NEW, made)
 }
 
-// Whether a run tells what this one tells after some steps, up to a hundred.
-fn comes_to(twin: &mut Sequential<'_, Hop>, alloc: Global, wanted: Told) -> bool {
+// Whether a run tells this after some steps, up to a hundred.
+fn is_on_the_way(alloc: Global, model: &Hop, config: Config, wanted: Told) -> bool {
+    let Ok(mut twin) = Run::new(alloc, model, config) else {
+        return false;
+    };
     for _ in 0..100 {
-        if told(twin, alloc) == wanted {
+        if twin.told(alloc) == wanted {
             return true;
         }
-        if !twin.step().unwrap_or(true) {
+        if !twin.step().unwrap_or(false) {
             return false;
         }
     }
@@ -120,21 +136,14 @@ fn whole(rt: &HostRuntime, model: &Hop, config: Config) -> io::Result<()> {
     let Some(mut run) = opened(rt, model, config)? else {
         return Ok(());
     };
-    let Some(mut twin) = opened(rt, model, config)? else {
-        return Ok(());
-    };
-    let mut answer = run.run(rt.alloc());
+    let mut answer = run.whole(rt.alloc(), 6);
     if is_refused(&answer) {
-        let now = told(&run, rt.alloc());
-        let is_kept = comes_to(&mut twin, rt.alloc(), now);
+        let now = run.told(rt.alloc());
+        let is_kept = is_on_the_way(rt.alloc(), model, config, now);
         tell_refused(rt, "Sequential::run", is_kept)?;
-        answer = run.run(rt.alloc());
+        answer = run.whole(rt.alloc(), 6);
     }
-    let told = match answer {
-        Ok(records) => counted(records.len(), 6),
-        Err(fault) => Err(fault),
-    };
-    tell_answer(rt, "Sequential::run", told)
+    tell_answer(rt, "Sequential::run", answer)
 }
 
 const CALLS: [Call; 9] = [
@@ -154,8 +163,8 @@ pub(crate) fn events(rt: &HostRuntime) -> io::Result<()> {
     let (Ok(model), Ok(config)) = (Hop::new(2, 1, 2, 0), Config::new(2, 1, 10, 0)) else {
         return Ok(());
     };
-    if let Some(run) = opened(rt, &model, config)? {
-        try_calls(rt, &mut Run { run }, &CALLS)?;
+    if let Some(mut run) = opened(rt, &model, config)? {
+        try_calls(rt, &mut run, &CALLS)?;
     }
     whole(rt, &model, config)
 }

@@ -1,4 +1,4 @@
-//! What is refused for want of serials, and what is left then. What a refusal for memory leaves, `refusals_demo` tells.
+//! What is refused for want of serials, and what is left then. What a refusal for memory leaves, replays tell.
 
 use crate::tests::pair::Worker;
 use std::process::Abort;
