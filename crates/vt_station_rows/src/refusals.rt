@@ -41,12 +41,20 @@ fn what_is_not_lawful_changes_nothing(rt: HostRuntime) {
     let config = Config::new(2, 2, 10, 0).expect(&rt, "config");
     let (station, places) = Station::new(rt.alloc(), &model, config).expect(&rt, "memory");
     let workers = workers_at(rt.alloc(), &station, &model, config, places).expect(&rt, "memory");
-    let mut crew = Crew::of(&rt, workers);
-    refuses_mail(&rt, &mut crew);
-    refuses_a_cut(&rt, &mut crew);
-    crew.agree(&rt);
-    crew.commit_all(&rt);
-    crew.second.reads(&rt, &all_records());
+    refuses_each(&rt, &mut Crew::of(&rt, workers));
+}
+
+fn refuses_each(rt: &impl Abort, crew: &mut Crew<'_>) {
+    refuses_a_close_before_any_visit(rt, crew);
+    refuses_mail(rt, crew);
+    refuses_a_cut(rt, crew);
+    crew.agree(rt);
+    refuses_a_close_before_both_committed(rt, crew);
+}
+
+fn refuses_a_close_before_any_visit(rt: &impl Abort, crew: &mut Crew<'_>) {
+    crew.read(rt, &[]);
+    crew.first.refuses(rt, Step::Close, Fault::NotLawful);
 }
 
 fn refuses_mail(rt: &impl Abort, crew: &mut Crew<'_>) {
@@ -73,15 +81,15 @@ fn refuses_a_cut(rt: &impl Abort, crew: &mut Crew<'_>) {
     tells(rt, &crew.first, ((0, 0, 2), (true, 1, 0, 3, 0), (10, 0)));
 }
 
-#[test]
-fn there_are_no_records_before_any_visit(rt: HostRuntime) {
-    let model = Hop::new(1, 1, 1, 0).expect(&rt, "options");
-    let config = Config::new(2, 2, 10, 0).expect(&rt, "config");
-    let (station, places) = Station::new(rt.alloc(), &model, config).expect(&rt, "memory");
-    let workers = workers_at(rt.alloc(), &station, &model, config, places).expect(&rt, "memory");
-    let mut crew = Crew::of(&rt, workers);
-    crew.read(&rt, &[]);
-    crew.first.refuses(&rt, Step::Close, Fault::NotLawful);
+// Nothing is committed while one worker has not committed. Here that is the first one.
+fn refuses_a_close_before_both_committed(rt: &impl Abort, crew: &mut Crew<'_>) {
+    crew.second.does(rt, Step::Commit(1));
+    crew.read(rt, &[]);
+    crew.second.refuses(rt, Step::Close, Fault::NotLawful);
+    crew.steps(rt, &[Step::Cut(0), Step::Commit(0)]);
+    crew.read(rt, &all_records());
+    crew.second.does(rt, Step::Close);
+    crew.read(rt, &all_records());
 }
 
 #[test]

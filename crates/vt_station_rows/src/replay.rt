@@ -62,22 +62,3 @@ fn runs_alone(rt: &impl Abort, worker: &mut Hand<'_>) {
     worker.does(rt, Step::Close);
     worker.reads(rt, &[record(1, 0, 1)]);
 }
-
-#[test]
-fn nothing_is_committed_while_one_worker_has_not_committed(rt: HostRuntime) {
-    let model = Hop::new(1, 1, 1, 0).expect(&rt, "options");
-    let config = Config::new(2, 2, 10, 0).expect(&rt, "config");
-    let (station, places) = Station::new(rt.alloc(), &model, config).expect(&rt, "memory");
-    let workers = workers_at(rt.alloc(), &station, &model, config, places).expect(&rt, "memory");
-    commits_at_one_worker(&rt, &mut Crew::of(&rt, workers));
-}
-
-fn commits_at_one_worker(rt: &impl Abort, crew: &mut Crew<'_>) {
-    crew.run_ahead(rt);
-    crew.roll_back(rt);
-    crew.first.does(rt, Step::Cut(0));
-    crew.agree(rt);
-    crew.second.does(rt, Step::Commit(1));
-    crew.read(rt, &[]);
-    crew.second.refuses(rt, Step::Close, Fault::NotLawful);
-}
