@@ -1,30 +1,31 @@
--- The events of a heap in the order of their keys, when one is put in, and when the top is taken out.
-use Rattle.std.proofs.Common.{◌≡◌, ℕ, zero, suc, ◌+◌, ◌<◌, ◌≤◌, inl, inr, List, [], ◌∷◌, Bool, true, false, length, slice_index_or, drop, slice_get, Some, if◌then◌else◌, refl, sym, subst, ap, ◌∙◌, arith}
+-- The events of entries in the order of their keys, when one is put in, and when the first is taken out.
+use Rattle.std.proofs.Common.{◌≡◌, ℕ, zero, suc, ◌+◌, ◌<◌, ◌≤◌, inl, inr, List, [], ◌∷◌, Bool, true, false, ◌++◌, length, slice_index_or, drop, slice_get, Some, if◌then◌else◌, refl, sym, subst, ap, ◌∙◌, arith}
 use Rattle.std.specs.List.{Contains}
 use Rattle.std.specs.List.Sorted.{IsPermutation}
 use Rattle.std.specs.BinaryHeap.{IsHeap, IsUpperBound}
 use Rattle.std.specs.declared.cmp.Ordering.TheVariants.{Less, Equal}
 use Rattle.std.specs.Ordering.{is_lt, nat_cmp, ordering_then}
 use Rattle.std.specs.Cmp.{nat_cmp_is}
+use Rattle.std.proofs.lemmas.List.{map-append}
 use Rattle.std.proofs.lemmas.List.Sums.{sum_by-cons}
-use Rattle.std.proofs.lemmas.List.Sorted.{Contains-permutation, IsPermutation-map, IsPermutation-sym, sum_by-IsPermutation}
+use Rattle.std.proofs.lemmas.List.Sorted.{Contains-permutation, IsPermutation-append_left, IsPermutation-append_right, IsPermutation-map, IsPermutation-middle, IsPermutation-refl, IsPermutation-sym, IsPermutation-trans, sum_by-IsPermutation}
 use Rattle.vt_key.specs.Keys.{Key, key_cmp}
 use Rattle.vt_key.specs.Order.{KeyBefore, key_before, key_same}
-use Rattle.vt_key.proofs.OrderLemmas.{key-asymmetric, key-transitive, key-total, key_before-true, before-key_before, key_same-true, same-key_same}
+use Rattle.vt_key.proofs.OrderLemmas.{key-irreflexive, key-asymmetric, key-transitive, key-total, key_before-true, before-key_before, key_same-true, same-key_same}
 use Rattle.vt_model.specs.declared.sending.Sent.{Sent}
 use Rattle.vt_model.specs.Histories.{Among, IsRising}
-use Rattle.vt_model.proofs.HistoryLemmas.{rising-same}
+use Rattle.vt_model.proofs.HistoryLemmas.{among-append, rising-same}
 use Rattle.vt_model.proofs.RunLemmas.{tested}
 use Rattle.vt_seq.specs.declared.entry.Entry.{Entry}
 use Rattle.vt_seq.specs.Queue.{inserted, all_inserted}
-use Rattle.vt_seq.specs.Entries.{entry_cmp, events_in, in_order, held, AreApart, IsQueue}
+use Rattle.vt_seq.specs.Entries.{entry_cmp, events_in, in_order, held, AreApart, IsLeast, IsQueue}
 use Rattle.vt_seq.proofs.InsertLemmas.{inserted-here, inserted-later}
 use Rattle.vt_seq.proofs.InsertedLemmas.{inserted-rising, inserted-sum, all_inserted-among, among-all_inserted}
 
 -- ---- how keys compare
 
 -- a key that is before another compares as less
-less-key : (a b : Key) → KeyBefore a b → key_cmp a b ≡ Less
+pub less-key : (a b : Key) → KeyBefore a b → key_cmp a b ≡ Less
 less-key a b (inl l) = sym (λ j. ordering_then (nat_cmp_is a.time b.time Less l j) (ordering_then (nat_cmp a.source b.source) (nat_cmp a.number b.number)))
 less-key a b (inr h) = elim h.1 [
   | inl l ↦ sym (λ j. ordering_then (nat_cmp_is a.time b.time Equal h.0 j) (ordering_then (nat_cmp_is a.source b.source Less l j) (nat_cmp a.number b.number)))
@@ -34,6 +35,12 @@ less-key a b (inr h) = elim h.1 [
 -- a key that is after another isn't before it
 not-before : (a b : Key) → (KeyBefore a b → ⊥) → key_before a b ≡ false
 not-before a b never = elim (tested (key_before a b)) [ inl y ↦ absurd (never (key_before-true a b y)) | inr y ↦ y ]
+
+pub not-before-trans : (a b c : Key) → (KeyBefore a b → ⊥) → (KeyBefore b c → ⊥) → KeyBefore a c → ⊥
+not-before-trans a b c ab bc ac = elim (key-total a b) [
+  | inl h ↦ ab h
+  | inr u ↦ elim u [ inl same ↦ bc (subst (λ (k : Key). KeyBefore k c) same ac) | inr ba ↦ bc (key-transitive b a c ba ac) ]
+]
 
 module _ {P : Type 0} where
   -- ---- the order in which events are inserted
@@ -118,7 +125,7 @@ module _ {P : Type 0} where
   contains-among d (e ∷ es) zero l at = inl (sym at)
   contains-among d (e ∷ es) (suc k) l at = inr (contains-among d es k (omega (arith, l)) at)
 
-  among-permuted : (xs ys : List (Sent P)) → IsPermutation xs ys → (d : Sent P) → Among d xs → Among d ys
+  pub among-permuted : (xs ys : List (Sent P)) → IsPermutation xs ys → (d : Sent P) → Among d xs → Among d ys
   among-permuted xs ys h d m = let r = Contains-permutation xs ys d h (among-contains d xs m) in contains-among d ys r.0 r.1 r.2
 
   apart-permuted : (xs ys : List (Sent P)) → IsPermutation xs ys → AreApart xs → AreApart ys
@@ -133,10 +140,19 @@ module _ {P : Type 0} where
         from : (es : List (Sent P)) (d : Sent P) → Among d (all_inserted es []) → Among d es
         from es d m = elim (all_inserted-among es [] d m) [ inl a ↦ a | inr never ↦ absurd never ]
 
-  -- ---- the heap
+  -- ---- entries
+
+  permuted : (xs ys : List (Entry P)) → IsPermutation xs ys → IsPermutation (events_in xs) (events_in ys)
+  permuted xs ys h = IsPermutation-map (λ (e : Entry P). e.event) xs ys h
+
+  pub least-permuted : (x : Entry P) (xs ys : List (Entry P)) → IsPermutation xs ys → IsLeast x xs → IsLeast x ys
+  least-permuted x xs ys h least d m = least d (among-permuted (events_in ys) (events_in xs) (IsPermutation-sym (events_in xs) (events_in ys) (permuted xs ys h)) d m)
+
+  pub least-append : (x : Entry P) (xs ys : List (Entry P)) → IsLeast x xs → IsLeast x ys → IsLeast x (xs ++ ys)
+  least-append x xs ys a b d m = elim (among-append d (events_in xs) (events_in ys) (subst (Among d) (map-append (λ (e : Entry P). e.event) xs ys) m)) [ inl n ↦ a d n | inr n ↦ b d n ]
 
   -- no key is before that of an entry that is an upper bound
-  top-least : (x : Entry P) (xs : List (Entry P)) → IsUpperBound entry_cmp x xs → (d : Sent P) → Among d (events_in xs) → KeyBefore d.key x.event.key → ⊥
+  pub top-least : (x : Entry P) (xs : List (Entry P)) → IsUpperBound entry_cmp x xs → IsLeast x xs
   top-least x [] h d m before = absurd m
   top-least x (y ∷ ys) h d (inl at) before =
       let less : is_lt (entry_cmp x y) ≡ true = ap is_lt (less-key y.event.key x.event.key (subst (λ (e : Sent P). KeyBefore e.key x.event.key) at before)) in
@@ -167,32 +183,106 @@ module _ {P : Type 0} where
         | inr y ↦ let one : one_held k e ≡ 0 = ap (λ (b : Bool). if b then 1 else 0) y in omega (arith, both, one, few)
       ]
 
-  -- the top is the first event
-  pub top-first : (x : Entry P) (xs : List (Entry P)) → 0 < length xs → x ≡ slice_index_or xs 0 x → IsUpperBound entry_cmp x xs → slice_get (in_order xs) 0 ≡ Some x.event
-  top-first x [] some at h = absurd (omega (arith, some))
-  top-first x (y ∷ ys) some at h =
-      ap (λ (es : List (Sent P)). slice_get es 0) (all_later y.event (events_in ys) [] (subst (λ (z : Entry P). (d : Sent P) → Among d (events_in ys) → KeyBefore d.key z.event.key → ⊥) at (top-least x ys h.1)))
-      ∙ ap (λ (z : Entry P). Some z.event) (sym at)
+  -- the least entry is the first, and the others come after it
+  least-first : (x : Entry P) (xs ys : List (Entry P)) → AreApart (events_in xs) → IsPermutation xs (x ∷ ys) → IsLeast x xs → in_order xs ≡ x.event ∷ in_order ys
+  least-first x xs ys apart h least =
+      same-order (events_in xs) (x.event ∷ events_in ys) (permuted xs (x ∷ ys) h) apart
+      ∙ all_later x.event (events_in ys) [] (λ d m. least-permuted x xs (x ∷ ys) h least d (inr m))
 
-  -- without its top the heap has the events after the first
-  pub popped : (x : Entry P) (xs ys : List (Entry P)) → IsQueue xs → IsPermutation xs (x ∷ ys) → IsHeap entry_cmp ys → IsUpperBound entry_cmp x ys → IsQueue ys × (in_order ys ≡ drop 1 (in_order xs))
-  popped x xs ys q h heap bound =
-      let moved : IsPermutation (events_in xs) (x.event ∷ events_in ys) = IsPermutation-map (λ (e : Entry P). e.event) xs (x ∷ ys) h in
-      let same : in_order xs ≡ x.event ∷ in_order ys = same-order (events_in xs) (x.event ∷ events_in ys) moved q.apart ∙ all_later x.event (events_in ys) [] (top-least x ys bound) in
-      let both : AreApart (x.event ∷ events_in ys) = apart-permuted (events_in xs) (x.event ∷ events_in ys) moved q.apart in (
-        record {
-          heap = heap;
-          apart = λ k. let few : held k (x.event ∷ events_in ys) ≤ 1 = both k in let sum : held k (x.event ∷ events_in ys) ≡ one_held k x.event + held k (events_in ys) = sum_by-cons (one_held k) x.event (events_in ys) in omega (arith, few, sum);
-        },
-        sym (ap (drop 1) same),
+  pub first-event : (x : Entry P) (xs ys : List (Entry P)) → AreApart (events_in xs) → IsPermutation xs (x ∷ ys) → IsLeast x xs → slice_get (in_order xs) 0 ≡ Some x.event
+  first-event x xs ys apart h least = ap (λ (es : List (Sent P)). slice_get es 0) (least-first x xs ys apart h least)
+
+  -- without the least entry there are the events after the first
+  pub popped : (x : Entry P) (xs ys : List (Entry P)) → AreApart (events_in xs) → IsPermutation xs (x ∷ ys) → IsLeast x xs → AreApart (events_in ys) × (in_order ys ≡ drop 1 (in_order xs))
+  popped x xs ys apart h least =
+      let both : AreApart (x.event ∷ events_in ys) = apart-permuted (events_in xs) (x.event ∷ events_in ys) (permuted xs (x ∷ ys) h) apart in (
+        λ k. let few : held k (x.event ∷ events_in ys) ≤ 1 = both k in let sum : held k (x.event ∷ events_in ys) ≡ one_held k x.event + held k (events_in ys) = sum_by-cons (one_held k) x.event (events_in ys) in omega (arith, few, sum),
+        sym (ap (drop 1) (least-first x xs ys apart h least)),
       )
 
-  -- with one more entry it has that one's event in its place
-  pub pushed : (x : Entry P) (xs ys : List (Entry P)) → IsQueue xs → IsPermutation (x ∷ xs) ys → IsHeap entry_cmp ys → ((d : Sent P) → Among d (in_order xs) → d.key ≡ x.event.key → ⊥) → IsQueue ys × (in_order ys ≡ inserted x.event (in_order xs))
-  pushed x xs ys q h heap new =
-      let moved : IsPermutation (x.event ∷ events_in xs) (events_in ys) = IsPermutation-map (λ (e : Entry P). e.event) (x ∷ xs) ys h in
+  -- with one more entry there is that one's event in its place
+  pub pushed : (x : Entry P) (xs ys : List (Entry P)) → AreApart (events_in xs) → IsPermutation (x ∷ xs) ys → ((d : Sent P) → Among d (in_order xs) → d.key ≡ x.event.key → ⊥) → AreApart (events_in ys) × (in_order ys ≡ inserted x.event (in_order xs))
+  pushed x xs ys apart h new =
+      let moved : IsPermutation (x.event ∷ events_in xs) (events_in ys) = permuted (x ∷ xs) ys h in
       let other : (d : Sent P) → Among d (events_in xs) → d.key ≡ x.event.key → ⊥ = λ d m. new d (among-all_inserted (events_in xs) [] d (inl m)) in
-      let both : AreApart (x.event ∷ events_in xs) = apart-more x.event (events_in xs) q.apart other in (
-        record { heap = heap; apart = apart-permuted (x.event ∷ events_in xs) (events_in ys) moved both },
+      let both : AreApart (x.event ∷ events_in xs) = apart-more x.event (events_in xs) apart other in (
+        apart-permuted (x.event ∷ events_in xs) (events_in ys) moved both,
         sym (same-order (x.event ∷ events_in xs) (events_in ys) moved both) ∙ past x.event (events_in xs) [] other,
       )
+
+  -- the same entries in another order
+  pub reordered : (xs ys : List (Entry P)) → AreApart (events_in xs) → IsPermutation xs ys → AreApart (events_in ys) × (in_order ys ≡ in_order xs)
+  reordered xs ys apart h = (apart-permuted (events_in xs) (events_in ys) (permuted xs ys h) apart, sym (same-order (events_in xs) (events_in ys) (permuted xs ys h) apart))
+
+  -- ---- entries, and others
+
+  pub in-near : (x : Entry P) (near left far : List (Entry P)) → IsPermutation near (x ∷ left) → IsPermutation (near ++ far) (x ∷ (left ++ far))
+  in-near x near left far h = IsPermutation-append_left far near (x ∷ left) h
+
+  pub in-far : (x : Entry P) (near far left : List (Entry P)) → IsPermutation far (x ∷ left) → IsPermutation (near ++ far) (x ∷ (near ++ left))
+  in-far x near far left h = IsPermutation-trans (near ++ far) (near ++ x ∷ left) (x ∷ (near ++ left)) (IsPermutation-append_right near far (x ∷ left) h) (IsPermutation-middle near x left)
+
+  pub least-none : (x : Entry P) (xs : List (Entry P)) → xs ≡ [] → IsLeast x xs
+  least-none x xs empty d m = absurd (subst (λ (ys : List (Entry P)). Among d (events_in ys)) empty m)
+
+  -- an entry that is least among those left is least
+  pub least-popped : (x : Entry P) (xs ys : List (Entry P)) → IsPermutation xs (x ∷ ys) → IsLeast x ys → IsLeast x xs
+  least-popped x xs ys h least = least-permuted x (x ∷ ys) xs (IsPermutation-sym xs (x ∷ ys) h) (λ d m before. elim m [
+    | inl at ↦ key-irreflexive x.event.key (subst (λ (e : Sent P). KeyBefore e.key x.event.key) at before)
+    | inr n ↦ least d n before
+  ])
+
+  -- an entry of entries isn't before their least
+  pub among-least : (x y : Entry P) (xs others : List (Entry P)) → IsLeast x xs → IsPermutation xs (y ∷ others) → KeyBefore y.event.key x.event.key → ⊥
+  among-least x y xs others least h = least-permuted x xs (y ∷ others) h least y.event (inl refl)
+
+  -- the top of entries is one
+  pub top-same : (xs : List (Entry P)) (x y : Entry P) → 0 < length xs → x ≡ slice_index_or xs 0 x → y ≡ slice_index_or xs 0 y → x ≡ y
+  top-same [] x y some p q = absurd (omega (arith, some))
+  top-same (z ∷ xs) x y some p q = p ∙ sym q
+
+  pub none-left : (y : Entry P) (xs others : List (Entry P)) → IsPermutation xs (y ∷ others) → xs ≡ [] → ⊥
+  none-left y xs others h none = subst (λ (l : List (Entry P)). Among y.event (events_in l)) none (among-permuted (y.event ∷ events_in others) (events_in xs) (IsPermutation-sym (events_in xs) (y.event ∷ events_in others) (permuted xs (y ∷ others) h)) y.event (inl refl))
+
+  pub top-out : (xs : List (Entry P)) (y : Entry P) → 0 < length xs → y ≡ slice_index_or xs 0 y → (others : List (Entry P)) × IsPermutation xs (y ∷ others)
+  top-out [] y some at = absurd (omega (arith, some))
+  top-out (z ∷ xs) y some at = (xs, subst (λ (x : Entry P). IsPermutation (z ∷ xs) (x ∷ xs)) (sym at) (IsPermutation-refl (z ∷ xs)))
+
+  -- ---- the first of two parts is removed
+
+  pub near-removed : (x : Entry P) (near left far : List (Entry P)) → IsQueue near far → IsPermutation near (x ∷ left) → IsLeast x near → IsLeast x far → IsQueue left far × (in_order (left ++ far) ≡ drop 1 (in_order (near ++ far)))
+  near-removed x near left far q h least other =
+      let p = popped x (near ++ far) (left ++ far) q.apart (in-near x near left far h) (least-append x near far least other) in
+      (record { heap = q.heap; apart = p.0 }, p.1)
+
+  pub far-removed : (x : Entry P) (near far left : List (Entry P)) → IsQueue near far → IsPermutation far (x ∷ left) → IsHeap entry_cmp left → IsLeast x near → IsLeast x far → IsQueue near left × (in_order (near ++ left) ≡ drop 1 (in_order (near ++ far)))
+  far-removed x near far left q h heap other least =
+      let p = popped x (near ++ far) (near ++ left) q.apart (in-far x near far left h) (least-append x near far other least) in
+      (record { heap = heap; apart = p.0 }, p.1)
+
+  -- ---- an entry is put into one of two parts
+
+  -- with one more entry, in either part, there is that one's event in its place
+  abbrev pub IsPutAmong : Entry P → List (Entry P) → List (Entry P) → List (Entry P) → List (Entry P) → Type 0
+  IsPutAmong x near far more others = IsQueue more others × (in_order (more ++ others) ≡ inserted x.event (in_order (near ++ far)))
+
+  pub near-put : (x : Entry P) (near far more others : List (Entry P)) → IsQueue near far → IsPermutation (x ∷ near) more → others ≡ far
+      → ((d : Sent P) → Among d (in_order (near ++ far)) → d.key ≡ x.event.key → ⊥) → IsPutAmong x near far more others
+  near-put x near far more others q h same new =
+      let p = pushed x (near ++ far) (more ++ far) q.apart (IsPermutation-append_left far (x ∷ near) more h) new in
+      let put : IsPutAmong x near far more far = (record { heap = q.heap; apart = p.0 }, p.1) in
+      subst (λ (l : List (Entry P)). IsPutAmong x near far more l) (sym same) put
+
+  pub far-put : (x : Entry P) (near far more others : List (Entry P)) → IsQueue near far → IsPermutation (x ∷ far) others → IsHeap entry_cmp others → more ≡ near
+      → ((d : Sent P) → Among d (in_order (near ++ far)) → d.key ≡ x.event.key → ⊥) → IsPutAmong x near far more others
+  far-put x near far more others q h heap same new =
+      let out = in-far x near others far (IsPermutation-sym (x ∷ far) others h) in
+      let p = pushed x (near ++ far) (near ++ others) q.apart (IsPermutation-sym (near ++ others) (x ∷ (near ++ far)) out) new in
+      let put : IsPutAmong x near far near others = (record { heap = heap; apart = p.0 }, p.1) in
+      subst (λ (l : List (Entry P)). IsPutAmong x near far l others) (sym same) put
+
+  -- near entries in another order
+  pub near-reordered : (near far same : List (Entry P)) → IsQueue near far → IsPermutation near same → IsQueue same far × (in_order (same ++ far) ≡ in_order (near ++ far))
+  near-reordered near far same q h =
+      let p = reordered (near ++ far) (same ++ far) q.apart (IsPermutation-append_left far near same h) in
+      (record { heap = q.heap; apart = p.0 }, p.1)

@@ -1,3 +1,4 @@
+pub mod Days
 pub mod Entries
 pub mod Given
 pub mod Limits

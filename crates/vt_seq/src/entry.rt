@@ -1,4 +1,4 @@
-//! An entry of the heap of pending events.
+//! An entry of the pending events.
 
 ghost use Rattle.std.specs.Ordering.{as_partial_cmp};
 ghost use Rattle.std.specs.Cmp.{partial_order_from_own_ties};

@@ -3,6 +3,8 @@
 #![tactic(auto)]
 
 mod advancing;
+mod calendar;
+mod days;
 mod engine;
 mod entry;
 mod execution;

@@ -1,11 +1,13 @@
-//! The events that are pending, in a heap.
+//! The events that are pending, in a calendar and a heap.
 
-ghost use Rattle.std.specs.Prelude.{◌≡◌, ◌+◌, ◌<◌, ◌≤◌, [], length, drop, slice_get, IfOk, IfErr};
+ghost use Rattle.std.specs.Prelude.{◌≡◌, ◌+◌, ◌<◌, ◌≤◌, ◌++◌, [], false, length, drop, slice_get, slice_index_or, IfOk, IfErr, IsTrue};
 ghost use Rattle.std.specs.BinaryHeap.{heap_items, heap_len, heap_capacity};
 ghost use Rattle.vt_key.specs.declared.fault.Fault.TheVariants.{Memory};
 ghost use Rattle.vt_seq.specs.Queue.{all_inserted, AreNew};
-ghost use Rattle.vt_seq.specs.Entries.{in_order, IsQueue};
+ghost use Rattle.vt_seq.specs.Entries.{in_order, IsLeast, IsQueue};
+ghost use Rattle.vt_seq.specs.Days.{entries_of, IsSettled};
 
+use crate::calendar::Calendar;
 use crate::entry::Entry;
 use std::alloc::Global;
 use std::collections::BinaryHeap;
@@ -13,43 +15,57 @@ use std::marker::Model;
 use vt_key::Fault;
 use vt_model::Sent;
 
-/// The events that were sent and not yet executed, in a heap whose top is the event of least key. An event goes in or out
-/// at a cost that grows with the logarithm of how many there are.
+/// The events that were sent and not yet executed: those of the near ticks in a calendar, and the others in a heap whose top
+/// is the event of least key. An event goes into or out of the heap at a cost that grows with the logarithm of how many
+/// there are, and in the calendar only the events of one tick are put in order.
 ///
 /// Contracts see the events in the order of their keys.
 #[derive(Drop)]
 pub(crate) struct PendingEvents<P: Copy> {
-    heap: BinaryHeap<Entry<P>>,
+    calendar: Calendar<P>,
+    far: BinaryHeap<Entry<P>>,
 }
 
 impl<P: Copy> Model for PendingEvents<P> {
-    ghost use Rattle.std.specs.Prelude.{List};
+    ghost use Rattle.std.specs.Prelude.{List, ◌++◌};
     ghost use Rattle.std.specs.BinaryHeap.{heap_items};
     ghost use Rattle.vt_model.specs.declared.sending.Sent.{Sent};
     ghost use Rattle.vt_seq.specs.Entries.{in_order, IsQueue};
+    ghost use Rattle.vt_seq.specs.Days.{entries_of, IsSettled};
 
     ghost Value = { List (Sent P) };
 
-    ghost view = { λ s. in_order (heap_items s.heap) };
+    ghost view = { λ s. in_order (entries_of s.calendar.present.items s.calendar.days ++ heap_items s.far) };
 
-    ghost invariant = { λ s. IsQueue (heap_items s.heap) };
+    ghost invariant = { λ s. IsQueue (entries_of s.calendar.present.items s.calendar.days) (heap_items s.far) × IsSettled s.calendar.present.items s.calendar.days };
 }
 
 impl<P: Copy> PendingEvents<P> {
     /// No events.
-    pub(crate) fn new(alloc: Global) -> PendingEvents<P>
-        ensures { result ≡ [] }
+    ///
+    /// [`Fault::Memory`]: memory was refused.
+    pub(crate) fn new(alloc: Global) -> Result<PendingEvents<P>, Fault>
+        ensures empty { IfOk result (λ pending. pending ≡ []) }
+        ensures refused { IfErr result (λ fault. fault ≡ Memory) }
     {
-        PendingEvents {
-            heap: BinaryHeap::new(alloc),
-        }
+        let calendar = Calendar::new(alloc)?;
+        Ok(PendingEvents {
+            calendar,
+            far: BinaryHeap::new(alloc),
+        })
     }
 
     /// The event of least key.
     pub(crate) fn first(&self) -> Option<Sent<P>>
         ensures { result ≡ slice_get self.now 0 }
     {
-        let Some(entry) = self.heap.peek() else {
+        if is_far_first(&self.calendar, &self.far) {
+            let Some(entry) = self.far.peek() else {
+                return None;
+            };
+            return Some(entry.event);
+        }
+        let Some(entry) = self.calendar.first() else {
             return None;
         };
         Some(entry.event)
@@ -65,13 +81,11 @@ impl<P: Copy> PendingEvents<P> {
         ensures unchanged { IfErr result (λ _. self.new ≡ self.old) }
         ensures refused { IfErr result (λ fault. fault ≡ Memory) }
     {
-        let Ok(()) = self.heap.reserve(sends.len().saturating_sub(1)) else {
+        let Ok(()) = self.far.reserve(sends.len()) else {
             return Err(Fault::Memory);
         };
-        let Some(_) = self.heap.pop() else {
-            unreachable!();
-        };
-        push_all(&mut self.heap, sends);
+        remove_first(&mut self.calendar, &mut self.far);
+        put_all(&mut self.calendar, &mut self.far, sends);
         Ok(())
     }
 
@@ -84,25 +98,71 @@ impl<P: Copy> PendingEvents<P> {
         ensures unchanged { IfErr result (λ _. self.new ≡ self.old) }
         ensures refused { IfErr result (λ fault. fault ≡ Memory) }
     {
-        let Ok(()) = self.heap.reserve(events.len()) else {
+        let Ok(()) = self.far.reserve(events.len()) else {
             return Err(Fault::Memory);
         };
-        push_all(&mut self.heap, events);
+        put_all(&mut self.calendar, &mut self.far, events);
         Ok(())
     }
 }
 
-/// Pushes events, for which there must be room.
-fn push_all<P: Copy>(heap: &mut BinaryHeap<Entry<P>>, events: &[Sent<P>])
-    requires room { heap_len heap.old + length events.now ≤ heap_capacity heap.old }
-    requires queue { IsQueue (heap_items heap.old) }
-    requires new { AreNew events.now (in_order (heap_items heap.old)) }
-    ensures events { in_order (heap_items heap.new) ≡ all_inserted events.now (in_order (heap_items heap.old)) }
-    ensures queue { IsQueue (heap_items heap.new) }
+/// Whether the heap's top is the first of all events.
+fn is_far_first<P: Copy>(calendar: &Calendar<P>, far: &BinaryHeap<Entry<P>>) -> bool
+    requires queue { IsQueue (entries_of calendar.now.present.items calendar.now.days) (heap_items far.now) }
+    requires settled { IsSettled calendar.now.present.items calendar.now.days }
+    ensures far { IsTrue result → (x : _) → x ≡ slice_index_or (heap_items far.now) 0 x → IsLeast x (entries_of calendar.now.present.items calendar.now.days) }
+    ensures some { IsTrue result → 0 < heap_len far.now }
+    ensures near { result ≡ false → (x : _) → IsLeast x (entries_of calendar.now.present.items calendar.now.days) → IsLeast x (heap_items far.now) }
+    ensures nothing { result ≡ false → calendar.now.present.items ≡ [] → entries_of calendar.now.present.items calendar.now.days ++ heap_items far.now ≡ [] }
 {
-    for event in events {
-        let Ok(()) = heap.push(Entry { event: *event }) else {
+    let Some(far) = far.peek() else {
+        return false;
+    };
+    let Some(near) = calendar.first() else {
+        return true;
+    };
+    far.event.key.is_before(&near.event.key)
+}
+
+/// Removes the first of all events, which must be there. A calendar that is empty goes on from its tick.
+fn remove_first<P: Copy>(calendar: &mut Calendar<P>, far: &mut BinaryHeap<Entry<P>>)
+    requires queue { IsQueue (entries_of calendar.old.present.items calendar.old.days) (heap_items far.old) }
+    requires settled { IsSettled calendar.old.present.items calendar.old.days }
+    requires some { 0 < length (in_order (entries_of calendar.old.present.items calendar.old.days ++ heap_items far.old)) }
+    ensures queue { IsQueue (entries_of calendar.new.present.items calendar.new.days) (heap_items far.new) }
+    ensures rest { in_order (entries_of calendar.new.present.items calendar.new.days ++ heap_items far.new) ≡ drop 1 (in_order (entries_of calendar.old.present.items calendar.old.days ++ heap_items far.old)) }
+    ensures capacity { heap_capacity far.new ≡ heap_capacity far.old }
+    ensures len { heap_len far.new ≤ heap_len far.old }
+{
+    if !is_far_first(calendar, far) {
+        let Some(_) = calendar.remove_first() else {
             unreachable!();
         };
+        return;
     }
+    let Some(entry) = far.pop() else {
+        unreachable!();
+    };
+    if calendar.is_empty() {
+        calendar.move_to(entry.event.key.when().ticks());
+    }
+}
+
+/// Puts events into the calendar, and those that it doesn't take into the heap, where there must be room for all.
+fn put_all<P: Copy>(calendar: &mut Calendar<P>, far: &mut BinaryHeap<Entry<P>>, events: &[Sent<P>])
+    requires room { heap_len far.old + length events.now ≤ heap_capacity far.old }
+    requires queue { IsQueue (entries_of calendar.old.present.items calendar.old.days) (heap_items far.old) }
+    requires new { AreNew events.now (in_order (entries_of calendar.old.present.items calendar.old.days ++ heap_items far.old)) }
+    ensures events { in_order (entries_of calendar.new.present.items calendar.new.days ++ heap_items far.new) ≡ all_inserted events.now (in_order (entries_of calendar.old.present.items calendar.old.days ++ heap_items far.old)) }
+    ensures queue { IsQueue (entries_of calendar.new.present.items calendar.new.days) (heap_items far.new) }
+    ensures settled { IsSettled calendar.new.present.items calendar.new.days }
+{
+    for event in events {
+        if !calendar.put(event) {
+            let Ok(()) = far.push(Entry { event: *event }) else {
+                unreachable!();
+            };
+        }
+    }
+    calendar.settle();
 }

@@ -77,7 +77,7 @@ returns-in_err-put_lines-2-clause-err g c =
     if_err (StopsRun _ _ _ _) _ e.field-0.0 c.from_residual-in_err-put_lines-2.ensures.1 (put_stops c.loop-records.invariant.printing is e.ensures.fault e.ensures.err)
 
 -- at the end the whole text was put, of which some is held
-all_put : (g : Over) (c : goal.After-drop-execution-inside-3 g)
+all_put : (g : Over) (c : goal.After-drop-execution-inside-8 g)
     → AppendsAllButHeld (g.O.Write.contents c.args.out.now) (g.O.Write.contents c.put_lines-2.new.writer) c.put_lines-2.new.text (run_text c.args.options.now.text (g.M.Model.handlers c.args.model.now) c.args.options.now.config)
 all_put g c =
     let l = c.loop-records.invariant in

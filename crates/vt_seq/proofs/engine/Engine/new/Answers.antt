@@ -19,7 +19,7 @@ pub loop-p-init : goal.loop-p-init
 loop-p-init g c =
     let empty : c.in_ok-processes.processes.items ≡ [] = search rules in
     record {
-      started = none_started _ (lawful g c.args.model.now c.args.config) c.new-pending.result c.in_ok-processes.processes.items c.new-pending.ensures empty;
+      started = none_started _ (lawful g c.args.model.now c.args.config) c.in_ok-pending.pending c.in_ok-processes.processes.items c.in_ok-pending.ensures.empty empty;
       numbered = λ r d l. absurd (omega (arith, l));
       streams = λ r d l. absurd (omega (arith, l));
     }

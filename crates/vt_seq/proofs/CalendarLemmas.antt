@@ -1,0 +1,305 @@
+-- Entries in order, and entries by days.
+use Rattle.std.proofs.Common.{◌≡◌, ℕ, zero, suc, ◌+◌, ◌<◌, ◌≤◌, ◌⊎◌, inl, inr, List, [], ◌∷◌, ◌++◌, Bool, true, false, if◌then◌else◌, length, map, replicate, get_or, slice_get, slice_index_or, slice_set, Option, option_to_list, Some, None, refl, sym, subst, ap, ◌∙◌, arith}
+use Rattle.std.specs.List.Sorted.{IsPermutation, IsSorted}
+use Rattle.std.specs.Ordering.{is_lt}
+use Rattle.std.proofs.lemmas.List.{append_assoc, append-nil, map-append, map-set}
+use Rattle.std.proofs.lemmas.List.Sorted.{IsPermutation-refl, IsPermutation-sym, IsPermutation-trans, IsPermutation-append_left, IsPermutation-append_right, IsPermutation-append_comm, IsPermutation-middle, IsPermutation-to_front, IsPermutation-map}
+use Rattle.vt_key.specs.Order.{KeyBefore}
+use Rattle.vt_key.specs.Times.{ticks_of}
+use Rattle.vt_model.specs.declared.sending.Sent.{Sent}
+use Rattle.vt_model.specs.Histories.{Among}
+use Rattle.vt_model.proofs.HistoryLemmas.{among-left, among-right}
+use Rattle.vt_seq.specs.declared.entry.Entry.{Entry}
+use Rattle.vt_seq.specs.Entries.{entry_cmp, events_in, IsLeast, IsFalling}
+use Rattle.vt_seq.specs.Days.{joined, is_used, IsPut, IsTaken, AreDated, AreBefore}
+use Rattle.vt_seq.proofs.HeapLemmas.{less-key, not-before-trans, among-permuted, least-append, least-popped}
+
+-- what is found in a list of which one place was set
+set-found : {X : Type 0} (xs : List X) (i j : ℕ) (y l : X) → slice_get (slice_set xs i y) j ≡ Some l → ((j ≡ i) × (l ≡ y)) ⊎ ((j ≡ i → ⊥) × (slice_get xs j ≡ Some l))
+set-found [] i j y l h = inr ((λ same. let never : None ≡ Some l = h in absurd (cc)), h)
+set-found (x ∷ xs) zero zero y l h = inl (refl, (let z : Some y ≡ Some l = h in cc))
+set-found (x ∷ xs) zero (suc j) y l h = inr ((λ same. absurd (omega (arith, same))), h)
+set-found (x ∷ xs) (suc i) zero y l h = inr ((λ same. absurd (omega (arith, same))), h)
+set-found (x ∷ xs) (suc i) (suc j) y l h = elim (set-found xs i j y l h) [
+  | inl u ↦ let at : j ≡ i = u.0 in inl (ap suc at, u.1)
+  | inr u ↦ inr ((λ same. u.0 (omega (arith, same))), u.1)
+]
+
+exchange : {X : Type 0} (xs ys zs : List X) → IsPermutation (xs ++ (ys ++ zs)) (ys ++ (xs ++ zs))
+exchange xs ys zs = subst (λ l. IsPermutation l (ys ++ (xs ++ zs))) (append_assoc xs ys zs)
+    (subst (IsPermutation (xs ++ ys ++ zs)) (append_assoc ys xs zs) (IsPermutation-append_left zs (xs ++ ys) (ys ++ xs) (IsPermutation-append_comm xs ys)))
+
+module _ {P : Type 0} where
+  -- ---- entries in order
+
+  pub sorted-falling : (xs : List (Entry P)) → IsSorted entry_cmp xs → IsFalling xs
+  sorted-falling [] s = tt
+  sorted-falling (x ∷ []) s = ((λ d m before. absurd m), tt)
+  sorted-falling (x ∷ y ∷ ys) s =
+      let rest : IsFalling (y ∷ ys) = sorted-falling (y ∷ ys) (λ k d z l.
+      let next : suc k + 1 ≡ suc (k + 1) = omega arith in
+      subst (λ (n : ℕ). is_lt (entry_cmp (slice_index_or (x ∷ y ∷ ys) n d) (slice_index_or (x ∷ y ∷ ys) (suc k) d)) ≡ false) next (s (suc k) d (let w : 0 ≤ suc k = omega arith in w) (omega (arith, l)))) in
+      let first : KeyBefore x.event.key y.event.key → ⊥ = λ h.
+      let less : is_lt (entry_cmp y x) ≡ true = ap is_lt (less-key x.event.key y.event.key h) in
+      let never : is_lt (entry_cmp y x) ≡ false = s 0 x (let z : 0 ≤ 0 = omega arith in z) (let z : 0 + 1 < length (x ∷ y ∷ ys) = omega arith in z) in
+      let both : true ≡ false = sym less ∙ never in absurd (cc) in (
+        (λ d m before. elim m [
+          | inl at ↦ first (subst (λ (e : Sent P). KeyBefore x.event.key e.key) at before)
+          | inr n ↦ not-before-trans x.event.key y.event.key d.key first (rest.0 d n) before
+        ]),
+        rest,
+      )
+
+  with-last : (d : Sent P) (ys : List (Entry P)) (x : Entry P) → Among d (events_in ys) ⊎ (d ≡ x.event) → Among d (events_in (ys ++ x ∷ []))
+  with-last d ys x m = subst (Among d) (sym (map-append (λ (e : Entry P). e.event) ys (x ∷ []))) (elim m [
+    | inl n ↦ among-left d (events_in ys) (x.event ∷ []) n
+    | inr at ↦ among-right d (events_in ys) (x.event ∷ []) (inl at)
+  ])
+
+  pub falling-last : (ys : List (Entry P)) (x : Entry P) → IsFalling (ys ++ x ∷ []) → IsFalling ys × IsLeast x ys
+  falling-last [] x f = (tt, (λ d m before. absurd m))
+  falling-last (y ∷ ys) x f =
+      let r = falling-last ys x f.1 in (
+        ((λ d m. f.0 d (with-last d ys x (inl m))), r.0),
+        (λ d m before. elim m [
+          | inl at ↦ f.0 x.event (with-last x.event ys x (inr refl)) (subst (λ (e : Sent P). KeyBefore e.key x.event.key) at before)
+          | inr n ↦ r.1 d n before
+        ]),
+      )
+
+  pub before-last : (ys : List (Entry P)) (x : Entry P) (tick : ℕ) → AreBefore tick (ys ++ x ∷ []) → AreBefore tick ys × (ticks_of x.event.key.time < tick)
+  before-last ys x tick h = ((λ d m. h d (with-last d ys x (inl m))), h x.event (with-last x.event ys x (inr refl)))
+
+  -- ---- entries by days
+
+  pub joined-put : (days : List (List (Entry P))) (i : ℕ) (l : List (Entry P)) (x : Entry P) → slice_get days i ≡ Some l → IsPermutation (x ∷ joined days) (joined (slice_set days i (l ++ x ∷ [])))
+  joined-put [] i l x h = let never : None ≡ Some l = h in absurd (cc)
+  joined-put (k ∷ days) zero l x h =
+      let same : k ≡ l = (let z : Some k ≡ Some l = h in cc) in
+      subst (λ (m : List (Entry P)). IsPermutation (x ∷ (m ++ joined days)) (l ++ x ∷ [] ++ joined days)) (sym same)
+      (subst (IsPermutation (x ∷ (l ++ joined days))) (sym (append_assoc l (x ∷ []) (joined days))) (IsPermutation-sym (l ++ x ∷ joined days) (x ∷ (l ++ joined days)) (IsPermutation-middle l x (joined days))))
+  joined-put (k ∷ days) (suc i) l x h =
+      IsPermutation-trans (x ∷ (k ++ joined days)) (k ++ x ∷ joined days) (k ++ joined (slice_set days i (l ++ x ∷ [])))
+      (IsPermutation-sym (k ++ x ∷ joined days) (x ∷ (k ++ joined days)) (IsPermutation-middle k x (joined days)))
+      (IsPermutation-append_right k (x ∷ joined days) (joined (slice_set days i (l ++ x ∷ []))) (joined-put days i l x h))
+
+  pub joined-taken : (days : List (List (Entry P))) (i : ℕ) (l : List (Entry P)) → slice_get days i ≡ Some l → IsPermutation (l ++ joined (slice_set days i [])) (joined days)
+  joined-taken [] i l h = let never : None ≡ Some l = h in absurd (cc)
+  joined-taken (k ∷ days) zero l h =
+      let same : k ≡ l = (let z : Some k ≡ Some l = h in cc) in
+      subst (λ (m : List (Entry P)). IsPermutation (l ++ joined days) (m ++ joined days)) (sym same) (IsPermutation-refl (l ++ joined days))
+  joined-taken (k ∷ days) (suc i) l h =
+      IsPermutation-trans (l ++ (k ++ joined (slice_set days i []))) (k ++ (l ++ joined (slice_set days i []))) (k ++ joined days)
+      (exchange l k (joined (slice_set days i [])))
+      (IsPermutation-append_right k (l ++ joined (slice_set days i [])) (joined days) (joined-taken days i l h))
+
+  joined-least : (x : Entry P) (days : List (List (Entry P))) → ((i : ℕ) (l : List (Entry P)) → slice_get days i ≡ Some l → IsLeast x l) → IsLeast x (joined days)
+  joined-least x [] h = λ d m before. absurd m
+  joined-least x (k ∷ days) h = least-append x k (joined days) (h 0 k refl) (joined-least x days (λ i l at. h (suc i) l at))
+
+  -- an event of an earlier tick is before all in the days
+  pub dated-least : (x : Entry P) (base next : ℕ) (days : List (List (Entry P))) → AreDated base next days → ticks_of x.event.key.time < base + next → IsLeast x (joined days)
+  dated-least x base next days dated early = joined-least x days (λ i l at d m before.
+      let it = dated i l d at m in
+      let tick : ticks_of d.key.time ≡ base + i = it.0 in
+      let late : next ≤ i = it.1 in
+      elim before [
+        | inl less ↦ let z : d.key.time < x.event.key.time = less in omega (arith, tick, late, early, z)
+        | inr same ↦ let z : d.key.time ≡ x.event.key.time = same.0 in omega (arith, tick, late, early, z)
+      ])
+
+  pub dated-put : (base next day : ℕ) (x : Entry P) (old new : List (List (Entry P))) → AreDated base next old → IsPut day x old new → ticks_of x.event.key.time ≡ base + day → next ≤ day → AreDated base next new
+  dated-put base next day x old new dated put tick late i l d at m =
+      elim (set-found old day i (put.list ++ x ∷ []) l (subst (λ (days : List (List (Entry P))). slice_get days i ≡ Some l) put.is at)) [
+        | inl u ↦
+            let here : i ≡ day = u.0 in
+            let both : Among d (events_in (put.list ++ x ∷ [])) = subst (λ (k : List (Entry P)). Among d (events_in k)) u.1 m in
+            elim (last-or put.list x d both) [
+              | inl n ↦ let it = dated day put.list d put.there n in let t : ticks_of d.key.time ≡ base + day = it.0 in (omega (arith, t, here), omega (arith, late, here))
+              | inr same ↦ let t : ticks_of d.key.time ≡ ticks_of x.event.key.time = ap (λ (e : Sent P). ticks_of e.key.time) same in (omega (arith, t, tick, here), omega (arith, late, here))
+            ]
+        | inr u ↦ dated i l d u.1 m
+      ] where
+        last-or : (ys : List (Entry P)) (x : Entry P) (d : Sent P) → Among d (events_in (ys ++ x ∷ [])) → Among d (events_in ys) ⊎ (d ≡ x.event)
+        last-or [] x d m = elim m [ inl at ↦ inr at | inr never ↦ absurd never ]
+        last-or (y ∷ ys) x d m = elim m [ inl at ↦ inl (inl at) | inr n ↦ elim (last-or ys x d n) [ inl o ↦ inl (inr o) | inr at ↦ inr at ] ]
+
+  pub dated-taken : (base next day : ℕ) (list : List (Entry P)) (old new : List (List (Entry P))) → AreDated base next old → IsTaken day list old new → AreDated base (day + 1) new
+  dated-taken base next day list old new dated taken i l d at m =
+      elim (set-found old day i [] l (subst (λ (days : List (List (Entry P))). slice_get days i ≡ Some l) taken.is at)) [
+        | inl u ↦ absurd (subst (λ (k : List (Entry P)). Among d (events_in k)) u.1 m)
+        | inr u ↦
+            let it = dated i l d u.1 m in
+            let later : day + 1 ≤ i = elim (lt-or i day) [
+              | inl less ↦ absurd (subst (λ (k : List (Entry P)). Among d (events_in k)) (taken.first i l less u.1) m)
+              | inr more ↦ elim (eq-or i day more) [ inl same ↦ absurd (u.0 same) | inr z ↦ z ]
+            ] in (it.0, later)
+      ] where
+        lt-or : (a b : ℕ) → (a < b) ⊎ (b ≤ a)
+        lt-or a zero = inr (let z : 0 ≤ a = omega arith in z)
+        lt-or zero (suc b) = inl (let z : 0 < suc b = omega arith in z)
+        lt-or (suc a) (suc b) = elim (lt-or a b) [ inl l ↦ inl (let z : suc a < suc b = omega (arith, l) in z) | inr l ↦ inr (let z : suc b ≤ suc a = omega (arith, l) in z) ]
+
+        eq-or : (a b : ℕ) → b ≤ a → (a ≡ b) ⊎ (b + 1 ≤ a)
+        eq-or a b l = elim (lt-or b a) [ inl m ↦ inr (let z : b + 1 ≤ a = omega (arith, m) in z) | inr m ↦ inl (let z : a ≡ b = omega (arith, l, m) in z) ]
+
+  pub taken-before : (base next day : ℕ) (list : List (Entry P)) (old new : List (List (Entry P))) → AreDated base next old → IsTaken day list old new → AreBefore (base + (day + 1)) list
+  taken-before base next day list old new dated taken d m = let t : ticks_of d.key.time ≡ base + day = (dated day list d taken.there m).0 in omega (arith, t)
+
+  pub before-permuted : (tick : ℕ) (xs ys : List (Entry P)) → IsPermutation xs ys → AreBefore tick xs → AreBefore tick ys
+  before-permuted tick xs ys h before d m =
+      before d (among-permuted (events_in ys) (events_in xs) (IsPermutation-sym (events_in xs) (events_in ys) (IsPermutation-map (λ (e : Entry P). e.event) xs ys h)) d m)
+
+  -- ---- marks
+
+  pub used-put : (l : List (Entry P)) (x : Entry P) → is_used (l ++ x ∷ []) ≡ true
+  used-put [] x = refl
+  used-put (y ∷ l) x = refl
+
+  mark-of : (days : List (List (Entry P))) (i : ℕ) (l : List (Entry P)) → slice_get days i ≡ Some l → slice_get (map is_used days) i ≡ Some (is_used l)
+  mark-of [] i l h = let never : None ≡ Some l = h in absurd (cc)
+  mark-of (k ∷ days) zero l h = ap (λ (m : List (Entry P)). Some (is_used m)) (let z : k ≡ l = (let y : Some k ≡ Some l = h in cc) in z)
+  mark-of (k ∷ days) (suc i) l h = mark-of days i l h
+
+  -- a day that has no mark has no entry
+  pub unmarked-empty : (days : List (List (Entry P))) (i : ℕ) (l : List (Entry P)) → slice_get days i ≡ Some l → (slice_get (map is_used days) i ≡ Some true → ⊥) → l ≡ []
+  unmarked-empty days i [] h none = refl
+  unmarked-empty days i (x ∷ l) h none = absurd (none (mark-of days i (x ∷ l) h))
+
+  pub unmarked-none : (days : List (List (Entry P))) → ((i : ℕ) → slice_get (map is_used days) i ≡ Some true → ⊥) → joined days ≡ []
+  unmarked-none [] none = refl
+  unmarked-none ([] ∷ days) none = unmarked-none days (λ i h. none (suc i) h)
+  unmarked-none ((x ∷ l) ∷ days) none = absurd (none 0 refl)
+
+  -- a day that has a mark has an entry
+  pub marked-there : (days : List (List (Entry P))) (i : ℕ) → slice_get (map is_used days) i ≡ Some true → (l : List (Entry P)) × (slice_get days i ≡ Some l) × (is_used l ≡ true)
+  marked-there [] i h = let never : None ≡ Some true = h in absurd (cc)
+  marked-there (k ∷ days) zero h = (k, refl, (let z : Some (is_used k) ≡ Some true = h in cc))
+  marked-there (k ∷ days) (suc i) h = marked-there days i h
+
+  -- days without entries have no mark
+  pub empty-marks : (days : List (List (Entry P))) → joined days ≡ [] → replicate (length days) false ≡ map is_used days
+  empty-marks [] none = refl
+  empty-marks ([] ∷ days) none = ap (λ (m : List Bool). false ∷ m) (empty-marks days none)
+  empty-marks ((x ∷ l) ∷ days) none = let never : x ∷ (l ++ joined days) ≡ [] = none in absurd (cc)
+
+  pub joined-more : (days : List (List (Entry P))) → joined days ≡ [] → joined (days ++ [] ∷ []) ≡ []
+  joined-more [] none = refl
+  joined-more ([] ∷ days) none = joined-more days none
+  joined-more ((x ∷ l) ∷ days) none = let never : x ∷ (l ++ joined days) ≡ [] = none in absurd (cc)
+
+  -- ---- lists of which contracts see the items
+
+  pub day-there : {V : Type 0} (f : V → List (Entry P)) (vs : List V) (i : ℕ) (d : V) → i < length vs → slice_get (map f vs) i ≡ Some (f (get_or vs i d))
+  day-there f [] i d l = absurd (omega (arith, l))
+  day-there f (v ∷ vs) zero d l = refl
+  day-there f (v ∷ vs) (suc i) d l = day-there f vs i d (omega (arith, l))
+
+  pub set-there : (days : List (List (Entry P))) (i : ℕ) (l : List (Entry P)) → slice_get days i ≡ Some l → slice_set days i l ≡ days
+  set-there [] i l h = let never : None ≡ Some l = h in absurd (cc)
+  set-there (k ∷ days) zero l h = ap (λ (m : List (Entry P)). m ∷ days) (let z : l ≡ k = (let y : Some k ≡ Some l = h in cc) in z)
+  set-there (k ∷ days) (suc i) l h = ap (λ (m : List (List (Entry P))). k ∷ m) (set-there days i l h)
+
+  pub kept-marks : (days : List (List (Entry P))) (i : ℕ) (l new : List (Entry P)) → slice_get days i ≡ Some l → is_used new ≡ is_used l → map is_used (slice_set days i new) ≡ map is_used days
+  kept-marks [] i l new h same = let never : None ≡ Some l = h in absurd (cc)
+  kept-marks (k ∷ days) zero l new h same = ap (λ (b : Bool). b ∷ map is_used days) (same ∙ ap is_used (let z : l ≡ k = (let y : Some k ≡ Some l = h in cc) in z))
+  kept-marks (k ∷ days) (suc i) l new h same = ap (λ (m : List Bool). is_used k ∷ m) (kept-marks days i l new h same)
+
+  pub filled-used : (l : List (Entry P)) → (length l ≡ 0 → ⊥) → is_used l ≡ true
+  filled-used [] some = absurd (some refl)
+  filled-used (x ∷ l) some = refl
+
+  -- ---- an event is put into a day
+
+  -- into one that has an entry; b says whether there was memory
+  pub put-more : (days : List (List (Entry P))) (day : ℕ) (l w : List (Entry P)) (x : Entry P) (b : Bool) → slice_get days day ≡ Some l → is_used l ≡ true → w ≡ (if b then l ++ x ∷ [] else l)
+      → (map is_used (slice_set days day w) ≡ map is_used days) × (b ≡ true → IsPut day x days (slice_set days day w)) × (b ≡ false → slice_set days day w ≡ days)
+  put-more days day l w x true there used is =
+      (kept-marks days day l w there (ap is_used is ∙ used-put l x ∙ sym used), (λ y. record { list = l; there = there; is = ap (slice_set days day) is }), (λ never. absurd (cc)))
+  put-more days day l w x false there used is =
+      (kept-marks days day l w there (ap is_used is), (λ never. absurd (cc)), (λ y. ap (slice_set days day) is ∙ set-there days day l there))
+
+  -- into one that has none
+  pub put-new : (days : List (List (Entry P))) (day : ℕ) (l w : List (Entry P)) (x : Entry P) → slice_get days day ≡ Some l → length l ≡ 0 → w ≡ x ∷ []
+      → (slice_set (map is_used days) day true ≡ map is_used (slice_set days day w)) × IsPut day x days (slice_set days day w)
+  put-new days day [] w x there none is =
+      (sym (map-set is_used days day w ∙ ap (λ (m : List (Entry P)). slice_set (map is_used days) day (is_used m)) is), record { list = []; there = there; is = ap (slice_set days day) is })
+  put-new days day (y ∷ l) w x there none is = absurd (omega (arith, none))
+
+  pub same-found : (a b : List (Entry P)) → Some a ≡ Some b → a ≡ b
+  same-found a b h = cc
+
+  -- ---- the last entry of the present day
+
+  pub last-split : (xs : List (Entry P)) (k : ℕ) (x : Entry P) → length xs ≡ k + 1 → x ≡ slice_index_or xs k x → (ys : List (Entry P)) × (xs ≡ ys ++ x ∷ [])
+  last-split [] k x len at = absurd (omega (arith, len))
+  last-split (y ∷ []) zero x len at = ([], ap (λ (z : Entry P). z ∷ []) (sym at))
+  last-split (y ∷ []) (suc k) x len at = absurd (omega (arith, len))
+  last-split (y ∷ z ∷ zs) zero x len at = absurd (omega (arith, len))
+  last-split (y ∷ z ∷ zs) (suc k) x len at =
+      let r = last-split (z ∷ zs) k x (omega (arith, len)) at in
+      (y ∷ r.0, ap (λ (l : List (Entry P)). y ∷ l) r.1)
+
+  pub last-out : (xs ys others : List (Entry P)) (x : Entry P) → xs ≡ ys ++ x ∷ [] → IsPermutation (xs ++ others) (x ∷ (ys ++ others))
+  last-out xs ys others x h =
+      subst (λ (l : List (Entry P)). IsPermutation (l ++ others) (x ∷ (ys ++ others))) (sym h)
+      (subst (λ (l : List (Entry P)). IsPermutation l (x ∷ (ys ++ others))) (sym (append_assoc ys (x ∷ []) others)) (IsPermutation-middle ys x others))
+
+  pub last-least : (base next : ℕ) (xs ys : List (Entry P)) (x : Entry P) (days : List (List (Entry P))) → xs ≡ ys ++ x ∷ [] → IsFalling xs → AreBefore (base + next) xs → AreDated base next days → IsLeast x (xs ++ joined days)
+  last-least base next xs ys x days h falling before dated =
+      let least : IsLeast x ys = (falling-last ys x (subst (λ (l : List (Entry P)). IsFalling l) h falling)).1 in
+      let early = (before-last ys x (base + next) (subst (λ (l : List (Entry P)). AreBefore (base + next) l) h before)).1 in
+      subst (λ (l : List (Entry P)). IsLeast x (l ++ joined days)) (sym h)
+      (least-append x (ys ++ x ∷ []) (joined days) (least-popped x (ys ++ x ∷ []) ys (IsPermutation-to_front ys x) least) (dated-least x base next days dated early))
+
+  pub falling-left : (left old : List (Entry P)) (r : Option (Entry P)) → old ≡ left ++ option_to_list r → IsFalling old → IsFalling left
+  falling-left left old None h f = subst (λ (l : List (Entry P)). IsFalling l) (h ∙ append-nil left) f
+  falling-left left old (Some x) h f = (falling-last left x (subst (λ (l : List (Entry P)). IsFalling l) h f)).0
+
+  pub before-left : (tick : ℕ) (left old : List (Entry P)) (r : Option (Entry P)) → old ≡ left ++ option_to_list r → AreBefore tick old → AreBefore tick left
+  before-left tick left old None h f = subst (λ (l : List (Entry P)). AreBefore tick l) (h ∙ append-nil left) f
+  before-left tick left old (Some x) h f = (before-last left x tick (subst (λ (l : List (Entry P)). AreBefore tick l) h f)).0
+
+  -- ---- an event is put, or not
+
+  pub dated-either : (base next day : ℕ) (x : Entry P) (old new : List (List (Entry P))) (b : Bool) → (b ≡ true → IsPut day x old new) → (b ≡ false → new ≡ old) → AreDated base next old → ticks_of x.event.key.time ≡ base + day → next ≤ day → AreDated base next new
+  dated-either base next day x old new true put kept dated tick late = dated-put base next day x old new dated (put refl) tick late
+  dated-either base next day x old new false put kept dated tick late = subst (λ (days : List (List (Entry P))). AreDated base next days) (sym (kept refl)) dated
+
+  pub entries-put : (day : ℕ) (x : Entry P) (present : List (Entry P)) (old new : List (List (Entry P))) → IsPut day x old new → IsPermutation (x ∷ (present ++ joined old)) (present ++ joined new)
+  entries-put day x present old new put =
+      subst (λ (days : List (List (Entry P))). IsPermutation (x ∷ (present ++ joined old)) (present ++ joined days)) (sym put.is)
+      (IsPermutation-trans (x ∷ (present ++ joined old)) (present ++ x ∷ joined old) (present ++ joined (slice_set old day (put.list ++ x ∷ [])))
+      (IsPermutation-sym (present ++ x ∷ joined old) (x ∷ (present ++ joined old)) (IsPermutation-middle present x (joined old)))
+      (IsPermutation-append_right present (x ∷ joined old) (joined (slice_set old day (put.list ++ x ∷ []))) (joined-put old day put.list x put.there)))
+
+  pub entries-taken : (day : ℕ) (list sorted : List (Entry P)) (old new : List (List (Entry P))) → IsTaken day list old new → IsPermutation list sorted → IsPermutation (joined old) (sorted ++ joined new)
+  entries-taken day list sorted old new taken h =
+      subst (λ (days : List (List (Entry P))). IsPermutation (joined old) (sorted ++ joined days)) (sym taken.is)
+      (IsPermutation-trans (joined old) (list ++ joined (slice_set old day [])) (sorted ++ joined (slice_set old day []))
+      (IsPermutation-sym (list ++ joined (slice_set old day [])) (joined old) (joined-taken old day list taken.there))
+      (IsPermutation-append_left (joined (slice_set old day [])) list sorted h))
+
+  -- ---- no entries
+
+  pub append-none : (xs ys : List (Entry P)) → xs ++ ys ≡ [] → (xs ≡ []) × (ys ≡ [])
+  append-none [] ys h = (refl, h)
+  append-none (x ∷ xs) ys h = let never : x ∷ (xs ++ ys) ≡ [] = h in absurd (cc)
+
+  none-there : (days : List (List (Entry P))) (i : ℕ) (l : List (Entry P)) → joined days ≡ [] → slice_get days i ≡ Some l → l ≡ []
+  none-there [] i l none at = let never : None ≡ Some l = at in absurd (cc)
+  none-there (k ∷ days) zero l none at = (let z : l ≡ k = (let y : Some k ≡ Some l = at in cc) in z) ∙ (append-none k (joined days) none).0
+  none-there (k ∷ days) (suc i) l none at = none-there days i l (append-none k (joined days) none).1 at
+
+  pub none-dated : (base next : ℕ) (days : List (List (Entry P))) → joined days ≡ [] → AreDated base next days
+  none-dated base next days none i l d at m = absurd (subst (λ (k : List (Entry P)). Among d (events_in k)) (none-there days i l none at) m)
+
+  pub none-falling : (xs : List (Entry P)) → xs ≡ [] → IsFalling xs
+  none-falling xs none = subst (λ (l : List (Entry P)). IsFalling l) (sym none) tt
+
+  pub none-before : (tick : ℕ) (xs : List (Entry P)) → xs ≡ [] → AreBefore tick xs
+  none-before tick xs none d m = absurd (subst (λ (k : List (Entry P)). Among d (events_in k)) none m)
+
+  pub empty-of : (xs : List (Entry P)) → length xs ≡ 0 → xs ≡ []
+  empty-of [] none = refl
+  empty-of (x ∷ xs) none = absurd (omega (arith, none))

@@ -1,0 +1,40 @@
+use Rattle.std.proofs.Common.{◌≡◌, ◌+◌, ◌++◌, ◌∙◌, [], List, length, sym, subst, arith, rules}
+use Rattle.std.specs.List.Sorted.{IsPermutation}
+use Rattle.vt_seq.specs.declared.entry.Entry.{Entry}
+use Rattle.vt_seq.specs.Days.{joined, AreDated}
+use Rattle.vt_seq.proofs.CalendarLemmas.{sorted-falling, before-permuted, taken-before, dated-taken, entries-taken, none-falling, none-before, empty-of}
+use Rattle.vt_seq.proofs.calendar.Calendar.settle.Goals as goal
+
+pub overflow_add-self : goal.overflow_add-self
+overflow_add-self g c = omega (arith, c.in-Some.ensures.bound)
+
+pub invariant_of-self : goal.invariant_of-self
+invariant_of-self g c =
+    let it = c.args.self.now in
+    let day = c.in-Some.day in
+    let list = c.take_first.new.present.items in
+    record {
+      falling = sorted-falling c.sort_unstable.new.self.items c.sort_unstable.ensures.sorted;
+      past = before-permuted (it.base + (day + 1)) list c.sort_unstable.new.self.items c.sort_unstable.ensures.permutation (taken-before it.base it.next day list it.days c.take_first.new.self it.dated c.in-Some.ensures.taken);
+      dated = dated-taken it.base it.next day list it.days c.take_first.new.self it.dated c.in-Some.ensures.taken;
+    }
+
+pub invariant_of-self-in_default : goal.invariant_of-self-in_default
+invariant_of-self-in_default g c =
+    let it = c.args.self.now in
+    let zero : length it.present.items ≡ 0 = search rules in
+    let none : c.take_first.new.present.items ≡ [] = c.in_default.ensures.present_kept ∙ empty-of it.present.items zero in
+    record {
+      falling = none-falling c.take_first.new.present.items none;
+      past = none-before (it.base + it.next) c.take_first.new.present.items none;
+      dated = subst (λ (days : List (List (Entry _))). AreDated it.base it.next days) (sym c.in_default.ensures.kept) it.dated;
+    }
+
+pub returns-in-Some-clause-same : goal.returns-in-Some-clause-same
+returns-in-Some-clause-same g c =
+    let it = c.args.self.now in
+    let sorted = c.sort_unstable.new.self.items in
+    let zero : length it.present.items ≡ 0 = search rules in
+    let none : it.present.items ≡ [] = empty-of it.present.items zero in
+    subst (λ (l : List (Entry _)). IsPermutation (l ++ joined it.days) (sorted ++ joined c.take_first.new.self)) (sym none)
+    (entries-taken c.in-Some.day c.take_first.new.present.items sorted it.days c.take_first.new.self c.in-Some.ensures.taken c.sort_unstable.ensures.permutation)

@@ -1,0 +1,59 @@
+use Rattle.std.proofs.Common.{◌≡◌, ℕ, suc, ◌+◌, ◌≤◌, ◌∙◌, ◌++◌, List, ◌∷◌, drop, length, refl, sym, ap, subst, arith}
+use Rattle.std.specs.BinaryHeap.{heap_items, heap_len, heap_capacity}
+use Rattle.std.proofs.lemmas.List.{drop_more, drop_all}
+use Rattle.vt_model.specs.declared.sending.Sent.{Sent}
+use Rattle.vt_seq.specs.declared.entry.Entry.{Entry}
+use Rattle.vt_seq.specs.Queue.{all_inserted, AreNew}
+use Rattle.vt_seq.specs.Entries.{in_order}
+use Rattle.vt_seq.specs.Days.{entries_of}
+use Rattle.vt_seq.proofs.HeapLemmas.{IsPutAmong, near-put, far-put, near-reordered}
+use Rattle.vt_seq.proofs.pending.put_all.Goals.{then-not-put+in-Ok, else-not-put}
+use Rattle.vt_seq.proofs.pending.put_all.Goals as goal
+
+pub loop-event-preserved : goal.loop-event-preserved
+loop-event-preserved g c =
+    let inv = c.loop-event.invariant in
+    let events = c.args.events.now in
+    let i : ℕ = c.loop-event.event-index in
+    let event = c.event-item.result in
+    let x : Entry _ = record { event = event } in
+    let rest = drop (i + 1) events in
+    let near = entries_of c.loop-event.calendar.present.items c.loop-event.calendar.days in
+    let far = heap_items c.loop-event.far in
+    let now = entries_of c.put.new.self.present.items c.put.new.self.days in
+    let old = in_order (near ++ far) in
+    let more : drop i events ≡ event ∷ rest = drop_more events i event c.loop-event-test.true ∙ ap (λ (e : Sent _). e ∷ rest) (sym c.event-item.is) in
+    let fresh : AreNew (event ∷ rest) old = subst (λ (es : List (Sent _)). AreNew es old) more inv.fresh in
+    let longer : length (drop i events) ≡ suc (length rest) = ap length more in
+    let put : IsPutAmong x near far now (heap_items c.if-not-put.far) = elim c.if-not-put.branch [
+      | then-not-put+in-Ok w ↦
+          let pushed = heap_items w.push.new.self in
+          let both : IsPutAmong x near far now pushed = far-put x near far now pushed inv.queue w.in-Ok.ensures.permutation (w.in-Ok.ensures.heap_order inv.queue.heap) (w.if-not-put.ensures.kept refl) fresh.0 in
+          subst (λ (l : List (Entry _)). IsPutAmong x near far now l) (sym (ap heap_items w.far-is)) both
+      | else-not-put w ↦ near-put x near far now (heap_items c.if-not-put.far) inv.queue (w.if-not-put.ensures.put refl) (ap heap_items w.far-is) fresh.0
+    ] in
+    let room : heap_len c.if-not-put.far + length rest ≤ heap_capacity c.if-not-put.far = elim c.if-not-put.branch [
+      | then-not-put+in-Ok w ↦ let len = ap heap_len w.far-is in let capacity = ap heap_capacity w.far-is in omega (arith, inv.room, longer, len, capacity, w.in-Ok.ensures.len, w.push.ensures.capacity)
+      | else-not-put w ↦ let len = ap heap_len w.far-is in let capacity = ap heap_capacity w.far-is in omega (arith, inv.room, longer, len, capacity)
+    ] in
+    record {
+      room = room;
+      queue = put.0;
+      fresh = subst (AreNew rest) (sym put.1) fresh.1;
+      same = ap (all_inserted rest) put.1 ∙ ap (λ (es : List (Sent _)). all_inserted es old) (sym more) ∙ inv.same;
+    }
+
+pub returns-clause-events : goal.returns-clause-events
+returns-clause-events g c =
+    let inv = c.loop-event.invariant in
+    let near = entries_of c.loop-event.calendar.present.items c.loop-event.calendar.days in
+    let settled = entries_of c.settle.new.self.present.items c.settle.new.self.days in
+    let old = in_order (near ++ heap_items c.loop-event.far) in
+    let none = drop_all c.loop-event.event-index c.args.events.now (omega (arith, c.loop-event-test.false)) in
+    (near-reordered near (heap_items c.loop-event.far) settled inv.queue c.settle.ensures.same).1 ∙ ap (λ (es : List (Sent _)). all_inserted es old) (sym none) ∙ inv.same
+
+pub returns-clause-queue : goal.returns-clause-queue
+returns-clause-queue g c =
+    let near = entries_of c.loop-event.calendar.present.items c.loop-event.calendar.days in
+    let settled = entries_of c.settle.new.self.present.items c.settle.new.self.days in
+    (near-reordered near (heap_items c.loop-event.far) settled c.loop-event.invariant.queue c.settle.ensures.same).0

@@ -1,0 +1,118 @@
+//! Events by days.
+
+ghost use Rattle.std.specs.Prelude.{◌≡◌, ◌+◌, ◌<◌, ◌^◌, [], false, length, slice_get, IfOk, IfErr, IfSome, IfNone, IsTrue, Some};
+ghost use Rattle.vt_key.specs.declared.fault.Fault.TheVariants.{Memory};
+ghost use Rattle.vt_seq.specs.Days.{joined, IsPut, IsTaken};
+
+use crate::entry::Entry;
+use std::alloc::Global;
+use std::marker::Model;
+use std::mem;
+use vt_key::Fault;
+use vt_marks::Marks;
+use vt_model::Sent;
+
+/// How many days there are.
+const DAYS: usize = 1024;
+
+/// Pending events in lists, one for each of 1,024 days. Contracts see a list of entries for each day.
+///
+/// A list that was emptied serves the next day that needs one.
+#[derive(Drop)]
+pub(crate) struct Days<P: Copy> {
+    alloc: Global,
+    days: Vec<Vec<Entry<P>>>,
+    marks: Marks,
+    spare: Vec<Vec<Entry<P>>>,
+    /// No day has an event, as far as a look at the marks would find.
+    is_clear: bool,
+}
+
+impl<P: Copy> Model for Days<P> {
+    ghost use Rattle.std.specs.Prelude.{◌≡◌, List, [], IsTrue, map};
+    ghost use Rattle.vt_seq.specs.declared.entry.Entry.{Entry};
+    ghost use Rattle.vt_seq.specs.Days.{is_used, joined};
+
+    ghost Value = { List (List (Entry P)) };
+
+    ghost view = { λ s. map (λ list. list.items) s.days.items };
+
+    ghost invariant = { λ s. (s.marks ≡ map is_used (map (λ list. list.items) s.days.items)) × (IsTrue s.is_clear → joined (map (λ list. list.items) s.days.items) ≡ []) };
+}
+
+impl<P: Copy> Days<P> {
+    /// Days without events.
+    ///
+    /// [`Fault::Memory`]: memory was refused.
+    pub(crate) fn new(alloc: Global) -> Result<Days<P>, Fault>
+        ensures empty { IfOk result (λ days. joined days ≡ []) }
+        ensures refused { IfErr result (λ fault. fault ≡ Memory) }
+    {
+        let mut days = Vec::with_capacity(alloc, DAYS).map_err(|_| Fault::Memory)?;
+        for _ in 0..DAYS {
+            days.push(Vec::new(alloc)).map_err(|_| Fault::Memory)?;
+        }
+        let marks = Marks::new(alloc, DAYS).map_err(|_| Fault::Memory)?;
+        Ok(Days {
+            alloc,
+            days,
+            marks,
+            spare: Vec::new(alloc),
+            is_clear: true,
+        })
+    }
+
+    /// Puts an event into a day; false if there is no such day, or no memory, which changes nothing.
+    pub(crate) fn put(&mut self, day: usize, event: &Sent<P>) -> bool
+        ensures put { IsTrue result → IsPut day (record { event = event.now }) self.old self.new }
+        ensures kept { result ≡ false → self.new ≡ self.old }
+    {
+        if day >= self.days.len() {
+            return false;
+        }
+        self.is_clear = false;
+        if !self.days[day].is_empty() {
+            return self.days[day].push(Entry { event: *event }).is_ok();
+        }
+        let mut list = empty_list(&mut self.spare, self.alloc);
+        let Ok(()) = list.push(Entry { event: *event }) else {
+            return false;
+        };
+        self.days[day] = list;
+        self.marks.set(day, true);
+        true
+    }
+
+    /// Empties the first day that has an event: its entries take the place of what `present` had. None if no day has one,
+    /// which changes nothing.
+    pub(crate) fn take_first(&mut self, present: &mut Vec<Entry<P>>) -> Option<usize>
+        ensures taken { IfSome result (λ day. IsTaken day present.new.items self.old self.new) }
+        ensures bound { IfSome result (λ day. day + 1 < 2 ^ 64) }
+        ensures nothing { IfNone result (joined self.old ≡ []) }
+        ensures kept { IfNone result (self.new ≡ self.old) }
+        ensures present_kept { IfNone result (present.new.items ≡ present.old.items) }
+    {
+        if self.is_clear {
+            return None;
+        }
+        let Some(day) = self.marks.first_from(0) else {
+            self.is_clear = true;
+            return None;
+        };
+        let list = mem::replace(&mut self.days[day], Vec::new(self.alloc));
+        self.marks.set(day, false);
+        let _ = self.spare.push(mem::replace(present, list));
+        Some(day)
+    }
+}
+
+/// An empty list: a spare one, or a new one.
+fn empty_list<P: Copy>(spare: &mut Vec<Vec<Entry<P>>>, alloc: Global) -> Vec<Entry<P>>
+    ensures { result.items ≡ [] }
+{
+    let Some(mut list) = spare.pop() else {
+        return Vec::new(alloc);
+    };
+    list.clear();
+    list
+}
