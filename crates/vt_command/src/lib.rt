@@ -9,4 +9,5 @@ pub mod laws;
 mod table;
 
 pub use asking::{hint, read_request};
+pub use table::{model_table, texts};
 pub use vt_options::Request;

@@ -1,5 +1,9 @@
 //! The models of `twarp` with their options, and what its help shows.
 
+ghost use Rattle.std.specs.Prelude.{◌≡◌, codes};
+ghost use Rattle.vt_options.specs.Own.{AllHaveDefaults, models_of};
+ghost use Rattle.vt_command.specs.Table.{twarp_models};
+
 use vt_models::{
     MAX_DELAY, MAX_HOPS, MAX_JOBS, MAX_LOOKAHEAD, MAX_POPULATION, MAX_REMOTE, MAX_RISE,
     MAX_SERVICE, MAX_SPAN, MAX_STRIDE, MAX_TRAVEL,
@@ -139,3 +143,18 @@ pub(crate) static MODELS: ModelTable<'static> = ModelTable {
         },
     ],
 };
+
+/// What the help of `twarp` shows of it.
+pub fn texts() -> &'static ProgramTexts
+    ensures { result.now.name.now ≡ codes "twarp" }
+{
+    &TEXTS
+}
+
+/// The models of `twarp` with their options: `hop`, which is meant where none is named, `phold` and `stations`.
+pub fn model_table() -> &'static ModelTable<'static>
+    ensures table { models_of result.now ≡ twarp_models }
+    ensures defaults { AllHaveDefaults result.now.models.now }
+{
+    &MODELS
+}

@@ -7,13 +7,16 @@
 mod models;
 mod refusal;
 
-ghost use Rattle.std.specs.Prelude.{◌≡◌, ◌≢◌, map, OnOk, IfErr};
+ghost use Rattle.std.specs.Prelude.{◌≡◌, ◌≢◌, map};
 ghost use Rattle.std.specs.Io.KnownBytes.{Keeps};
 ghost use Rattle.clap.specs.Words.{Text};
 ghost use Rattle.vt_key.specs.declared.fault.Fault.{Fault};
 ghost use Rattle.vt_command.specs.Requests.{AreOfReplay, AskHelp, IsRefusedAs};
 ghost use Rattle.vt_program.specs.Refusals.{TellsRefusal, status_of};
+ghost use Rattle.vt_program.specs.Models.{IsChoice, IsMadeOf, meaning_of};
 ghost use Rattle.vt_program.specs.Outcomes.{AskWithBadLine, IsDone, EndsBy};
+ghost use Rattle.vt_runner.specs.Models.{CarriesOut};
+ghost use Rattle.vt_runner.specs.Tasks.{IsCounted};
 
 pub use models::TwarpModel;
 use models::{carry_out, model_of};
@@ -24,34 +27,13 @@ use std::io::{Read, Write};
 use std::sync::Wait;
 use std::thread::Threads;
 pub use vt_command::hint;
-use vt_command::{Request, read_request};
+use vt_command::{model_table, texts};
 use vt_key::Fault;
+use vt_options::{Chosen, Task};
+use vt_runner::models_program;
 pub use vt_runner::words_of;
 pub use vt_station::{Progress, Unwatched, Watch};
 pub use vt_text::print_records;
-use vt_text::write_bytes;
-
-/// Does what the words ask for.
-fn answer<H: Threads + Wait + Sync, S: AsStr, R: Read, W: Watch + Sync, O: Write>(
-    rt: &H,
-    alloc: Global,
-    words: &[S],
-    watch: &W,
-    reader: &mut R,
-    out: &mut O,
-) -> Result<(), Fault>
-    ensures ok { OnOk result (IsDone (map S.text words.now) (R.remaining reader.old) (O.contents out.old) (O.contents out.new)) }
-    ensures err { IfErr result (λ fault. EndsBy fault (map S.text words.now) (R.remaining reader.old) (O.contents out.old) (O.contents out.new)) }
-    ensures unread { ¬ AreOfReplay (map S.text words.now) → Keeps (R.remaining reader.old) (R.remaining reader.new) }
-{
-    match read_request(alloc, words)? {
-        Request::Help(text) => write_bytes(out, text.as_bytes()),
-        Request::Task(task, chosen) => {
-            let model = model_of(&chosen);
-            carry_out(rt, alloc, &model, &task, watch, reader, out)
-        }
-    }
-}
 
 /// The whole program: does what the words ask for, and returns the exit status. The first word is the program's name.
 ///
@@ -101,8 +83,23 @@ pub fn program<H: Threads + Wait + Sync, S: AsStr, R: Read, O: Write, E: Write, 
     ensures unrun { AskWithBadLine (map S.text words.now) (R.remaining reader.old) → (result ≢ 0) × Keeps (O.contents out.old) (O.contents out.new) }
     ensures unread { ¬ AreOfReplay (map S.text words.now) → Keeps (R.remaining reader.old) (R.remaining reader.new) }
 {
-    match answer(rt, alloc, words, watch, reader, out) {
-        Ok(()) => 0,
-        Err(fault) => tell_refusal(err, fault),
-    }
+    let on_chosen = move |rt: &H, alloc: Global, chosen: &Chosen, task: &Task, watch: &W, input: &mut R, output: &mut O| -> Result<
+        (),
+        Fault,
+    >
+        requires { IsCounted task.now × IsChoice chosen.now }
+        ensures { CarriesOut meaning_of IsMadeOf chosen.now task.now (R.remaining input.old) (R.remaining input.new) (O.contents output.old) (O.contents output.new) result }
+    { carry_out(rt, alloc, &model_of(chosen), task, watch, input, output) };
+    models_program(
+        rt,
+        alloc,
+        words,
+        reader,
+        out,
+        err,
+        texts(),
+        model_table(),
+        watch,
+        on_chosen,
+    )
 }

@@ -5,5 +5,6 @@ pub mod OutcomeLemmas
 pub mod ReplyLemmas
 pub mod ReplayLemmas
 pub mod ModelsLemmas
+pub mod ProgramLemmas
 pub mod OneModelLemmas
 pub mod ShareLemmas

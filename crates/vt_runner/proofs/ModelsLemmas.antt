@@ -16,6 +16,7 @@ use Rattle.vt_options.specs.Requests.{AreBy, AskHelpOf, IsRefusedAsOf, IsRefused
 use Rattle.vt_options.specs.Table.{Given, NumberOption, value_in}
 use Rattle.vt_runner.specs.Tasks.{IsCounted, KeepsInput, IsTaskDone, TaskEnds}
 use Rattle.vt_runner.specs.Outcomes.{IsAsked, EndsWith}
+use Rattle.vt_runner.specs.Programs.{IsTaskOf}
 use Rattle.vt_runner.specs.Models.{AnyHandlers, program_of, IsDoneFor, EndsFor, AskBadLineFor}
 use Rattle.vt_runner.proofs.OutcomeLemmas as outcomes
 
@@ -33,6 +34,12 @@ module _ (name : Text) (models : Models) (words : List Text) where
   pub task_counted : (task : Task) (k : ℕ) (vs : List ℕ) → AskTaskWith name models words task k vs → IsCounted task
   task_counted (Run s) k vs asked = tt
   task_counted (Replay s) k vs asked = outcomes.serial_counted (given_by (app_for name models) words) s.serial asked.options.settings.serial
+
+  -- what is known of a task that the words ask for
+  pub task_of : (task : Task) (chosen : Chosen) → AskTaskWith name models words task chosen.model chosen.values.items → IsTaskOf name models words chosen task
+  task_of task chosen asked =
+      let given = task_given task _ _ asked in
+      record { asked = asked; counted = task_counted task _ _ asked; complete = values_are (given_by (app_for name models) words) _ _ given.values; within = given.within }
 
   -- words that aren't those of a replay let nothing be read
   pub task_unread : (task : Task) (k : ℕ) (vs : List ℕ) (old new : Option (List ℕ)) → AskTaskWith name models words task k vs → KeepsInput task old new → ¬ AreBy (app_for name models) (codes "replay") words → Keeps old new

@@ -1,5 +1,5 @@
 -- What a program of one model does, by what its parts did.
-use Rattle.std.proofs.Common.{◌≡◌, ◌∙◌, ℕ, List, [], ◌∷◌, Option, inl, ap, subst, length, get_or}
+use Rattle.std.proofs.Common.{◌≡◌, ◌∙◌, ℕ, List, [], ◌∷◌, Option, ap, subst, length, get_or}
 use Rattle.std.specs.Io.KnownBytes.{Keeps}
 use Rattle.std.proofs.lemmas.List.{length-map}
 use Rattle.std.proofs.lemmas.Grind.{get_or_head}
@@ -9,7 +9,7 @@ use Rattle.vt_model.specs.Handler.{Handlers}
 use Rattle.vt_options.specs.declared.own.Chosen.{Chosen}
 use Rattle.vt_options.specs.declared.own.OwnOption.{OwnOption}
 use Rattle.vt_options.specs.Own.{only, own_app, own_line, number_table, number_option, AreInRange, AreWithin, GiveModel}
-use Rattle.vt_options.specs.Requests.{AskHelpOf, IsRefusedAsOf, IsRefusedByOf}
+use Rattle.vt_options.specs.Requests.{AskHelpOf, IsRefusedAsOf}
 use Rattle.vt_options.specs.Table.{Given, NumberOption}
 use Rattle.vt_runner.specs.Models.{AnyHandlers}
 use Rattle.vt_runner.specs.OneModel.{meaning_of, MakesOf, IsDoneOf, EndsOf, AskBadLineOf}
@@ -48,7 +48,3 @@ module _ {M S P K : Type 0} (handlers : M → Handlers S P K) (Makes : List ℕ 
   -- and nothing is written for it
   pub bad_nothing_written : (words : List Text) (input old new : Option (List ℕ)) (fault : Fault) → AskBadLineOf handlers Makes name own words input → EndsOf handlers Makes name own fault words input old new → Keeps old new
   bad_nothing_written words input old new fault bad h = models.bad_nothing_written meaning Made name (only own) words input old new fault bad h
-
-  -- where the words are refused, nothing is written
-  pub words_refused : (words : List Text) (input old new : Option (List ℕ)) → Keeps old new → (fault : Fault) → IsRefusedByOf (own_line name own) words fault → EndsOf handlers Makes name own fault words input old new
-  words_refused words input old new kept fault h = inl (models.words_refused meaning Made name (only own) words input old new kept fault h)

@@ -1,5 +1,5 @@
 -- A program of models: what its words ask for, and what it writes.
-use Rattle.std.specs.Prelude.{◌≡◌, ◌⊎◌, ℕ, List, Option, Some, None, codes}
+use Rattle.std.specs.Prelude.{◌≡◌, ◌⊎◌, ⊤, ℕ, List, Option, Some, None, Result, OnOk, IfErr, codes}
 use Rattle.std.specs.Io.KnownBytes.{Keeps}
 use Rattle.clap.specs.Words.{Text}
 use Rattle.vt_key.specs.declared.fault.Fault.{Fault}
@@ -9,10 +9,12 @@ use Rattle.vt_model.specs.Simulation.{simulation_of}
 use Rattle.vt_world.specs.Answers.{PassesAtStart}
 use Rattle.vt_options.specs.declared.choices.RunSettings.{RunSettings}
 use Rattle.vt_options.specs.declared.choices.ReplaySettings.{ReplaySettings}
+use Rattle.vt_options.specs.declared.choices.Task.{Task}
 use Rattle.vt_options.specs.declared.own.Chosen.{Chosen}
 use Rattle.vt_options.specs.Own.{Models, line_for, AskRunWith, AskReplayWith}
 use Rattle.vt_runner.specs.Runs.{run_text, text_below, PassesInRun}
 use Rattle.vt_runner.specs.Replays.{IsReplayOf, AreRepliesOf}
+use Rattle.vt_runner.specs.Tasks.{IsTaskDone, TaskEnds, KeepsInput}
 use Rattle.vt_runner.specs.Outcomes.{Program, IsDoneBy, EndsWith, AskBadLine}
 
 -- the handlers of a model, with the types of its states, its payloads and what it keeps
@@ -41,6 +43,32 @@ pub record ReplayOf (C : Type 0) : Type 0 where
 abbrev pub AskWith : Text → Models → List Text → Chosen → Type 0
 AskWith name models words c =
     ((s : RunSettings) × AskRunWith name models words s c.model c.values.items) ⊎ ((s : ReplaySettings) × AskReplayWith name models words s c.model c.values.items)
+
+-- models with these handlers, which a choice may make, or nothing
+module _ {C : Type 0} (meaning : C → AnyHandlers) (Makes : Chosen → Option C → Type 0) (chosen : Chosen) (task : Task) (remaining left old new : Option (List ℕ)) where
+  -- the choice makes a model, with which the task was done
+  pub record DoesTask : Type 0 where
+    pub model : C
+    pub made : Makes chosen (Some model)
+    pub done : IsTaskDone (meaning model).handlers task remaining old new
+
+  -- the choice makes a model, with which the task was refused
+  pub record StopsTask (fault : Fault) : Type 0 where
+    pub model : C
+    pub made : Makes chosen (Some model)
+    pub ends : TaskEnds (meaning model).handlers task remaining old new fault
+
+  -- the choice makes no model, which the fault says, and nothing was written
+  pub record MakesNoModel (fault : Fault) : Type 0 where
+    pub refused : Makes chosen None
+    pub named : option_named fault ≡ Some (codes "values")
+    pub kept : Keeps old new
+
+  -- the task was carried out with this answer. A run reads nothing
+  pub record CarriesOut (answer : Result ⊤ Fault) : Type 0 where
+    pub ok : OnOk answer DoesTask
+    pub err : IfErr answer (λ fault. StopsTask fault ⊎ MakesNoModel fault)
+    pub unread : KeepsInput task remaining left
 
 -- models with these handlers, which a choice may make, or nothing, under a name and with tables of options
 module _ {C : Type 0} (meaning : C → AnyHandlers) (Makes : Chosen → Option C → Type 0) (name : Text) (models : Models) where

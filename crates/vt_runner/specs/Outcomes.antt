@@ -1,7 +1,7 @@
 -- What a program does with the words of a command line and with what a reader gives, and what it may write to.
 use Rattle.std.specs.Prelude.{◌≡◌, ◌⊎◌, ℕ, List, Option, Some, None, Err, codes}
 use Rattle.std.specs.Io.KnownBytes.{Appends, Keeps}
-use Rattle.clap.specs.Words.{Text}
+use Rattle.clap.specs.Words.{App, Text}
 use Rattle.vt_key.specs.Times.{Time}
 use Rattle.vt_key.specs.declared.fault.Fault.{Fault}
 use Rattle.vt_key.specs.declared.fault.Fault.TheVariants.{Memory, Busy, Exhausted, TurnsSpent, BadOption, BadStep, Output}
@@ -39,13 +39,20 @@ pub record IsAsked (p : Program) : Type 0 where
   pub replay : (words : List Text) (r : p.Replay) → p.AskReplay words r → AreBy p.line.app (codes "replay") words × (p.line.bad_of_replay (given_by p.line.app words) ≡ None)
   pub config : (words : List Text) (r : p.Replay) → p.AskReplay words r → GiveConfig (given_by p.line.app words) (p.config_of r)
 
-module _ (p : Program) (words : List Text) where
+module _ (app : App) (words : List Text) (old new : Option (List ℕ)) where
   -- the words ask for help, and a text was written
-  pub record WritesHelp (old new : Option (List ℕ)) : Type 0 where
-    pub asked : AskHelpOf p.line.app words
+  pub record WritesHelp : Type 0 where
+    pub asked : AskHelpOf app words
     pub text : List ℕ
     pub written : Appends old new text
 
+  -- the words ask for help, and a beginning of a text was written
+  pub record BeginsHelp : Type 0 where
+    pub asked : AskHelpOf app words
+    pub text : List ℕ
+    pub begun : AppendsBeginning old new text
+
+module _ (p : Program) (words : List Text) where
   -- the words ask for a run, and its text was written
   pub record WritesRun (old new : Option (List ℕ)) : Type 0 where
     pub options : p.Run
@@ -57,12 +64,6 @@ module _ (p : Program) (words : List Text) where
     pub options : p.Replay
     pub asked : p.AskReplay words options
     pub replayed : ReplaysBy (p.config_of options) (p.IsOutput options) remaining old new
-
-  -- the words ask for help, and a beginning of a text was written
-  pub record BeginsHelp (old new : Option (List ℕ)) : Type 0 where
-    pub asked : AskHelpOf p.line.app words
-    pub text : List ℕ
-    pub begun : AppendsBeginning old new text
 
   -- the words ask for a replay, and the lines of the answers to the steps that the reader gave were written
   pub record WritesLines (remaining old new : Option (List ℕ)) : Type 0 where
@@ -131,7 +132,7 @@ module _ (p : Program) (words : List Text) where
 
   -- what the words ask for was done
   abbrev pub IsDoneBy : Option (List ℕ) → Option (List ℕ) → Option (List ℕ) → Type 0
-  IsDoneBy remaining old new = WritesHelp old new ⊎ WritesRun old new ⊎ WritesReplay remaining old new
+  IsDoneBy remaining old new = WritesHelp p.line.app words old new ⊎ WritesRun old new ⊎ WritesReplay remaining old new
 
   -- what was done where it ended with a refusal. Where memory was refused nothing was written, or a beginning of the text of a
   -- sequential run, or what a run in threads had committed, or the lines of all answers of a replay
@@ -142,7 +143,7 @@ module _ (p : Program) (words : List Text) where
   EndsWith TurnsSpent remaining old new = StopsPartWay old new
   EndsWith (BadOption name) remaining old new = RefusesWords name.now old new ⊎ RefusesInput name.now old new
   EndsWith (BadStep line) remaining old new = RefusesLine remaining line old new
-  EndsWith Output remaining old new = BeginsHelp old new ⊎ BeginsRun old new ⊎ BeginsOutput remaining old new
+  EndsWith Output remaining old new = BeginsHelp p.line.app words old new ⊎ BeginsRun old new ⊎ BeginsOutput remaining old new
   EndsWith _ remaining old new = ⊥
 
   -- the words ask for a replay, and the reader tells bytes that are a step text with a bad line

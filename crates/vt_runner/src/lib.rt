@@ -1,14 +1,15 @@
 //! Runs and replays of any model, as a program makes them.
 //!
 //! [`simulate`] and [`replay`] write what the program writes, [`carry_out`] does either, and [`tell_refusal`] says why it
-//! refused. [`run_program`] is a whole program of one model, with options of its own. A program of several models reads
-//! its words by `vt_options`, and runs the one that they choose by these calls, as `vt_program` does.
+//! refused. [`run_program`] is a whole program of one model, with options of its own. [`models_program`] makes one of any
+//! models: it is handed their table, and a closure that carries a task out on the one that the words choose.
 #![tactic(auto)]
 
 mod counting;
 mod one_model;
 mod printing;
 mod process;
+mod program;
 mod refusal;
 mod replaying;
 mod simulation;
@@ -16,6 +17,7 @@ mod task;
 
 pub use one_model::{Streams, model_program};
 pub use process::{hint_of_process, run_program, words_of};
+pub use program::models_program;
 pub use refusal::tell_refusal;
 pub use replaying::replay;
 pub use simulation::simulate;

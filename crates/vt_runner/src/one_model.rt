@@ -1,6 +1,6 @@
 //! A whole program of one model, as a function of its words, a reader and two writers.
 
-ghost use Rattle.std.specs.Prelude.{◌≡◌, ◌≢◌, List, length, map, codes, OnOk, IfErr};
+ghost use Rattle.std.specs.Prelude.{◌≡◌, ◌≢◌, List, length, map, codes};
 ghost use Rattle.std.specs.Fn.{FnReturnsAt};
 ghost use Rattle.std.specs.Io.KnownBytes.{Keeps};
 ghost use Rattle.clap.specs.Words.{Text};
@@ -8,9 +8,11 @@ ghost use Rattle.vt_key.specs.declared.fault.Fault.{Fault};
 ghost use Rattle.vt_options.specs.Own.{HaveDefaults, AreWithin, own_app, own_line};
 ghost use Rattle.vt_options.specs.Requests.{AreBy, AskHelpOf, IsRefusedAsOf};
 ghost use Rattle.vt_runner.specs.Refusals.{TellsRefusalOf, status_of};
+ghost use Rattle.vt_runner.specs.Tasks.{IsCounted};
+ghost use Rattle.vt_runner.specs.Models.{any_handlers, CarriesOut};
 ghost use Rattle.vt_runner.specs.OneModel.{IsDoneOf, EndsOf, AskBadLineOf};
 
-use crate::{carry_out, tell_refusal};
+use crate::{carry_out, models_program};
 use std::alloc::Global;
 use std::convert::AsStr;
 use std::io::{Read, Write};
@@ -18,9 +20,8 @@ use std::sync::Wait;
 use std::thread::Threads;
 use vt_key::Fault;
 use vt_model::Model as EventModel;
-use vt_options::{ModelOptions, ModelTable, OwnOption, ProgramTexts, Request, read_request};
+use vt_options::{Chosen, ModelOptions, ModelTable, OwnOption, ProgramTexts, Task};
 use vt_station::Watch;
-use vt_text::write_bytes;
 
 /// The heading of the options of a model that is the only one.
 pub(crate) const OWN_HEADING: &str = "Options of the model";
@@ -36,22 +37,20 @@ pub struct Streams<R, O, E> {
     pub errors: E,
 }
 
-/// Does what the words ask for.
-fn answer<
+/// Carries a task out on the model that `make` makes of the chosen values.
+fn carry_out_made<
     H: Threads + Wait + Sync,
     M: EventModel + Sync + Drop,
     F: Fn(&[u32]) -> Option<M>,
-    S: AsStr,
-    R: Read,
     W: Watch + Sync,
+    R: Read,
     O: Write,
 >(
     rt: &H,
     alloc: Global,
-    words: &[S],
-    texts: &ProgramTexts,
-    own: &[OwnOption],
     make: &F,
+    chosen: &Chosen,
+    task: &Task,
     watch: &W,
     reader: &mut R,
     out: &mut O,
@@ -59,30 +58,14 @@ fn answer<
 where
     M::State: Send,
     M::Kept: Send,
-    requires defaults { HaveDefaults own.now }
-    requires callable { (values : _) → length values.now ≡ length own.now → AreWithin own.now values.now → F.pre make.now values }
-    ensures ok { OnOk result (IsDoneOf M.handlers (λ values made. FnReturnsAt F.Fn make.now values made) texts.now.name.now own.now (map S.text words.now) (R.remaining reader.old) (O.contents out.old) (O.contents out.new)) }
-    ensures err { IfErr result (λ fault. EndsOf M.handlers (λ values made. FnReturnsAt F.Fn make.now values made) texts.now.name.now own.now fault (map S.text words.now) (R.remaining reader.old) (O.contents out.old) (O.contents out.new)) }
-    ensures unread { ¬ AreBy (own_app texts.now.name.now own.now) (codes "replay") (map S.text words.now) → Keeps (R.remaining reader.old) (R.remaining reader.new) }
+    requires counted { IsCounted task.now }
+    requires callable { (values : _) → values.now ≡ chosen.now.values.items → F.pre make.now values }
+    ensures { CarriesOut (λ model. any_handlers (M.handlers model)) (λ choice made. FnReturnsAt F.Fn make.now choice.values.items made) chosen.now task.now (R.remaining reader.old) (R.remaining reader.new) (O.contents out.old) (O.contents out.new) result }
 {
-    let models = [ModelOptions {
-        name: "",
-        heading: OWN_HEADING,
-        options: own,
-    }];
-    let table = ModelTable {
-        naming: None,
-        models: &models,
+    let Some(model) = make(chosen.values.as_slice()) else {
+        return Err(Fault::BadOption("values"));
     };
-    match read_request(alloc, texts, &table, words)? {
-        Request::Help(text) => write_bytes(out, text.as_bytes()),
-        Request::Task(task, chosen) => {
-            let Some(model) = make(chosen.values.as_slice()) else {
-                return Err(Fault::BadOption("values"));
-            };
-            carry_out(rt, alloc, &model, &task, watch, reader, out)
-        }
-    }
+    carry_out(rt, alloc, &model, task, watch, reader, out)
 }
 
 /// A whole program of one model: does what the words ask for, and returns the exit status. The first word is the program's
@@ -147,18 +130,32 @@ where
     ensures unrun { AskBadLineOf M.handlers (λ values made. FnReturnsAt F.Fn make values made) texts.now.name.now own.now (map S.text words.now) (R.remaining streams.old.input) → (result ≢ 0) × Keeps (O.contents streams.old.output) (O.contents streams.new.output) }
     ensures unread { ¬ AreBy (own_app texts.now.name.now own.now) (codes "replay") (map S.text words.now) → Keeps (R.remaining streams.old.input) (R.remaining streams.new.input) }
 {
-    match answer(
+    let models = [ModelOptions {
+        name: "",
+        heading: OWN_HEADING,
+        options: own,
+    }];
+    let table = ModelTable {
+        naming: None,
+        models: &models,
+    };
+    let on_made = move |rt: &H, alloc: Global, chosen: &Chosen, task: &Task, watch: &W, input: &mut R, output: &mut O| -> Result<
+        (),
+        Fault,
+    >
+        requires { IsCounted task.now × ((values : _) → values.now ≡ chosen.now.values.items → F.pre make values) }
+        ensures { CarriesOut (λ model. any_handlers (M.handlers model)) (λ choice made. FnReturnsAt F.Fn make choice.values.items made) chosen.now task.now (R.remaining input.old) (R.remaining input.new) (O.contents output.old) (O.contents output.new) result }
+    { carry_out_made(rt, alloc, &make, chosen, task, watch, input, output) };
+    models_program(
         rt,
         alloc,
         words,
-        texts,
-        own,
-        &make,
-        watch,
         &mut streams.input,
         &mut streams.output,
-    ) {
-        Ok(()) => 0,
-        Err(fault) => tell_refusal(&mut streams.errors, texts.name, fault),
-    }
+        &mut streams.errors,
+        texts,
+        &table,
+        watch,
+        on_made,
+    )
 }
