@@ -1,5 +1,5 @@
 -- What the handlers of `Traffic` give.
-use Rattle.std.specs.Prelude.{ℕ, ◌+◌, ◌%◌, ◌^◌, List, [], ◌∷◌, ◌++◌, Bool, not, nat_eq, nat_lt, bit_and, Option, Some, None, if◌then◌else◌}
+use Rattle.std.specs.Prelude.{ℕ, ◌+◌, ◌%◌, ◌^◌, List, [], ◌∷◌, ◌++◌, Bool, not, nat_eq, bit_and, Option, Some, None, if◌then◌else◌}
 use Rattle.vt_model.specs.Handler.{Handlers, StartResult, ForwardResult}
 use Rattle.vt_model.specs.Sends.{SendRequest, RecordRequest}
 use Rattle.vt_model.specs.declared.flags.Bits.{Bits}
@@ -12,11 +12,12 @@ use Rattle.vt_traffic.specs.declared.junction.Road.TheVariants.{Eastward, Southw
 use Rattle.vt_traffic.specs.declared.junction.JunctionEvent.{JunctionEvent}
 use Rattle.vt_traffic.specs.declared.junction.JunctionEvent.TheVariants.{Arrive, Leave, Change}
 use Rattle.vt_stream.specs.Drawn.{scaled}
+use Rattle.vt_parts.specs.Drawing.{happens}
 use Rattle.vt_traffic.specs.Junction.{other_road, waiting, joined, unjoined, changed, can_enter, entered, entry, gone, one_more, one_fewer}
 
 -- the road by which a car goes on: it turns where its word, in percent, is below the share of those that turn
 abbrev pub onward : Traffic → Road → ℕ → Road
-onward m r w = if nat_lt (scaled w PERCENT) m.turning then other_road r else r
+onward m r w = if happens w m.turning PERCENT then other_road r else r
 
 -- the junction to which a road leads
 abbrev pub next_junction : Traffic → ℕ → ℕ → Road → ℕ

@@ -13,6 +13,7 @@ ghost use Rattle.vt_traffic.specs.Options.{first_bad_option};
 use crate::junction::{Junction, JunctionEvent, PASSED, Road, WAITING};
 use vt_key::{Fault, MAX_PROCESSES, When};
 use vt_model::{Bits, Draws, Model as EventModel, Out};
+use vt_parts::bernoulli;
 
 /// The most cars that wait on each road of a junction at the start.
 pub const MAX_CARS: u32 = 1_000;
@@ -119,7 +120,7 @@ impl Traffic {
         ensures drawn { drawn_in draws.new ≡ drawn_in draws.old + 1 }
         ensures stream { stream_in draws.new ≡ moved (stream_in draws.old) 1 }
     {
-        if draws.below(PERCENT) < u64::from(self.turning) {
+        if bernoulli(draws, u64::from(self.turning), PERCENT) {
             road.other()
         } else {
             road
