@@ -4,6 +4,5 @@ pub mod WaitingLemmas
 pub mod RowLists
 pub mod FloorLemmas
 pub mod KeptLemmas
-pub mod RunLemmas
-pub mod SpanLemmas
+pub mod FallingLemmas
 pub mod CommitRows

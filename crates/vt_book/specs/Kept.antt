@@ -1,9 +1,11 @@
 -- How a book keeps its rows: the records of those that it shows, in the order of the rows, and the other rows.
 use Rattle.std.specs.Prelude.{◌≡◌, ℕ, false, List, [], ◌∷◌, ◌++◌}
 use Rattle.std.specs.List.{sum_by}
+use Rattle.std.specs.List.Sorted.{IsSorted}
 use Rattle.vt_key.specs.Times.{Time}
 use Rattle.vt_model.specs.declared.rows.Row.{Row}
 use Rattle.vt_model.specs.declared.rows.Record.{Record}
+use Rattle.vt_model.specs.contracts.rows.RowOrd.TheImpl.{ghosts}
 use Rattle.vt_model.specs.Sequential.{rows_before, records_of}
 use Rattle.vt_steps.specs.Rows.{row_before, rows_in_order}
 
@@ -15,6 +17,10 @@ AreSameRows xs ys = (f : Row → ℕ) → sum_by f xs ≡ sum_by f ys
 abbrev pub AreNotBefore : Row → List Row → Type 0
 AreNotBefore row [] = Unit {0}
 AreNotBefore row (r ∷ rs) = (row_before r row ≡ false) × AreNotBefore row rs
+
+-- rows in falling order: none is before the one that stands behind it
+abbrev pub AreFalling : List Row → Type 0
+AreFalling rows = IsSorted (λ x y. ghosts.cmp y x) rows
 
 -- what is kept of the rows that were handed in: the records of those before the floor, in the order of the rows, and the
 -- other rows

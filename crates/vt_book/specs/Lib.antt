@@ -1,4 +1,2 @@
 pub mod Books
 pub mod Kept
-pub mod Runs
-pub mod Heaps

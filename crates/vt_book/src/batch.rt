@@ -1,38 +1,28 @@
 //! Rows that are prepared to be handed in together.
 
-ghost use Rattle.std.specs.Prelude.{◌≡◌, ◌++◌, length, IfOk, IfErr, MatchOption};
-ghost use Rattle.std.specs.List.{list_all};
+ghost use Rattle.std.specs.Prelude.{◌≡◌, length, IfOk, IfErr};
 ghost use Rattle.vt_key.specs.declared.fault.Fault.TheVariants.{Memory};
-ghost use Rattle.vt_book.specs.Books.{is_within};
-ghost use Rattle.vt_book.specs.Runs.{IsRunOf};
 
-use crate::history::History;
-use crate::run::{Run, run_of};
 use std::alloc::Global;
 use std::marker::Model;
-use vt_key::{Fault, When};
+use vt_key::Fault;
 use vt_model::Row;
 
 /// Rows that a worker is going to hand in. Contracts see them in the order in which they were given.
 ///
-/// The rows are sorted when the batch is made, so that a hand-in only moves them. A batch may go to another thread.
+/// A batch is made without the book, and a hand-in only moves its rows. It may go to another thread.
 #[derive(Drop)]
 pub struct Batch {
-    rows: History,
-    run: Option<Run>,
-    count: usize,
+    rows: Vec<Row>,
 }
 
 impl Model for Batch {
     ghost use Rattle.std.specs.Prelude.{List};
     ghost use Rattle.vt_model.specs.declared.rows.Row.{Row};
-    ghost use Rattle.vt_book.specs.Runs.{IsReady};
 
     ghost Value = { List Row };
 
-    ghost view = { λ b. b.rows.rows };
-
-    ghost invariant = { λ b. IsReady b.rows.rows b.run b.count };
+    ghost view = { λ b. b.rows.items };
 }
 
 impl Batch {
@@ -53,43 +43,27 @@ impl Batch {
     pub fn of(rows: Vec<Row>) -> Batch
         ensures { result ≡ rows.items }
     {
-        let history = History::new().with(rows.as_slice());
-        let count = rows.len();
-        Batch {
-            rows: history,
-            run: run_of(rows),
-            count,
-        }
+        Batch { rows }
     }
 
     /// How many rows there are.
     pub fn len(&self) -> usize
         ensures { result ≡ length self.now }
     {
-        self.count
+        self.rows.len()
     }
 
-    /// Whether the times of all rows are at least `from` and below `to`.
-    pub(crate) fn are_within(&self, from: When, to: When) -> bool
-        ensures { result ≡ list_all (is_within from to) self.now }
+    /// The rows.
+    pub(crate) fn rows(&self) -> &[Row]
+        ensures { result.now ≡ self.now }
     {
-        match &self.run {
-            None => true,
-            Some(run) => run.is_within(from, to),
-        }
+        self.rows.as_slice()
     }
 
-    /// The history with these rows appended.
-    pub(crate) fn after(&self, history: &History) -> History
-        ensures { result.rows ≡ history.now.rows ++ self.now }
+    /// The rows, taken out of the batch.
+    pub(crate) fn into_rows(self) -> Vec<Row>
+        ensures { result.items ≡ self }
     {
-        history.and(&self.rows)
-    }
-
-    /// The rows as a sorted run; None if there is no row.
-    pub(crate) fn into_run(self) -> Option<Run>
-        ensures { IsRunOf self result }
-    {
-        self.run
+        self.rows
     }
 }

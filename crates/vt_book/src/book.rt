@@ -4,17 +4,14 @@ ghost use Rattle.std.specs.Prelude.{◌≡◌, ◌≤◌, ◌<◌, ◌+◌, ◌^
 ghost use Rattle.std.specs.List.{list_all};
 ghost use Rattle.vt_key.specs.declared.fault.Fault.TheVariants.{Memory};
 ghost use Rattle.vt_key.specs.declared.limits.TheConstants.{MAX_WORKERS};
-ghost use Rattle.vt_model.specs.Sequential.{rows_before, records_of};
-ghost use Rattle.vt_steps.specs.Rows.{rows_in_order};
 ghost use Rattle.vt_steps.specs.World.{opening_book, book_floor, book_records, least_floor};
 ghost use Rattle.vt_steps.specs.BookSteps.{with_rows, closed_book};
 ghost use Rattle.vt_book.specs.Books.{may_hand, are_within, is_within, refusal_of_hand, refusal_of_close};
-ghost use Rattle.vt_book.specs.Kept.{AreSameRows};
 
 use crate::batch::Batch;
 use crate::floors::Floors;
 use crate::history::History;
-use crate::waiting::Waiting;
+use crate::waiting::{add, show_before};
 use std::alloc::Global;
 use std::marker::Model;
 use vt_key::{Fault, When};
@@ -30,7 +27,7 @@ pub struct Book {
     floors: Floors,
     history: History,
     shown: Vec<Record>,
-    waiting: Waiting,
+    waiting: Vec<Row>,
     closed: bool,
 }
 
@@ -46,7 +43,7 @@ impl Model for Book {
       book = record { rows = b.history.rows; floors = b.floors; is_closed = b.closed };
     } };
 
-    ghost invariant = { λ b. IsKept (least_floor b.end b.floors) b.history.rows b.shown.items b.waiting };
+    ghost invariant = { λ b. IsKept (least_floor b.end b.floors) b.history.rows b.shown.items b.waiting.items };
 }
 
 impl Book {
@@ -61,7 +58,7 @@ impl Book {
             floors: Floors::new(workers),
             history: History::new(),
             shown: Vec::new(alloc),
-            waiting: Waiting::new(alloc),
+            waiting: Vec::new(alloc),
             closed: false,
         }
     }
@@ -85,12 +82,12 @@ impl Book {
         if !self.may_hand(worker, rows, floor) {
             return Err(Fault::NotLawful);
         }
-        let batch = Batch::new(self.waiting.alloc(), rows)?;
+        let batch = Batch::new(*self.waiting.allocator(), rows)?;
         self.take(worker, batch, floor)
     }
 
-    /// Takes a prepared batch, as [`Book::hand`] takes rows. No row is copied or sorted. Memory is asked for at most twice:
-    /// for records that will be shown, and for one more batch. A batch that is refused is dropped.
+    /// Takes a prepared batch, as [`Book::hand`] takes rows. Memory is asked for at most twice: for records that will be shown,
+    /// and for rows that wait. A batch that is refused is dropped.
     pub fn hand_batch(&mut self, worker: u32, batch: Batch, floor: When) -> Result<(), Fault>
         ensures refused { IfSome (refusal_of_hand self.old worker batch floor) (λ fault. result ≡ Err fault) }
         ensures taken { refusal_of_hand self.old worker batch floor ≡ None → MatchResult result
@@ -101,7 +98,7 @@ impl Book {
         if self.is_closed() {
             return Err(Fault::Closed);
         }
-        if !self.may_hand_batch(worker, &batch, floor) {
+        if !self.may_hand(worker, batch.rows(), floor) {
             return Err(Fault::NotLawful);
         }
         self.take(worker, batch, floor)
@@ -117,9 +114,9 @@ impl Book {
             (λ fault. fault ≡ Memory) }
         ensures unchanged { IfErr result (λ _. self.new ≡ self.old) }
     {
-        make_room(&mut self.shown, &self.waiting, batch.len())?;
-        let history = batch.after(&self.history);
-        self.waiting.insert(batch)?;
+        make_room(&mut self.shown, self.waiting.len(), batch.len())?;
+        let history = self.history.with(batch.rows());
+        add(&mut self.waiting, batch.into_rows())?;
         self.history = history;
         self.floors.set(worker, floor);
         show_before(
@@ -138,16 +135,6 @@ impl Book {
             return false;
         };
         handed_in <= floor && floor <= self.end && are_within(rows, handed_in, floor)
-    }
-
-    /// The same for a prepared batch.
-    fn may_hand_batch(&self, worker: u32, batch: &Batch, floor: When) -> bool
-        ensures { result ≡ may_hand self.now worker batch.now floor }
-    {
-        let Some(handed_in) = self.floors.get(worker) else {
-            return false;
-        };
-        handed_in <= floor && floor <= self.end && batch.are_within(handed_in, floor)
     }
 
     /// The book's floor: the least of the floors up to which the workers have handed in, which are 0 at first. No
@@ -210,26 +197,14 @@ fn are_within(rows: &[Row], from: When, to: When) -> bool
         .all(|row| from <= row.key.when() && row.key.when() < to)
 }
 
-/// Makes room for the records of all waiting rows and of `more` others.
+/// Makes room for the records of the waiting rows and of `more` others.
 ///
 /// [`Fault::Memory`]: memory was refused.
-fn make_room(shown: &mut Vec<Record>, waiting: &Waiting, more: usize) -> Result<(), Fault>
+fn make_room(shown: &mut Vec<Record>, waiting: usize, more: usize) -> Result<(), Fault>
     ensures shown { shown.new.items ≡ shown.old.items }
-    ensures few { OnOk result (length waiting.now + more < 2 ^ 64) }
-    ensures room { OnOk result (vec_len shown.new + (length waiting.now + more) ≤ vec_capacity shown.new) }
+    ensures room { OnOk result (vec_len shown.new + (waiting + more) ≤ vec_capacity shown.new) }
     ensures refused { IfErr result (λ fault. fault ≡ Memory) }
 {
-    let all = waiting.len().checked_add(more).ok_or(Fault::Memory)?;
+    let all = waiting.checked_add(more).ok_or(Fault::Memory)?;
     shown.reserve(all).map_err(|_| Fault::Memory)
-}
-
-/// Moves the waiting rows before a time to the shown records, in the order of the rows.
-fn show_before(waiting: &mut Waiting, shown: &mut Vec<Record>, time: When)
-    requires { vec_len shown.old + length waiting.old ≤ vec_capacity shown.old }
-    ensures shown { shown.new.items ≡ shown.old.items ++ records_of (rows_in_order (rows_before time waiting.old)) }
-    ensures waiting { AreSameRows waiting.old (rows_before time waiting.old ++ waiting.new) }
-{
-    while let Some(row) = waiting.take_before(time) {
-        shown.push_reserved(row.rec);
-    }
 }

@@ -35,11 +35,4 @@ impl History {
     {
         History {}
     }
-
-    /// This history with another one appended.
-    pub(crate) fn and(&self, later: &History) -> History
-        ensures { result.rows ≡ self.now.rows ++ later.now.rows }
-    {
-        History {}
-    }
 }

@@ -10,7 +10,6 @@ mod batch;
 mod book;
 mod floors;
 mod history;
-mod run;
 mod waiting;
 
 pub use batch::Batch;
