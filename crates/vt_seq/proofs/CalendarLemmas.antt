@@ -1,7 +1,8 @@
 -- Entries in order, and entries by days.
-use Rattle.std.proofs.Common.{◌≡◌, ℕ, zero, suc, ◌+◌, ◌<◌, ◌≤◌, ◌⊎◌, inl, inr, List, [], ◌∷◌, ◌++◌, Bool, true, false, if◌then◌else◌, length, map, replicate, get_or, slice_get, slice_index_or, slice_set, Option, option_to_list, Some, None, refl, sym, subst, ap, ◌∙◌, arith}
+use Rattle.std.proofs.Common.{◌≡◌, ℕ, zero, suc, ◌+◌, ◌<◌, ◌≤◌, ◌⊎◌, inl, inr, List, [], ◌∷◌, ◌++◌, Bool, true, false, if◌then◌else◌, length, map, replicate, get_or, slice_get, slice_index_or, slice_set, Option, option_to_list, Some, None, Result, Ok, Err, IfOk, IfErr, is_ok, Vec, Global, refl, sym, subst, ap, ◌∙◌, arith}
 use Rattle.std.specs.List.Sorted.{IsPermutation, IsSorted}
 use Rattle.std.specs.Ordering.{is_lt}
+use Rattle.std.proofs.lemmas.Bool.{cases_order}
 use Rattle.std.proofs.lemmas.List.{append_assoc, append-nil, map-append, map-set}
 use Rattle.std.proofs.lemmas.List.Sorted.{IsPermutation-refl, IsPermutation-sym, IsPermutation-trans, IsPermutation-append_left, IsPermutation-append_right, IsPermutation-append_comm, IsPermutation-middle, IsPermutation-to_front, IsPermutation-map}
 use Rattle.vt_key.specs.Order.{KeyBefore}
@@ -11,7 +12,7 @@ use Rattle.vt_model.specs.Histories.{Among}
 use Rattle.vt_model.proofs.HistoryLemmas.{among-left, among-right}
 use Rattle.vt_seq.specs.declared.entry.Entry.{Entry}
 use Rattle.vt_seq.specs.Entries.{entry_cmp, events_in, IsLeast, IsFalling}
-use Rattle.vt_seq.specs.Days.{joined, is_used, IsPut, IsTaken, AreDated, AreBefore}
+use Rattle.vt_seq.specs.Days.{joined, is_used, IsPut, IsTaken, AreDated, AreJustBefore}
 use Rattle.vt_seq.proofs.HeapLemmas.{less-key, not-before-trans, among-permuted, least-append, least-popped}
 
 -- what is found in a list of which one place was set
@@ -67,8 +68,8 @@ module _ {P : Type 0} where
         ]),
       )
 
-  pub before-last : (ys : List (Entry P)) (x : Entry P) (tick : ℕ) → AreBefore tick (ys ++ x ∷ []) → AreBefore tick ys × (ticks_of x.event.key.time < tick)
-  before-last ys x tick h = ((λ d m. h d (with-last d ys x (inl m))), h x.event (with-last x.event ys x (inr refl)))
+  pub just-last : (ys : List (Entry P)) (x : Entry P) (tick : ℕ) → AreJustBefore tick (ys ++ x ∷ []) → AreJustBefore tick ys × (ticks_of x.event.key.time + 1 ≡ tick)
+  just-last ys x tick h = ((λ d m. h d (with-last d ys x (inl m))), h x.event (with-last x.event ys x (inr refl)))
 
   -- ---- entries by days
 
@@ -130,24 +131,20 @@ module _ {P : Type 0} where
         | inl u ↦ absurd (subst (λ (k : List (Entry P)). Among d (events_in k)) u.1 m)
         | inr u ↦
             let it = dated i l d u.1 m in
-            let later : day + 1 ≤ i = elim (lt-or i day) [
-              | inl less ↦ absurd (subst (λ (k : List (Entry P)). Among d (events_in k)) (taken.first i l less u.1) m)
-              | inr more ↦ elim (eq-or i day more) [ inl same ↦ absurd (u.0 same) | inr z ↦ z ]
+            let later : day + 1 ≤ i = elim (cases_order i day) [
+              | inl same ↦ absurd (u.0 same)
+              | inr apart ↦ elim apart [
+                | inl less ↦ absurd (subst (λ (k : List (Entry P)). Among d (events_in k)) (taken.first i l less u.1) m)
+                | inr more ↦ let z : day + 1 ≤ i = omega (arith, more) in z
+              ]
             ] in (it.0, later)
-      ] where
-        lt-or : (a b : ℕ) → (a < b) ⊎ (b ≤ a)
-        lt-or a zero = inr (let z : 0 ≤ a = omega arith in z)
-        lt-or zero (suc b) = inl (let z : 0 < suc b = omega arith in z)
-        lt-or (suc a) (suc b) = elim (lt-or a b) [ inl l ↦ inl (let z : suc a < suc b = omega (arith, l) in z) | inr l ↦ inr (let z : suc b ≤ suc a = omega (arith, l) in z) ]
+      ]
 
-        eq-or : (a b : ℕ) → b ≤ a → (a ≡ b) ⊎ (b + 1 ≤ a)
-        eq-or a b l = elim (lt-or b a) [ inl m ↦ inr (let z : b + 1 ≤ a = omega (arith, m) in z) | inr m ↦ inl (let z : a ≡ b = omega (arith, l, m) in z) ]
+  pub taken-just : (base next day : ℕ) (list : List (Entry P)) (old new : List (List (Entry P))) → AreDated base next old → IsTaken day list old new → AreJustBefore (base + (day + 1)) list
+  taken-just base next day list old new dated taken d m = let t : ticks_of d.key.time ≡ base + day = (dated day list d taken.there m).0 in omega (arith, t)
 
-  pub taken-before : (base next day : ℕ) (list : List (Entry P)) (old new : List (List (Entry P))) → AreDated base next old → IsTaken day list old new → AreBefore (base + (day + 1)) list
-  taken-before base next day list old new dated taken d m = let t : ticks_of d.key.time ≡ base + day = (dated day list d taken.there m).0 in omega (arith, t)
-
-  pub before-permuted : (tick : ℕ) (xs ys : List (Entry P)) → IsPermutation xs ys → AreBefore tick xs → AreBefore tick ys
-  before-permuted tick xs ys h before d m =
+  pub just-permuted : (tick : ℕ) (xs ys : List (Entry P)) → IsPermutation xs ys → AreJustBefore tick xs → AreJustBefore tick ys
+  just-permuted tick xs ys h before d m =
       before d (among-permuted (events_in ys) (events_in xs) (IsPermutation-sym (events_in xs) (events_in ys) (IsPermutation-map (λ (e : Entry P). e.event) xs ys h)) d m)
 
   -- ---- marks
@@ -190,6 +187,10 @@ module _ {P : Type 0} where
 
   -- ---- lists of which contracts see the items
 
+  -- the items of each list
+  abbrev pub items_of : List (Vec (Entry P) Global) → List (List (Entry P))
+  items_of lists = map (λ (list : Vec (Entry P) Global). list.items) lists
+
   pub day-there : {V : Type 0} (f : V → List (Entry P)) (vs : List V) (i : ℕ) (d : V) → i < length vs → slice_get (map f vs) i ≡ Some (f (get_or vs i d))
   day-there f [] i d l = absurd (omega (arith, l))
   day-there f (v ∷ vs) zero d l = refl
@@ -211,13 +212,13 @@ module _ {P : Type 0} where
 
   -- ---- an event is put into a day
 
-  -- into one that has an entry; b says whether there was memory
-  pub put-more : (days : List (List (Entry P))) (day : ℕ) (l w : List (Entry P)) (x : Entry P) (b : Bool) → slice_get days day ≡ Some l → is_used l ≡ true → w ≡ (if b then l ++ x ∷ [] else l)
-      → (map is_used (slice_set days day w) ≡ map is_used days) × (b ≡ true → IsPut day x days (slice_set days day w)) × (b ≡ false → slice_set days day w ≡ days)
-  put-more days day l w x true there used is =
-      (kept-marks days day l w there (ap is_used is ∙ used-put l x ∙ sym used), (λ y. record { list = l; there = there; is = ap (slice_set days day) is }), (λ never. absurd (cc)))
-  put-more days day l w x false there used is =
-      (kept-marks days day l w there (ap is_used is), (λ never. absurd (cc)), (λ y. ap (slice_set days day) is ∙ set-there days day l there))
+  -- into one that has an entry, if there was memory
+  pub put-more : {V E : Type 0} (days : List (List (Entry P))) (day : ℕ) (l w : List (Entry P)) (x : Entry P) (r : Result V E) → slice_get days day ≡ Some l → is_used l ≡ true → w ≡ (if is_ok r then l ++ x ∷ [] else l)
+      → (map is_used (slice_set days day w) ≡ map is_used days) × IfOk r (λ _. IsPut day x days (slice_set days day w)) × IfErr r (λ _. slice_set days day w ≡ days)
+  put-more days day l w x (Ok v) there used is =
+      (kept-marks days day l w there (ap is_used is ∙ used-put l x ∙ sym used), record { list = l; there = there; is = ap (slice_set days day) is }, tt)
+  put-more days day l w x (Err e) there used is =
+      (kept-marks days day l w there (ap is_used is), tt, ap (slice_set days day) is ∙ set-there days day l there)
 
   -- into one that has none
   pub put-new : (days : List (List (Entry P))) (day : ℕ) (l w : List (Entry P)) (x : Entry P) → slice_get days day ≡ Some l → length l ≡ 0 → w ≡ x ∷ []
@@ -245,10 +246,11 @@ module _ {P : Type 0} where
       subst (λ (l : List (Entry P)). IsPermutation (l ++ others) (x ∷ (ys ++ others))) (sym h)
       (subst (λ (l : List (Entry P)). IsPermutation l (x ∷ (ys ++ others))) (sym (append_assoc ys (x ∷ []) others)) (IsPermutation-middle ys x others))
 
-  pub last-least : (base next : ℕ) (xs ys : List (Entry P)) (x : Entry P) (days : List (List (Entry P))) → xs ≡ ys ++ x ∷ [] → IsFalling xs → AreBefore (base + next) xs → AreDated base next days → IsLeast x (xs ++ joined days)
+  pub last-least : (base next : ℕ) (xs ys : List (Entry P)) (x : Entry P) (days : List (List (Entry P))) → xs ≡ ys ++ x ∷ [] → IsFalling xs → AreJustBefore (base + next) xs → AreDated base next days → IsLeast x (xs ++ joined days)
   last-least base next xs ys x days h falling before dated =
       let least : IsLeast x ys = (falling-last ys x (subst (λ (l : List (Entry P)). IsFalling l) h falling)).1 in
-      let early = (before-last ys x (base + next) (subst (λ (l : List (Entry P)). AreBefore (base + next) l) h before)).1 in
+      let at : ticks_of x.event.key.time + 1 ≡ base + next = (just-last ys x (base + next) (subst (λ (l : List (Entry P)). AreJustBefore (base + next) l) h before)).1 in
+      let early : ticks_of x.event.key.time < base + next = omega (arith, at) in
       subst (λ (l : List (Entry P)). IsLeast x (l ++ joined days)) (sym h)
       (least-append x (ys ++ x ∷ []) (joined days) (least-popped x (ys ++ x ∷ []) ys (IsPermutation-to_front ys x) least) (dated-least x base next days dated early))
 
@@ -256,15 +258,16 @@ module _ {P : Type 0} where
   falling-left left old None h f = subst (λ (l : List (Entry P)). IsFalling l) (h ∙ append-nil left) f
   falling-left left old (Some x) h f = (falling-last left x (subst (λ (l : List (Entry P)). IsFalling l) h f)).0
 
-  pub before-left : (tick : ℕ) (left old : List (Entry P)) (r : Option (Entry P)) → old ≡ left ++ option_to_list r → AreBefore tick old → AreBefore tick left
-  before-left tick left old None h f = subst (λ (l : List (Entry P)). AreBefore tick l) (h ∙ append-nil left) f
-  before-left tick left old (Some x) h f = (before-last left x tick (subst (λ (l : List (Entry P)). AreBefore tick l) h f)).0
+  pub just-left : (tick : ℕ) (left old : List (Entry P)) (r : Option (Entry P)) → old ≡ left ++ option_to_list r → AreJustBefore tick old → AreJustBefore tick left
+  just-left tick left old None h f = subst (λ (l : List (Entry P)). AreJustBefore tick l) (h ∙ append-nil left) f
+  just-left tick left old (Some x) h f = (just-last left x tick (subst (λ (l : List (Entry P)). AreJustBefore tick l) h f)).0
 
   -- ---- an event is put, or not
 
-  pub dated-either : (base next day : ℕ) (x : Entry P) (old new : List (List (Entry P))) (b : Bool) → (b ≡ true → IsPut day x old new) → (b ≡ false → new ≡ old) → AreDated base next old → ticks_of x.event.key.time ≡ base + day → next ≤ day → AreDated base next new
-  dated-either base next day x old new true put kept dated tick late = dated-put base next day x old new dated (put refl) tick late
-  dated-either base next day x old new false put kept dated tick late = subst (λ (days : List (List (Entry P))). AreDated base next days) (sym (kept refl)) dated
+  pub dated-either : {V E : Type 0} (base next day : ℕ) (x : Entry P) (old new : List (List (Entry P))) (r : Result V E) → IfOk r (λ _. IsPut day x old new) → IfErr r (λ _. new ≡ old)
+      → AreDated base next old → ticks_of x.event.key.time ≡ base + day → next ≤ day → AreDated base next new
+  dated-either base next day x old new (Ok v) put kept dated tick late = dated-put base next day x old new dated put tick late
+  dated-either base next day x old new (Err e) put kept dated tick late = subst (λ (days : List (List (Entry P))). AreDated base next days) (sym kept) dated
 
   pub entries-put : (day : ℕ) (x : Entry P) (present : List (Entry P)) (old new : List (List (Entry P))) → IsPut day x old new → IsPermutation (x ∷ (present ++ joined old)) (present ++ joined new)
   entries-put day x present old new put =
@@ -297,8 +300,8 @@ module _ {P : Type 0} where
   pub none-falling : (xs : List (Entry P)) → xs ≡ [] → IsFalling xs
   none-falling xs none = subst (λ (l : List (Entry P)). IsFalling l) (sym none) tt
 
-  pub none-before : (tick : ℕ) (xs : List (Entry P)) → xs ≡ [] → AreBefore tick xs
-  none-before tick xs none d m = absurd (subst (λ (k : List (Entry P)). Among d (events_in k)) none m)
+  pub none-just : (tick : ℕ) (xs : List (Entry P)) → xs ≡ [] → AreJustBefore tick xs
+  none-just tick xs none d m = absurd (subst (λ (k : List (Entry P)). Among d (events_in k)) none m)
 
   pub empty-of : (xs : List (Entry P)) → length xs ≡ 0 → xs ≡ []
   empty-of [] none = refl

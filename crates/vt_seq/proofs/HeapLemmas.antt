@@ -1,5 +1,5 @@
 -- The events of entries in the order of their keys, when one is put in, and when the first is taken out.
-use Rattle.std.proofs.Common.{◌≡◌, ℕ, zero, suc, ◌+◌, ◌<◌, ◌≤◌, inl, inr, List, [], ◌∷◌, Bool, true, false, ◌++◌, length, slice_index_or, drop, slice_get, Some, if◌then◌else◌, refl, sym, subst, ap, ◌∙◌, arith}
+use Rattle.std.proofs.Common.{◌≡◌, ℕ, zero, suc, ◌+◌, ◌<◌, ◌≤◌, inl, inr, List, [], ◌∷◌, Bool, true, false, ◌++◌, length, slice_index_or, drop, slice_get, Some, Result, Ok, Err, IfOk, IfErr, is_err, if◌then◌else◌, refl, sym, subst, ap, ◌∙◌, arith}
 use Rattle.std.specs.List.{Contains}
 use Rattle.std.specs.List.Sorted.{IsPermutation}
 use Rattle.std.specs.BinaryHeap.{IsHeap, IsUpperBound}
@@ -41,6 +41,16 @@ not-before-trans a b c ab bc ac = elim (key-total a b) [
   | inl h ↦ ab h
   | inr u ↦ elim u [ inl same ↦ bc (subst (λ (k : Key). KeyBefore k c) same ac) | inr ba ↦ bc (key-transitive b a c ba ac) ]
 ]
+
+-- ---- what a result's test tells
+
+pub refused-kept : {V E A : Type 0} (r : Result V E) → true ≡ is_err r → IfErr r (λ _. A) → A
+refused-kept (Ok v) refused a = absurd (cc)
+refused-kept (Err e) refused a = a
+
+pub done-put : {V E A : Type 0} (r : Result V E) → false ≡ is_err r → IfOk r (λ _. A) → A
+done-put (Ok v) done a = a
+done-put (Err e) done a = absurd (cc)
 
 module _ {P : Type 0} where
   -- ---- the order in which events are inserted

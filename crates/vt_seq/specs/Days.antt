@@ -3,8 +3,13 @@ use Rattle.std.specs.Prelude.{◌≡◌, ℕ, ◌+◌, ◌<◌, ◌≤◌, Bool,
 use Rattle.vt_key.specs.Times.{ticks_of}
 use Rattle.vt_model.specs.declared.sending.Sent.{Sent}
 use Rattle.vt_model.specs.Histories.{Among}
+use Rattle.vt_seq.specs.declared.days.TheConstants.{DAYS}
 use Rattle.vt_seq.specs.declared.entry.Entry.{Entry}
 use Rattle.vt_seq.specs.Entries.{events_in}
+
+-- whether a tick is that of a later day of the window that begins at `base`
+abbrev pub IsNear : ℕ → ℕ → ℕ → Type 0
+IsNear base next tick = (base + next ≤ tick) × (tick < base + DAYS)
 
 module _ {P : Type 0} where
   -- the entries of all days
@@ -34,9 +39,9 @@ module _ {P : Type 0} where
   abbrev pub AreDated : ℕ → ℕ → List (List (Entry P)) → Type 0
   AreDated base next days = (i : ℕ) (l : List (Entry P)) (d : Sent P) → slice_get days i ≡ Some l → Among d (events_in l) → (ticks_of d.key.time ≡ base + i) × (next ≤ i)
 
-  -- each event's tick is before this one
-  abbrev pub AreBefore : ℕ → List (Entry P) → Type 0
-  AreBefore tick xs = (d : Sent P) → Among d (events_in xs) → ticks_of d.key.time < tick
+  -- each event's tick is right before this one
+  abbrev pub AreJustBefore : ℕ → List (Entry P) → Type 0
+  AreJustBefore tick xs = (d : Sent P) → Among d (events_in xs) → ticks_of d.key.time + 1 ≡ tick
 
   -- the entries of a calendar: those of the present day, then those of the others
   abbrev pub entries_of : List (Entry P) → List (List (Entry P)) → List (Entry P)

@@ -1,10 +1,11 @@
 //! A calendar of pending events.
 
-ghost use Rattle.std.specs.Prelude.{◌≡◌, ◌+◌, ◌<◌, ◌∷◌, [], false, IfOk, IfErr, IfSome, IfNone, IsTrue};
+ghost use Rattle.std.specs.Prelude.{◌≡◌, ◌+◌, ◌<◌, ◌∷◌, [], IfOk, IfErr, IfSome, IfNone, Err};
 ghost use Rattle.std.specs.List.Sorted.{IsPermutation};
-ghost use Rattle.vt_key.specs.declared.fault.Fault.TheVariants.{Memory};
+ghost use Rattle.vt_key.specs.declared.fault.Fault.TheVariants.{Memory, NotLawful};
+ghost use Rattle.vt_key.specs.Times.{ticks_of};
 ghost use Rattle.vt_seq.specs.Entries.{IsFalling, IsFalling-prop, IsLeast};
-ghost use Rattle.vt_seq.specs.Days.{entries_of, AreDated, AreBefore, IsSettled};
+ghost use Rattle.vt_seq.specs.Days.{entries_of, AreDated, AreJustBefore, IsNear, IsSettled};
 
 use crate::days::Days;
 use crate::entry::Entry;
@@ -23,7 +24,7 @@ pub(crate) struct Calendar<P: Copy> {
     present: Vec<Entry<P>>,
     days: Days<P>,
     ghost falling: { IsFalling present.items } by { IsFalling-prop present.items },
-    ghost past: { AreBefore (base + next) present.items },
+    ghost just_past: { AreJustBefore (base + next) present.items },
     ghost dated: { AreDated base next days },
 }
 
@@ -33,6 +34,7 @@ impl<P: Copy> Calendar<P> {
     /// [`Fault::Memory`]: memory was refused.
     pub(crate) fn new(alloc: Global) -> Result<Calendar<P>, Fault>
         ensures empty { IfOk result (λ calendar. entries_of calendar.present.items calendar.days ≡ []) }
+        ensures window { IfOk result (λ calendar. (calendar.base ≡ 0) × (calendar.next ≡ 0)) }
         ensures refused { IfErr result (λ fault. fault ≡ Memory) }
     {
         let days = Days::new(alloc)?;
@@ -62,6 +64,7 @@ impl<P: Copy> Calendar<P> {
         ensures rest { IfSome result (λ x. IsPermutation (entries_of self.old.present.items self.old.days) (x ∷ entries_of self.new.present.items self.new.days)) }
         ensures least { IfSome result (λ x. IsLeast x (entries_of self.old.present.items self.old.days)) }
         ensures nothing { IfNone result (self.old.present.items ≡ []) }
+        ensures window { (self.new.base ≡ self.old.base) × (self.new.next ≡ self.old.next) }
     {
         if self.present.is_empty() {
             return None;
@@ -72,19 +75,24 @@ impl<P: Copy> Calendar<P> {
         Some(entry)
     }
 
-    /// Puts an event into its day; false if its tick isn't a later one of the window, or there is no memory, which changes
-    /// nothing.
-    pub(crate) fn put(&mut self, event: &Sent<P>) -> bool
-        ensures put { IsTrue result → IsPermutation (record { event = event.now } ∷ entries_of self.old.present.items self.old.days) (entries_of self.new.present.items self.new.days) }
-        ensures kept { result ≡ false → entries_of self.new.present.items self.new.days ≡ entries_of self.old.present.items self.old.days }
+    /// Puts an event into its day. Its tick must be a later one of the window.
+    ///
+    /// [`Fault::NotLawful`]: its tick isn't one. [`Fault::Memory`]: it is, and memory was refused. After either nothing
+    /// changes.
+    pub(crate) fn put(&mut self, event: &Sent<P>) -> Result<(), Fault>
+        ensures put { IfOk result (λ _. IsPermutation (record { event = event.now } ∷ entries_of self.old.present.items self.old.days) (entries_of self.new.present.items self.new.days)) }
+        ensures kept { IfErr result (λ fault. entries_of self.new.present.items self.new.days ≡ entries_of self.old.present.items self.old.days) }
+        ensures not_lawful { (IsNear self.old.base self.old.next (ticks_of event.now.key.time) → ⊥) → result ≡ Err NotLawful }
+        ensures refused { IsNear self.old.base self.old.next (ticks_of event.now.key.time) → IfErr result (λ fault. fault ≡ Memory) }
+        ensures window { (self.new.base ≡ self.old.base) × (self.new.next ≡ self.old.next) }
     {
         let tick = event.key.when().ticks();
         if tick < self.base {
-            return false;
+            return Err(Fault::NotLawful);
         }
         let day = (tick - self.base) as usize;
         if day < self.next {
-            return false;
+            return Err(Fault::NotLawful);
         }
         self.days.put(day, event)
     }
@@ -93,6 +101,8 @@ impl<P: Copy> Calendar<P> {
     pub(crate) fn settle(&mut self)
         ensures same { IsPermutation (entries_of self.old.present.items self.old.days) (entries_of self.new.present.items self.new.days) }
         ensures settled { IsSettled self.new.present.items self.new.days }
+        ensures base { self.new.base ≡ self.old.base }
+        ensures next { self.new.present.items ≡ [] → self.new.next ≡ self.old.next }
     {
         if !self.present.is_empty() {
             return;
@@ -103,19 +113,16 @@ impl<P: Copy> Calendar<P> {
         }
     }
 
-    /// Lets the window begin at a tick. There must be no event.
+    /// Lets the window begin at a tick, if there is no event.
     pub(crate) fn move_to(&mut self, tick: u64)
-        requires { entries_of self.old.present.items self.old.days ≡ [] }
-        ensures { entries_of self.new.present.items self.new.days ≡ [] }
+        requires { IsSettled self.old.present.items self.old.days }
+        ensures same { entries_of self.new.present.items self.new.days ≡ entries_of self.old.present.items self.old.days }
+        ensures moved { self.old.present.items ≡ [] → (self.new.base ≡ tick) × (self.new.next ≡ 0) }
+        ensures stays { (self.old.present.items ≡ [] → ⊥) → (self.new.base ≡ self.old.base) × (self.new.next ≡ self.old.next) }
     {
-        self.base = tick;
-        self.next = 0;
-    }
-
-    /// Whether the present day has no event.
-    pub(crate) fn is_empty(&self) -> bool
-        ensures { IsTrue result → self.now.present.items ≡ [] }
-    {
-        self.present.is_empty()
+        if self.present.is_empty() {
+            self.base = tick;
+            self.next = 0;
+        }
     }
 }

@@ -1,7 +1,8 @@
 //! Events by days.
 
-ghost use Rattle.std.specs.Prelude.{◌≡◌, ◌+◌, ◌<◌, ◌^◌, [], false, length, slice_get, IfOk, IfErr, IfSome, IfNone, IsTrue, Some};
-ghost use Rattle.vt_key.specs.declared.fault.Fault.TheVariants.{Memory};
+ghost use Rattle.std.specs.Prelude.{◌≡◌, ◌+◌, ◌-◌, ◌<◌, ◌≤◌, ◌^◌, [], ◌∷◌, ◌++◌, if◌then◌else◌, is_ok, length, slice_get, vec_len, IfOk, IfErr, IfSome, IfNone, IsTrue, Some, Err};
+ghost use Rattle.vt_key.specs.declared.fault.Fault.TheVariants.{Memory, NotLawful};
+ghost use Rattle.vt_seq.specs.declared.days.TheConstants.{DAYS};
 ghost use Rattle.vt_seq.specs.Days.{joined, IsPut, IsTaken};
 
 use crate::entry::Entry;
@@ -13,7 +14,7 @@ use vt_marks::Marks;
 use vt_model::Sent;
 
 /// How many days there are.
-const DAYS: usize = 1024;
+pub(crate) const DAYS: usize = 1024;
 
 /// Pending events in lists, one for each of 1,024 days. Contracts see a list of entries for each day.
 ///
@@ -29,7 +30,8 @@ pub(crate) struct Days<P: Copy> {
 }
 
 impl<P: Copy> Model for Days<P> {
-    ghost use Rattle.std.specs.Prelude.{◌≡◌, List, [], IsTrue, map};
+    ghost use Rattle.std.specs.Prelude.{◌≡◌, List, [], IsTrue, map, vec_len};
+    ghost use Rattle.vt_seq.specs.declared.days.TheConstants.{DAYS};
     ghost use Rattle.vt_seq.specs.declared.entry.Entry.{Entry};
     ghost use Rattle.vt_seq.specs.Days.{is_used, joined};
 
@@ -37,7 +39,7 @@ impl<P: Copy> Model for Days<P> {
 
     ghost view = { λ s. map (λ list. list.items) s.days.items };
 
-    ghost invariant = { λ s. (s.marks ≡ map is_used (map (λ list. list.items) s.days.items)) × (IsTrue s.is_clear → joined (map (λ list. list.items) s.days.items) ≡ []) };
+    ghost invariant = { λ s. (s.marks ≡ map is_used (map (λ list. list.items) s.days.items)) × (IsTrue s.is_clear → joined (map (λ list. list.items) s.days.items) ≡ []) × (vec_len s.days ≡ DAYS) };
 }
 
 impl<P: Copy> Days<P> {
@@ -62,25 +64,30 @@ impl<P: Copy> Days<P> {
         })
     }
 
-    /// Puts an event into a day; false if there is no such day, or no memory, which changes nothing.
-    pub(crate) fn put(&mut self, day: usize, event: &Sent<P>) -> bool
-        ensures put { IsTrue result → IsPut day (record { event = event.now }) self.old self.new }
-        ensures kept { result ≡ false → self.new ≡ self.old }
+    /// Puts an event into a day.
+    ///
+    /// [`Fault::NotLawful`]: there is no such day. [`Fault::Memory`]: there is, and memory was refused. After either nothing
+    /// changes.
+    pub(crate) fn put(&mut self, day: usize, event: &Sent<P>) -> Result<(), Fault>
+        ensures put { IfOk result (λ _. IsPut day (record { event = event.now }) self.old self.new) }
+        ensures kept { IfErr result (λ fault. self.new ≡ self.old) }
+        ensures not_lawful { DAYS ≤ day → result ≡ Err NotLawful }
+        ensures refused { day < DAYS → IfErr result (λ fault. fault ≡ Memory) }
     {
         if day >= self.days.len() {
-            return false;
+            return Err(Fault::NotLawful);
         }
         self.is_clear = false;
         if !self.days[day].is_empty() {
-            return self.days[day].push(Entry { event: *event }).is_ok();
+            return push(&mut self.days[day], event);
         }
         let mut list = empty_list(&mut self.spare, self.alloc);
-        let Ok(()) = list.push(Entry { event: *event }) else {
-            return false;
+        let Ok(()) = push(&mut list, event) else {
+            return Err(Fault::Memory);
         };
         self.days[day] = list;
         self.marks.set(day, true);
-        true
+        Ok(())
     }
 
     /// Empties the first day that has an event: its entries take the place of what `present` had. None if no day has one,
@@ -106,9 +113,23 @@ impl<P: Copy> Days<P> {
     }
 }
 
-/// An empty list: a spare one, or a new one.
+/// Puts an event behind others.
+///
+/// [`Fault::Memory`]: memory was refused, and nothing changes.
+fn push<P: Copy>(list: &mut Vec<Entry<P>>, event: &Sent<P>) -> Result<(), Fault>
+    ensures items { list.new.items ≡ (if is_ok result then list.old.items ++ record { event = event.now } ∷ [] else list.old.items) }
+    ensures refused { IfErr result (λ fault. fault ≡ Memory) }
+{
+    let Ok(()) = list.push(Entry { event: *event }) else {
+        return Err(Fault::Memory);
+    };
+    Ok(())
+}
+
+/// An empty list: a spare one, or a new one where there is none.
 fn empty_list<P: Copy>(spare: &mut Vec<Vec<Entry<P>>>, alloc: Global) -> Vec<Entry<P>>
-    ensures { result.items ≡ [] }
+    ensures empty { result.items ≡ [] }
+    ensures spare { vec_len spare.new ≡ vec_len spare.old - 1 }
 {
     let Some(mut list) = spare.pop() else {
         return Vec::new(alloc);

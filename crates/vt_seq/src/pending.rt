@@ -1,8 +1,9 @@
 //! The events that are pending, in a calendar and a heap.
 
-ghost use Rattle.std.specs.Prelude.{◌≡◌, ◌+◌, ◌<◌, ◌≤◌, ◌++◌, [], false, length, drop, slice_get, slice_index_or, IfOk, IfErr, IsTrue};
+ghost use Rattle.std.specs.Prelude.{◌≡◌, ◌+◌, ◌<◌, ◌≤◌, ◌++◌, [], false, length, drop, slice_get, slice_index_or, IfOk, IfErr, IsTrue, Some};
 ghost use Rattle.std.specs.BinaryHeap.{heap_items, heap_len, heap_capacity};
 ghost use Rattle.vt_key.specs.declared.fault.Fault.TheVariants.{Memory};
+ghost use Rattle.vt_key.specs.Times.{ticks_of};
 ghost use Rattle.vt_seq.specs.Queue.{all_inserted, AreNew};
 ghost use Rattle.vt_seq.specs.Entries.{in_order, IsLeast, IsQueue};
 ghost use Rattle.vt_seq.specs.Days.{entries_of, IsSettled};
@@ -129,8 +130,9 @@ fn remove_first<P: Copy>(calendar: &mut Calendar<P>, far: &mut BinaryHeap<Entry<
     requires queue { IsQueue (entries_of calendar.old.present.items calendar.old.days) (heap_items far.old) }
     requires settled { IsSettled calendar.old.present.items calendar.old.days }
     requires some { 0 < length (in_order (entries_of calendar.old.present.items calendar.old.days ++ heap_items far.old)) }
-    ensures queue { IsQueue (entries_of calendar.new.present.items calendar.new.days) (heap_items far.new) }
-    ensures rest { in_order (entries_of calendar.new.present.items calendar.new.days ++ heap_items far.new) ≡ drop 1 (in_order (entries_of calendar.old.present.items calendar.old.days ++ heap_items far.old)) }
+    ensures rest { IsQueue (entries_of calendar.new.present.items calendar.new.days) (heap_items far.new) × (in_order (entries_of calendar.new.present.items calendar.new.days ++ heap_items far.new) ≡ drop 1 (in_order (entries_of calendar.old.present.items calendar.old.days ++ heap_items far.old))) }
+    ensures moved { calendar.old.present.items ≡ [] → (d : _) → slice_get (in_order (entries_of calendar.old.present.items calendar.old.days ++ heap_items far.old)) 0 ≡ Some d → (calendar.new.base ≡ ticks_of d.key.time) × (calendar.new.next ≡ 0) }
+    ensures stays { (calendar.old.present.items ≡ [] → ⊥) → (calendar.new.base ≡ calendar.old.base) × (calendar.new.next ≡ calendar.old.next) }
     ensures capacity { heap_capacity far.new ≡ heap_capacity far.old }
     ensures len { heap_len far.new ≤ heap_len far.old }
 {
@@ -143,9 +145,7 @@ fn remove_first<P: Copy>(calendar: &mut Calendar<P>, far: &mut BinaryHeap<Entry<
     let Some(entry) = far.pop() else {
         unreachable!();
     };
-    if calendar.is_empty() {
-        calendar.move_to(entry.event.key.when().ticks());
-    }
+    calendar.move_to(entry.event.key.when().ticks());
 }
 
 /// Puts events into the calendar, and those that it doesn't take into the heap, where there must be room for all.
@@ -156,9 +156,10 @@ fn put_all<P: Copy>(calendar: &mut Calendar<P>, far: &mut BinaryHeap<Entry<P>>, 
     ensures events { in_order (entries_of calendar.new.present.items calendar.new.days ++ heap_items far.new) ≡ all_inserted events.now (in_order (entries_of calendar.old.present.items calendar.old.days ++ heap_items far.old)) }
     ensures queue { IsQueue (entries_of calendar.new.present.items calendar.new.days) (heap_items far.new) }
     ensures settled { IsSettled calendar.new.present.items calendar.new.days }
+    ensures base { calendar.new.base ≡ calendar.old.base }
 {
     for event in events {
-        if !calendar.put(event) {
+        if calendar.put(event).is_err() {
             let Ok(()) = far.push(Entry { event: *event }) else {
                 unreachable!();
             };

@@ -6,8 +6,8 @@ use Rattle.vt_seq.specs.declared.entry.Entry.{Entry}
 use Rattle.vt_seq.specs.Queue.{all_inserted, AreNew}
 use Rattle.vt_seq.specs.Entries.{in_order}
 use Rattle.vt_seq.specs.Days.{entries_of}
-use Rattle.vt_seq.proofs.HeapLemmas.{IsPutAmong, near-put, far-put, near-reordered}
-use Rattle.vt_seq.proofs.pending.put_all.Goals.{then-not-put+in-Ok, else-not-put}
+use Rattle.vt_seq.proofs.HeapLemmas.{IsPutAmong, near-put, far-put, near-reordered, refused-kept, done-put}
+use Rattle.vt_seq.proofs.pending.put_all.Goals.{then-is_err+in-Ok, else-is_err}
 use Rattle.vt_seq.proofs.pending.put_all.Goals as goal
 
 pub loop-event-preserved : goal.loop-event-preserved
@@ -25,21 +25,22 @@ loop-event-preserved g c =
     let more : drop i events ≡ event ∷ rest = drop_more events i event c.loop-event-test.true ∙ ap (λ (e : Sent _). e ∷ rest) (sym c.event-item.is) in
     let fresh : AreNew (event ∷ rest) old = subst (λ (es : List (Sent _)). AreNew es old) more inv.fresh in
     let longer : length (drop i events) ≡ suc (length rest) = ap length more in
-    let put : IsPutAmong x near far now (heap_items c.if-not-put.far) = elim c.if-not-put.branch [
-      | then-not-put+in-Ok w ↦
+    let put : IsPutAmong x near far now (heap_items c.if-is_err.far) = elim c.if-is_err.branch [
+      | then-is_err+in-Ok w ↦
           let pushed = heap_items w.push.new.self in
-          let both : IsPutAmong x near far now pushed = far-put x near far now pushed inv.queue w.in-Ok.ensures.permutation (w.in-Ok.ensures.heap_order inv.queue.heap) (w.if-not-put.ensures.kept refl) fresh.0 in
+          let both : IsPutAmong x near far now pushed = far-put x near far now pushed inv.queue w.in-Ok.ensures.permutation (w.in-Ok.ensures.heap_order inv.queue.heap) (refused-kept c.put.result w.if-is_err.ensures.value c.put.ensures.kept) fresh.0 in
           subst (λ (l : List (Entry _)). IsPutAmong x near far now l) (sym (ap heap_items w.far-is)) both
-      | else-not-put w ↦ near-put x near far now (heap_items c.if-not-put.far) inv.queue (w.if-not-put.ensures.put refl) (ap heap_items w.far-is) fresh.0
+      | else-is_err w ↦ near-put x near far now (heap_items c.if-is_err.far) inv.queue (done-put c.put.result w.if-is_err.ensures.value c.put.ensures.put) (ap heap_items w.far-is) fresh.0
     ] in
-    let room : heap_len c.if-not-put.far + length rest ≤ heap_capacity c.if-not-put.far = elim c.if-not-put.branch [
-      | then-not-put+in-Ok w ↦ let len = ap heap_len w.far-is in let capacity = ap heap_capacity w.far-is in omega (arith, inv.room, longer, len, capacity, w.in-Ok.ensures.len, w.push.ensures.capacity)
-      | else-not-put w ↦ let len = ap heap_len w.far-is in let capacity = ap heap_capacity w.far-is in omega (arith, inv.room, longer, len, capacity)
+    let room : heap_len c.if-is_err.far + length rest ≤ heap_capacity c.if-is_err.far = elim c.if-is_err.branch [
+      | then-is_err+in-Ok w ↦ let len = ap heap_len w.far-is in let capacity = ap heap_capacity w.far-is in omega (arith, inv.room, longer, len, capacity, w.in-Ok.ensures.len, w.push.ensures.capacity)
+      | else-is_err w ↦ let len = ap heap_len w.far-is in let capacity = ap heap_capacity w.far-is in omega (arith, inv.room, longer, len, capacity)
     ] in
     record {
       room = room;
       queue = put.0;
       fresh = subst (AreNew rest) (sym put.1) fresh.1;
+      base = c.put.ensures.window.0 ∙ inv.base;
       same = ap (all_inserted rest) put.1 ∙ ap (λ (es : List (Sent _)). all_inserted es old) (sym more) ∙ inv.same;
     }
 

@@ -1,10 +1,10 @@
-use Rattle.std.proofs.Common.{◌+◌}
-use Rattle.vt_seq.specs.Days.{joined}
-use Rattle.vt_seq.proofs.CalendarLemmas.{append-none, none-dated, none-falling, none-before}
+use Rattle.std.proofs.Common.{◌≡◌, [], length, rules}
+use Rattle.vt_seq.proofs.CalendarLemmas.{none-dated, none-falling, none-just, empty-of}
 use Rattle.vt_seq.proofs.calendar.Calendar.move_to.Goals as goal
 
 pub invariant_of-self : goal.invariant_of-self
 invariant_of-self g c =
     let it = c.args.self.now in
-    let none = append-none it.present.items (joined it.days) c.requires in
-    record { falling = none-falling it.present.items none.0; past = none-before (c.args.tick + 0) it.present.items none.0; dated = none-dated c.args.tick 0 it.days none.1 }
+    let zero : length it.present.items ≡ 0 = search rules in
+    let none : it.present.items ≡ [] = empty-of it.present.items zero in
+    record { falling = none-falling it.present.items none; just_past = none-just _ it.present.items none; dated = none-dated _ _ it.days (c.requires none) }

@@ -1,7 +1,7 @@
-use Rattle.vt_seq.proofs.CalendarLemmas.{none-dated, none-falling, none-before}
+use Rattle.vt_seq.proofs.CalendarLemmas.{none-dated, none-falling, none-just}
 use Rattle.vt_seq.proofs.calendar.Calendar.new.Goals as goal
 
 pub invariant_of-result : goal.invariant_of-result
 invariant_of-result g c =
     let present = c.new-2.result.items in
-    record { falling = none-falling present c.new-2.ensures.items; past = none-before 0 present c.new-2.ensures.items; dated = none-dated 0 0 c.in_ok-days.days c.in_ok-days.ensures.empty }
+    record { falling = none-falling present c.new-2.ensures.items; just_past = none-just 0 present c.new-2.ensures.items; dated = none-dated 0 0 c.in_ok-days.days c.in_ok-days.ensures.empty }

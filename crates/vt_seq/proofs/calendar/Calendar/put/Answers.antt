@@ -1,6 +1,7 @@
 use Rattle.std.proofs.Common.{◌≡◌, ◌+◌, ◌-◌, ◌≤◌, ◌∙◌, ℕ, sym, ap, arith}
 use Rattle.vt_key.specs.Times.{ticks_of}
 use Rattle.vt_seq.proofs.CalendarLemmas.{dated-either, entries-put}
+use Rattle.vt_seq.proofs.ProgressLemmas.{if_ok-map}
 use Rattle.vt_seq.proofs.calendar.Calendar.put.Goals as goal
 
 pub invariant_of-self : goal.invariant_of-self
@@ -12,9 +13,9 @@ invariant_of-self g c =
     let late : it.next ≤ day = omega (arith, c.if-day-self.false) in
     record {
       falling = it.falling;
-      past = it.past;
+      just_past = it.just_past;
       dated = dated-either it.base it.next day (record { event = c.args.event.now }) it.days c.put.new.self c.put.result c.put.ensures.put c.put.ensures.kept it.dated tick late;
     }
 
 pub returns-clause-put : goal.returns-clause-put
-returns-clause-put g c done = entries-put _ (record { event = c.args.event.now }) c.args.self.now.present.items c.args.self.now.days c.put.new.self (c.put.ensures.put done)
+returns-clause-put g c = if_ok-map _ _ c.put.result c.put.ensures.put (λ _. entries-put _ (record { event = c.args.event.now }) c.args.self.now.present.items c.args.self.now.days c.put.new.self)

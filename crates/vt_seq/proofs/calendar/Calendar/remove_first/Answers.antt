@@ -1,6 +1,6 @@
 use Rattle.std.proofs.Common.{◌+◌}
 use Rattle.vt_seq.specs.Days.{joined}
-use Rattle.vt_seq.proofs.CalendarLemmas.{falling-left, before-left, last-out, last-least}
+use Rattle.vt_seq.proofs.CalendarLemmas.{falling-left, just-left, last-out, last-least}
 use Rattle.vt_seq.proofs.calendar.Calendar.remove_first.Goals as goal
 
 pub invariant_of-self : goal.invariant_of-self
@@ -9,7 +9,7 @@ invariant_of-self g c =
     let left = c.pop.new.self.items in
     record {
       falling = falling-left left it.present.items c.pop.result c.pop.ensures.items it.falling;
-      past = before-left (it.base + it.next) left it.present.items c.pop.result c.pop.ensures.items it.past;
+      just_past = just-left (it.base + it.next) left it.present.items c.pop.result c.pop.ensures.items it.just_past;
       dated = it.dated;
     }
 
@@ -19,4 +19,4 @@ returns-clause-rest g c = last-out c.args.self.now.present.items c.pop.new.self.
 pub returns-clause-least : goal.returns-clause-least
 returns-clause-least g c =
     let it = c.args.self.now in
-    last-least it.base it.next it.present.items c.pop.new.self.items c.in-Some.entry it.days c.in-Some.ensures.items it.falling it.past it.dated
+    last-least it.base it.next it.present.items c.pop.new.self.items c.in-Some.entry it.days c.in-Some.ensures.items it.falling it.just_past it.dated

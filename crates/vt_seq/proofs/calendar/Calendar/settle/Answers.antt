@@ -2,7 +2,7 @@ use Rattle.std.proofs.Common.{◌≡◌, ◌+◌, ◌++◌, ◌∙◌, [], List,
 use Rattle.std.specs.List.Sorted.{IsPermutation}
 use Rattle.vt_seq.specs.declared.entry.Entry.{Entry}
 use Rattle.vt_seq.specs.Days.{joined, AreDated}
-use Rattle.vt_seq.proofs.CalendarLemmas.{sorted-falling, before-permuted, taken-before, dated-taken, entries-taken, none-falling, none-before, empty-of}
+use Rattle.vt_seq.proofs.CalendarLemmas.{sorted-falling, just-permuted, taken-just, dated-taken, entries-taken, none-falling, none-just, empty-of}
 use Rattle.vt_seq.proofs.calendar.Calendar.settle.Goals as goal
 
 pub overflow_add-self : goal.overflow_add-self
@@ -15,7 +15,7 @@ invariant_of-self g c =
     let list = c.take_first.new.present.items in
     record {
       falling = sorted-falling c.sort_unstable.new.self.items c.sort_unstable.ensures.sorted;
-      past = before-permuted (it.base + (day + 1)) list c.sort_unstable.new.self.items c.sort_unstable.ensures.permutation (taken-before it.base it.next day list it.days c.take_first.new.self it.dated c.in-Some.ensures.taken);
+      just_past = just-permuted (it.base + (day + 1)) list c.sort_unstable.new.self.items c.sort_unstable.ensures.permutation (taken-just it.base it.next day list it.days c.take_first.new.self it.dated c.in-Some.ensures.taken);
       dated = dated-taken it.base it.next day list it.days c.take_first.new.self it.dated c.in-Some.ensures.taken;
     }
 
@@ -26,7 +26,7 @@ invariant_of-self-in_default g c =
     let none : c.take_first.new.present.items ≡ [] = c.in_default.ensures.present_kept ∙ empty-of it.present.items zero in
     record {
       falling = none-falling c.take_first.new.present.items none;
-      past = none-before (it.base + it.next) c.take_first.new.present.items none;
+      just_past = none-just (it.base + it.next) c.take_first.new.present.items none;
       dated = subst (λ (days : List (List (Entry _))). AreDated it.base it.next days) (sym c.in_default.ensures.kept) it.dated;
     }
 

@@ -1,4 +1,4 @@
-use Rattle.std.proofs.Common.{◌≡◌, ◌+◌, ◌∙◌, ℕ, List, [], ◌∷◌, ◌++◌, false, map, replicate, length, ap, arith, rules, Vec, Global}
+use Rattle.std.proofs.Common.{◌≡◌, ◌+◌, ◌∙◌, ℕ, List, [], ◌∷◌, ◌++◌, false, map, replicate, length, vec_len, ap, arith, rules, Vec, Global}
 use Rattle.std.proofs.lemmas.List.{map-append, length-map, length-append}
 use Rattle.vt_seq.specs.declared.entry.Entry.{Entry}
 use Rattle.vt_seq.specs.Days.{joined}
@@ -21,5 +21,6 @@ pub invariant_of-result : goal.invariant_of-result
 invariant_of-result g c =
     let xs : List (Vec (Entry _) Global) = c.loop.days.items in
     let made : c.in_ok-marks.marks ≡ replicate 1024 false = search rules in
-    let count : 1024 ≡ length (map (λ (v : Vec (Entry _) Global). v.items) xs) = let same : length (map (λ (v : Vec (Entry _) Global). v.items) xs) ≡ length xs = length-map xs (λ (v : Vec (Entry _) Global). v.items) in omega (arith, same, c.loop.invariant.len, c.loop-test.false, c.loop.auto.counter-end) in
-    (made ∙ ap (λ (n : ℕ). replicate n false) count ∙ empty-marks (map (λ (v : Vec (Entry _) Global). v.items) xs) c.loop.invariant.empty, (λ clear. c.loop.invariant.empty))
+    let count-is : vec_len c.loop.days ≡ 1024 = omega (arith, c.loop.days.ok.0, c.loop.invariant.len, c.loop-test.false, c.loop.auto.counter-end) in
+    let count : 1024 ≡ length (map (λ (v : Vec (Entry _) Global). v.items) xs) = let same : length (map (λ (v : Vec (Entry _) Global). v.items) xs) ≡ length xs = length-map xs (λ (v : Vec (Entry _) Global). v.items) in omega (arith, same, c.loop.days.ok.0, count-is) in
+    (made ∙ ap (λ (n : ℕ). replicate n false) count ∙ empty-marks (map (λ (v : Vec (Entry _) Global). v.items) xs) c.loop.invariant.empty, (λ clear. c.loop.invariant.empty), count-is)

@@ -8,7 +8,7 @@ use Rattle.vt_seq.proofs.days.Days.take_first.Goals as goal
 
 pub invariant_of-self : goal.invariant_of-self
 invariant_of-self g c =
-    (c.self.invariant.0, (λ clear. unmarked-none (map (λ (v : Vec (Entry _) Global). v.items) c.self.inside.days.items) (λ i h. c.in_default.ensures.nowhere i (let z : 0 ≤ i = omega arith in z) (subst (λ (ms : List Bool). slice_get ms i ≡ Some true) (sym c.self.invariant.0) h))))
+    (c.self.invariant.0, (λ clear. unmarked-none (map (λ (v : Vec (Entry _) Global). v.items) c.self.inside.days.items) (λ i h. c.in_default.ensures.nowhere i (let z : 0 ≤ i = omega arith in z) (subst (λ (ms : List Bool). slice_get ms i ≡ Some true) (sym c.self.invariant.0) h))), c.self.invariant.2)
 
 pub returns-in_default-clause-nothing : goal.returns-in_default-clause-nothing
 returns-in_default-clause-nothing g c =
@@ -30,6 +30,7 @@ invariant_of-self-2 g c =
     let set : map (λ (v : Vec (Entry _) Global). v.items) (slice_set vs c.in-Some.day c.replace-list.new.dest) ≡ slice_set (map (λ (v : Vec (Entry _) Global). v.items) vs) c.in-Some.day [] = map-set (λ (v : Vec (Entry _) Global). v.items) vs c.in-Some.day c.replace-list.new.dest ∙ ap (slice_set (map (λ (v : Vec (Entry _) Global). v.items) vs) c.in-Some.day) empty in (
       c.set.ensures ∙ ap (λ (ms : List Bool). slice_set ms c.in-Some.day false) c.self.invariant.0 ∙ sym (map-set is_used (map (λ (v : Vec (Entry _) Global). v.items) vs) c.in-Some.day []) ∙ ap (map is_used) (sym set),
       (λ clear. let both : false ≡ true = sym c.if-self.false ∙ clear in absurd (cc)),
+      c.self.invariant.2,
     )
 
 pub returns-clause-taken : goal.returns-clause-taken
