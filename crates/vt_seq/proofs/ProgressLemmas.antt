@@ -1,5 +1,5 @@
 -- What the fields stand for is what a contract sees.
-use Rattle.std.proofs.Common.{◌≡◌, ℕ, zero, suc, ◌<◌, ◌≤◌, List, [], ◌∷◌, ◌++◌, Bool, true, false, ◌&&◌, map, length, Some, slice_get, slice_index_or, Result, Ok, Err, IfOk, refl, sym, ap, ◌∙◌, arith}
+use Rattle.std.proofs.Common.{◌≡◌, ℕ, zero, suc, ◌<◌, ◌≤◌, List, [], ◌∷◌, ◌++◌, Bool, true, false, ◌&&◌, map, length, Option, Some, slice_get, slice_index_or, Result, Ok, Err, IfOk, IfSome, Vec, Global, vec_len, refl, sym, ap, subst, ◌∙◌, arith}
 use Rattle.std.proofs.Math.Logic.{∥∥₁_map, ∥∥₁_elim}
 use Rattle.std.proofs.Props.{props}
 use Rattle.std.specs.List.{list_all}
@@ -11,12 +11,13 @@ use Rattle.vt_model.specs.declared.rows.Record.{Record}
 use Rattle.vt_model.specs.declared.sending.Sent.{Sent}
 use Rattle.vt_model.specs.declared.settings.Config.{Config}
 use Rattle.vt_model.specs.Handler.{Handlers}
-use Rattle.vt_model.specs.Simulation.{Simulation, simulation_of}
+use Rattle.vt_model.specs.Simulation.{Simulation, Triple, simulation_of, after}
+use Rattle.vt_model.specs.Sequential.{after_steps, events_of}
 use Rattle.vt_model.specs.Histories.{AllAfter, IsRising}
 use Rattle.vt_model.specs.Process.{triple_at}
 use Rattle.vt_seq.specs.Limits.{IsCountedWhole}
 use Rattle.vt_seq.specs.Given.{records_to, AddsStep}
-use Rattle.vt_seq.specs.Progress.{IsAfter}
+use Rattle.vt_seq.specs.Progress.{Progress, IsAfter}
 use Rattle.vt_seq.specs.Standing.{Standing, IsAt, IsOnWay, with_records}
 use Rattle.vt_seq.specs.StandsFor.{StandsAt}
 
@@ -77,6 +78,14 @@ pub if_ok-both : {V E : Type 0} (A B C : V → Type 0) (r : Result V E) → IfOk
 if_ok-both A B C (Ok v) a b f = f v a b
 if_ok-both A B C (Err e) a b f = tt
 
+-- the run of a model and config that stayed
+pub same-run : {M S P K : Type 0} (handlers : M → Handlers S P K) {m n : M} {c d : Config} → n ≡ m → d ≡ c → simulation_of (handlers m) c ≡ simulation_of (handlers n) d
+same-run handlers model config j = simulation_of (handlers (sym model j)) (sym config j)
+
+-- where a process is after n steps
+abbrev pub place_of : {S P : Type 0} → Simulation S P → ℕ → ℕ → Triple S
+place_of sim p n = after sim p (events_of p (after_steps sim n).executed)
+
 module _ {M S P K : Type 0} (sim : Simulation S P) (model : M) (config : Config) where
   -- what a contract sees of these fields
   abbrev pub seen : List (Sent P) → List (Process M S P K) → Standing M S P
@@ -106,12 +115,22 @@ module _ {M S P K : Type 0} (sim : Simulation S P) (model : M) (config : Config)
     triples = λ p d known. indexed (λ (q : Process M S P K). triple_at q.state q.number q.stream) _ processes p d (is.triples p known);
   }
 
--- fields that stand for the run after some number of steps are seen on their way
-pub seen-on_way : {M S P K : Type 0} (handlers : Handlers S P K) (model : M) (config : Config) (pending : List (Sent P)) (processes : List (Process M S P K))
-    → config.lps ≤ length processes → ∥ ((n : ℕ) × StandsAt (simulation_of handlers config) n pending processes) ∥₁
-    → IsOnWay handlers (seen (simulation_of handlers config) model config pending processes)
-seen-on_way handlers model config pending processes there stands =
-    ∥∥₁_map stands (λ x. (x.0, stands-after (simulation_of handlers config) model config x.0 pending processes there x.1))
+module _ {M S P K : Type 0} (handlers : M → Handlers S P K) (model : M) (config : Config) (pending : List (Sent P)) where
+  -- fields that stand for the run after some number of steps are seen on their way
+  pub seen-on_way : (processes : Vec (Process M S P K) Global) → vec_len processes ≡ config.lps → ∥ ((n : ℕ) × StandsAt (simulation_of (handlers model) config) n pending processes.items) ∥₁
+      → (v : Standing M S P) → seen (simulation_of (handlers model) config) model config pending processes.items ≡ v → IsOnWay (handlers v.model) v
+  seen-on_way processes there stands v is =
+      let all : config.lps ≤ length processes.items = omega (arith, there, processes.ok.0) in
+      subst (λ (v : Standing M S P). IsOnWay (handlers v.model) v) is (∥∥₁_map stands (λ x. (x.0, stands-after (simulation_of (handlers model) config) model config x.0 pending processes.items all x.1)))
+
+  -- what is told of a process's place in the run, by fields that stand for it
+  pub seen-told : (field : Triple S → ℕ) (p : ℕ) (r : Option ℕ) (processes : List (Process M S P K)) → ∥ ((n : ℕ) × StandsAt (simulation_of (handlers model) config) n pending processes) ∥₁
+      → ((n : ℕ) → StandsAt (simulation_of (handlers model) config) n pending processes → IfSome r (λ x. (p < config.lps) × (x ≡ field (place_of (simulation_of (handlers model) config) p n))))
+      → (v : Standing M S P) → seen (simulation_of (handlers model) config) model config pending processes ≡ v
+      → (n : ℕ) → IsAt (simulation_of (handlers v.model) v.config) n v → IfSome r (λ x. (p < v.config.lps) × (x ≡ field (place_of (simulation_of (handlers v.model) v.config) p n)))
+  seen-told field p r processes stands told v is =
+      subst (λ (v : Standing M S P). (n : ℕ) → IsAt (simulation_of (handlers v.model) v.config) n v → IfSome r (λ x. (p < v.config.lps) × (x ≡ field (place_of (simulation_of (handlers v.model) v.config) p n))))
+      is (λ n at. told n (after-stands (simulation_of (handlers model) config) model config n pending processes stands at))
 
 -- ---- an execution and the records that were kept of it
 
@@ -130,6 +149,15 @@ module _ {M S P : Type 0} (sim : Simulation S P) (n : ℕ) where
     triples = is.triples;
     records = adds.added ∙ ap (λ (l : List Record). l ++ adds.fresh) all ∙ sym adds.next;
   }
+
+-- what is told of a process's place in the run
+pub kept-told : {M S P K : Type 0} (handlers : M → Handlers S P K) (now : Standing M S P) (records : List Record) (field : Triple S → ℕ) (p : ℕ) (r : Option ℕ)
+    → ((n : ℕ) → IsAt (simulation_of (handlers now.model) now.config) n now → IfSome r (λ x. (p < now.config.lps) × (x ≡ field (place_of (simulation_of (handlers now.model) now.config) p n))))
+    → (v : Progress M S P) → with_records now records ≡ v
+    → (n : ℕ) → IsAfter (simulation_of (handlers v.model) v.config) n v → IfSome r (λ x. (p < v.config.lps) × (x ≡ field (place_of (simulation_of (handlers v.model) v.config) p n)))
+kept-told handlers now records field p r told v is =
+    subst (λ (v : Progress _ _ _). (n : ℕ) → IsAfter (simulation_of (handlers v.model) v.config) n v → IfSome r (λ x. (p < v.config.lps) × (x ≡ field (place_of (simulation_of (handlers v.model) v.config) p n))))
+    is (λ n at. told n (without_records (simulation_of (handlers now.model) now.config) n now records at))
 
 -- where all send numbers are counted after any number of steps, they are
 pub counted_any : {S P V E : Type 0} (sim : Simulation S P) (In : ℕ → Type 0) (r : Result V E) → ∥ ((n : ℕ) × In n) ∥₁ → ((n : ℕ) → In n → IfOk r (λ v. IsCountedWhole sim)) → IfOk r (λ v. IsCountedWhole sim)

@@ -13,24 +13,20 @@ use Rattle.vt_seq.proofs.StepLemmas.{none_pending, nil_of, if_err}
 use Rattle.vt_seq.proofs.execution.Execution.complete.Goals as goal
 
 pub new-out-requires : goal.new-out-requires
-new-out-requires g c =
-    let config = c.self.inside.engine.config in
-    first_out _ _ config g.met.M.Model.payload_align g.met.M.Model.payload_size (omega (arith, config.some_process)) c.tick.ensures
+new-out-requires g c = first_out _ _ c.self.inside.engine.config g.met.M.Model.payload_align g.met.M.Model.payload_size (omega (arith, c.self.inside.engine.config.some_process)) c.tick.ensures
 
 pub step_reusing-requires-after_bounds : goal.step_reusing-requires-after_bounds
 step_reusing-requires-after_bounds g c κs within = out_fits _ _ g.met.M.Model.payload_align g.met.M.Model.payload_size
 
 pub loop-preserved : goal.loop-preserved
 loop-preserved g c =
-    let model = c.loop.invariant.model in
-    let config = c.loop.invariant.config in
     let before = c.loop.self in
     let later = c.step_reusing.new.self in
     let own = simulation_of (g.M.Model.handlers c.args.self.now.model) c.args.self.now.config in
-    let same : simulation_of (g.M.Model.handlers before.model) before.config ≡ own = λ j. simulation_of (g.M.Model.handlers (model j)) (config j) in
+    let same : simulation_of (g.M.Model.handlers before.model) before.config ≡ own = λ j. simulation_of (g.M.Model.handlers (c.loop.invariant.model j)) (c.loop.invariant.config j) in
     record {
-      model = c.step_reusing.ensures.model ∙ model;
-      config = c.step_reusing.ensures.config ∙ config;
+      model = c.step_reusing.ensures.model ∙ c.loop.invariant.model;
+      config = c.step_reusing.ensures.config ∙ c.loop.invariant.config;
       steps = λ n is.
           let r = c.loop.invariant.steps n is in
           let m : ℕ = r.0 + n in
@@ -56,15 +52,13 @@ returns-clause-steps g c n is =
 
 pub returns-clause-counted : goal.returns-clause-counted
 returns-clause-counted g c n is =
-    let model = c.loop.invariant.model in
-    let config = c.loop.invariant.config in
     let before = c.loop.self in
     let later = c.step_reusing.new.self in
     let m = c.args.self.now.model in
     let cfg = c.args.self.now.config in
     let own = simulation_of (g.M.Model.handlers m) cfg in
     let lawful = lawful_of (g.M.Model.handlers m) cfg (g.met.M.Model.start_within m) (g.met.M.Model.forward_within m) in
-    let same : simulation_of (g.M.Model.handlers before.model) before.config ≡ own = λ j. simulation_of (g.M.Model.handlers (model j)) (config j) in
+    let same : simulation_of (g.M.Model.handlers before.model) before.config ≡ own = λ j. simulation_of (g.M.Model.handlers (c.loop.invariant.model j)) (c.loop.invariant.config j) in
     let r = c.loop.invariant.steps n is in
     let k : ℕ = r.0 + n in
     let at : IsAt (simulation_of (g.M.Model.handlers before.model) before.config) k before = subst (λ (s : Simulation _ _). IsAt s k before) (sym same) (without_records own k before c.loop.records.items r.1) in
@@ -76,12 +70,10 @@ returns-clause-counted g c n is =
 -- the step was refused where the run stands
 pub returns-in_err-step_reusing-clause-refused : goal.returns-in_err-step_reusing-clause-refused
 returns-in_err-step_reusing-clause-refused g c n is =
-    let model = c.loop.invariant.model in
-    let config = c.loop.invariant.config in
     let before = c.loop.self in
     let later = c.step_reusing.new.self in
     let own = simulation_of (g.M.Model.handlers c.args.self.now.model) c.args.self.now.config in
-    let same : simulation_of (g.M.Model.handlers before.model) before.config ≡ own = λ j. simulation_of (g.M.Model.handlers (model j)) (config j) in
+    let same : simulation_of (g.M.Model.handlers before.model) before.config ≡ own = λ j. simulation_of (g.M.Model.handlers (c.loop.invariant.model j)) (c.loop.invariant.config j) in
     let r = c.loop.invariant.steps n is in
     let m : ℕ = r.0 + n in
     let at : IsAt (simulation_of (g.M.Model.handlers before.model) before.config) m before = subst (λ (s : Simulation _ _). IsAt s m before) (sym same) (without_records own m before c.loop.records.items r.1) in

@@ -6,7 +6,7 @@ use Rattle.vt_model.specs.Sequential.{after_steps, seq_records}
 use Rattle.vt_model.specs.Settings.{end_of}
 use Rattle.vt_seq.specs.Given.{records_to, AddsStep}
 use Rattle.vt_seq.specs.Limits.{IsCounted, IsStepRefusal}
-use Rattle.vt_seq.specs.Standing.{Standing, IsAt, IsOnWay}
+use Rattle.vt_seq.specs.Standing.{Standing, IsAt}
 use Rattle.vt_seq.proofs.ProgressLemmas.{seen-on_way, seen, stands-after, after-stands, if_ok-map}
 use Rattle.vt_seq.proofs.StepLemmas.{AreCounted, counted_at, none_pending}
 use Rattle.vt_seq.proofs.GivenLemmas.{whole_records}
@@ -49,11 +49,7 @@ returns-clause-counted g c =
     (λ more st. counted_at sim lawful (suc n) f.pending f.processes.items st there numbered))
 
 pub returns-clause-reached : goal.returns-clause-reached
-returns-clause-reached g c =
-    let e = c.self.inside.engine in
-    let there : e.config.lps ≤ length e.processes.items = search (rules, arith, e.all_there) in
-    subst (λ (v : Standing _ _ _). IsOnWay (g.M.Model.handlers v.model) v) c.self.view_is
-    (seen-on_way (g.M.Model.handlers e.model.now) e.model.now e.config e.pending e.processes.items there e.stands)
+returns-clause-reached g c = let e = c.self.inside.engine in seen-on_way g.M.Model.handlers e.model.now e.config e.pending e.processes e.all_there e.stands _ c.self.view_is
 
 pub returns-clause-whole : goal.returns-clause-whole
 returns-clause-whole g c =

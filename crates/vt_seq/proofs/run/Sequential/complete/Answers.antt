@@ -1,4 +1,4 @@
-use Rattle.std.proofs.Common.{◌≡◌, ◌∙◌, ℕ, ◌+◌, IfOk, IfErr, sym, subst}
+use Rattle.std.proofs.Common.{◌≡◌, ◌∙◌, ℕ, ◌+◌, IfOk, IfErr, subst}
 use Rattle.std.proofs.Math.Logic.{∥∥₁_map, ∥∥₁_elim}
 use Rattle.std.proofs.Props.{props}
 use Rattle.vt_model.specs.Simulation.{Simulation, simulation_of}
@@ -9,14 +9,13 @@ use Rattle.vt_seq.specs.Limits.{IsCountedWhole, IsStepRefusal}
 use Rattle.vt_seq.specs.Progress.{Progress, IsAfter, IsReached}
 use Rattle.vt_seq.specs.Standing.{with_records}
 use Rattle.vt_seq.proofs.GivenLemmas.{whole_records}
-use Rattle.vt_seq.proofs.ProgressLemmas.{if_ok-map, counted_any}
+use Rattle.vt_seq.proofs.ProgressLemmas.{if_ok-map, counted_any, same-run}
 use Rattle.vt_seq.proofs.StepLemmas.{none_pending}
 use Rattle.vt_seq.proofs.run.Sequential.complete.Goals as goal
 
 pub returns-clause-whole : goal.returns-clause-whole
 returns-clause-whole g c =
     let e = c.self.inside.execution in
-    let records = c.self.inside.records.items in
     let sim = simulation_of (g.M.Model.handlers e.model) e.config in
     let lawful = lawful_of (g.M.Model.handlers e.model) e.config (g.met.M.Model.start_within e.model) (g.met.M.Model.forward_within e.model) in
     let f = c.complete.new.self in
@@ -51,13 +50,8 @@ returns-clause-refused g c =
 
 pub invariant_of-self : goal.invariant_of-self
 invariant_of-self g c =
-    let e = c.self.inside.execution in
-    let records = c.self.inside.records.items in
-    let sim = simulation_of (g.M.Model.handlers e.model) e.config in
-    let f = c.complete.new.self in
-    let later = with_records f c.complete.new.records.items in
-    let own = simulation_of (g.M.Model.handlers f.model) f.config in
-    let same : sim ≡ own = λ j. simulation_of (g.M.Model.handlers (sym c.complete.ensures.model j)) (sym c.complete.ensures.config j) in
+    let later = with_records c.complete.new.self c.complete.new.records.items in
+    let same = same-run g.M.Model.handlers c.complete.ensures.model c.complete.ensures.config in
     ∥∥₁_map c.self.invariant (λ x. let r = c.complete.ensures.steps x.0 x.1 in (r.0 + x.0, subst (λ (s : Simulation _ _). IsAfter s (r.0 + x.0) later) same r.1))
 
 pub returns-clause-reached : goal.returns-clause-reached

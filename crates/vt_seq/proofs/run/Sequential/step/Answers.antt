@@ -4,7 +4,7 @@ use Rattle.vt_model.specs.Simulation.{Simulation, simulation_of}
 use Rattle.vt_seq.specs.Limits.{IsCounted, IsStepRefusal}
 use Rattle.vt_seq.specs.Progress.{Progress, IsAfter, IsReached}
 use Rattle.vt_seq.specs.Standing.{with_records}
-use Rattle.vt_seq.proofs.ProgressLemmas.{without_records, kept_on, if_ok-both}
+use Rattle.vt_seq.proofs.ProgressLemmas.{without_records, kept_on, if_ok-both, same-run}
 use Rattle.vt_seq.proofs.StepLemmas.{either_way}
 use Rattle.vt_seq.proofs.run.Sequential.step.Goals as goal
 
@@ -43,8 +43,7 @@ invariant_of-self g c =
     let sim = simulation_of (g.M.Model.handlers e.model) e.config in
     let f = c.step.new.self in
     let later = with_records f c.step.new.records.items in
-    let own = simulation_of (g.M.Model.handlers f.model) f.config in
-    let same : sim ≡ own = λ j. simulation_of (g.M.Model.handlers (sym c.step.ensures.model j)) (sym c.step.ensures.config j) in
+    let same = same-run g.M.Model.handlers c.step.ensures.model c.step.ensures.config in
     ∥∥₁_map c.self.invariant (λ x.
     let at = without_records sim x.0 e records x.1 in
     let on : IfOk c.step.result (λ more. IsAfter sim (suc x.0) later) =
