@@ -132,3 +132,8 @@ module _ (floor later : Time) (history rows : List Row) (shown : List Record) (w
         let k = sum_by-append f (rows_before later (history ++ rows)) rest in
         omega arith);
   }
+
+-- with the new rows too, none that waits is before the floor
+pub late-after : (floor : Time) (history rows : List Row) (shown : List Record) (waiting all : List Row) → IsKept floor history shown waiting →
+    rows_before floor rows ≡ [] → AreSameRows all (waiting ++ rows) → rows_before floor all ≡ []
+late-after floor history rows shown waiting all kept late whole = late-all floor floor history rows shown waiting all all (omega arith) kept late whole

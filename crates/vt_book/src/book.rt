@@ -11,7 +11,7 @@ ghost use Rattle.vt_book.specs.Books.{may_hand, are_within, is_within, refusal_o
 use crate::batch::Batch;
 use crate::floors::Floors;
 use crate::history::History;
-use crate::waiting::{add, show_before};
+use crate::waiting::{add, show_between};
 use std::alloc::Global;
 use std::marker::Model;
 use vt_key::{Fault, When};
@@ -118,12 +118,10 @@ impl Book {
         let history = self.history.with(batch.rows());
         add(&mut self.waiting, batch.into_rows())?;
         self.history = history;
+        let shown_to = self.floors.least(self.end);
         self.floors.set(worker, floor);
-        show_before(
-            &mut self.waiting,
-            &mut self.shown,
-            self.floors.least(self.end),
-        );
+        let risen_to = self.floors.least(self.end);
+        show_between(&mut self.waiting, &mut self.shown, shown_to, risen_to);
         Ok(())
     }
 
