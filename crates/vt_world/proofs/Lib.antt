@@ -5,8 +5,7 @@ pub mod ClosedLemmas
 pub mod FinalLemmas
 pub mod StepLemmas
 pub mod Places
-pub mod Refusals
-pub mod ReportLemmas
+pub mod CellLemmas
 pub mod LocalLemmas
 pub mod LimitLemmas
 pub mod CommitLemmas

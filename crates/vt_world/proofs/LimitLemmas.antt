@@ -1,15 +1,13 @@
 -- A step that is done passes no counter's limit: its worker and the board are within them afterwards.
-use Rattle.std.proofs.Common.{◌≡◌, ℕ, ◌%◌, ◌≤◌, inl, inr, List, sym, ◌∙◌, ap, subst, arith, Some, slice_get, slice_set}
+use Rattle.std.proofs.Common.{◌≡◌, ℕ, ◌%◌, inl, inr, List, sym, ◌∙◌, ap, subst, arith, Some, slice_get, slice_set}
 use Rattle.vt_key.specs.Times.{Time}
 use Rattle.vt_key.specs.declared.letter.Mail.{Mail}
-use Rattle.vt_key.specs.declared.limits.TheConstants.{MAX_COUNT}
 use Rattle.vt_model.specs.declared.settings.Config.{Config}
 use Rattle.vt_model.specs.Handler.{Handlers}
 use Rattle.vt_model.specs.Simulation.{simulation_of}
-use Rattle.vt_steps.specs.declared.step.Step.TheVariants.{Execute, Send, Fetch, Cut}
-use Rattle.vt_steps.specs.Letters.{Counts, count_of}
-use Rattle.vt_steps.specs.World.{Part, World, Board}
-use Rattle.vt_kernel.specs.Held.{HeldWorker, AreCounted, StandsFor as WorkerStandsFor}
+use Rattle.vt_steps.specs.declared.step.Step.TheVariants.{Execute}
+use Rattle.vt_steps.specs.World.{Part, World}
+use Rattle.vt_kernel.specs.Held.{HeldWorker, StandsFor as WorkerStandsFor}
 use Rattle.vt_kernel.specs.Guards.{AreWithinLimits}
 use Rattle.vt_kernel.specs.Refusals.{PassesLimit}
 use Rattle.vt_steps.proofs.Places.{get-put_same}
@@ -20,13 +18,6 @@ use Rattle.vt_world.proofs.Places.{same-there, are-workers}
 
 module _ {M S P K : Type 0} {handlers : Handlers S P K} {held : HeldWorld M S P K} {board_end book_end : Time} (inside : IsWorldInside handlers held board_end book_end)
     (w : ℕ) {k : HeldWorker S P K} (at : slice_get held.workers w ≡ Some k) (new : HeldWorker S P K) (same : IsSame new k) where
-  -- after a cut
-  pub cut-within : {board : Board} → board.rounds ≤ MAX_COUNT → (world : World P) → StandsForWorld handlers (record held { workers = slice_set held.workers w new; board = board }) world
-      → PassesLimit (simulation_of handlers held.config) (Cut w) world → ⊥
-  cut-within few world h past =
-      let rounds = ap (λ (b : Board). b.rounds) h.board in
-      omega (arith, few, past, rounds)
-
   module _ (inboxes : List (List (Mail P))) where
     -- the world with the worker and the inboxes that a step leaves
     abbrev pub stepped : HeldWorld M S P K
@@ -37,26 +28,6 @@ module _ {M S P K : Type 0} {handlers : Handlers S P K} {held : HeldWorld M S P 
     stands-there world h part there =
         let f = found handlers stepped world w new (are-workers inside w at new same) h (get-put_same held.workers w k new at) in
         subst (WorkerStandsFor handlers new) (same-there world.parts w f.part part f.there there) f.stands
-
-    -- after a send
-    pub send-within : (v : ℕ) → ((part : Part P) → WorkerStandsFor handlers new part → count_of part.sent part.colour ≤ MAX_COUNT) → (world : World P) → StandsForWorld handlers stepped world → PassesLimit (simulation_of handlers held.config) (Send w v) world → ⊥
-    send-within v few world h past =
-        let most = few past.0 (stands-there world h past.0 past.1) in
-        let over = past.2 in
-        omega (arith, most, over)
-
-    -- after a fetch
-    pub fetch-within : AreCounted new.got → (world : World P) → StandsForWorld handlers stepped world → PassesLimit (simulation_of handlers held.config) (Fetch w) world → ⊥
-    fetch-within few world h past =
-        let s = stands-there world h past.0 past.1 in
-        let white = ap (λ (c : Counts). c.white) s.got in
-        let red = ap (λ (c : Counts). c.red) s.got in
-        let few_white = few.white in
-        let few_red = few.red in
-        elim past.2 [
-          | inl a ↦ omega (arith, a, white, few_white)
-          | inr b ↦ omega (arith, b, red, few_red)
-        ]
 
     -- after an execution
     pub execute-within : (p : ℕ) → p % held.config.workers ≡ w → ((part : Part P) → WorkerStandsFor handlers new part → AreWithinLimits (simulation_of handlers k.config) p part)

@@ -20,7 +20,7 @@ use Rattle.vt_steps.specs.declared.step.Reply.TheVariants.{Done}
 use Rattle.vt_steps.specs.World.{World, Board, Book, book_floor}
 use Rattle.vt_steps.specs.Next.{next, run, reached}
 use Rattle.vt_steps.proofs.Floors.{nothing-falls, reached-times}
-use Rattle.vt_steps.specs.StandsFor.{StandsFor, GoesOn}
+use Rattle.vt_steps.specs.StandsFor.{GoesOn}
 use Rattle.vt_steps.proofs.MemoryLemmas.{still_reached}
 use Rattle.vt_kernel.specs.Held.{HeldWorker}
 use Rattle.vt_steps.specs.BookSteps.{may_close, closed_book}
@@ -54,14 +54,14 @@ module _ {M S P K : Type 0} (meaning : M → Handlers S P K) {held seen : HeldWo
       → (new : HeldWorld M S P K) (step : Step) (reply : Reply)
       → GoesOn (simulation_of (meaning held.model) held.config) step (Ok reply) (world_memory (meaning held.model) held) (world_memory (meaning held.model) new)
       → new.model ≡ held.model → new.config ≡ held.config
-      → ((world : World P) → StandsFor (simulation_of (meaning held.model) held.config) (world_memory (meaning held.model) new) world → PassesLimit (simulation_of (meaning held.model) held.config) step world → ⊥)
+      → ((world : World P) → StandsForWorld (meaning held.model) held world → PassesLimit (simulation_of (meaning held.model) held.config) step (next (simulation_of (meaning held.model) held.config) world step).world → ⊥)
       → IsStepOf (meaning seen.model) step seen new (Ok reply)
   step-done inside lawful new step reply goes same_model same_config few =
       let up = ∥∥₁_elim inside.is_reached (Prim.hlevel props) (rises (meaning held.model) held new step (Ok reply) lawful same_config goes) in
       subst (λ (v : HeldWorld M S P K). IsStepOf (meaning v.model) step v new (Ok reply)) seen_is
       (record {
         done = goes;
-        within = λ world h. few (next (simulation_of (meaning held.model) held.config) world step).world (goes world h).1;
+        within = few;
         refused = λ world h. tt;
         unchanged = tt;
         same_model = same_model;

@@ -1,8 +1,7 @@
--- What the calls of a worker, the board and the book do is what the step of the world does.
-use Rattle.std.proofs.Common.{◌≡◌, ℕ, zero, suc, ◌+◌, ◌≤◌, true, false, List, [], ◌∷◌, ◌++◌, map, refl, sym, ◌∙◌, ap, subst, arith, Some, None, Result, Ok, Err, slice_get, slice_set}
+-- Steps of a world whose worker or inbox isn't there, and what the book's calls do to it.
+use Rattle.std.proofs.Common.{◌≡◌, ℕ, zero, suc, ◌+◌, ◌≤◌, true, false, List, [], ◌∷◌, map, refl, sym, ◌∙◌, ap, subst, arith, Some, None, Result, Ok, Err, slice_get, slice_set}
 use Rattle.std.proofs.lemmas.Option.{slice_get_past}
 use Rattle.vt_key.specs.Times.{Time}
-use Rattle.vt_key.specs.declared.letter.Mail.{Mail}
 use Rattle.vt_key.specs.declared.fault.Fault.{Fault}
 use Rattle.vt_key.specs.declared.fault.Fault.TheVariants.{NotLawful, Closed}
 use Rattle.vt_model.specs.declared.rows.Row.{Row}
@@ -14,18 +13,14 @@ use Rattle.vt_steps.specs.declared.step.Step.{Step}
 use Rattle.vt_steps.specs.declared.step.Step.TheVariants.{Home, Accept, Send, Fetch, Cut, Report, Commit, Close}
 use Rattle.vt_steps.specs.declared.step.Reply.{Reply}
 use Rattle.vt_steps.specs.declared.step.Reply.TheVariants.{Done}
-use Rattle.vt_steps.specs.Letters.{is_empty}
-use Rattle.vt_steps.specs.World.{Part, World, Board, Book}
+use Rattle.vt_steps.specs.World.{Part, World, Book}
 use Rattle.std.specs.Option.{option_and_then, option_map}
-use Rattle.vt_steps.specs.PartSteps.{home, accept, part_after_send, mail_of_send, part_after_fetch, part_after_cut, report_sent, report_got, report_least, part_after_commit, rows_of_commit}
-use Rattle.vt_steps.specs.BoardSteps.{cut_board, may_report, with_report, board_after_report, report_reply}
+use Rattle.vt_steps.specs.PartSteps.{home, accept, part_after_commit, rows_of_commit}
 use Rattle.vt_steps.specs.BookSteps.{may_commit, with_rows, may_close, closed_book}
-use Rattle.vt_steps.specs.CellSteps.{may_send}
 use Rattle.vt_steps.specs.Next.{Outcome, next, refused, replied, with_part, done_or_refused}
-use Rattle.vt_steps.proofs.Changes.{with_reported}
 use Rattle.vt_steps.specs.StandsFor.{GoesOn}
 use Rattle.vt_kernel.specs.Held.{HeldWorker, part_memory, StandsFor as WorkerStandsFor}
-use Rattle.vt_steps.proofs.CellSteps.{next-cut, next-not_cut, next-report, next-not_report, next-report_nobody, next-commit, next-commit_closed, next-close, next-not_close, next-close_closed, next-commit_nobody, next-send, next-fetch, next-send_nobody, next-fetch_nobody, next-cut_nobody}
+use Rattle.vt_steps.proofs.CellSteps.{next-report_nobody, next-commit, next-commit_closed, next-close, next-not_close, next-close_closed, next-commit_nobody, next-send_nobody, next-send_nowhere, next-fetch_nobody, next-cut_nobody}
 use Rattle.vt_world.specs.Held.{HeldWorld, world_memory, StandsForWorld, IsWorldInside}
 use Rattle.vt_world.proofs.WorldLemmas.{IsSame, nobody-at, worker-at, found, part-changed}
 
@@ -64,121 +59,13 @@ module _ {M S P K : Type 0} {handlers : Handlers S P K} {held : HeldWorld M S P 
       let plain : 0 + w ≡ w = omega arith in
       (is.0 ∙ plain, is.1)
 
-  pub send-done : (w v : ℕ) {k : HeldWorker S P K} {inbox old : List (Mail P)} → slice_get held.workers w ≡ Some k → slice_get held.inboxes v ≡ Some inbox → old ≡ inbox
-      → (new : HeldWorker S P K) (new_inbox : List (Mail P)) → IsSame new k
-      → ((part : Part P) → WorkerStandsFor handlers k part → (may_send (simulation_of handlers k.config) k.worker v part ≡ true)
-      × WorkerStandsFor handlers new (part_after_send (simulation_of handlers k.config) v part) × (new_inbox ≡ old ++ mail_of_send (simulation_of handlers k.config) v part))
-      → GoesOn (simulation_of handlers held.config) (Send w v) (Ok Done) (world_memory handlers held)
-      (world_memory handlers (record held { workers = slice_set held.workers w new; inboxes = slice_set held.inboxes v new_inbox }))
-  send-done w v {k} {inbox} {old} at here seen new new_inbox same done world h =
-      let sim = simulation_of handlers held.config in
-      let is = who at in
-      let f = found handlers held world w k inside.own_workers h at in
-      let d = subst (λ (c : Config). (may_send (simulation_of handlers c) k.worker v f.part ≡ true) × WorkerStandsFor handlers new (part_after_send (simulation_of handlers c) v f.part)
-      × (new_inbox ≡ old ++ mail_of_send (simulation_of handlers c) v f.part)) is.1 (done f.part f.stands) in
-      let may : may_send sim w v f.part ≡ true = ap (λ u. may_send sim u v f.part) (sym is.0) ∙ d.0 in
-      let box : slice_get world.inboxes v ≡ Some inbox = ap (λ xs. slice_get xs v) h.inboxes ∙ here in
-      goes handlers held world (Send w v) (replied (record world { parts = slice_set world.parts w (part_after_send sim v f.part); inboxes = slice_set world.inboxes v (inbox ++ mail_of_send sim v f.part) }) Done)
-      (Ok Done) (record held { workers = slice_set held.workers w new; inboxes = slice_set held.inboxes v new_inbox })
-      (next-send sim world w v f.part inbox f.there box may) refl refl
-      (record {
-        parts = part-changed handlers held world w new (part_after_send sim v f.part) h (same.0 ∙ is.0) (same.1 ∙ is.1) d.1;
-        inboxes = ap (λ xs. slice_set xs v (inbox ++ mail_of_send sim v f.part)) h.inboxes ∙ ap (slice_set held.inboxes v) (ap (λ ms. ms ++ mail_of_send sim v f.part) (sym seen) ∙ sym d.2);
-        board = h.board;
-        book = h.book;
-      })
-
-  pub fetch-done : (w : ℕ) {k : HeldWorker S P K} {inbox mail left : List (Mail P)} → slice_get held.workers w ≡ Some k → slice_get held.inboxes w ≡ Some inbox → mail ≡ inbox → left ≡ []
-      → (new : HeldWorker S P K) → IsSame new k
-      → ((part : Part P) → WorkerStandsFor handlers k part → (is_empty part.arrived ≡ true) × WorkerStandsFor handlers new (part_after_fetch mail part))
-      → GoesOn (simulation_of handlers held.config) (Fetch w) (Ok Done) (world_memory handlers held)
-      (world_memory handlers (record held { workers = slice_set held.workers w new; inboxes = slice_set held.inboxes w left }))
-  fetch-done w {k} {inbox} {mail} {left} at here seen none new same done world h =
-      let sim = simulation_of handlers held.config in
-      let is = who at in
-      let f = found handlers held world w k inside.own_workers h at in
-      let d = subst (λ ms. (is_empty f.part.arrived ≡ true) × WorkerStandsFor handlers new (part_after_fetch ms f.part)) seen (done f.part f.stands) in
-      let box : slice_get world.inboxes w ≡ Some inbox = ap (λ xs. slice_get xs w) h.inboxes ∙ here in
-      goes handlers held world (Fetch w) (replied (record world { parts = slice_set world.parts w (part_after_fetch inbox f.part); inboxes = slice_set world.inboxes w [] }) Done)
-      (Ok Done) (record held { workers = slice_set held.workers w new; inboxes = slice_set held.inboxes w left })
-      (next-fetch sim world w f.part inbox f.there box d.0) refl refl
-      (record {
-        parts = part-changed handlers held world w new (part_after_fetch inbox f.part) h (same.0 ∙ is.0) (same.1 ∙ is.1) d.1;
-        inboxes = ap (λ xs. slice_set xs w []) h.inboxes ∙ ap (slice_set held.inboxes w) (sym none);
-        board = h.board;
-        book = h.book;
-      })
-
-  pub cut-done : (w : ℕ) {k : HeldWorker S P K} {board : Board} → slice_get held.workers w ≡ Some k → cut_board (end_of held.config) w held.board ≡ Some board
-      → (new : HeldWorker S P K) → IsSame new k
-      → ((part : Part P) → WorkerStandsFor handlers k part → WorkerStandsFor handlers new (part_after_cut (end_of k.config) held.board.announced part))
-      → GoesOn (simulation_of handlers held.config) (Cut w) (Ok Done) (world_memory handlers held)
-      (world_memory handlers (record held { workers = slice_set held.workers w new; board = board }))
-  cut-done w {k} {board} at cuts new same done world h =
-      let sim = simulation_of handlers held.config in
-      let is = who at in
-      let f = found handlers held world w k inside.own_workers h at in
-      let d = subst (λ (c : Config). WorkerStandsFor handlers new (part_after_cut (end_of c) held.board.announced f.part)) is.1 (done f.part f.stands) in
-      let e = subst (λ (b : Board). WorkerStandsFor handlers new (part_after_cut (end_of held.config) b.announced f.part)) (sym h.board) d in
-      goes handlers held world (Cut w) (replied (record world { parts = slice_set world.parts w (part_after_cut (end_of held.config) world.board.announced f.part); board = board }) Done)
-      (Ok Done) (record held { workers = slice_set held.workers w new; board = board })
-      (next-cut sim world w f.part board f.there (ap (λ b. cut_board (end_of held.config) w b) h.board ∙ cuts)) refl refl
-      (record {
-        parts = part-changed handlers held world w new (part_after_cut (end_of held.config) world.board.announced f.part) h (same.0 ∙ is.0) (same.1 ∙ is.1) e;
-        inboxes = h.inboxes;
-        board = refl;
-        book = h.book;
-      })
-
-  pub cut-refused : (w : ℕ) → cut_board (end_of held.config) w held.board ≡ None
-      → GoesOn (simulation_of handlers held.config) (Cut w) (Err NotLawful) (world_memory handlers held) (world_memory handlers held)
-  cut-refused w none world h =
-      goes handlers held world (Cut w) (refused world NotLawful) (Err NotLawful) held
-      (next-not_cut (simulation_of handlers held.config) world w (ap (λ b. cut_board (end_of held.config) w b) h.board ∙ none)) refl refl h
-
-  -- the world after a lawful report stands as the worker and the board do
-  reported : (world : World P) (w : ℕ) (new : HeldWorker S P K) (part : Part P) (board : Board) → StandsForWorld handlers held world → new.worker ≡ w → new.config ≡ held.config
-      → WorkerStandsFor handlers new (record part { floor = (board_after_report (end_of held.config) board).announced })
-      → StandsForWorld handlers (record held { workers = slice_set held.workers w new; board = board_after_report (end_of held.config) board }) (with_reported (simulation_of handlers held.config) world w part board)
-  reported world w new part board h is of stands = record {
-    parts = part-changed handlers held world w new (record part { floor = (board_after_report (end_of held.config) board).announced }) h is of stands;
-    inboxes = h.inboxes;
-    board = refl;
-    book = h.book;
-  }
-
-  pub report-done : (w : ℕ) {k : HeldWorker S P K} → slice_get held.workers w ≡ Some k → (new : HeldWorker S P K) → IsSame new k
-      → (sent got : ℕ) {least : Time} → may_report w least held.board ≡ true
-      → ((part : Part P) → WorkerStandsFor handlers k part → (sent ≡ report_sent part) × (got ≡ report_got part) × (least ≡ report_least (end_of k.config) part)
-      × WorkerStandsFor handlers new (record part { floor = (board_after_report (end_of held.config) (with_report w sent got least held.board)).announced }))
-      → GoesOn (simulation_of handlers held.config) (Report w) (Ok (report_reply (with_report w sent got least held.board))) (world_memory handlers held)
-      (world_memory handlers (record held { workers = slice_set held.workers w new; board = board_after_report (end_of held.config) (with_report w sent got least held.board) }))
-  report-done w {k} at new same sent got {least} may done world h =
-      let sim = simulation_of handlers held.config in
-      let is = who at in
-      let f = found handlers held world w k inside.own_workers h at in
-      let d = done f.part f.stands in
-      let value : report_least (end_of held.config) f.part ≡ least = ap (λ (c : Config). report_least (end_of c) f.part) (sym is.1) ∙ sym d.2 in
-      let lawful : may_report w (report_least (end_of held.config) f.part) world.board ≡ true = ap (λ t. may_report w t world.board) value ∙ ap (may_report w least) h.board ∙ may in
-      let board : with_report w (report_sent f.part) (report_got f.part) (report_least (end_of held.config) f.part) world.board ≡ with_report w sent got least held.board =
-      ap (λ n. with_report w n (report_got f.part) (report_least (end_of held.config) f.part) world.board) (sym d.0)
-      ∙ ap (λ n. with_report w sent n (report_least (end_of held.config) f.part) world.board) (sym d.1)
-      ∙ ap (λ t. with_report w sent got t world.board) value
-      ∙ ap (with_report w sent got least) h.board in
-      goes handlers held world (Report w) (replied (with_reported sim world w f.part (with_report w sent got least held.board)) (report_reply (with_report w sent got least held.board)))
-      (Ok (report_reply (with_report w sent got least held.board))) (record held { workers = slice_set held.workers w new; board = board_after_report (end_of held.config) (with_report w sent got least held.board) })
-      (next-report sim world w f.part f.there lawful ∙ ap (λ b. replied (with_reported sim world w f.part b) (report_reply b)) board) refl refl
-      (reported world w new f.part (with_report w sent got least held.board) h (same.0 ∙ is.0) (same.1 ∙ is.1) d.3)
-
-  pub report-refused : (w : ℕ) {k : HeldWorker S P K} → slice_get held.workers w ≡ Some k → {least : Time} → may_report w least held.board ≡ false
-      → ((part : Part P) → WorkerStandsFor handlers k part → least ≡ report_least (end_of k.config) part)
-      → GoesOn (simulation_of handlers held.config) (Report w) (Err NotLawful) (world_memory handlers held) (world_memory handlers held)
-  report-refused w {k} at {least} may none world h =
-      let is = who at in
-      let f = found handlers held world w k inside.own_workers h at in
-      let value : report_least (end_of held.config) f.part ≡ least = ap (λ (c : Config). report_least (end_of c) f.part) (sym is.1) ∙ sym (none f.part f.stands) in
-      goes handlers held world (Report w) (refused world NotLawful) (Err NotLawful) held
-      (next-not_report (simulation_of handlers held.config) world w f.part f.there (ap (λ t. may_report w t world.board) value ∙ ap (may_report w least) h.board ∙ may)) refl refl h
+  -- Send of a worker to one that there is not
+  pub send-nowhere : (w : ℕ) {v : ℕ} → held.config.workers ≤ v
+      → GoesOn (simulation_of handlers held.config) (Send w v) (Err NotLawful) (world_memory handlers held) (world_memory handlers held)
+  send-nowhere w {v} past world h =
+      let none = slice_get_past held.inboxes v (let size = inside.all_inboxes in omega (arith, size, past)) in
+      goes handlers held world (Send w v) (refused world NotLawful) (Err NotLawful) held
+      (next-send_nowhere (simulation_of handlers held.config) world w v (ap (λ xs. slice_get xs v) h.inboxes ∙ none)) refl refl h
 
   pub commit-done : (w : ℕ) {k : HeldWorker S P K} → slice_get held.workers w ≡ Some k → held.book.is_closed ≡ false
       → may_commit (slice_get held.book.floors w) k.floor ≡ true → (new : HeldWorker S P K) → IsSame new k → (rows : List Row)

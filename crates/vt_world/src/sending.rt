@@ -4,7 +4,6 @@ ghost use Rattle.vt_steps.specs.declared.step.Step.TheVariants.{Send, Fetch};
 ghost use Rattle.vt_world.specs.Calls.{IsStepOf};
 
 use crate::world::World;
-use std::mem;
 use vt_key::Fault;
 use vt_model::Model as EventModel;
 use vt_steps::Reply;
@@ -17,8 +16,11 @@ impl<'m, M: EventModel> World<'m, M> {
         if w >= self.config.workers || v >= self.config.workers {
             return Err(Fault::NotLawful);
         }
-        self.kernels[w as usize].letters_for(v, &mut self.inboxes[v as usize].mail)?;
-        Ok(Reply::Done)
+        vt_cells::send(
+            &mut self.kernels[w as usize],
+            v,
+            &mut self.inboxes[v as usize].mail,
+        )
     }
 
     /// Worker `w` empties its inbox.
@@ -28,12 +30,9 @@ impl<'m, M: EventModel> World<'m, M> {
         if w >= self.config.workers {
             return Err(Fault::NotLawful);
         }
-        let empty = Vec::new(*self.kernels.allocator());
-        let mail = mem::replace(&mut self.inboxes[w as usize].mail, empty);
-        if let Err((fault, mail)) = self.kernels[w as usize].take_in(mail) {
-            self.inboxes[w as usize].mail = mail;
-            return Err(fault);
-        }
-        Ok(Reply::Done)
+        vt_cells::fetch(
+            &mut self.kernels[w as usize],
+            &mut self.inboxes[w as usize].mail,
+        )
     }
 }

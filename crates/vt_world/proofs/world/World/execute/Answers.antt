@@ -2,8 +2,10 @@ use Rattle.std.proofs.Common.{rules, ◌≡◌, sym, refl}
 use Rattle.std.proofs.Math.Logic.{∥∥₁_elim}
 use Rattle.std.proofs.Props.{props}
 use base.Stored.{Coded-set}
+use Rattle.vt_model.specs.Simulation.{simulation_of}
 use Rattle.vt_steps.specs.declared.step.Step.TheVariants.{Execute}
 use Rattle.vt_steps.specs.declared.step.Reply.TheVariants.{Done}
+use Rattle.vt_steps.specs.Next.{next}
 use Rattle.vt_model.proofs.LawLemmas.{lawful_of}
 use Rattle.vt_world.proofs.StepLemmas.{step-done, step-refused, inside-same}
 use Rattle.vt_world.proofs.Places.{worker-there, put-back}
@@ -40,6 +42,6 @@ returns g c =
     let same = c.execute.ensures.same in
     let own = sym c.owner-owner.ensures.value in
     let at = worker-there c.self.invariant c.owner-owner.ensures.known c.index_mut.ensures.value in
+    let done = local-done c.self.invariant _ at (Execute c.args.lp) own new same c.in_ok-execute.ensures.done in
     step-done g.M.Model.handlers c.self.view_is c.self.invariant (lawful_of (g.M.Model.handlers m) i.config (g.met.M.Model.start_within m) (g.met.M.Model.forward_within m)) _ (Execute c.args.lp) Done
-    (local-done c.self.invariant _ at (Execute c.args.lp) own new same c.in_ok-execute.ensures.done) refl refl
-    (execute-within c.self.invariant _ at new same i.inboxes.items c.args.lp own c.in_ok-execute.ensures.counted)
+    done refl refl (λ world h. execute-within c.self.invariant _ at new same i.inboxes.items c.args.lp own c.in_ok-execute.ensures.counted (next (simulation_of (g.M.Model.handlers m) i.config) world (Execute c.args.lp)).world (done world h).1)

@@ -1,0 +1,4 @@
+pub mod ActLemmas
+pub mod BoardSteps
+pub mod MailSteps
+pub mod WorldLemmas

@@ -1,0 +1,155 @@
+-- Send and Fetch on a kernel and an inbox, by what the kernel's calls do and refuse.
+use Rattle.std.proofs.Common.{◌≡◌, ℕ, ◌+◌, ◌<◌, ◌≤◌, inl, inr, true, List, [], ◌++◌, length, refl, sym, ◌∙◌, ap, subst, arith, Ok, Err}
+use Rattle.vt_key.specs.declared.limits.TheConstants.{MAX_COUNT}
+use Rattle.vt_key.specs.declared.letter.Colour.{Colour}
+use Rattle.vt_key.specs.declared.letter.Colour.TheVariants.{White, Red}
+use Rattle.vt_key.specs.declared.letter.Mail.{Mail}
+use Rattle.vt_key.specs.declared.fault.Fault.{Fault}
+use Rattle.vt_model.specs.Handler.{Handlers}
+use Rattle.vt_model.specs.Simulation.{Simulation, simulation_of}
+use Rattle.vt_steps.specs.declared.step.Step.TheVariants.{Send, Fetch}
+use Rattle.vt_steps.specs.declared.step.Reply.TheVariants.{Done}
+use Rattle.vt_steps.specs.Letters.{Counts, count_of, raised, count_colour, is_empty}
+use Rattle.vt_steps.specs.World.{Part}
+use Rattle.vt_steps.specs.PartSteps.{letters_for, part_after_send, mail_of_send, part_after_fetch}
+use Rattle.vt_steps.specs.Cells.{in_inbox, Acted}
+use Rattle.vt_steps.specs.CellSteps.{may_send}
+use Rattle.vt_kernel.specs.Held.{HeldWorker, StandsFor, AreCounted}
+use Rattle.vt_kernel.specs.Guards.{IsSendRefusal}
+use Rattle.vt_cells.specs.Calls.{IsCellRefusal, IsCellStepOf, IsTakeRefusal, PassesThere}
+use Rattle.vt_cells.proofs.ActLemmas.{act-send, act-not_send, act-fetch, act-not_fetch}
+
+-- a raised count
+count-raised : (counts : Counts) (colour : Colour) (n : ℕ) → count_of (raised counts colour n) colour ≡ count_of counts colour + n
+count-raised counts White n = refl
+count-raised counts Red n = refl
+
+module _ {S P : Type 0} (sim : Simulation S P) where
+  -- how much of its colour a worker has sent after a send
+  sent-after : (v : ℕ) (part : Part P) → count_of (part_after_send sim v part).sent (part_after_send sim v part).colour ≡ count_of part.sent part.colour + length (letters_for sim v part)
+  unfolding part_after_send
+  sent-after v part = count-raised part.sent part.colour (length (letters_for sim v part))
+
+  -- why Send is refused
+  send-why : (w v : ℕ) (part : Part P) (mails : List (Mail P)) (fault : Fault) → IsSendRefusal sim w v part fault → IsCellRefusal sim (Send w v) part (in_inbox mails) fault
+  send-why w v part mails fault (inl a) = inl (ap (λ (x : Acted P). x.answer) (act-not_send sim w v part mails a.1) ∙ ap Err (sym a.0))
+  send-why w v part mails fault (inr a) =
+      let is = act-send sim w v part mails a.0 in
+      let more = sent-after v part in
+      inr (
+        Done,
+        ap (λ (x : Acted P). x.answer) is,
+        elim a.1 [
+          | inl b ↦ inl (b.0, subst (λ (x : Acted P). PassesThere (Send w v) x.part x.cell) (sym is) (let past = b.1 in omega (arith, past, more)))
+          | inr b ↦ inr (
+            b.0,
+            tt,
+            λ h.
+                (let over : MAX_COUNT < count_of (part_after_send sim v part).sent (part_after_send sim v part).colour = subst (λ (x : Acted P). PassesThere (Send w v) x.part x.cell) is h in
+                let few = b.1 in
+                omega (arith, over, more, few)),
+          )
+        ],
+      )
+
+  -- how much a worker has got after a fetch
+  got-after : (mails : List (Mail P)) (part : Part P) → ((part_after_fetch mails part).got.white ≡ part.got.white + count_colour White mails) × ((part_after_fetch mails part).got.red ≡ part.got.red + count_colour Red mails)
+  unfolding part_after_fetch
+  got-after mails part = (refl, refl)
+
+  -- why Fetch is refused
+  fetch-why : (w : ℕ) (part : Part P) (mails : List (Mail P)) (fault : Fault) → IsTakeRefusal part.arrived part.got mails fault → IsCellRefusal sim (Fetch w) part (in_inbox mails) fault
+  fetch-why w part mails fault (inl a) = inl (ap (λ (x : Acted P). x.answer) (act-not_fetch sim w part mails a.1) ∙ ap Err (sym a.0))
+  fetch-why w part mails fault (inr a) =
+      let is = act-fetch sim w part mails a.1 in
+      let got = got-after mails part in
+      let white = got.0 in
+      let red = got.1 in
+      inr (
+        Done,
+        ap (λ (x : Acted P). x.answer) is,
+        inl (
+          a.0,
+          subst (λ (x : Acted P). PassesThere (Fetch w) x.part x.cell) (sym is)
+              (elim a.2 [
+                | inl b ↦ inl (omega (arith, b, white))
+                | inr b ↦ inr (omega (arith, b, red))
+              ]),
+        ),
+      )
+
+module _ {S P K : Type 0} (handlers : Handlers S P K) (old new : HeldWorker S P K) where
+  -- a send that the kernel did
+  pub send-done : (v : ℕ) (mails left : List (Mail P)) → new.worker ≡ old.worker → new.config ≡ old.config
+      → ((part : Part P) → StandsFor handlers old part → (may_send (simulation_of handlers old.config) old.worker v part ≡ true)
+      × StandsFor handlers new (part_after_send (simulation_of handlers old.config) v part) × (left ≡ mails ++ mail_of_send (simulation_of handlers old.config) v part))
+      → ((part : Part P) → StandsFor handlers new part → count_of part.sent part.colour ≤ MAX_COUNT)
+      → IsCellStepOf handlers old.config (Send old.worker v) old new (in_inbox mails) (in_inbox left) (Ok Done)
+  send-done v mails left same_worker same_config does few = record {
+    done = record {
+      acts = λ part s.
+          (let sim = simulation_of handlers old.config in
+          let d = does part s in (
+            part_after_send sim v part,
+            act-send sim old.worker v part mails d.0 ∙ ap (λ (l : List (Mail P)). record { part = part_after_send sim v part; cell = in_inbox l; answer = Ok Done }) (sym d.2),
+            d.1,
+          ));
+      worker = same_worker;
+      config_is = same_config;
+    };
+    within = λ part s over. (let most = few part s in omega (arith, most, over));
+    refused = λ part s. tt;
+    unchanged = tt;
+  }
+
+  -- one that it refused
+  pub send-refused : (v : ℕ) (mails left : List (Mail P)) (fault : Fault)
+      → ((part : Part P) → StandsFor handlers old part → IsSendRefusal (simulation_of handlers old.config) old.worker v part fault) → new ≡ old → left ≡ mails
+      → IsCellStepOf handlers old.config (Send old.worker v) old new (in_inbox mails) (in_inbox left) (Err fault)
+  send-refused v mails left fault why same same_mail = record {
+    done = tt;
+    within = λ part s. tt;
+    refused = λ part s. send-why (simulation_of handlers old.config) old.worker v part mails fault (why part s);
+    unchanged = (same, ap in_inbox same_mail);
+  }
+
+  -- a fetch that the kernel did
+  pub fetch-done : (mails left : List (Mail P)) → left ≡ [] → new.worker ≡ old.worker → new.config ≡ old.config
+      → ((part : Part P) → StandsFor handlers old part → (is_empty part.arrived ≡ true) × StandsFor handlers new (part_after_fetch mails part)) → AreCounted new.got
+      → IsCellStepOf handlers old.config (Fetch old.worker) old new (in_inbox mails) (in_inbox left) (Ok Done)
+  fetch-done mails left none same_worker same_config does few = record {
+    done = record {
+      acts = λ part s.
+          (let sim = simulation_of handlers old.config in
+          let d = does part s in (
+            part_after_fetch mails part,
+            act-fetch sim old.worker part mails d.0 ∙ ap (λ (l : List (Mail P)). record { part = part_after_fetch mails part; cell = in_inbox l; answer = Ok Done }) (sym none),
+            d.1,
+          ));
+      worker = same_worker;
+      config_is = same_config;
+    };
+    within = λ part s over.
+        (let white = ap (λ (c : Counts). c.white) s.got in
+        let red = ap (λ (c : Counts). c.red) s.got in
+        let few_white = few.white in
+        let few_red = few.red in
+        elim over [
+          | inl a ↦ omega (arith, a, white, few_white)
+          | inr b ↦ omega (arith, b, red, few_red)
+        ]);
+    refused = λ part s. tt;
+    unchanged = tt;
+  }
+
+  -- one that it refused
+  pub fetch-refused : (mails left : List (Mail P)) (fault : Fault) → IsTakeRefusal old.arrived old.got mails fault → new ≡ old → left ≡ mails
+      → IsCellStepOf handlers old.config (Fetch old.worker) old new (in_inbox mails) (in_inbox left) (Err fault)
+  fetch-refused mails left fault why same same_mail = record {
+    done = tt;
+    within = λ part s. tt;
+    refused = λ part s.
+        fetch-why (simulation_of handlers old.config) old.worker part mails fault
+        (subst (λ (x : List (Mail P) × Counts). IsTakeRefusal x.0 x.1 mails fault) (λ i. (sym s.arrived i, sym s.got i)) why);
+    unchanged = (same, ap in_inbox same_mail);
+  }

@@ -1,0 +1,67 @@
+-- What a call answers and leaves that does a step on a kernel and on what a cell holds.
+use Rattle.std.specs.Prelude.{◌≡◌, ◌+◌, ◌<◌, ◌⊎◌, true, false, List, Result, Ok, Err, IfOk, IfErr}
+use Rattle.vt_key.specs.declared.fault.Fault.{Fault}
+use Rattle.vt_key.specs.declared.fault.Fault.TheVariants.{Memory, NotLawful, Exhausted}
+use Rattle.vt_key.specs.declared.letter.Mail.{Mail}
+use Rattle.vt_key.specs.declared.letter.Colour.TheVariants.{White, Red}
+use Rattle.vt_key.specs.declared.limits.TheConstants.{MAX_COUNT}
+use Rattle.vt_model.specs.declared.settings.Config.{Config}
+use Rattle.vt_model.specs.Handler.{Handlers}
+use Rattle.vt_model.specs.Simulation.{Simulation, simulation_of}
+use Rattle.vt_steps.specs.declared.step.Step.{Step}
+use Rattle.vt_steps.specs.declared.step.Step.TheVariants.{Send, Fetch, Cut}
+use Rattle.vt_steps.specs.declared.step.Reply.{Reply}
+use Rattle.vt_steps.specs.Letters.{Counts, is_empty, count_of, count_colour}
+use Rattle.vt_steps.specs.World.{Part}
+use Rattle.vt_steps.specs.Cells.{Cell, on_board, act}
+use Rattle.vt_board.specs.declared.board.Report.{Report}
+use Rattle.vt_board.specs.Calls.{reply_of}
+use Rattle.vt_kernel.specs.Held.{HeldWorker, StandsFor}
+use Rattle.vt_kernel.specs.Refusals.{TakesMemory}
+
+-- with this mail a count of mail got is past its limit
+abbrev pub IsTooMuchMail : {P : Type 0} → Counts → List (Mail P) → Type 0
+IsTooMuchMail got mails = (MAX_COUNT < got.white + count_colour White mails) ⊎ (MAX_COUNT < got.red + count_colour Red mails)
+
+-- why mail isn't taken out of an inbox, by what arrived before and was got before
+abbrev pub IsTakeRefusal : {P : Type 0} → List (Mail P) → Counts → List (Mail P) → Fault → Type 0
+IsTakeRefusal arrived got mails fault =
+    ((fault ≡ NotLawful) × (is_empty arrived ≡ false)) ⊎ ((fault ≡ Exhausted) × (is_empty arrived ≡ true) × IsTooMuchMail got mails)
+
+-- a counter that the step raises is past its limit in this part and this cell, after it
+abbrev pub PassesThere : {P : Type 0} → Step → Part P → Cell P → Type 0
+PassesThere (Send w v) part cell = MAX_COUNT < count_of part.sent part.colour
+PassesThere (Fetch w) part cell = (MAX_COUNT < part.got.white) ⊎ (MAX_COUNT < part.got.red)
+PassesThere (Cut w) part (on_board board) = MAX_COUNT < board.rounds
+PassesThere _ part cell = ⊥
+
+-- why a step on a part and a cell is refused: as the definitions refuse it; or it is lawful, and a counter would pass its
+-- limit; or none would, and memory was refused
+abbrev pub IsCellRefusal : {S P : Type 0} → Simulation S P → Step → Part P → Cell P → Fault → Type 0
+IsCellRefusal sim step part cell fault =
+    let acted = act sim step part cell in
+    (acted.answer ≡ Err fault)
+    ⊎ ((reply : Reply) × (acted.answer ≡ Ok reply)
+    × (((fault ≡ Exhausted) × PassesThere step acted.part acted.cell)
+    ⊎ ((fault ≡ Memory) × TakesMemory sim step × (PassesThere step acted.part acted.cell → ⊥))))
+
+module _ {S P K : Type 0} (handlers : Handlers S P K) where
+  -- a step does this to the kernel's part, whatever part it stands for, and to a cell
+  pub record Acts (config : Config) (step : Step) (reply : Reply) (before : HeldWorker S P K) (cell : Cell P) (left : HeldWorker S P K) (after : Cell P) : Type 0 where
+    pub acts : (part : Part P) → StandsFor handlers before part →
+        (new : Part P) × (act (simulation_of handlers config) step part cell ≡ record { part = new; cell = after; answer = Ok reply }) × StandsFor handlers left new
+    pub worker : left.worker ≡ before.worker
+    pub config_is : left.config ≡ before.config
+
+  -- a step on a kernel and on what a cell holds. Where it is done, it does so to whatever part the kernel stands for, and no
+  -- counter that it raises is past its limit. Where it is refused, it says why, and the kernel and the cell are as they were
+  pub record IsCellStepOf (config : Config) (step : Step) (old new : HeldWorker S P K) (found left : Cell P) (result : Result Reply Fault) : Type 0 where
+    pub done : IfOk result (λ reply. Acts config step reply old found new left)
+    pub within : (part : Part P) → StandsFor handlers new part → IfOk result (λ reply. PassesThere step part left → ⊥)
+    pub refused : (part : Part P) → StandsFor handlers old part → IfErr result (IsCellRefusal (simulation_of handlers config) step part found)
+    pub unchanged : IfErr result (λ fault. (new ≡ old) × (left ≡ found))
+
+-- what a report was answered, as the answer of a step
+abbrev pub answer_of : Result Report Fault → Result Reply Fault
+answer_of (Ok report) = Ok (reply_of report)
+answer_of (Err fault) = Err fault

@@ -1,0 +1,76 @@
+//! Cut and Report, on a kernel and the board.
+
+ghost use Rattle.std.specs.Prelude.{◌≡◌, IfOk};
+ghost use Rattle.vt_key.specs.Letters.{other_colour};
+ghost use Rattle.vt_key.specs.Times.{earlier};
+ghost use Rattle.vt_model.specs.Handler.{Handlers};
+ghost use Rattle.vt_model.specs.Settings.{end_of};
+ghost use Rattle.vt_steps.specs.declared.step.Step.TheVariants as step;
+ghost use Rattle.vt_steps.specs.declared.step.Reply.TheVariants.{Done};
+ghost use Rattle.vt_steps.specs.Letters.{count_of, least_time};
+ghost use Rattle.vt_steps.specs.Cells.{on_board};
+ghost use Rattle.vt_kernel.specs.Guards.{held_letters};
+ghost use Rattle.vt_board.specs.Calls.{reply_of};
+ghost use Rattle.vt_cells.specs.Calls.{IsCellStepOf, answer_of};
+
+use vt_board::{Board, Report};
+use vt_kernel::Kernel;
+use vt_key::{Fault, When};
+use vt_model::Model as EventModel;
+use vt_steps::Reply;
+
+/// Cut: worker `w` joins the open round of the board; if none is open, it opens one.
+///
+/// [`Fault::NotLawful`]: it has cut in the open round. [`Fault::Exhausted`]: one more round would be more than 2^63. After
+/// either nothing has changed.
+pub fn cut<M: EventModel>(kernel: &mut Kernel<M>, w: u32, board: &mut Board) -> Result<Reply, Fault>
+    requires end { board.old.end ≡ end_of kernel.old.config }
+    ensures step { (handlers : Handlers _ _ _) → IsCellStepOf handlers kernel.old.config (step.Cut w) kernel.old kernel.new (on_board board.old.board) (on_board board.new.board) result }
+    ensures end { board.new.end ≡ board.old.end }
+    ensures reply { IfOk result (λ reply. reply ≡ Done) }
+{
+    match board.cut(w) {
+        Ok(announced) => {
+            kernel.turn(announced);
+            Ok(Reply::Done)
+        }
+        Err(fault) => Err(fault),
+    }
+}
+
+/// Report: worker `w` reports to the board what [`Kernel::report_values`] gave, and its floor becomes the announced time.
+///
+/// [`Fault::NotLawful`]: the board doesn't take the report. Nothing has changed then.
+pub fn report<M: EventModel>(
+    kernel: &mut Kernel<M>,
+    w: u32,
+    values: (u64, u64, When),
+    board: &mut Board,
+) -> Result<Report, Fault>
+    requires sent { values.0 ≡ count_of kernel.old.sent (other_colour kernel.old.colour) }
+    requires got { values.1 ≡ count_of kernel.old.got (other_colour kernel.old.colour) }
+    requires least { values.2 ≡ earlier kernel.old.red_minimum (least_time (end_of kernel.old.config) (held_letters kernel.old)) }
+    requires end { board.old.end ≡ end_of kernel.old.config }
+    ensures step { (handlers : Handlers _ _ _) → IsCellStepOf handlers kernel.old.config (step.Report w) kernel.old kernel.new (on_board board.old.board) (on_board board.new.board) (answer_of result) }
+    ensures end { board.new.end ≡ board.old.end }
+{
+    let (sent, got, least) = values;
+    match board.report(w, sent, got, least) {
+        Ok(report) => {
+            kernel.set_floor(board.announced());
+            Ok(report)
+        }
+        Err(fault) => Err(fault),
+    }
+}
+
+/// The board's answer as the reply of a step.
+pub fn reply_of(report: Report) -> Reply
+    ensures { result ≡ reply_of report }
+{
+    match report {
+        Report::Waiting => Reply::Waiting,
+        Report::Again => Reply::Again,
+        Report::Announced(time) => Reply::Announced(time),
+    }
+}

@@ -1,0 +1,8 @@
+//! The steps that reach beyond one worker: each on a kernel and on what a cell holds, which is an inbox, the board or the book.
+#![tactic(auto)]
+
+mod cutting;
+mod mailing;
+
+pub use cutting::{cut, reply_of, report};
+pub use mailing::{fetch, send};
