@@ -78,9 +78,11 @@ module _ {S P K : Type 0} (handlers : Handlers S P K) (config : Config) (v w : V
         rests = x.rests;
       }
 
-  -- of these kernels
-  pub visited-there : (lent done : HeldWorker S P K) → WithHand v w → before ≡ lent → left ≡ done → Visited handlers config w before step reply left w.seen after → Visited handlers config v lent step reply done v.seen after
-  visited-there lent done h was is r = subst (λ (k : HeldWorker S P K × HeldWorker S P K). Visited handlers config v k.0 step reply k.1 v.seen after) (λ i. (was i, is i)) (visited-held h r)
+  -- of these kernels, and with this reply
+  pub visited-there : (lent done : HeldWorker S P K) (said : Reply) → WithHand v w → before ≡ lent → left ≡ done → reply ≡ said → Visited handlers config w before step reply left w.seen after
+      → Visited handlers config v lent step said done v.seen after
+  visited-there lent done said h was is answers r =
+      subst (λ (k : HeldWorker S P K × HeldWorker S P K × Reply). Visited handlers config v k.0 step k.2 k.1 v.seen after) (λ i. (was i, is i, answers i)) (visited-held h r)
 
 module _ {S P : Type 0} {sim : Simulation S P} {config : Config} {m after : Sat P} {k : ℕ} (t : Took sim config m k after) (rests : Rests m) where
   -- a claim leaves the place as it was

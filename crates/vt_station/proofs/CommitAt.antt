@@ -21,7 +21,7 @@ use Rattle.vt_book.specs.Books.{may_hand, are_within}
 use Rattle.vt_station.specs.declared.view.View.{View}
 use Rattle.vt_station.specs.Calls.{Known, Reaches, IsCommitRefusal, IsFloorLeft}
 use Rattle.vt_station.specs.Commits.{CommitsTo}
-use Rattle.vt_station.proofs.ActLemmas.{act-commit}
+use Rattle.vt_cells.proofs.ActLemmas.{act-commit}
 use Rattle.vt_station.proofs.RefusalLemmas as refusal
 
 -- what was handed in, where memory was there for it

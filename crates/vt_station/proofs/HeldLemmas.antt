@@ -4,9 +4,17 @@ use Rattle.std.specs.Prelude.{OnOk, OnErr}
 use Rattle.std.specs.List.{All}
 use Rattle.atomic_table.specs.Table.{rest}
 use Rattle.vt_key.specs.declared.letter.Mail.{Mail}
+use Rattle.vt_key.specs.declared.fault.Fault.{Fault}
 use Rattle.vt_model.specs.declared.settings.Config.{Config}
+use Rattle.vt_model.specs.Handler.{Handlers}
+use Rattle.vt_steps.specs.declared.step.Step.{Step}
+use Rattle.vt_steps.specs.declared.step.Reply.{Reply}
 use Rattle.vt_steps.specs.World.{Board, Book}
 use Rattle.vt_steps.specs.Cells.{Cell, in_inbox, on_board, in_book}
+use Rattle.vt_kernel.specs.Held.{HeldWorker}
+use Rattle.vt_board.specs.declared.board.Report.{Report}
+use Rattle.vt_board.specs.Calls.{reply_of}
+use Rattle.vt_cells.specs.Calls.{Acts, IsCellStepOf, answer_of}
 use Rattle.vt_station.specs.declared.slot.Slot.{Slot}
 use Rattle.vt_station.specs.Slots.{held_in, IsSlotOf}
 use Rattle.vt_station.specs.Kept.{Sat}
@@ -29,6 +37,10 @@ ok-is r F x is h = subst (λ s. OnOk s F) is h
 
 pub err-is : {T E : Type 0} (r : Result T E) (F : Type 0) (e : E) → r ≡ Err e → OnErr r F → F
 err-is r F e is h = subst (λ s. OnErr s F) is h
+
+pub match-more : {T E : Type 0} (r : Result T E) (F P Q : T → Type 0) (R : E → Type 0) → IfOk r F → ((x : T) → F x → P x → Q x) → MatchResult r P R → MatchResult r Q R
+match-more (Ok x) F P Q R h more m = more x h m
+match-more (Err e) F P Q R h more m = m
 
 -- ---- lists
 
@@ -70,3 +82,26 @@ module _ {P : Type 0} (config : Config) (m : Sat P) (k : ℕ) (found now : Cell 
     now_is = is;
     right = right;
   }
+
+module _ {S P K : Type 0} (handlers : Handlers S P K) (config : Config) (m : Sat P) (k : ℕ) {found : Cell P} (h : Holding config m k found found) (slot new : Slot P) (value : m.1 ≡ (k, slot) ∷ rest m.1)
+    {step : Step} {before left : HeldWorker S P K} {result : Result Reply Fault} where
+  -- a step in the slot that a seat holds: where it is done, the seat holds what it leaves, and where it is refused, what it found
+  pub step-in : IsSlotOf config k new → IsCellStepOf handlers config step before left (held_in slot) (held_in new) result
+      → MatchResult result (λ reply. Holding config (m.0, (k, new) ∷ rest m.1) k found (held_in new) × Acts handlers config step reply before found left (held_in new))
+      (λ fault. Holding config (m.0, (k, new) ∷ rest m.1) k found found × (left ≡ before))
+  step-in right s = by_case result (subst (λ c. IsCellStepOf handlers config step before left c (held_in new) result) (slot-is config m k found found h slot value) s)
+    where
+      by_case : (r : Result Reply Fault) → IsCellStepOf handlers config step before left found (held_in new) r
+          → MatchResult r (λ reply. Holding config (m.0, (k, new) ∷ rest m.1) k found (held_in new) × Acts handlers config step reply before found left (held_in new))
+          (λ fault. Holding config (m.0, (k, new) ∷ rest m.1) k found found × (left ≡ before))
+      by_case (Ok reply) d = (holds-after config m k found found h new (held_in new) refl right, d.done)
+      by_case (Err fault) d = (holds-after config m k found found h new found d.unchanged.1 right, d.unchanged.0)
+
+-- the same of a report, by its answer as a reply
+pub reported-in : (r : Result Report Fault) (P : Reply → Type 0) (Q : Fault → Type 0) → MatchResult (answer_of r) P Q → MatchResult r (λ report. P (reply_of report)) Q
+reported-in (Ok report) P Q m = m
+reported-in (Err fault) P Q m = m
+
+pub unreported-in : (r : Result Report Fault) (F : Fault → Type 0) → IfErr (answer_of r) F → IfErr r F
+unreported-in (Ok report) F h = h
+unreported-in (Err fault) F h = h

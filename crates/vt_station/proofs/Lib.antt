@@ -12,7 +12,6 @@ pub mod CallLemmas
 pub mod GuardLemmas
 pub mod AloneLemmas
 pub mod Opening
-pub mod BoardLemmas
 pub mod BookLemmas
 pub mod BookAt
 pub mod RefusalLemmas

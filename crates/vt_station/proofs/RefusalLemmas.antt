@@ -1,10 +1,9 @@
 -- Refusals that are found in a claimed cell, as refusals of a world that cells and places showed.
-use Rattle.std.proofs.Common.{◌≡◌, inl, inr, ℕ, ◌<◌, true, false, cond, ◌&&◌, List, [], ◌∷◌, ◌++◌, refl, sym, ◌∙◌, ap, subst, arith, nat_le, Option, Some, None, Ok, Err, slice_get}
+use Rattle.std.proofs.Common.{◌≡◌, inl, inr, ℕ, true, false, ◌&&◌, List, [], ◌∷◌, ◌++◌, refl, sym, ◌∙◌, ap, subst, arith, Option, Some, None, Ok, Err, slice_get}
 use Rattle.std.proofs.lemmas.Bool.Decides.{nat_tests}
 use Rattle.vt_key.specs.Times.{Time, TimeAtMost, time_at_most}
 use Rattle.vt_key.specs.declared.fault.Fault.{Fault}
-use Rattle.vt_key.specs.declared.fault.Fault.TheVariants.{Memory, NotLawful, Closed, Exhausted}
-use Rattle.vt_key.specs.declared.limits.TheConstants.{MAX_COUNT}
+use Rattle.vt_key.specs.declared.fault.Fault.TheVariants.{Memory, NotLawful, Closed}
 use Rattle.vt_model.specs.declared.rows.Row.{Row}
 use Rattle.vt_model.specs.declared.rows.Record.{Record}
 use Rattle.vt_model.specs.Sequential.{seq_records}
@@ -14,11 +13,16 @@ use Rattle.vt_steps.specs.declared.step.Step.{Step}
 use Rattle.vt_steps.specs.declared.step.Step.TheVariants.{Cut, Report, Commit, Close}
 use Rattle.vt_steps.specs.declared.step.Reply.TheVariants.{Done}
 use Rattle.vt_steps.specs.World.{Part, Board, Book, World, book_floor, book_records}
-use Rattle.vt_steps.specs.PartSteps.{report_least, rows_of_commit}
-use Rattle.vt_steps.specs.BoardSteps.{cut_board, may_report}
+use Rattle.vt_steps.specs.PartSteps.{rows_of_commit}
+use Rattle.vt_steps.specs.BoardSteps.{cut_board}
 use Rattle.vt_steps.specs.BookSteps.{may_commit, may_close, with_rows}
 use Rattle.vt_steps.specs.Next.{Outcome, next, run}
-use Rattle.vt_steps.specs.Cells.{board_cell, book_cell, Cell, on_board, in_book}
+use Rattle.std.specs.Option.{option_map}
+use Rattle.vt_steps.specs.CellSteps.{CellEffect, cut, report}
+use Rattle.vt_steps.specs.Cells.{board_cell, book_cell, Cell, on_board, in_book, worker_of, cell_of, acted_at, act}
+use Rattle.vt_steps.specs.Laws.{IsAny}
+use Rattle.vt_cells.specs.Calls.{IsCellRefusal}
+use Rattle.vt_cells.proofs.WorldLemmas.{refused-there}
 use Rattle.vt_steps.specs.Marked.{Marked, unmarked, marked, shown, DoesSo, made_done, has_cut_since, has_closed}
 use Rattle.vt_steps.proofs.Floors.{AreTimesSound, reached-times}
 use Rattle.vt_steps.proofs.Lists.{Every}
@@ -32,14 +36,12 @@ use Rattle.vt_steps.proofs.Tests.{passes_both}
 use Rattle.std.proofs.lemmas.Option.{slice_get_within}
 use Rattle.vt_book.specs.Books.{may_hand, are_within}
 use Rattle.vt_steps.proofs.OwnCuts.{refused-cut-known}
-use Rattle.vt_board.specs.Calls.{counted, cut_outcome, takes_report}
 use Rattle.vt_kernel.specs.Local.{local_steps}
 use Rattle.vt_kernel.specs.Refusals.{IsStepRefusal}
-use Rattle.vt_steps.proofs.CellSteps.{next-cut, next-not_cut, next-not_report, next-commit, next-commit_closed, next-not_close, next-close_closed}
+use Rattle.vt_steps.proofs.CellSteps.{next-commit, next-commit_closed, next-not_close, next-close_closed}
 use Rattle.vt_book.proofs.CommitRows.{IsBetween, commit-between}
 use Rattle.vt_station.specs.declared.view.View.{View}
 use Rattle.vt_station.specs.Calls.{Known, IsRefusedBy, IsCutRefusal, IsReportRefusal, IsCommitRefusal, IsCloseRefusal, IsFloorLeft, AreRecordsShown}
-use Rattle.vt_station.proofs.BoardLemmas.{fails-first}
 use Rattle.vt_station.proofs.BookLemmas.{all-within, run-one}
 use Rattle.vt_station.proofs.Releases.{steps-lead}
 
@@ -70,44 +72,47 @@ module _ {S P : Type 0} {sim : Simulation S P} {v : View P} {k : ℕ} {cell : Ce
   pub refused-by : (step : Step) (fault : Fault) → IsStepRefusal sim step then_there fault → IsRefusedBy sim v step fault
   refused-by step fault is = record { log = known.log; right = known.right; part = known.part; mine = known.mine; own = known.own; steps = steps; before = before; led = led; refused = is }
 
-  -- ---- cut
+  -- a step that is refused on the place's part and on what the board's cell held
+  refused-at-board : (step : Step) → IsAny (worker_of sim step) v.worker → cell_of step ≡ Some board_cell → {fault : Fault} → IsCellRefusal sim step before (on_board there.board) fault → IsRefusedBy sim v step fault
+  refused-at-board step whose named {fault} why =
+      refused-by step fault (refused-there sim then_there step v.worker whose named then-part (ap (λ (b : Board). (let o : Option (Cell P) = Some (on_board b) in o)) then-board) why)
 
-  by_count : (new : Board) (fault : Fault) → cond (nat_le new.rounds MAX_COUNT) (Ok new) (Err Exhausted) ≡ Err fault → (fault ≡ Exhausted) × (MAX_COUNT < new.rounds)
-  by_count new fault e =
-      elim (nat_le new.rounds MAX_COUNT) as (λ b. nat_le new.rounds MAX_COUNT ≡ b → cond b (Ok new) (Err Exhausted) ≡ Err fault → (fault ≡ Exhausted) × (MAX_COUNT < new.rounds)) [
-        | true ↦ λ is h. absurd (let k : Ok new ≡ Err fault = h in cc)
-        | false ↦ λ is h. ((let k : Err Exhausted ≡ Err fault = h in let s : fault ≡ Exhausted = cc in s), grind (arith, nat_tests))
-      ] refl e
+  -- where the definitions refuse it, it is not lawful
+  acted-none : (held : Board) (o : Option (CellEffect P Board)) (fault : Fault) → (acted_at before on_board held o).answer ≡ Err fault → (o ≡ None) × (fault ≡ NotLawful)
+  acted-none held None fault e = let h : Err NotLawful ≡ Err fault = e in let s : fault ≡ NotLawful = cc in (refl, s)
+  acted-none held (Some effect) fault e = absurd (let h : Ok effect.reply ≡ Err fault = e in cc)
 
-  pub cut-refused : IsLawful sim → (fault : Fault) → cut_outcome sim.end v.worker there.board ≡ Err fault → IsCutRefusal sim v fault
-  cut-refused lawful fault e = by_cut (cut_board sim.end v.worker there.board) refl e
-    where
-      by_cut : (o : Option Board) → cut_board sim.end v.worker there.board ≡ o → counted o ≡ Err fault → IsCutRefusal sim v fault
-      by_cut None is h =
-          let why : fault ≡ NotLawful = (let k : Err NotLawful ≡ Err fault = h in let s : fault ≡ NotLawful = cc in s) in
-          let out = next-not_cut sim then_there v.worker (ap (cut_board sim.end v.worker) then-board ∙ is) in
-          inr (
-            refused-by (Cut v.worker) fault (inl (ap (λ (o : Outcome P). o.answer) out ∙ ap (λ f. Err f) (sym why))),
-            inl (why, ap (has_cut_since false) (sym known.mine) ∙ refused-cut-known sim v.worker lawful known.log known.right known.within is),
-          )
-      by_cut (Some new) is h =
-          let c = by_count new fault h in
-          let out = next-cut sim then_there v.worker before new then-part (ap (cut_board sim.end v.worker) then-board ∙ is) in
-          inr (
-            refused-by (Cut v.worker) fault (inr (Done, ap (λ (o : Outcome P). o.answer) out, inl (c.0, subst (λ (o : Outcome P). MAX_COUNT < o.world.board.rounds) (sym out) c.1))),
-            inr c.0,
-          )
+  not-mapped : {X Y : Type 0} (f : X → Y) (o : Option X) → option_map f o ≡ None → o ≡ None
+  not-mapped f None e = refl
+  not-mapped f (Some x) e = absurd (let h : Some (f x) ≡ None = e in cc)
 
-  -- ---- report
+  uncut : (fault : Fault) → (act sim (Cut v.worker) before (on_board there.board)).answer ≡ Err fault → (cut_board sim.end v.worker there.board ≡ None) × (fault ≡ NotLawful)
+  unfolding act cut
+  uncut fault e = let n = acted-none there.board (cut sim v.worker before there.board) fault e in (not-mapped _ (cut_board sim.end v.worker there.board) n.0, n.1)
 
-  pub report-refused : (least : Time) → least ≡ report_least sim.end before → takes_report sim.end v.worker least there.board ≡ false → TimeAtMost least sim.end → IsReportRefusal sim v NotLawful
-  report-refused least value takes ends =
-      let test : time_at_most least sim.end ≡ true = grind (arith, nat_tests) in
-      let not_may : may_report v.worker least there.board ≡ false = fails-first (may_report v.worker least there.board) (time_at_most least sim.end) takes test in
-      let not_there : may_report v.worker (report_least sim.end before) then_there.board ≡ false =
-      ap (may_report v.worker (report_least sim.end before)) then-board ∙ ap (λ t. may_report v.worker t there.board) (sym value) ∙ not_may in
-      let out = next-not_report sim then_there v.worker before then-part not_there in
-      inr (refused-by (Report v.worker) NotLawful (inl (ap (λ (o : Outcome P). o.answer) out)), refl)
+  unreported : (fault : Fault) → (act sim (Report v.worker) before (on_board there.board)).answer ≡ Err fault → fault ≡ NotLawful
+  unfolding act
+  unreported fault e = (acted-none there.board (report sim v.worker before there.board) fault e).1
+
+  pub cut-refused : IsLawful sim → (fault : Fault) → IsCellRefusal sim (Cut v.worker) before (on_board there.board) fault → IsCutRefusal sim v fault
+  cut-refused lawful fault why =
+      inr (
+        refused-at-board (Cut v.worker) refl refl why,
+        elim why [
+          | inl e ↦ (let u = uncut fault e in inl (u.1, ap (has_cut_since false) (sym known.mine) ∙ refused-cut-known sim v.worker lawful known.log known.right known.within u.0))
+          | inr h ↦ elim h.2 [ inl b ↦ inr b.0 | inr b ↦ absurd b.1 ]
+        ],
+      )
+
+  pub report-refused : (fault : Fault) → IsCellRefusal sim (Report v.worker) before (on_board there.board) fault → IsReportRefusal sim v fault
+  report-refused fault why =
+      inr (
+        refused-at-board (Report v.worker) refl refl why,
+        elim why [
+          | inl e ↦ unreported fault e
+          | inr h ↦ elim h.2 [ inl b ↦ absurd b.1 | inr b ↦ absurd b.1 ]
+        ],
+      )
 
   -- ---- commit
 

@@ -26,7 +26,8 @@ use Rattle.vt_station.specs.declared.view.View.{View}
 use Rattle.vt_station.specs.Hands.{empty_hand}
 use Rattle.vt_station.specs.Slots.{cell_count, word_at, empty_word, claimed_word, home_word, cell_at, held_in}
 use Rattle.vt_station.specs.Kept.{Sat, HasGrown, Kept, Rests}
-use Rattle.vt_station.specs.Calls.{seen_or, Unvisited, Closes, Known, Reaches, Visited, Acts, Holding, ShowsFloor, MaySee}
+use Rattle.vt_cells.specs.Calls.{Acts}
+use Rattle.vt_station.specs.Calls.{seen_or, Unvisited, Closes, Known, Reaches, Visited, Holding, ShowsFloor, MaySee}
 use Rattle.vt_station.proofs.Growth.{grown-not}
 use Rattle.vt_station.proofs.Keeps.{releases, Looked, looks}
 

@@ -5,7 +5,6 @@ use Rattle.vt_key.specs.Times.{Time, TimeAtMost, TimeBefore}
 use Rattle.vt_key.specs.declared.fault.Fault.{Fault}
 use Rattle.vt_key.specs.declared.fault.Fault.TheVariants.{Memory, NotLawful, Busy, Closed, Exhausted}
 use Rattle.vt_key.specs.declared.letter.Mail.{Mail}
-use Rattle.vt_key.specs.declared.letter.Colour.TheVariants.{White, Red}
 use Rattle.vt_key.specs.declared.limits.TheConstants.{MAX_COUNT}
 use Rattle.vt_model.specs.declared.rows.Record.{Record}
 use Rattle.vt_model.specs.declared.settings.Config.{Config}
@@ -18,7 +17,7 @@ use Rattle.vt_steps.specs.declared.step.Step.TheVariants.{Cut, Report, Commit, C
 use Rattle.vt_steps.specs.declared.step.Reply.{Reply}
 use Rattle.vt_steps.specs.declared.step.Reply.TheVariants.{Done}
 use Rattle.vt_steps.specs.World.{Part, World, book_floor}
-use Rattle.vt_steps.specs.Letters.{Counts, is_empty, count_of, count_colour}
+use Rattle.vt_steps.specs.Letters.{is_empty, count_of}
 use Rattle.vt_steps.specs.PartSteps.{letters_for}
 use Rattle.vt_steps.specs.CellSteps.{may_send}
 use Rattle.vt_steps.specs.Next.{next, run, reached}
@@ -29,6 +28,7 @@ use Rattle.vt_kernel.specs.Held.{HeldWorker, StandsFor}
 use Rattle.vt_kernel.specs.Local.{local_steps}
 use Rattle.vt_kernel.specs.Guards.{IsSendRefusal}
 use Rattle.vt_kernel.specs.Refusals.{IsStepRefusal}
+use Rattle.vt_cells.specs.Calls.{Acts, IsTooMuchMail}
 use Rattle.vt_station.specs.declared.slot.Slot.{Slot}
 use Rattle.vt_station.specs.declared.view.View.{View}
 use Rattle.vt_station.specs.Hands.{Hand, empty_hand, holding}
@@ -125,13 +125,6 @@ module _ {S P K : Type 0} (handlers : Handlers S P K) (config : Config) where
     pub led : local_steps (simulation_of handlers config) v.worker steps v.part ≡ Some part
     pub stands : StandsFor handlers k part
 
-  -- a step does this to the kernel's part, whatever part it stands for, and to a cell
-  pub record Acts (step : Step) (reply : Reply) (before : HeldWorker S P K) (cell : Cell P) (left : HeldWorker S P K) (after : Cell P) : Type 0 where
-    pub acts : (part : Part P) → StandsFor handlers before part →
-        (new : Part P) × (act (simulation_of handlers config) step part cell ≡ record { part = new; cell = after; answer = Ok reply }) × StandsFor handlers left new
-    pub worker : left.worker ≡ before.worker
-    pub config_is : left.config ≡ before.config
-
   -- local steps that lead to the kernel as it was lent, and then one step with its reply, after which the kernel is as it was
   -- left: they are the place's own steps from now on, and it has the part after them. The step does this to the part that the
   -- kernel stood for, whichever it was, and to what its cell held
@@ -142,7 +135,7 @@ module _ {S P K : Type 0} (handlers : Handlers S P K) (config : Config) where
     pub stood : StandsFor handlers before part
     pub mine : w.mine ≡ v.mine ++ (made_done steps ++ record { step = step; reply = reply } ∷ [])
     pub at : IsDoneAt (simulation_of handlers config) v steps part step reply w
-    pub does : Acts step reply before at.found left at.now
+    pub does : Acts handlers config step reply before at.found left at.now
     pub stands : StandsFor handlers left w.part
 
   -- the same, and the place holds nothing and was shown this floor
@@ -181,15 +174,6 @@ MaySee end seen cell = IfSome seen (λ t. ShowsFloor end t cell)
 -- a seat after a call that was refused: part, own steps and what was shown are as they were
 abbrev pub Stays : {P : Type 0} → View P → View P → Type 0
 Stays v w = HasSameSteps v w × (w.seen ≡ v.seen)
-
--- with this mail a count of mail got is past its limit
-abbrev pub IsTooMuchMail : {P : Type 0} → Counts → List (Mail P) → Type 0
-IsTooMuchMail got mails = (MAX_COUNT < got.white + count_colour White mails) ⊎ (MAX_COUNT < got.red + count_colour Red mails)
-
--- why mail isn't taken out of a claimed inbox, by what arrived before and was got before
-abbrev pub IsTakeRefusal : {P : Type 0} → List (Mail P) → Counts → List (Mail P) → Fault → Type 0
-IsTakeRefusal arrived got mails fault =
-    ((fault ≡ NotLawful) × (is_empty arrived ≡ false)) ⊎ ((fault ≡ Exhausted) × (is_empty arrived ≡ true) × IsTooMuchMail got mails)
 
 module _ {S P : Type 0} (sim : Simulation S P) where
   -- why a post from worker w to v is refused: the send is not lawful, or its count would pass the limit; or neither, and the

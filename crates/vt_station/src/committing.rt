@@ -17,7 +17,7 @@ ghost use Rattle.vt_kernel.specs.Held.{StandsFor};
 ghost use Rattle.vt_book.specs.Books.{may_hand};
 ghost use Rattle.vt_station.specs.Kept.{Rests};
 ghost use Rattle.vt_station.specs.Told.{station_model, station_config, station_table, place_table, place_view};
-ghost use Rattle.vt_station.specs.Calls.{Acts, Holding, Reaches, Visited, Closes, Unvisited, Stays, ShowsFloor, IsCommitRefusal, IsCloseRefusal, IsRecordsRefusal, IsFloorLeft, AreRecordsShown, IsRefusedOnceClosed};
+ghost use Rattle.vt_station.specs.Calls.{Holding, Reaches, Visited, Closes, Unvisited, Stays, ShowsFloor, IsCommitRefusal, IsCloseRefusal, IsRecordsRefusal, IsFloorLeft, AreRecordsShown, IsRefusedOnceClosed};
 
 use crate::place::Place;
 use crate::slot::Slot;

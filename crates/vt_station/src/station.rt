@@ -14,7 +14,8 @@ ghost use Rattle.vt_key.specs.declared.limits.TheConstants.{MAX_WORKERS};
 ghost use Rattle.vt_station.specs.Slots.{cell_count, word_at, claimed_word, cell_at};
 ghost use Rattle.vt_station.specs.Kept.{Kept, Rests};
 ghost use Rattle.vt_station.specs.Commits.{CommitsTo, Commits};
-ghost use Rattle.vt_station.specs.Calls.{IsShown, Took, TookThere, Holding, Acts, MaySee, Reaches, Visited, Unvisited, Closes, ShowsFloor, seen_or};
+ghost use Rattle.vt_cells.specs.Calls.{Acts};
+ghost use Rattle.vt_station.specs.Calls.{IsShown, Took, TookThere, Holding, MaySee, Reaches, Visited, Unvisited, Closes, ShowsFloor, seen_or};
 
 use crate::rule::{About, Aim, Law, Tell};
 use crate::slot::Slot;

@@ -5,7 +5,7 @@ use Rattle.vt_steps.specs.World.{Book}
 use Rattle.vt_steps.specs.BookSteps.{may_close, closed_book}
 use Rattle.vt_steps.specs.Cells.{in_book}
 use Rattle.vt_station.specs.Calls.{IsCloseRefusal}
-use Rattle.vt_station.proofs.ActLemmas.{act-close}
+use Rattle.vt_cells.proofs.ActLemmas.{act-close}
 use Rattle.vt_station.proofs.CallLemmas.{closes-there}
 use Rattle.vt_station.proofs.BookLemmas.{ends-closed}
 use Rattle.vt_station.proofs.BookAt.{book-is, not-open, refused-once}

@@ -1,36 +1,46 @@
-use Rattle.std.proofs.Common.{◌≡◌, ◌∷◌, refl, sym, ap, ◌∙◌}
+use Rattle.std.proofs.Common.{◌∷◌, IfErr, ap, sym, subst, ◌∙◌}
 use Rattle.atomic_table.specs.Table.{rest}
-use Rattle.vt_steps.specs.Cells.{on_board}
-use Rattle.vt_board.specs.BoardOfRun.{BoardOfRun}
-use Rattle.vt_board.specs.Calls.{cut_outcome}
-use Rattle.vt_station.specs.declared.slot.Slot.TheVariants as slot
-use Rattle.vt_station.specs.Slots.{held_in}
-use Rattle.vt_station.proofs.HeldLemmas.{by-result, ok-is, err-is, ok-has, err-has, same-board, slot-is, slot-right, holds-after}
-use Rattle.vt_station.proofs.BoardLemmas.{cut-done}
-use Rattle.vt_station.proofs.station.Station.cut_board.Goals as goal
+use Rattle.vt_model.specs.declared.settings.Config.{Config}
+use Rattle.vt_model.specs.Simulation.{simulation_of}
 use Rattle.vt_model.specs.Settings.{end_of}
+use Rattle.vt_steps.specs.declared.step.Step.TheVariants.{Cut}
+use Rattle.vt_steps.specs.Cells.{Cell, on_board}
+use Rattle.vt_cells.specs.Calls.{IsCellRefusal, IsCellStepOf}
+use Rattle.vt_station.specs.declared.slot.Slot.TheVariants as slot
+use Rattle.vt_station.proofs.HeldLemmas.{slot-is, slot-right, step-in}
+use Rattle.vt_station.proofs.station.Station.cut_board.Goals as goal
 
-pub returns-clause-done : goal.returns-clause-done
-returns-clause-done g c board held =
-    let config = c.args.self.now.table.shared.key.config in
+pub cut-requires-clause-end : goal.cut-requires-clause-end
+cut-requires-clause-end g c κs within =
     let m = c.args.seat.now.me in
     let k = c.args.self.now.workers in
-    let found = c.slot_mut-held.result.now in
-    let value = c.slot_mut-held.ensures.value in
+    let held = c.requires.held in
+    let value = c.slot_mut-held.ensures.value ∙ ap (λ s. (k, s) ∷ rest m.1) c.in-Board.is in
+    slot-right c.args.self.now.table.shared.key.config m k (on_board held.0) (on_board held.0) held.1 (slot.Board c.in-Board.board) value ∙ ap (λ (f : Config). end_of f) (sym c.requires.config)
+
+pub returns-clause-done : goal.returns-clause-done
+returns-clause-done g c =
+    let key = c.args.self.now.table.shared.key in
+    let H = g.M.Model.handlers key.model.value in
+    let m = c.args.seat.now.me in
+    let k = c.args.self.now.workers in
+    let held = c.requires.held in
     let old = c.in-Board.board in
-    let is : old.board ≡ board = same-board old.board board (ap held_in (sym c.in-Board.is) ∙ slot-is config m k (on_board board) (on_board board) held found value) in
-    let end : old.end ≡ (end_of config) = slot-right config m k (on_board board) (on_board board) held (slot.Board old) (value ∙ ap (λ s. (k, s) ∷ rest m.1) c.in-Board.is) in
-    let new = c.cut.new.self in
-    let new_end : new.end ≡ (end_of config) = c.cut.ensures.same_end ∙ end in
-    by-result c.cut.result _ _
-    (λ time ok. (
-      new.board,
-      holds-after config m k (on_board board) (on_board board) held (slot.Board new) (on_board new.board) refl new_end,
-      cut-done (end_of config) c.args.worker board new.board (ap (λ t. cut_outcome t c.args.worker board) (sym end) ∙ ap (cut_outcome old.end c.args.worker) (sym is) ∙ ok-is c.cut.result _ time ok c.cut.ensures.cut),
-      ok-has c.cut.result _ time ok c.cut.ensures.announced ∙ ap (λ b. b.announced) is,
-    ))
-    (λ fault err.
-    (let kept : new ≡ old = err-is c.cut.result _ fault err c.cut.ensures.kept in (
-      holds-after config m k (on_board board) (on_board board) held (slot.Board new) (on_board board) (ap (λ (b : BoardOfRun). on_board b.board) kept ∙ ap on_board is) new_end,
-      ap (λ t. cut_outcome t c.args.worker board) (sym end) ∙ ap (cut_outcome old.end c.args.worker) (sym is) ∙ err-has c.cut.result _ fault err c.cut.ensures.refused,
-    )))
+    let new = c.cut.new in
+    let value = c.slot_mut-held.ensures.value ∙ ap (λ s. (k, s) ∷ rest m.1) c.in-Board.is in
+    let right = c.cut.ensures.end ∙ slot-right key.config m k (on_board held.0) (on_board held.0) held.1 (slot.Board old) value in
+    let step = subst (λ (f : Config). IsCellStepOf H f (Cut c.args.worker) c.args.kernel.now new.kernel (on_board old.board) (on_board new.board.board) c.cut.result) c.requires.config (c.cut.ensures.step H) in
+    (held.0, new.board.board, step-in H key.config m k held.1 (slot.Board old) (slot.Board new.board) value right step)
+
+pub returns-clause-refused : goal.returns-clause-refused
+returns-clause-refused g c board held part s =
+    let key = c.args.self.now.table.shared.key in
+    let H = g.M.Model.handlers key.model.value in
+    let m = c.args.seat.now.me in
+    let k = c.args.self.now.workers in
+    let old = c.in-Board.board in
+    let new = c.cut.new in
+    let value = c.slot_mut-held.ensures.value ∙ ap (λ s. (k, s) ∷ rest m.1) c.in-Board.is in
+    let is = slot-is key.config m k (on_board board) (on_board board) held (slot.Board old) value in
+    let step = subst (λ (f : Config). IsCellStepOf H f (Cut c.args.worker) c.args.kernel.now new.kernel (on_board old.board) (on_board new.board.board) c.cut.result) c.requires.config (c.cut.ensures.step H) in
+    (subst (λ (x : Cell _). IfErr c.cut.result (IsCellRefusal (simulation_of H key.config) (Cut c.args.worker) part x)) is (step.refused part s))

@@ -5,7 +5,8 @@ use Rattle.vt_steps.specs.declared.step.Reply.TheVariants.{Done}
 use Rattle.vt_steps.specs.Cells.{Cell}
 use Rattle.vt_steps.specs.Letters.{Counts, is_empty}
 use Rattle.vt_station.specs.Kept.{Sat}
-use Rattle.vt_station.specs.Calls.{Known, Took, IsTooMuchMail}
+use Rattle.vt_cells.specs.Calls.{IsTooMuchMail}
+use Rattle.vt_station.specs.Calls.{Known, Took}
 use Rattle.vt_station.proofs.CallLemmas.{took-inbox, took-place, visited-there}
 use Rattle.vt_station.proofs.station.Station.fetch_at.Goals as goal
 
@@ -16,8 +17,8 @@ returns-in-Ok-clause-done g c =
     let sim = simulation_of H key.config in
     let t = subst (λ (m : Sat _). Took sim key.config m c.args.worker c.claim.new.seat.me) (c.if-finds_nothing.ensures.not refl) (c.if-not-claim.ensures.claimed refl) in
     let place = took-place t c.requires.rests in
-    visited-there H key.config c.args.seat.now.me.0 c.take_letters.new.seat.me.0 c.of-before.result.value c.of.result.value (Fetch c.args.worker) Done c.release_emptied.new.seat.me.0
-    c.args.kernel.now c.take_letters.new.kernel (place.0, c.in-Ok.ensures.same.2 ∙ place.1) c.of-before.ensures c.of.ensures c.release_emptied.ensures.done
+    visited-there H key.config c.args.seat.now.me.0 c.take_letters.new.seat.me.0 c.of-before.result.value c.of.result.value (Fetch c.args.worker) c.in-Ok.reply c.release_emptied.new.seat.me.0
+    c.args.kernel.now c.take_letters.new.kernel Done (place.0, c.in-Ok.ensures.same.2 ∙ place.1) c.of-before.ensures c.of.ensures c.in-Ok.ensures.reply c.release_emptied.ensures.done
 
 pub returns-in-Err-clause-refused : goal.returns-in-Err-clause-refused
 returns-in-Err-clause-refused g c part s =

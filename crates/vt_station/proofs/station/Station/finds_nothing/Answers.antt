@@ -3,7 +3,7 @@ use Rattle.vt_steps.specs.declared.step.Step.TheVariants.{Fetch}
 use Rattle.vt_steps.specs.declared.step.Reply.TheVariants.{Done}
 use Rattle.vt_steps.specs.Cells.{in_inbox}
 use Rattle.vt_kernel.specs.Held.{HeldWorker}
-use Rattle.vt_station.specs.Calls.{Acts}
+use Rattle.vt_cells.specs.Calls.{Acts}
 use Rattle.vt_station.proofs.ActLemmas.{fetches-nothing}
 use Rattle.vt_station.proofs.station.Station.finds_nothing.Goals as goal
 

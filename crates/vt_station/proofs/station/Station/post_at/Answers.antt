@@ -22,5 +22,5 @@ returns-in-Ok-clause-done g c =
     let key = c.args.self.now.table.shared.key in
     let H = g.M.Model.handlers key.model.value in
     let place = took-place (c.if-not-claim.ensures.claimed refl) c.requires.rests in
-    visited-there H key.config c.args.seat.now.me.0 c.put_letters.new.seat.me.0 c.of-before.result.value c.of.result.value (Send c.args.worker c.args.v) Done c.release_visit.new.seat.me.0
-    c.args.kernel.now c.put_letters.new.kernel (place.0, c.in-Ok.ensures.same.2 ∙ place.1) c.of-before.ensures c.of.ensures c.release_visit.ensures.done
+    visited-there H key.config c.args.seat.now.me.0 c.put_letters.new.seat.me.0 c.of-before.result.value c.of.result.value (Send c.args.worker c.args.v) c.in-Ok.reply c.release_visit.new.seat.me.0
+    c.args.kernel.now c.put_letters.new.kernel Done (place.0, c.in-Ok.ensures.same.2 ∙ place.1) c.of-before.ensures c.of.ensures c.in-Ok.ensures.reply c.release_visit.ensures.done
