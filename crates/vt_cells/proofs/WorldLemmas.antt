@@ -9,9 +9,10 @@ use Rattle.vt_steps.specs.Letters.{count_of}
 use Rattle.vt_steps.specs.World.{Part, World, Board}
 use Rattle.vt_steps.specs.CellSteps.{CellEffect, cut}
 use Rattle.vt_steps.specs.Next.{Outcome, next, with_part}
-use Rattle.vt_steps.specs.Cells.{CellName, inbox_of, board_cell, book_cell, Cell, in_inbox, on_board, in_book, content, with_content, worker_of, cell_of, Acted, acted_at, act, put_back}
+use Rattle.vt_steps.specs.Cells.{CellName, board_cell, Cell, on_board, content, with_content, worker_of, cell_of, Acted, acted_at, act, put_back}
 use Rattle.vt_steps.specs.Laws.{IsAny}
 use Rattle.vt_steps.proofs.CellLemmas.{next-acts_on_one_cell}
+use Rattle.vt_steps.proofs.LocalLeads.{parts-put}
 use Rattle.vt_steps.proofs.Places.{get-put_same}
 use Rattle.vt_kernel.specs.Refusals.{IsPart, PassesLimit, IsStepRefusal}
 use Rattle.vt_cells.specs.Calls.{PassesThere, IsCellRefusal}
@@ -21,24 +22,13 @@ abbrev pub Both : Type 0 → Type 0 → Type 0
 Both A B = (A → B) × (B → A)
 
 module _ {S P : Type 0} (sim : Simulation S P) where
-  with_content-parts : (world : World P) (name : CellName) (cell : Cell P) → (with_content world name cell).parts ≡ world.parts
-  with_content-parts world (inbox_of w) (in_inbox mails) = refl
-  with_content-parts world (inbox_of w) (on_board board) = refl
-  with_content-parts world (inbox_of w) (in_book book) = refl
-  with_content-parts world board_cell (in_inbox mails) = refl
-  with_content-parts world board_cell (on_board board) = refl
-  with_content-parts world board_cell (in_book book) = refl
-  with_content-parts world book_cell (in_inbox mails) = refl
-  with_content-parts world book_cell (on_board board) = refl
-  with_content-parts world book_cell (in_book book) = refl
-
   -- what holds of the part after a step, and of the part of the world after it
   of-part : (world : World P) (v w : ℕ) (name : CellName) (part : Part P) (acted : Acted P) (Q : Part P → Type 0) → v ≡ w → slice_get world.parts w ≡ Some part
       → Both (Q acted.part) ((q : Part P) × IsPart sim (put_back world w name acted).world v q × Q q)
   of-part world v w name part acted Q same there =
       let after = (put_back world w name acted).world in
       let at : slice_get after.parts v ≡ Some acted.part =
-      ap (slice_get after.parts) same ∙ ap (λ ps. slice_get ps w) (with_content-parts (with_part world w acted.part) name acted.cell) ∙ get-put_same world.parts w part acted.part there in (
+      ap (slice_get after.parts) same ∙ ap (λ ps. slice_get ps w) (parts-put (with_part world w acted.part) name acted.cell) ∙ get-put_same world.parts w part acted.part there in (
         λ h. (acted.part, at, h),
         λ h. (let k : Some h.0 ≡ Some acted.part = sym h.1 ∙ at in let is : h.0 ≡ acted.part = cc in subst Q is h.2),
       )

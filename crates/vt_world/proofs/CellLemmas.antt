@@ -74,7 +74,7 @@ module _ {M S P K : Type 0} {handlers : Handlers S P K} {held : HeldWorld M S P 
     own_inboxes = inside.own_inboxes;
   }
 
-module _ {M S P K : Type 0} (meaning : M → Handlers S P K) {held seen : HeldWorld M S P K} (seen_is : held ≡ seen) {board_end book_end : Time} (inside : IsWorldInside (meaning held.model) held board_end book_end)
+module _ {M S P K : Type 0} (meaning : M → Handlers S P K) {held : HeldWorld M S P K} {board_end book_end : Time} (inside : IsWorldInside (meaning held.model) held board_end book_end)
     (step_of : ℕ → Step) {w : ℕ} {name : CellName} (whose : IsAny (worker_of (simulation_of (meaning held.model) held.config) (step_of w)) w) (named : cell_of (step_of w) ≡ Some name)
     {k new : HeldWorker S P K} (at : slice_get held.workers w ≡ Some k) {cell left : Cell P} {inboxes : List (List (Mail P))} {board : Board} {book : Book}
     (p : Puts (meaning held.model) held w k new name cell left inboxes board book) where
@@ -84,57 +84,57 @@ module _ {M S P K : Type 0} (meaning : M → Handlers S P K) {held seen : HeldWo
   abbrev after : HeldWorld M S P K
   after = after_step (meaning held.model) held w k new inboxes board book
 
-  module _ (lawful : IsLawful sim) where
-    done-there : (reply : Reply) → IsCellStepOf (meaning held.model) held.config (step_of w) k new cell left (Ok reply)
-        → GoesOn sim (step_of w) (Ok reply) (world_memory (meaning held.model) held) (world_memory (meaning held.model) after)
-    done-there reply s world h =
+  done-there : (reply : Reply) → IsCellStepOf (meaning held.model) held.config (step_of w) k new cell left (Ok reply)
+      → GoesOn sim (step_of w) (Ok reply) (world_memory (meaning held.model) held) (world_memory (meaning held.model) after)
+  done-there reply s world h =
+      let is = who inside at in
+      let f = found (meaning held.model) held world w k inside.own_workers h at in
+      let a = s.done.acts f.part f.stands in
+      let parts = part-changed (meaning held.model) held world w new a.0 h (s.done.worker ∙ is.0) (s.done.config_is ∙ is.1) a.2 in
+      goes (meaning held.model) held world (step_of w) (put_back world w name (record { part = a.0; cell = left; answer = Ok reply })) (Ok reply) after
+      (next-put_back sim world (step_of w) w whose named f.there (p.holds world h) ∙ ap (put_back world w name) a.1) refl refl
+      (p.puts (with_part world w a.0) (record { parts = parts; inboxes = h.inboxes; board = h.board; book = h.book }))
+
+  few-there : (reply : Reply) → IsCellStepOf (meaning held.model) held.config (step_of w) k new cell left (Ok reply)
+      → (world : World P) → StandsForWorld (meaning held.model) held world → PassesLimit sim (step_of w) (next sim world (step_of w)).world → ⊥
+  few-there reply s world h past =
+      let f = found (meaning held.model) held world w k inside.own_workers h at in
+      let a = s.done.acts f.part f.stands in
+      s.within a.0 a.2 (subst (λ (x : Acted P). PassesThere (step_of w) x.part x.cell) a.1 (limit-there sim world (step_of w) w whose named f.there (p.holds world h) past))
+
+  why-there : (fault : Fault) → IsCellStepOf (meaning held.model) held.config (step_of w) k new cell left (Err fault)
+      → (world : World P) → StandsForWorld (meaning held.model) held world → IsStepRefusal sim (step_of w) world fault
+  why-there fault s world h =
+      let f = found (meaning held.model) held world w k inside.own_workers h at in
+      refused-there sim world (step_of w) w whose named f.there (p.holds world h) (s.refused f.part f.stands)
+
+  step-there : {seen : HeldWorld M S P K} → held ≡ seen → IsLawful sim → (result : Result Reply Fault) → IsCellStepOf (meaning held.model) held.config (step_of w) k new cell left result
+      → IsStepOf (meaning seen.model) (step_of w) seen after result
+  step-there seen_is lawful (Ok reply) s = step-done meaning seen_is inside lawful after (step_of w) reply (done-there reply s) refl refl (few-there reply s)
+  step-there seen_is lawful (Err fault) s = step-refused meaning seen_is inside after (step_of w) fault (Err fault) refl (p.back s.unchanged.0 s.unchanged.1) (why-there fault s)
+
+  inside-there : {new_board_end new_book_end : Time} → new_board_end ≡ board_end → new_book_end ≡ book_end → (result : Result Reply Fault) → IsCellStepOf (meaning held.model) held.config (step_of w) k new cell left result
+      → IsWorldInside (meaning held.model) after new_board_end new_book_end
+  inside-there same_board same_book (Ok reply) s =
+      inside-stepped inside (step_of w) reply (slice_set held.workers w new) inboxes board book (length-set held.workers w new)
+      (are-workers inside w at new (s.done.worker, s.done.config_is)) p.all_inboxes p.own_inboxes same_board same_book (done-there reply s)
+  inside-there same_board same_book (Err fault) s = inside-same inside (p.back s.unchanged.0 s.unchanged.1) same_board same_book
+
+  -- what a kernel does by its own number and config, the worker at this place does
+  module _ {result : Result Reply Fault} (s : IsCellStepOf (meaning held.model) k.config (step_of k.worker) k new cell left result) where
+    own-step : IsCellStepOf (meaning held.model) held.config (step_of w) k new cell left result
+    own-step =
         let is = who inside at in
-        let f = found (meaning held.model) held world w k inside.own_workers h at in
-        let a = s.done.acts f.part f.stands in
-        let parts = part-changed (meaning held.model) held world w new a.0 h (s.done.worker ∙ is.0) (s.done.config_is ∙ is.1) a.2 in
-        goes (meaning held.model) held world (step_of w) (put_back world w name (record { part = a.0; cell = left; answer = Ok reply })) (Ok reply) after
-        (next-put_back sim world (step_of w) w whose named f.there (p.holds world h) ∙ ap (put_back world w name) a.1) refl refl
-        (p.puts (with_part world w a.0) (record { parts = parts; inboxes = h.inboxes; board = h.board; book = h.book }))
+        subst (λ (x : ℕ × Config). IsCellStepOf (meaning held.model) x.1 (step_of x.0) k new cell left result) (λ i. (is.0 i, is.1 i)) s
 
-    few-there : (reply : Reply) → IsCellStepOf (meaning held.model) held.config (step_of w) k new cell left (Ok reply)
-        → (world : World P) → StandsForWorld (meaning held.model) held world → PassesLimit sim (step_of w) (next sim world (step_of w)).world → ⊥
-    few-there reply s world h past =
-        let f = found (meaning held.model) held world w k inside.own_workers h at in
-        let a = s.done.acts f.part f.stands in
-        s.within a.0 a.2 (subst (λ (x : Acted P). PassesThere (step_of w) x.part x.cell) a.1 (limit-there sim world (step_of w) w whose named f.there (p.holds world h) past))
+    -- the call does the step of the world
+    pub cell-step : {seen : HeldWorld M S P K} → held ≡ seen → IsLawful sim → IsStepOf (meaning seen.model) (step_of w) seen after result
+    cell-step seen_is lawful = step-there seen_is lawful result own-step
 
-    why-there : (fault : Fault) → IsCellStepOf (meaning held.model) held.config (step_of w) k new cell left (Err fault)
-        → (world : World P) → StandsForWorld (meaning held.model) held world → IsStepRefusal sim (step_of w) world fault
-    why-there fault s world h =
-        let f = found (meaning held.model) held world w k inside.own_workers h at in
-        refused-there sim world (step_of w) w whose named f.there (p.holds world h) (s.refused f.part f.stands)
+    -- with another word for what it answers
+    pub cell-answers : {seen : HeldWorld M S P K} → held ≡ seen → IsLawful sim → {answer : Result Reply Fault} → result ≡ answer → IsStepOf (meaning seen.model) (step_of w) seen after answer
+    cell-answers {seen} seen_is lawful is = subst (IsStepOf (meaning seen.model) (step_of w) seen after) is (cell-step seen_is lawful)
 
-    step-there : (result : Result Reply Fault) → IsCellStepOf (meaning held.model) held.config (step_of w) k new cell left result → IsStepOf (meaning seen.model) (step_of w) seen after result
-    step-there (Ok reply) s = step-done meaning seen_is inside lawful after (step_of w) reply (done-there reply s) refl refl (few-there reply s)
-    step-there (Err fault) s = step-refused meaning seen_is inside after (step_of w) fault (Err fault) refl (p.back s.unchanged.0 s.unchanged.1) (why-there fault s)
-
-    inside-there : {new_board_end new_book_end : Time} → new_board_end ≡ board_end → new_book_end ≡ book_end → (result : Result Reply Fault) → IsCellStepOf (meaning held.model) held.config (step_of w) k new cell left result
-        → IsWorldInside (meaning held.model) after new_board_end new_book_end
-    inside-there same_board same_book (Ok reply) s =
-        inside-stepped inside (step_of w) reply (slice_set held.workers w new) inboxes board book (length-set held.workers w new)
-        (are-workers inside w at new (s.done.worker, s.done.config_is)) p.all_inboxes p.own_inboxes same_board same_book (done-there reply s)
-    inside-there same_board same_book (Err fault) s = inside-same inside (p.back s.unchanged.0 s.unchanged.1) same_board same_book
-
-    -- what a kernel does by its own number and config, the worker at this place does
-    module _ {result : Result Reply Fault} (s : IsCellStepOf (meaning held.model) k.config (step_of k.worker) k new cell left result) where
-      own-step : IsCellStepOf (meaning held.model) held.config (step_of w) k new cell left result
-      own-step =
-          let is = who inside at in
-          subst (λ (x : ℕ × Config). IsCellStepOf (meaning held.model) x.1 (step_of x.0) k new cell left result) (λ i. (is.0 i, is.1 i)) s
-
-      -- the call does the step of the world
-      pub cell-step : IsStepOf (meaning seen.model) (step_of w) seen after result
-      cell-step = step-there result own-step
-
-      -- with another word for what it answers
-      pub cell-answers : {answer : Result Reply Fault} → result ≡ answer → IsStepOf (meaning seen.model) (step_of w) seen after answer
-      cell-answers is = subst (IsStepOf (meaning seen.model) (step_of w) seen after) is cell-step
-
-      -- and the world keeps to itself
-      pub cell-inside : {new_board_end new_book_end : Time} → new_board_end ≡ board_end → new_book_end ≡ book_end → IsWorldInside (meaning held.model) after new_board_end new_book_end
-      cell-inside same_board same_book = inside-there same_board same_book result own-step
+    -- and the world keeps to itself
+    pub cell-inside : {new_board_end new_book_end : Time} → new_board_end ≡ board_end → new_book_end ≡ book_end → IsWorldInside (meaning held.model) after new_board_end new_book_end
+    cell-inside same_board same_book = inside-there same_board same_book result own-step

@@ -20,18 +20,12 @@ cut-requires-clause-end g c κs within =
 
 pub invariant_of-self : goal.invariant_of-self
 invariant_of-self g c =
-    let i = c.self.inside in
-    let m = i.model.now in
-    let H = g.M.Model.handlers m in
     let at = worker-there c.self.invariant c.if-w-self.false c.index_mut.ensures.value in
-    cell-inside g.M.Model.handlers c.self.view_is c.self.invariant (λ u. Cut c.args.w) refl refl at (board-put c.self.invariant at c.cut.new.kernel c.cut.new.board.board)
-    (lawful_of H i.config (g.met.M.Model.start_within m) (g.met.M.Model.forward_within m)) (c.cut.ensures.step H) c.cut.ensures.end refl
+    cell-inside g.M.Model.handlers c.self.invariant (λ u. Cut c.args.w) refl refl at (board-put c.self.invariant at c.cut.new.kernel c.cut.new.board.board) (c.cut.ensures.step (g.M.Model.handlers c.self.inside.model.now)) c.cut.ensures.end refl
 
 pub returns : goal.returns
 returns g c =
-    let i = c.self.inside in
-    let m = i.model.now in
-    let H = g.M.Model.handlers m in
+    let m = c.self.inside.model.now in
     let at = worker-there c.self.invariant c.if-w-self.false c.index_mut.ensures.value in
-    cell-step g.M.Model.handlers c.self.view_is c.self.invariant (λ u. Cut c.args.w) refl refl at (board-put c.self.invariant at c.cut.new.kernel c.cut.new.board.board)
-    (lawful_of H i.config (g.met.M.Model.start_within m) (g.met.M.Model.forward_within m)) (c.cut.ensures.step H)
+    cell-step g.M.Model.handlers c.self.invariant (λ u. Cut c.args.w) refl refl at (board-put c.self.invariant at c.cut.new.kernel c.cut.new.board.board) (c.cut.ensures.step (g.M.Model.handlers m)) c.self.view_is
+    (lawful_of (g.M.Model.handlers m) c.self.inside.config (g.met.M.Model.start_within m) (g.met.M.Model.forward_within m))

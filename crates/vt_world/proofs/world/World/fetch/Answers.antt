@@ -21,24 +21,16 @@ fetch-requires-clause-own g c κs within =
 
 pub invariant_of-self : goal.invariant_of-self
 invariant_of-self g c =
-    let i = c.self.inside in
-    let m = i.model.now in
-    let H = g.M.Model.handlers m in
     let at = worker-there c.self.invariant c.if-w-self.false c.index_mut.ensures.value in
-    let is = who c.self.invariant at in
     let here = inbox-there c.self.invariant c.if-w-self.false c.index_mut-2.ensures.value ∙ ap (λ l. Some l) (sym c.behind-self.view_is) in
-    let own = subst (λ (x : ℕ × Config). AllOwnMail x.1 x.0 c.fetch.new.inbox.items) (λ i. (is.0 i, is.1 i)) c.fetch.ensures.own in
-    cell-inside g.M.Model.handlers c.self.view_is c.self.invariant Fetch refl refl at (inbox-put c.self.invariant at c.fetch.new.kernel c.args.w here c.fetch.new.inbox.items own)
-    (lawful_of H i.config (g.met.M.Model.start_within m) (g.met.M.Model.forward_within m)) (c.fetch.ensures.step H) refl refl
+    let own = subst (λ (x : ℕ × Config). AllOwnMail x.1 x.0 c.fetch.new.inbox.items) (λ i. ((who c.self.invariant at).0 i, (who c.self.invariant at).1 i)) c.fetch.ensures.own in
+    cell-inside g.M.Model.handlers c.self.invariant Fetch refl refl at (inbox-put c.self.invariant at c.fetch.new.kernel c.args.w here c.fetch.new.inbox.items own) (c.fetch.ensures.step (g.M.Model.handlers c.self.inside.model.now)) refl refl
 
 pub returns : goal.returns
 returns g c =
-    let i = c.self.inside in
-    let m = i.model.now in
-    let H = g.M.Model.handlers m in
+    let m = c.self.inside.model.now in
     let at = worker-there c.self.invariant c.if-w-self.false c.index_mut.ensures.value in
-    let is = who c.self.invariant at in
     let here = inbox-there c.self.invariant c.if-w-self.false c.index_mut-2.ensures.value ∙ ap (λ l. Some l) (sym c.behind-self.view_is) in
-    let own = subst (λ (x : ℕ × Config). AllOwnMail x.1 x.0 c.fetch.new.inbox.items) (λ i. (is.0 i, is.1 i)) c.fetch.ensures.own in
-    cell-step g.M.Model.handlers c.self.view_is c.self.invariant Fetch refl refl at (inbox-put c.self.invariant at c.fetch.new.kernel c.args.w here c.fetch.new.inbox.items own)
-    (lawful_of H i.config (g.met.M.Model.start_within m) (g.met.M.Model.forward_within m)) (c.fetch.ensures.step H)
+    let own = subst (λ (x : ℕ × Config). AllOwnMail x.1 x.0 c.fetch.new.inbox.items) (λ i. ((who c.self.invariant at).0 i, (who c.self.invariant at).1 i)) c.fetch.ensures.own in
+    cell-step g.M.Model.handlers c.self.invariant Fetch refl refl at (inbox-put c.self.invariant at c.fetch.new.kernel c.args.w here c.fetch.new.inbox.items own) (c.fetch.ensures.step (g.M.Model.handlers m)) c.self.view_is
+    (lawful_of (g.M.Model.handlers m) c.self.inside.config (g.met.M.Model.start_within m) (g.met.M.Model.forward_within m))

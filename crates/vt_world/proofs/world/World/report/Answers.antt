@@ -22,22 +22,16 @@ report-requires-clause-end g c κs within =
 
 pub invariant_of-self : goal.invariant_of-self
 invariant_of-self g c =
-    let i = c.self.inside in
-    let m = i.model.now in
-    let H = g.M.Model.handlers m in
     let at = worker-there c.self.invariant c.if-w-self.false c.index_mut-kernel.ensures.value in
-    cell-inside g.M.Model.handlers c.self.view_is c.self.invariant (λ u. Report c.args.w) refl refl at (board-put c.self.invariant at c.report.new.kernel c.report.new.board.board)
-    (lawful_of H i.config (g.met.M.Model.start_within m) (g.met.M.Model.forward_within m)) (c.report.ensures.step H) c.report.ensures.end refl
+    cell-inside g.M.Model.handlers c.self.invariant (λ u. Report c.args.w) refl refl at (board-put c.self.invariant at c.report.new.kernel c.report.new.board.board) (c.report.ensures.step (g.M.Model.handlers c.self.inside.model.now)) c.report.ensures.end refl
 
 pub returns : goal.returns
 returns g c =
-    let i = c.self.inside in
-    let m = i.model.now in
-    let H = g.M.Model.handlers m in
+    let m = c.self.inside.model.now in
     let at = worker-there c.self.invariant c.if-w-self.false c.index_mut-kernel.ensures.value in
     let is : answer_of c.report.result ≡ c.match-report.result = (elim c.match-report.branch [
       | in-Ok a ↦ ap answer_of a.in-Ok.is ∙ (search rules)
       | in-Err a ↦ ap answer_of a.in-Err.is ∙ (search rules)
     ]) in
-    cell-answers g.M.Model.handlers c.self.view_is c.self.invariant (λ u. Report c.args.w) refl refl at (board-put c.self.invariant at c.report.new.kernel c.report.new.board.board)
-    (lawful_of H i.config (g.met.M.Model.start_within m) (g.met.M.Model.forward_within m)) (c.report.ensures.step H) is
+    cell-answers g.M.Model.handlers c.self.invariant (λ u. Report c.args.w) refl refl at (board-put c.self.invariant at c.report.new.kernel c.report.new.board.board) (c.report.ensures.step (g.M.Model.handlers m)) c.self.view_is
+    (lawful_of (g.M.Model.handlers m) c.self.inside.config (g.met.M.Model.start_within m) (g.met.M.Model.forward_within m)) is

@@ -21,22 +21,16 @@ returns-then-w-self g c =
 
 pub invariant_of-self : goal.invariant_of-self
 invariant_of-self g c =
-    let i = c.self.inside in
-    let m = i.model.now in
-    let H = g.M.Model.handlers m in
     let at = worker-there c.self.invariant c.if-w-self.false c.index_mut.ensures.value in
     let here = inbox-there c.self.invariant c.if-v-self.false c.index_mut-2.ensures.value ∙ ap (λ l. Some l) (sym c.behind-self.view_is) in
     let own = subst (λ (f : Config). AllOwnMail f c.args.v c.behind-self.inside.mail.items → AllOwnMail f c.args.v c.send.new.inbox.items) (who c.self.invariant at).1 c.send.ensures.own (own-mail c.self.invariant here) in
-    cell-inside g.M.Model.handlers c.self.view_is c.self.invariant (λ u. Send u c.args.v) refl refl at (inbox-put c.self.invariant at c.send.new.kernel c.args.v here c.send.new.inbox.items own)
-    (lawful_of H i.config (g.met.M.Model.start_within m) (g.met.M.Model.forward_within m)) (c.send.ensures.step H) refl refl
+    cell-inside g.M.Model.handlers c.self.invariant (λ u. Send u c.args.v) refl refl at (inbox-put c.self.invariant at c.send.new.kernel c.args.v here c.send.new.inbox.items own) (c.send.ensures.step (g.M.Model.handlers c.self.inside.model.now)) refl refl
 
 pub returns : goal.returns
 returns g c =
-    let i = c.self.inside in
-    let m = i.model.now in
-    let H = g.M.Model.handlers m in
+    let m = c.self.inside.model.now in
     let at = worker-there c.self.invariant c.if-w-self.false c.index_mut.ensures.value in
     let here = inbox-there c.self.invariant c.if-v-self.false c.index_mut-2.ensures.value ∙ ap (λ l. Some l) (sym c.behind-self.view_is) in
     let own = subst (λ (f : Config). AllOwnMail f c.args.v c.behind-self.inside.mail.items → AllOwnMail f c.args.v c.send.new.inbox.items) (who c.self.invariant at).1 c.send.ensures.own (own-mail c.self.invariant here) in
-    cell-step g.M.Model.handlers c.self.view_is c.self.invariant (λ u. Send u c.args.v) refl refl at (inbox-put c.self.invariant at c.send.new.kernel c.args.v here c.send.new.inbox.items own)
-    (lawful_of H i.config (g.met.M.Model.start_within m) (g.met.M.Model.forward_within m)) (c.send.ensures.step H)
+    cell-step g.M.Model.handlers c.self.invariant (λ u. Send u c.args.v) refl refl at (inbox-put c.self.invariant at c.send.new.kernel c.args.v here c.send.new.inbox.items own) (c.send.ensures.step (g.M.Model.handlers m)) c.self.view_is
+    (lawful_of (g.M.Model.handlers m) c.self.inside.config (g.met.M.Model.start_within m) (g.met.M.Model.forward_within m))
