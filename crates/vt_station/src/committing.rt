@@ -133,8 +133,8 @@ impl<M: EventModel> Station<M> {
 }
 
 impl<M: EventModel> Station<M> {
-    /// The commit of a worker. Its rows are made, and put in order, before the book is claimed, and its kernel forgets them
-    /// after the book is given back.
+    /// The commit of a worker. Its rows are made before the book is claimed, and its kernel forgets them after the book is given
+    /// back.
     pub(crate) fn commit_at(
         &self,
         alloc: Global,
