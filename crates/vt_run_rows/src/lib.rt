@@ -1,5 +1,5 @@
-//! Whole runs by workers in threads: runs that stop, what watches a run, and random runs beside the sequential simulator. Worked runs on
-//! workers go through the whole program, in `examples/calls`.
+//! Whole runs by workers in threads: their final values, and what watches a run. What a run of the program shows stands in
+//! `examples/calls`, and `tools/check-calls` makes random ones.
 #![tactic(auto)]
 
 #[cfg(test)]

@@ -58,21 +58,6 @@ where
     }
 }
 
-/// The run has the records of the sequential simulator.
-pub fn agrees<R: Abort + AllocGlobal + Threads + Wait + Sync, M: EventModel + Sync>(
-    rt: &R,
-    model: &M,
-    config: Config,
-)
-where
-    M::State: Send,
-    M::Kept: Send,
-{
-    let mut sequential = Sequential::new(rt.alloc(), model, config).expect(rt, "memory");
-    let whole = sequential.run(rt.alloc()).expect(rt, "a run");
-    gives(rt, model, config, &Unwatched, whole.as_slice());
-}
-
 /// The run has the records and the final values of the sequential simulator, on one worker, two and four.
 pub fn agrees_to_finals<R: Abort + AllocGlobal + Threads + Wait + Sync, M: EventModel + Sync>(
     rt: &R,
