@@ -1,4 +1,4 @@
-//! Worked examples of texts: records and numbers, steps and replies, and command lines, through public calls.
+//! Worked examples of texts, through public calls: what no call of the program shows. `examples/calls` has the others.
 #![tactic(auto)]
 
 #[cfg(test)]

@@ -1,8 +1,6 @@
 //! Texts that are read and printed.
 
 mod command;
-mod hints;
 mod records;
 mod steps;
 mod taken;
-mod writers;
