@@ -1,5 +1,5 @@
-//! Worked examples of workers, run through public calls, with the mail between two of them moved by hand. Expected numbers
-//! were worked out by hand from the rules of the steps and of the models.
+//! Worked examples of workers, with the mail between two of them moved by hand, and of one logical process with rollback, through
+//! public calls. Expected numbers were worked out by hand from the rules of the model and of the steps.
 #![tactic(auto)]
 
 #[cfg(test)]

@@ -1,9 +1,7 @@
-//! Workers, and mail between two of them.
+//! Workers and processes that are played by texts.
 
-mod choosing;
-mod cuts;
-mod mail;
-mod pair;
-mod refusals;
-mod rollbacks;
-mod told;
+mod playing;
+mod process;
+mod scenarios;
+mod telling;
+mod worker;

@@ -1,11 +1,12 @@
 //! How often a process calls its model's handlers.
 
-use crate::tests::stage::{Stage, letter};
-use std::alloc::AllocGlobal;
+use crate::tests::process::playing::plays;
+use crate::tests::process::stage::Stage;
 use std::cell::Cell;
 use std::process::Abort;
 use std::rt::{self, HostRuntime};
-use vt_key::{Fault, Sign, When};
+use std::test::Fail;
+use vt_key::When;
 use vt_model::{Bits, Draws, Model as EventModel, Out};
 use vt_models::{Hop, Token};
 
@@ -101,15 +102,11 @@ fn called<M: EventModel>(rt: &impl Abort, model: &Counting<M>, want: (u32, u32, 
     assert_eq!(rt; model.calls(), want);
 }
 
-// The process's sum must be this.
-fn has_sum(rt: &impl Abort, stage: &Stage<Counting<Hop>>, sum: u64) {
-    assert_eq!(rt; *stage.state(), sum);
-}
-
+/// The process's own token, of time 2, comes last, and is a straggler: all three events are undone, one by one.
 #[test]
-fn an_undo_is_one_reverse(rt: HostRuntime) {
+fn an_undo_is_one_reverse(rt: HostRuntime) -> Result<(), Fail> {
     let model = Counting {
-        model: Hop::new(1, 1, 1, 0).expect(&rt, "options"),
+        model: Hop::new(1, 1, 1, 0)?,
         starts: Cell::new(0),
         forwards: Cell::new(0),
         reverses: Cell::new(0),
@@ -117,33 +114,29 @@ fn an_undo_is_one_reverse(rt: HostRuntime) {
     let mut stage = Stage::of_two(&rt, &model);
     called(&rt, &model, (1, 0, 0));
     let payload = Token { tag: 1, left: 0 };
-    for (time, number, serial) in [(3, 2, 2), (4, 3, 3), (5, 4, 4)] {
-        let told = (Sign::Plus, (time, 0, number), (0, serial));
-        stage.accepts(&rt, letter(&rt, rt.alloc(), 1, told, payload));
-    }
-    for _ in 0..3 {
-        stage.executes(&rt, &model);
-    }
+    let three = "\
+comes + 3 0 2 0 2
+comes + 4 0 3 0 3
+comes + 5 0 4 0 4
+execute
+execute
+execute
+undo = refused 2";
+    plays(&rt, &mut stage, &model, payload, three)?;
     called(&rt, &model, (1, 3, 0));
-    stage.undoes_not(&rt, &model);
+    plays(&rt, &mut stage, &model, payload, "own\nexecute = refused 2")?;
     called(&rt, &model, (1, 3, 0));
-    a_straggler_undoes_all(&rt, &mut stage, &model);
-}
-
-// The process's own token, of time 2, is a straggler now: all three events are undone, one by one.
-fn a_straggler_undoes_all(
-    rt: &(impl Abort + AllocGlobal),
-    stage: &mut Stage<Counting<Hop>>,
-    model: &Counting<Hop>,
-) {
-    stage.accepts_own(rt);
-    stage.executes_not(rt, model, Fault::NotLawful);
-    called(rt, model, (1, 3, 0));
-    for (undone, sum) in [(1, 257), (2, 1), (3, 0)] {
-        stage.undoes(rt, model);
-        called(rt, model, (1, 3, undone));
-        has_sum(rt, stage, sum);
-    }
-    stage.undoes_not(rt, model);
-    called(rt, model, (1, 3, 3));
+    plays(&rt, &mut stage, &model, payload, "undo\nstate = 257")?;
+    called(&rt, &model, (1, 3, 1));
+    plays(&rt, &mut stage, &model, payload, "undo\nstate = 1")?;
+    called(&rt, &model, (1, 3, 2));
+    plays(
+        &rt,
+        &mut stage,
+        &model,
+        payload,
+        "undo\nstate = 0\nundo = refused 2",
+    )?;
+    called(&rt, &model, (1, 3, 3));
+    Ok(())
 }

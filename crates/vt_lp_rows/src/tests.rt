@@ -1,7 +1,0 @@
-//! One process.
-
-mod commits;
-mod counting;
-mod refusals;
-mod rollbacks;
-mod stage;
