@@ -10,10 +10,10 @@ use vt_key::Fault;
 use vt_text::{NUMBER_LEN, TextBuffer};
 
 /// What a refusal says behind the program's name, without the option or the line that the fault names.
-fn head_of(fault: Fault) -> &'static str
+fn head_of(fault: Fault) -> &'static [u8]
     ensures { result.now ≡ head_text fault }
 {
-    match fault {
+    let head = match fault {
         Fault::Memory => ": refused 1 memory",
         Fault::NotLawful => ": refused 2 not lawful",
         Fault::Busy => ": refused 3 busy",
@@ -23,7 +23,8 @@ fn head_of(fault: Fault) -> &'static str
         Fault::BadOption(_) => ": refused 7 bad option ",
         Fault::BadStep(_) => ": refused 8 bad step at line ",
         Fault::Output => ": refused 9 output",
-    }
+    };
+    head.as_bytes()
 }
 
 /// Puts the option or the line that a fault names, if it names one.
@@ -49,7 +50,7 @@ fn print_refusal<W: Write>(writer: &mut W, name: &str, fault: Fault) -> Result<(
 {
     let mut text = TextBuffer::new();
     text.put_bytes(writer, name.as_bytes())?;
-    text.put_bytes(writer, head_of(fault).as_bytes())?;
+    text.put_bytes(writer, head_of(fault))?;
     put_carried(&mut text, writer, fault)?;
     text.put_bytes(writer, b"\n")?;
     text.flush(writer)

@@ -1,40 +1,23 @@
-use Rattle.std.proofs.Common.{sym, ap}
+use Rattle.std.proofs.Common.{◌≡◌, ◌∙◌, List, ℕ, ap, sym}
 use Rattle.std.specs.Fmt.{digits}
+use denote.Ref.{Bor}
 use Rattle.vt_runner.specs.Refusals.{head_text}
+use Rattle.vt_runner.proofs.refusal.head_of.Goals.{in-Memory, in-NotLawful, in-Busy, in-Closed, in-Exhausted, in-TurnsSpent, in-BadOption, in-BadStep, in-Output}
 use Rattle.vt_runner.proofs.refusal.head_of.Goals as goal
 
-pub returns-in-Memory : goal.returns-in-Memory
+pub returns : goal.returns
 unfolding digits
-returns-in-Memory c = ap head_text (sym c.in-Memory.is)
-
-pub returns-in-NotLawful : goal.returns-in-NotLawful
-unfolding digits
-returns-in-NotLawful c = ap head_text (sym c.in-NotLawful.is)
-
-pub returns-in-Busy : goal.returns-in-Busy
-unfolding digits
-returns-in-Busy c = ap head_text (sym c.in-Busy.is)
-
-pub returns-in-Closed : goal.returns-in-Closed
-unfolding digits
-returns-in-Closed c = ap head_text (sym c.in-Closed.is)
-
-pub returns-in-Exhausted : goal.returns-in-Exhausted
-unfolding digits
-returns-in-Exhausted c = ap head_text (sym c.in-Exhausted.is)
-
-pub returns-in-TurnsSpent : goal.returns-in-TurnsSpent
-unfolding digits
-returns-in-TurnsSpent c = ap head_text (sym c.in-TurnsSpent.is)
-
-pub returns-in-BadOption : goal.returns-in-BadOption
-unfolding digits
-returns-in-BadOption c = ap head_text (sym c.in-BadOption.is)
-
-pub returns-in-BadStep : goal.returns-in-BadStep
-unfolding digits
-returns-in-BadStep c = ap head_text (sym c.in-BadStep.is)
-
-pub returns-in-Output : goal.returns-in-Output
-unfolding digits
-returns-in-Output c = ap head_text (sym c.in-Output.is)
+returns c =
+    let said = λ (head : Bor (List ℕ)). head.now in
+    let is : c.match-fault.head.now ≡ head_text c.args.fault = elim c.match-fault.branch [
+      | in-Memory w ↦ ap said w.head-is ∙ ap head_text (sym w.in-Memory.is)
+      | in-NotLawful w ↦ ap said w.head-is ∙ ap head_text (sym w.in-NotLawful.is)
+      | in-Busy w ↦ ap said w.head-is ∙ ap head_text (sym w.in-Busy.is)
+      | in-Closed w ↦ ap said w.head-is ∙ ap head_text (sym w.in-Closed.is)
+      | in-Exhausted w ↦ ap said w.head-is ∙ ap head_text (sym w.in-Exhausted.is)
+      | in-TurnsSpent w ↦ ap said w.head-is ∙ ap head_text (sym w.in-TurnsSpent.is)
+      | in-BadOption w ↦ ap said w.head-is ∙ ap head_text (sym w.in-BadOption.is)
+      | in-BadStep w ↦ ap said w.head-is ∙ ap head_text (sym w.in-BadStep.is)
+      | in-Output w ↦ ap said w.head-is ∙ ap head_text (sym w.in-Output.is)
+    ] in
+    c.as_bytes.ensures.value ∙ is
