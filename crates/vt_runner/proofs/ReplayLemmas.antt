@@ -156,15 +156,25 @@ module _ (version : Version) {M S P K : Type 0} (meaning : M → Handlers S P K)
     lines : AppendsAllButHeld old now held (replies_text put.replies)
     lines = subst (λ (x : List ℕ). AppendsAllButHeld old now held (x ++ replies_text put.replies)) empty put.put
 
+    abbrev shown : List ℕ
+    shown = state_of version (end_of first.config) put.end
+
+    abbrev whole : List ℕ
+    whole = replies_text put.replies ++ shown
+
+    is_right : IsReplayText own version serial steps whole
+    is_right = right version own serial steps put.replies put.end put.are
+
+    all_put : AppendsAllButHeld old now (held ++ shown) whole
+    all_put = pushed old now held (replies_text put.replies) shown lines
+
     -- the whole output was written
     pub replay_written : (new : Option (List ℕ)) → Appends now new (held ++ shown_of version (meaning final.model) final) → Writes (IsReplayText own version serial steps) old new
-    replay_written new h =
-        let shown = state_of version (end_of first.config) put.end in
-        record {
-          text = replies_text put.replies ++ shown;
-          right = right version own serial steps put.replies put.end put.are;
-          written = written old now new (held ++ shown) (replies_text put.replies ++ shown) (pushed old now held (replies_text put.replies) shown lines) (subst (λ (x : List ℕ). Appends now new (held ++ x)) shown_at_end h);
-        }
+    replay_written new h = record { text = whole; right = is_right; written = written old now new (held ++ shown) whole all_put (subst (λ (x : List ℕ). Appends now new (held ++ x)) shown_at_end h) }
+
+    -- a beginning of it was written
+    pub replay_begun : (new : Option (List ℕ)) → AppendsBeginning now new (held ++ shown_of version (meaning final.model) final) → Begins (IsReplayText own version serial steps) old new
+    replay_begun new h = record { text = whole; right = is_right; begun = flush_fails old now new (held ++ shown) whole all_put (subst (λ (x : List ℕ). AppendsBeginning now new (held ++ x)) shown_at_end h) }
 
     -- the lines of the answers were written, and nothing else
     pub lines_written : (new : Option (List ℕ)) → Appends now new held → Writes (IsRepliesText own serial steps) old new
@@ -173,16 +183,6 @@ module _ (version : Version) {M S P K : Type 0} (meaning : M → Handlers S P K)
       right = record { replies = put.replies; end = put.end; are = put.are; lines = refl };
       written = written old now new held (replies_text put.replies) lines h;
     }
-
-    -- a beginning of it was written
-    pub replay_begun : (new : Option (List ℕ)) → AppendsBeginning now new (held ++ shown_of version (meaning final.model) final) → Begins (IsReplayText own version serial steps) old new
-    replay_begun new h =
-        let shown = state_of version (end_of first.config) put.end in
-        record {
-          text = replies_text put.replies ++ shown;
-          right = right version own serial steps put.replies put.end put.are;
-          begun = flush_fails old now new (held ++ shown) (replies_text put.replies ++ shown) (pushed old now held (replies_text put.replies) shown lines) (subst (λ (x : List ℕ). AppendsBeginning now new (held ++ x)) shown_at_end h);
-        }
 
 -- an error of which two things hold
 pub both : {T B : Type 0} {P Q : Fault → Type 0} (r : Result T Fault) → ((fault : Fault) → P fault → B → Q fault) → IfErr r P → IfErr r (λ _. B) → IfErr r Q

@@ -22,24 +22,8 @@ returns-in_err-put_replies-clause-err g c =
     (output_stops o.text sim o.serial a.steps.now _ _ c.in_err-put_replies.field-0.0 c.in_err-put_replies.ensures.fault
     (of_given o.text H a.model.now o.config o.serial a.steps.now first made.0 made.1 (λ s. Begins (IsReplayText s o.text o.serial a.steps.now) (g.O.Write.contents a.out.now) (g.O.Write.contents c.put_replies.new.out)) begun))
 
-pub returns-clause-ok : goal.returns-clause-ok
-returns-clause-ok g c =
-    let H = g.M.Model.handlers in
-    let a = c.args in
-    let o = a.options.now in
-    let first = c.in_ok-world.world in
-    let made = c.in_ok-world.ensures.made in
-    let same = c.in_ok-put_replies.ensures.same in
-    let from = opened o.text H a.model.now o.config o.serial a.steps.now first made.0 made.1 c.in_ok-world.ensures.opening in
-    let put = c.in_ok-put_replies.ensures.ok _ from in
-    let lawful = lawful_of (H first.model) first.config (g.met.M.Model.start_within first.model) (g.met.M.Model.forward_within first.model) in
-    on_ok_weaker c.show.result
-    (λ h. of_given o.text H a.model.now o.config o.serial a.steps.now first made.0 made.1 (λ s. Writes (IsReplayText s o.text o.serial a.steps.now) (g.O.Write.contents a.out.now) (g.O.Write.contents c.show.new.out))
-    (replay_written o.text H a.model.now o.config o.serial a.steps.now first made.0 made.1 lawful c.put_replies.new.world same.0 same.1 _ _ c.new-text.result c.put_replies.new.text c.new-text.ensures put _ h))
-    c.show.ensures.ok
-
-pub returns-clause-err : goal.returns-clause-err
-returns-clause-err g c =
+pub returns : goal.returns
+returns g c =
     let H = g.M.Model.handlers in
     let a = c.args in
     let o = a.options.now in
@@ -50,10 +34,16 @@ returns-clause-err g c =
     let from = opened o.text H a.model.now o.config o.serial a.steps.now first made.0 made.1 c.in_ok-world.ensures.opening in
     let put = c.in_ok-put_replies.ensures.ok _ from in
     let lawful = lawful_of (H first.model) first.config (g.met.M.Model.start_within first.model) (g.met.M.Model.forward_within first.model) in
-    both c.show.result
-    (λ fault is h. show_stops o.text sim o.serial a.steps.now _ _ _ _ fault is
-    (of_given o.text H a.model.now o.config o.serial a.steps.now first made.0 made.1 (λ s. Begins (IsReplayText s o.text o.serial a.steps.now) (g.O.Write.contents a.out.now) (g.O.Write.contents c.show.new.out))
-    (replay_begun o.text H a.model.now o.config o.serial a.steps.now first made.0 made.1 lawful c.put_replies.new.world same.0 same.1 _ _ c.new-text.result c.put_replies.new.text c.new-text.ensures put _ h))
-    (λ all. of_given o.text H a.model.now o.config o.serial a.steps.now first made.0 made.1 (λ s. Writes (IsRepliesText s o.serial a.steps.now) (g.O.Write.contents a.out.now) (g.O.Write.contents c.show.new.out))
-    (lines_written o.text H a.model.now o.config o.serial a.steps.now first made.0 made.1 lawful c.put_replies.new.world same.0 same.1 _ _ c.new-text.result c.put_replies.new.text c.new-text.ensures put _ all)))
-    c.show.ensures.fault c.show.ensures.err
+    record {
+      ok = on_ok_weaker c.show.result
+          (λ h. of_given o.text H a.model.now o.config o.serial a.steps.now first made.0 made.1 (λ s. Writes (IsReplayText s o.text o.serial a.steps.now) (g.O.Write.contents a.out.now) (g.O.Write.contents c.show.new.out))
+          (replay_written o.text H a.model.now o.config o.serial a.steps.now first made.0 made.1 lawful c.put_replies.new.world same.0 same.1 _ _ c.new-text.result c.put_replies.new.text c.new-text.ensures put _ h))
+          c.show.ensures.ok;
+      err = both c.show.result
+          (λ fault is h. show_stops o.text sim o.serial a.steps.now _ _ _ _ fault is
+          (of_given o.text H a.model.now o.config o.serial a.steps.now first made.0 made.1 (λ s. Begins (IsReplayText s o.text o.serial a.steps.now) (g.O.Write.contents a.out.now) (g.O.Write.contents c.show.new.out))
+          (replay_begun o.text H a.model.now o.config o.serial a.steps.now first made.0 made.1 lawful c.put_replies.new.world same.0 same.1 _ _ c.new-text.result c.put_replies.new.text c.new-text.ensures put _ h))
+          (λ all. of_given o.text H a.model.now o.config o.serial a.steps.now first made.0 made.1 (λ s. Writes (IsRepliesText s o.serial a.steps.now) (g.O.Write.contents a.out.now) (g.O.Write.contents c.show.new.out))
+          (lines_written o.text H a.model.now o.config o.serial a.steps.now first made.0 made.1 lawful c.put_replies.new.world same.0 same.1 _ _ c.new-text.result c.put_replies.new.text c.new-text.ensures put _ all)))
+          c.show.ensures.fault c.show.ensures.err;
+    }

@@ -6,6 +6,8 @@ use Rattle.vt_step_text.specs.Replies.{state_text}
 use Rattle.vt_text.proofs.TextLemmas.{on_err, of_longer}
 use Rattle.vt_runner.specs.Replying.{shown_of}
 use Rattle.vt_runner.proofs.ReplayLemmas.{state_some, gathered_alone, shown_in_part, shown_flushed}
+use Rattle.vt_runner.proofs.replaying.show.Given.{Over}
+use Rattle.vt_runner.proofs.replaying.show.Goals.{After-put_state}
 use Rattle.vt_runner.proofs.replaying.show.Goals as goal
 
 pub returns-in_err-flush-clause-err : goal.returns-in_err-flush-clause-err
@@ -17,27 +19,25 @@ returns-in_err-records-clause-err g c =
     on_err c.from_residual-in_err-records.result
     (gathered_alone _ _ c.args.text.now (shown_of c.args.version (g.M.Model.handlers c.args.world.now.model) c.args.world.now) c.in_ok-flush.ensures.ok (state_some _ _ _ _ _))
 
-pub returns-in_err-put_state-clause-err : goal.returns-in_err-put_state-clause-err
-returns-in_err-put_state-clause-err g c =
+-- what is put is what the world shows
+shown : (g : Over) (c : After-put_state g) → state_text c.args.version c.announced.result c.floor.result c.least.result c.as_slice.result.now ≡ shown_of c.args.version (g.M.Model.handlers c.args.world.now.model) c.args.world.now
+shown g c =
     let world = c.args.world.now in
     let items = c.as_slice.result.now in
-    let is : state_text c.args.version c.announced.result c.floor.result c.least.result items ≡ shown_of c.args.version (g.M.Model.handlers world.model) world =
     ap (λ (t : Time). state_text c.args.version t c.floor.result c.least.result items) c.announced.ensures.value
     ∙ ap (λ (t : Time). state_text c.args.version world.board.announced t c.least.result items) c.floor.ensures.value
     ∙ ap (λ (t : Time). state_text c.args.version world.board.announced (floor_held world) t items) c.least.ensures.value
-    ∙ ap (λ (rs : _). state_text c.args.version world.board.announced (floor_held world) (least_held world) rs) (c.as_slice.ensures.value ∙ c.in_ok-records.ensures.records) in
+    ∙ ap (λ (rs : _). state_text c.args.version world.board.announced (floor_held world) (least_held world) rs) (c.as_slice.ensures.value ∙ c.in_ok-records.ensures.records)
+
+pub returns-in_err-put_state-clause-err : goal.returns-in_err-put_state-clause-err
+returns-in_err-put_state-clause-err g c =
+    let is = shown g (goal.at.returns-in_err-put_state-clause-err g c).After-put_state in
     on_err c.from_residual-in_err-put_state.result
-    (rw (← is) (shown_in_part _ _ _ c.args.text.now c.in_ok-flush.ensures.ok c.flush.new.self (state_text c.args.version c.announced.result c.floor.result c.least.result items) c.in_ok-flush.ensures.empty c.in_err-put_state.ensures.err))
+    (rw (← is) (shown_in_part _ _ _ c.args.text.now c.in_ok-flush.ensures.ok c.flush.new.self (state_text c.args.version c.announced.result c.floor.result c.least.result c.as_slice.result.now) c.in_ok-flush.ensures.empty c.in_err-put_state.ensures.err))
 
 pub returns-clause-err : goal.returns-clause-err
 returns-clause-err g c =
-    let world = c.args.world.now in
-    let items = c.as_slice.result.now in
-    let is : state_text c.args.version c.announced.result c.floor.result c.least.result items ≡ shown_of c.args.version (g.M.Model.handlers world.model) world =
-    ap (λ (t : Time). state_text c.args.version t c.floor.result c.least.result items) c.announced.ensures.value
-    ∙ ap (λ (t : Time). state_text c.args.version world.board.announced t c.least.result items) c.floor.ensures.value
-    ∙ ap (λ (t : Time). state_text c.args.version world.board.announced (floor_held world) t items) c.least.ensures.value
-    ∙ ap (λ (rs : _). state_text c.args.version world.board.announced (floor_held world) (least_held world) rs) (c.as_slice.ensures.value ∙ c.in_ok-records.ensures.records) in
+    let is = shown g (goal.at.returns-clause-err g c).After-put_state in
     on_err_weaker c.flush-2.result
-    (λ h. rw (← is) (shown_flushed _ _ _ _ c.args.text.now c.flush.new.self _ (state_text c.args.version c.announced.result c.floor.result c.least.result items) c.in_ok-flush.ensures.ok c.in_ok-flush.ensures.empty c.in_ok-put_state.ensures.ok h))
+    (λ h. rw (← is) (shown_flushed _ _ _ _ c.args.text.now c.flush.new.self _ (state_text c.args.version c.announced.result c.floor.result c.least.result c.as_slice.result.now) c.in_ok-flush.ensures.ok c.in_ok-flush.ensures.empty c.in_ok-put_state.ensures.ok h))
     c.flush-2.ensures.err

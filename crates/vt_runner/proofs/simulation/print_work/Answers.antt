@@ -1,29 +1,29 @@
 use Rattle.std.proofs.Common.{◌∙◌}
+use Rattle.vt_model.specs.declared.settings.Config.{Config}
+use Rattle.vt_model.specs.Histories.{IsLawful}
+use Rattle.vt_model.specs.Simulation.{simulation_of}
 use Rattle.vt_model.proofs.LawLemmas.{lawful_of}
 use Rattle.vt_seq.proofs.StepLemmas.{if_err}
 use Rattle.vt_runner.specs.Runs.{text_below, run_text, StopsWork}
 use Rattle.vt_runner.proofs.RunLemmas.{part_begun, work_stops, output_begun}
+use Rattle.vt_runner.proofs.simulation.print_work.Given.{Over}
 use Rattle.vt_runner.proofs.simulation.print_work.Goals as goal
+
+lawful : (g : Over) (model : g.row.M.Denot) (config : Config) → IsLawful (simulation_of (g.M.Model.handlers model) config)
+lawful g model config =
+    let met = g.met.M.Model g.world.𝓛 g.world.𝓜 g.world.𝓡 ((λ s x. x), (λ x. x), (λ x. x), λ x. x) in
+    lawful_of (g.M.Model.handlers model) config (met.start_within model) (met.forward_within model)
 
 pub returns-in_err-print_records-in-Err-clause-err : goal.returns-in_err-print_records-in-Err-clause-err
 returns-in_err-print_records-in-Err-clause-err g c =
-    let model = c.args.model.now in
-    let H = g.M.Model.handlers model in
-    let config = c.args.options.now.config in
-    let version = c.args.options.now.text in
-    let met = g.met.M.Model g.world.𝓛 g.world.𝓜 g.world.𝓡 ((λ s x. x), (λ x. x), (λ x. x), λ x. x) in
-    let lawful = lawful_of H config (met.start_within model) (met.forward_within model) in
+    let o = c.args.options.now in
+    let H = g.M.Model.handlers c.args.model.now in
     let fault = c.in_err-print_records-in-Err.field-0.0 in
-    if_err (StopsWork (text_below version H config) (run_text version H config) _ _) c.from_residual.result fault c.from_residual.ensures.1
-    (output_begun (text_below version H config) (run_text version H config) _ _ fault c.in_err-print_records-in-Err.ensures.fault
-    (part_begun version H config lawful c.as_slice-in-Err.result.now (c.in-Err.ensures.begun.0, c.as_slice-in-Err.ensures.value ∙ c.in-Err.ensures.begun.1) _ _ c.in_err-print_records-in-Err.ensures.err))
+    if_err (StopsWork (text_below o.text H o.config) (run_text o.text H o.config) _ _) c.from_residual.result fault c.from_residual.ensures.1
+    (output_begun (text_below o.text H o.config) (run_text o.text H o.config) _ _ fault c.in_err-print_records-in-Err.ensures.fault
+    (part_begun o.text H o.config (lawful g c.args.model.now o.config) c.as_slice-in-Err.result.now (c.in-Err.ensures.begun.0, c.as_slice-in-Err.ensures.value ∙ c.in-Err.ensures.begun.1) _ _ c.in_err-print_records-in-Err.ensures.err))
 
 pub returns-in_ok-print_records-in-Err-clause-err : goal.returns-in_ok-print_records-in-Err-clause-err
 returns-in_ok-print_records-in-Err-clause-err g c =
-    let model = c.args.model.now in
-    let H = g.M.Model.handlers model in
-    let config = c.args.options.now.config in
-    let version = c.args.options.now.text in
-    let met = g.met.M.Model g.world.𝓛 g.world.𝓜 g.world.𝓡 ((λ s x. x), (λ x. x), (λ x. x), λ x. x) in
-    let lawful = lawful_of H config (met.start_within model) (met.forward_within model) in
-    work_stops version H config lawful c.as_slice-in-Err.result.now (c.in-Err.ensures.begun.0, c.as_slice-in-Err.ensures.value ∙ c.in-Err.ensures.begun.1) _ _ c.in-Err.stopped.fault c.in-Err.ensures.fault c.in_ok-print_records-in-Err.ensures.ok
+    let o = c.args.options.now in
+    work_stops o.text (g.M.Model.handlers c.args.model.now) o.config (lawful g c.args.model.now o.config) c.as_slice-in-Err.result.now (c.in-Err.ensures.begun.0, c.as_slice-in-Err.ensures.value ∙ c.in-Err.ensures.begun.1) _ _ c.in-Err.stopped.fault c.in-Err.ensures.fault c.in_ok-print_records-in-Err.ensures.ok
