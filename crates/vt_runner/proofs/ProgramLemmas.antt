@@ -1,5 +1,5 @@
 -- What a program of models does, by what the call that carries its tasks out does.
-use Rattle.std.proofs.Common.{◌≡◌, ℕ, List, Option, Result, Ok, Err, inl, inr, sym, subst, codes}
+use Rattle.std.proofs.Common.{◌≡◌, ◌≢◌, ℕ, List, Option, Result, Ok, Err, inl, inr, sym, subst, codes}
 use Rattle.std.specs.Prelude.{⊤, OnOk, IfErr}
 use Rattle.std.specs.Fn.{Once}
 use Rattle.std.specs.Io.KnownBytes.{Keeps}
@@ -9,11 +9,12 @@ use Rattle.vt_key.specs.declared.fault.Fault.{Fault}
 use Rattle.vt_key.specs.declared.fault.Fault.TheVariants.{Output}
 use Rattle.vt_options.specs.declared.choices.Task.{Task}
 use Rattle.vt_options.specs.declared.own.Chosen.{Chosen}
-use Rattle.vt_options.specs.Own.{Models, app_for}
-use Rattle.vt_options.specs.Requests.{AreBy}
+use Rattle.vt_options.specs.Own.{Models, app_for, line_for}
+use Rattle.vt_options.specs.Requests.{AreBy, AskHelpOf, IsRefusedAsOf}
 use Rattle.vt_runner.specs.Outcomes.{BeginsHelp, EndsWith}
 use Rattle.vt_runner.specs.Programs.{CallAnswers, IsAnswered, IsDoneByCall, EndsByCall, IsReadByCall}
-use Rattle.vt_runner.specs.Models.{AnyHandlers, CarriesOut, program_of, IsDoneFor, EndsFor}
+use Rattle.vt_runner.specs.Models.{AnyHandlers, CarriesOut, program_of, IsDoneFor, EndsFor, AskBadLineFor}
+use Rattle.vt_runner.specs.Refusals.{status_of}
 use Rattle.vt_runner.proofs.ModelsLemmas as models
 
 module _ (name : Text) (table : Models) (words : List Text) (Answers : Chosen → Task → Result ⊤ Fault → Type 0) (old new : Option (List ℕ)) where
@@ -55,14 +56,14 @@ module _ {C : Type 0} (meaning : C → AnyHandlers) (Makes : Chosen → Option C
 
   module _ (Answers : Chosen → Task → Result ⊤ Fault → Type 0) where
     -- what the words ask for was done
-    pub program_done : IsDoneByCall name table words Answers old new → Carry Answers → IsDoneFor meaning Makes name table words remaining old new
+    program_done : IsDoneByCall name table words Answers old new → Carry Answers → IsDoneFor meaning Makes name table words remaining old new
     program_done (inl help) carry = inl help
     program_done (inr h) carry =
         let does = (carry h.chosen h.task _ h.answered).ok in
         models.task_done meaning Makes name table words remaining old new h.task h.chosen does.model h.asked does.made does.done
 
     -- or it was refused
-    pub program_ends : (fault : Fault) → EndsByCall name table words Answers fault old new → Carry Answers → EndsFor meaning Makes name table fault words remaining old new
+    program_ends : (fault : Fault) → EndsByCall name table words Answers fault old new → Carry Answers → EndsFor meaning Makes name table fault words remaining old new
     program_ends fault (inl refused) carry = inl (models.words_refused meaning Makes name table words remaining old new refused.1 fault refused.0)
     program_ends fault (inr (inl help)) carry = inl (help_ends fault help.0 help.1)
     program_ends fault (inr (inr h)) carry =
@@ -72,6 +73,36 @@ module _ {C : Type 0} (meaning : C → AnyHandlers) (Makes : Chosen → Option C
         ]
 
     -- words that aren't those of a replay let nothing be read
-    pub program_unread : IsReadByCall name table words Answers remaining left → Carry Answers → ¬ AreBy (app_for name table) (codes "replay") words → Keeps remaining left
+    program_unread : IsReadByCall name table words Answers remaining left → Carry Answers → ¬ AreBy (app_for name table) (codes "replay") words → Keeps remaining left
     program_unread (inl kept) carry no_replay = kept
     program_unread (inr h) carry no_replay = models.task_unread name table words h.1.task _ _ remaining left h.1.asked (carry h.1.chosen h.1.task _ h.1.answered).unread no_replay
+
+  -- a program that returned this status did so, and told a refusal so
+  pub record EndsAs (status : ℕ) (Tells : Fault → Type 0) : Type 0 where
+    pub done : status ≡ 0 → IsDoneFor meaning Makes name table words remaining old new
+    pub refused : status ≢ 0 → (fault : Fault) × (status ≡ status_of fault) × EndsFor meaning Makes name table fault words remaining old new × Tells fault
+    pub unread : ¬ AreBy (app_for name table) (codes "replay") words → Keeps remaining left
+
+  -- one whose call carries tasks out did
+  pub ends_as : (Answers : Chosen → Task → Result ⊤ Fault → Type 0) (status : ℕ) (Tells : Fault → Type 0) → (status ≡ 0 → IsDoneByCall name table words Answers old new)
+      → (status ≢ 0 → (fault : Fault) × (status ≡ status_of fault) × EndsByCall name table words Answers fault old new × Tells fault) → IsReadByCall name table words Answers remaining left → Carry Answers → EndsAs status Tells
+  ends_as Answers status Tells done refused read carry = record {
+    done = λ zero. program_done Answers (done zero) carry;
+    refused = λ other. let told = refused other in (told.0, told.1, program_ends Answers told.0 told.2 carry, told.3);
+    unread = program_unread Answers read carry;
+  }
+
+  module _ {status : ℕ} {Tells : Fault → Type 0} (h : EndsAs status Tells) where
+    -- words that are refused and don't ask for help are never answered, and nothing is written for them
+    pub untouched : (bad : Text) → IsRefusedAsOf (line_for name table) words bad → ¬ AskHelpOf (app_for name table) words → (status ≢ 0) × Keeps old new
+    untouched bad refused no_help =
+        let other : (status ≡ 0 → ⊥) = λ zero. models.not_done meaning Makes name table words bad remaining old new refused no_help (h.done zero) in
+        let told = h.refused other in
+        (other, models.nothing_written meaning Makes name table words bad remaining old new told.0 refused no_help told.2)
+
+    -- nor is a text with a bad line
+    pub unrun : AskBadLineFor meaning Makes name table words remaining → (status ≢ 0) × Keeps old new
+    unrun bad =
+        let other : (status ≡ 0 → ⊥) = λ zero. models.bad_not_done meaning Makes name table words remaining old new bad (h.done zero) in
+        let told = h.refused other in
+        (other, models.bad_nothing_written meaning Makes name table words remaining old new told.0 bad told.2)

@@ -37,37 +37,6 @@ pub struct Streams<R, O, E> {
     pub errors: E,
 }
 
-/// Carries a task out on the model that `make` makes of the chosen values.
-fn carry_out_made<
-    H: Threads + Wait + Sync,
-    M: EventModel + Sync + Drop,
-    F: Fn(&[u32]) -> Option<M>,
-    W: Watch + Sync,
-    R: Read,
-    O: Write,
->(
-    rt: &H,
-    alloc: Global,
-    make: &F,
-    chosen: &Chosen,
-    task: &Task,
-    watch: &W,
-    reader: &mut R,
-    out: &mut O,
-) -> Result<(), Fault>
-where
-    M::State: Send,
-    M::Kept: Send,
-    requires counted { IsCounted task.now }
-    requires callable { (values : _) → values.now ≡ chosen.now.values.items → F.pre make.now values }
-    ensures { CarriesOut (λ model. any_handlers (M.handlers model)) (λ choice made. FnReturnsAt F.Fn make.now choice.values.items made) chosen.now task.now (R.remaining reader.old) (R.remaining reader.new) (O.contents out.old) (O.contents out.new) result }
-{
-    let Some(model) = make(chosen.values.as_slice()) else {
-        return Err(Fault::BadOption("values"));
-    };
-    carry_out(rt, alloc, &model, task, watch, reader, out)
-}
-
 /// A whole program of one model: does what the words ask for, and returns the exit status. The first word is the program's
 /// name, `own` are the model's options, and `make` makes the model of their values.
 ///
@@ -145,7 +114,12 @@ where
     >
         requires { IsCounted task.now × ((values : _) → values.now ≡ chosen.now.values.items → F.pre make values) }
         ensures { CarriesOut (λ model. any_handlers (M.handlers model)) (λ choice made. FnReturnsAt F.Fn make choice.values.items made) chosen.now task.now (R.remaining input.old) (R.remaining input.new) (O.contents output.old) (O.contents output.new) result }
-    { carry_out_made(rt, alloc, &make, chosen, task, watch, input, output) };
+    {
+        let Some(model) = make(chosen.values.as_slice()) else {
+            return Err(Fault::BadOption("values"));
+        };
+        carry_out(rt, alloc, &model, task, watch, input, output)
+    };
     models_program(
         rt,
         alloc,
