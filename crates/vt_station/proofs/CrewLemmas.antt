@@ -10,11 +10,11 @@ use Rattle.vt_model.specs.declared.rows.Row.{Row}
 use Rattle.vt_model.specs.Simulation.{Simulation}
 use Rattle.vt_model.specs.Sequential.{rows_before, records_of, rows_after, whole_run, seq_records}
 use Rattle.vt_steps.specs.Marked.{answered, has_closed}
-use Rattle.vt_station.specs.declared.view.View.{View}
-use Rattle.vt_station.specs.declared.place.Place.{Place}
+use Rattle.vt_places.specs.declared.view.View.{View}
+use Rattle.vt_places.specs.declared.place.Place.{Place}
 use Rattle.vt_station.specs.declared.driver.Outcome.{Outcome}
 use Rattle.vt_station.specs.declared.driver.Outcome.TheVariants.{Closed}
-use Rattle.vt_station.specs.Calls.{AreRecordsShown}
+use Rattle.vt_places.specs.Calls.{AreRecordsShown}
 use Rattle.vt_station.specs.Crew.{IsLeft}
 
 module _ {S P : Type 0} (sim : Simulation S P) where

@@ -20,9 +20,9 @@ use Rattle.vt_steps.proofs.LocalLeads.{local-does}
 use Rattle.vt_steps.proofs.MarkedRuns.{steps-append}
 use Rattle.vt_steps.proofs.Places.{get-map, get-range}
 use Rattle.vt_kernel.specs.Held.{HeldWorker}
-use Rattle.vt_station.specs.declared.view.View.{View}
-use Rattle.vt_station.specs.Calls.{IsShown, Reaches}
-use Rattle.vt_station.proofs.Releases.{steps-lead}
+use Rattle.vt_places.specs.declared.view.View.{View}
+use Rattle.vt_places.specs.Calls.{IsShown, Reaches}
+use Rattle.vt_places.proofs.Releases.{steps-lead}
 
 module _ {S P K : Type 0} (handlers : Handlers S P K) (config : Config) (lawful : IsLawful (simulation_of handlers config)) where
   -- what is made of the states of a kernel whose floor is the end are the final values of its worker

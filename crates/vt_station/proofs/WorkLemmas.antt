@@ -12,10 +12,10 @@ use Rattle.vt_steps.specs.World.{Part}
 use Rattle.vt_kernel.specs.Held.{HeldWorker, StandsFor}
 use Rattle.vt_kernel.specs.Local.{local_step}
 use Rattle.vt_kernel.specs.Guards.{IsDone}
-use Rattle.vt_station.specs.declared.view.View.{View}
+use Rattle.vt_places.specs.declared.view.View.{View}
 use Rattle.vt_station.specs.AtWork.{AtWork, IsAtWork}
-use Rattle.vt_station.specs.Calls.{Reaches}
-use Rattle.vt_station.proofs.ReachLemmas.{reaches-either, kept-of}
+use Rattle.vt_places.specs.Calls.{Reaches}
+use Rattle.vt_places.proofs.ReachLemmas.{reaches-either, kept-of}
 
 module _ {M S P K : Type 0} {handlers : M → Handlers S P K} {told : M} {config : Config} {table : TableId} {w : AtWork M S P K} (i : IsAtWork handlers told config table w) where
   -- the kernel, as a call of the station asks for it

@@ -4,8 +4,8 @@ use Rattle.atomic_table.specs.Seated.{TableId}
 use Rattle.vt_model.specs.declared.settings.Config.{Config}
 use Rattle.vt_model.specs.Handler.{Handlers}
 use Rattle.vt_kernel.specs.Held.{HeldWorker}
-use Rattle.vt_station.specs.declared.view.View.{View}
-use Rattle.vt_station.specs.Calls.{Reaches}
+use Rattle.vt_places.specs.declared.view.View.{View}
+use Rattle.vt_places.specs.Calls.{Reaches}
 
 -- what a contract sees of a worker at its place: the station's model, config and table, what its place knows, and its kernel
 pub record AtWork (M S P K : Type 0) : Type 0 where

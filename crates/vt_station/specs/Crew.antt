@@ -8,11 +8,11 @@ use Rattle.vt_model.specs.declared.rows.Record.{Record}
 use Rattle.vt_model.specs.Handler.{Handlers}
 use Rattle.vt_model.specs.Simulation.{Simulation, simulation_of}
 use Rattle.vt_steps.specs.Finals.{worker_finals}
-use Rattle.vt_station.specs.declared.place.Place.{Place}
+use Rattle.vt_places.specs.declared.place.Place.{Place}
 use Rattle.vt_station.specs.declared.driver.Outcome.{Outcome}
 use Rattle.vt_station.specs.declared.driver.Outcome.TheVariants.{Closed, Refused}
-use Rattle.vt_station.specs.Told.{place_table, place_view}
-use Rattle.vt_station.specs.Making.{IsNew}
+use Rattle.vt_places.specs.Told.{place_table, place_view}
+use Rattle.vt_places.specs.Making.{IsNew}
 use Rattle.vt_station.specs.Turns.{IsLasting, HasEnded}
 
 -- the work of worker w with a place of this table: before it begins the place is as it was made, and then the place knows how

@@ -3,7 +3,7 @@ use Rattle.std.specs.Prelude.{◌≡◌, ◌⊎◌, Bool, true, false, map, Resu
 use Rattle.vt_key.specs.declared.fault.Fault.{Fault}
 use Rattle.vt_key.specs.declared.fault.Fault.TheVariants.{Memory, Exhausted}
 use Rattle.vt_steps.specs.Marked.{answered, has_closed}
-use Rattle.vt_station.specs.declared.view.View.{View}
+use Rattle.vt_places.specs.declared.view.View.{View}
 use Rattle.vt_station.specs.declared.driver.Outcome.{Outcome}
 use Rattle.vt_station.specs.declared.driver.Outcome.TheVariants.{Closed, Refused}
 

@@ -9,15 +9,13 @@ ghost use Rattle.vt_key.specs.declared.fault.Fault.TheVariants.{Memory, Busy, Tu
 ghost use Rattle.vt_steps.specs.Finals.{final_value};
 ghost use Rattle.vt_station.specs.declared.driver.Outcome.TheVariants.{Closed};
 ghost use Rattle.vt_station.specs.declared.driver.Wanted.TheVariants.{Finals};
-ghost use Rattle.vt_station.specs.Told.{station_model, station_config, station_table};
-ghost use Rattle.vt_station.specs.Making.{IsNew, AreNew};
+ghost use Rattle.vt_places.specs.Told.{station_model, station_config, station_table};
+ghost use Rattle.vt_places.specs.Making.{IsNew, AreNew};
 ghost use Rattle.vt_station.specs.Turns.{IsLasting};
 ghost use Rattle.vt_station.specs.Crew.{IsSameJob, IsSameWork, AllAt, AreInOrder, IsClosedAt, NoneClosed, first_fault, IsToldBy, IsStop};
 
 use crate::bell::{Bells, Start};
 use crate::driver::{Driver, Outcome, Wanted};
-use crate::place::Place;
-use crate::station::Station;
 use crate::watch::Watch;
 use crate::worker::{NotMade, Worker};
 use std::alloc::Global;
@@ -27,6 +25,7 @@ use std::thread;
 use std::thread::Threads;
 use vt_key::Fault;
 use vt_model::{Config, Model as EventModel, Record};
+use vt_places::{Place, Station};
 
 /// A run that stopped before its end: why, and the records that were committed, a beginning of all.
 #[derive(Drop)]
@@ -63,7 +62,7 @@ pub(crate) struct Job<'a, M: EventModel> {
 
 impl<'a, M: EventModel> Model for Job<'a, M> {
     ghost use Rattle.std.specs.Option.{option_map};
-    ghost use Rattle.vt_station.specs.Told.{station_model, station_config, station_table};
+    ghost use Rattle.vt_places.specs.Told.{station_model, station_config, station_table};
     ghost use Rattle.vt_station.specs.Crew.{AtJob, IsJob};
 
     ghost Value = { AtJob M M.Payload };

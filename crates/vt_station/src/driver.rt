@@ -3,13 +3,12 @@
 ghost use Rattle.std.specs.Prelude.{◌≡◌, ◌<◌, ◌≤◌, ◌⊎◌, suc, IsTrue, IsFalse, IfErr, IfSome};
 ghost use Rattle.vt_model.specs.Simulation.{simulation_of};
 ghost use Rattle.vt_steps.specs.Finals.{worker_finals};
-ghost use Rattle.vt_station.specs.Told.{place_table, place_view};
+ghost use Rattle.vt_places.specs.Told.{place_table, place_view};
 ghost use Rattle.vt_station.specs.AtWork.{IsAtSamePlace, IsAtSameStation};
 ghost use Rattle.vt_station.specs.Turns.{IsLasting, IsPassedOver, HasEnded};
 
 use crate::bell::Bells;
 use crate::pace::Pace;
-use crate::place::Place;
 use crate::watch::{Progress, Watch};
 use crate::worker::Worker;
 use std::alloc::Global;
@@ -19,6 +18,7 @@ use std::thread::yield_now;
 use vt_board::Report;
 use vt_key::{Fault, When};
 use vt_model::{Model as EventModel, Out};
+use vt_places::Place;
 
 /// How often in a row a worker tries again at once after it found a cell claimed by another place. Then it yields its
 /// processor.

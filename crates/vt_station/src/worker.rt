@@ -15,19 +15,18 @@ ghost use Rattle.vt_board.specs.Calls.{reply_of};
 ghost use Rattle.vt_kernel.specs.Held.{StandsFor};
 ghost use Rattle.vt_kernel.specs.Local.{local_step};
 ghost use Rattle.vt_kernel.specs.Guards.{IsDone, IsExecuteRefusal, IsAcceptRefusal, SettlesTo};
-ghost use Rattle.vt_station.specs.Told.{station_model, station_config, station_table, place_table, place_view};
-ghost use Rattle.vt_station.specs.Making.{IsNew};
-ghost use Rattle.vt_station.specs.Calls.{Visited, Closes, Unvisited, Stays, ShowsFloor, IsPostRefusal, IsFetchRefusal, IsCutRefusal, IsReportRefusal, IsCommitRefusal, IsCloseRefusal, IsRecordsRefusal, IsFloorLeft, AreRecordsShown, IsRefusedOnceClosed};
+ghost use Rattle.vt_places.specs.Told.{station_model, station_config, station_table, place_table, place_view};
+ghost use Rattle.vt_places.specs.Making.{IsNew};
+ghost use Rattle.vt_places.specs.Calls.{Visited, Closes, Unvisited, Stays, ShowsFloor, IsPostRefusal, IsFetchRefusal, IsCutRefusal, IsReportRefusal, IsCommitRefusal, IsCloseRefusal, IsRecordsRefusal, IsFloorLeft, AreRecordsShown, IsRefusedOnceClosed};
 ghost use Rattle.vt_station.specs.AtWork.{IsAtSamePlace, IsAtSameStation};
 
-use crate::place::Place;
-use crate::station::Station;
 use std::alloc::Global;
 use std::marker::Model;
 use vt_board::Report;
 use vt_kernel::Kernel;
 use vt_key::{Fault, Stamp, When};
 use vt_model::{Config, Model as EventModel, Out, Record};
+use vt_places::{Place, Station};
 
 /// A worker: a kernel, and the place at a station by which it acts there.
 ///
@@ -43,7 +42,7 @@ pub struct Worker<'a, M: EventModel> {
 }
 
 impl<'a, M: EventModel> Model for Worker<'a, M> {
-    ghost use Rattle.vt_station.specs.Told.{station_model, station_config, station_table, place_table, place_view};
+    ghost use Rattle.vt_places.specs.Told.{station_model, station_config, station_table, place_table, place_view};
     ghost use Rattle.vt_station.specs.AtWork.{AtWork, IsAtWork};
 
     ghost Value = { AtWork M M.State M.Payload M.Kept };
@@ -118,7 +117,7 @@ impl<'a, M: EventModel> Worker<'a, M> {
     pub fn number(&self) -> u32
         ensures { result ≡ self.now.kernel.worker }
     {
-        self.place.worker
+        self.place.worker()
     }
 
     /// The config of the run.

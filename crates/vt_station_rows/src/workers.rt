@@ -3,8 +3,8 @@
 ghost use Rattle.std.specs.Prelude.{◌≡◌, IfOk, IfErr, length};
 ghost use Rattle.vt_key.specs.declared.fault.Fault.TheVariants.{Memory};
 ghost use Rattle.vt_model.specs.Simulation.{simulation_of};
-ghost use Rattle.vt_station.specs.Told.{station_model, station_config, station_table};
-ghost use Rattle.vt_station.specs.Making.{AreNew};
+ghost use Rattle.vt_places.specs.Told.{station_model, station_config, station_table};
+ghost use Rattle.vt_places.specs.Making.{AreNew};
 
 use std::alloc::Global;
 use vt_key::Fault;

@@ -1,6 +1,6 @@
 use Rattle.std.proofs.Common.{◌≡◌, length, ◌+◌}
 use Rattle.vt_model.specs.Simulation.{simulation_of}
-use Rattle.vt_station.specs.Making.{AreNew}
+use Rattle.vt_places.specs.Making.{AreNew}
 use Rattle.vt_station.specs.Crew.{AllAt, AreInOrder}
 use Rattle.vt_station.proofs.crew.jobs_at.Given as goal
 

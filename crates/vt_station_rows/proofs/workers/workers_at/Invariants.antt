@@ -1,7 +1,7 @@
 use Rattle.std.proofs.Common.{◌≡◌, length, ◌+◌}
 use Rattle.vt_model.specs.Simulation.{simulation_of}
-use Rattle.vt_station.specs.Told.{station_table}
-use Rattle.vt_station.specs.Making.{AreNew}
+use Rattle.vt_places.specs.Told.{station_table}
+use Rattle.vt_places.specs.Making.{AreNew}
 use Rattle.vt_station_rows.proofs.workers.workers_at.Given as goal
 
 abbrev pub invariant-loop-w : goal.invariant-loop-w

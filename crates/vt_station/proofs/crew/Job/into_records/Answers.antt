@@ -5,7 +5,7 @@ use Rattle.vt_model.specs.declared.settings.Config.{Config}
 use Rattle.vt_model.specs.Simulation.{simulation_of}
 use Rattle.vt_model.specs.Sequential.{seq_records}
 use Rattle.vt_model.specs.Settings.{end_of}
-use Rattle.vt_station.specs.declared.place.Place.{Place}
+use Rattle.vt_places.specs.declared.place.Place.{Place}
 use Rattle.vt_station.specs.declared.driver.Outcome.TheVariants.{Closed}
 use Rattle.vt_station.specs.Crew.{AtJob, IsLeft}
 use Rattle.vt_station.proofs.CrewLemmas.{closed-left, records-left}

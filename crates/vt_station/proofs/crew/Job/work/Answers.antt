@@ -2,8 +2,8 @@ use Rattle.std.proofs.Common.{◌≡◌, refl, sym, ◌∙◌, subst, ap, inl, O
 use Rattle.vt_model.specs.Simulation.{simulation_of}
 use Rattle.vt_steps.specs.Finals.{worker_finals}
 use Rattle.vt_station.specs.declared.driver.Outcome.{Outcome}
-use Rattle.vt_station.specs.declared.place.Place.{Place}
-use Rattle.vt_station.specs.declared.view.View.{View}
+use Rattle.vt_places.specs.declared.place.Place.{Place}
+use Rattle.vt_places.specs.declared.view.View.{View}
 use Rattle.vt_station.specs.Crew.{AtJob, IsLeft}
 use Rattle.vt_station.specs.Turns.{HasEnded}
 use Rattle.vt_station.proofs.FinalLemmas.{finals-told}

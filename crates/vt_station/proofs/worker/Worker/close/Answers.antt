@@ -1,6 +1,6 @@
 use Rattle.vt_model.specs.Simulation.{simulation_of}
 use Rattle.vt_model.specs.Settings.{end_of}
-use Rattle.vt_station.proofs.ReachLemmas.{reaches-closed}
+use Rattle.vt_places.proofs.ReachLemmas.{reaches-closed}
 use Rattle.vt_station.proofs.WorkLemmas.{stays-at-work}
 use Rattle.vt_station.proofs.worker.Worker.close.Goals as goal
 

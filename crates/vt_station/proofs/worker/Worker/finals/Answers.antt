@@ -6,9 +6,9 @@ use Rattle.vt_model.specs.Settings.{end_of}
 use Rattle.vt_model.specs.Simulation.{simulation_of}
 use Rattle.vt_model.proofs.LawLemmas.{lawful_of}
 use Rattle.vt_steps.specs.Finals.{worker_finals}
-use Rattle.vt_station.specs.declared.view.View.{View}
+use Rattle.vt_places.specs.declared.view.View.{View}
 use Rattle.vt_station.specs.AtWork.{AtWork}
-use Rattle.vt_station.specs.Calls.{IsShown, Reaches}
+use Rattle.vt_places.specs.Calls.{IsShown, Reaches}
 use Rattle.vt_station.proofs.FinalLemmas.{finals-right}
 use Rattle.vt_station.proofs.WorkLemmas.{stays-at-work}
 use Rattle.vt_station.proofs.worker.Worker.finals.Goals as goal

@@ -1,7 +1,7 @@
 use Rattle.std.proofs.Common.{sym, subst}
 use Rattle.vt_model.specs.declared.settings.Config.{Config}
-use Rattle.vt_station.specs.Calls.{Reaches}
-use Rattle.vt_station.proofs.ReachLemmas.{reaches-opening}
+use Rattle.vt_places.specs.Calls.{Reaches}
+use Rattle.vt_places.proofs.ReachLemmas.{reaches-opening}
 use Rattle.vt_station.proofs.worker.Worker.new.Goals as goal
 
 pub invariant_of-result : goal.invariant_of-result

@@ -1,6 +1,6 @@
 use Rattle.vt_model.specs.Simulation.{simulation_of}
-use Rattle.vt_station.specs.Calls.{AreRecordsShown}
-use Rattle.vt_station.proofs.ReachLemmas.{reaches-shown}
+use Rattle.vt_places.specs.Calls.{AreRecordsShown}
+use Rattle.vt_places.proofs.ReachLemmas.{reaches-shown}
 use Rattle.vt_station.proofs.WorkLemmas.{stays-at-work}
 use Rattle.vt_station.proofs.worker.Worker.records.Goals as goal
 

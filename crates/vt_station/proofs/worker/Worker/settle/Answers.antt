@@ -1,5 +1,5 @@
 use Rattle.std.proofs.Common.{refl}
-use Rattle.vt_station.proofs.ReachLemmas.{reaches-settled}
+use Rattle.vt_places.proofs.ReachLemmas.{reaches-settled}
 use Rattle.vt_station.proofs.WorkLemmas.{stays-at-work}
 use Rattle.vt_station.proofs.worker.Worker.settle.Goals as goal
 

@@ -1,0 +1,190 @@
+-- The release after each call, in the words of its contract.
+use Rattle.std.proofs.Common.{◌≡◌, ◌≢◌, ◌⊎◌, inl, inr, ℕ, ◌%◌, ◌<◌, arith, cond, List, [], ◌∷◌, ◌++◌, refl, sym, ◌∙◌, ap, subst, le_refl, nat_eq, Option, Some, None, Ok}
+use Rattle.std.proofs.lemmas.List.{append-nil}
+use Rattle.std.proofs.lemmas.Bool.Decides.{eqb_tells}
+use Rattle.atomic_table.specs.Table.{Allows}
+use Rattle.vt_key.specs.Times.{Time, TimeAtMost}
+use Rattle.vt_model.specs.Handler.{Handlers}
+use Rattle.vt_model.specs.Histories.{IsLawful}
+use Rattle.vt_model.specs.declared.settings.Config.{Config}
+use Rattle.vt_model.specs.Simulation.{Simulation, simulation_of}
+use Rattle.vt_model.specs.Settings.{end_of}
+use Rattle.vt_steps.specs.declared.step.Step.{Step}
+use Rattle.vt_steps.specs.declared.step.Step.TheVariants.{Execute, Undo, Cancel, Home, Send, Fetch, Accept, Cut, Report, Commit, Close}
+use Rattle.vt_steps.specs.declared.step.Reply.{Reply}
+use Rattle.vt_steps.specs.declared.step.Reply.TheVariants.{Done}
+use Rattle.vt_steps.specs.World.{Part}
+use Rattle.vt_steps.specs.PartSteps.{act_locally, home}
+use Rattle.vt_steps.specs.Cells.{book_cell, Cell, in_inbox, worker_of, cell_of, acted_locally, act}
+use Rattle.vt_steps.specs.Laws.{IsAny}
+use Rattle.vt_steps.specs.Marked.{Made, marked, made_done, LeadsLocally, LeadLocally, Leads}
+use Rattle.vt_steps.proofs.Changes.{chain_has}
+use Rattle.vt_steps.proofs.LocalLeads.{leads, leads-nowhere}
+use Rattle.vt_kernel.specs.Held.{HeldWorker}
+use Rattle.vt_kernel.specs.Local.{local_step, local_steps}
+use Rattle.vt_places.specs.declared.view.View.{View}
+use Rattle.vt_places.specs.Hands.{empty_hand}
+use Rattle.vt_places.specs.Slots.{cell_count, word_at, empty_word, claimed_word, home_word, cell_at, held_in}
+use Rattle.vt_places.specs.Kept.{Sat, HasGrown, Kept, Rests}
+use Rattle.vt_cells.specs.Calls.{Acts}
+use Rattle.vt_places.specs.Calls.{seen_or, Unvisited, Closes, Known, Reaches, Visited, Holding, ShowsFloor, MaySee}
+use Rattle.vt_places.proofs.Growth.{grown-not}
+use Rattle.vt_places.proofs.Keeps.{releases, Looked, looks}
+
+-- ---- local steps of a kernel as local steps of a worker
+
+module _ {S P : Type 0} (sim : Simulation S P) (w : ℕ) where
+  pub if-own : {X : Type 0} (v : ℕ) (o : Option X) (x : X) → cond (nat_eq v w) o None ≡ Some x → (v ≡ w) × (o ≡ Some x)
+  if-own v o x e =
+      elim (eqb_tells v w) [
+        | inl t ↦ (t.1, sym (ap (λ b. cond b o None) t.0) ∙ e)
+        | inr t ↦ absurd (let h : None ≡ Some x = sym (ap (λ b. cond b o None) t.0) ∙ e in cc)
+      ]
+
+  step-leads : (step : Step) (part new : Part P) → local_step sim w step part ≡ Some new → LeadsLocally sim w step part new
+  unfolding act
+  step-leads (Execute p) part new e =
+      let h = if-own (p % sim.workers) (act_locally sim (Execute p) part) new e in
+      record { own = ap (λ n. Some n) h.0; local = refl; done = λ cell. ap (acted_locally part cell) h.1 }
+  step-leads (Undo p) part new e =
+      let h = if-own (p % sim.workers) (act_locally sim (Undo p) part) new e in
+      record { own = ap (λ n. Some n) h.0; local = refl; done = λ cell. ap (acted_locally part cell) h.1 }
+  step-leads (Cancel p stamp) part new e =
+      let h = if-own (p % sim.workers) (act_locally sim (Cancel p stamp) part) new e in
+      record { own = ap (λ n. Some n) h.0; local = refl; done = λ cell. ap (acted_locally part cell) h.1 }
+  step-leads (Home v) part new e =
+      let h = if-own v (act_locally sim (Home v) part) new e in
+      record { own = ap (λ n. Some n) h.0; local = refl; done = λ cell. ap (acted_locally part cell) h.1 }
+  step-leads (Accept v i) part new e =
+      let h = if-own v (act_locally sim (Accept v i) part) new e in
+      record { own = ap (λ n. Some n) h.0; local = refl; done = λ cell. ap (acted_locally part cell) h.1 }
+  step-leads (Send v u) part new e = absurd (let h : None ≡ Some new = (if-own v None new e).1 in cc)
+  step-leads (Fetch v) part new e = absurd (let h : None ≡ Some new = (if-own v None new e).1 in cc)
+  step-leads (Cut v) part new e = absurd (let h : None ≡ Some new = (if-own v None new e).1 in cc)
+  step-leads (Report v) part new e = absurd (let h : None ≡ Some new = (if-own v None new e).1 in cc)
+  step-leads (Commit v) part new e = absurd (let h : None ≡ Some new = (if-own v None new e).1 in cc)
+  step-leads Close part new e = absurd (let h : None ≡ Some new = e in cc)
+
+  pub steps-lead : (steps : List Step) (part new : Part P) → local_steps sim w steps part ≡ Some new → LeadLocally sim w steps part new
+  steps-lead [] part new e = let h : Some part ≡ Some new = e in let same : part ≡ new = cc in same
+  steps-lead (step ∷ steps) part new e =
+      let h = chain_has (local_steps sim w steps) (local_step sim w step part) new e in
+      (h.0, step-leads step part h.0 h.1, steps-lead steps h.0 new h.2)
+
+-- ---- releases
+
+-- what the words say are three things
+pub home-not_claimed : home_word ≢ claimed_word
+home-not_claimed e = absurd (omega arith)
+
+pub empty-not_claimed : empty_word ≢ claimed_word
+empty-not_claimed e = absurd (omega arith)
+
+pub home-not_empty : {X : Type 0} → home_word ≡ empty_word → X
+home-not_empty e = absurd (omega arith)
+
+pub may-see : {P : Type 0} (end t : Time) (seen : Option Time) (cell : Cell P) → MaySee end seen cell → TimeAtMost (seen_or t seen) t ⊎ ShowsFloor end (seen_or t seen) cell
+may-see end t None cell h = inl (le_refl t)
+may-see end t (Some now) cell h = inr h
+
+module _ {S P K : Type 0} (handlers : Handlers S P K) (config : Config) (lawful : IsLawful (simulation_of handlers config)) where
+  -- without a step, and with the cell as it was
+  pub leaves-unvisited : (slots id k : ℕ) (m : Sat P) (seen : Option Time) (found : Cell P) → k < cell_count config.workers → Holding config m k found found → MaySee (end_of config) seen found
+      → Allows (Kept (simulation_of handlers config) config) slots id m (word_at k) (λ _. home_word) (λ _. (λ (n : ℕ) (after : Sat P). (after.1 ≡ []) × Unvisited m.0 (seen_or m.0.seen seen) after.0) home_word)
+  leaves-unvisited slots id k m seen found near h sees =
+      let sim = simulation_of handlers config in
+      let same : Leads sim m.0.worker (cell_at sim.workers k) m.0.part found [] m.0.part (held_in h.slot) [] =
+      subst (λ (c : Cell P). Leads sim m.0.worker (cell_at sim.workers k) m.0.part found [] m.0.part c []) (sym h.now_is) (leads-nowhere sim m.0.worker (cell_at sim.workers k) m.0.part found) in
+      releases sim config lawful slots id k home_word m found h.slot [] m.0.part [] (λ _. m.0.log) (seen_or m.0.seen seen) (λ (n : ℕ) (after : Sat P). (after.1 ≡ []) × Unvisited m.0 (seen_or m.0.seen seen) after.0) near home-not_claimed (λ e _. home-not_empty e) h.carried h.hand h.right same
+      (λ log g. subst (HasGrown m.0.worker m.0.log) (sym (append-nil log)) g)
+      (subst (λ (c : Cell P). TimeAtMost (seen_or m.0.seen seen) m.0.seen ⊎ ShowsFloor sim.end (seen_or m.0.seen seen) c) (sym h.now_is) (may-see (end_of config) m.0.seen seen found sees))
+      (λ n known. (
+        refl,
+        record {
+          steps = record { same = record { worker = refl; made = refl; waiting = refl }; part = refl; mine = append-nil m.0.mine; log = refl };
+          floor = refl;
+          rests = refl;
+        },
+      ))
+
+  -- what local steps and then one step at the cell leave of the view, where the cell had this in it
+  visited-at : (k : ℕ) (v : View P) (found now : Cell P) (before left : HeldWorker S P K) (step : Step) (reply : Reply) → IsAny (cell_of step) (cell_at config.workers k)
+      → (does : Acts handlers config step reply before found left now) (way : Reaches handlers config v before) (known : Known (simulation_of handlers config) v k found)
+      → Visited handlers config v before step reply left v.seen (record v {
+        part = (does.acts way.part way.stands).0;
+        mine = v.mine ++ (made_done way.steps ++ record { step = step; reply = reply } ∷ []);
+        log = known.log ++ marked v.worker (way.steps ++ step ∷ []);
+        hand = empty_hand;
+      })
+  visited-at k v found now before left step reply at does way known =
+      let a = does.acts way.part way.stands in
+      record {
+        visits = record {
+          steps = way.steps;
+          part = way.part;
+          led = way.led;
+          stood = way.stands;
+          mine = refl;
+          at = record { cell = k; about = at; found = found; now = now; known = known; gives = a.1; log = refl };
+          does = does;
+          stands = a.2;
+        };
+        same = record { worker = refl; made = refl; waiting = refl };
+        floor = refl;
+        rests = refl;
+      }
+
+  -- after local steps and one step at the cell
+  pub leaves-visited : (slots id k x : ℕ) (m : Sat P) (found now : Cell P) (before left : HeldWorker S P K) (step : Step) (reply : Reply) → k < cell_count config.workers
+      → x ≢ claimed_word → (x ≡ empty_word → now ≡ in_inbox [])
+      → IsAny (worker_of (simulation_of handlers config) step) m.0.worker → IsAny (cell_of step) (cell_at config.workers k)
+      → Holding config m k found now → Acts handlers config step reply before found left now → Reaches handlers config m.0 before
+      → Allows (Kept (simulation_of handlers config) config) slots id m (word_at k) (λ _. x) (λ _. (λ (n : ℕ) (after : Sat P). (after.1 ≡ []) × Visited handlers config m.0 before step reply left m.0.seen after.0) x)
+  leaves-visited slots id k x m found now before left step reply near home empty whose at h does way =
+      let sim = simulation_of handlers config in
+      let a = does.acts way.part way.stands in
+      let goes : Leads sim m.0.worker (cell_at sim.workers k) m.0.part found (way.steps ++ step ∷ []) a.0 now (made_done way.steps ++ record { step = step; reply = reply } ∷ []) =
+      leads sim m.0.worker (cell_at sim.workers k) way.steps step m.0.part way.part a.0 found now reply (steps-lead sim m.0.worker way.steps m.0.part way.part way.led) whose at a.1 in
+      releases sim config lawful slots id k x m found h.slot (way.steps ++ step ∷ []) a.0 (made_done way.steps ++ record { step = step; reply = reply } ∷ []) (λ log. log ++ marked m.0.worker (way.steps ++ step ∷ [])) m.0.seen
+      (λ (n : ℕ) (after : Sat P). (after.1 ≡ []) × Visited handlers config m.0 before step reply left m.0.seen after.0) near home (λ e _. h.now_is ∙ empty e) h.carried h.hand h.right
+      (subst (λ (c : Cell P). Leads sim m.0.worker (cell_at sim.workers k) m.0.part found (way.steps ++ step ∷ []) a.0 c (made_done way.steps ++ record { step = step; reply = reply } ∷ [])) (sym h.now_is) goes)
+      (λ log _. grown-not m.0.worker (log ++ marked m.0.worker (way.steps ++ step ∷ []))) (inl (le_refl m.0.seen))
+      (λ n known. (refl, visited-at k m.0 found now before left step reply at does way known))
+
+  -- at a load that finds an inbox empty, after local steps and one step that finds it so and leaves it so
+  pub leaves-looked : (slots id k : ℕ) (m : Sat P) (before left : HeldWorker S P K) (step : Step) (reply : Reply) → k < config.workers → Rests m
+      → IsAny (worker_of (simulation_of handlers config) step) m.0.worker → IsAny (cell_of step) (cell_at config.workers k)
+      → Acts handlers config step reply before (in_inbox []) left (in_inbox []) → Reaches handlers config m.0 before
+      → Allows (Kept (simulation_of handlers config) config) slots id m (word_at k) (λ n. n) (Looked m (λ after. (after.1 ≡ []) × Visited handlers config m.0 before step reply left m.0.seen after.0))
+  leaves-looked slots id k m before left step reply near rests whose at does way =
+      let sim = simulation_of handlers config in
+      let a = does.acts way.part way.stands in
+      looks sim config lawful slots id k m (way.steps ++ step ∷ []) a.0 (made_done way.steps ++ record { step = step; reply = reply } ∷ [])
+      (λ after. (after.1 ≡ []) × Visited handlers config m.0 before step reply left m.0.seen after.0) near rests
+      (leads sim m.0.worker (cell_at sim.workers k) way.steps step m.0.part way.part a.0 (in_inbox []) (in_inbox []) reply (steps-lead sim m.0.worker way.steps m.0.part way.part way.led) whose at a.1)
+      (λ known. (refl, visited-at k m.0 (in_inbox []) (in_inbox []) before left step reply at does way known))
+
+  -- after a close
+  pub leaves-closed : (slots id k : ℕ) (m : Sat P) (seen : Time) (found now : Cell P) → k < cell_count config.workers → cell_at config.workers k ≡ book_cell → Holding config m k found now
+      → ((part : Part P) → act (simulation_of handlers config) Close part found ≡ record { part = part; cell = now; answer = Ok Done }) → ShowsFloor (end_of config) seen now
+      → Allows (Kept (simulation_of handlers config) config) slots id m (word_at k) (λ _. home_word) (λ _. (λ (n : ℕ) (after : Sat P). (after.1 ≡ []) × Closes (simulation_of handlers config) m.0 seen after.0) home_word)
+  leaves-closed slots id k m seen found now near at h does sees =
+      let sim = simulation_of handlers config in
+      let own : List Made = record { step = Close; reply = Done } ∷ [] in
+      let goes : Leads sim m.0.worker (cell_at sim.workers k) m.0.part found (Close ∷ []) m.0.part now own =
+      leads sim m.0.worker (cell_at sim.workers k) [] Close m.0.part m.0.part m.0.part found now Done refl tt (sym at) (does m.0.part) in
+      releases sim config lawful slots id k home_word m found h.slot (Close ∷ []) m.0.part own (λ log. log ++ marked m.0.worker (Close ∷ [])) seen (λ (n : ℕ) (after : Sat P). (after.1 ≡ []) × Closes sim m.0 seen after.0) near home-not_claimed (λ e _. home-not_empty e) h.carried h.hand h.right
+      (subst (λ (c : Cell P). Leads sim m.0.worker (cell_at sim.workers k) m.0.part found (Close ∷ []) m.0.part c own) (sym h.now_is) goes)
+      (λ log _. grown-not m.0.worker (log ++ marked m.0.worker (Close ∷ [])))
+      (inr (subst (λ (c : Cell P). ShowsFloor sim.end seen c) (sym h.now_is) sees))
+      (λ n known. (
+        refl,
+        record {
+          same = record { worker = refl; made = refl; waiting = refl };
+          part = refl;
+          mine = refl;
+          at = record { cell = k; about = sym at; found = found; now = now; known = known; gives = does m.0.part; log = refl };
+          floor = refl;
+          rests = refl;
+        },
+      ))

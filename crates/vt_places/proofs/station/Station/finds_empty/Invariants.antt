@@ -1,0 +1,10 @@
+use Rattle.std.proofs.Common.{◌≡◌, []}
+use Rattle.vt_places.specs.Calls.{Visited}
+use Rattle.vt_places.proofs.Keeps.{Looked}
+use Rattle.vt_places.proofs.station.Station.finds_empty.Given as goal
+
+abbrev pub ghosts-load : goal.ghosts-load
+ghosts-load g a =
+    let key = a.self.now.table.shared.key in
+    let v = a._told.now in
+    record { after = λ n m. Looked a.seat.now.me (λ after. (after.1 ≡ []) × Visited (g.M.Model.handlers key.model.value) key.config a.seat.now.me.0 v.before.value v.step v.reply v.left.value a.seat.now.me.0.seen after.0) n m }

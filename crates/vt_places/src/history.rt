@@ -1,0 +1,25 @@
+//! The list of all steps, as the places of a station know it.
+
+ghost use Rattle.std.specs.Prelude.{◌≡◌, ℕ, ◌<◌, List, ◌++◌, set};
+ghost use mathlib.Core.Option.{some};
+ghost use lib.ListN.{get_elem?};
+ghost use Rattle.vt_model.specs.declared.settings.Config.{Config};
+ghost use Rattle.vt_model.specs.Simulation.{Simulation};
+ghost use Rattle.vt_steps.specs.declared.step.Step.{Step};
+ghost use Rattle.vt_steps.specs.Marked.{Marked, marked, Each};
+ghost use Rattle.vt_places.specs.declared.view.View.{View};
+ghost use Rattle.vt_places.specs.Kept.{Standing, HasGrown, Kept};
+
+/// There is one list of all steps, and it grows at its end alone. Each place knows the list as its last visit left it, and its
+/// worker has made no step since. These beginnings determine the list: two lists that fit all of them are equal (`told`). So
+/// each state of the table that keeps the rule has one list (`one`). A visit changes one place's view, and puts its steps at
+/// the end of the list: that is the list of the next state (`next`).
+pub fn places_tell_the_list<S, P>()
+    ghost sim: { Simulation S P }
+    ensures told { (workers : ℕ) (log other : List Marked) → Each (λ m. m.worker < workers) log → Each (λ m. m.worker < workers) other →
+        ((q : ℕ) → q < workers → (former : List Marked) × HasGrown q former log × HasGrown q former other) → log ≡ other }
+    ensures one { (config : Config) (s : Standing P) (k l : Kept sim config s) → k.log ≡ l.log }
+    ensures next { (config : Config) (s t : Standing P) (id : ℕ) (v w : View P) (steps : List Step) (k : Kept sim config s) (l : Kept sim config t) →
+        get_elem? s.views id ≡ some v → t.views ≡ set s.views id w → w.worker ≡ v.worker →
+        w.log ≡ k.log ++ marked v.worker steps → l.log ≡ k.log ++ marked v.worker steps }
+{}

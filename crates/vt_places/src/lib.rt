@@ -1,0 +1,19 @@
+//! A Time Warp world that threads may share: inboxes, board and book in the cells of one table, and a place for each worker, by
+//! which it acts on them.
+#![tactic(auto)]
+
+mod calls;
+mod committing;
+mod cutting;
+mod history;
+mod making;
+mod place;
+mod posting;
+mod rule;
+mod slot;
+mod station;
+mod view;
+
+pub use history::places_tell_the_list;
+pub use place::Place;
+pub use station::Station;

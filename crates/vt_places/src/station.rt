@@ -1,0 +1,270 @@
+//! The station and its places.
+
+ghost use Rattle.std.specs.Prelude.{◌≡◌, ◌<◌, ◌≤◌, ◌+◌, [], true, false, Ok};
+ghost use Rattle.atomic_table.specs.Table.{Allows};
+ghost use Rattle.vt_model.specs.Histories.{IsLawful};
+ghost use Rattle.vt_model.specs.Simulation.{simulation_of};
+ghost use Rattle.vt_model.specs.Settings.{end_of};
+ghost use Rattle.vt_steps.specs.declared.step.Step.TheVariants.{Close};
+ghost use Rattle.vt_steps.specs.declared.step.Reply.TheVariants.{Done};
+ghost use Rattle.vt_steps.specs.World.{Part};
+ghost use Rattle.vt_steps.specs.Cells.{Cell, in_inbox, on_board, in_book, worker_of, cell_of, book_cell, act};
+ghost use Rattle.vt_steps.specs.Laws.{IsAny};
+ghost use Rattle.vt_key.specs.declared.limits.TheConstants.{MAX_WORKERS};
+ghost use Rattle.vt_places.specs.Slots.{cell_count, word_at, claimed_word, cell_at};
+ghost use Rattle.vt_places.specs.Kept.{Kept, Rests};
+ghost use Rattle.vt_places.specs.Commits.{CommitsTo, Commits};
+ghost use Rattle.vt_cells.specs.Calls.{Acts};
+ghost use Rattle.vt_places.specs.Calls.{IsShown, Took, TookThere, Holding, MaySee, Reaches, Visited, Unvisited, Closes, ShowsFloor, seen_or};
+
+use crate::rule::{About, Aim, Law, Tell};
+use crate::slot::Slot;
+use crate::view::View;
+use atomic_table::{Shared, Table};
+use std::alloc::Global;
+use std::marker::Brand;
+use std::snapshot::Snapshot;
+use vt_kernel::Kernel;
+use vt_key::When;
+use vt_model::Model as EventModel;
+use vt_steps::{Reply, Step};
+
+/// What the threads of a station share.
+pub(crate) type Shelf<M> = Shared<
+    Slot<<M as EventModel>::Payload>,
+    View<<M as EventModel>::Payload>,
+    About<M>,
+    Law<M>,
+>;
+
+/// The seat of a place.
+pub(crate) type Seat<M> = atomic_table::Seat<
+    Slot<<M as EventModel>::Payload>,
+    View<<M as EventModel>::Payload>,
+>;
+
+/// A Time Warp world that threads share: an inbox for each worker, the board and the book, each in a cell of one table.
+#[derive(Drop)]
+pub struct Station<M: EventModel> {
+    pub(crate) table: Table<Slot<M::Payload>, View<M::Payload>, About<M>, Law<M>, Global>,
+    pub(crate) workers: usize,
+    ghost words: { table.shared.table_id.words ≡ word_at (cell_count workers) },
+    ghost slots: { table.shared.table_id.slots ≡ cell_count workers },
+    ghost counted: { table.shared.key.config.workers ≡ workers },
+}
+
+/// A step with its reply, and the kernel before the call and after it.
+#[derive(Drop)]
+pub(crate) struct Visit<M: EventModel> {
+    pub(crate) step: Step,
+    pub(crate) reply: Reply,
+    pub(crate) before: Snapshot<Kernel<M>>,
+    pub(crate) left: Snapshot<Kernel<M>>,
+}
+
+/// A commit of a worker, with the kernel before the call, and the floor of the book after the commit.
+#[derive(Drop)]
+pub(crate) struct Lent<M: EventModel> {
+    pub(crate) worker: u32,
+    pub(crate) kernel: Snapshot<Kernel<M>>,
+    pub(crate) seen: When,
+}
+
+/// The distance between the words of two neighbouring cells: two cache lines, since processors fetch lines in pairs.
+const STRIDE: usize = 16;
+
+/// The word of an inbox that is empty and that nobody has claimed.
+const EMPTY: u64 = 0;
+
+/// The word of a cell that a place has claimed.
+const CLAIMED: u64 = 1;
+
+/// The word of a cell that nobody has claimed.
+const HOME: u64 = 2;
+
+/// The index of the word of cell `cells`; also the number of words that `cells` cells take.
+pub(crate) fn words_of(cells: usize) -> usize
+    requires few { cells ≤ cell_count MAX_WORKERS }
+    ensures { result ≡ word_at cells }
+{
+    STRIDE * cells
+}
+
+impl<M: EventModel> Station<M> {
+    /// The index of the word of a cell.
+    fn word_of(&self, cell: usize) -> usize
+        requires near { cell < cell_count self.now.workers }
+        ensures word { result ≡ word_at cell }
+        ensures within { result < self.now.table.shared.table_id.words }
+        ensures near { let config = self.now.table.shared.key.config in cell < cell_count config.workers }
+    {
+        words_of(cell)
+    }
+
+    /// Puts the word that says that a cell is claimed in the place of the cell's word, and returns what stood there. `_told`
+    /// only fixes the type of the aim.
+    fn swap<J: Aim<M::Payload>, T>(&self, seat: &mut Seat<M>, cell: usize, _told: &T) -> u64
+        requires table { seat.old.table_id ≡ self.now.table.shared.table_id }
+        requires near { cell < cell_count self.now.workers }
+        requires allowed { let shelf = self.now.table.shared in cell < cell_count shelf.key.config.workers → Allows (Kept (simulation_of (M.handlers shelf.key.model.value) shelf.key.config) shelf.key.config) shelf.table_id.slots seat.old.id seat.old.me (word_at cell) (λ _. claimed_word) J.after }
+        ensures told { (seat.new.table_id ≡ seat.old.table_id) × (seat.new.id ≡ seat.old.id) × J.after result seat.new.me }
+    {
+        self.table
+            .shared
+            .swap::<Tell<J>>(seat, self.word_of(cell), CLAIMED)
+    }
+
+    /// Stores a word. `_told` only fixes the type of the aim.
+    fn store<J: Aim<M::Payload>, T>(&self, seat: &mut Seat<M>, cell: usize, word: u64, _told: &T)
+        requires table { seat.old.table_id ≡ self.now.table.shared.table_id }
+        requires near { cell < cell_count self.now.workers }
+        requires allowed { let shelf = self.now.table.shared in let sim = simulation_of (M.handlers shelf.key.model.value) shelf.key.config in IsLawful sim → cell < cell_count shelf.key.config.workers → Allows (Kept sim shelf.key.config) shelf.table_id.slots seat.old.id seat.old.me (word_at cell) (λ _. word) (λ _. J.after word) }
+        ensures told { (seat.new.table_id ≡ seat.old.table_id) × (seat.new.id ≡ seat.old.id) × J.after word seat.new.me }
+    {
+        self.table
+            .shared
+            .store::<Tell<J>>(seat, self.word_of(cell), word);
+    }
+
+    /// Loads a word. `_told` only fixes the type of the aim.
+    fn load<J: Aim<M::Payload>, T>(&self, seat: &mut Seat<M>, cell: usize, _told: &T) -> u64
+        requires table { seat.old.table_id ≡ self.now.table.shared.table_id }
+        requires near { cell < cell_count self.now.workers }
+        requires allowed { let shelf = self.now.table.shared in let sim = simulation_of (M.handlers shelf.key.model.value) shelf.key.config in IsLawful sim → Allows (Kept sim shelf.key.config) shelf.table_id.slots seat.old.id seat.old.me (word_at cell) (λ n. n) J.after }
+        ensures told { (seat.new.table_id ≡ seat.old.table_id) × (seat.new.id ≡ seat.old.id) × J.after result seat.new.me }
+    {
+        self.table.shared.load::<Tell<J>>(seat, self.word_of(cell))
+    }
+}
+
+impl<M: EventModel> Station<M> {
+    /// Tries once to claim a cell.
+    pub(crate) fn claim(&self, seat: &mut Seat<M>, cell: usize) -> bool
+        requires table { seat.old.table_id ≡ self.now.table.shared.table_id }
+        requires near { cell < cell_count self.now.workers }
+        requires rests { Rests seat.old.me }
+        ensures same { (seat.new.table_id ≡ seat.old.table_id) × (seat.new.id ≡ seat.old.id) }
+        ensures claimed { let key = self.now.table.shared.key in result ≡ true → Took (simulation_of (M.handlers key.model.value) key.config) key.config seat.old.me cell seat.new.me }
+        ensures busy { result ≡ false → (seat.new.me ≡ seat.old.me) × (1 < self.now.workers) }
+    {
+        self.swap::<Brand, ()>(seat, cell, &()) != CLAIMED
+    }
+
+    /// Tries once to claim the board.
+    pub(crate) fn claim_board(&self, seat: &mut Seat<M>) -> bool
+        requires table { seat.old.table_id ≡ self.now.table.shared.table_id }
+        requires rests { Rests seat.old.me }
+        ensures same { (seat.new.table_id ≡ seat.old.table_id) × (seat.new.id ≡ seat.old.id) }
+        ensures claimed { let key = self.now.table.shared.key in result ≡ true → TookThere (simulation_of (M.handlers key.model.value) key.config) key.config (λ world. on_board world.board) seat.old.me self.now.workers seat.new.me }
+        ensures busy { result ≡ false → (seat.new.me ≡ seat.old.me) × (1 < self.now.workers) }
+    {
+        self.claim(seat, self.workers)
+    }
+
+    /// Tries once to claim the book.
+    pub(crate) fn claim_book(&self, seat: &mut Seat<M>) -> bool
+        requires table { seat.old.table_id ≡ self.now.table.shared.table_id }
+        requires rests { Rests seat.old.me }
+        ensures same { (seat.new.table_id ≡ seat.old.table_id) × (seat.new.id ≡ seat.old.id) }
+        ensures claimed { let key = self.now.table.shared.key in result ≡ true → TookThere (simulation_of (M.handlers key.model.value) key.config) key.config (λ world. in_book world.book) seat.old.me (self.now.workers + 1) seat.new.me }
+        ensures busy { result ≡ false → (seat.new.me ≡ seat.old.me) × (1 < self.now.workers) }
+    {
+        self.claim(seat, self.workers + 1)
+    }
+
+    /// Reads one word of the table and changes nothing. The read tells contracts that some list of steps leads to a world in
+    /// which the part of the seat's worker is what its place knows.
+    pub(crate) fn look_at(&self, seat: &mut Seat<M>)
+        requires table { seat.old.table_id ≡ self.now.table.shared.table_id }
+        requires rests { Rests seat.old.me }
+        ensures same { (seat.new.table_id ≡ seat.old.table_id) × (seat.new.id ≡ seat.old.id) × Rests seat.new.me }
+        ensures unchanged { seat.new.me ≡ seat.old.me }
+        ensures shown { let key = self.now.table.shared.key in IsShown (simulation_of (M.handlers key.model.value) key.config) seat.old.me.0 }
+    {
+        let _ = self.load::<Brand, ()>(seat, 0, &());
+    }
+
+    /// Looks at a worker's inbox by one load, and answers whether it is empty. If it is, the worker's steps that find it
+    /// empty are put behind all others in the list of steps.
+    pub(crate) fn finds_empty(&self, seat: &mut Seat<M>, cell: usize, visit: &Visit<M>) -> bool
+        requires table { seat.old.table_id ≡ self.now.table.shared.table_id }
+        requires near { cell < self.now.workers }
+        requires rests { Rests seat.old.me }
+        requires marks { let key = self.now.table.shared.key in IsAny (worker_of (simulation_of (M.handlers key.model.value) key.config) visit.now.step) seat.old.me.0.worker × IsAny (cell_of visit.now.step) (cell_at key.config.workers cell) }
+        requires acts { let key = self.now.table.shared.key in Acts (M.handlers key.model.value) key.config visit.now.step visit.now.reply visit.now.before.value (in_inbox []) visit.now.left.value (in_inbox []) }
+        requires kernel { let key = self.now.table.shared.key in Reaches (M.handlers key.model.value) key.config seat.old.me.0 visit.now.before.value }
+        ensures same { (seat.new.table_id ≡ seat.old.table_id) × (seat.new.id ≡ seat.old.id) × Rests seat.new.me }
+        ensures done { let key = self.now.table.shared.key in result ≡ true → Visited (M.handlers key.model.value) key.config seat.old.me.0 visit.now.before.value visit.now.step visit.now.reply visit.now.left.value seat.old.me.0.seen seat.new.me.0 }
+        ensures not { result ≡ false → seat.new.me ≡ seat.old.me }
+    {
+        self.load::<Brand, Visit<M>>(seat, cell, visit) == EMPTY
+    }
+
+    /// Gives a cell back after a step. The worker's steps are put behind all others in the list of steps.
+    pub(crate) fn release_visit(&self, seat: &mut Seat<M>, cell: usize, visit: &Visit<M>)
+        requires table { seat.old.table_id ≡ self.now.table.shared.table_id }
+        requires near { cell < cell_count self.now.workers }
+        requires marks { let key = self.now.table.shared.key in IsAny (worker_of (simulation_of (M.handlers key.model.value) key.config) visit.now.step) seat.old.me.0.worker × IsAny (cell_of visit.now.step) (cell_at key.config.workers cell) }
+        requires held { let key = self.now.table.shared.key in (found : Cell _) × (now : Cell _) × Holding key.config seat.old.me cell found now
+            × Acts (M.handlers key.model.value) key.config visit.now.step visit.now.reply visit.now.before.value found visit.now.left.value now }
+        requires kernel { let key = self.now.table.shared.key in Reaches (M.handlers key.model.value) key.config seat.old.me.0 visit.now.before.value }
+        ensures same { (seat.new.table_id ≡ seat.old.table_id) × (seat.new.id ≡ seat.old.id) × Rests seat.new.me }
+        ensures done { let key = self.now.table.shared.key in Visited (M.handlers key.model.value) key.config seat.old.me.0 visit.now.before.value visit.now.step visit.now.reply visit.now.left.value seat.old.me.0.seen seat.new.me.0 }
+    {
+        self.store::<Brand, Visit<M>>(seat, cell, HOME, visit);
+    }
+
+    /// Gives an inbox back empty after a step. The worker's steps are put behind all others in the list of steps.
+    pub(crate) fn release_emptied(&self, seat: &mut Seat<M>, cell: usize, visit: &Visit<M>)
+        requires table { seat.old.table_id ≡ self.now.table.shared.table_id }
+        requires near { cell < self.now.workers }
+        requires marks { let key = self.now.table.shared.key in IsAny (worker_of (simulation_of (M.handlers key.model.value) key.config) visit.now.step) seat.old.me.0.worker × IsAny (cell_of visit.now.step) (cell_at key.config.workers cell) }
+        requires held { let key = self.now.table.shared.key in (found : Cell _) × Holding key.config seat.old.me cell found (in_inbox [])
+            × Acts (M.handlers key.model.value) key.config visit.now.step visit.now.reply visit.now.before.value found visit.now.left.value (in_inbox []) }
+        requires kernel { let key = self.now.table.shared.key in Reaches (M.handlers key.model.value) key.config seat.old.me.0 visit.now.before.value }
+        ensures same { (seat.new.table_id ≡ seat.old.table_id) × (seat.new.id ≡ seat.old.id) × Rests seat.new.me }
+        ensures done { let key = self.now.table.shared.key in Visited (M.handlers key.model.value) key.config seat.old.me.0 visit.now.before.value visit.now.step visit.now.reply visit.now.left.value seat.old.me.0.seen seat.new.me.0 }
+    {
+        self.store::<Brand, Visit<M>>(seat, cell, EMPTY, visit);
+    }
+
+    /// Gives a cell back unchanged; a floor of the book may have been shown.
+    pub(crate) fn release_unchanged(&self, seat: &mut Seat<M>, cell: usize, seen: Option<When>)
+        requires table { seat.old.table_id ≡ self.now.table.shared.table_id }
+        requires near { cell < cell_count self.now.workers }
+        requires held { let key = self.now.table.shared.key in (found : Cell _) × Holding key.config seat.old.me cell found found × MaySee (end_of key.config) seen found }
+        ensures same { (seat.new.table_id ≡ seat.old.table_id) × (seat.new.id ≡ seat.old.id) × Rests seat.new.me }
+        ensures stays { Unvisited seat.old.me.0 (seen_or seat.old.me.0.seen seen) seat.new.me.0 }
+    {
+        self.store::<Brand, Option<When>>(seat, cell, HOME, &seen);
+    }
+
+    /// Gives the cell of the book back after a commit. The worker's steps are put behind all others in the list of steps,
+    /// and what was committed leaves its part; its kernel still keeps it.
+    pub(crate) fn release_commit(&self, seat: &mut Seat<M>, cell: usize, lent: &Lent<M>)
+        requires table { seat.old.table_id ≡ self.now.table.shared.table_id }
+        requires near { cell < cell_count self.now.workers }
+        requires book { cell_at self.now.table.shared.key.config.workers cell ≡ book_cell }
+        requires worker { lent.now.worker ≡ seat.old.me.0.worker }
+        requires held { let key = self.now.table.shared.key in (found : Cell _) × (now : Cell _) × Holding key.config seat.old.me cell found now
+            × CommitsTo (M.handlers key.model.value) key.config lent.now.worker lent.now.kernel.value found now × ShowsFloor (end_of key.config) lent.now.seen now }
+        requires kernel { let key = self.now.table.shared.key in Reaches (M.handlers key.model.value) key.config seat.old.me.0 lent.now.kernel.value }
+        ensures same { (seat.new.table_id ≡ seat.old.table_id) × (seat.new.id ≡ seat.old.id) × Rests seat.new.me }
+        ensures done { let key = self.now.table.shared.key in Commits (M.handlers key.model.value) key.config seat.old.me.0 lent.now.worker lent.now.kernel.value lent.now.seen seat.new.me.0 }
+    {
+        self.store::<Brand, Lent<M>>(seat, cell, HOME, lent);
+    }
+
+    /// Gives the cell of the book back closed.
+    pub(crate) fn release_close(&self, seat: &mut Seat<M>, cell: usize, seen: When)
+        requires table { seat.old.table_id ≡ self.now.table.shared.table_id }
+        requires near { cell < cell_count self.now.workers }
+        requires book { cell_at self.now.table.shared.key.config.workers cell ≡ book_cell }
+        requires held { let key = self.now.table.shared.key in (found : Cell _) × (now : Cell _) × Holding key.config seat.old.me cell found now
+            × ((part : Part _) → act (simulation_of (M.handlers key.model.value) key.config) Close part found ≡ record { part = part; cell = now; answer = Ok Done }) × ShowsFloor (end_of key.config) seen now }
+        ensures same { (seat.new.table_id ≡ seat.old.table_id) × (seat.new.id ≡ seat.old.id) × Rests seat.new.me }
+        ensures done { let key = self.now.table.shared.key in Closes (simulation_of (M.handlers key.model.value) key.config) seat.old.me.0 seen seat.new.me.0 }
+    {
+        self.store::<Brand, When>(seat, cell, HOME, &seen);
+    }
+}

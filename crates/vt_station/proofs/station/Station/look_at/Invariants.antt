@@ -1,8 +1,0 @@
-use Rattle.vt_model.specs.Simulation.{simulation_of}
-use Rattle.vt_station.proofs.Keeps.{Read}
-use Rattle.vt_station.proofs.station.Station.look_at.Given as goal
-
-abbrev pub ghosts-load : goal.ghosts-load
-ghosts-load g a =
-    let key = a.self.now.table.shared.key in
-    record { after = λ n m. Read (simulation_of (g.M.Model.handlers key.model.value) key.config) key.config a.seat.now.me m }

@@ -1,6 +1,0 @@
-use Rattle.std.proofs.Common.{◌≡◌, []}
-use Rattle.vt_station.specs.Calls.{Unvisited, seen_or}
-use Rattle.vt_station.proofs.station.Station.release_unchanged.Given as goal
-
-abbrev pub ghosts-store : goal.ghosts-store
-ghosts-store g a = record { after = λ n m. (m.1 ≡ []) × Unvisited a.seat.now.me.0 (seen_or a.seat.now.me.0.seen a._told.now) m.0 }

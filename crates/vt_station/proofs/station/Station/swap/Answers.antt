@@ -1,4 +1,0 @@
-use Rattle.vt_station.proofs.station.Station.swap.Goals as goal
-
-pub swap-requires : goal.swap-requires
-swap-requires g c = (c.requires.table, c.word_of.ensures.within, rw c.word_of.ensures.word (c.requires.allowed c.word_of.ensures.near))
