@@ -1,40 +1,30 @@
 -- Home and Accept: a letter leaves the outbox or the mail that has arrived, and reaches its process.
-use Rattle.std.proofs.Common.{◌≡◌, ℕ, zero, suc, ◌/◌, ◌%◌, inl, inr, Bool, true, false, cond, ◌||◌, nat_eq, List, [], ◌∷◌, map, take, drop, refl, sym, ◌∙◌, ap, subst, Option, Some, None, slice_get, slice_set, if◌then◌else◌}
-use Rattle.std.specs.List.{All, find, remove, list_any}
-use Rattle.vt_key.specs.Order.{rank_same}
-use Rattle.vt_key.specs.declared.letter.Sign.{Sign}
-use Rattle.vt_key.specs.declared.letter.Sign.TheVariants.{Plus, Minus}
-use Rattle.vt_steps.specs.StandsFor.{entry_of}
-use Rattle.vt_lp.specs.declared.entry.PastEvent.{PastEvent}
+use Rattle.std.proofs.Common.{◌≡◌, ℕ, zero, suc, ◌/◌, ◌%◌, inl, inr, Bool, true, false, cond, nat_eq, List, [], ◌∷◌, take, drop, refl, sym, ◌∙◌, ap, subst, Option, Some, None, slice_get, slice_set, if◌then◌else◌}
+use Rattle.std.specs.List.{All, find, remove}
+use Rattle.vt_key.specs.Queues.{without_first}
 use Rattle.std.proofs.lemmas.List.Elements.{All-cons, All-head, All-tail, All-append, All-take, All-drop}
 use Rattle.std.specs.Option.{option_map}
 use Rattle.std.proofs.lemmas.Bool.Decides.{eqb_tells}
-use Rattle.vt_key.specs.declared.order.Rank.{Rank}
 use Rattle.vt_key.specs.declared.letter.Letter.{Letter}
 use Rattle.vt_key.specs.declared.letter.Mail.{Mail}
-use Rattle.vt_list.specs.First.{without_first as list_without_first}
 use Rattle.vt_model.specs.declared.settings.Config.{Config}
 use Rattle.vt_model.specs.Handler.{Handlers}
 use Rattle.vt_model.specs.Simulation.{simulation_of}
 use Rattle.vt_model.specs.Settings.{end_of}
 use Rattle.vt_steps.specs.declared.step.Step.TheVariants as step
-use Rattle.vt_steps.specs.Letters.{without_first, has_rank, Counts}
-use Rattle.vt_steps.specs.World.{Entry, LogicalProcess, Part}
-use Rattle.vt_steps.specs.ProcessSteps.{ProcessEffect, holds, with_letter, accept_process}
+use Rattle.vt_steps.specs.Letters.{Counts}
+use Rattle.vt_steps.specs.World.{LogicalProcess, Part}
+use Rattle.vt_steps.specs.ProcessSteps.{accept_process}
 use Rattle.vt_steps.specs.PartSteps.{at_process, with_effect, is_for, home, home_letter, accept, accept_mail}
 use Rattle.vt_tournament.specs.declared.node.Node.{Node}
-use Rattle.vt_lp.specs.Held.{HeldProcess, remembered, IsWithinRun, StandsFor as ProcessStandsFor}
+use Rattle.vt_lp.specs.Held.{HeldProcess, IsWithinRun, StandsFor as ProcessStandsFor}
 use Rattle.vt_lp.specs.Guards.{holds_letter, IsDone as ProcessIsDone}
+use Rattle.vt_lp.proofs.AcceptLemmas.{accepted, accept-by}
 use Rattle.vt_kernel.specs.Held.{HeldWorker, StandsFor, AreProcesses, IsWorkerInside}
 use Rattle.vt_kernel.specs.Local.{local_step}
 use Rattle.vt_kernel.specs.Guards.{IsDone}
 use Rattle.vt_kernel.proofs.OwnSteps.{own, own-step, found, refused-at}
 use Rattle.vt_kernel.proofs.LocalLemmas.{at-found-done, plain-done}
-
--- the two ways to leave out the first that passes are one
-pub without-same : {X : Type 0} (test : X → Bool) (xs : List X) → list_without_first test xs ≡ without_first test xs
-without-same test [] = refl
-without-same test (x ∷ xs) = ap (λ ys. if test x then xs else x ∷ ys) (without-same test xs)
 
 -- what is found passes the test
 pub find-passes : {X : Type 0} (test : X → Bool) (xs : List X) (x : X) → find test xs ≡ Some x → test x ≡ true
@@ -55,12 +45,12 @@ find-all Q test (y ∷ ys) x h is =
     ] is
 
 -- those that are left have it too
-pub without-all : {X : Type 0} (Q : X → Type 0) (test : X → Bool) (xs : List X) → All Q xs → All Q (list_without_first test xs)
+pub without-all : {X : Type 0} (Q : X → Type 0) (test : X → Bool) (xs : List X) → All Q xs → All Q (without_first test xs)
 without-all Q test [] h = h
 without-all Q test (y ∷ ys) h =
-    elim (test y) as (λ b. All Q (cond b ys (y ∷ list_without_first test ys))) [
+    elim (test y) as (λ b. All Q (cond b ys (y ∷ without_first test ys))) [
       | true ↦ All-tail Q y ys h
-      | false ↦ All-cons Q y (list_without_first test ys) (All-head Q y ys h) (without-all Q test ys (All-tail Q y ys h))
+      | false ↦ All-cons Q y (without_first test ys) (All-head Q y ys h) (without-all Q test ys (All-tail Q y ys h))
     ]
 
 -- a letter for this worker, by the test
@@ -83,13 +73,13 @@ module _ {S P K : Type 0} (handlers : Handlers S P K) (held : HeldWorker S P K) 
   pub home-done : (letter : Letter P) (place : ℕ) (q new : HeldProcess S P K) → find (is_for (simulation_of handlers held.config) held.worker) held.outbox ≡ Some letter
       → place ≡ letter.event.dest / held.config.workers → letter.event.dest % held.config.workers ≡ held.worker → slice_get held.processes place ≡ Some q → new.lp ≡ q.lp → new.config ≡ q.config
       → ((process : LogicalProcess P) → ProcessStandsFor handlers q process → ProcessIsDone handlers new (accept_process letter process) [] [] 0 0)
-      → IsDone handlers (record held { processes = slice_set held.processes place new; outbox = list_without_first (is_for (simulation_of handlers held.config) held.worker) held.outbox })
+      → IsDone handlers (record held { processes = slice_set held.processes place new; outbox = without_first (is_for (simulation_of handlers held.config) held.worker) held.outbox })
       (local_step (simulation_of handlers held.config) held.worker (step.Home held.worker) part)
   home-done letter place q new there is own_letter at same_lp same_config done =
       let sim = simulation_of handlers held.config in
-      let rest = list_without_first (is_for sim held.worker) held.outbox in
+      let rest = without_first (is_for sim held.worker) held.outbox in
       let mid = record part { outbox = without_first (is_for sim held.worker) part.outbox } in
-      let kept : without_first (is_for sim held.worker) part.outbox ≡ rest = ap (without_first (is_for sim held.worker)) h.outbox ∙ sym (without-same (is_for sim held.worker) held.outbox) in
+      let kept : without_first (is_for sim held.worker) part.outbox ≡ rest = ap (without_first (is_for sim held.worker)) h.outbox in
       let less = record held { outbox = rest } in
       let stands : StandsFor handlers less mid = record { processes = h.processes; outbox = kept; arrived = h.arrived; colour = h.colour; sent = h.sent; got = h.got; red_minimum = h.red_minimum; floor = h.floor; serial = h.serial } in
       let f = found handlers less mid letter.event.dest q stands are own_letter (subst (λ k. slice_get held.processes k ≡ Some q) is at) in
@@ -104,9 +94,9 @@ module _ {S P K : Type 0} (handlers : Handlers S P K) (held : HeldWorker S P K) 
       → local_step (simulation_of handlers held.config) held.worker (step.Home held.worker) part ≡ None
   home-refused letter place q there is own_letter at none =
       let sim = simulation_of handlers held.config in
-      let rest = list_without_first (is_for sim held.worker) held.outbox in
+      let rest = without_first (is_for sim held.worker) held.outbox in
       let mid = record part { outbox = without_first (is_for sim held.worker) part.outbox } in
-      let kept : without_first (is_for sim held.worker) part.outbox ≡ rest = ap (without_first (is_for sim held.worker)) h.outbox ∙ sym (without-same (is_for sim held.worker) held.outbox) in
+      let kept : without_first (is_for sim held.worker) part.outbox ≡ rest = ap (without_first (is_for sim held.worker)) h.outbox in
       let less = record held { outbox = rest } in
       let stands : StandsFor handlers less mid = record { processes = h.processes; outbox = kept; arrived = h.arrived; colour = h.colour; sent = h.sent; got = h.got; red_minimum = h.red_minimum; floor = h.floor; serial = h.serial } in
       let f = found handlers less mid letter.event.dest q stands are own_letter (subst (λ k. slice_get held.processes k ≡ Some q) is at) in
@@ -176,37 +166,7 @@ found-in {config = config} {w = w} {outbox = outbox} h letter is = (
 pub one-letter : {X : Type 0} (found : Option X) (a b : X) → found ≡ Some a → found ≡ Some b → a ≡ b
 one-letter found a b x y = (let both : Some a ≡ Some b = sym x ∙ y in cc)
 
--- what a process holds is what the process that it stands for holds
-any-past : {S P K : Type 0} (handlers : Handlers S P K) (p : ℕ) (rank : Rank) (es : List (PastEvent P K)) →
-    list_any (λ (e : Entry P). rank_same e.event.rank rank) (map entry_of (map (remembered handlers p) es)) ≡ list_any (λ (e : PastEvent P K). rank_same e.letter.event.rank rank) es
-any-past handlers p rank [] = refl
-any-past handlers p rank (e ∷ es) = ap (λ b. rank_same e.letter.event.rank rank || b) (any-past handlers p rank es)
-
-held-same : {S P K : Type 0} (handlers : Handlers S P K) (q : HeldProcess S P K) (process : LogicalProcess P) → ProcessStandsFor handlers q process → (sign : Sign) (rank : Rank)
-    → holds process sign rank ≡ holds_letter q.pending q.waiting q.past sign rank
-held-same handlers q process st Plus rank =
-    (λ j. list_any (has_rank rank) (st.pending j) || list_any (λ e. rank_same e.event.rank rank) (st.past j))
-    ∙ ap (λ b. list_any (has_rank rank) q.pending || b) (any-past handlers q.lp rank q.past)
-held-same handlers q process st Minus rank = ap (list_any (has_rank rank)) st.waiting
-
--- a letter that the process holds is not accepted
-pub held-refused : {S P K : Type 0} (handlers : Handlers S P K) (q : HeldProcess S P K) (letter : Letter P) (process : LogicalProcess P) → ProcessStandsFor handlers q process
-    → holds_letter q.pending q.waiting q.past letter.sign letter.event.rank ≡ true → accept_process letter process ≡ None
-unfolding accept_process
-held-refused handlers q letter process st is =
-    ap (λ (b : Bool). if b then None else Some (record { process = with_letter process letter.sign letter; letters = []; serials = 0 }))
-    (held-same handlers q process st letter.sign letter.event.rank ∙ is)
-
--- a letter that the process does not hold is accepted
-held-not : {S P K : Type 0} (handlers : Handlers S P K) (q : HeldProcess S P K) (letter : Letter P) (process : LogicalProcess P) → ProcessStandsFor handlers q process
-    → holds_letter q.pending q.waiting q.past letter.sign letter.event.rank ≡ false → (effect : ProcessEffect P) × (accept_process letter process ≡ Some effect)
-unfolding accept_process
-held-not handlers q letter process st is = (
-  record { process = with_letter process letter.sign letter; letters = []; serials = 0 },
-  ap (λ (b : Bool). if b then None else Some (record { process = with_letter process letter.sign letter; letters = []; serials = 0 })) (held-same handlers q process st letter.sign letter.event.rank ∙ is),
-)
-
--- so Accept of it is lawful
+-- Accept of a letter that its process does not hold is lawful
 pub accept-lawful : {S P K : Type 0} (handlers : Handlers S P K) (held : HeldWorker S P K) (are : AreProcesses held.config held.worker 0 held.processes) (part : Part P) (h : StandsFor handlers held part)
     (i : ℕ) (mail : Mail P) (place : ℕ) (q : HeldProcess S P K) → slice_get held.arrived i ≡ Some mail
     → place ≡ mail.letter.event.dest / held.config.workers → mail.letter.event.dest % held.config.workers ≡ held.worker → slice_get held.processes place ≡ Some q
@@ -217,13 +177,12 @@ accept-lawful handlers held are part h i mail place q there is own_letter at new
     let mid = record part { arrived = remove part.arrived i } in
     let less = record held { arrived = remove held.arrived i } in
     let stands : StandsFor handlers less mid = record { processes = h.processes; outbox = h.outbox; arrived = ap (λ ms. remove ms i) h.arrived; colour = h.colour; sent = h.sent; got = h.got; red_minimum = h.red_minimum; floor = h.floor; serial = h.serial } in
-    let f = found handlers less mid mail.letter.event.dest q stands are own_letter (subst (λ k. slice_get held.processes k ≡ Some q) is at) in
-    let one = held-not handlers q mail.letter f.process f.stands new in (
-      with_effect mid (mail.letter.event.dest / held.config.workers) one.0,
+    let f = found handlers less mid mail.letter.event.dest q stands are own_letter (subst (λ k. slice_get held.processes k ≡ Some q) is at) in (
+      with_effect mid (mail.letter.event.dest / held.config.workers) (accepted handlers f.process mail.letter.sign mail.letter),
       accept-is handlers held are part h i mail there
           ∙ sym (own sim held.worker mail.letter.event.dest (at_process (accept_process mail.letter) (mail.letter.event.dest / held.config.workers) mid) own_letter)
           ∙ own-step sim held.worker mail.letter.event.dest (accept_process mail.letter) mid f.process own_letter f.there
-          ∙ ap (option_map (with_effect mid (mail.letter.event.dest / held.config.workers))) one.1,
+          ∙ ap (option_map (with_effect mid (mail.letter.event.dest / held.config.workers))) (accept-by handlers q f.process mail.letter false new f.stands),
     )
 
 -- what all have, the one at a place has

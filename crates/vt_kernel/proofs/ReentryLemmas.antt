@@ -4,9 +4,10 @@ use Rattle.std.proofs.Math.Nat.{div-add-mod'}
 use Rattle.std.proofs.lemmas.Bool.{ltb-true}
 use Rattle.std.specs.List.{find}
 use Rattle.vt_key.specs.Times.{TimeBefore}
+use Rattle.vt_key.specs.Queues.{without_first}
 use Rattle.vt_key.specs.declared.letter.Letter.{Letter}
 use Rattle.vt_key.specs.declared.letter.Mail.{Mail}
-use Rattle.vt_list.specs.First.{before_first, from_first, without_first}
+use Rattle.vt_list.specs.First.{before_first, from_first}
 use Rattle.vt_list.proofs.Firsts.{TakesOff, taken-first}
 use Rattle.vt_model.specs.declared.settings.Config.{Config}
 use Rattle.vt_model.specs.Settings.{end_of}

@@ -3,4 +3,5 @@ pub mod Keys
 pub mod Letters
 pub mod Order
 pub mod Pairs
+pub mod Queues
 pub mod Times

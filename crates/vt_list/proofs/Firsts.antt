@@ -4,10 +4,10 @@ use Rattle.std.specs.Prelude.{ℕ, zero, suc, ◌+◌, ◌<◌, List, [], ◌∷
 use Rattle.std.specs.Option.{option_map}
 use Rattle.std.proofs.lemmas.List.{length-append, append_assoc}
 use Rattle.vt_key.specs.Order.{rank_before}
+use Rattle.vt_key.specs.Queues.{without_first, insert_ordered}
 use Rattle.vt_key.specs.declared.order.Rank.{Rank}
-use Rattle.vt_list.specs.First.{before_first, from_first, first_fails, without_first}
+use Rattle.vt_list.specs.First.{before_first, from_first, first_fails}
 use Rattle.vt_list.specs.Linked.{advanced}
-use Rattle.vt_list.specs.Ordered.{insert_ordered}
 
 -- what taking the first item off a list tells, if the item that came is `o` seen by f, and the others are `rest`
 abbrev pub TakesOff : {X Y : Type 0} → (Y → X) → List X → Option Y → List X → Type 0

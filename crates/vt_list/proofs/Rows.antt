@@ -1,11 +1,11 @@
 -- Lists in a row: the first one is taken off, and one is put before the others.
 use Rattle.std.proofs.Common.{◌≡◌, ◌≢◌, refl, sym, ap, ◌∙◌, subst, arith}
-use Rattle.std.specs.Prelude.{ℕ, suc, List, [], ◌∷◌, ◌++◌, length, take, drop, map, Option, Some, None, slice_index_or}
+use Rattle.std.specs.Prelude.{suc, List, [], ◌∷◌, ◌++◌, length, take, drop, map, Option, Some, None, slice_index_or}
 use denote.RawPtr.{Ptr}
 use Rattle.vt_list.specs.declared.node.Node.{Node}
 use Rattle.vt_list.specs.Linked.{NodeAt, first_or, with_prev, items, LeadOn}
 use Rattle.vt_list.specs.Lines.{put_before, lines_of, first_length, row_head, StandInRow}
-use Rattle.vt_list.proofs.Links.{none-some, first-append, first-with_prev, on-with_prev, items-with_prev}
+use Rattle.vt_list.proofs.Links.{none-some}
 
 module _ {X : Type 0} where
   -- nodes are the first list and the others

@@ -1,4 +1,4 @@
--- The first item that passes a test: what stands before it, from it on, and without it.
+-- The first item that passes a test: what stands before it, and from it on.
 use Rattle.std.specs.Prelude.{Bool, false, not, List, [], ◌∷◌, if◌then◌else◌}
 
 module _ {X : Type 0} (test : X → Bool) where
@@ -11,11 +11,6 @@ module _ {X : Type 0} (test : X → Bool) where
   abbrev pub from_first : List X → List X
   from_first [] = []
   from_first (x ∷ xs) = if test x then x ∷ xs else from_first xs
-
-  -- the items without the first that passes, or all where none does
-  abbrev pub without_first : List X → List X
-  without_first [] = []
-  without_first (x ∷ xs) = if test x then xs else x ∷ without_first xs
 
   -- whether there is a first item, and it fails
   abbrev pub first_fails : List X → Bool

@@ -2,5 +2,4 @@ pub mod Blocks
 pub mod First
 pub mod Lines
 pub mod Linked
-pub mod Ordered
 pub mod Place

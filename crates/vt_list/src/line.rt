@@ -2,8 +2,7 @@
 
 ghost use Rattle.std.specs.Prelude.{◌≡◌, ◌↔◌, [], ◌∷◌, slice_get, find, MatchOption, IsTrue};
 ghost use Rattle.std.specs.Option.{option_copied};
-ghost use Rattle.vt_list.specs.First.{without_first};
-ghost use Rattle.vt_list.specs.Ordered.{insert_ordered};
+ghost use Rattle.vt_key.specs.Queues.{without_first, insert_ordered};
 
 use crate::iter::Iter;
 use crate::list::RankedAfter;

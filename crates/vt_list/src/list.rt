@@ -3,8 +3,7 @@
 ghost use Rattle.std.specs.Prelude.{◌≡◌, ◌-◌, ◌<◌, ◌%◌, ◌^◌, ◌↔◌, [], ◌∷◌, ◌++◌, length, slice_get, find, remove, reverse, MatchOption, IsTrue};
 ghost use Rattle.std.specs.Option.{option_copied};
 ghost use Rattle.std_heap.specs.declared.Global.{Global as GlobalHandle};
-ghost use Rattle.vt_list.specs.First.{without_first};
-ghost use Rattle.vt_list.specs.Ordered.{insert_ordered};
+ghost use Rattle.vt_key.specs.Queues.{without_first, insert_ordered};
 
 use crate::chain::Chain;
 use crate::cursor::{split_at, split_at_first, take_first, take_last};

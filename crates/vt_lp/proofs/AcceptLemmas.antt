@@ -5,6 +5,7 @@ use Rattle.std.specs.List.{list_any}
 use Rattle.std.proofs.lemmas.List.Elements.{All-nil, All-cons, All-head, All-tail}
 use Rattle.vt_key.specs.Order.{rank_before, rank_same}
 use Rattle.vt_key.specs.Times.{Time, earlier}
+use Rattle.vt_key.specs.Queues.{has_rank, insert_letter, letter_rank}
 use Rattle.vt_key.specs.declared.order.Rank.{Rank}
 use Rattle.vt_key.specs.declared.letter.Letter.{Letter}
 use Rattle.vt_key.specs.declared.letter.Sign.{Sign}
@@ -14,16 +15,16 @@ use Rattle.vt_stream.specs.Words.{Stream}
 use Rattle.vt_model.specs.declared.settings.Config.{Config}
 use Rattle.vt_model.specs.Handler.{Handlers}
 use Rattle.vt_model.specs.Settings.{end_of}
-use Rattle.vt_steps.specs.Letters.{has_rank, insert_ordered, letter_time, least_time}
+use Rattle.vt_steps.specs.Letters.{letter_time, least_time}
 use Rattle.vt_steps.proofs.RankTimes.{not-after-time}
 use Rattle.vt_steps.specs.World.{LogicalProcess}
 use Rattle.vt_steps.specs.StandsFor.{entry_of}
 use Rattle.vt_steps.specs.ProcessSteps.{ProcessEffect, holds, with_letter, accept_process}
-use Rattle.vt_pending.specs.Letters.{letter_rank, holds_rank, insert_letter}
+use Rattle.vt_pending.specs.Letters.{holds_rank}
 use Rattle.vt_lp.specs.declared.entry.PastEvent.{PastEvent}
 use Rattle.vt_lp.specs.Held.{HeldProcess, StandsFor, remembered, IsOwnLetter, IsNotPending, IsProcessInside}
 use Rattle.vt_lp.specs.Guards.{IsDone, holds_letter, is_first, would_lead, ready_rank, lesser_rank, TellsSame}
-use Rattle.vt_lp.proofs.RisingLemmas.{insert-same, least_time-both}
+use Rattle.vt_lp.proofs.RisingLemmas.{least_time-both}
 
 -- ---- what a queue answers
 
@@ -134,7 +135,7 @@ module _ {S P K : Type 0} (handlers : Handlers S P K) where
   any-past p rank (e ∷ es) = ap (λ b. rank_same e.letter.event.rank rank || b) (any-past p rank es)
 
   -- what a process holds is what the process that it stands for holds
-  pub holds-is : (held : HeldProcess S P K) (h : LogicalProcess P) (sign : Sign) (rank : Rank) → StandsFor handlers held h →
+  holds-is : (held : HeldProcess S P K) (h : LogicalProcess P) (sign : Sign) (rank : Rank) → StandsFor handlers held h →
       holds h sign rank ≡ holds_letter held.pending held.waiting held.past sign rank
   holds-is held h Plus rank s =
       (λ j. list_any (has_rank rank) (s.pending j) || list_any (λ e. rank_same e.event.rank rank) (s.past j))
@@ -142,10 +143,10 @@ module _ {S P K : Type 0} (handlers : Handlers S P K) where
   holds-is held h Minus rank s = ap (list_any (has_rank rank)) s.waiting
 
   -- what comes of a letter
-  abbrev accepted : LogicalProcess P → Sign → Letter P → ProcessEffect P
+  abbrev pub accepted : LogicalProcess P → Sign → Letter P → ProcessEffect P
   accepted h sign letter = record { process = with_letter h sign letter; letters = []; serials = 0 }
 
-  accept-by : (held : HeldProcess S P K) (h : LogicalProcess P) (letter : Letter P) (b : Bool) → holds_letter held.pending held.waiting held.past letter.sign letter.event.rank ≡ b →
+  pub accept-by : (held : HeldProcess S P K) (h : LogicalProcess P) (letter : Letter P) (b : Bool) → holds_letter held.pending held.waiting held.past letter.sign letter.event.rank ≡ b →
       StandsFor handlers held h → accept_process letter h ≡ (if b then None else Some (accepted h letter.sign letter))
   unfolding accept_process
   accept-by held h letter b is s = ap (λ (t : Bool). if t then None else Some (accepted h letter.sign letter)) (holds-is held h letter.sign letter.event.rank s ∙ is)
@@ -162,7 +163,7 @@ module _ {S P K : Type 0} (handlers : Handlers S P K) where
   accepts-message held h letter new sign is never s = record {
     effect = accepted h Plus letter;
     lawful = accept-by held h letter false never s ∙ ap (λ (g : Sign). Some (accepted h g letter)) sign;
-    stands = record { past = s.past; pending = ap (λ ls. insert_ordered letter ls) s.pending ∙ sym (insert-same letter held.pending) ∙ sym is; waiting = s.waiting; leads = s.leads };
+    stands = record { past = s.past; pending = ap (λ ls. insert_letter letter ls) s.pending ∙ sym is; waiting = s.waiting; leads = s.leads };
     letters = refl;
     serials = refl;
   }
@@ -174,7 +175,7 @@ module _ {S P K : Type 0} (handlers : Handlers S P K) where
   accepts-anti_message held h letter new sign is never s = record {
     effect = accepted h Minus letter;
     lawful = accept-by held h letter false never s ∙ ap (λ (g : Sign). Some (accepted h g letter)) sign;
-    stands = record { past = s.past; pending = s.pending; waiting = ap (λ ls. insert_ordered letter ls) s.waiting ∙ sym (insert-same letter held.waiting) ∙ sym is; leads = s.leads };
+    stands = record { past = s.past; pending = s.pending; waiting = ap (λ ls. insert_letter letter ls) s.waiting ∙ sym is; leads = s.leads };
     letters = refl;
     serials = refl;
   }

@@ -12,16 +12,15 @@ use Rattle.vt_model.specs.declared.settings.Config.{Config}
 use Rattle.vt_model.specs.Handler.{Handlers}
 use Rattle.vt_model.specs.Histories.{Among}
 use Rattle.vt_model.specs.Settings.{end_of}
-use Rattle.vt_steps.specs.Letters.{has_stamp, without_first}
+use Rattle.vt_key.specs.Queues.{has_stamp, without_first, has_rank}
 use Rattle.vt_steps.specs.World.{LogicalProcess}
 use Rattle.vt_steps.specs.ProcessSteps.{ProcessEffect, are_opposite, cancel_process}
 use Rattle.vt_steps.proofs.Lists.{find-among, find-passes}
-use Rattle.vt_pending.specs.Letters.{has_rank, holds_rank, without_stamp}
+use Rattle.vt_pending.specs.Letters.{holds_rank, without_stamp}
 use Rattle.vt_lp.specs.declared.entry.PastEvent.{PastEvent}
 use Rattle.vt_lp.specs.Held.{HeldProcess, StandsFor, IsOwnLetter, IsNotPending, IsProcessInside}
 use Rattle.vt_lp.specs.Guards.{IsDone, can_annihilate}
 use Rattle.vt_lp.specs.Kept.{KeptNodes, one_if_some}
-use Rattle.vt_lp.proofs.RisingLemmas.{without-same}
 use Rattle.vt_lp.proofs.AcceptLemmas.{left-false, right-false}
 
 module _ {P : Type 0} where
@@ -173,8 +172,8 @@ module _ {S P K : Type 0} (handlers : Handlers S P K) where
     lawful = cancel-by held h stamp true can s;
     stands = record {
       past = s.past;
-      pending = ap (λ ls. without_first (has_stamp stamp) ls) s.pending ∙ sym (without-same stamp held.pending) ∙ sym is;
-      waiting = ap (λ ls. without_first (has_stamp stamp) ls) s.waiting ∙ sym (without-same stamp held.waiting) ∙ sym are;
+      pending = ap (λ ls. without_first (has_stamp stamp) ls) s.pending ∙ sym is;
+      waiting = ap (λ ls. without_first (has_stamp stamp) ls) s.waiting ∙ sym are;
       leads = s.leads;
     };
     letters = refl;

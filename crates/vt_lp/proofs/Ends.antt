@@ -1,10 +1,11 @@
 -- What the ends of the lists tell: that the least letter can go out and come back.
 use Rattle.std.proofs.Common.{◌≡◌, ◌||◌, Bool, true, false, if◌then◌else◌, List, [], ◌∷◌, refl, subst, ◌∙◌, ap, ◌⊎◌, inl, inr}
 use Rattle.vt_key.specs.Order.{RankBefore, rank_same}
+use Rattle.vt_key.specs.Queues.{letter_rank, insert_letter}
 use Rattle.vt_key.specs.declared.order.Rank.{Rank}
 use Rattle.vt_key.specs.declared.letter.Letter.{Letter}
 use Rattle.vt_key.proofs.OrderLemmas.{rank-irreflexive, rank_same-true, before-rank_before}
-use Rattle.vt_pending.specs.Letters.{letter_rank, holds_rank, insert_letter, AllAfter}
+use Rattle.vt_pending.specs.Letters.{holds_rank, AllAfter}
 
 -- a rank that is after another is not the same
 pub after-differs : (a b : Rank) → RankBefore a b → rank_same b a ≡ false

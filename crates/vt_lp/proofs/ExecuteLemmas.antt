@@ -5,6 +5,7 @@ use Rattle.std.proofs.lemmas.List.{map-append}
 use Rattle.std.proofs.lemmas.List.Elements.{All-head, All-tail, All-cons, All-nil, All-append}
 use Rattle.vt_key.specs.Times.{Time, TimeBefore}
 use Rattle.vt_key.specs.Order.{RankBefore}
+use Rattle.vt_key.specs.Queues.{letter_rank, has_rank}
 use Rattle.vt_key.specs.declared.limits.TheConstants.{MAX_COUNT}
 use Rattle.vt_key.specs.declared.fault.Fault.{Fault}
 use Rattle.vt_key.specs.declared.letter.Event.{Event}
@@ -17,7 +18,7 @@ use Rattle.vt_model.specs.Handler.{Handlers}
 use Rattle.vt_model.specs.declared.limits.TheConstants.{MAX_DRAWS}
 use Rattle.vt_model.specs.Process.{IsProcessStream}
 use Rattle.vt_stream.specs.Words.{Stream}
-use Rattle.vt_pending.specs.Letters.{letter_rank, has_rank, holds_rank, IsRising}
+use Rattle.vt_pending.specs.Letters.{holds_rank, IsRising}
 use Rattle.vt_model.specs.Simulation.{Simulation, Triple, Fired, simulation_of}
 use Rattle.vt_model.specs.Settings.{end_of}
 use Rattle.vt_steps.specs.Letters.{unstamped, stamped, signed}

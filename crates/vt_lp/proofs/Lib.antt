@@ -4,7 +4,7 @@ mod PastLemmas
 mod ReachLemmas
 mod ReadyLemmas
 mod LeastLemmas
-mod AcceptLemmas
+pub mod AcceptLemmas
 mod CancelLemmas
 mod Stamping
 pub mod RipeLemmas

@@ -1,15 +1,14 @@
 -- Letters in rising rank: what is asked of all of them, the least one answers.
-use Rattle.std.proofs.Common.{◌≡◌, ◌||◌, ◌⊎◌, inl, inr, ◌++◌, if◌then◌else◌, Bool, true, false, not, List, [], ◌∷◌, Some, None, slice_get, refl, sym, subst, ◌∙◌, ap, arith}
+use Rattle.std.proofs.Common.{◌≡◌, ◌||◌, ◌⊎◌, inl, inr, ◌++◌, Bool, true, false, not, List, [], ◌∷◌, Some, None, slice_get, refl, sym, subst, ◌∙◌, ap, arith}
 use Rattle.std.specs.List.{list_any}
 use Rattle.vt_key.specs.Times.{Time, TimeAtMost, earlier}
 use Rattle.vt_key.specs.Order.{RankBefore, rank_before}
 use Rattle.vt_key.specs.declared.order.Rank.{Rank}
-use Rattle.vt_key.specs.declared.order.Stamp.{Stamp}
 use Rattle.vt_key.specs.declared.letter.Letter.{Letter}
 use Rattle.vt_key.proofs.OrderLemmas.{rank-transitive, rank_before-true, before-rank_before}
-use Rattle.vt_steps.specs.Letters.{letter_time, least_time, insert_ordered, without_first, has_stamp}
+use Rattle.vt_steps.specs.Letters.{letter_time, least_time}
 use Rattle.vt_steps.proofs.RankTimes.{rank-order-time}
-use Rattle.vt_pending.specs.Letters.{letter_rank, insert_letter, without_stamp, AllAfter, IsRising}
+use Rattle.vt_pending.specs.Letters.{AllAfter, IsRising}
 
 -- the first of two ranks is before the other, or it isn't
 cases : (b : Bool) → (b ≡ true) ⊎ (b ≡ false)
@@ -98,21 +97,3 @@ module _ {P : Type 0} where
   pub least_time-both : (end : Time) (xs ys : List (Letter P)) → least_time end (xs ++ ys) ≡ earlier (least_time end xs) (least_time end ys)
   least_time-both end [] ys = let h = least_time-end end ys in omega arith
   least_time-both end (x ∷ xs) ys = let h = least_time-both end xs ys in omega arith
-
-  -- ---- the queue's words and those of steps
-
-  -- a letter is put in its place
-  pub insert-same : (x : Letter P) (ls : List (Letter P)) → insert_letter x ls ≡ insert_ordered x ls
-  insert-same x [] = refl
-  insert-same x (l ∷ ls) = elim (rank_before (letter_rank x) (letter_rank l)) as (λ b. (if b then x ∷ l ∷ ls else l ∷ insert_letter x ls) ≡ (if b then x ∷ l ∷ ls else l ∷ insert_ordered x ls)) [
-    | true ↦ refl
-    | false ↦ ap (λ xs. l ∷ xs) (insert-same x ls)
-  ]
-
-  -- the first of a stamp is taken out
-  pub without-same : (stamp : Stamp) (ls : List (Letter P)) → without_stamp stamp ls ≡ without_first (has_stamp stamp) ls
-  without-same stamp [] = refl
-  without-same stamp (l ∷ ls) = elim (has_stamp stamp l) as (λ b. (if b then ls else l ∷ without_stamp stamp ls) ≡ (if b then ls else l ∷ without_first (has_stamp stamp) ls)) [
-    | true ↦ refl
-    | false ↦ ap (λ xs. l ∷ xs) (without-same stamp ls)
-  ]

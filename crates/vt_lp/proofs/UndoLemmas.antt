@@ -4,6 +4,7 @@ use Rattle.std.specs.List.{All, last_or}
 use Rattle.std.proofs.lemmas.List.{map-append}
 use Rattle.std.proofs.lemmas.List.Elements.{All-head, All-tail, All-cons, All-nil}
 use Rattle.vt_key.specs.Order.{rank_before, rank_same}
+use Rattle.vt_key.specs.Queues.{letter_rank, insert_letter}
 use Rattle.vt_key.specs.declared.limits.TheConstants.{MAX_COUNT}
 use Rattle.vt_key.specs.declared.letter.Letter.{Letter}
 use Rattle.vt_key.specs.declared.letter.Sign.TheVariants.{Plus, Minus}
@@ -13,8 +14,7 @@ use Rattle.vt_model.specs.Handler.{Handlers}
 use Rattle.vt_model.specs.Process.{IsProcessStream}
 use Rattle.vt_model.specs.Simulation.{Simulation, Triple, simulation_of}
 use Rattle.vt_model.specs.Settings.{end_of}
-use Rattle.vt_pending.specs.Letters.{letter_rank, insert_letter}
-use Rattle.vt_steps.specs.Letters.{signed, insert_ordered}
+use Rattle.vt_steps.specs.Letters.{signed}
 use Rattle.vt_steps.specs.World.{Entry, LogicalProcess, triple_after}
 use Rattle.vt_steps.specs.ProcessSteps.{must_undo, effect_of_undo, undo_last, undo_process}
 use Rattle.vt_steps.specs.StandsFor.{entry_of, LeadTo}
@@ -23,7 +23,6 @@ use Rattle.vt_lp.specs.declared.entry.PastEvent.{PastEvent}
 use Rattle.vt_lp.specs.Held.{HeldProcess, StandsFor, process_memory, remembered, way_back, IsOwnLetter, IsOwnEvent, IsReady, IsWithinRun, AllAfter, IsRisingPast, IsNotPending, IsProcessInside}
 use Rattle.vt_lp.specs.Guards.{IsDone}
 use Rattle.vt_lp.specs.Past.{is_forced, must_undo_last}
-use Rattle.vt_lp.proofs.RisingLemmas.{insert-same}
 use Rattle.vt_lp.proofs.AcceptLemmas.{All-insert, holds-insert}
 use Rattle.vt_lp.proofs.Ends.{after-differs}
 
@@ -117,7 +116,7 @@ module _ {S P K : Type 0} (handlers : Handlers S P K) where
         lawful = ap (undo_last h) last_is ∙ ap (λ t. if t then Some (effect_of_undo h entry) else None) must;
         stands = record {
           past = front_is;
-          pending = (λ j. insert_ordered (plus j) (s.pending j)) ∙ sym (insert-same e.letter held.pending) ∙ sym put;
+          pending = (λ j. insert_letter (plus j) (s.pending j)) ∙ sym put;
           waiting = s.waiting;
           leads = subst (λ (t : Triple S). LeadTo sim p (triple_after sim p h.done) (map (remembered handlers p) past) t)
               (ap (λ d. way_back handlers d e held.triple) (sym own) ∙ sym back) gone.leads;

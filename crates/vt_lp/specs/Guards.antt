@@ -3,6 +3,7 @@ use Rattle.std.specs.Prelude.{◌≡◌, ℕ, ◌+◌, ◌<◌, ◌≤◌, ◌�
 use Rattle.std.specs.List.{find, list_any, last_or}
 use Rattle.vt_key.specs.Order.{rank_before, rank_same}
 use Rattle.vt_key.specs.Times.{Time}
+use Rattle.vt_key.specs.Queues.{has_rank, has_stamp}
 use Rattle.vt_key.specs.declared.limits.TheConstants.{MAX_COUNT}
 use Rattle.vt_key.specs.declared.order.Rank.{Rank}
 use Rattle.vt_key.specs.declared.order.Stamp.{Stamp}
@@ -13,7 +14,7 @@ use Rattle.vt_key.specs.declared.fault.Fault.{Fault}
 use Rattle.vt_key.specs.declared.fault.Fault.TheVariants.{Memory, NotLawful, Exhausted}
 use Rattle.vt_model.specs.Handler.{Handlers}
 use Rattle.vt_model.specs.Simulation.{Simulation}
-use Rattle.vt_steps.specs.Letters.{has_rank, has_stamp, least_time}
+use Rattle.vt_steps.specs.Letters.{least_time}
 use Rattle.vt_steps.specs.World.{LogicalProcess, triple_after}
 use Rattle.vt_steps.specs.ProcessSteps.{ProcessEffect, are_opposite}
 use Rattle.vt_lp.specs.declared.entry.PastEvent.{PastEvent}

@@ -3,11 +3,11 @@ use Rattle.std.proofs.Common.{Bool, true, false, not, ◌||◌, if◌then◌else
 use Rattle.std.specs.Prelude.{ℕ, ◌+◌, ◌<◌, nat_eq, IsBitSet, List, [], ◌∷◌, length, drop, filter, find, Some, None}
 use Rattle.std.specs.List.{list_any}
 use Rattle.vt_key.specs.Order.{rank_before}
+use Rattle.vt_key.specs.Queues.{without_first, letter_rank, has_rank, insert_letter}
 use Rattle.vt_key.specs.declared.order.Rank.{Rank}
 use Rattle.vt_key.specs.declared.letter.Letter.{Letter}
 use Rattle.vt_key.proofs.OrderLemmas.{rank_same-true}
-use Rattle.vt_list.specs.First.{without_first}
-use Rattle.vt_pending.specs.Letters.{letter_rank, has_rank, holds_rank, insert_letter, IsRising}
+use Rattle.vt_pending.specs.Letters.{holds_rank, IsRising}
 use Rattle.vt_pending.specs.Buckets.{bucket_of, in_bucket, not_in_bucket, list_at, without_list, insert_in, put_some, letters_of, IsRow, Buckets}
 use Rattle.vt_pending.proofs.Rising.{IsRising-insert, IsRising-without}
 use Rattle.vt_pending.proofs.Filters.{find-filter, filter-insert, filter-insert-other, filter-without, filter-without-other}

@@ -3,7 +3,8 @@
 ghost use Rattle.std.specs.Prelude.{◌≡◌, ℕ, ◌<◌, ◌-◌, ◌%◌, ◌^◌, ◌↔◌, [], ◌∷◌, false, length, find, slice_get, MatchOption, IfOk, IfErr, IfNone, IsBitSet, IsNone, IsTrue, true};
 ghost use Rattle.std.specs.List.{list_any};
 ghost use Rattle.std.specs.Option.{option_copied};
-ghost use Rattle.vt_pending.specs.Letters.{has_stamp, holds_rank, first_of_stamp, insert_letter, without_stamp, IsRising};
+ghost use Rattle.vt_key.specs.Queues.{has_stamp, insert_letter};
+ghost use Rattle.vt_pending.specs.Letters.{holds_rank, first_of_stamp, without_stamp, IsRising};
 ghost use Rattle.vt_pending.specs.Buckets.{in_bucket};
 
 use crate::buckets::{bucket, find_in, find_least, has_rank, insert_in, put_back, take_marked};
@@ -204,7 +205,7 @@ impl<P> Predicate<Letter<P>> for NotBefore {
 struct HasStamp(Stamp);
 
 impl<P> Predicate<Letter<P>> for HasStamp {
-    ghost use Rattle.vt_pending.specs.Letters.{has_stamp};
+    ghost use Rattle.vt_key.specs.Queues.{has_stamp};
 
     ghost passes = { λ t letter. has_stamp t.0 letter };
 

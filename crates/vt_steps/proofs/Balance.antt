@@ -7,6 +7,7 @@ use Rattle.std.proofs.lemmas.List.Sums.{sum_by-cons, sum_by-append}
 use Rattle.std.proofs.lemmas.Option.{slice_get_within}
 use Rattle.std.proofs.Math.ListN.{length-set}
 use Rattle.vt_key.specs.Order.{stamp_same}
+use Rattle.vt_key.specs.Queues.{has_stamp, without_first}
 use Rattle.vt_key.specs.declared.letter.Event.{Event}
 use Rattle.vt_key.specs.declared.letter.Letter.{Letter}
 use Rattle.vt_key.specs.declared.letter.Mail.{Mail}
@@ -16,7 +17,7 @@ use Rattle.vt_key.specs.declared.order.Stamp.{Stamp}
 use Rattle.vt_model.specs.Simulation.{Simulation}
 use Rattle.vt_model.specs.declared.sending.Sent.{Sent}
 use Rattle.vt_steps.specs.Copies.{entry_sum, letter_sum, letter_weight, mail_weight, part_entries, part_sum, process_entries, process_sum, serial_at}
-use Rattle.vt_steps.specs.Letters.{has_stamp, signed, stamped, unstamped, without_first}
+use Rattle.vt_steps.specs.Letters.{signed, stamped, unstamped}
 use Rattle.vt_steps.specs.Next.{with_part}
 use Rattle.vt_steps.specs.PartSteps.{is_below, is_for, mail_of_send, part_after_commit, part_after_cut, part_after_fetch, part_after_send, process_after_commit, with_effect}
 use Rattle.vt_steps.specs.ProcessSteps.{ProcessEffect, effect_of_execute, effect_of_undo, with_letter}

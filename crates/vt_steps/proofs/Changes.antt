@@ -3,13 +3,14 @@ use Rattle.std.proofs.Common.{◌≡◌, ℕ, ◌/◌, ◌%◌, Bool, true, fals
 use Rattle.std.specs.List.{find, last_or, remove}
 use Rattle.std.specs.Option.{option_map, option_and_then}
 use Rattle.vt_key.specs.Order.{key_same}
+use Rattle.vt_key.specs.Queues.{has_stamp, without_first}
 use Rattle.vt_key.specs.declared.letter.Letter.{Letter}
 use Rattle.vt_key.specs.declared.letter.Mail.{Mail}
 use Rattle.vt_key.specs.declared.order.Stamp.{Stamp}
 use Rattle.vt_model.specs.Simulation.{Simulation}
 use Rattle.vt_steps.specs.BoardSteps.{cut_board, may_report, with_report}
 use Rattle.vt_steps.specs.BookSteps.{may_commit, may_close, with_rows}
-use Rattle.vt_steps.specs.Letters.{has_stamp, is_empty, without_first}
+use Rattle.vt_steps.specs.Letters.{is_empty}
 use Rattle.vt_steps.specs.CellSteps.{CellEffect, close, commit, cut, fetch, may_send, report, reported, send}
 use Rattle.vt_steps.specs.Next.{at_cell, done_or_refused, locally, next, refused, run, with_board, with_book, with_inbox, with_part}
 use Rattle.vt_steps.specs.PartSteps.{accept_mail, at_process, deliver, home_letter, is_for, mail_of_send, part_after_commit, part_after_cut, part_after_fetch, part_after_send, report_got, report_least, report_sent, rows_of_commit, with_effect}

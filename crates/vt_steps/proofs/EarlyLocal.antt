@@ -6,6 +6,7 @@ use Rattle.std.proofs.lemmas.Bool.Decides.{nat_tests}
 use Rattle.std.proofs.lemmas.List.Sums.{sum_by-cons}
 use Rattle.vt_key.specs.Order.{rank_before}
 use Rattle.vt_key.specs.Times.{Time, TimeBefore, TimeAtMost, time_at_most}
+use Rattle.vt_key.specs.Queues.{has_stamp, without_first}
 use Rattle.vt_key.specs.declared.letter.Event.{Event}
 use Rattle.vt_key.specs.declared.letter.Letter.{Letter}
 use Rattle.vt_key.specs.declared.letter.Sign.{Sign}
@@ -14,7 +15,7 @@ use Rattle.vt_model.specs.declared.sending.Sent.{Sent}
 use Rattle.vt_model.specs.Simulation.{Simulation, Triple}
 use Rattle.vt_model.specs.Histories.{Among, IsLawful}
 use Rattle.vt_steps.specs.Copies.{as_count, letter_weight, process_sum, process_entries, part_entries}
-use Rattle.vt_steps.specs.Letters.{has_stamp, signed, stamped, unstamped, without_first}
+use Rattle.vt_steps.specs.Letters.{signed, stamped, unstamped}
 use Rattle.vt_steps.specs.PartSteps.{with_effect}
 use Rattle.vt_steps.specs.ProcessSteps.{ProcessEffect, effect_of_execute, effect_of_undo}
 use Rattle.vt_steps.specs.World.{Entry, LogicalProcess, Part, process_at, triple_after}

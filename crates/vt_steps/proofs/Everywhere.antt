@@ -10,7 +10,8 @@ use Rattle.vt_key.specs.declared.letter.Sign.TheVariants.{Minus, Plus}
 use Rattle.vt_model.specs.Histories.{Among}
 use Rattle.vt_model.specs.Simulation.{Simulation, Triple}
 use Rattle.vt_model.specs.declared.sending.Sent.{Sent}
-use Rattle.vt_steps.specs.Letters.{has_stamp, signed, stamped, unstamped}
+use Rattle.vt_steps.specs.Letters.{signed, stamped, unstamped}
+use Rattle.vt_key.specs.Queues.{has_stamp}
 use Rattle.vt_steps.specs.PartSteps.{is_below, is_for, mail_of_send, part_after_commit, part_after_cut, part_after_fetch, part_after_send, process_after_commit, ripe, with_effect}
 use Rattle.vt_steps.specs.ProcessSteps.{ProcessEffect, effect_of_execute, effect_of_undo, with_letter}
 use Rattle.vt_steps.specs.World.{Entry, LogicalProcess, Part, World, all_letters, letters_in, opening_part, opening_world, process_at, process_count, start_events, triple_after}

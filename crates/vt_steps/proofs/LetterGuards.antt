@@ -5,6 +5,7 @@ use Rattle.std.specs.List.{sum_by, find, list_any, remove}
 use Rattle.std.specs.Option.{option_map, option_and_then}
 use Rattle.std.proofs.lemmas.Bool.{eqb-true}
 use Rattle.vt_key.specs.Order.{key_same, rank_same, stamp_same}
+use Rattle.vt_key.specs.Queues.{has_rank, without_first}
 use Rattle.vt_key.proofs.OrderLemmas.{same-stamp_same}
 use Rattle.vt_key.specs.declared.letter.Event.{Event}
 use Rattle.vt_key.specs.declared.letter.Letter.{Letter}
@@ -19,7 +20,6 @@ use Rattle.vt_steps.specs.declared.step.Reply.TheVariants.{Done}
 use Rattle.vt_steps.specs.declared.step.Step.{Step}
 use Rattle.vt_steps.specs.declared.step.Step.TheVariants.{Home, Accept}
 use Rattle.vt_steps.specs.Copies.{as_count, entry_sum, is_copy, is_event_of, letter_sum, letter_weight, mail_weight, minus, part_entries, part_sum, plus, process_entries, process_sum}
-use Rattle.vt_steps.specs.Letters.{has_rank, without_first}
 use Rattle.vt_steps.specs.Next.{done_or_refused, next, reached, with_part}
 use Rattle.vt_steps.specs.PartSteps.{accept, accept_mail, deliver, home, home_letter, is_for, with_effect}
 use Rattle.vt_steps.specs.ProcessSteps.{accept_process, holds, with_letter}

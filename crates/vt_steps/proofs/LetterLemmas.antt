@@ -14,7 +14,7 @@ use Rattle.vt_model.specs.Simulation.{Simulation}
 use Rattle.vt_steps.specs.declared.step.Step.{Step}
 use Rattle.vt_steps.specs.declared.step.Step.TheVariants.{Execute, Undo, Cancel, Home, Send, Fetch, Accept, Cut, Report, Commit, Close}
 use Rattle.vt_steps.specs.declared.step.Reply.TheVariants.{Done}
-use Rattle.vt_steps.specs.Letters.{signed, stamped, unstamped, has_stamp, is_empty}
+use Rattle.vt_steps.specs.Letters.{signed, stamped, unstamped, is_empty}
 use Rattle.vt_steps.specs.World.{Entry, LogicalProcess, Part, Board, Book, World, process_at, triple_after}
 use Rattle.vt_steps.specs.ProcessSteps.{ProcessEffect, may_follow, must_undo, are_opposite, holds, effect_of_execute, effect_of_undo, execute_least, execute_process, undo_last, undo_process, cancel_process, accept_process}
 use Rattle.vt_steps.specs.PartSteps.{execute, undo, cancel, with_effect, at_process, is_for, deliver, home, home_letter, accept, accept_mail, part_after_send, mail_of_send, part_after_fetch, part_after_cut, report_least}
@@ -25,6 +25,7 @@ use Rattle.vt_steps.specs.BookSteps.{may_commit}
 use Rattle.vt_steps.specs.Copies.{letter_weight, mail_weight, part_sum, letter_sum}
 use Rattle.vt_steps.specs.Laws.{IsMessageExecuted, IsEventUndone, AreBothGone, AreLettersKept, AreLettersRight}
 use Rattle.vt_key.specs.Order.{key_same}
+use Rattle.vt_key.specs.Queues.{has_stamp}
 use Rattle.vt_key.proofs.OrderLemmas.{key_same-true, stamp_same-true}
 use Rattle.vt_steps.proofs.Lists.{find-passes}
 use Rattle.vt_steps.proofs.Changes.{Leaves, homes, arrives, map_has, chain_has, if_has, unless_has, empty_is}

@@ -4,9 +4,9 @@ use Rattle.std.proofs.Common.{◌≡◌, ℕ, zero, suc, ◌+◌, ◌-◌, ◌�
 use Rattle.std.specs.List.{filter, find, flat_map, last_or, range_with_len, remove}
 use Rattle.std.proofs.lemmas.Bool.{cases_order}
 use Rattle.vt_key.specs.Order.{rank_before}
+use Rattle.vt_key.specs.Queues.{insert_letter, without_first}
 use Rattle.vt_key.specs.declared.letter.Letter.{Letter}
 use Rattle.vt_model.specs.Histories.{Among}
-use Rattle.vt_steps.specs.Letters.{insert_ordered, without_first}
 
 -- each element of the list has Q
 abbrev pub Every : {X : Type 0} → (X → Type 0) → List X → Type 0
@@ -126,10 +126,10 @@ every-both Q R T [] f h k = tt
 every-both Q R T (x ∷ xs) f h k = (f x h.0 k.0, every-both Q R T xs f h.1 k.1)
 
 -- after a letter is put in order
-pub every-insert_ordered : {P : Type 0} (Q : Letter P → Type 0) (x : Letter P) (xs : List (Letter P)) → Q x → Every Q xs → Every Q (insert_ordered x xs)
+pub every-insert_ordered : {P : Type 0} (Q : Letter P → Type 0) (x : Letter P) (xs : List (Letter P)) → Q x → Every Q xs → Every Q (insert_letter x xs)
 every-insert_ordered Q x [] q h = (q, tt)
 every-insert_ordered Q x (y ∷ ys) q h =
-    elim (rank_before x.event.rank y.event.rank) as (λ b. Every Q (cond b (x ∷ y ∷ ys) (y ∷ insert_ordered x ys))) [
+    elim (rank_before x.event.rank y.event.rank) as (λ b. Every Q (cond b (x ∷ y ∷ ys) (y ∷ insert_letter x ys))) [
       | true ↦ (q, h)
       | false ↦ (h.0, every-insert_ordered Q x ys q h.1)
     ]

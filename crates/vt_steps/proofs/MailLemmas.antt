@@ -1,46 +1,19 @@
 -- Mail is neither made nor lost: what each step does to the sums of what was sent, got and travels.
-use Rattle.std.proofs.Common.{◌≡◌, ℕ, suc, ◌+◌, true, false, cond, List, [], ◌∷◌, ◌++◌, map, length, refl, sym, ◌∙◌, ap, arith, add-zero, Some, slice_get, slice_set}
+use Rattle.std.proofs.Common.{◌≡◌, ℕ, cond, List, [], ◌++◌, length, refl, ◌∙◌, ap, arith, Some, slice_get, slice_set}
 use Rattle.std.specs.List.{sum_by}
-use Rattle.std.proofs.lemmas.List.Sums.{sum_by-cons, sum_by-append}
+use Rattle.std.proofs.lemmas.List.Sums.{sum_by-append}
 use Rattle.vt_key.specs.declared.letter.Letter.{Letter}
 use Rattle.vt_key.specs.declared.letter.Mail.{Mail}
-use Rattle.vt_key.specs.declared.letter.Colour.{Colour}
-use Rattle.vt_key.specs.declared.letter.Colour.TheVariants.{White, Red}
 use Rattle.vt_model.specs.Simulation.{Simulation}
 use Rattle.vt_steps.specs.declared.step.Step.{Step}
-use Rattle.vt_steps.specs.Letters.{Counts, is_colour, count_of, raised, count_colour}
+use Rattle.vt_steps.specs.Letters.{is_colour, count_of, count_colour}
 use Rattle.vt_steps.specs.World.{Part, World}
 use Rattle.vt_steps.specs.PartSteps.{letters_for, part_after_send, mail_of_send, part_after_fetch, part_after_cut, part_after_commit}
 use Rattle.vt_steps.specs.Next.{next}
 use Rattle.vt_steps.specs.Laws.{IsMailKept}
 use Rattle.vt_steps.proofs.Sums.{sum_by-put}
+use Rattle.vt_steps.proofs.Colours.{count_of-raised, count_of-fetched, count_colour-mailed}
 use Rattle.vt_steps.proofs.Changes.{Leaves, homes, arrives, Local, acts, takes, Change, stays, local, sends, fetches, cuts, reports, commits, closes, next_changes}
-
--- ---- counts
-
-count-raised : (counts : Counts) (own c : Colour) (n : ℕ) → count_of (raised counts own n) c ≡ count_of counts c + cond (is_colour c own) n 0
-count-raised counts White White n = refl
-count-raised counts White Red n = sym (add-zero counts.red)
-count-raised counts Red White n = sym (add-zero counts.white)
-count-raised counts Red Red n = refl
-
--- the worker's letters as mail are all of its colour
-count-sent : {P : Type 0} (own c : Colour) (letters : List (Letter P)) →
-    count_colour c (map (λ letter. record { letter = letter; colour = own }) letters) ≡ cond (is_colour c own) (length letters) 0
-count-sent own c [] = elim (is_colour c own) as (λ b. ◌≡◌ {A = ℕ} 0 (cond b 0 0)) [ true ↦ refl | false ↦ refl ]
-count-sent {P = P} own c (letter ∷ letters) =
-    let ih = count-sent own c letters in
-    let mails : List (Mail P) = map (λ (l : Letter P). record { letter = l; colour = own }) letters in
-    let first : Mail P = record { letter = letter; colour = own } in
-    let a = sum_by-cons (λ (mail : Mail P). cond (is_colour c mail.colour) 1 0) first mails in
-    a ∙ ap (λ n. cond (is_colour c own) 1 0 + n) ih
-    ∙ elim (is_colour c own) as (λ b. ◌≡◌ {A = ℕ} (cond b 1 0 + cond b (length letters) 0) (cond b (suc (length letters)) 0)) [ true ↦ omega arith | false ↦ refl ]
-
--- a worker got what was in its inbox
-count-got : {P : Type 0} (got : Counts) (inbox : List (Mail P)) (c : Colour) →
-    count_of (raised (raised got White (count_colour White inbox)) Red (count_colour Red inbox)) c ≡ count_of got c + count_colour c inbox
-count-got got inbox White = refl
-count-got got inbox Red = refl
 
 -- ---- one part
 
@@ -90,8 +63,8 @@ send-kept {P = P} sim old new w v part inbox is holds parts inboxes c =
     let y = ap (λ ps. sum_by got_of ps) parts in
     let z = ap (λ xs. sum_by (count_colour c) xs) inboxes in
     let e = sum_by-append (λ (mail : Mail P). cond (is_colour c mail.colour) 1 0) inbox (mail_of_send sim v part) in
-    let f = count-sent part.colour c (letters_for sim v part) in
-    let g = count-raised part.sent part.colour c (length (letters_for sim v part)) in
+    let f = count_colour-mailed c part.colour (letters_for sim v part) in
+    let g = count_of-raised part.sent c part.colour (length (letters_for sim v part)) in
     omega arith
 
 fetch-kept : {P : Type 0} (old new : World P) (w : ℕ) (part : Part P) (inbox : List (Mail P)) → slice_get old.parts w ≡ Some part →
@@ -108,7 +81,7 @@ fetch-kept {P = P} old new w part inbox is holds parts inboxes c =
     let x = ap (λ ps. sum_by sent_of ps) parts in
     let y = ap (λ ps. sum_by got_of ps) parts in
     let z = ap (λ xs. sum_by (count_colour c) xs) inboxes in
-    let g = count-got part.got inbox c in
+    let g = count_of-fetched part.got inbox c in
     omega arith
 
 still-kept : {P : Type 0} (old new : World P) → new.parts ≡ old.parts → new.inboxes ≡ old.inboxes → IsMailKept old new

@@ -14,7 +14,8 @@ use Rattle.vt_model.specs.Histories.{sends_from}
 use Rattle.vt_model.specs.Simulation.{Simulation, Triple, after_from}
 use Rattle.vt_model.specs.declared.sending.Sent.{Sent}
 use Rattle.vt_steps.specs.declared.step.Step.{Step}
-use Rattle.vt_steps.specs.Letters.{has_stamp, signed, stamped, unstamped}
+use Rattle.vt_steps.specs.Letters.{signed, stamped, unstamped}
+use Rattle.vt_key.specs.Queues.{has_stamp}
 use Rattle.vt_steps.specs.Next.{reached}
 use Rattle.vt_steps.specs.PartSteps.{is_below, is_for, mail_of_send, part_after_commit, part_after_cut, part_after_fetch, part_after_send, process_after_commit}
 use Rattle.vt_steps.specs.ProcessSteps.{ProcessEffect, effect_of_execute, effect_of_undo, with_letter}

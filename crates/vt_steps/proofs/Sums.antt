@@ -4,9 +4,9 @@ use Rattle.std.specs.List.{sum_by, find, filter, last_or, range_with_len, remove
 use Rattle.std.proofs.lemmas.Bool.{cases_lt}
 use Rattle.std.proofs.lemmas.List.Sums.{sum_by-cons, sum_by-append}
 use Rattle.vt_key.specs.Order.{rank_before}
+use Rattle.vt_key.specs.Queues.{insert_letter, without_first}
 use Rattle.vt_key.specs.declared.letter.Letter.{Letter}
 use Rattle.vt_model.specs.Histories.{Among}
-use Rattle.vt_steps.specs.Letters.{insert_ordered, without_first}
 use Rattle.vt_steps.proofs.Lists.{before_last, get-among}
 
 -- ---- after one edit
@@ -50,12 +50,12 @@ sum_by-without_first f test (y ∷ ys) x e =
     ] e
 
 -- a letter is put in order
-pub sum_by-insert_ordered : {P : Type 0} (f : Letter P → ℕ) (x : Letter P) (xs : List (Letter P)) → sum_by f (insert_ordered x xs) ≡ f x + sum_by f xs
+pub sum_by-insert_ordered : {P : Type 0} (f : Letter P → ℕ) (x : Letter P) (xs : List (Letter P)) → sum_by f (insert_letter x xs) ≡ f x + sum_by f xs
 sum_by-insert_ordered f x [] = sum_by-cons f x []
 sum_by-insert_ordered f x (y ∷ ys) =
-    elim (rank_before x.event.rank y.event.rank) as (λ b. sum_by f (cond b (x ∷ y ∷ ys) (y ∷ insert_ordered x ys)) ≡ f x + sum_by f (y ∷ ys)) [
+    elim (rank_before x.event.rank y.event.rank) as (λ b. sum_by f (cond b (x ∷ y ∷ ys) (y ∷ insert_letter x ys)) ≡ f x + sum_by f (y ∷ ys)) [
       | true ↦ sum_by-cons f x (y ∷ ys)
-      | false ↦ (let ih = sum_by-insert_ordered f x ys in let a = sum_by-cons f y ys in let b = sum_by-cons f y (insert_ordered x ys) in omega arith)
+      | false ↦ (let ih = sum_by-insert_ordered f x ys in let a = sum_by-cons f y ys in let b = sum_by-cons f y (insert_letter x ys) in omega arith)
     ]
 
 -- the last element is dropped

@@ -13,7 +13,8 @@ use Rattle.vt_steps.specs.declared.step.Step.{Step}
 use Rattle.vt_steps.specs.declared.step.Step.TheVariants.{Execute, Undo, Cancel, Report}
 use Rattle.vt_steps.specs.declared.step.Reply.{Reply}
 use Rattle.vt_steps.specs.declared.step.Reply.TheVariants.{Done, Waiting, Again, Announced}
-use Rattle.vt_steps.specs.Letters.{count_of, has_stamp, signed}
+use Rattle.vt_steps.specs.Letters.{count_of, signed}
+use Rattle.vt_key.specs.Queues.{has_stamp}
 use Rattle.vt_steps.specs.World.{Entry, LogicalProcess, Part, World, travelling}
 use Rattle.vt_steps.specs.ProcessSteps.{ProcessEffect, accept_process, cancel_process}
 use Rattle.vt_steps.specs.Next.{next, refused}

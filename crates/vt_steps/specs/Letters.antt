@@ -1,10 +1,7 @@
--- Letters: their stamps, times and colours, and lists of them in the order of queues.
-use Rattle.std.specs.Prelude.{ℕ, ◌+◌, Bool, true, false, List, [], ◌∷◌, if◌then◌else◌}
+-- Letters: their stamps, times and colours.
+use Rattle.std.specs.Prelude.{ℕ, ◌+◌, Bool, true, false, List, [], ◌∷◌}
 use Rattle.std.specs.List.{count_by}
 use Rattle.vt_key.specs.Times.{Time, earlier}
-use Rattle.vt_key.specs.Order.{rank_before, rank_same, stamp_same}
-use Rattle.vt_key.specs.declared.order.Stamp.{Stamp}
-use Rattle.vt_key.specs.declared.order.Rank.{Rank}
 use Rattle.vt_key.specs.declared.letter.Event.{Event}
 use Rattle.vt_key.specs.declared.letter.Letter.{Letter}
 use Rattle.vt_key.specs.declared.letter.Mail.{Mail}
@@ -32,14 +29,6 @@ module _ {P : Type 0} where
   abbrev pub signed : Sign → Event P → Letter P
   signed sign event = record { event = event; sign = sign }
 
-  -- the letter has this stamp
-  abbrev pub has_stamp : Stamp → Letter P → Bool
-  has_stamp stamp letter = stamp_same letter.event.rank.stamp stamp
-
-  -- the letter has this rank
-  abbrev pub has_rank : Rank → Letter P → Bool
-  has_rank rank letter = rank_same letter.event.rank rank
-
   -- the time of a letter is the receive time of its event
   abbrev pub letter_time : Letter P → Time
   letter_time letter = letter.event.rank.key.time
@@ -48,18 +37,6 @@ module _ {P : Type 0} where
   abbrev pub least_time : Time → List (Letter P) → Time
   least_time end [] = end
   least_time end (letter ∷ letters) = earlier (letter_time letter) (least_time end letters)
-
-  -- the letter is put before the first one of greater rank, or at the end
-  abbrev pub insert_ordered : Letter P → List (Letter P) → List (Letter P)
-  insert_ordered letter [] = letter ∷ []
-  insert_ordered letter (first ∷ rest) =
-      if rank_before letter.event.rank first.event.rank then letter ∷ first ∷ rest
-      else first ∷ insert_ordered letter rest
-
--- the list without its first element that passes the test
-abbrev pub without_first : {X : Type 0} → (X → Bool) → List X → List X
-without_first test [] = []
-without_first test (x ∷ xs) = if test x then xs else x ∷ without_first test xs
 
 -- the list is empty
 abbrev pub is_empty : {X : Type 0} → List X → Bool

@@ -4,6 +4,7 @@ use Rattle.std.specs.List.{filter, find, prefix_len, remove}
 use Rattle.std.specs.Option.{option_and_then, option_map}
 use Rattle.vt_key.specs.Times.{Time, time_before, earlier}
 use Rattle.vt_key.specs.Letters.{other_colour}
+use Rattle.vt_key.specs.Queues.{without_first}
 use Rattle.vt_key.specs.declared.order.Stamp.{Stamp}
 use Rattle.vt_key.specs.declared.letter.Letter.{Letter}
 use Rattle.vt_key.specs.declared.letter.Mail.{Mail}
@@ -12,7 +13,7 @@ use Rattle.vt_model.specs.declared.rows.Row.{Row}
 use Rattle.vt_model.specs.Simulation.{Simulation}
 use Rattle.vt_steps.specs.declared.step.Step.{Step}
 use Rattle.vt_steps.specs.declared.step.Step.TheVariants.{Execute, Undo, Cancel, Home, Accept}
-use Rattle.vt_steps.specs.Letters.{least_time, without_first, count_of, raised, count_colour}
+use Rattle.vt_steps.specs.Letters.{least_time, count_of, raised, count_colour}
 use Rattle.vt_steps.specs.Rows.{rows_from}
 use Rattle.vt_steps.specs.World.{Entry, LogicalProcess, Part, letters_in, entry_events, triple_after, process_at}
 use Rattle.vt_steps.specs.ProcessSteps.{ProcessEffect, execute_process, undo_process, cancel_process, accept_process}

@@ -3,6 +3,7 @@
 use Rattle.std.specs.Prelude.{ℕ, ◌-◌, Bool, true, false, not, ◌||◌, List, [], ◌∷◌, ◌++◌, map, length, take, if◌then◌else◌, Option, Some, None}
 use Rattle.std.specs.List.{find, list_any, last_or}
 use Rattle.vt_key.specs.Order.{rank_before, rank_same, key_same}
+use Rattle.vt_key.specs.Queues.{has_stamp, has_rank, insert_letter, without_first}
 use Rattle.vt_key.specs.declared.order.Rank.{Rank}
 use Rattle.vt_key.specs.declared.order.Stamp.{Stamp}
 use Rattle.vt_key.specs.declared.letter.Event.{Event}
@@ -10,7 +11,7 @@ use Rattle.vt_key.specs.declared.letter.Letter.{Letter}
 use Rattle.vt_key.specs.declared.letter.Sign.{Sign}
 use Rattle.vt_key.specs.declared.letter.Sign.TheVariants.{Plus, Minus}
 use Rattle.vt_model.specs.Simulation.{Simulation}
-use Rattle.vt_steps.specs.Letters.{unstamped, stamped, signed, has_stamp, has_rank, insert_ordered, without_first}
+use Rattle.vt_steps.specs.Letters.{unstamped, stamped, signed}
 use Rattle.vt_steps.specs.World.{Entry, LogicalProcess, triple_after}
 
 -- what a step does at a process: the process after it, the letters that go to the back of the worker's outbox, and how many
@@ -64,7 +65,7 @@ module _ {P : Type 0} where
       record {
         process = record process {
           past = take (length process.past - 1) process.past;
-          pending = insert_ordered (signed Plus last.event) process.pending;
+          pending = insert_letter (signed Plus last.event) process.pending;
         };
         letters = map (signed Minus) last.sent;
         serials = 0;
@@ -111,8 +112,8 @@ module _ {P : Type 0} where
 
   -- a message is pending from now on, an anti-message waiting
   abbrev pub with_letter : LogicalProcess P → Sign → Letter P → LogicalProcess P
-  with_letter process Plus letter = record process { pending = insert_ordered letter process.pending }
-  with_letter process Minus letter = record process { waiting = insert_ordered letter process.waiting }
+  with_letter process Plus letter = record process { pending = insert_letter letter process.pending }
+  with_letter process Minus letter = record process { waiting = insert_letter letter process.waiting }
 
   -- a letter comes to its process, which must not hold it already
   unfoldable pub accept_process : Letter P → LogicalProcess P → Option (ProcessEffect P)

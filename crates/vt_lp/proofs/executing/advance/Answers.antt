@@ -1,4 +1,4 @@
-use Rattle.std.proofs.Common.{◌≤◌, ◌<◌, ◌^◌, ◌∙◌, inl, inr, List, [], map, length, ap, sym, subst, refl, arith}
+use Rattle.std.proofs.Common.{◌∙◌, inl, inr, List, [], map, length, ap, sym, subst, refl, arith}
 use Rattle.std.specs.List.{All}
 use Rattle.vt_key.specs.Times.{TimeBefore}
 use Rattle.vt_key.specs.declared.letter.Letter.{Letter}

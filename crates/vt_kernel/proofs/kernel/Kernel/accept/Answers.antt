@@ -1,4 +1,4 @@
-use Rattle.std.proofs.Common.{rules, ◌≡◌, ◌/◌, ◌≤◌, ◌∙◌, length, slice_set, None, List, [], sym, ap, subst, refl, arith, true, false}
+use Rattle.std.proofs.Common.{rules, ◌≡◌, ◌/◌, ◌≤◌, ◌∙◌, length, slice_set, None, List, [], sym, ap, subst, refl, true, false}
 use Rattle.std.proofs.lemmas.Option.{slice_get_past}
 use Rattle.vt_key.specs.Times.{TimeBefore}
 use Rattle.vt_key.specs.declared.fault.Fault.{Fault}
@@ -18,7 +18,8 @@ use Rattle.vt_kernel.specs.Guards.{IsDone, IsAcceptRefusal}
 use Rattle.vt_kernel.proofs.EnteringLemmas.{entered-behind}
 use Rattle.vt_kernel.proofs.LocalLemmas.{worker_view, place-within, inside-changed, written-same}
 use Rattle.vt_kernel.proofs.InsideLemmas.{inside-arrived}
-use Rattle.vt_kernel.proofs.DeliveryLemmas.{accept-done, accept-nothing, accept-refused, accept-lawful, held-refused, removed-all}
+use Rattle.vt_lp.proofs.AcceptLemmas.{accept-none}
+use Rattle.vt_kernel.proofs.DeliveryLemmas.{accept-done, accept-nothing, accept-refused, accept-lawful, removed-all}
 use Rattle.vt_kernel.proofs.ReentryLemmas.{process-there, process-is, still-there, was-in-ready, was-in-unready, addressed}
 use Rattle.vt_kernel.proofs.kernel.Kernel.accept.Goals as goal
 
@@ -59,7 +60,7 @@ returns-in_default-letter-clause-refused g c handlers part s =
       | true ↦ λ is.
           subst (λ (fault : Fault). IsAcceptRefusal after fault) (sym (told.held is))
           (subst (λ x. IsAcceptRefusal x NotLawful) (sym (accept-refused handlers held c.self.invariant.own_processes part stands c.args.i mail place q a.there refl a.own.own at
-          (λ process st. held-refused handlers q mail.letter process st is))) refl)
+          (λ process st. accept-none handlers q process mail.letter is st))) refl)
       | false ↦ λ is.
           subst (λ (fault : Fault). IsAcceptRefusal after fault) (sym (told.new is))
           (subst (λ x. IsAcceptRefusal x Memory) (sym (accept-lawful handlers held c.self.invariant.own_processes part stands c.args.i mail place q a.there refl a.own.own at is).1) refl)

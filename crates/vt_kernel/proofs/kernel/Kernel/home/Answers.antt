@@ -1,4 +1,4 @@
-use Rattle.std.proofs.Common.{rules, ◌≡◌, ◌/◌, ◌%◌, ◌∙◌, None, slice_set, List, [], sym, ap, subst, refl, arith, nat_eq, false}
+use Rattle.std.proofs.Common.{rules, ◌≡◌, ◌/◌, ◌%◌, ◌∙◌, None, slice_set, List, [], sym, ap, subst, refl, nat_eq, false}
 use Rattle.vt_key.specs.Times.{TimeBefore}
 use Rattle.vt_key.specs.declared.letter.Letter.{Letter}
 use Rattle.vt_list.proofs.Firsts.{taken-first}

@@ -1,6 +1,6 @@
 use Rattle.std.proofs.Common.{◌++◌, [], ◌∷◌, ap, sym, ◌∙◌}
 use Rattle.std.proofs.lemmas.List.{append_assoc}
-use Rattle.vt_list.specs.Ordered.{insert_ordered}
+use Rattle.vt_key.specs.Queues.{insert_ordered}
 use Rattle.vt_list.proofs.Firsts.{insert-between}
 use Rattle.vt_list.proofs.line.Line.insert_ordered.Goals as goal
 

@@ -1,5 +1,5 @@
 use Rattle.std.proofs.Common.{◌++◌, [], ◌∷◌, ap, ◌∙◌}
-use Rattle.vt_list.specs.Ordered.{insert_ordered}
+use Rattle.vt_key.specs.Queues.{insert_ordered}
 use Rattle.vt_list.proofs.Firsts.{insert-between}
 use Rattle.vt_list.proofs.list.List.insert_ordered.Goals as goal
 

@@ -5,8 +5,8 @@ use Rattle.vt_key.specs.declared.letter.Letter.{Letter}
 use Rattle.vt_key.specs.declared.letter.Sign.{Sign}
 use Rattle.vt_key.specs.declared.letter.Sign.TheVariants.{Plus, Minus}
 use Rattle.vt_key.specs.Times.{TimeBefore}
+use Rattle.vt_key.specs.Queues.{has_rank}
 use Rattle.vt_model.specs.Settings.{end_of}
-use Rattle.vt_steps.specs.Letters.{has_rank}
 use Rattle.vt_steps.specs.ProcessSteps.{accept_process}
 use Rattle.vt_lp.specs.declared.entry.PastEvent.{PastEvent}
 use Rattle.vt_lp.specs.Held.{HeldProcess, StandsFor, IsProcessInside}
