@@ -70,8 +70,3 @@ pub use list::List;
 pub use parcel::Parcel;
 pub use predicate::Predicate;
 pub use stack::Stack;
-
-#[cfg(test)]
-mod line_tests;
-#[cfg(test)]
-mod tests;

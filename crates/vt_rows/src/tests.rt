@@ -1,5 +1,6 @@
 //! The simulator in one thread, and the parts of it.
 
+mod lists;
 mod models;
 mod pending;
 mod pieces;
