@@ -1,9 +1,6 @@
 //! The traffic model as a whole program: `traffic_demo run --lps 12 --end 100` prints the records of twelve junctions.
 #![tactic(auto)]
 
-#[cfg(test)]
-mod tests;
-
 use std::process::ExitCode;
 use vt_meter::Terminal;
 use vt_options::{OwnOption, ProgramTexts};

@@ -10,6 +10,3 @@ pub use drawing::{bernoulli, geometric, weighted};
 pub use exponentials::exponential;
 pub use histogram::{Histogram, histograms_count};
 pub use ring::{Ring, rings_are_queues};
-
-#[cfg(test)]
-mod tests;

@@ -2,9 +2,8 @@
 
 mod lists;
 mod models;
+mod parts;
 mod pending;
-mod pieces;
 mod sequential;
 mod streams;
 mod told;
-mod tournament;

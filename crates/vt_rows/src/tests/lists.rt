@@ -485,21 +485,21 @@ fn a_line_and_a_row_of_lines_are_one_word_each(rt: HostRuntime) {
 
 // A drop by recursion would take many times the stack that a thread has.
 #[test]
-fn two_million_nodes_are_dropped_on_a_small_stack(rt: HostRuntime) -> Result<(), Fail> {
+fn a_million_nodes_are_dropped_on_a_small_stack(rt: HostRuntime) -> Result<(), Fail> {
     let mut list = List::new(rt.alloc());
     let mut stack = Stack::new(rt.alloc());
-    for number in 0..2_000_000u32 {
+    for number in 0..1_000_000u32 {
         list.push_back(parcel(&rt, number)?);
         stack.push(parcel(&rt, number)?);
     }
-    assert_eq!(rt; (list.len(), stack.len()), (2_000_000, 2_000_000));
+    assert_eq!(rt; (list.len(), stack.len()), (1_000_000, 1_000_000));
     Ok(())
 }
 
 #[test]
-fn two_million_nodes_of_lines_are_dropped_on_a_small_stack(rt: HostRuntime) -> Result<(), Fail> {
+fn a_million_nodes_of_lines_are_dropped_on_a_small_stack(rt: HostRuntime) -> Result<(), Fail> {
     let mut row = Lines::new(rt.alloc());
-    for _ in 0..200_000u32 {
+    for _ in 0..100_000u32 {
         let mut line = Line::new(rt.alloc());
         for number in 0..10u32 {
             line.push_front(parcel(&rt, number)?);
@@ -509,10 +509,10 @@ fn two_million_nodes_of_lines_are_dropped_on_a_small_stack(rt: HostRuntime) -> R
         }
     }
     let mut line = Line::new(rt.alloc());
-    for number in 0..2_000_000u32 {
+    for number in 0..1_000_000u32 {
         line.push_front(parcel(&rt, number)?);
     }
-    assert_eq!(rt; line.front().copied(), Some(1_999_999));
+    assert_eq!(rt; line.front().copied(), Some(999_999));
     assert_eq!(rt; row.front().copied(), Some(9));
     Ok(())
 }

@@ -1,4 +1,4 @@
-//! Whole runs of the hop model.
+//! A run of the hop model that is read on its way. Whole runs stand in `examples/calls`.
 
 use crate::tests::told::are_told;
 use std::alloc::AllocGlobal;
@@ -63,73 +63,6 @@ fn has_number(rt: &impl Abort, run: &Sequential<'_, Hop>, lp: u32, want: Option<
 }
 
 #[test]
-fn two_tokens_hop_twice(rt: HostRuntime) -> Result<(), Fail> {
-    let model = Hop::new(2, 1, 2, 0).expect(&rt, "options");
-    let mut run = opened(&rt, &model, 2, 10);
-    let want = "1 0 0 1 1\n2 0 1 1 2\n3 0 1 1 513\n4 0 0 1 258\n5 0 0 1 66049\n6 0 1 1 131330\n";
-    runs(&rt, &mut run, want)?;
-    ends_with(&rt, &run, &[66049, 131330]);
-    Ok(())
-}
-
-#[test]
-fn events_of_one_time_go_by_key(rt: HostRuntime) -> Result<(), Fail> {
-    let model = Hop::new(1, 1, 1, 0).expect(&rt, "options");
-    let want = "1 0 0 1 1\n2 0 1 1 1\n2 0 1 1 258\n3 0 0 1 258\n";
-    runs(&rt, &mut opened(&rt, &model, 2, 10), want)
-}
-
-#[test]
-fn sources_break_ties_and_not_receivers(rt: HostRuntime) -> Result<(), Fail> {
-    let model = Hop::new(1, 2, 1, 0).expect(&rt, "options");
-    let want = "1 0 0 1 1\n2 0 2 1 1\n2 0 1 1 2\n";
-    runs(&rt, &mut opened(&rt, &model, 3, 3), want)
-}
-
-#[test]
-fn sends_past_the_end_take_numbers(rt: HostRuntime) -> Result<(), Fail> {
-    let model = Hop::new(2, 1, 2, 0).expect(&rt, "options");
-    let mut run = opened(&rt, &model, 2, 4);
-    let want = "1 0 0 1 1\n2 0 1 1 2\n3 0 1 1 513\n";
-    runs(&rt, &mut run, want)?;
-    has_number(&rt, &run, 0, Some(2));
-    has_number(&rt, &run, 1, Some(3));
-    Ok(())
-}
-
-#[test]
-fn tokens_hop_within_a_tick(rt: HostRuntime) -> Result<(), Fail> {
-    let model = Hop::new(2, 1, 2, 100).expect(&rt, "options");
-    let want =
-        "1 0 0 1 1\n1 100 1 1 1\n1 200 0 1 257\n2 0 1 1 258\n2 100 0 1 65794\n2 200 1 1 66050\n";
-    runs(&rt, &mut opened(&rt, &model, 2, 10), want)
-}
-
-// One process, whose token comes back three times: the third time there is no higher priority, and it takes the delay.
-fn three_rises(rt: &(impl Abort + AllocGlobal), end: u64, want: &str) -> Result<(), Fail> {
-    let model = Hop::new(3, 0, 2, 100).expect(rt, "options");
-    let mut run = opened(rt, &model, 1, end);
-    runs(rt, &mut run, want)?;
-    has_number(rt, &run, 0, Some(4));
-    Ok(())
-}
-
-#[test]
-fn past_the_last_priority_the_delay_counts(rt: HostRuntime) -> Result<(), Fail> {
-    let all = "1 0 0 1 1\n1 100 0 1 257\n1 200 0 1 65793\n3 0 0 1 16843009\n";
-    three_rises(&rt, 10, all)?;
-    three_rises(&rt, 2, "1 0 0 1 1\n1 100 0 1 257\n1 200 0 1 65793\n")
-}
-
-#[test]
-fn nothing_happens_before_time_one(rt: HostRuntime) -> Result<(), Fail> {
-    let model = Hop::new(2, 1, 2, 0).expect(&rt, "options");
-    let mut run = opened(&rt, &model, 2, 1);
-    steps(&rt, &mut run, false);
-    runs(&rt, &mut run, "")
-}
-
-#[test]
 fn a_run_is_read_on_its_way(rt: HostRuntime) -> Result<(), Fail> {
     let model = Hop::new(2, 1, 2, 0).expect(&rt, "options");
     let mut run = opened(&rt, &model, 2, 10);
@@ -146,5 +79,7 @@ fn a_run_is_read_on_its_way(rt: HostRuntime) -> Result<(), Fail> {
     steps(&rt, &mut run, false);
     has_number(&rt, &run, 0, Some(3));
     has_number(&rt, &run, 2, None);
-    Ok(())
+    ends_with(&rt, &run, &[66049, 131330]);
+    let all = "1 0 0 1 1\n2 0 1 1 2\n3 0 1 1 513\n4 0 0 1 258\n5 0 0 1 66049\n6 0 1 1 131330\n";
+    runs(&rt, &mut run, all)
 }

@@ -1,8 +1,8 @@
-//! The parts at values that were worked out elsewhere.
+//! The parts for models at values that were worked out elsewhere.
 
-use crate::{Histogram, Ring, bernoulli, exponential, geometric, weighted};
 use std::rt::{self, HostRuntime};
 use vt_model::Draws;
+use vt_parts::{Histogram, Ring, bernoulli, exponential, geometric, weighted};
 use vt_stream::LpStream;
 
 /// What each call answers, by a list in Python with `append` and `pop(0)`, and three places that it writes in turn.
