@@ -9,8 +9,8 @@ use Rattle.vt_key.specs.Times.{Time, TimeAtMost, time_at_most, earlier}
 use Rattle.vt_steps.specs.declared.step.Reply.TheVariants.{Waiting, Again, Announced}
 use Rattle.vt_steps.specs.World.{Board}
 use Rattle.vt_steps.specs.BoardSteps.{all_set, is_clear, with_report, after_pass, board_after_report, report_reply}
-use Rattle.vt_steps.proofs.Flags.{set-at}
-use Rattle.vt_steps.proofs.Places.{get-put_same, get-put_other, get-within}
+use Rattle.vt_steps.proofs.time.Flags.{set-at}
+use Rattle.vt_steps.proofs.lists.Places.{get-put_same, get-put_other, get-within}
 use Rattle.vt_board.specs.BoardOfRun.{with_new_pass}
 use Rattle.vt_board.specs.Passes.{WorkerReport, with_one_more, reply_to, board_after, board_after_all, AreAwaited, least_reported, times_reported, all_sent, all_got, ArePassesClosedBySums}
 

@@ -12,7 +12,7 @@ use Rattle.vt_model.specs.Sequential.{rows_before, records_of}
 use Rattle.vt_steps.specs.BookSteps.{may_commit}
 use Rattle.vt_steps.specs.Rows.{rows_in_order}
 use Rattle.vt_steps.specs.World.{least_floor}
-use Rattle.vt_steps.proofs.Tests.{both_pass}
+use Rattle.vt_steps.proofs.lists.Tests.{both_pass}
 use Rattle.vt_book.specs.Books.{is_within, are_within}
 use Rattle.vt_book.specs.Kept.{AreSameRows, AreNotBefore, IsKept}
 use Rattle.vt_book.proofs.FloorLemmas.{not-after}

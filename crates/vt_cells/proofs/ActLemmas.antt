@@ -13,7 +13,7 @@ use Rattle.vt_steps.specs.BoardSteps.{cut_board, may_report, with_report}
 use Rattle.vt_steps.specs.BookSteps.{may_commit, with_rows, may_close, closed_book}
 use Rattle.vt_steps.specs.CellSteps.{may_send, send, fetch, cut, reported, report, commit, close}
 use Rattle.vt_steps.specs.Cells.{in_inbox, on_board, in_book, Acted, left_alone, acted_at, acted_close, act}
-use Rattle.vt_steps.proofs.Outcomes.{unless_closed-open}
+use Rattle.vt_steps.proofs.steps.Outcomes.{unless_closed-open}
 
 module _ {S P : Type 0} (sim : Simulation S P) where
   pub act-send : (w v : ℕ) (part : Part P) (mails : List (Mail P)) → may_send sim w v part ≡ true →

@@ -17,7 +17,7 @@ use Rattle.vt_steps.specs.World.{Part, Board}
 use Rattle.vt_steps.specs.PartSteps.{part_after_cut, report_sent, report_got, report_least}
 use Rattle.vt_steps.specs.BoardSteps.{cut_board, may_report, with_report, board_after_report, report_reply}
 use Rattle.vt_steps.specs.Cells.{on_board, Acted}
-use Rattle.vt_steps.proofs.Tests.{both_pass}
+use Rattle.vt_steps.proofs.lists.Tests.{both_pass}
 use Rattle.vt_board.specs.Calls.{counted, cut_outcome, takes_report}
 use Rattle.vt_kernel.specs.Held.{HeldWorker, StandsFor}
 use Rattle.vt_kernel.specs.Guards.{held_letters}

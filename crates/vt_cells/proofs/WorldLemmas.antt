@@ -11,9 +11,9 @@ use Rattle.vt_steps.specs.CellSteps.{CellEffect, cut}
 use Rattle.vt_steps.specs.Next.{Outcome, next, with_part}
 use Rattle.vt_steps.specs.Cells.{CellName, board_cell, Cell, on_board, content, with_content, worker_of, cell_of, Acted, acted_at, act, put_back}
 use Rattle.vt_steps.specs.Laws.{IsAny}
-use Rattle.vt_steps.proofs.CellLemmas.{next-acts_on_one_cell}
-use Rattle.vt_steps.proofs.LocalLeads.{parts-put}
-use Rattle.vt_steps.proofs.Places.{get-put_same}
+use Rattle.vt_steps.proofs.steps.CellLemmas.{next-acts_on_one_cell}
+use Rattle.vt_steps.proofs.steps.LocalLeads.{parts-put}
+use Rattle.vt_steps.proofs.lists.Places.{get-put_same}
 use Rattle.vt_kernel.specs.Refusals.{IsPart, PassesLimit, IsStepRefusal}
 use Rattle.vt_cells.specs.Calls.{PassesThere, IsCellRefusal}
 

@@ -19,7 +19,7 @@ use Rattle.vt_model.specs.Settings.{end_of}
 use Rattle.std.specs.List.{last_or}
 use Rattle.std.specs.Option.{is_some}
 use Rattle.vt_steps.specs.Letters.{least_time, is_empty}
-use Rattle.vt_steps.proofs.Places.{get-put_same}
+use Rattle.vt_steps.proofs.lists.Places.{get-put_same}
 use Rattle.vt_kernel.specs.Held.{entries_of, ready_of, unready_of, other_rank, earliest_of, rank_time, has_past, AreMarked, TellsLeast}
 use Rattle.vt_kernel.specs.Entered.{AreEntered}
 use Rattle.vt_kernel.proofs.DeliveryLemmas.{get-all, one-letter}

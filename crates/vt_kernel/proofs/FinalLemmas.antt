@@ -6,7 +6,7 @@ use Rattle.vt_model.specs.Simulation.{simulation_of}
 use Rattle.vt_steps.specs.Finals.{values_of_processes}
 use Rattle.vt_steps.specs.StandsFor.{StandForProcesses}
 use Rattle.vt_steps.specs.World.{LogicalProcess, process_at}
-use Rattle.vt_steps.proofs.MemoryLemmas.{is_where}
+use Rattle.vt_steps.proofs.steps.MemoryLemmas.{is_where}
 use Rattle.vt_lp.specs.Held.{HeldProcess, process_memory}
 use Rattle.vt_kernel.specs.Held.{held_values, AreProcesses}
 

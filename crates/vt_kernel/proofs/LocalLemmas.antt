@@ -26,7 +26,7 @@ use Rattle.vt_lp.specs.Guards.{IsDone as ProcessIsDone}
 use Rattle.vt_kernel.specs.Held.{HeldWorker, IsWorkerInside, StandsFor, AreProcesses, process_of, has_past, TellsLeast, ready_of, unready_of, entries_of}
 use Rattle.vt_kernel.specs.Guards.{IsDone}
 use Rattle.vt_kernel.proofs.ProcessLemmas.{process-at, processes-changed, marked-changed, place-known, place-unknown, get-past}
-use Rattle.vt_steps.proofs.Places.{get-put_same}
+use Rattle.vt_steps.proofs.lists.Places.{get-put_same}
 use Rattle.vt_kernel.proofs.SettlingLemmas.{put-there}
 use Rattle.vt_kernel.proofs.OwnSteps.{at_own, not-own, no-process, found, done-at, refused-at, IsFound}
 

@@ -14,8 +14,8 @@ use Rattle.vt_steps.specs.ProcessSteps.{ProcessEffect, execute_process}
 use Rattle.vt_steps.specs.PartSteps.{with_effect, at_process, execute}
 use Rattle.vt_steps.specs.declared.step.Step.TheVariants.{Execute}
 use Rattle.vt_steps.specs.StandsFor.{StandsForProcess}
-use Rattle.vt_steps.proofs.Places.{get-put_same}
-use Rattle.vt_steps.proofs.MemoryLemmas.{is_where}
+use Rattle.vt_steps.proofs.lists.Places.{get-put_same}
+use Rattle.vt_steps.proofs.steps.MemoryLemmas.{is_where}
 use Rattle.vt_lp.specs.Held.{HeldProcess, process_memory, StandsFor as ProcessStandsFor}
 use Rattle.vt_lp.specs.Guards.{IsDone as ProcessIsDone, IsExecuteRefusal as ProcessIsExecuteRefusal, number_of}
 use Rattle.vt_kernel.specs.Held.{HeldWorker, StandsFor, AreProcesses}

@@ -7,7 +7,7 @@ use Rattle.vt_model.specs.Simulation.{simulation_of}
 use Rattle.vt_steps.specs.World.{LogicalProcess, Part, process_at}
 use Rattle.vt_steps.specs.ProcessSteps.{undo_process, cancel_process}
 use Rattle.vt_steps.specs.PartSteps.{with_effect}
-use Rattle.vt_steps.proofs.Places.{get-put_same}
+use Rattle.vt_steps.proofs.lists.Places.{get-put_same}
 use Rattle.vt_lp.specs.Held.{HeldProcess, StandsFor as ProcessStandsFor}
 use Rattle.vt_kernel.specs.Held.{HeldWorker, StandsFor, AreProcesses}
 use Rattle.vt_kernel.specs.Guards.{SettlesTo}

@@ -17,7 +17,7 @@ use Rattle.vt_steps.specs.declared.step.Step.TheVariants.{Undo, Cancel}
 use Rattle.vt_steps.specs.World.{LogicalProcess, Part}
 use Rattle.vt_steps.specs.ProcessSteps.{ProcessEffect, undo_process, cancel_process}
 use Rattle.vt_steps.specs.PartSteps.{with_effect}
-use Rattle.vt_steps.proofs.Places.{get-put_same}
+use Rattle.vt_steps.proofs.lists.Places.{get-put_same}
 use Rattle.vt_kernel.specs.Local.{local_step, local_steps, AreSettling, IsSettled, is_undo, count_undos}
 use Rattle.vt_lp.specs.Held.{HeldProcess, StandsFor as ProcessStandsFor}
 use Rattle.vt_lp.specs.Guards.{IsDone as ProcessIsDone, can_annihilate}

@@ -9,7 +9,7 @@ use Rattle.vt_model.specs.Handler.{Handlers}
 use Rattle.vt_model.specs.Simulation.{Triple, simulation_of, rows_of}
 use Rattle.vt_steps.specs.Letters.{unstamped, stamped, signed}
 use Rattle.vt_steps.specs.StandsFor.{IsRemembered}
-use Rattle.vt_steps.proofs.Stamped.{unstamped-stamped}
+use Rattle.vt_steps.proofs.letters.Stamped.{unstamped-stamped}
 use Rattle.vt_lp.specs.declared.executing.Trail.{Trail}
 use Rattle.vt_lp.specs.Held.{remembered, way_back}
 use Rattle.vt_lp.specs.Past.{past_event}

@@ -15,7 +15,7 @@ use Rattle.vt_model.specs.Settings.{end_of}
 use Rattle.vt_key.specs.Queues.{has_stamp, without_first, has_rank}
 use Rattle.vt_steps.specs.World.{LogicalProcess}
 use Rattle.vt_steps.specs.ProcessSteps.{ProcessEffect, are_opposite, cancel_process}
-use Rattle.vt_steps.proofs.Lists.{find-among, find-passes}
+use Rattle.vt_steps.proofs.lists.Lists.{find-among, find-passes}
 use Rattle.vt_pending.specs.Letters.{holds_rank, without_stamp}
 use Rattle.vt_lp.specs.declared.entry.PastEvent.{PastEvent}
 use Rattle.vt_lp.specs.Held.{HeldProcess, StandsFor, IsOwnLetter, IsNotPending, IsProcessInside}

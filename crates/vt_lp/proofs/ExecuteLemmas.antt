@@ -25,8 +25,8 @@ use Rattle.vt_steps.specs.Letters.{unstamped, stamped, signed}
 use Rattle.vt_steps.specs.World.{Entry, LogicalProcess, triple_after}
 use Rattle.vt_steps.specs.ProcessSteps.{may_follow, effect_of_execute, execute_least, execute_process}
 use Rattle.vt_steps.specs.StandsFor.{entry_of, IsRemembered, LeadTo}
-use Rattle.vt_steps.proofs.MemoryLemmas.{is_where, goes_on, after-append}
-use Rattle.vt_steps.proofs.Stamped.{length-stamped}
+use Rattle.vt_steps.proofs.steps.MemoryLemmas.{is_where, goes_on, after-append}
+use Rattle.vt_steps.proofs.letters.Stamped.{length-stamped}
 use Rattle.vt_lp.specs.declared.entry.PastEvent.{PastEvent}
 use Rattle.vt_lp.specs.declared.executing.Trail.{Trail}
 use Rattle.vt_lp.specs.Held.{HeldProcess, StandsFor, process_memory, remembered, way_back, IsOwnLetter, IsOwnEvent, IsReady, AllAfter, IsRisingPast, IsNotPending, IsProcessInside}

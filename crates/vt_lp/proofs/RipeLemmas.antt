@@ -19,7 +19,7 @@ use Rattle.vt_steps.specs.Rows.{rows_from}
 use Rattle.vt_steps.specs.World.{Entry, LogicalProcess, entry_events, triple_after}
 use Rattle.vt_steps.specs.PartSteps.{is_below, ripe, ripe_rows, process_after_commit}
 use Rattle.vt_steps.specs.StandsFor.{entry_of, fired_at, LeadTo}
-use Rattle.vt_steps.proofs.MemoryLemmas.{forgets}
+use Rattle.vt_steps.proofs.steps.MemoryLemmas.{forgets}
 use Rattle.vt_lp.specs.declared.entry.PastEvent.{PastEvent}
 use Rattle.vt_lp.specs.Held.{HeldProcess, StandsFor, remembered, process_memory, IsNotPending, IsOwnEvent, IsRisingPast, IsProcessInside}
 use Rattle.vt_lp.specs.Ripe.{is_ripe, unripe_events, rows_of_ripe}

@@ -7,7 +7,7 @@ use Rattle.vt_key.specs.declared.order.Rank.{Rank}
 use Rattle.vt_key.specs.declared.letter.Letter.{Letter}
 use Rattle.vt_key.proofs.OrderLemmas.{rank-transitive, rank_before-true, before-rank_before}
 use Rattle.vt_steps.specs.Letters.{letter_time, least_time}
-use Rattle.vt_steps.proofs.RankTimes.{rank-order-time}
+use Rattle.vt_steps.proofs.letters.RankTimes.{rank-order-time}
 use Rattle.vt_pending.specs.Letters.{AllAfter, IsRising}
 
 -- the first of two ranks is before the other, or it isn't

@@ -15,7 +15,7 @@ use Rattle.vt_steps.specs.World.{Part}
 use Rattle.vt_steps.specs.PartSteps.{is_for, part_after_fetch}
 use Rattle.vt_steps.specs.CellSteps.{may_send}
 use Rattle.vt_steps.specs.Cells.{in_inbox}
-use Rattle.vt_steps.proofs.Tests.{both_pass}
+use Rattle.vt_steps.proofs.lists.Tests.{both_pass}
 use Rattle.vt_kernel.specs.Held.{HeldWorker, StandsFor}
 use Rattle.vt_places.specs.declared.view.View.{View}
 use Rattle.vt_cells.specs.Calls.{Acts}

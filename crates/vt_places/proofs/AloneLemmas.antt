@@ -21,12 +21,12 @@ use Rattle.vt_steps.specs.Claims.{DoGuardsPass}
 use Rattle.vt_steps.specs.Laws.{IsAny}
 use Rattle.vt_steps.specs.Marked.{Marked, Made, Answered, answered, unmarked, Each, own_steps_of, shown}
 use Rattle.vt_steps.specs.Next.{Outcome, next, run, reached}
-use Rattle.vt_steps.proofs.CellLemmas.{next-acts_on_one_cell}
-use Rattle.vt_steps.proofs.Outcomes.{unless_closed-shut}
-use Rattle.vt_steps.proofs.HeadlineTheorem.{guards-pass}
-use Rattle.vt_steps.proofs.LocalLeads.{local-does}
-use Rattle.vt_steps.proofs.MarkedRuns.{steps-append}
-use Rattle.vt_steps.proofs.Tests.{both_pass}
+use Rattle.vt_steps.proofs.steps.CellLemmas.{next-acts_on_one_cell}
+use Rattle.vt_steps.proofs.steps.Outcomes.{unless_closed-shut}
+use Rattle.vt_steps.proofs.book.HeadlineTheorem.{guards-pass}
+use Rattle.vt_steps.proofs.steps.LocalLeads.{local-does}
+use Rattle.vt_steps.proofs.marks.MarkedRuns.{steps-append}
+use Rattle.vt_steps.proofs.lists.Tests.{both_pass}
 use Rattle.vt_kernel.specs.Held.{HeldWorker}
 use Rattle.vt_kernel.specs.Local.{local_steps}
 use Rattle.vt_places.specs.declared.view.View.{View}

@@ -7,7 +7,7 @@ use Rattle.vt_model.specs.Simulation.{Simulation}
 use Rattle.vt_steps.specs.World.{Book}
 use Rattle.vt_steps.specs.Cells.{Cell, in_book}
 use Rattle.vt_steps.specs.Marked.{answered, has_closed, shown}
-use Rattle.vt_steps.proofs.OwnCloses.{closed-known}
+use Rattle.vt_steps.proofs.marks.OwnCloses.{closed-known}
 use Rattle.vt_places.specs.Kept.{Sat}
 use Rattle.vt_places.specs.Calls.{Holding, TookThere}
 use Rattle.vt_places.proofs.Cells.{same-found}

@@ -9,8 +9,8 @@ use Rattle.vt_steps.specs.declared.step.Step.{Step}
 use Rattle.vt_steps.specs.World.{Book, World, book_floor}
 use Rattle.vt_steps.specs.BookSteps.{may_close}
 use Rattle.vt_steps.specs.Next.{next, run}
-use Rattle.vt_steps.proofs.Lists.{Every}
-use Rattle.vt_steps.proofs.Tests.{passes_both}
+use Rattle.vt_steps.proofs.lists.Lists.{Every}
+use Rattle.vt_steps.proofs.lists.Tests.{passes_both}
 use Rattle.vt_book.specs.Books.{is_within}
 use Rattle.vt_book.proofs.CommitRows.{IsBetween}
 

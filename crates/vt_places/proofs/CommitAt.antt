@@ -15,7 +15,7 @@ use Rattle.vt_steps.specs.PartSteps.{part_after_commit, rows_of_commit}
 use Rattle.vt_steps.specs.BookSteps.{may_commit, with_rows}
 use Rattle.vt_steps.specs.Cells.{Cell, Acted, in_book}
 use Rattle.vt_steps.specs.Marked.{shown}
-use Rattle.vt_steps.proofs.Tests.{both_pass}
+use Rattle.vt_steps.proofs.lists.Tests.{both_pass}
 use Rattle.vt_kernel.specs.Held.{HeldWorker, StandsFor}
 use Rattle.vt_book.specs.Books.{may_hand, are_within}
 use Rattle.vt_places.specs.declared.view.View.{View}

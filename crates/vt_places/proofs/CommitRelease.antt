@@ -13,7 +13,7 @@ use Rattle.vt_steps.specs.World.{Part}
 use Rattle.vt_steps.specs.PartSteps.{part_after_commit}
 use Rattle.vt_steps.specs.Cells.{book_cell, Cell}
 use Rattle.vt_steps.specs.Marked.{Made, marked, made_done, Leads}
-use Rattle.vt_steps.proofs.LocalLeads.{leads}
+use Rattle.vt_steps.proofs.steps.LocalLeads.{leads}
 use Rattle.vt_kernel.specs.Held.{HeldWorker, StandsFor}
 use Rattle.vt_places.specs.declared.view.View.{View}
 use Rattle.vt_places.specs.Slots.{cell_count, word_at, home_word, cell_at}

@@ -5,7 +5,7 @@ use Rattle.vt_steps.specs.declared.step.Step.{Step}
 use Rattle.vt_model.specs.Simulation.{Simulation}
 use Rattle.vt_steps.specs.World.{opening_world}
 use Rattle.vt_steps.specs.Marked.{Marked, Answered, marked, Each, own_steps_of, shown}
-use Rattle.vt_steps.proofs.MarkedRuns.{each-append, each-weaker, each-marked, own-append, own-others}
+use Rattle.vt_steps.proofs.marks.MarkedRuns.{each-append, each-weaker, each-marked, own-append, own-others}
 use Rattle.vt_places.specs.Kept.{HasGrown}
 
 -- what one worker has made, another hasn't

@@ -16,8 +16,8 @@ use Rattle.vt_steps.specs.World.{Part, World, book_floor, opening_world}
 use Rattle.vt_steps.specs.Cells.{CellName, inbox_of, Cell, in_inbox, content}
 use Rattle.vt_steps.specs.Marked.{Marked, Made, Answered, answered, unmarked, marked, Each, IsMarkedRight, own_steps_of, shown, DoesSo, Leads}
 use Rattle.vt_steps.specs.Next.{run}
-use Rattle.vt_steps.proofs.ReachedBooks.{reached-falls}
-use Rattle.vt_steps.proofs.MarkedRuns.{each-append, each-weaker, each-marked, own-append, shown-append, shown-marked}
+use Rattle.vt_steps.proofs.book.ReachedBooks.{reached-falls}
+use Rattle.vt_steps.proofs.marks.MarkedRuns.{each-append, each-weaker, each-marked, own-append, shown-append, shown-marked}
 use Rattle.vt_places.specs.declared.slot.Slot.{Slot}
 use Rattle.vt_places.specs.declared.view.View.{View}
 use Rattle.vt_places.specs.Hands.{empty_hand, holding}

@@ -8,7 +8,7 @@ use Rattle.vt_steps.specs.declared.step.Step.{Step}
 use Rattle.vt_steps.specs.Next.{next}
 use Rattle.vt_steps.specs.World.{World}
 use Rattle.vt_steps.specs.Marked.{Marked, Answered, unmarked, marked, Each, own_steps}
-use Rattle.vt_steps.proofs.MarkedRuns.{each-append, each-weaker, each-marked}
+use Rattle.vt_steps.proofs.marks.MarkedRuns.{each-append, each-weaker, each-marked}
 use Rattle.vt_places.specs.Kept.{HasGrown}
 use Rattle.vt_places.proofs.Growth.{grown-not, grown-more}
 

@@ -24,21 +24,21 @@ use Rattle.vt_steps.specs.Laws.{IsAny}
 use Rattle.vt_cells.specs.Calls.{IsCellRefusal}
 use Rattle.vt_cells.proofs.WorldLemmas.{refused-there}
 use Rattle.vt_steps.specs.Marked.{Marked, unmarked, marked, shown, DoesSo, made_done, has_cut_since, has_closed}
-use Rattle.vt_steps.proofs.Floors.{AreTimesSound, reached-times}
-use Rattle.vt_steps.proofs.Lists.{Every}
-use Rattle.vt_steps.proofs.LocalLeads.{local-does}
-use Rattle.vt_steps.proofs.MarkedRuns.{steps-append, shown-marked}
-use Rattle.vt_steps.proofs.OwnCloses.{closed-floors, unclosable-floor, closed-known}
-use Rattle.vt_steps.proofs.Places.{get-within}
-use Rattle.vt_steps.proofs.ReachedBooks.{reached-falls, reached-accounted}
-use Rattle.vt_steps.proofs.Records.{records-right}
-use Rattle.vt_steps.proofs.Tests.{passes_both}
+use Rattle.vt_steps.proofs.time.Floors.{AreTimesSound, reached-times}
+use Rattle.vt_steps.proofs.lists.Lists.{Every}
+use Rattle.vt_steps.proofs.steps.LocalLeads.{local-does}
+use Rattle.vt_steps.proofs.marks.MarkedRuns.{steps-append, shown-marked}
+use Rattle.vt_steps.proofs.marks.OwnCloses.{closed-floors, unclosable-floor, closed-known}
+use Rattle.vt_steps.proofs.lists.Places.{get-within}
+use Rattle.vt_steps.proofs.book.ReachedBooks.{reached-falls, reached-accounted}
+use Rattle.vt_steps.proofs.book.Records.{records-right}
+use Rattle.vt_steps.proofs.lists.Tests.{passes_both}
 use Rattle.std.proofs.lemmas.Option.{slice_get_within}
 use Rattle.vt_book.specs.Books.{may_hand, are_within}
-use Rattle.vt_steps.proofs.OwnCuts.{refused-cut-known}
+use Rattle.vt_steps.proofs.marks.OwnCuts.{refused-cut-known}
 use Rattle.vt_kernel.specs.Local.{local_steps}
 use Rattle.vt_kernel.specs.Refusals.{IsStepRefusal}
-use Rattle.vt_steps.proofs.CellSteps.{next-commit, next-commit_closed, next-not_close, next-close_closed}
+use Rattle.vt_steps.proofs.steps.CellSteps.{next-commit, next-commit_closed, next-not_close, next-close_closed}
 use Rattle.vt_book.proofs.CommitRows.{IsBetween, commit-between}
 use Rattle.vt_places.specs.declared.view.View.{View}
 use Rattle.vt_places.specs.Calls.{Known, IsRefusedBy, IsCutRefusal, IsReportRefusal, IsCommitRefusal, IsCloseRefusal, IsFloorLeft, AreRecordsShown}

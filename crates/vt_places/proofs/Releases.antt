@@ -18,8 +18,8 @@ use Rattle.vt_steps.specs.PartSteps.{act_locally, home}
 use Rattle.vt_steps.specs.Cells.{book_cell, Cell, in_inbox, worker_of, cell_of, acted_locally, act}
 use Rattle.vt_steps.specs.Laws.{IsAny}
 use Rattle.vt_steps.specs.Marked.{Made, marked, made_done, LeadsLocally, LeadLocally, Leads}
-use Rattle.vt_steps.proofs.Changes.{chain_has}
-use Rattle.vt_steps.proofs.LocalLeads.{leads, leads-nowhere}
+use Rattle.vt_steps.proofs.steps.Changes.{chain_has}
+use Rattle.vt_steps.proofs.steps.LocalLeads.{leads, leads-nowhere}
 use Rattle.vt_kernel.specs.Held.{HeldWorker}
 use Rattle.vt_kernel.specs.Local.{local_step, local_steps}
 use Rattle.vt_places.specs.declared.view.View.{View}

@@ -15,9 +15,9 @@ use Rattle.vt_steps.specs.World.{opening_part, opening_world}
 use Rattle.vt_steps.specs.Cells.{inbox_of, Cell, in_inbox, content}
 use Rattle.vt_steps.specs.Marked.{Marked, Each, own_steps}
 use Rattle.vt_steps.specs.Next.{run}
-use Rattle.vt_steps.proofs.MarkedRuns.{each-weaker, own-others}
-use Rattle.vt_steps.proofs.LocalLeads.{run-others_part}
-use Rattle.vt_steps.proofs.Places.{get-map_range}
+use Rattle.vt_steps.proofs.marks.MarkedRuns.{each-weaker, own-others}
+use Rattle.vt_steps.proofs.steps.LocalLeads.{run-others_part}
+use Rattle.vt_steps.proofs.lists.Places.{get-map_range}
 use Rattle.vt_places.specs.declared.slot.Slot.{Slot}
 use Rattle.vt_places.specs.declared.view.View.{View}
 use Rattle.vt_places.specs.Hands.{empty_hand, holding}

@@ -16,8 +16,8 @@ use Rattle.vt_model.specs.Settings.{end_of}
 use Rattle.vt_steps.specs.World.{World, Board, Book, opening_world, least, book_floor, book_records}
 use Rattle.vt_steps.specs.Next.{reached}
 use Rattle.vt_steps.specs.StandsFor.{StandsFor}
-use Rattle.vt_steps.proofs.ReachedBooks.{reached-accounted}
-use Rattle.vt_steps.proofs.Records.{records-right}
+use Rattle.vt_steps.proofs.book.ReachedBooks.{reached-accounted}
+use Rattle.vt_steps.proofs.book.Records.{records-right}
 use Rattle.vt_world.specs.Held.{HeldWorld, world_memory, StandsForWorld}
 use Rattle.vt_world.specs.Calls.{floor_held, least_held}
 use Rattle.vt_world.specs.Answers.{PassesAtStart, IsOpeningRefusal}

@@ -19,7 +19,7 @@ use Rattle.vt_steps.specs.declared.step.Reply.{Reply}
 use Rattle.vt_steps.specs.World.{World}
 use Rattle.vt_steps.specs.Next.{next}
 use Rattle.vt_steps.specs.StandsFor.{StandsFor}
-use Rattle.vt_steps.proofs.Refusals.{refusals}
+use Rattle.vt_steps.proofs.steps.Refusals.{refusals}
 use Rattle.vt_world.specs.Held.{HeldWorld, world_memory, StandsForWorld}
 use Rattle.vt_world.specs.Calls.{IsStepOf}
 use Rattle.vt_step_text.specs.declared.reading.NumberedStep.{NumberedStep}

@@ -16,7 +16,7 @@ use Rattle.vt_model.specs.Simulation.{Simulation, simulation_of}
 use Rattle.vt_model.specs.Sequential.{opening, weight, after_steps, whole_run, rows_after, seq_records}
 use Rattle.vt_model.proofs.RowLemmas.{all_before}
 use Rattle.vt_model.proofs.RunLemmas.{known_sent, lists_of, reached}
-use Rattle.vt_steps.proofs.SequentialRows.{seq_records-begin}
+use Rattle.vt_steps.proofs.book.SequentialRows.{seq_records-begin}
 use Rattle.vt_station.specs.Crew.{IsStop}
 use Rattle.vt_text.specs.declared.version.Version.{Version}
 use Rattle.vt_text.specs.Records.{first_line, record_text, record_lines, records_text}

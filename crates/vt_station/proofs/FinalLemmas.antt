@@ -15,10 +15,10 @@ use Rattle.vt_steps.specs.Finals.{final_value, worker_finals, part_values}
 use Rattle.vt_steps.specs.Marked.{unmarked, shown}
 use Rattle.vt_steps.specs.Next.{reached}
 use Rattle.vt_steps.specs.World.{World, opening_world, process_at, process_count}
-use Rattle.vt_steps.proofs.FinalValues.{quiet-at_end, quiet-values}
-use Rattle.vt_steps.proofs.LocalLeads.{local-does}
-use Rattle.vt_steps.proofs.MarkedRuns.{steps-append}
-use Rattle.vt_steps.proofs.Places.{get-map, get-range}
+use Rattle.vt_steps.proofs.history.FinalValues.{quiet-at_end, quiet-values}
+use Rattle.vt_steps.proofs.steps.LocalLeads.{local-does}
+use Rattle.vt_steps.proofs.marks.MarkedRuns.{steps-append}
+use Rattle.vt_steps.proofs.lists.Places.{get-map, get-range}
 use Rattle.vt_kernel.specs.Held.{HeldWorker}
 use Rattle.vt_places.specs.declared.view.View.{View}
 use Rattle.vt_places.specs.Calls.{IsShown, Reaches}

@@ -17,8 +17,8 @@ use Rattle.vt_steps.specs.Next.{next, run, reached}
 use Rattle.vt_steps.specs.Claims.{AreProcessesFinal, IsWhole}
 use Rattle.vt_steps.specs.Cells.{cell_of, book_cell}
 use Rattle.vt_steps.specs.StandsFor.{GoesOn}
-use Rattle.vt_steps.proofs.ReachedBooks.{closed-finals, closed-stays, closed-whole}
-use Rattle.vt_steps.proofs.Refusals.{refusals as refusal-laws}
+use Rattle.vt_steps.proofs.book.ReachedBooks.{closed-finals, closed-stays, closed-whole}
+use Rattle.vt_steps.proofs.steps.Refusals.{refusals as refusal-laws}
 use Rattle.vt_kernel.specs.Refusals.{IsStepRefusal}
 use Rattle.vt_world.specs.Held.{HeldWorld, world_memory, StandsForWorld, IsReached, IsWorldInside}
 use Rattle.vt_world.specs.Calls.{floor_held}

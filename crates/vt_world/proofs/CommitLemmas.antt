@@ -20,14 +20,14 @@ use Rattle.vt_steps.specs.World.{Part, World, Book}
 use Rattle.vt_steps.specs.PartSteps.{rows_of_commit, part_after_commit}
 use Rattle.vt_steps.specs.BookSteps.{may_commit, with_rows}
 use Rattle.vt_steps.specs.Next.{Outcome, reached}
-use Rattle.vt_steps.proofs.Floors.{reached-times}
-use Rattle.vt_steps.proofs.Lists.{Every}
-use Rattle.vt_steps.proofs.Places.{get-within}
-use Rattle.vt_steps.proofs.Tests.{passes_both}
+use Rattle.vt_steps.proofs.time.Floors.{reached-times}
+use Rattle.vt_steps.proofs.lists.Lists.{Every}
+use Rattle.vt_steps.proofs.lists.Places.{get-within}
+use Rattle.vt_steps.proofs.lists.Tests.{passes_both}
 use Rattle.vt_kernel.specs.Held.{HeldWorker, StandsFor as WorkerStandsFor}
 use Rattle.vt_book.specs.Books.{may_hand, is_within, are_within, refusal_of_hand, refusal_where}
 use Rattle.vt_kernel.specs.Refusals.{IsStepRefusal}
-use Rattle.vt_steps.proofs.CellSteps.{next-commit}
+use Rattle.vt_steps.proofs.steps.CellSteps.{next-commit}
 use Rattle.vt_book.proofs.CommitRows.{IsBetween, commit-between}
 use Rattle.vt_steps.specs.StandsFor.{GoesOn}
 use Rattle.vt_world.specs.Held.{HeldWorld, world_memory, StandsForWorld, IsReached, IsWorldInside}

@@ -15,8 +15,8 @@ use Rattle.vt_model.specs.Sequential.{events_of, whole_run}
 use Rattle.vt_steps.specs.Next.{reached}
 use Rattle.vt_steps.specs.World.{process_at}
 use Rattle.vt_steps.specs.StandsFor.{StandsForProcess}
-use Rattle.vt_steps.proofs.FinalValues.{events-end}
-use Rattle.vt_steps.proofs.MemoryLemmas.{is_where}
+use Rattle.vt_steps.proofs.history.FinalValues.{events-end}
+use Rattle.vt_steps.proofs.steps.MemoryLemmas.{is_where}
 use Rattle.vt_lp.specs.Held.{HeldProcess, process_memory}
 use Rattle.vt_kernel.specs.Held.{HeldWorker, part_memory, process_of}
 use Rattle.vt_kernel.proofs.ProcessLemmas.{get-map_of, stands-at as process-stands-at}

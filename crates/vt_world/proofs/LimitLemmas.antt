@@ -10,7 +10,7 @@ use Rattle.vt_steps.specs.World.{Part, World}
 use Rattle.vt_kernel.specs.Held.{HeldWorker, StandsFor as WorkerStandsFor}
 use Rattle.vt_kernel.specs.Guards.{AreWithinLimits}
 use Rattle.vt_kernel.specs.Refusals.{PassesLimit}
-use Rattle.vt_steps.proofs.Places.{get-put_same}
+use Rattle.vt_steps.proofs.lists.Places.{get-put_same}
 use Rattle.vt_world.specs.Held.{HeldWorld, StandsForWorld, IsWorldInside}
 use Rattle.vt_world.proofs.WorldLemmas.{IsSame, found}
 use Rattle.vt_world.proofs.WorldSteps.{who}

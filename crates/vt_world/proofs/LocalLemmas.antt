@@ -20,7 +20,7 @@ use Rattle.vt_kernel.specs.Held.{HeldWorker, StandsFor as WorkerStandsFor}
 use Rattle.vt_kernel.specs.Local.{local_step}
 use Rattle.vt_kernel.specs.Guards.{IsDone, IsExecuteRefusal, IsAcceptRefusal}
 use Rattle.vt_kernel.specs.Refusals.{IsStepRefusal, PassesLimit}
-use Rattle.vt_steps.proofs.Places.{get-put_same}
+use Rattle.vt_steps.proofs.lists.Places.{get-put_same}
 use Rattle.vt_world.specs.Held.{HeldWorld, world_memory, StandsForWorld, IsReached, IsWorldInside}
 use Rattle.vt_world.proofs.WorldLemmas.{IsSame, IsLocalAt, IsFound, found, next-locally, local-done, local-refused}
 use Rattle.vt_world.proofs.WorldSteps.{who}

@@ -17,7 +17,7 @@ use Rattle.vt_steps.specs.Letters.{unstamped}
 use Rattle.vt_steps.specs.World.{Entry, World, entry_events, least}
 use Rattle.vt_steps.specs.Next.{reached}
 use Rattle.vt_steps.specs.StandsFor.{entry_of}
-use Rattle.vt_steps.proofs.HistoriesTheorem.{histories}
+use Rattle.vt_steps.proofs.history.HistoriesTheorem.{histories}
 use Rattle.vt_lp.specs.Held.{HeldProcess, executed_events, process_memory, remembered}
 use Rattle.vt_lp.specs.declared.entry.PastEvent.{PastEvent}
 use Rattle.vt_kernel.specs.Held.{HeldWorker, IsProcessOf, process_of}

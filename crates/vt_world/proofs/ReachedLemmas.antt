@@ -16,8 +16,8 @@ use Rattle.vt_steps.specs.World.{LogicalProcess, Part, World, Board, Book, lette
 use Rattle.vt_steps.specs.Next.{reached}
 use Rattle.vt_steps.specs.Claims.{AreFloorsRight}
 use Rattle.vt_steps.specs.StandsFor.{StandForProcesses, StandForParts}
-use Rattle.vt_steps.proofs.ReachedBooks.{reached-accounted}
-use Rattle.vt_steps.proofs.Records.{floors-right, records-right}
+use Rattle.vt_steps.proofs.book.ReachedBooks.{reached-accounted}
+use Rattle.vt_steps.proofs.book.Records.{floors-right, records-right}
 use Rattle.vt_lp.specs.Held.{HeldProcess, process_memory}
 use Rattle.vt_kernel.specs.Held.{HeldWorker, part_memory}
 use Rattle.vt_kernel.specs.Guards.{held_letters}

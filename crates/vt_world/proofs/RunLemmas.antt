@@ -9,8 +9,8 @@ use Rattle.vt_steps.specs.declared.step.Reply.{Reply}
 use Rattle.vt_steps.specs.World.{World}
 use Rattle.vt_steps.specs.Next.{next, run, answers}
 use Rattle.vt_steps.specs.StandsFor.{WorldMemory, StandsFor, GoesOn, RunsTo}
-use Rattle.vt_steps.proofs.MemoryLemmas.{run-append}
-use Rattle.vt_steps.proofs.Refusals.{refusals as refusal-laws}
+use Rattle.vt_steps.proofs.steps.MemoryLemmas.{run-append}
+use Rattle.vt_steps.proofs.steps.Refusals.{refusals as refusal-laws}
 use Rattle.vt_kernel.specs.Refusals.{IsSpent}
 use Rattle.vt_world.specs.Held.{HeldWorld, world_memory, StandsForWorld}
 use Rattle.vt_world.specs.Calls.{IsStepOf, IsAnsweredBy, refusals}

@@ -19,9 +19,9 @@ use Rattle.vt_steps.specs.declared.step.Reply.{Reply}
 use Rattle.vt_steps.specs.declared.step.Reply.TheVariants.{Done}
 use Rattle.vt_steps.specs.World.{World, Board, Book, book_floor}
 use Rattle.vt_steps.specs.Next.{next, run, reached}
-use Rattle.vt_steps.proofs.Floors.{nothing-falls, reached-times}
+use Rattle.vt_steps.proofs.time.Floors.{nothing-falls, reached-times}
 use Rattle.vt_steps.specs.StandsFor.{GoesOn}
-use Rattle.vt_steps.proofs.MemoryLemmas.{still_reached}
+use Rattle.vt_steps.proofs.steps.MemoryLemmas.{still_reached}
 use Rattle.vt_kernel.specs.Held.{HeldWorker}
 use Rattle.vt_steps.specs.BookSteps.{may_close, closed_book}
 use Rattle.vt_book.specs.Books.{RunBook, refusal_where, refusal_of_close}

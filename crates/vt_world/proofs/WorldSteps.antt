@@ -20,7 +20,7 @@ use Rattle.vt_steps.specs.BookSteps.{may_commit, with_rows, may_close, closed_bo
 use Rattle.vt_steps.specs.Next.{Outcome, next, refused, replied, with_part, done_or_refused}
 use Rattle.vt_steps.specs.StandsFor.{GoesOn}
 use Rattle.vt_kernel.specs.Held.{HeldWorker, part_memory, StandsFor as WorkerStandsFor}
-use Rattle.vt_steps.proofs.CellSteps.{next-report_nobody, next-commit, next-commit_closed, next-close, next-not_close, next-close_closed, next-commit_nobody, next-send_nobody, next-send_nowhere, next-fetch_nobody, next-cut_nobody}
+use Rattle.vt_steps.proofs.steps.CellSteps.{next-report_nobody, next-commit, next-commit_closed, next-close, next-not_close, next-close_closed, next-commit_nobody, next-send_nobody, next-send_nowhere, next-fetch_nobody, next-cut_nobody}
 use Rattle.vt_world.specs.Held.{HeldWorld, world_memory, StandsForWorld, IsWorldInside}
 use Rattle.vt_world.proofs.WorldLemmas.{IsSame, nobody-at, worker-at, found, part-changed}
 

@@ -1,7 +1,7 @@
 use Rattle.std.proofs.Common.{rules, ◌≡◌, ◌∙◌, length, slice_set, List, slice_get, ap, sym, subst}
 use Rattle.std.proofs.lemmas.List.{length-set, get_or-set_same}
 use Rattle.vt_tournament.specs.Contest.{IsTournamentOf}
-use Rattle.vt_steps.proofs.Places.{get-put_same}
+use Rattle.vt_steps.proofs.lists.Places.{get-put_same}
 use Rattle.vt_lp.specs.Held.{HeldProcess}
 use Rattle.vt_kernel.specs.Held.{AreMarked, has_past, entries_of, ready_of, unready_of}
 use Rattle.vt_kernel.proofs.EnteringLemmas.{in-changed, was-entered, ready-kept, unready-kept, nobody-unready, entry-kept}

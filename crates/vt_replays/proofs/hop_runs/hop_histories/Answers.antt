@@ -1,6 +1,6 @@
 use Rattle.vt_model.specs.Simulation.{simulation_of}
 use Rattle.vt_models.specs.Hop.{hop_handlers}
-use Rattle.vt_steps.proofs.HistoriesTheorem.{histories}
+use Rattle.vt_steps.proofs.history.HistoriesTheorem.{histories}
 use Rattle.vt_replays.proofs.hop_runs.hop_histories.Goals as goal
 
 pub returns : goal.returns

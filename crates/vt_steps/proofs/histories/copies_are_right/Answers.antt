@@ -1,4 +1,4 @@
-use Rattle.vt_steps.proofs.Stamps.{copies_are_right}
+use Rattle.vt_steps.proofs.letters.Stamps.{copies_are_right}
 use Rattle.vt_steps.proofs.histories.copies_are_right.Goals as goal
 
 pub returns : goal.returns

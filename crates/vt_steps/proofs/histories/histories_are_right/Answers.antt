@@ -1,4 +1,4 @@
-use Rattle.vt_steps.proofs.HistoriesTheorem.{histories}
+use Rattle.vt_steps.proofs.history.HistoriesTheorem.{histories}
 use Rattle.vt_steps.proofs.histories.histories_are_right.Goals as goal
 
 pub returns : goal.returns

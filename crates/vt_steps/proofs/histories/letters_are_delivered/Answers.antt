@@ -1,4 +1,4 @@
-use Rattle.vt_steps.proofs.LetterGuards.{homes-done, accepts-done}
+use Rattle.vt_steps.proofs.steps.LetterGuards.{homes-done, accepts-done}
 use Rattle.vt_steps.proofs.histories.letters_are_delivered.Goals as goal
 
 pub returns : goal.returns

@@ -1,4 +1,4 @@
-use Rattle.vt_steps.proofs.Ranks.{ranks_rise}
+use Rattle.vt_steps.proofs.letters.Ranks.{ranks_rise}
 use Rattle.vt_steps.proofs.histories.ranks_rise.Goals as goal
 
 pub returns : goal.returns

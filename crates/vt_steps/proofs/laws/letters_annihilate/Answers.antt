@@ -1,4 +1,4 @@
-use Rattle.vt_steps.proofs.Annihilation.{annihilate}
+use Rattle.vt_steps.proofs.letters.Annihilation.{annihilate}
 use Rattle.vt_steps.proofs.laws.letters_annihilate.Goals as goal
 
 pub returns : goal.returns

@@ -1,4 +1,4 @@
-use Rattle.vt_steps.proofs.LetterLemmas.{letters_right}
+use Rattle.vt_steps.proofs.letters.LetterLemmas.{letters_right}
 use Rattle.vt_steps.proofs.laws.letters_are_kept.Goals as goal
 
 pub returns : goal.returns

@@ -1,4 +1,4 @@
-use Rattle.vt_steps.proofs.Refusals.{refusals}
+use Rattle.vt_steps.proofs.steps.Refusals.{refusals}
 use Rattle.vt_steps.proofs.laws.refused_steps_change_nothing.Goals as goal
 
 pub returns : goal.returns

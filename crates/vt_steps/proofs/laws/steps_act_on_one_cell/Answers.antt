@@ -1,4 +1,4 @@
-use Rattle.vt_steps.proofs.CellLemmas.{next-acts_on_one_cell, local-leaves_cells}
+use Rattle.vt_steps.proofs.steps.CellLemmas.{next-acts_on_one_cell, local-leaves_cells}
 use Rattle.vt_steps.proofs.laws.steps_act_on_one_cell.Goals as goal
 
 pub returns : goal.returns

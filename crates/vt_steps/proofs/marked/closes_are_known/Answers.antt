@@ -1,4 +1,4 @@
-use Rattle.vt_steps.proofs.OwnCloses.{closed-known, closed-floors, unclosable-floor}
+use Rattle.vt_steps.proofs.marks.OwnCloses.{closed-known, closed-floors, unclosable-floor}
 use Rattle.vt_steps.proofs.marked.closes_are_known.Goals as goal
 
 pub returns : goal.returns

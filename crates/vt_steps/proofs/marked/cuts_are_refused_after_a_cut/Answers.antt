@@ -1,4 +1,4 @@
-use Rattle.vt_steps.proofs.OwnCuts.{refused-cut-known}
+use Rattle.vt_steps.proofs.marks.OwnCuts.{refused-cut-known}
 use Rattle.vt_steps.proofs.marked.cuts_are_refused_after_a_cut.Goals as goal
 
 pub returns : goal.returns

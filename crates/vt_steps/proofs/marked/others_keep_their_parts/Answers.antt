@@ -1,4 +1,4 @@
-use Rattle.vt_steps.proofs.LocalLeads.{others-part}
+use Rattle.vt_steps.proofs.steps.LocalLeads.{others-part}
 use Rattle.vt_steps.proofs.marked.others_keep_their_parts.Goals as goal
 
 pub returns : goal.returns

@@ -1,4 +1,4 @@
-use Rattle.vt_steps.proofs.LocalLeads.{leads}
+use Rattle.vt_steps.proofs.steps.LocalLeads.{leads}
 use Rattle.vt_steps.proofs.marked.own_steps_may_come_last.Goals as goal
 
 pub returns : goal.returns

@@ -1,4 +1,4 @@
-use Rattle.vt_steps.proofs.MemoryLemmas.{forgets}
+use Rattle.vt_steps.proofs.steps.MemoryLemmas.{forgets}
 use Rattle.vt_steps.proofs.memory.memory_forgets_what_is_committed.Goals as goal
 
 pub returns : goal.returns

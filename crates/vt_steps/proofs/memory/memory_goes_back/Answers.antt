@@ -1,4 +1,4 @@
-use Rattle.vt_steps.proofs.MemoryLemmas.{goes_back}
+use Rattle.vt_steps.proofs.steps.MemoryLemmas.{goes_back}
 use Rattle.vt_steps.proofs.memory.memory_goes_back.Goals as goal
 
 pub returns : goal.returns

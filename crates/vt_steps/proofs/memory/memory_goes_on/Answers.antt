@@ -1,4 +1,4 @@
-use Rattle.vt_steps.proofs.MemoryLemmas.{goes_on}
+use Rattle.vt_steps.proofs.steps.MemoryLemmas.{goes_on}
 use Rattle.vt_steps.proofs.memory.memory_goes_on.Goals as goal
 
 pub returns : goal.returns

@@ -1,4 +1,4 @@
-use Rattle.vt_steps.proofs.MemoryLemmas.{still_reached, still_reached_by_run}
+use Rattle.vt_steps.proofs.steps.MemoryLemmas.{still_reached, still_reached_by_run}
 use Rattle.vt_steps.proofs.memory.values_stay_reached.Goals as goal
 
 pub returns : goal.returns

@@ -1,5 +1,5 @@
 use Rattle.vt_steps.specs.Next.{reached}
-use Rattle.vt_steps.proofs.ReachedBooks.{closed-finals, closed-stays, closed-whole}
+use Rattle.vt_steps.proofs.book.ReachedBooks.{closed-finals, closed-stays, closed-whole}
 use Rattle.vt_steps.proofs.theorem.closed_book_is_whole.Goals as goal
 
 pub returns : goal.returns

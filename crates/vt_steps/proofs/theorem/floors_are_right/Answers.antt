@@ -1,6 +1,6 @@
 use Rattle.vt_steps.specs.Next.{reached}
-use Rattle.vt_steps.proofs.ReachedBooks.{reached-accounted, reached-falls}
-use Rattle.vt_steps.proofs.Records.{floors-right}
+use Rattle.vt_steps.proofs.book.ReachedBooks.{reached-accounted, reached-falls}
+use Rattle.vt_steps.proofs.book.Records.{floors-right}
 use Rattle.vt_steps.proofs.theorem.floors_are_right.Goals as goal
 
 pub returns : goal.returns

@@ -1,4 +1,4 @@
-use Rattle.vt_steps.proofs.HeadlineTheorem.{guards-pass}
+use Rattle.vt_steps.proofs.book.HeadlineTheorem.{guards-pass}
 use Rattle.vt_steps.proofs.theorem.guards_never_fail.Goals as goal
 
 pub returns : goal.returns

@@ -1,4 +1,4 @@
-use Rattle.vt_steps.proofs.HeadlineTheorem as theorem
+use Rattle.vt_steps.proofs.book.HeadlineTheorem as theorem
 use Rattle.vt_steps.proofs.theorem.headline.Goals as goal
 
 pub returns : goal.returns

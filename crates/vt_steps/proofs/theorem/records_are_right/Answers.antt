@@ -1,7 +1,7 @@
 use Rattle.vt_steps.specs.Next.{reached}
-use Rattle.vt_steps.proofs.EachOnce.{book-once}
-use Rattle.vt_steps.proofs.ReachedBooks.{reached-accounted}
-use Rattle.vt_steps.proofs.Records.{records-right}
+use Rattle.vt_steps.proofs.book.EachOnce.{book-once}
+use Rattle.vt_steps.proofs.book.ReachedBooks.{reached-accounted}
+use Rattle.vt_steps.proofs.book.Records.{records-right}
 use Rattle.vt_steps.proofs.theorem.records_are_right.Goals as goal
 
 pub returns : goal.returns

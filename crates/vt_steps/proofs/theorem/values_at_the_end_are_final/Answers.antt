@@ -1,4 +1,4 @@
-use Rattle.vt_steps.proofs.FinalValues.{quiet-at_end, quiet-values}
+use Rattle.vt_steps.proofs.history.FinalValues.{quiet-at_end, quiet-values}
 use Rattle.vt_steps.proofs.theorem.values_at_the_end_are_final.Goals as goal
 
 pub returns : goal.returns

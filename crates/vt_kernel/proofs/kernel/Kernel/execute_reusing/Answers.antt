@@ -6,7 +6,7 @@ use Rattle.vt_model.specs.declared.settings.Config.{Config}
 use Rattle.vt_model.specs.Simulation.{simulation_of}
 use Rattle.vt_steps.specs.ProcessSteps.{execute_process}
 use Rattle.vt_steps.specs.declared.step.Step.TheVariants as step
-use Rattle.vt_steps.proofs.Places.{get-put_same}
+use Rattle.vt_steps.proofs.lists.Places.{get-put_same}
 use Rattle.vt_lp.specs.Held.{HeldProcess, AllWithinRun}
 use Rattle.vt_lp.specs.Guards.{IsDone as ProcessIsDone, IsExecuteRefusal as ProcessRefusal}
 use Rattle.vt_kernel.specs.Held.{HeldWorker, StandsFor, process_of}

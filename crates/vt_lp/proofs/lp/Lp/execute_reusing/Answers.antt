@@ -13,7 +13,7 @@ use Rattle.vt_model.specs.Settings.{end_of}
 use Rattle.vt_steps.specs.Letters.{unstamped, stamped, signed}
 use Rattle.vt_steps.specs.World.{entry_events}
 use Rattle.vt_steps.specs.ProcessSteps.{execute_process}
-use Rattle.vt_steps.proofs.MemoryLemmas.{is_where}
+use Rattle.vt_steps.proofs.steps.MemoryLemmas.{is_where}
 use Rattle.vt_lp.specs.Held.{HeldProcess, StandsFor, AllWithinRun, IsWithinRun, IsOwnLetter, process_memory}
 use Rattle.vt_lp.specs.Guards.{IsDone, IsExecuteRefusal}
 use Rattle.vt_model.proofs.Sizes.{out_fits}

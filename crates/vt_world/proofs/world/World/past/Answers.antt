@@ -5,7 +5,7 @@ use Rattle.vt_key.specs.declared.fault.Fault.TheVariants.{Memory, NotLawful}
 use Rattle.vt_model.proofs.LawLemmas.{lawful_of}
 use Rattle.vt_model.specs.Simulation.{simulation_of}
 use Rattle.vt_steps.specs.World.{World}
-use Rattle.vt_steps.proofs.HistoriesTheorem.{histories}
+use Rattle.vt_steps.proofs.history.HistoriesTheorem.{histories}
 use Rattle.vt_world.specs.Held.{HeldWorld, StandsForWorld, IsReached}
 use Rattle.vt_world.specs.Calls.{least_held}
 use Rattle.vt_world.specs.Answers.{IsPastIn, EndsSequential}

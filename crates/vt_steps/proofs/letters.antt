@@ -1,0 +1,13 @@
+pub mod Stamped
+pub mod Balance
+pub mod Annihilation
+pub mod OpeningSums
+pub mod Stamps
+pub mod RankTimes
+pub mod Colours
+pub mod MailLemmas
+pub mod LetterLemmas
+pub mod Entries
+pub mod EventTimes
+pub mod Ranks
+pub mod ProcessSums

@@ -1,0 +1,4 @@
+pub mod Lists
+pub mod Places
+pub mod Sums
+pub mod Tests

@@ -1,0 +1,3 @@
+pub mod MarkedRuns
+pub mod OwnCuts
+pub mod OwnCloses

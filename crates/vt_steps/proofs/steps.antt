@@ -1,0 +1,13 @@
+pub mod Outcomes
+pub mod Changes
+pub mod CellSteps
+pub mod Shape
+pub mod Everywhere
+pub mod CellLemmas
+pub mod Refusals
+pub mod Locals
+pub mod TimeGuards
+pub mod Bounds
+pub mod LetterGuards
+pub mod MemoryLemmas
+pub mod LocalLeads

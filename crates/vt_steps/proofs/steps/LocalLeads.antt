@@ -1,0 +1,286 @@
+-- What the steps of one worker do to its part and to one cell they do in every world that has these two: local steps, and then
+-- one step at the cell. So they may stand last, whatever the other workers did since the first of them.
+use Rattle.std.proofs.Common.{◌≡◌, ℕ, ◌%◌, true, false, List, [], ◌∷◌, ◌++◌, map, refl, sym, ◌∙◌, ap, subst, Option, Some, None, Ok, slice_get, slice_set}
+use Rattle.std.specs.Option.{option_map, is_none}
+use Rattle.vt_model.specs.Simulation.{Simulation}
+use Rattle.vt_steps.specs.declared.step.Step.{Step}
+use Rattle.vt_steps.specs.declared.step.Step.TheVariants.{Execute, Undo, Cancel, Home, Send, Fetch, Accept, Cut, Report, Commit, Close}
+use Rattle.vt_steps.specs.declared.step.Reply.{Reply}
+use Rattle.vt_steps.specs.declared.step.Reply.TheVariants.{Done}
+use Rattle.vt_steps.specs.Cells.{CellName, inbox_of, board_cell, book_cell, Cell, in_inbox, on_board, in_book, content, with_content, worker_of, cell_of, Acted, left_alone, acted_locally, acted_at, acted_close, act, put_back}
+use Rattle.vt_steps.specs.Laws.{IsAny, IsRefused, ActsOnOneCell}
+use Rattle.vt_steps.specs.Marked.{Marked, Made, Answered, answered, unmarked, marked, made_done, Each, IsMarkedRight, own_steps, LeadLocally, DoesSo, Leads}
+use Rattle.vt_steps.specs.CellSteps.{CellEffect, send, fetch, cut, report, commit, close}
+use Rattle.vt_steps.specs.Next.{next, run, refused, with_book}
+use Rattle.vt_steps.specs.World.{Part, Book, World}
+use Rattle.vt_steps.proofs.steps.CellLemmas.{next-acts_on_one_cell}
+use Rattle.vt_steps.proofs.steps.Changes.{map_has}
+use Rattle.vt_steps.proofs.steps.Outcomes.{done_or_refused-either, unless_closed-either}
+use Rattle.vt_steps.proofs.marks.MarkedRuns.{each-append, marked-append, own-append, own-first, steps-append, unmarked-marked}
+use Rattle.vt_steps.proofs.lists.Places.{get-put_same, get-put_other}
+
+-- ---- cells of one kind
+
+-- both are inboxes, or boards, or books
+abbrev pub AreOneKind : {P : Type 0} → Cell P → Cell P → Type 0
+AreOneKind (in_inbox a) (in_inbox b) = Unit {0}
+AreOneKind (on_board a) (on_board b) = Unit {0}
+AreOneKind (in_book a) (in_book b) = Unit {0}
+AreOneKind _ _ = ⊥
+
+same-kind : {P : Type 0} (cell : Cell P) → AreOneKind cell cell
+same-kind (in_inbox a) = tt
+same-kind (on_board a) = tt
+same-kind (in_book a) = tt
+
+module _ {S P : Type 0} (sim : Simulation S P) where
+  locally-kind : (part : Part P) (cell : Cell P) (o : Option (Part P)) → AreOneKind cell (acted_locally part cell o).cell
+  locally-kind part cell None = same-kind cell
+  locally-kind part cell (Some new) = same-kind cell
+
+  cell-kind : {C : Type 0} (part : Part P) (kind : C → Cell P) (held : C) (o : Option (CellEffect P C)) → ((a b : C) → AreOneKind (kind a) (kind b)) → AreOneKind (kind held) (acted_at part kind held o).cell
+  cell-kind part kind held None same = same held held
+  cell-kind part kind held (Some effect) same = same held effect.cell
+
+  close-kind : (part : Part P) (book : Book) (o : Option Book) → AreOneKind (in_book book) (acted_close part book o).cell
+  close-kind part book None = tt
+  close-kind part book (Some new) = tt
+
+  -- a step leaves an inbox an inbox, the board the board, and the book the book
+  pub act-kind : (step : Step) (part : Part P) (cell : Cell P) → AreOneKind cell (act sim step part cell).cell
+  unfolding act
+  act-kind (Execute p) part cell = locally-kind part cell _
+  act-kind (Undo p) part cell = locally-kind part cell _
+  act-kind (Cancel p stamp) part cell = locally-kind part cell _
+  act-kind (Home w) part cell = locally-kind part cell _
+  act-kind (Accept w i) part cell = locally-kind part cell _
+  act-kind (Send w v) part (in_inbox inbox) = cell-kind part in_inbox inbox (send sim w v part inbox) (λ a b. tt)
+  act-kind (Send w v) part (on_board board) = tt
+  act-kind (Send w v) part (in_book book) = tt
+  act-kind (Fetch w) part (in_inbox inbox) = cell-kind part in_inbox inbox (fetch part inbox) (λ a b. tt)
+  act-kind (Fetch w) part (on_board board) = tt
+  act-kind (Fetch w) part (in_book book) = tt
+  act-kind (Cut w) part (in_inbox inbox) = tt
+  act-kind (Cut w) part (on_board board) = cell-kind part on_board board (cut sim w part board) (λ a b. tt)
+  act-kind (Cut w) part (in_book book) = tt
+  act-kind (Report w) part (in_inbox inbox) = tt
+  act-kind (Report w) part (on_board board) = cell-kind part on_board board (report sim w part board) (λ a b. tt)
+  act-kind (Report w) part (in_book book) = tt
+  act-kind (Commit w) part (in_inbox inbox) = tt
+  act-kind (Commit w) part (on_board board) = tt
+  act-kind (Commit w) part (in_book book) =
+      unless_closed-either book (left_alone part (in_book book)) _ (λ a. AreOneKind (in_book book) a.cell) (λ shut. tt) (λ is_open. cell-kind part in_book book (commit sim w part book) (λ a b. tt))
+  act-kind Close part (in_inbox inbox) = tt
+  act-kind Close part (on_board board) = tt
+  act-kind Close part (in_book book) =
+      unless_closed-either book (left_alone part (in_book book)) _ (λ a. AreOneKind (in_book book) a.cell) (λ shut. tt) (λ is_open. close-kind part book (close sim book))
+
+-- ---- a cell that is put back
+
+module _ {P : Type 0} where
+  -- it holds what was put there
+  pub content-put_same : (world : World P) (name : CellName) (cell left : Cell P) → content world name ≡ Some cell → AreOneKind cell left → content (with_content world name left) name ≡ Some left
+  content-put_same world (inbox_of w) cell left holds kind =
+      let has = map_has in_inbox (slice_get world.inboxes w) cell holds in
+      by_left left (subst (λ c. AreOneKind c left) has.2 kind)
+    where
+      by_left : (left : Cell P) → AreOneKind (in_inbox (map_has in_inbox (slice_get world.inboxes w) cell holds).0) left → content (with_content world (inbox_of w) left) (inbox_of w) ≡ Some left
+      by_left (in_inbox mails) k = ap (option_map in_inbox) (get-put_same world.inboxes w (map_has in_inbox (slice_get world.inboxes w) cell holds).0 mails (map_has in_inbox (slice_get world.inboxes w) cell holds).1)
+      by_left (on_board board) k = absurd k
+      by_left (in_book book) k = absurd k
+  content-put_same world board_cell cell (in_inbox mails) holds kind = absurd (subst (λ c. AreOneKind c (in_inbox mails)) (let h : Some (on_board world.board) ≡ Some cell = holds in let same : cell ≡ on_board world.board = cc in same) kind)
+  content-put_same world board_cell cell (on_board board) holds kind = refl
+  content-put_same world board_cell cell (in_book book) holds kind = absurd (subst (λ c. AreOneKind c (in_book book)) (let h : Some (on_board world.board) ≡ Some cell = holds in let same : cell ≡ on_board world.board = cc in same) kind)
+  content-put_same world book_cell cell (in_inbox mails) holds kind = absurd (subst (λ c. AreOneKind c (in_inbox mails)) (let h : Some (in_book world.book) ≡ Some cell = holds in let same : cell ≡ in_book world.book = cc in same) kind)
+  content-put_same world book_cell cell (on_board board) holds kind = absurd (subst (λ c. AreOneKind c (on_board board)) (let h : Some (in_book world.book) ≡ Some cell = holds in let same : cell ≡ in_book world.book = cc in same) kind)
+  content-put_same world book_cell cell (in_book book) holds kind = refl
+
+  -- the others hold what they held
+  pub content-put_other : (world : World P) (name other : CellName) (left : Cell P) → ¬ (other ≡ name) → content (with_content world name left) other ≡ content world other
+  content-put_other world (inbox_of w) (inbox_of v) (in_inbox mails) apart = ap (option_map in_inbox) (get-put_other world.inboxes w v mails (λ e. apart (ap inbox_of e)))
+  content-put_other world (inbox_of w) board_cell (in_inbox mails) apart = refl
+  content-put_other world (inbox_of w) book_cell (in_inbox mails) apart = refl
+  content-put_other world (inbox_of w) other (on_board board) apart = refl
+  content-put_other world (inbox_of w) other (in_book book) apart = refl
+  content-put_other world board_cell other (in_inbox mails) apart = refl
+  content-put_other world board_cell (inbox_of v) (on_board board) apart = refl
+  content-put_other world board_cell board_cell (on_board board) apart = absurd (apart refl)
+  content-put_other world board_cell book_cell (on_board board) apart = refl
+  content-put_other world board_cell other (in_book book) apart = refl
+  content-put_other world book_cell other (in_inbox mails) apart = refl
+  content-put_other world book_cell other (on_board board) apart = refl
+  content-put_other world book_cell (inbox_of v) (in_book book) apart = refl
+  content-put_other world book_cell board_cell (in_book book) apart = refl
+  content-put_other world book_cell book_cell (in_book book) apart = absurd (apart refl)
+
+  -- a cell that is put back changes no part
+  pub parts-put : (world : World P) (name : CellName) (left : Cell P) → (with_content world name left).parts ≡ world.parts
+  parts-put world (inbox_of w) (in_inbox mails) = refl
+  parts-put world (inbox_of w) (on_board board) = refl
+  parts-put world (inbox_of w) (in_book book) = refl
+  parts-put world board_cell (in_inbox mails) = refl
+  parts-put world board_cell (on_board board) = refl
+  parts-put world board_cell (in_book book) = refl
+  parts-put world book_cell (in_inbox mails) = refl
+  parts-put world book_cell (on_board board) = refl
+  parts-put world book_cell (in_book book) = refl
+
+  -- a part that is put back changes no cell
+  pub content-part : (world : World P) (parts : List (Part P)) (name : CellName) → content (record world { parts = parts }) name ≡ content world name
+  content-part world parts (inbox_of w) = refl
+  content-part world parts board_cell = refl
+  content-part world parts book_cell = refl
+
+-- ---- the steps of one worker
+
+module _ {S P : Type 0} (sim : Simulation S P) (w : ℕ) where
+  none-any : {X : Type 0} (o : Option X) (x : X) → is_none o ≡ true → IsAny o x
+  none-any None x e = tt
+  none-any (Some y) x e = absurd (let h : false ≡ true = e in cc)
+
+  some-any : {X : Type 0} (o : Option X) (x : X) → o ≡ Some x → IsAny o x
+  some-any None x e = tt
+  some-any (Some y) x e = let h : Some y ≡ Some x = e in cc
+
+  -- one step, at a cell
+  pub step-does : (world : World P) (name : CellName) (step : Step) (part new : Part P) (cell left : Cell P) (reply : Reply) → IsAny (worker_of sim step) w → IsAny (cell_of step) name →
+      act sim step part cell ≡ record { part = new; cell = left; answer = Ok reply } → slice_get world.parts w ≡ Some part → content world name ≡ Some cell →
+      DoesSo sim w name (step ∷ []) world new left (record { step = step; reply = reply } ∷ [])
+  unfolding run own_steps
+  step-does world name step part new cell left reply whose at does is holds =
+      let outcome = next sim world step in
+      let acted : Acted P = record { part = new; cell = left; answer = Ok reply } in
+      let goes : outcome ≡ put_back world w name acted = (next-acts_on_one_cell sim world step).acts w name part cell whose at is holds ∙ ap (put_back world w name) does in
+      let kind : AreOneKind cell left = subst (λ (a : Acted P). AreOneKind cell a.cell) does (act-kind sim step part cell) in
+      let moved : World P = record world { parts = slice_set world.parts w new } in
+      let after : outcome.world ≡ with_content moved name left = ap (λ o. o.world) goes in
+      record {
+        part = ap (λ (n : World P). slice_get n.parts w) after ∙ ap (λ (ps : List (Part P)). slice_get ps w) (parts-put moved name left) ∙ get-put_same world.parts w part new is;
+        cell = ap (λ (n : World P). content n name) after ∙ content-put_same moved name cell left (content-part world (slice_set world.parts w new) name ∙ holds) kind;
+        other_parts = λ v apart. ap (λ (n : World P). slice_get n.parts v) after ∙ ap (λ (ps : List (Part P)). slice_get ps v) (parts-put moved name left) ∙ get-put_other world.parts w v new apart;
+        other_cells = λ other apart. ap (λ (n : World P). content n other) after ∙ content-put_other moved name other left apart ∙ content-part world (slice_set world.parts w new) other;
+        answers = own-first sim w world step [] ∙ ap (λ a. record { step = step; answer = a } ∷ []) (ap (λ o. o.answer) goes);
+      }
+
+  -- nothing is done by no steps
+  pub nothing-done : (world : World P) (name : CellName) (part : Part P) (cell : Cell P) → slice_get world.parts w ≡ Some part → content world name ≡ Some cell → DoesSo sim w name [] world part cell []
+  unfolding run own_steps
+  nothing-done world name part cell is holds = record { part = is; cell = holds; other_parts = λ v apart. refl; other_cells = λ other apart. refl; answers = refl }
+
+  map-append : (f : Made → Answered) (xs ys : List Made) → map f (xs ++ ys) ≡ map f xs ++ map f ys
+  map-append f [] ys = refl
+  map-append f (x ∷ xs) ys = ap (λ l. f x ∷ l) (map-append f xs ys)
+
+  -- some steps and then others
+  pub does-append : (world : World P) (name : CellName) (first more : List Step) (part new : Part P) (cell left : Cell P) (made then_made : List Made) →
+      DoesSo sim w name first world part cell made → DoesSo sim w name more (run sim world first) new left then_made →
+      DoesSo sim w name (first ++ more) world new left (made ++ then_made)
+  does-append world name first more part new cell left made then_made a b =
+      let whole = steps-append sim world first more in
+      record {
+        part = ap (λ (n : World P). slice_get n.parts w) whole ∙ b.part;
+        cell = ap (λ (n : World P). content n name) whole ∙ b.cell;
+        other_parts = λ v apart. ap (λ (n : World P). slice_get n.parts v) whole ∙ b.other_parts v apart ∙ a.other_parts v apart;
+        other_cells = λ other apart. ap (λ (n : World P). content n other) whole ∙ b.other_cells other apart ∙ a.other_cells other apart;
+        answers =
+            ap (own_steps sim w world) (marked-append w first more)
+            ∙ own-append sim w world (marked w first) (marked w more)
+            ∙ ap (λ l. own_steps sim w world (marked w first) ++ own_steps sim w (run sim world l) (marked w more)) (unmarked-marked w first)
+            ∙ ap (λ l. l ++ own_steps sim w (run sim world first) (marked w more)) a.answers
+            ∙ ap (λ l. map answered made ++ l) b.answers
+            ∙ sym (map-append answered made then_made);
+      }
+
+  -- local steps
+  pub local-does : (world : World P) (name : CellName) (steps : List Step) (part new : Part P) (cell : Cell P) → LeadLocally sim w steps part new →
+      slice_get world.parts w ≡ Some part → content world name ≡ Some cell → DoesSo sim w name steps world new cell (made_done steps)
+  local-does world name [] part new cell leads is holds = nothing-done world name new cell (is ∙ ap (λ p. Some p) leads) holds
+  local-does world name (step ∷ steps) part new cell leads is holds =
+      let first = leads.1 in
+      let one = step-does world name step part leads.0 cell cell Done (some-any (worker_of sim step) w first.own) (none-any (cell_of step) name first.local) (first.done cell) is holds in
+      does-append world name (step ∷ []) steps leads.0 new cell cell (record { step = step; reply = Done } ∷ []) (made_done steps) one
+      (local-does (run sim world (step ∷ [])) name steps leads.0 new cell leads.2 one.part one.cell)
+
+  -- no step leads nowhere
+  pub leads-nowhere : (name : CellName) (part : Part P) (cell : Cell P) → Leads sim w name part cell [] part cell []
+  leads-nowhere name part cell = record { own = tt; does = λ world is holds. nothing-done world name part cell is holds }
+
+  -- local steps are marked with their worker
+  local-right : (steps : List Step) (part new : Part P) → LeadLocally sim w steps part new → Each (IsMarkedRight sim) (marked w steps)
+  local-right [] part new leads = tt
+  local-right (step ∷ steps) part new leads = (some-any (worker_of sim step) w leads.1.own, local-right steps leads.0 new leads.2)
+
+  -- local steps, and one step at the cell
+  pub leads : (name : CellName) (steps : List Step) (step : Step) (part before new : Part P) (cell left : Cell P) (reply : Reply) → LeadLocally sim w steps part before →
+      IsAny (worker_of sim step) w → IsAny (cell_of step) name → act sim step before cell ≡ record { part = new; cell = left; answer = Ok reply } →
+      Leads sim w name part cell (steps ++ step ∷ []) new left (made_done steps ++ record { step = step; reply = reply } ∷ [])
+  leads name steps step part before new cell left reply local whose at does = record {
+    own = subst (Each (IsMarkedRight sim)) (sym (marked-append w steps (step ∷ []))) (each-append (IsMarkedRight sim) (marked w steps) (marked w (step ∷ [])) (local-right steps part before local) (whose, tt));
+    does = λ world is holds.
+        (let first = local-does world name steps part before cell local is holds in
+        does-append world name steps (step ∷ []) before new cell left (made_done steps) (record { step = step; reply = reply } ∷ []) first
+        (step-does (run sim world steps) name step before new cell left reply whose at does first.part first.cell));
+  }
+
+-- ---- the parts of the others
+
+module _ {S P : Type 0} (sim : Simulation S P) where
+  no-worker_close : (step : Step) → worker_of sim step ≡ None → step ≡ Close
+  no-worker_close Close none = refl
+  no-worker_close (Execute p) none = absurd (let h : Some (p % sim.workers) ≡ None = none in cc)
+  no-worker_close (Undo p) none = absurd (let h : Some (p % sim.workers) ≡ None = none in cc)
+  no-worker_close (Cancel p stamp) none = absurd (let h : Some (p % sim.workers) ≡ None = none in cc)
+  no-worker_close (Home w) none = absurd (let h : Some w ≡ None = none in cc)
+  no-worker_close (Accept w i) none = absurd (let h : Some w ≡ None = none in cc)
+  no-worker_close (Send w v) none = absurd (let h : Some w ≡ None = none in cc)
+  no-worker_close (Fetch w) none = absurd (let h : Some w ≡ None = none in cc)
+  no-worker_close (Cut w) none = absurd (let h : Some w ≡ None = none in cc)
+  no-worker_close (Report w) none = absurd (let h : Some w ≡ None = none in cc)
+  no-worker_close (Commit w) none = absurd (let h : Some w ≡ None = none in cc)
+
+  close-parts : (world : World P) → (next sim world Close).world.parts ≡ world.parts
+  unfolding next
+  close-parts world =
+      unless_closed-either world.book (refused world) _ (λ o. o.world.parts ≡ world.parts) (λ shut. refl)
+      (λ is_open. done_or_refused-either world (option_map (with_book world) (close sim world.book)) (λ o. o.world.parts ≡ world.parts) refl (λ new e.
+      ap (λ (n : World P). n.parts) (map_has (with_book world) (close sim world.book) new e).2))
+
+  -- a step changes no part but that of the worker that makes it
+  pub others-part : (world : World P) (step : Step) (w q : ℕ) → IsAny (worker_of sim step) w → ¬ (q ≡ w) → slice_get (next sim world step).world.parts q ≡ slice_get world.parts q
+  others-part world step w q whose apart = by_worker (worker_of sim step) refl whose
+    where
+      laws : ActsOnOneCell sim world step
+      laws = next-acts_on_one_cell sim world step
+
+      refused-same : IsRefused sim world step → slice_get (next sim world step).world.parts q ≡ slice_get world.parts q
+      refused-same is = ap (λ o. slice_get o.world.parts q) is.1
+
+      acted-same : (name : CellName) (acted : Acted P) → next sim world step ≡ put_back world w name acted → slice_get (next sim world step).world.parts q ≡ slice_get world.parts q
+      acted-same name acted is =
+          ap (λ o. slice_get o.world.parts q) is
+          ∙ ap (λ (ps : List (Part P)). slice_get ps q) (parts-put (record world { parts = slice_set world.parts w acted.part }) name acted.cell)
+          ∙ get-put_other world.parts w q acted.part apart
+
+      by_content : (name : CellName) (part : Part P) (o : Option (Cell P)) → cell_of step ≡ Some name → slice_get world.parts w ≡ Some part → content world name ≡ o → slice_get (next sim world step).world.parts q ≡ slice_get world.parts q
+      by_content name part None at is holds = refused-same (laws.no_cell name at holds)
+      by_content name part (Some cell) at is holds = acted-same name (act sim step part cell) (laws.acts w name part cell whose (some-any sim w (cell_of step) name at) is holds)
+
+      by_cell : (part : Part P) (o : Option CellName) → cell_of step ≡ o → slice_get world.parts w ≡ Some part → slice_get (next sim world step).world.parts q ≡ slice_get world.parts q
+      by_cell part None at is = acted-same board_cell (act sim step part (on_board world.board)) (laws.acts w board_cell part (on_board world.board) whose (subst (λ o. IsAny o board_cell) (sym at) tt) is refl)
+      by_cell part (Some name) at is = by_content name part (content world name) at is refl
+
+      by_part : (o : Option (Part P)) → worker_of sim step ≡ Some w → slice_get world.parts w ≡ o → slice_get (next sim world step).world.parts q ≡ slice_get world.parts q
+      by_part None mine is = refused-same (laws.no_worker w mine is)
+      by_part (Some part) mine is = by_cell part (cell_of step) refl is
+
+      by_worker : (o : Option ℕ) → worker_of sim step ≡ o → IsAny o w → slice_get (next sim world step).world.parts q ≡ slice_get world.parts q
+      by_worker None mine any =
+          subst (λ s. slice_get (next sim world s).world.parts q ≡ slice_get world.parts q) (sym (no-worker_close step mine)) (ap (λ (ps : List (Part P)). slice_get ps q) (close-parts world))
+      by_worker (Some u) mine any = by_part (slice_get world.parts w) (mine ∙ ap (λ n. Some n) any) refl
+
+  -- nor do steps of other workers
+  pub run-others_part : (world : World P) (q : ℕ) (marks : List Marked) → Each (IsMarkedRight sim) marks → Each (λ m. ¬ (m.worker ≡ q)) marks → slice_get (run sim world (unmarked marks)).parts q ≡ slice_get world.parts q
+  unfolding run
+  run-others_part world q [] right others = refl
+  run-others_part world q (m ∷ marks) right others =
+      run-others_part (next sim world m.step).world q marks right.1 others.1 ∙ others-part world m.step m.worker q right.0 (λ e. others.0 (sym e))
