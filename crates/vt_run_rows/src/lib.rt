@@ -1,5 +1,5 @@
-//! Whole runs by workers in threads: their final values, and what watches a run. What a run of the program shows stands in
-//! `examples/calls`, and `tools/check-calls` makes random ones.
+//! Whole runs by workers in threads: their final values, and what watches a run. And how often a world calls its model. What a
+//! run of the program shows stands in `examples/calls`, and `tools/check-calls` makes random ones.
 #![tactic(auto)]
 
 #[cfg(test)]

@@ -1,5 +1,6 @@
-//! Runs on workers.
+//! Runs on workers, and what a world calls.
 
+mod calls;
 mod finals;
 mod running;
 mod watching;

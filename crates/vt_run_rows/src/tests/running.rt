@@ -7,8 +7,7 @@ use std::sync::Wait;
 use std::thread::Threads;
 use vt_model::{Config, Model as EventModel, Record};
 use vt_models::Hop;
-use vt_seq::Sequential;
-use vt_station::{Unwatched, Watch, run_workers, run_workers_to_finals};
+use vt_station::{Watch, run_workers};
 
 /// As many turns as the program grants a worker.
 pub const TURNS: u64 = 10_000_000;
@@ -55,31 +54,5 @@ where
     match run_workers(rt, rt.alloc(), config, model, watch, TURNS) {
         Ok(records) => assert!(rt; records.as_slice() == want),
         Err(stopped) => assert_eq!(rt; stopped.fault.number(), 0),
-    }
-}
-
-/// The run has the records and the final values of the sequential simulator, on one worker, two and four.
-pub fn agrees_to_finals<R: Abort + AllocGlobal + Threads + Wait + Sync, M: EventModel + Sync>(
-    rt: &R,
-    model: &M,
-    lps: u32,
-    end: u64,
-)
-where
-    M::State: Send,
-    M::Kept: Send,
-{
-    for workers in [1, 2, 4] {
-        let config = Config::new(lps, workers, end, 7).expect(rt, "config");
-        let mut sequential = Sequential::new(rt.alloc(), model, config).expect(rt, "memory");
-        let records = sequential.run(rt.alloc()).expect(rt, "a run");
-        let finals = sequential.finals(rt.alloc()).expect(rt, "finals");
-        match run_workers_to_finals(rt, rt.alloc(), config, model, &Unwatched, TURNS) {
-            Ok(finished) => {
-                assert!(rt; finished.records.as_slice() == records.as_slice());
-                assert!(rt; finished.finals.as_slice() == finals.as_slice());
-            }
-            Err(stopped) => assert_eq!(rt; stopped.fault.number(), 0),
-        }
     }
 }

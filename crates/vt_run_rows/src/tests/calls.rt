@@ -1,28 +1,28 @@
-//! How often a process calls its model's handlers.
+//! How often a world calls its model's handlers.
 
-use crate::tests::process::playing::plays;
-use crate::tests::process::stage::Stage;
+use std::alloc::AllocGlobal;
 use std::cell::Cell;
 use std::process::Abort;
 use std::rt::{self, HostRuntime};
 use std::test::Fail;
 use vt_key::When;
-use vt_model::{Bits, Draws, Model as EventModel, Out};
-use vt_models::{Hop, Token};
+use vt_model::{Bits, Config, Draws, Model as EventModel, Out};
+use vt_models::Hop;
+use vt_steps::Step;
+use vt_world::World;
 
 /// A model that counts the calls of its handlers, and otherwise is another.
 #[derive(Drop)]
 struct Counting<M: EventModel> {
     model: M,
-    starts: Cell<u32>,
     forwards: Cell<u32>,
     reverses: Cell<u32>,
 }
 
 impl<M: EventModel> Counting<M> {
-    /// How often `start`, `forward` and `reverse` were called.
-    fn calls(&self) -> (u32, u32, u32) {
-        (self.starts.get(), self.forwards.get(), self.reverses.get())
+    /// How often `forward` and `reverse` were called.
+    fn calls(&self) -> (u32, u32) {
+        (self.forwards.get(), self.reverses.get())
     }
 }
 
@@ -42,7 +42,6 @@ impl<M: EventModel> EventModel for Counting<M> {
     ghost IsState = { λ m s. M.IsState m.model s };
 
     fn start(&self, lp: u32, draws: &mut Draws<'_>, out: &mut Out<M::Payload>) -> M::State {
-        count(&self.starts);
         self.model.start(lp, draws, out)
     }
 
@@ -97,46 +96,51 @@ impl<M: EventModel> EventModel for Counting<M> {
     ghost kept_align = { M.kept_align };
 }
 
-// The handlers must have been called so often.
-fn called<M: EventModel>(rt: &impl Abort, model: &Counting<M>, want: (u32, u32, u32)) {
+// These steps must be taken, and so many of them refused. Then the handlers have been called so often.
+fn takes<M: EventModel>(
+    rt: &(impl Abort + AllocGlobal),
+    world: &mut World<'_, Counting<M>>,
+    model: &Counting<M>,
+    steps: &[Step],
+    refused: u64,
+    want: (u32, u32),
+) {
+    assert!(rt; world.run(rt.alloc(), steps) == Ok(refused));
     assert_eq!(rt; model.calls(), want);
 }
 
-/// The process's own token, of time 2, comes last, and is a straggler: all three events are undone, one by one.
+/// Process 1 executes its token, and is overtaken by that of process 0. A step that is refused calls nothing.
 #[test]
-fn an_undo_is_one_reverse(rt: HostRuntime) -> Result<(), Fail> {
+fn an_execution_is_one_forward_and_an_undo_one_reverse(rt: HostRuntime) -> Result<(), Fail> {
     let model = Counting {
         model: Hop::new(1, 1, 1, 0)?,
-        starts: Cell::new(0),
         forwards: Cell::new(0),
         reverses: Cell::new(0),
     };
-    let mut stage = Stage::of_two(&rt, &model);
-    called(&rt, &model, (1, 0, 0));
-    let payload = Token { tag: 1, left: 0 };
-    let three = "\
-comes + 3 0 2 0 2
-comes + 4 0 3 0 3
-comes + 5 0 4 0 4
-execute
-execute
-execute
-undo = refused 2";
-    plays(&rt, &mut stage, &model, payload, three)?;
-    called(&rt, &model, (1, 3, 0));
-    plays(&rt, &mut stage, &model, payload, "own\nexecute = refused 2")?;
-    called(&rt, &model, (1, 3, 0));
-    plays(&rt, &mut stage, &model, payload, "undo\nstate = 257")?;
-    called(&rt, &model, (1, 3, 1));
-    plays(&rt, &mut stage, &model, payload, "undo\nstate = 1")?;
-    called(&rt, &model, (1, 3, 2));
-    plays(
+    let mut world = World::new(rt.alloc(), &model, Config::new(2, 2, 10, 0)?)?;
+    let ahead = [
+        Step::Home(0),
+        Step::Home(1),
+        Step::Execute(1),
+        Step::Execute(0),
+    ];
+    takes(&rt, &mut world, &model, &ahead, 0, (2, 0));
+    let straggler = [
+        Step::Undo(1),
+        Step::Send(0, 1),
+        Step::Fetch(1),
+        Step::Accept(1, 0),
+    ];
+    takes(&rt, &mut world, &model, &straggler, 1, (2, 0));
+    takes(
         &rt,
-        &mut stage,
+        &mut world,
         &model,
-        payload,
-        "undo\nstate = 0\nundo = refused 2",
-    )?;
-    called(&rt, &model, (1, 3, 3));
+        &[Step::Undo(1), Step::Undo(1)],
+        1,
+        (2, 1),
+    );
+    let again = [Step::Execute(1), Step::Execute(1), Step::Execute(1)];
+    takes(&rt, &mut world, &model, &again, 1, (4, 1));
     Ok(())
 }
