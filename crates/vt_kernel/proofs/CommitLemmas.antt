@@ -1,5 +1,5 @@
 -- A worker's processes after they committed, and the rows of what they commit.
-use Rattle.std.proofs.Common.{◌≡◌, ◌≢◌, ◌∙◌, ◌⊎◌, inl, inr, below_more, ℕ, Bool, zero, suc, ◌+◌, ◌-◌, ◌*◌, ◌<◌, ◌≤◌, List, [], ◌∷◌, ◌++◌, map, take, drop, length, slice_index_or, refl, sym, ap, subst, arith, Some, None, slice_get, slice_set}
+use Rattle.std.proofs.Common.{◌≡◌, ◌≢◌, ◌∙◌, ◌⊎◌, inl, inr, below_more, ℕ, zero, suc, ◌+◌, ◌-◌, ◌*◌, ◌<◌, ◌≤◌, List, [], ◌∷◌, ◌++◌, map, take, drop, length, slice_index_or, refl, sym, ap, subst, arith, Some, None, slice_get, slice_set}
 use Rattle.std.specs.List.{prefix_len}
 use Rattle.std.proofs.lemmas.Bool.{cases_lt}
 use Rattle.std.proofs.lemmas.List.{append-nil, append_assoc, take_more, length-take, length-set, get_or-set_same, get_or-set_other}
@@ -7,8 +7,6 @@ use Rattle.std.proofs.lemmas.Option.{get_or_from_slice_get, slice_get_within, sl
 use Rattle.vt_lp.specs.Ripe.{rows_of_ripe}
 use Rattle.vt_lp.proofs.RipeLemmas.{rows-ripe}
 use Rattle.vt_key.specs.Times.{Time}
-use Rattle.vt_tournament.specs.declared.node.Node.{Node}
-use Rattle.vt_tournament.specs.Contest.{IsTournamentOf}
 use Rattle.vt_key.specs.declared.letter.Letter.{Letter}
 use Rattle.vt_key.specs.declared.letter.Mail.{Mail}
 use Rattle.vt_model.specs.declared.rows.Row.{Row}
@@ -20,7 +18,9 @@ use Rattle.vt_steps.specs.World.{LogicalProcess, Part, process_at}
 use Rattle.vt_steps.specs.PartSteps.{process_after_commit, part_after_commit, ripe_rows, rows_of_processes, is_below}
 use Rattle.vt_steps.specs.StandsFor.{StandsForProcess, StandForProcesses, entry_of}
 use Rattle.vt_lp.specs.Held.{HeldProcess, process_memory, remembered, StandsFor as ProcessStandsFor}
-use Rattle.vt_kernel.specs.Held.{HeldWorker, StandsFor, AreProcesses, TellsLeast, IsWorkerInside, AreMarked, entries_of, unready_of, ready_of}
+use Rattle.vt_contest.specs.declared.contest.Contest.{Contest}
+use Rattle.vt_contest.specs.Contest.{IsContestOf}
+use Rattle.vt_kernel.specs.Held.{HeldWorker, StandsFor, AreProcesses, IsWorkerInside}
 use Rattle.vt_kernel.specs.Guards.{IsForgotten, HasForgotten}
 use Rattle.vt_kernel.proofs.PartLemmas.{stands_along}
 use Rattle.vt_kernel.proofs.ProcessLemmas.{get-map_of, stands-at, process-at}
@@ -45,17 +45,6 @@ module _ {S P K : Type 0} (floor : Time) where
   are-forgotten config w base [] (y ∷ ys) f h = absurd f
   are-forgotten config w base (x ∷ xs) [] f h = absurd f
   are-forgotten config w base (x ∷ xs) (y ∷ ys) f h = (f.0.lp ∙ h.0, f.0.config ∙ h.1, are-forgotten config w (base + 1) xs ys f.1 h.2)
-
-  pub least-forgotten : (x y : HeldProcess S P K) → IsForgotten floor x y → TellsLeast x → TellsLeast y
-  least-forgotten x y f h =
-      subst TellsLeast (λ j. record {
-        lp = y.lp;
-        config = sym f.config j;
-        triple = y.triple;
-        past = y.past;
-        pending = sym f.pending j;
-        waiting = sym f.waiting j;
-      }) h
 
   -- a process without past events has nothing to forget
   unforgotten : (q : HeldProcess S P K) → q.past ≡ [] → IsForgotten floor q q
@@ -166,28 +155,23 @@ module _ {S P K : Type 0} where
       }
 
   -- how the fields of a worker go together then
-  pub inside-commit : {config : Config} {w : ℕ} {xs : List (HeldProcess S P K)} {outbox : List (Letter P)} {arrived : List (Mail P)} {sent got : Counts} {serial : ℕ} {ready unready : List Node} {marked : List Bool} →
-      (floor : Time) (ys : List (HeldProcess S P K)) (entered entered_unready : List Node) (new_marked : List Bool) → length ys ≡ length xs →
+  pub inside-commit : {config : Config} {w : ℕ} {xs : List (HeldProcess S P K)} {outbox : List (Letter P)} {arrived : List (Mail P)} {sent got : Counts} {serial : ℕ} {contest : Contest} →
+      (floor : Time) (ys : List (HeldProcess S P K)) (new_contest : Contest) → length ys ≡ length xs →
       ((k : ℕ) (d : HeldProcess S P K) → k < length xs → IsForgotten floor (slice_index_or xs k d) (slice_index_or ys k d)) →
-      IsTournamentOf (entries_of ready_of ys) entered → IsTournamentOf (entries_of unready_of ys) entered_unready → AreMarked new_marked ys →
-      IsWorkerInside config w xs outbox arrived sent got serial ready unready marked →
-      IsWorkerInside config w ys outbox arrived sent got serial entered entered_unready new_marked
-  inside-commit {config} {w} {xs} floor ys entered entered_unready new_marked long each is isnt marks h =
-      let all : AllForgotten floor xs ys = forgotten-each floor xs ys long each in
-      record {
-        known = h.known;
-        all_there = long ∙ h.all_there;
-        own_processes = are-forgotten floor config w 0 xs ys all h.own_processes;
-        sendable = h.sendable;
-        own_mail = h.own_mail;
-        few_sent = h.few_sent;
-        few_got = h.few_got;
-        few_made = h.few_made;
-        ready_entered = is;
-        unready_entered = isnt;
-        least_told = λ k d within. let inside : k < length xs = omega arith in least-forgotten floor (slice_index_or xs k d) (slice_index_or ys k d) (each k d inside) (h.least_told k d inside);
-        past_marked = marks;
-      }
+      IsContestOf ys new_contest →
+      IsWorkerInside config w xs outbox arrived sent got serial contest →
+      IsWorkerInside config w ys outbox arrived sent got serial new_contest
+  inside-commit {config} {w} {xs} floor ys new_contest long each in_contest h = record {
+    known = h.known;
+    all_there = long ∙ h.all_there;
+    own_processes = are-forgotten floor config w 0 xs ys (forgotten-each floor xs ys long each) h.own_processes;
+    sendable = h.sendable;
+    own_mail = h.own_mail;
+    few_sent = h.few_sent;
+    few_got = h.few_got;
+    few_made = h.few_made;
+    in_contest = in_contest;
+  }
 
 -- ---- rows
 

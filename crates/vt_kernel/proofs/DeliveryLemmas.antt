@@ -16,10 +16,10 @@ use Rattle.vt_steps.specs.Letters.{Counts}
 use Rattle.vt_steps.specs.World.{LogicalProcess, Part}
 use Rattle.vt_steps.specs.ProcessSteps.{accept_process}
 use Rattle.vt_steps.specs.PartSteps.{at_process, with_effect, is_for, home, home_letter, accept, accept_mail}
-use Rattle.vt_tournament.specs.declared.node.Node.{Node}
 use Rattle.vt_lp.specs.Held.{HeldProcess, IsWithinRun, StandsFor as ProcessStandsFor}
 use Rattle.vt_lp.specs.Guards.{holds_letter, IsDone as ProcessIsDone}
 use Rattle.vt_lp.proofs.AcceptLemmas.{accepted, accept-by}
+use Rattle.vt_contest.specs.declared.contest.Contest.{Contest}
 use Rattle.vt_kernel.specs.Held.{HeldWorker, StandsFor, AreProcesses, IsWorkerInside}
 use Rattle.vt_kernel.specs.Local.{local_step}
 use Rattle.vt_kernel.specs.Guards.{IsDone}
@@ -154,17 +154,13 @@ module _ {S P K : Type 0} (handlers : Handlers S P K) (held : HeldWorker S P K) 
       ∙ ap (accept_mail (simulation_of handlers held.config) i part) (ap (λ ms. slice_get ms i) h.arrived ∙ none)
 
 -- a letter that was found in the outbox is for one of the worker's processes, before the end of the run
-pub found-in : {S P K : Type 0} {config : Config} {w : ℕ} {processes : List (HeldProcess S P K)} {outbox : List (Letter P)} {arrived : List (Mail P)} {sent got : Counts} {serial : ℕ} {ready unready : List Node} {marked : List Bool}
-    → IsWorkerInside config w processes outbox arrived sent got serial ready unready marked → (letter : Letter P) → find (λ (l : Letter P). nat_eq (l.event.dest % config.workers) w) outbox ≡ Some letter
+pub found-in : {S P K : Type 0} {config : Config} {w : ℕ} {processes : List (HeldProcess S P K)} {outbox : List (Letter P)} {arrived : List (Mail P)} {sent got : Counts} {serial : ℕ} {contest : Contest}
+    → IsWorkerInside config w processes outbox arrived sent got serial contest → (letter : Letter P) → find (λ (l : Letter P). nat_eq (l.event.dest % config.workers) w) outbox ≡ Some letter
     → (letter.event.dest % config.workers ≡ w) × IsWithinRun config.lps (end_of config) letter
 found-in {config = config} {w = w} {outbox = outbox} h letter is = (
   for-worker config.workers w letter.event.dest (find-passes (λ l. nat_eq (l.event.dest % config.workers) w) outbox letter is),
   find-all (IsWithinRun config.lps (end_of config)) (λ l. nat_eq (l.event.dest % config.workers) w) outbox letter h.sendable is,
 )
-
--- one letter was found and taken
-pub one-letter : {X : Type 0} (found : Option X) (a b : X) → found ≡ Some a → found ≡ Some b → a ≡ b
-one-letter found a b x y = (let both : Some a ≡ Some b = sym x ∙ y in cc)
 
 -- Accept of a letter that its process does not hold is lawful
 pub accept-lawful : {S P K : Type 0} (handlers : Handlers S P K) (held : HeldWorker S P K) (are : AreProcesses held.config held.worker 0 held.processes) (part : Part P) (h : StandsFor handlers held part)
@@ -185,12 +181,6 @@ accept-lawful handlers held are part h i mail place q there is own_letter at new
           ∙ ap (option_map (with_effect mid (mail.letter.event.dest / held.config.workers))) (accept-by handlers q f.process mail.letter false new f.stands),
     )
 
--- what all have, the one at a place has
-pub get-all : {X : Type 0} (Q : X → Type 0) (xs : List X) (i : ℕ) (x : X) → All Q xs → slice_get xs i ≡ Some x → Q x
-get-all Q [] i x h at = absurd (let k : None ≡ Some x = at in cc)
-get-all Q (y ∷ ys) zero x h at = (let k : Some y ≡ Some x = at in let same : y ≡ x = cc in subst Q same (All-head Q y ys h))
-get-all Q (y ∷ ys) (suc i) x h at = get-all Q ys i x (All-tail Q y ys h) at
-
--- and those that are left when it is removed
+-- what all have, those have that are left when one is removed
 pub removed-all : {X : Type 0} (Q : X → Type 0) (xs : List X) (i : ℕ) → All Q xs → All Q (remove xs i)
 removed-all Q xs i h = All-append Q (take i xs) (drop (suc i) xs) (All-take Q i xs h) (All-drop Q (suc i) xs h)

@@ -1,17 +1,17 @@
 -- How the fields of a worker go together after one of them changed.
-use Rattle.std.proofs.Common.{ℕ, Bool, List}
+use Rattle.std.proofs.Common.{ℕ, List}
 use Rattle.vt_key.specs.declared.letter.Letter.{Letter}
 use Rattle.vt_key.specs.declared.letter.Mail.{Mail}
-use Rattle.vt_tournament.specs.declared.node.Node.{Node}
 use Rattle.vt_model.specs.declared.settings.Config.{Config}
 use Rattle.vt_steps.specs.Letters.{Counts}
 use Rattle.vt_lp.specs.Held.{HeldProcess, AllWithinRun}
+use Rattle.vt_contest.specs.declared.contest.Contest.{Contest}
 use Rattle.vt_kernel.specs.Held.{IsWorkerInside, AllOwnMail, AreCounted}
 
-module _ {S P K : Type 0} {config : Config} {w : ℕ} {processes : List (HeldProcess S P K)} {outbox : List (Letter P)} {arrived : List (Mail P)} {sent got : Counts} {serial : ℕ} {ready unready : List Node} {marked : List Bool} where
+module _ {S P K : Type 0} {config : Config} {w : ℕ} {processes : List (HeldProcess S P K)} {outbox : List (Letter P)} {arrived : List (Mail P)} {sent got : Counts} {serial : ℕ} {contest : Contest} where
   inside-with : (letters : List (Letter P)) (mails : List (Mail P)) (made_counts got_counts : Counts) → AllWithinRun config letters → AllOwnMail config w mails → AreCounted made_counts → AreCounted got_counts →
-      IsWorkerInside config w processes outbox arrived sent got serial ready unready marked →
-      IsWorkerInside config w processes letters mails made_counts got_counts serial ready unready marked
+      IsWorkerInside config w processes outbox arrived sent got serial contest →
+      IsWorkerInside config w processes letters mails made_counts got_counts serial contest
   inside-with letters mails made_counts got_counts within own few_made few_got h = record {
     known = h.known;
     all_there = h.all_there;
@@ -21,20 +21,17 @@ module _ {S P K : Type 0} {config : Config} {w : ℕ} {processes : List (HeldPro
     few_sent = few_made;
     few_got = few_got;
     few_made = h.few_made;
-    ready_entered = h.ready_entered;
-    unready_entered = h.unready_entered;
-    least_told = h.least_told;
-    past_marked = h.past_marked;
+    in_contest = h.in_contest;
   }
 
   -- other mail that has arrived, and other counts of what was got
   pub inside-arrived : (mails : List (Mail P)) (counts : Counts) → AllOwnMail config w mails → AreCounted counts →
-      IsWorkerInside config w processes outbox arrived sent got serial ready unready marked →
-      IsWorkerInside config w processes outbox mails sent counts serial ready unready marked
+      IsWorkerInside config w processes outbox arrived sent got serial contest →
+      IsWorkerInside config w processes outbox mails sent counts serial contest
   inside-arrived mails counts own few h = inside-with outbox mails sent counts h.sendable own h.few_sent few h
 
   -- another outbox, and other counts of what was sent
   pub inside-outbox : (letters : List (Letter P)) (counts : Counts) → AllWithinRun config letters → AreCounted counts →
-      IsWorkerInside config w processes outbox arrived sent got serial ready unready marked →
-      IsWorkerInside config w processes letters arrived counts got serial ready unready marked
+      IsWorkerInside config w processes outbox arrived sent got serial contest →
+      IsWorkerInside config w processes letters arrived counts got serial contest
   inside-outbox letters counts within few h = inside-with letters arrived counts got within h.own_mail few h.few_got h

@@ -4,9 +4,7 @@ pub mod ProcessLemmas
 pub mod OwnSteps
 pub mod SettlingLemmas
 pub mod EmptyLemmas
-pub mod EnteringLemmas
 pub mod InsideLemmas
-pub mod LeastLemmas
 pub mod MakeLemmas
 pub mod PartLemmas
 pub mod PartingLemmas

@@ -1,15 +1,11 @@
 -- A local step at one process: what stays of how a worker's fields go together, and what the step does to the part.
 use Rattle.std.proofs.Common.{◌≡◌, ℕ, Bool, zero, suc, ◌+◌, ◌-◌, ◌/◌, ◌%◌, ◌<◌, ◌≤◌, inl, inr, List, [], ◌∷◌, ◌++◌, map, length, refl, sym, ◌∙◌, ap, subst, arith, Option, Some, None, Result, Ok, Err, IfOk, IfErr, if◌then◌else◌, slice_get, slice_set, slice_index_or}
-use Rattle.std.specs.List.{All}
 use Rattle.std.proofs.Math.ListN.{length-set}
 use Rattle.std.proofs.lemmas.Bool.{eq-eqb}
 use Rattle.std.proofs.lemmas.Bool.Decides.{eqb_tells}
 use Rattle.std.proofs.lemmas.List.{length-map}
-use Rattle.std.proofs.lemmas.List.Elements.{All-cons, All-head, All-tail}
 use Rattle.vt_key.specs.Times.{Time}
 use Rattle.vt_key.specs.declared.limits.TheConstants.{MAX_COUNT}
-use Rattle.vt_tournament.specs.declared.node.Node.{Node}
-use Rattle.vt_tournament.specs.Contest.{IsTournamentOf}
 use Rattle.vt_key.specs.declared.letter.Letter.{Letter}
 use Rattle.vt_key.specs.declared.letter.Mail.{Mail}
 use Rattle.vt_key.specs.declared.letter.Colour.{Colour}
@@ -23,11 +19,12 @@ use Rattle.vt_steps.specs.PartSteps.{at_process}
 use Rattle.vt_steps.specs.StandsFor.{ProcessMemory, StandForProcesses}
 use Rattle.vt_lp.specs.Held.{HeldProcess, process_memory, AllWithinRun, StandsFor as ProcessStandsFor}
 use Rattle.vt_lp.specs.Guards.{IsDone as ProcessIsDone}
-use Rattle.vt_kernel.specs.Held.{HeldWorker, IsWorkerInside, StandsFor, AreProcesses, process_of, has_past, TellsLeast, ready_of, unready_of, entries_of}
+use Rattle.vt_contest.specs.declared.contest.Contest.{Contest}
+use Rattle.vt_contest.specs.Contest.{IsContestOf}
+use Rattle.vt_contest.proofs.Written.{put-there}
+use Rattle.vt_kernel.specs.Held.{HeldWorker, IsWorkerInside, StandsFor, AreProcesses, process_of}
 use Rattle.vt_kernel.specs.Guards.{IsDone}
-use Rattle.vt_kernel.proofs.ProcessLemmas.{process-at, processes-changed, marked-changed, place-known, place-unknown, get-past}
-use Rattle.vt_steps.proofs.lists.Places.{get-put_same}
-use Rattle.vt_kernel.proofs.SettlingLemmas.{put-there}
+use Rattle.vt_kernel.proofs.ProcessLemmas.{process-at, processes-changed, place-known, place-unknown, get-past}
 use Rattle.vt_kernel.proofs.OwnSteps.{at_own, not-own, no-process, found, done-at, refused-at, IsFound}
 
 -- what a contract sees of a worker with these fields
@@ -52,17 +49,12 @@ index-get [] i x within is = absurd (omega arith)
 index-get (y ∷ ys) zero x within is = ap Some is
 index-get (y ∷ ys) (suc i) x within is = index-get ys i x (omega arith) is
 
-pub all-changed : {X : Type 0} (Q : X → Type 0) (xs : List X) (i : ℕ) (x : X) → All Q xs → Q x → All Q (slice_set xs i x)
-all-changed Q [] i x h q = h
-all-changed Q (y ∷ ys) zero x h q = All-cons Q x ys q (All-tail Q y ys h)
-all-changed Q (y ∷ ys) (suc i) x h q = All-cons Q y (slice_set ys i x) (All-head Q y ys h) (all-changed Q ys i x (All-tail Q y ys h) q)
-
 -- this is the place of a process of this number, which is one of the worker's
 abbrev pub IsOwnPlace : Config → ℕ → ℕ → ℕ → Type 0
 IsOwnPlace config w p place = (place ≡ p / config.workers) × (p % config.workers ≡ w) × (p < config.lps)
 
-module _ {S P K : Type 0} {config : Config} {w : ℕ} {processes : List (HeldProcess S P K)} {outbox : List (Letter P)} {arrived : List (Mail P)} {sent got : Counts} {serial : ℕ} {ready unready : List Node} {marked : List Bool}
-    (h : IsWorkerInside config w processes outbox arrived sent got serial ready unready marked) where
+module _ {S P K : Type 0} {config : Config} {w : ℕ} {processes : List (HeldProcess S P K)} {outbox : List (Letter P)} {arrived : List (Mail P)} {sent got : Counts} {serial : ℕ} {contest : Contest}
+    (h : IsWorkerInside config w processes outbox arrived sent got serial contest) where
   -- the place of one of the worker's processes is within
   pub place-within : (p place : ℕ) → IsOwnPlace config w p place → place < length processes
   place-within p place own =
@@ -72,14 +64,12 @@ module _ {S P K : Type 0} {config : Config} {w : ℕ} {processes : List (HeldPro
       let is = own.0 in
       omega (arith, known, all, is)
 
-  -- a process that has changed and has entered the tournaments again, with what was made by it
-  pub inside-changed : (place : ℕ) {q : HeldProcess S P K} (new : HeldProcess S P K) {letters : List (Letter P)} {next : ℕ} {now : List (HeldProcess S P K)} {new_ready new_unready : List Node} {new_marked : List Bool}
+  -- a process that has changed and has entered the contest again, with what was made by it
+  pub inside-changed : (place : ℕ) {q : HeldProcess S P K} (new : HeldProcess S P K) {letters : List (Letter P)} {next : ℕ} {now : List (HeldProcess S P K)} {new_contest : Contest}
       → slice_get processes place ≡ Some q → new.lp ≡ q.lp → new.config ≡ q.config → now ≡ slice_set processes place new
-      → IsTournamentOf (entries_of ready_of now) new_ready → IsTournamentOf (entries_of unready_of now) new_unready → ((held : HeldProcess S P K) → slice_get now place ≡ Some held → new_marked ≡ slice_set marked place (has_past held))
-      → ((held : HeldProcess S P K) → slice_get now place ≡ Some held → TellsLeast held) → AllWithinRun config letters → next ≤ MAX_COUNT
-      → IsWorkerInside config w (slice_set processes place new) letters arrived sent got next new_ready new_unready new_marked
-  inside-changed place {q} new {letters} {next} {now} {new_ready} {new_unready} {new_marked} at same_lp same_config is ready_now unready_now marks told within few =
-      let there : slice_get now place ≡ Some new = ap (λ ps. slice_get ps place) is ∙ get-put_same processes place q new at in
+      → IsContestOf now new_contest → AllWithinRun config letters → next ≤ MAX_COUNT
+      → IsWorkerInside config w (slice_set processes place new) letters arrived sent got next new_contest
+  inside-changed place {q} new {letters} {next} {now} {new_contest} at same_lp same_config is in_contest within few =
       let who = process-at config w 0 place processes q h.own_processes at in
       record {
         known = h.known;
@@ -90,10 +80,7 @@ module _ {S P K : Type 0} {config : Config} {w : ℕ} {processes : List (HeldPro
         few_sent = h.few_sent;
         few_got = h.few_got;
         few_made = few;
-        ready_entered = subst (λ ps. IsTournamentOf (entries_of ready_of ps) new_ready) is ready_now;
-        unready_entered = subst (λ ps. IsTournamentOf (entries_of unready_of ps) new_unready) is unready_now;
-        least_told = all-changed TellsLeast processes place new h.least_told (told new there);
-        past_marked = marked-changed marked new_marked processes place new h.past_marked (marks new there);
+        in_contest = subst (λ ps. IsContestOf ps new_contest) is in_contest;
       }
 
 -- as many processes stand for as there are

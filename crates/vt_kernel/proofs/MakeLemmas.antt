@@ -1,13 +1,10 @@
 -- The starts of a worker's processes: how many there are, and what they send.
-use Rattle.std.proofs.Common.{◌≡◌, ◌∙◌, ℕ, zero, suc, ◌+◌, ◌-◌, ◌*◌, ◌/◌, ◌%◌, ◌<◌, ◌≤◌, List, [], ◌∷◌, ◌++◌, map, replicate, length, slice_index_or, refl, sym, ap, subst, arith, Option, None, not, false, slice_get, max, Result, Ok, Err}
-use Rattle.std.specs.Result.{IfOk}
+use Rattle.std.proofs.Common.{◌≡◌, ◌∙◌, ℕ, zero, suc, ◌+◌, ◌-◌, ◌*◌, ◌/◌, ◌%◌, ◌<◌, ◌≤◌, List, [], ◌∷◌, ◌++◌, map, replicate, length, slice_index_or, refl, sym, ap, subst, arith}
 use Rattle.std.specs.List.{All, flat_map, range_with_len}
 use Rattle.std.proofs.lemmas.List.{append-nil, append_assoc, length-append}
 use Rattle.std.proofs.lemmas.List.Elements.{All-head, All-tail}
 use Rattle.std.proofs.Math.Nat.{le-div_iff_mul-le, div-lt_iff_lt-mul, div-le_self, suc-mul, div-add-mod'}
 use Rattle.std.proofs.lemmas.Nat.{div-mul-add}
-use Rattle.vt_key.specs.declared.order.Rank.{Rank}
-use Rattle.vt_key.specs.declared.letter.Letter.{Letter}
 use Rattle.vt_key.specs.declared.letter.Event.{Event}
 use Rattle.vt_model.specs.declared.limits.TheConstants.{MAX_SENDS}
 use Rattle.vt_model.specs.declared.sending.Sent.{Sent}
@@ -15,14 +12,13 @@ use Rattle.vt_model.specs.declared.settings.Config.{Config}
 use Rattle.vt_model.specs.Handler.{Handlers, StartResult}
 use Rattle.vt_model.specs.Histories.{AreNumbered}
 use Rattle.vt_model.specs.Simulation.{Simulation, simulation_of, start_of}
-use Rattle.vt_model.specs.Settings.{end_of}
-use Rattle.vt_steps.specs.Letters.{stamped, least_time, is_empty}
+use Rattle.vt_steps.specs.Letters.{stamped}
 use Rattle.vt_steps.specs.World.{process_at, process_count, start_sends}
 use Rattle.vt_steps.specs.StandsFor.{StandsForProcess, StandForProcesses, entry_of}
 use Rattle.vt_lp.specs.declared.entry.PastEvent.{PastEvent}
 use Rattle.vt_lp.specs.Held.{HeldProcess, process_memory, remembered, StandsFor as ProcessStandsFor, opening_process}
-use Rattle.vt_lp.specs.Guards.{ready_rank, lesser_rank}
-use Rattle.vt_kernel.specs.Held.{AreProcesses, AreMarked, has_past, TellsLeast, entries_of, ready_of, earliest_of, unready_of, other_rank, rank_time}
+use Rattle.vt_contest.specs.Contest.{IsIdle}
+use Rattle.vt_kernel.specs.Held.{AreProcesses}
 
 -- ---- lists
 
@@ -144,67 +140,22 @@ numbered-few p low high (e ∷ es) h = let rest = numbered-few p (suc e.key.numb
 
 -- ---- the opening
 
-abbrev no_rank : Option Rank
-no_rank = None
-
-pub map-none : {X : Type 0} (xs : List X) → replicate (length xs) no_rank ≡ map (λ (x : X). no_rank) xs
-map-none [] = refl
-map-none (x ∷ xs) = ap (λ (os : List (Option Rank)). no_rank ∷ os) (map-none xs)
-
 module _ {S P K : Type 0} where
-  -- entries of which none takes part
-  pub entries-none : (xs : List (HeldProcess S P K)) (n : ℕ) → n ≡ max (length xs) 1 → replicate n None ≡ entries_of (λ (x : HeldProcess S P K). no_rank) xs
-  entries-none [] n e = let one : n ≡ 1 = omega arith in ap (λ k. replicate k no_rank) one
-  entries-none (x ∷ xs) n e = let all : n ≡ length (x ∷ xs) = omega arith in ap (λ k. replicate k no_rank) all ∙ map-none (x ∷ xs)
-
   module _ (handlers : Handlers S P K) where
     -- a process that has only started
     abbrev pub IsOpening : HeldProcess S P K → Type 0
     IsOpening held = ProcessStandsFor handlers held opening_process
 
-    ready-none : (held : HeldProcess S P K) → IsOpening held → ready_of held ≡ None
-    ready-none held s = ap (λ (ls : List (Letter P)). ready_rank ls held.past) (sym s.pending)
-
-    earliest-none : (held : HeldProcess S P K) → IsOpening held → earliest_of held ≡ None
-    earliest-none held s = (λ j. lesser_rank (slice_get (sym s.pending j) 0) (slice_get (sym s.waiting j) 0))
-
-    tells-none : (held : HeldProcess S P K) → IsOpening held → TellsLeast held
-    tells-none held s =
-        ap (rank_time (end_of held.config)) (earliest-none held s) ∙ (λ j. least_time (end_of held.config) (s.pending j ++ s.waiting j))
-
-    pub tells-opening : (xs : List (HeldProcess S P K)) → All IsOpening xs → All TellsLeast xs
-    tells-opening xs all = λ k d within. tells-none (slice_index_or xs k d) (all k d within)
-
-    map-opening : (entry : HeldProcess S P K → Option Rank) → ((held : HeldProcess S P K) → IsOpening held → entry held ≡ None) → (xs : List (HeldProcess S P K)) → All IsOpening xs →
-        map entry xs ≡ map (λ (x : HeldProcess S P K). no_rank) xs
-    map-opening entry none [] all = refl
-    map-opening entry none (x ∷ xs) all = (λ j. none x (All-head IsOpening x xs all) j ∷ map-opening entry none xs (All-tail IsOpening x xs all) j)
-
-    entries-opening : (entry : HeldProcess S P K → Option Rank) → ((held : HeldProcess S P K) → IsOpening held → entry held ≡ None) → (xs : List (HeldProcess S P K)) → All IsOpening xs →
-        entries_of entry xs ≡ entries_of (λ (x : HeldProcess S P K). no_rank) xs
-    entries-opening entry none [] all = refl
-    entries-opening entry none (x ∷ xs) all = map-opening entry none (x ∷ xs) all
-
-    pub ready-opening : (xs : List (HeldProcess S P K)) → All IsOpening xs → entries_of ready_of xs ≡ entries_of (λ (x : HeldProcess S P K). no_rank) xs
-    ready-opening xs all = entries-opening ready_of ready-none xs all
-
-    unready-none : (held : HeldProcess S P K) → IsOpening held → unready_of held ≡ None
-    unready-none held s = (λ j. other_rank (ready-none held s j) (earliest-none held s j))
-
-    pub unready-opening : (xs : List (HeldProcess S P K)) → All IsOpening xs → entries_of unready_of xs ≡ entries_of (λ (x : HeldProcess S P K). no_rank) xs
-    unready-opening xs all = entries-opening unready_of unready-none xs all
-
-    past-none : (held : HeldProcess S P K) → IsOpening held → has_past held ≡ false
-    past-none held s = go held.past s.past
+    -- it has no letter and no past event
+    idle-opening : (held : HeldProcess S P K) → IsOpening held → IsIdle held
+    idle-opening held s = record { pending = sym s.pending; waiting = sym s.waiting; past = go held.past s.past }
       where
-        go : (es : List (PastEvent P K)) → opening_process.past ≡ map entry_of (map (remembered handlers held.lp) es) → not (is_empty es) ≡ false
+        go : (es : List (PastEvent P K)) → opening_process.past ≡ map entry_of (map (remembered handlers held.lp) es) → es ≡ []
         go [] e = refl
         go (e ∷ es) is = absurd (let h : [] ≡ entry_of (remembered handlers held.lp e) ∷ map entry_of (map (remembered handlers held.lp) es) = is in cc)
 
-    -- and none is marked
-    pub marked-opening : (xs : List (HeldProcess S P K)) → All IsOpening xs → AreMarked (replicate (length xs) false) xs
-    marked-opening [] all = refl
-    marked-opening (x ∷ xs) all = (λ j. sym (past-none x (All-head IsOpening x xs all)) j ∷ marked-opening xs (All-tail IsOpening x xs all) j)
+    pub all-idle : (xs : List (HeldProcess S P K)) → All IsOpening xs → All IsIdle xs
+    all-idle xs all = λ k d within. idle-opening (slice_index_or xs k d) (all k d within)
 
     stand-all : (config : Config) (w base : ℕ) (xs : List (HeldProcess S P K)) → AreProcesses config w base xs → All IsOpening xs →
         StandForProcesses (simulation_of handlers config) w base (map (process_memory handlers) xs) (replicate (length xs) opening_process)
@@ -219,8 +170,3 @@ module _ {S P K : Type 0} where
         StandForProcesses (simulation_of handlers config) w 0 (map (process_memory handlers) xs) (replicate n opening_process)
     stand-opening config w n xs are all len =
         subst (λ (k : ℕ). StandForProcesses (simulation_of handlers config) w 0 (map (process_memory handlers) xs) (replicate k opening_process)) len (stand-all config w 0 xs are all)
-
--- what follows of the value of an `Ok`
-pub if_ok : {V E : Type 0} {A B : V → Type 0} (r : Result V E) → ((v : V) → A v → B v) → IfOk r A → IfOk r B
-if_ok (Ok v) f h = f v h
-if_ok (Err e) f h = tt

@@ -1,21 +1,19 @@
 -- The processes of a worker: one looked up, one changed; and the steps at one process as steps of the part.
-use Rattle.std.proofs.Common.{◌≡◌, ℕ, Bool, true, false, not, IsFalse, ◌↔◌, zero, suc, ◌+◌, ◌-◌, ◌*◌, ◌/◌, ◌%◌, ◌<◌, ◌≤◌, List, [], ◌∷◌, ◌++◌, map, length, refl, sym, ◌∙◌, ap, subst, arith, Option, Some, None, slice_get, slice_set}
-use Rattle.std.proofs.lemmas.List.{length-map}
-use Rattle.std.proofs.lemmas.Option.{slice_get_within}
+use Rattle.std.proofs.Common.{◌≡◌, ℕ, zero, suc, ◌+◌, ◌-◌, ◌*◌, ◌/◌, ◌%◌, ◌<◌, ◌≤◌, List, [], ◌∷◌, ◌++◌, map, length, refl, sym, ◌∙◌, ap, subst, arith, Some, None, slice_get, slice_set}
+use Rattle.std.specs.List.{All}
+use Rattle.std.proofs.lemmas.List.Elements.{All-nil, All-cons}
 use Rattle.std.proofs.Math.Nat.{le-div_iff_mul-le, div-add-mod', suc-mul, mod-lt}
-use Rattle.vt_key.specs.declared.order.Rank.{Rank}
 use Rattle.vt_key.specs.declared.letter.Letter.{Letter}
 use Rattle.vt_model.specs.declared.settings.Config.{Config}
 use Rattle.vt_model.specs.Handler.{Handlers}
 use Rattle.vt_model.specs.Simulation.{Simulation, simulation_of}
+use Rattle.vt_model.specs.Settings.{end_of}
 use Rattle.vt_steps.specs.World.{LogicalProcess, Part, process_at}
 use Rattle.vt_steps.specs.ProcessSteps.{ProcessEffect}
 use Rattle.vt_steps.specs.PartSteps.{with_effect}
 use Rattle.vt_steps.specs.StandsFor.{ProcessMemory, StandsForProcess, StandForProcesses}
 use Rattle.vt_lp.specs.Held.{HeldProcess, process_memory}
-use Rattle.vt_lp.specs.declared.entry.PastEvent.{PastEvent}
-use Rattle.vt_steps.specs.Letters.{is_empty}
-use Rattle.vt_kernel.specs.Held.{HeldWorker, StandsFor, AreProcesses, AreMarked, has_past, entries_of}
+use Rattle.vt_kernel.specs.Held.{HeldWorker, StandsFor, AreProcesses}
 
 -- ---- lists
 
@@ -89,47 +87,10 @@ module _ {S P K : Type 0} where
       let here : base + suc place ≡ (base + 1) + place = omega arith in
       (h.0, h.1, processes-changed config w (base + 1) place xs q h.2 (is ∙ ap (λ b. b * config.workers + w) here) of)
 
-  -- what a changed process enters into a tournament
-  pub entered-changed : (entry : HeldProcess S P K → Option Rank) (held : List (HeldProcess S P K)) (place : ℕ) (q : HeldProcess S P K)
-      → place < length held → entries_of entry (slice_set held place q) ≡ slice_set (entries_of entry held) place (entry q)
-  entered-changed entry [] place q within = absurd (omega arith)
-  entered-changed entry (x ∷ xs) zero q within = refl
-  entered-changed entry (x ∷ xs) (suc place) q within = ap (λ zs. entry x ∷ zs) (map-put entry xs place q)
-
-  -- what a process has entered into a tournament
-  pub entered-at : (entry : HeldProcess S P K → Option Rank) (held : List (HeldProcess S P K)) (place : ℕ) (q : HeldProcess S P K)
-      → slice_get held place ≡ Some q → slice_get (entries_of entry held) place ≡ Some (entry q)
-  entered-at entry [] place q at = absurd (let h : None ≡ Some q = at in cc)
-  entered-at entry (x ∷ xs) place q at = get-map_of entry (x ∷ xs) place q at
-
-  -- a process that is not marked has no past event
-  pub unmarked-past : (marked : List Bool) (held : List (HeldProcess S P K)) (place : ℕ) (q : HeldProcess S P K) → AreMarked marked held
-      → (slice_get marked place ≡ Some true → ⊥) → slice_get held place ≡ Some q → q.past ≡ []
-  unmarked-past marked held place q h off at = go q.past (λ e. off (ap (λ bs. slice_get bs place) h ∙ get-map_of has_past held place q at ∙ ap Some e))
-    where
-      go : (es : List (PastEvent P K)) → (not (is_empty es) ≡ true → ⊥) → es ≡ []
-      go [] never = refl
-      go (e ∷ es) never = absurd (never refl)
-
-  -- only a process is marked
-  pub marked-within : (marked : List Bool) (held : List (HeldProcess S P K)) (place : ℕ) (b : Bool) → AreMarked marked held → slice_get marked place ≡ Some b → place < length held
-  marked-within marked held place b h at =
-      let less = slice_get_within (map has_past held) place b (ap (λ bs. slice_get bs place) (sym h) ∙ at) in
-      let long = length-map held has_past in
-      omega (arith, less, long)
-
-  -- of marked processes one is changed, and its mark with it
-  pub marked-changed : (marked new : List Bool) (held : List (HeldProcess S P K)) (place : ℕ) (q : HeldProcess S P K) → AreMarked marked held → new ≡ slice_set marked place (has_past q) → AreMarked new (slice_set held place q)
-  marked-changed marked new held place q h is = is ∙ ap (λ bs. slice_set bs place (has_past q)) h ∙ sym (map-put has_past held place q)
-
--- whether a process has a past event, as it tells
-pub past-told : {S P K : Type 0} (q : HeldProcess S P K) (b : Bool) → (IsFalse b ↔ (q.past ≡ [])) → b ≡ has_past q
-past-told q b told = go q.past b told
-  where
-    go : {X : Type 0} (es : List X) (b : Bool) → (IsFalse b ↔ (es ≡ [])) → b ≡ not (is_empty es)
-    go [] b told = told.1 refl
-    go (e ∷ es) true told = refl
-    go (e ∷ es) false told = absurd (let gone : e ∷ es ≡ [] = told.0 refl in cc)
+  -- the run of each ends when the worker's does
+  pub same-ends : (config : Config) (w base : ℕ) (held : List (HeldProcess S P K)) → AreProcesses config w base held → All (λ (q : HeldProcess S P K). end_of q.config ≡ end_of config) held
+  same-ends config w base [] are = All-nil (λ (q : HeldProcess S P K). end_of q.config ≡ end_of config)
+  same-ends config w base (x ∷ xs) are = All-cons (λ (q : HeldProcess S P K). end_of q.config ≡ end_of config) x xs (ap end_of are.1) (same-ends config w (base + 1) xs are.2)
 
 -- the worker stands for the part after a step at the process of a place, once the process stands for the one after it
 pub stands-after : {S P K : Type 0} (handlers : Handlers S P K) (held : HeldWorker S P K) (part : Part P) (place : ℕ) (q : HeldProcess S P K) (effect : ProcessEffect P)

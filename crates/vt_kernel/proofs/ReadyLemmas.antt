@@ -1,4 +1,4 @@
--- Execute is lawful exactly at the processes that take part in the tournament of who is ready.
+-- Execute is lawful exactly at the processes that are ready in the contest.
 use Rattle.std.proofs.Common.{◌≡◌, ℕ, zero, suc, ◌+◌, ◌*◌, ◌/◌, ◌%◌, ◌≤◌, inl, inr, Bool, true, false, List, [], ◌∷◌, map, length, refl, sym, ◌∙◌, ap, subst, arith, if◌then◌else◌, Option, Some, None, IfNone, slice_get}
 use Rattle.std.specs.List.{last_or}
 use Rattle.std.specs.Option.{option_map}
@@ -17,7 +17,8 @@ use Rattle.vt_steps.specs.StandsFor.{entry_of}
 use Rattle.vt_lp.specs.declared.entry.PastEvent.{PastEvent}
 use Rattle.vt_lp.specs.Held.{HeldProcess, process_memory, remembered, StandsFor as ProcessStandsFor}
 use Rattle.vt_lp.specs.Guards.{may_come_after, ready_rank}
-use Rattle.vt_kernel.specs.Held.{HeldWorker, StandsFor, AreProcesses, ready_of}
+use Rattle.vt_contest.specs.Entries.{ready_of}
+use Rattle.vt_kernel.specs.Held.{HeldWorker, StandsFor, AreProcesses}
 use Rattle.vt_kernel.specs.Local.{local_step}
 use Rattle.vt_kernel.proofs.ProcessLemmas.{get-past}
 use Rattle.vt_kernel.proofs.OwnSteps.{own-execute, not-own, no-process, own-step, found, refused-at}

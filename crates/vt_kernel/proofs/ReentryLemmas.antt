@@ -1,7 +1,9 @@
--- The process that a call changes: it is there, and enters its tournaments again.
-use Rattle.std.proofs.Common.{◌≡◌, ◌∙◌, ℕ, ◌+◌, ◌*◌, ◌/◌, ◌%◌, ◌<◌, Bool, true, nat_lt, List, ◌++◌, length, refl, sym, ap, subst, arith, Some, slice_get, slice_set, slice_index_or}
+-- The process that a call changes: it is there, and enters the contest again.
+use Rattle.std.proofs.Common.{◌≡◌, ◌∙◌, ℕ, ◌+◌, ◌*◌, ◌/◌, ◌%◌, ◌<◌, true, nat_lt, List, ◌++◌, length, refl, sym, ap, subst, arith, Some, slice_get, slice_set, slice_index_or}
 use Rattle.std.proofs.Math.Nat.{div-add-mod'}
 use Rattle.std.proofs.lemmas.Bool.{ltb-true}
+use Rattle.std.proofs.lemmas.List.{length-set}
+use Rattle.std.proofs.lemmas.Option.{slice_get_within}
 use Rattle.std.specs.List.{find}
 use Rattle.vt_key.specs.Times.{TimeBefore}
 use Rattle.vt_key.specs.Queues.{without_first}
@@ -12,18 +14,26 @@ use Rattle.vt_list.proofs.Firsts.{TakesOff, taken-first}
 use Rattle.vt_model.specs.declared.settings.Config.{Config}
 use Rattle.vt_model.specs.Settings.{end_of}
 use Rattle.vt_steps.specs.Letters.{Counts}
-use Rattle.vt_tournament.specs.declared.node.Node.{Node}
-use Rattle.vt_tournament.specs.Contest.{WasTournamentOf}
 use Rattle.vt_lp.specs.Held.{HeldProcess}
+use Rattle.vt_contest.specs.declared.contest.Contest.{Contest}
+use Rattle.vt_contest.specs.Contest.{WasContestOf}
+use Rattle.vt_contest.proofs.Written.{get-all}
+use Rattle.vt_contest.proofs.ContestLemmas.{contest-before}
 use Rattle.vt_kernel.specs.Guards.{is_for_worker}
-use Rattle.vt_kernel.specs.Held.{IsWorkerInside, IsOwnMail, entries_of, ready_of, unready_of}
-use Rattle.vt_kernel.proofs.EnteringLemmas.{in-changed, was-entered}
+use Rattle.vt_kernel.specs.Held.{IsWorkerInside, IsOwnMail}
 use Rattle.vt_kernel.proofs.ProcessLemmas.{process-at}
 use Rattle.vt_kernel.proofs.LocalLemmas.{IsOwnPlace, index-get, place-within}
-use Rattle.vt_kernel.proofs.DeliveryLemmas.{get-all, found-in}
+use Rattle.vt_kernel.proofs.DeliveryLemmas.{found-in}
 
-module _ {S P K : Type 0} {config : Config} {w : ℕ} {processes : List (HeldProcess S P K)} {outbox : List (Letter P)} {arrived : List (Mail P)} {sent got : Counts} {serial : ℕ} {ready unready : List Node} {marked : List Bool}
-    (h : IsWorkerInside config w processes outbox arrived sent got serial ready unready marked) where
+-- where one was changed it is still
+pub in-changed : {X : Type 0} (xs now : List X) (place : ℕ) (q new : X) → slice_get xs place ≡ Some q → now ≡ slice_set xs place new → place < length now
+in-changed xs now place q new at is =
+    let less = slice_get_within xs place q at in
+    let size : length now ≡ length xs = ap length is ∙ length-set xs place new in
+    omega (arith, less, size)
+
+module _ {S P K : Type 0} {config : Config} {w : ℕ} {processes : List (HeldProcess S P K)} {outbox : List (Letter P)} {arrived : List (Mail P)} {sent got : Counts} {serial : ℕ} {contest : Contest}
+    (h : IsWorkerInside config w processes outbox arrived sent got serial contest) where
   -- the process that an index finds
   pub process-there : (p place : ℕ) {old : HeldProcess S P K} → IsOwnPlace config w p place → slice_index_or processes place old ≡ old → slice_get processes place ≡ Some old
   process-there p place {old} own found = index-get processes place old (place-within h p place own) found
@@ -33,12 +43,9 @@ module _ {S P K : Type 0} {config : Config} {w : ℕ} {processes : List (HeldPro
     pub still-there : place < length now
     still-there = in-changed processes now place old new (process-there p place own found) is
 
-    -- the tournaments were those of the other processes, and of it before
-    pub was-in-ready : WasTournamentOf place (entries_of ready_of now) ready
-    was-in-ready = was-entered ready_of processes now place old new ready (process-there p place own found) is h.ready_entered
-
-    pub was-in-unready : WasTournamentOf place (entries_of unready_of now) unready
-    was-in-unready = was-entered unready_of processes now place old new unready (process-there p place own found) is h.unready_entered
+    -- the contest was that of the other processes, and of it before
+    pub was-in-contest : WasContestOf place now contest
+    was-in-contest = record { process = old; was = contest-before processes now place old new contest (process-there p place own found) is h.in_contest }
 
   -- a process that is there has its number and the worker's config
   pub process-is : (p place : ℕ) {old : HeldProcess S P K} → IsOwnPlace config w p place → slice_get processes place ≡ Some old → (p ≡ old.lp) × (old.config ≡ config)

@@ -12,9 +12,9 @@ use Rattle.vt_steps.specs.World.{LogicalProcess, Part, letters_in}
 use Rattle.vt_steps.specs.PartSteps.{report_sent, report_got, report_least}
 use Rattle.vt_steps.specs.StandsFor.{StandForProcesses}
 use Rattle.vt_lp.specs.Held.{HeldProcess, process_memory}
+use Rattle.vt_contest.proofs.LeastLemmas.{kept_letters}
 use Rattle.vt_kernel.specs.Held.{HeldWorker, StandsFor}
 use Rattle.vt_kernel.specs.Guards.{held_letters}
-use Rattle.vt_kernel.proofs.LeastLemmas.{kept_letters}
 
 module _ {S P K : Type 0} (handlers : Handlers S P K) where
   -- what the processes of a part have is what is kept of them

@@ -1,8 +1,8 @@
 -- Undo and Cancel at one process, again and again, as local steps of the part.
-use Rattle.std.proofs.Common.{◌≡◌, ℕ, zero, suc, ◌+◌, ◌/◌, ◌%◌, ◌^◌, ◌⊎◌, inl, inr, Bool, true, false, List, [], ◌∷◌, ◌++◌, length, refl, sym, ◌∙◌, ap, subst, arith, Option, Some, None, Result, Ok, Err, IfOk, IfErr, slice_get, slice_set}
+use Rattle.std.proofs.Common.{◌≡◌, ℕ, ◌+◌, ◌/◌, ◌%◌, ◌^◌, ◌⊎◌, inl, inr, Bool, true, false, List, [], ◌∷◌, ◌++◌, length, refl, sym, ◌∙◌, ap, subst, arith, Option, Some, None, Result, Ok, Err, IfOk, IfErr, slice_get}
 use Rattle.std.specs.Option.{option_and_then, option_map}
 use Rattle.std.specs.Result.{is_ok}
-use Rattle.std.proofs.lemmas.List.{append_assoc, append-nil, length-append}
+use Rattle.std.proofs.lemmas.List.{append_assoc, append-nil, length-append, set-set}
 use Rattle.std.proofs.lemmas.List.Elements.{filter-append}
 use Rattle.std.proofs.Math.Nat.{mod-add-mod}
 use Rattle.std.specs.List.{filter}
@@ -18,23 +18,12 @@ use Rattle.vt_steps.specs.World.{LogicalProcess, Part}
 use Rattle.vt_steps.specs.ProcessSteps.{ProcessEffect, undo_process, cancel_process}
 use Rattle.vt_steps.specs.PartSteps.{with_effect}
 use Rattle.vt_steps.proofs.lists.Places.{get-put_same}
+pub use Rattle.vt_contest.proofs.Written.{put-there}
 use Rattle.vt_kernel.specs.Local.{local_step, local_steps, AreSettling, IsSettled, is_undo, count_undos}
 use Rattle.vt_lp.specs.Held.{HeldProcess, StandsFor as ProcessStandsFor}
 use Rattle.vt_lp.specs.Guards.{IsDone as ProcessIsDone, can_annihilate}
 use Rattle.vt_kernel.specs.Settled.{and_then, nothing_done, LedTo, not_moved, undone, cancelled, IsLed, IsSettledTo}
 use Rattle.vt_kernel.proofs.OwnSteps.{own-step}
-
--- what is written twice at a place is what was written last
-pub put-put : {X : Type 0} (xs : List X) (i : ℕ) (x y : X) → slice_set (slice_set xs i x) i y ≡ slice_set xs i y
-put-put [] i x y = refl
-put-put (z ∷ zs) zero x y = refl
-put-put (z ∷ zs) (suc i) x y = ap (λ rest. z ∷ rest) (put-put zs i x y)
-
--- what is written where it stands already changes nothing
-pub put-there : {X : Type 0} (xs : List X) (i : ℕ) (x : X) → slice_get xs i ≡ Some x → slice_set xs i x ≡ xs
-put-there [] i x there = refl
-put-there (z ∷ zs) zero x there = (let h : Some z ≡ Some x = there in let same : z ≡ x = cc in ap (λ y. y ∷ zs) (sym same))
-put-there (z ∷ zs) (suc i) x there = ap (λ rest. z ∷ rest) (put-there zs i x there)
 
 -- one settling step more
 pub settling-more : (p : ℕ) (steps : List Step) (step : Step) → AreSettling p steps → ((step ≡ Undo p) ⊎ ((stamp : Stamp) × (step ≡ Cancel p stamp))) → AreSettling p (steps ++ step ∷ [])
@@ -60,7 +49,7 @@ module _ {P : Type 0} where
   pub with-both : (part : Part P) (place : ℕ) (first second : ProcessEffect P)
       → with_effect (with_effect part place first) place second ≡ with_effect part place (and_then first second)
   with-both part place first second = λ j. record part {
-    processes = put-put part.processes place first.process second.process j;
+    processes = set-set part.processes place first.process second.process j;
     outbox = append_assoc part.outbox first.letters second.letters j;
     serial = (let same : (part.serial + first.serials) + second.serials ≡ part.serial + (first.serials + second.serials) = omega arith in same) j;
   }

@@ -1,9 +1,7 @@
 -- What a worker keeps in memory, and which parts of a world it stands for.
-use Rattle.std.specs.Prelude.{◌≡◌, ℕ, Bool, not, nat_eq, if◌then◌else◌, ◌+◌, ◌-◌, ◌*◌, ◌/◌, ◌%◌, ◌<◌, ◌≤◌, List, [], ◌∷◌, ◌++◌, map, length, All, Option, Some, None, slice_get}
+use Rattle.std.specs.Prelude.{◌≡◌, ℕ, nat_eq, if◌then◌else◌, ◌+◌, ◌-◌, ◌*◌, ◌/◌, ◌%◌, ◌<◌, ◌≤◌, List, [], ◌∷◌, map, length, All, Option, None, slice_get}
 use Rattle.vt_key.specs.Times.{Time}
 use Rattle.vt_key.specs.declared.limits.TheConstants.{MAX_COUNT}
-use Rattle.vt_key.specs.declared.order.Rank.{Rank}
-use Rattle.vt_key.specs.Order.{rank_same}
 use Rattle.vt_key.specs.declared.letter.Letter.{Letter}
 use Rattle.vt_key.specs.declared.letter.Mail.{Mail}
 use Rattle.vt_key.specs.declared.letter.Colour.{Colour}
@@ -11,13 +9,12 @@ use Rattle.vt_model.specs.declared.settings.Config.{Config}
 use Rattle.vt_model.specs.Handler.{Handlers}
 use Rattle.vt_model.specs.Simulation.{simulation_of}
 use Rattle.vt_model.specs.Settings.{end_of}
-use Rattle.vt_steps.specs.Letters.{Counts, least_time, is_empty}
+use Rattle.vt_steps.specs.Letters.{Counts}
 use Rattle.vt_steps.specs.World.{Part}
 use Rattle.vt_steps.specs.StandsFor.{PartMemory, StandsForPart}
 use Rattle.vt_lp.specs.Held.{HeldProcess, process_memory, AllWithinRun, IsWithinRun}
-use Rattle.vt_lp.specs.Guards.{ready_rank, lesser_rank}
-use Rattle.vt_tournament.specs.declared.node.Node.{Node}
-use Rattle.vt_tournament.specs.Contest.{IsTournamentOf}
+use Rattle.vt_contest.specs.declared.contest.Contest.{Contest}
+use Rattle.vt_contest.specs.Contest.{IsContestOf}
 
 -- what a contract sees of a worker: its number and the config, and all that a part of a world has, with its processes as they
 -- are in memory. Process p is at index p / workers
@@ -78,53 +75,12 @@ module _ {P : Type 0} where
   abbrev pub AllOwnMail : Config → ℕ → List (Mail P) → Type 0
   AllOwnMail config w mails = All (IsOwnMail config w) mails
 
--- the time of a rank; of none it is the end of the run
-abbrev pub rank_time : Time → Option Rank → Time
-rank_time end None = end
-rank_time end (Some rank) = rank.key.time
-
--- the least rank, unless it is that of what is ready
-abbrev pub other_rank : Option Rank → Option Rank → Option Rank
-other_rank None least = least
-other_rank (Some ready) None = None
-other_rank (Some ready) (Some least) = if rank_same ready least then None else Some least
-
 module _ {S P K : Type 0} where
   -- the processes of worker w from this index on
   abbrev pub AreProcesses : Config → ℕ → ℕ → List (HeldProcess S P K) → Type 0
   AreProcesses config w place [] = Unit {0}
   AreProcesses config w place (held ∷ rest) =
       (held.lp ≡ place * config.workers + w) × (held.config ≡ config) × AreProcesses config w (place + 1) rest
-
-  -- the rank of the event that Execute would execute at a process, if it is lawful there
-  abbrev pub ready_of : HeldProcess S P K → Option Rank
-  ready_of held = ready_rank held.pending held.past
-
-  -- the least rank of what is pending or waits at a process
-  abbrev pub earliest_of : HeldProcess S P K → Option Rank
-  earliest_of held = lesser_rank (slice_get held.pending 0) (slice_get held.waiting 0)
-
-  -- the least rank of what is pending or waits at a process, unless it is that of the event that Execute would execute
-  abbrev pub unready_of : HeldProcess S P K → Option Rank
-  unready_of held = other_rank (ready_of held) (earliest_of held)
-
-  -- the least rank of a process tells the least time of what is pending or waits there
-  abbrev pub TellsLeast : HeldProcess S P K → Type 0
-  TellsLeast held = rank_time (end_of held.config) (earliest_of held) ≡ least_time (end_of held.config) (held.pending ++ held.waiting)
-
-  -- what these processes enter into a tournament, which has one entry at least
-  abbrev pub entries_of : (HeldProcess S P K → Option Rank) → List (HeldProcess S P K) → List (Option Rank)
-  entries_of entry [] = None ∷ []
-  entries_of entry (held ∷ rest) = map entry (held ∷ rest)
-
-module _ {S P K : Type 0} where
-  -- a process has a past event
-  abbrev pub has_past : HeldProcess S P K → Bool
-  has_past held = not (is_empty held.past)
-
-  -- exactly the processes that have a past event are marked
-  abbrev pub AreMarked : List Bool → List (HeldProcess S P K) → Type 0
-  AreMarked marked processes = marked ≡ map has_past processes
 
 -- both counts are within their limit
 pub record AreCounted (counts : Counts) : Type 0 where
@@ -133,7 +89,7 @@ pub record AreCounted (counts : Counts) : Type 0 where
 
 -- how the fields of a worker go together
 pub record IsWorkerInside {S P K : Type 0} (config : Config) (w : ℕ) (processes : List (HeldProcess S P K)) (outbox : List (Letter P))
-    (arrived : List (Mail P)) (sent got : Counts) (serial : ℕ) (ready unready : List Node) (marked : List Bool) : Type 0 where
+    (arrived : List (Mail P)) (sent got : Counts) (serial : ℕ) (contest : Contest) : Type 0 where
   pub known : w < config.workers
   pub all_there : length processes ≡ (config.lps + (config.workers - 1) - w) / config.workers
   pub own_processes : AreProcesses config w 0 processes
@@ -142,7 +98,4 @@ pub record IsWorkerInside {S P K : Type 0} (config : Config) (w : ℕ) (processe
   pub few_sent : AreCounted sent
   pub few_got : AreCounted got
   pub few_made : serial ≤ MAX_COUNT
-  pub ready_entered : IsTournamentOf (entries_of ready_of processes) ready
-  pub unready_entered : IsTournamentOf (entries_of unready_of processes) unready
-  pub least_told : All TellsLeast processes
-  pub past_marked : AreMarked marked processes
+  pub in_contest : IsContestOf processes contest

@@ -1,6 +1,5 @@
 pub mod Held
 pub mod Local
-pub mod Entered
 pub mod Guards
 pub mod Settled
 pub mod Refusals

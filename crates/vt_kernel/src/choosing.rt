@@ -7,7 +7,8 @@ ghost use Rattle.vt_model.specs.Handler.{Handlers};
 ghost use Rattle.vt_model.specs.Simulation.{simulation_of};
 ghost use Rattle.vt_steps.specs.World.{Part};
 ghost use Rattle.vt_steps.specs.declared.step.Step.TheVariants as step;
-ghost use Rattle.vt_kernel.specs.Held.{StandsFor, ready_of};
+ghost use Rattle.vt_contest.specs.Entries.{ready_of};
+ghost use Rattle.vt_kernel.specs.Held.{StandsFor};
 ghost use Rattle.vt_kernel.specs.Local.{local_step};
 
 use crate::kernel::Kernel;
@@ -22,7 +23,7 @@ impl<M: EventModel> Kernel<M> {
         ensures lawful { (handlers : Handlers _ _ _) (part : Part _) → StandsFor handlers self.now part → IfSome result (λ p. (after : Part _) × (local_step (simulation_of handlers self.now.config) self.now.worker (step.Execute p) part ≡ Some after)) }
         ensures unlawful { (handlers : Handlers _ _ _) (part : Part _) → StandsFor handlers self.now part → IfNone result ((p : ℕ) → local_step (simulation_of handlers self.now.config) self.now.worker (step.Execute p) part ≡ None) }
     {
-        let place = self.ready.winner()?;
+        let place = self.contest.first_ready()?;
         Some(place * self.config.workers + self.worker)
     }
 }

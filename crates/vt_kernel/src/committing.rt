@@ -1,23 +1,21 @@
 //! What a worker commits.
 
-ghost use Rattle.std.specs.Prelude.{◌≡◌, ℕ, ◌<◌, ◌≤◌, ◌^◌, length, slice_index_or, IfOk, IfErr};
+ghost use Rattle.std.specs.Prelude.{◌≡◌, ℕ, ◌<◌, length, slice_index_or, IfOk, IfErr};
 ghost use Rattle.vt_key.specs.declared.fault.Fault.TheVariants.{Memory};
 ghost use Rattle.vt_model.specs.Handler.{Handlers};
 ghost use Rattle.vt_model.specs.Simulation.{simulation_of};
 ghost use Rattle.vt_steps.specs.World.{Part};
 ghost use Rattle.vt_steps.specs.PartSteps.{part_after_commit, rows_of_commit};
-ghost use Rattle.vt_tournament.specs.Contest.{IsTournamentOf};
-ghost use Rattle.vt_kernel.specs.Held.{StandsFor, AreMarked, entries_of, ready_of, unready_of};
+ghost use Rattle.vt_contest.specs.Contest.{IsContestOf};
+ghost use Rattle.vt_kernel.specs.Held.{StandsFor};
 ghost use Rattle.vt_kernel.specs.Guards.{IsForgotten, HasForgotten};
 
 use crate::kernel::Kernel;
-use crate::local::enter;
 use std::alloc::Global;
+use vt_contest::Contest;
 use vt_key::{Fault, When};
 use vt_lp::{Lp, Spare};
-use vt_marks::Marks;
 use vt_model::{Model as EventModel, Row};
-use vt_tournament::Tournament;
 
 impl<M: EventModel> Kernel<M> {
     /// The rows of the past events before the worker's floor: process after process, and for each process in the
@@ -32,7 +30,7 @@ impl<M: EventModel> Kernel<M> {
         let count = self.count_ripe();
         rows.reserve(count).map_err(|_| Fault::Memory)?;
         let mut from = 0;
-        while let Some(place) = self.marked.first_from(from) {
+        while let Some(place) = self.contest.first_with_past(from) {
             self.processes[place].ripe(self.floor, &mut rows)?;
             from = place + 1;
         }
@@ -45,7 +43,7 @@ impl<M: EventModel> Kernel<M> {
         let mut count = 0_usize;
         let mut from = 0;
         for _ in 0..self.processes.len() {
-            let Some(place) = self.marked.first_from(from) else {
+            let Some(place) = self.contest.first_with_past(from) else {
                 break;
             };
             if let Some(process) = self.processes.get(place) {
@@ -64,9 +62,7 @@ impl<M: EventModel> Kernel<M> {
     {
         forget_before(
             &mut self.processes,
-            &mut self.ready,
-            &mut self.unready,
-            &mut self.marked,
+            &mut self.contest,
             &mut self.spare,
             self.floor,
         );
@@ -76,56 +72,36 @@ impl<M: EventModel> Kernel<M> {
 /// Lets each process that has past events forget those before the floor.
 fn forget_before<M: EventModel>(
     processes: &mut Vec<Lp<M>>,
-    ready: &mut Tournament,
-    unready: &mut Tournament,
-    marked: &mut Marks,
+    contest: &mut Contest,
     spare: &mut Spare<M::Payload, M::Kept>,
     floor: When,
 )
-    requires few { length processes.old.items < 2 ^ 32 }
-    requires entered { IsTournamentOf (entries_of ready_of processes.old.items) ready.old }
-    requires unready { IsTournamentOf (entries_of unready_of processes.old.items) unready.old }
-    requires marked { AreMarked marked.old processes.old.items }
+    requires contest { IsContestOf processes.old.items contest.old }
     ensures count { length processes.new.items ≡ length processes.old.items }
     ensures forgotten { (k : ℕ) (d : _) → k < length processes.old.items → IsForgotten floor (slice_index_or processes.old.items k d) (slice_index_or processes.new.items k d) }
-    ensures entered { IsTournamentOf (entries_of ready_of processes.new.items) ready.new }
-    ensures unready { IsTournamentOf (entries_of unready_of processes.new.items) unready.new }
-    ensures marked { AreMarked marked.new processes.new.items }
+    ensures contest { IsContestOf processes.new.items contest.new }
 {
     let mut from = 0;
-    while let Some(place) = marked.first_from(from) {
-        forget_at(processes, ready, unready, marked, spare, place, floor);
+    while let Some(place) = contest.first_with_past(from) {
+        forget_at(processes, contest, spare, place, floor);
         from = place + 1;
     }
 }
 
-/// Lets the process at index `place` forget its past events before the floor. Updates the tournaments if its ranks
-/// may have changed.
+/// Lets the process at index `place` forget its past events before the floor.
 fn forget_at<M: EventModel>(
     processes: &mut Vec<Lp<M>>,
-    ready: &mut Tournament,
-    unready: &mut Tournament,
-    marked: &mut Marks,
+    contest: &mut Contest,
     spare: &mut Spare<M::Payload, M::Kept>,
     place: usize,
     floor: When,
 )
     requires there { place < length processes.old.items }
-    requires small { place < 2 ^ 32 }
-    requires entered { IsTournamentOf (entries_of ready_of processes.old.items) ready.old }
-    requires unready { IsTournamentOf (entries_of unready_of processes.old.items) unready.old }
-    requires marked { AreMarked marked.old processes.old.items }
+    requires contest { IsContestOf processes.old.items contest.old }
     ensures forgotten { HasForgotten floor place processes.old.items processes.new.items }
-    ensures entered { IsTournamentOf (entries_of ready_of processes.new.items) ready.new }
-    ensures unready { IsTournamentOf (entries_of unready_of processes.new.items) unready.new }
-    ensures marked { AreMarked marked.new processes.new.items }
+    ensures contest { IsContestOf processes.new.items contest.new }
 {
     if processes[place].fossil_into(floor, spare) {
-        // If no process is unready, each least pending event comes after the last past one, so no rank depends on a past
-        // event.
-        match unready.winner() {
-            Some(_) => enter(ready, unready, marked, processes, place),
-            None => marked.set(place, processes[place].has_past()),
-        }
+        contest.enter_forgotten(processes, place);
     }
 }

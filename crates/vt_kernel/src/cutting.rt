@@ -1,7 +1,6 @@
 //! The worker's part of a cut, and what it reports.
 
-ghost use Rattle.std.specs.Prelude.{◌≡◌, ◌++◌, ◌<◌, Some, IfSome, IfNone, length, slice_get, map, flat_map};
-ghost use Rattle.vt_lp.specs.Held.{HeldProcess};
+ghost use Rattle.std.specs.Prelude.{◌≡◌, map};
 ghost use Rattle.vt_key.specs.Letters.{other_colour};
 ghost use Rattle.vt_key.specs.Times.{earlier};
 ghost use Rattle.vt_model.specs.Handler.{Handlers};
@@ -58,30 +57,8 @@ impl<M: EventModel> Kernel<M> {
         let end = self.config.end();
         let unsent = least_of_letters(&self.outbox, end);
         let arrived = least_of_mail(&self.arrived, end);
-        unsent.earlier(arrived).earlier(self.least_of_processes())
-    }
-
-    /// The least time of all pending messages and waiting anti-messages of this worker; the end of the run if there
-    /// are none.
-    fn least_of_processes(&self) -> When
-        ensures { result ≡ least_time (end_of self.now.config) (flat_map (λ process. process.pending ++ process.waiting) self.now.processes) }
-    {
-        let ready = self.least_at(self.ready.winner());
-        let unready = self.least_at(self.unready.winner());
-        ready.earlier(unready)
-    }
-
-    /// The least time of the pending messages and waiting anti-messages of the process at index `place`; the end of
-    /// the run if there are none.
-    fn least_at(&self, place: Option<u32>) -> When
-        requires { IfSome place (λ place. place < length self.now.processes) }
-        ensures some { IfSome place (λ place. (held : HeldProcess _ _ _) × (slice_get self.now.processes place ≡ Some held) × (result ≡ least_time (end_of self.now.config) (held.pending ++ held.waiting))) }
-        ensures none { IfNone place (result ≡ (end_of self.now.config)) }
-    {
-        match place {
-            Some(place) => self.processes[place as usize].least(),
-            None => self.config.end(),
-        }
+        let kept = self.contest.least(&self.processes, end);
+        unsent.earlier(arrived).earlier(kept)
     }
 }
 

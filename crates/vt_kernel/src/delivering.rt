@@ -16,7 +16,6 @@ ghost use Rattle.vt_kernel.specs.Local.{local_step};
 ghost use Rattle.vt_kernel.specs.Guards.{IsDone, IsAcceptRefusal};
 
 use crate::kernel::Kernel;
-use crate::local::enter_accepted;
 use std::alloc::Global;
 use vt_key::{Fault, Letter};
 use vt_list::Predicate;
@@ -50,14 +49,7 @@ impl<M: EventModel> Kernel<M> {
             return Err(fault);
         }
         self.outbox.append(&mut others);
-        enter_accepted(
-            &mut self.ready,
-            &mut self.unready,
-            &mut self.marked,
-            &self.processes,
-            place,
-            leads,
-        );
+        self.contest.enter_accepted(&self.processes, place, leads);
         Ok(())
     }
 
@@ -88,14 +80,7 @@ impl<M: EventModel> Kernel<M> {
             return Err(fault);
         }
         self.arrived.remove(i);
-        enter_accepted(
-            &mut self.ready,
-            &mut self.unready,
-            &mut self.marked,
-            &self.processes,
-            place,
-            leads,
-        );
+        self.contest.enter_accepted(&self.processes, place, leads);
         Ok(())
     }
 }

@@ -5,12 +5,11 @@ ghost use Rattle.vt_steps.specs.Letters.{count_of};
 
 use crate::counts::Counts;
 use std::marker::Model;
+use vt_contest::Contest;
 use vt_key::{Colour, Letter, Mail, When};
 use vt_list::List;
 use vt_lp::{Lp, Spare};
-use vt_marks::Marks;
 use vt_model::{Config, Model as EventModel};
-use vt_tournament::Tournament;
 
 /// One worker: its processes, its outbox, the mail that has arrived, its colour, counts, red minimum, floor and
 /// serial.
@@ -30,12 +29,8 @@ pub struct Kernel<M: EventModel> {
     pub(crate) red_minimum: When,
     pub(crate) floor: When,
     pub(crate) serial: u64,
-    // The processes that may execute, by the ranks of their least pending events.
-    pub(crate) ready: Tournament,
-    // The processes by the least rank of their letters, unless that is the event that a process may execute.
-    pub(crate) unready: Tournament,
-    // The processes that have past events.
-    pub(crate) marked: Marks,
+    // Which of the processes is next.
+    pub(crate) contest: Contest,
     // The memory of committed events and of annihilated letters, for the next ones.
     pub(crate) spare: Spare<M::Payload, M::Kept>,
 }
@@ -59,7 +54,7 @@ impl<M: EventModel> Model for Kernel<M> {
       serial = k.serial;
     } };
 
-    ghost invariant = { λ k. IsWorkerInside k.config k.worker k.processes.items k.outbox k.arrived.items k.sent k.got k.serial k.ready k.unready k.marked };
+    ghost invariant = { λ k. IsWorkerInside k.config k.worker k.processes.items k.outbox k.arrived.items k.sent k.got k.serial k.contest };
 }
 
 impl<M: EventModel> Kernel<M> {

@@ -8,7 +8,6 @@
 mod asking;
 mod choosing;
 mod committing;
-mod contestants;
 mod counts;
 mod cutting;
 mod delivering;

@@ -1,25 +1,19 @@
 //! Local steps at one process: Execute, Undo and Cancel.
 
-ghost use Rattle.std.specs.Prelude.{◌≡◌, ◌^◌, ◌%◌, ◌/◌, ◌<◌, ◌≤◌, IfSome, IfNone, IfOk, IfErr, None, length, slice_get, slice_set, Some, false};
+ghost use Rattle.std.specs.Prelude.{◌≡◌, ◌%◌, ◌/◌, ◌<◌, ◌≤◌, IfSome, IfNone, IfOk, IfErr, None};
 ghost use Rattle.vt_key.specs.declared.fault.Fault.TheVariants.{NotLawful};
 ghost use Rattle.vt_model.specs.Handler.{Handlers};
 ghost use Rattle.vt_model.specs.Simulation.{simulation_of};
 ghost use Rattle.vt_steps.specs.World.{Part};
 ghost use Rattle.vt_steps.specs.declared.step.Step.TheVariants as step;
-ghost use Rattle.vt_tournament.specs.Contest.{IsTournamentOf, WasTournamentOf};
-ghost use Rattle.vt_kernel.specs.Held.{StandsFor, process_of, entries_of, ready_of, unready_of, other_rank, has_past, TellsLeast};
-ghost use Rattle.vt_kernel.specs.Entered.{AreEntered};
+ghost use Rattle.vt_kernel.specs.Held.{StandsFor, process_of};
 ghost use Rattle.vt_kernel.specs.Local.{local_step};
 ghost use Rattle.vt_kernel.specs.Guards.{IsDone, AreWithinLimits, IsExecuteRefusal};
 
-use crate::contestants::{Teller, enter_ready, enter_unready, ready_at, unready_at};
 use crate::kernel::Kernel;
 use std::alloc::Global;
-use vt_key::{Fault, Rank, Stamp, When};
-use vt_lp::Lp;
-use vt_marks::Marks;
+use vt_key::{Fault, Stamp, When};
 use vt_model::{Config, Model as EventModel, Out};
-use vt_tournament::Tournament;
 
 impl<M: EventModel> Kernel<M> {
     /// Execute at process `lp`: it executes its least pending event, and what that sends goes to the back of the
@@ -74,13 +68,7 @@ impl<M: EventModel> Kernel<M> {
             &mut self.spare,
             out,
         );
-        enter(
-            &mut self.ready,
-            &mut self.unready,
-            &mut self.marked,
-            &self.processes,
-            place,
-        );
+        self.contest.enter(&self.processes, place);
         result
     }
 
@@ -99,13 +87,7 @@ impl<M: EventModel> Kernel<M> {
             return Err(Fault::NotLawful);
         };
         let result = self.processes[place].undo(model, &mut self.outbox);
-        enter(
-            &mut self.ready,
-            &mut self.unready,
-            &mut self.marked,
-            &self.processes,
-            place,
-        );
+        self.contest.enter(&self.processes, place);
         result
     }
 
@@ -126,13 +108,7 @@ impl<M: EventModel> Kernel<M> {
         if let Err(fault) = self.processes[place].cancel_into(stamp, &mut self.spare) {
             return Err(fault);
         }
-        enter(
-            &mut self.ready,
-            &mut self.unready,
-            &mut self.marked,
-            &self.processes,
-            place,
-        );
+        self.contest.enter(&self.processes, place);
         Ok(())
     }
 }
@@ -146,82 +122,4 @@ pub(crate) fn place_of(config: Config, worker: u32, lp: u32) -> Option<usize>
         return None;
     }
     Some((lp / config.workers) as usize)
-}
-
-/// Updates the tournaments and the marks after a change of the process at index `place` alone.
-pub(crate) fn enter<M: EventModel>(
-    ready: &mut Tournament,
-    unready: &mut Tournament,
-    marked: &mut Marks,
-    processes: &[Lp<M>],
-    place: usize,
-)
-    requires there { place < length processes.now }
-    requires small { place < 2 ^ 32 }
-    requires in_ready { WasTournamentOf place (entries_of ready_of processes.now) ready.old }
-    requires in_unready { WasTournamentOf place (entries_of unready_of processes.now) unready.old }
-    ensures ready { IsTournamentOf (entries_of ready_of processes.now) ready.new }
-    ensures unready { IsTournamentOf (entries_of unready_of processes.now) unready.new }
-    ensures marked { (held : _) → slice_get processes.now place ≡ Some held → marked.new ≡ slice_set marked.old place (has_past held) }
-    ensures told { (held : _) → slice_get processes.now place ≡ Some held → TellsLeast held }
-{
-    let process = &processes[place];
-    let own = process.ready();
-    let number = place as u32;
-    let who_is_ready = Teller(|other| ready_at(processes, other));
-    enter_ready(ready, processes, number, &own, who_is_ready);
-    let rank = unready_of(process, &own);
-    let who_is_not = Teller(|other| unready_at(processes, other));
-    enter_unready(unready, processes, number, &rank, who_is_not);
-    marked.set(place, process.has_past());
-}
-
-/// As [`enter`], after the process at index `place` alone accepted a letter; `leads` tells whether the letter became
-/// the first one of its queue. Otherwise it changes no entry.
-pub(crate) fn enter_accepted<M: EventModel>(
-    ready: &mut Tournament,
-    unready: &mut Tournament,
-    marked: &mut Marks,
-    processes: &[Lp<M>],
-    place: usize,
-    leads: bool,
-)
-    requires there { place < length processes.now }
-    requires small { place < 2 ^ 32 }
-    requires in_ready { WasTournamentOf place (entries_of ready_of processes.now) ready.old }
-    requires in_unready { WasTournamentOf place (entries_of unready_of processes.now) unready.old }
-    requires behind { leads ≡ false → AreEntered processes.now place ready.old unready.old marked.old }
-    ensures ready { IsTournamentOf (entries_of ready_of processes.now) ready.new }
-    ensures unready { IsTournamentOf (entries_of unready_of processes.now) unready.new }
-    ensures marked { (held : _) → slice_get processes.now place ≡ Some held → marked.new ≡ slice_set marked.old place (has_past held) }
-    ensures told { (held : _) → slice_get processes.now place ≡ Some held → TellsLeast held }
-{
-    if leads {
-        enter(ready, unready, marked, processes, place);
-    }
-}
-
-/// The least rank of all pending messages and waiting anti-messages of a process; None if that is `ready`, the rank of the
-/// event that it may execute, or if there is none.
-fn unready_of<M: EventModel>(process: &Lp<M>, ready: &Option<Rank>) -> Option<Rank>
-    requires own { ready.now ≡ ready_of process.now }
-    ensures rank { result ≡ unready_of process.now }
-    ensures told { TellsLeast process.now }
-{
-    let least = process.least_rank();
-    // Mostly no anti-message waits. Then the ready event has the least rank, and no ranks are compared.
-    if ready.is_some() && !process.has_waiting() {
-        return None;
-    }
-    other_than(ready, &least)
-}
-
-/// The least rank, or None if it is that of the ready event.
-pub(crate) fn other_than(ready: &Option<Rank>, least: &Option<Rank>) -> Option<Rank>
-    ensures { result ≡ other_rank ready.now least.now }
-{
-    match (ready, least) {
-        (Some(ready), Some(least)) if ready.is_same(least) => None,
-        _ => *least,
-    }
 }

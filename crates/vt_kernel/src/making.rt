@@ -1,6 +1,6 @@
 //! How a worker is made.
 
-ghost use Rattle.std.specs.Prelude.{◌≡◌, ◌+◌, ◌<◌, ◌≤◌, ◌⊎◌, ◌↔◌, ◌^◌, [], length, map, max, All, None, IsTrue, IfOk, IfErr};
+ghost use Rattle.std.specs.Prelude.{◌≡◌, ◌+◌, ◌<◌, ◌≤◌, ◌⊎◌, ◌↔◌, [], length, map, All, IsTrue, IfOk, IfErr};
 ghost use Rattle.vt_key.specs.declared.fault.Fault.TheVariants.{Memory, Exhausted};
 ghost use Rattle.vt_key.specs.declared.letter.Sign.TheVariants.{Plus};
 ghost use Rattle.vt_key.specs.declared.limits.TheConstants.{MAX_COUNT};
@@ -9,18 +9,16 @@ ghost use Rattle.vt_model.specs.declared.limits.TheConstants.{MAX_SENDS};
 ghost use Rattle.vt_steps.specs.Letters.{signed};
 ghost use Rattle.vt_steps.specs.World.{process_count, start_sends, start_events, opening_part};
 ghost use Rattle.vt_lp.specs.Held.{StandsFor as ProcessStandsFor, AllWithinRun, opening_process};
-ghost use Rattle.vt_tournament.specs.Contest.{IsTournamentOf};
-ghost use Rattle.vt_kernel.specs.Held.{StandsFor, AreProcesses, entries_of};
+ghost use Rattle.vt_kernel.specs.Held.{StandsFor, AreProcesses};
 
 use crate::counts::Counts;
 use crate::kernel::Kernel;
 use std::alloc::Global;
+use vt_contest::Contest;
 use vt_key::{Colour, Fault, Letter, MAX_COUNT, MAX_PROCESSES, MAX_WORKERS, When};
 use vt_list::List;
 use vt_lp::{Lp, Spare};
-use vt_marks::Marks;
 use vt_model::{Config, MAX_SENDS, Model as EventModel, Out, Process};
-use vt_tournament::Tournament;
 
 /// The most events that the starts of a worker can send, whatever the model.
 const MOST_STARTED: u64 = MAX_SENDS as u64 * (MAX_PROCESSES as u64 + MAX_WORKERS as u64);
@@ -79,11 +77,7 @@ fn open<M: EventModel>(
     let mut serial = serial;
     let mut outbox = List::new(alloc);
     let processes = start_all(alloc, model, config, w, &mut serial, &mut outbox)?;
-    let ready = tournament(alloc, &processes)?;
-    let unready = tournament(alloc, &processes)?;
-    let Ok(marked) = Marks::new(alloc, processes.len()) else {
-        return Err(Fault::Memory);
-    };
+    let contest = Contest::new(alloc, &processes)?;
     Ok(Kernel {
         config,
         worker: w,
@@ -96,9 +90,7 @@ fn open<M: EventModel>(
         red_minimum: config.end(),
         floor: When::tick(0),
         serial,
-        ready,
-        unready,
-        marked,
+        contest,
         spare: Spare::new(alloc),
     })
 }
@@ -133,24 +125,6 @@ fn start_all<M: EventModel>(
         p += config.workers;
     }
     Ok(processes)
-}
-
-/// A tournament for these processes, in which none takes part yet.
-fn tournament<M: EventModel>(alloc: Global, processes: &[Lp<M>]) -> Result<Tournament, Fault>
-    requires few { length processes.now ≤ 2 ^ 23 }
-    ensures nobody { IfOk result (IsTournamentOf (entries_of (λ _. None) processes.now)) }
-    ensures refused { IfErr result (λ fault. fault ≡ Memory) }
-{
-    let count = processes.len();
-    let contestants = at_least_one(count);
-    Tournament::new(alloc, contestants as u32)
-}
-
-/// The number, but at least 1: a tournament needs a contestant.
-pub(crate) fn at_least_one(n: usize) -> usize
-    ensures { result ≡ max n 1 }
-{
-    if n == 0 { 1 } else { n }
 }
 
 /// Whether the serial of worker `w`, which is below `config.workers`, stays at most 2^63 at its starts; `serial`, at

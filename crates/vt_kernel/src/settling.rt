@@ -9,7 +9,7 @@ ghost use Rattle.vt_kernel.specs.Guards.{SettlesTo};
 ghost use Rattle.vt_kernel.specs.Settled.{IsSettledTo};
 
 use crate::kernel::Kernel;
-use crate::local::{enter, place_of};
+use crate::local::place_of;
 use vt_key::Letter;
 use vt_list::List;
 use vt_lp::{Lp, Spare};
@@ -32,13 +32,7 @@ impl<M: EventModel> Kernel<M> {
             &mut self.spare,
         );
         if settling.changed {
-            enter(
-                &mut self.ready,
-                &mut self.unready,
-                &mut self.marked,
-                &self.processes,
-                place,
-            );
+            self.contest.enter(&self.processes, place);
         }
         settling.undone
     }

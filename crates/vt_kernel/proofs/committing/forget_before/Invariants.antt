@@ -1,15 +1,12 @@
 use Rattle.std.proofs.Common.{length, ◌-◌}
-use Rattle.vt_kernel.specs.Held.{AreMarked, entries_of, ready_of, unready_of}
-use Rattle.vt_tournament.specs.Contest.{IsTournamentOf}
+use Rattle.vt_contest.specs.Contest.{IsContestOf}
 use Rattle.vt_kernel.proofs.CommitLemmas.{HaveForgotten}
 use Rattle.vt_kernel.proofs.committing.forget_before.Given as goal
 
 abbrev pub invariant-loop-place : goal.invariant-loop-place
 invariant-loop-place g l = record {
   forgotten : HaveForgotten l.floor l.from l.initial.processes.items l.processes.items;
-  entered : IsTournamentOf (entries_of ready_of l.processes.items) l.ready;
-  unready : IsTournamentOf (entries_of unready_of l.processes.items) l.unready;
-  marked : AreMarked l.marked l.processes.items;
+  contest : IsContestOf l.processes.items l.contest;
 }
 
 abbrev pub decreases-loop-place : goal.decreases-loop-place

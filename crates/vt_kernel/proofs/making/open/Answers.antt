@@ -1,39 +1,34 @@
-use Rattle.std.proofs.Common.{◌≡◌, ◌∙◌, ◌≤◌, ◌+◌, ◌-◌, List, Option, None, length, replicate, rules, false, refl, sym, ap, subst, arith}
+use Rattle.std.proofs.Common.{◌≡◌, ◌≤◌, ◌+◌, ◌-◌, List, length, refl, sym, ap, subst, arith}
+use Rattle.std.specs.List.{All}
 use Rattle.std.proofs.lemmas.List.Elements.{All-nil}
 use Rattle.std.proofs.Math.Nat.{div-le_self}
 use Rattle.vt_key.specs.declared.limits.TheConstants.{MAX_COUNT}
-use Rattle.vt_key.specs.declared.order.Rank.{Rank}
 use Rattle.vt_steps.specs.Letters.{Counts}
-use Rattle.vt_tournament.specs.Contest.{IsTournamentOf}
 use Rattle.vt_lp.specs.Held.{HeldProcess}
-use Rattle.vt_kernel.specs.Held.{AllOwnMail, IsOwnMail, AreCounted, AreMarked, entries_of}
-use Rattle.vt_kernel.proofs.MakeLemmas.{ready-opening, unready-opening, tells-opening, stand-opening, marked-opening}
+use Rattle.vt_contest.specs.Contest.{IsContestOf, IsIdle}
+use Rattle.vt_kernel.specs.Held.{AllOwnMail, IsOwnMail, AreCounted}
+use Rattle.vt_kernel.proofs.MakeLemmas.{all-idle, stand-opening}
 use Rattle.vt_kernel.proofs.making.open.Goals as goal
 
 none_counted : (counts : Counts) → counts ≡ record { white = 0; red = 0 } → AreCounted counts
 none_counted counts is = subst AreCounted (sym is) (record { white = omega arith; red = omega arith })
 
-pub tournament-requires-clause-few : goal.tournament-requires-clause-few
-tournament-requires-clause-few g c =
+pub new-requires-clause-few : goal.new-requires-clause-few
+new-requires-clause-few g c κs within =
     let config = c.args.config in
     let count = c.in_ok-processes.ensures.count in
     let items : length c.deref.result.now ≡ length c.in_ok-processes.processes.items = ap length c.deref.ensures.value in
     let less = div-le_self (config.lps + (config.workers - 1) - c.args.w) config.workers in
     omega (arith, items, count, less, config.few_processes, config.few_workers)
 
-pub tournament-requires-2-clause-few : goal.tournament-requires-2-clause-few
-tournament-requires-2-clause-few g c =
-    let config = c.args.config in
-    let count = c.in_ok-processes.ensures.count in
-    let items : length c.deref-2.result.now ≡ length c.in_ok-processes.processes.items = ap length c.deref-2.ensures.value in
-    let less = div-le_self (config.lps + (config.workers - 1) - c.args.w) config.workers in
-    omega (arith, items, count, less, config.few_processes, config.few_workers)
+pub new-requires-clause-idle : goal.new-requires-clause-idle
+new-requires-clause-idle g c κs within =
+    subst (λ (ps : List (HeldProcess _ _ _)). All IsIdle ps) (sym c.deref.ensures.value)
+    (all-idle (g.M.Model.handlers c.args.model.now) c.in_ok-processes.processes.items c.in_ok-processes.ensures.started)
 
 pub invariant_of-result : goal.invariant_of-result
 invariant_of-result g c =
-    let handlers = g.M.Model.handlers c.args.model.now in
     let config = c.args.config in
-    let items = c.in_ok-processes.processes.items in
     let made = c.in_ok-processes.ensures in
     let few : c.start_all.new.serial ≤ MAX_COUNT = omega (arith, made.serial, c.requires.fits) in
     record {
@@ -45,12 +40,7 @@ invariant_of-result g c =
       few_sent = none_counted c.new-3.result c.new-3.ensures;
       few_got = none_counted c.new-4.result c.new-4.ensures;
       few_made = few;
-      ready_entered = subst (λ (es : List (Option Rank)). IsTournamentOf es c.in_ok-ready.ready)
-          (ap (λ (xs : List (HeldProcess _ _ _)). entries_of (λ (x : HeldProcess _ _ _). None) xs) c.deref.ensures.value ∙ sym (ready-opening handlers items made.started)) c.in_ok-ready.ensures.nobody;
-      unready_entered = subst (λ (es : List (Option Rank)). IsTournamentOf es c.in_ok-unready.unready)
-          (ap (λ (xs : List (HeldProcess _ _ _)). entries_of (λ (x : HeldProcess _ _ _). None) xs) c.deref-2.ensures.value ∙ sym (unready-opening handlers items made.started)) c.in_ok-unready.ensures.nobody;
-      least_told = tells-opening handlers items made.started;
-      past_marked = c.in-Ok.ensures ∙ subst (λ n. AreMarked (replicate n false) items) (sym (search rules)) (marked-opening handlers items made.started);
+      in_contest = subst (λ (ps : List (HeldProcess _ _ _)). IsContestOf ps c.in_ok-contest.contest) c.deref.ensures.value c.in_ok-contest.ensures.made;
     }
 
 pub returns-clause-opening : goal.returns-clause-opening

@@ -15,12 +15,12 @@ use Rattle.vt_lp.specs.Guards.{holds_letter, would_lead, IsDone as ProcessIsDone
 use Rattle.vt_kernel.specs.Held.{HeldWorker, IsOwnMail, AllOwnMail, IsWorkerInside, StandsFor}
 use Rattle.vt_kernel.specs.Local.{local_step}
 use Rattle.vt_kernel.specs.Guards.{IsDone, IsAcceptRefusal}
-use Rattle.vt_kernel.proofs.EnteringLemmas.{entered-behind}
+use Rattle.vt_contest.proofs.ContestLemmas.{contest-kept}
 use Rattle.vt_kernel.proofs.LocalLemmas.{worker_view, place-within, inside-changed, written-same}
 use Rattle.vt_kernel.proofs.InsideLemmas.{inside-arrived}
 use Rattle.vt_lp.proofs.AcceptLemmas.{accept-none}
 use Rattle.vt_kernel.proofs.DeliveryLemmas.{accept-done, accept-nothing, accept-refused, accept-lawful, removed-all}
-use Rattle.vt_kernel.proofs.ReentryLemmas.{process-there, process-is, still-there, was-in-ready, was-in-unready, addressed}
+use Rattle.vt_kernel.proofs.ReentryLemmas.{process-there, process-is, still-there, was-in-contest, addressed}
 use Rattle.vt_kernel.proofs.kernel.Kernel.accept.Goals as goal
 
 pub returns-in_default-clause-refused : goal.returns-in_default-clause-refused
@@ -100,7 +100,7 @@ invariant_of-self-in-Err g c =
     let a = addressed c.self.invariant c.args.i mail c.deref.ensures.value (sym c.in-Some.ensures.lookup.0) c.in-Some.ensures.lookup.1 in
     let old = c.index_mut-process.result.now in
     let at = process-there c.self.invariant _ _ a.place (sym c.index_mut-process.ensures.value) in
-    subst (λ (ps : List (HeldProcess _ _ _)). IsWorkerInside i.config i.worker ps i.outbox i.arrived.items i.sent i.got i.serial i.ready i.unready i.marked)
+    subst (λ (ps : List (HeldProcess _ _ _)). IsWorkerInside i.config i.worker ps i.outbox i.arrived.items i.sent i.got i.serial i.contest)
     (sym (written-same i.processes.items place old c.accept.new.self at c.in-Err.ensures.kept.2)) c.self.invariant
 
 pub returns-in-Err-clause-refused : goal.returns-in-Err-clause-refused
@@ -125,17 +125,11 @@ enter_accepted-requires-clause-there g c κs within =
     let a = addressed c.self.invariant c.args.i mail c.deref.ensures.value (sym c.in-Some.ensures.lookup.0) c.in-Some.ensures.lookup.1 in
     still-there c.self.invariant _ _ c.accept.new.self a.place (sym c.index_mut-process.ensures.value) c.deref-2.ensures.value
 
-pub enter_accepted-requires-clause-in_ready : goal.enter_accepted-requires-clause-in_ready
-enter_accepted-requires-clause-in_ready g c κs within =
+pub enter_accepted-requires-clause-was : goal.enter_accepted-requires-clause-was
+enter_accepted-requires-clause-was g c κs within =
     let mail = c.in-Some.mail.now in
     let a = addressed c.self.invariant c.args.i mail c.deref.ensures.value (sym c.in-Some.ensures.lookup.0) c.in-Some.ensures.lookup.1 in
-    was-in-ready c.self.invariant _ _ c.accept.new.self a.place (sym c.index_mut-process.ensures.value) c.deref-2.ensures.value
-
-pub enter_accepted-requires-clause-in_unready : goal.enter_accepted-requires-clause-in_unready
-enter_accepted-requires-clause-in_unready g c κs within =
-    let mail = c.in-Some.mail.now in
-    let a = addressed c.self.invariant c.args.i mail c.deref.ensures.value (sym c.in-Some.ensures.lookup.0) c.in-Some.ensures.lookup.1 in
-    was-in-unready c.self.invariant _ _ c.accept.new.self a.place (sym c.index_mut-process.ensures.value) c.deref-2.ensures.value
+    was-in-contest c.self.invariant _ _ c.accept.new.self a.place (sym c.index_mut-process.ensures.value) c.deref-2.ensures.value
 
 pub enter_accepted-requires-clause-behind : goal.enter_accepted-requires-clause-behind
 enter_accepted-requires-clause-behind g c κs within later =
@@ -148,8 +142,8 @@ enter_accepted-requires-clause-behind g c κs within later =
     let at = process-there c.self.invariant _ _ a.place (sym c.index_mut-process.ensures.value) in
     let same = c.in_default-accept.ensures.same in
     let behind = subst (λ (l : Letter _). would_lead old.pending old.waiting l.sign l ≡ false) (sym c.in-Ok.ensures.made) (sym c.would_lead-leads.ensures ∙ later) in
-    entered-behind i.processes.items c.deref-2.result.now place old c.accept.new.self i.ready i.unready i.marked at c.deref-2.ensures.value same.1 same.3
-    (c.in_default-accept.ensures.behind behind) c.self.invariant.ready_entered c.self.invariant.unready_entered c.self.invariant.past_marked c.self.invariant.least_told
+    contest-kept i.processes.items c.deref-2.result.now place old c.accept.new.self i.contest at c.deref-2.ensures.value same.1 same.3
+    (c.in_default-accept.ensures.behind behind) c.self.invariant.in_contest
 
 pub invariant_of-self-2 : goal.invariant_of-self-2
 invariant_of-self-2 g c =
@@ -162,7 +156,7 @@ invariant_of-self-2 g c =
     let same = c.in_default-accept.ensures.same in
     let rest = removed-all (IsOwnMail i.config i.worker) i.arrived.items c.args.i c.self.invariant.own_mail in
     inside-arrived c.remove.new.self.items i.got (subst (λ (ms : List (Mail _)). AllOwnMail i.config i.worker ms) (sym c.remove.ensures.items) rest) c.self.invariant.few_got
-    (inside-changed c.self.invariant place c.accept.new.self at same.0 same.1 c.deref-2.ensures.value c.enter_accepted.ensures.ready c.enter_accepted.ensures.unready c.enter_accepted.ensures.marked c.enter_accepted.ensures.told
+    (inside-changed c.self.invariant place c.accept.new.self at same.0 same.1 c.deref-2.ensures.value c.enter_accepted.ensures
     c.self.invariant.sendable c.self.invariant.few_made)
 
 pub returns-clause-done : goal.returns-clause-done

@@ -7,7 +7,7 @@ use Rattle.vt_kernel.specs.Held.{HeldWorker, IsWorkerInside, StandsFor}
 use Rattle.vt_kernel.specs.Local.{local_step}
 use Rattle.vt_kernel.specs.Guards.{IsDone}
 use Rattle.vt_kernel.proofs.LocalLemmas.{worker_view, place-within, inside-changed, unknown-refused, changed-done, changed-refused, plain-done, written-same}
-use Rattle.vt_kernel.proofs.ReentryLemmas.{process-there, still-there, was-in-ready, was-in-unready}
+use Rattle.vt_kernel.proofs.ReentryLemmas.{process-there, still-there, was-in-contest}
 use Rattle.vt_kernel.proofs.kernel.Kernel.cancel.Goals as goal
 
 pub returns-in_default-clause-refused : goal.returns-in_default-clause-refused
@@ -27,7 +27,7 @@ pub invariant_of-self : goal.invariant_of-self
 invariant_of-self g c =
     let i = c.self.inside in
     let at = process-there c.self.invariant c.args.lp c.in-Some.place c.in-Some.ensures.own (sym c.index_mut.ensures.value) in
-    subst (λ (ps : List (HeldProcess _ _ _)). IsWorkerInside i.config i.worker ps i.outbox i.arrived.items i.sent i.got i.serial i.ready i.unready i.marked)
+    subst (λ (ps : List (HeldProcess _ _ _)). IsWorkerInside i.config i.worker ps i.outbox i.arrived.items i.sent i.got i.serial i.contest)
     (sym (written-same i.processes.items c.in-Some.place c.index_mut.result.now c.cancel_into.new.self at c.in-Err.ensures.kept.1)) c.self.invariant
 
 pub returns-in-Err-clause-refused : goal.returns-in-Err-clause-refused
@@ -44,19 +44,15 @@ pub enter-requires-clause-there : goal.enter-requires-clause-there
 enter-requires-clause-there g c κs within =
     still-there c.self.invariant c.args.lp c.in-Some.place c.cancel_into.new.self c.in-Some.ensures.own (sym c.index_mut.ensures.value) c.deref.ensures.value
 
-pub enter-requires-clause-in_ready : goal.enter-requires-clause-in_ready
-enter-requires-clause-in_ready g c κs within =
-    was-in-ready c.self.invariant c.args.lp c.in-Some.place c.cancel_into.new.self c.in-Some.ensures.own (sym c.index_mut.ensures.value) c.deref.ensures.value
-
-pub enter-requires-clause-in_unready : goal.enter-requires-clause-in_unready
-enter-requires-clause-in_unready g c κs within =
-    was-in-unready c.self.invariant c.args.lp c.in-Some.place c.cancel_into.new.self c.in-Some.ensures.own (sym c.index_mut.ensures.value) c.deref.ensures.value
+pub enter-requires-clause-was : goal.enter-requires-clause-was
+enter-requires-clause-was g c κs within =
+    was-in-contest c.self.invariant c.args.lp c.in-Some.place c.cancel_into.new.self c.in-Some.ensures.own (sym c.index_mut.ensures.value) c.deref.ensures.value
 
 pub invariant_of-self-2 : goal.invariant_of-self-2
 invariant_of-self-2 g c =
     let at = process-there c.self.invariant c.args.lp c.in-Some.place c.in-Some.ensures.own (sym c.index_mut.ensures.value) in
     let same = c.in_default-cancel_into.ensures.same in
-    inside-changed c.self.invariant c.in-Some.place c.cancel_into.new.self at same.0 same.1 c.deref.ensures.value c.enter.ensures.ready c.enter.ensures.unready c.enter.ensures.marked c.enter.ensures.told c.self.invariant.sendable c.self.invariant.few_made
+    inside-changed c.self.invariant c.in-Some.place c.cancel_into.new.self at same.0 same.1 c.deref.ensures.value c.enter.ensures c.self.invariant.sendable c.self.invariant.few_made
 
 pub returns-clause-done : goal.returns-clause-done
 returns-clause-done g c handlers part s =

@@ -16,7 +16,7 @@ use Rattle.vt_model.proofs.Sizes.{out_fits}
 use Rattle.vt_kernel.proofs.ProcessLemmas.{process-at, processes-changed}
 use Rattle.vt_kernel.proofs.OwnSteps.{own-execute, found, within-limits, same-execute, refusal-at, own-step}
 use Rattle.vt_kernel.proofs.LocalLemmas.{worker_view, place-within, inside-changed, unknown-refused, written-same, either-way, at-found-done, execute-step, both-errors, own-process}
-use Rattle.vt_kernel.proofs.ReentryLemmas.{process-there, still-there, was-in-ready, was-in-unready}
+use Rattle.vt_kernel.proofs.ReentryLemmas.{process-there, still-there, was-in-contest}
 use Rattle.vt_kernel.proofs.kernel.Kernel.execute_reusing.Goals as goal
 
 pub index_mut-requires : goal.index_mut-requires
@@ -34,13 +34,9 @@ pub enter-requires-clause-there : goal.enter-requires-clause-there
 enter-requires-clause-there g c κs within =
     still-there c.self.invariant c.args.lp c.in-Some.place c.execute_reusing-result.new.self c.in-Some.ensures.own (sym c.index_mut.ensures.value) c.deref.ensures.value
 
-pub enter-requires-clause-in_ready : goal.enter-requires-clause-in_ready
-enter-requires-clause-in_ready g c κs within =
-    was-in-ready c.self.invariant c.args.lp c.in-Some.place c.execute_reusing-result.new.self c.in-Some.ensures.own (sym c.index_mut.ensures.value) c.deref.ensures.value
-
-pub enter-requires-clause-in_unready : goal.enter-requires-clause-in_unready
-enter-requires-clause-in_unready g c κs within =
-    was-in-unready c.self.invariant c.args.lp c.in-Some.place c.execute_reusing-result.new.self c.in-Some.ensures.own (sym c.index_mut.ensures.value) c.deref.ensures.value
+pub enter-requires-clause-was : goal.enter-requires-clause-was
+enter-requires-clause-was g c κs within =
+    was-in-contest c.self.invariant c.args.lp c.in-Some.place c.execute_reusing-result.new.self c.in-Some.ensures.own (sym c.index_mut.ensures.value) c.deref.ensures.value
 
 pub returns-in_default-clause-refused : goal.returns-in_default-clause-refused
 returns-in_default-clause-refused g c part s =
@@ -61,7 +57,7 @@ invariant_of-self g c =
     let same = c.execute_reusing-result.ensures.same in
     let within = subst (λ (k : Config). AllWithinRun k i.outbox → AllWithinRun k c.execute_reusing-result.new.outbox) f.1 c.execute_reusing-result.ensures.within in
     let few : c.execute_reusing-result.new.serial ≤ MAX_COUNT = either-way c.execute_reusing-result.result (λ _ counted. counted.1) (λ _ kept. subst (λ n. n ≤ MAX_COUNT) (sym kept.1) c.self.invariant.few_made) c.execute_reusing-result.ensures.counted c.execute_reusing-result.ensures.kept in
-    inside-changed c.self.invariant c.in-Some.place c.execute_reusing-result.new.self at same.0 same.1 c.deref.ensures.value c.enter.ensures.ready c.enter.ensures.unready c.enter.ensures.marked c.enter.ensures.told (within c.self.invariant.sendable) few
+    inside-changed c.self.invariant c.in-Some.place c.execute_reusing-result.new.self at same.0 same.1 c.deref.ensures.value c.enter.ensures (within c.self.invariant.sendable) few
 
 pub returns-clause-done : goal.returns-clause-done
 returns-clause-done g c part s =

@@ -12,10 +12,10 @@ use Rattle.vt_lp.specs.Guards.{would_lead, IsDone as ProcessIsDone}
 use Rattle.vt_kernel.specs.Held.{HeldWorker, StandsFor}
 use Rattle.vt_kernel.specs.Local.{local_step}
 use Rattle.vt_kernel.specs.Guards.{IsDone, is_for_worker}
-use Rattle.vt_kernel.proofs.EnteringLemmas.{entered-behind}
+use Rattle.vt_contest.proofs.ContestLemmas.{contest-kept}
 use Rattle.vt_kernel.proofs.LocalLemmas.{worker_view, place-within, inside-changed}
 use Rattle.vt_kernel.proofs.DeliveryLemmas.{without-all, home-done, home-refused, home-nothing}
-use Rattle.vt_kernel.proofs.ReentryLemmas.{process-there, process-is, still-there, was-in-ready, was-in-unready, taken-off}
+use Rattle.vt_kernel.proofs.ReentryLemmas.{process-there, process-is, still-there, was-in-contest, taken-off}
 use Rattle.vt_kernel.proofs.kernel.Kernel.home.Goals as goal
 
 pub returns-in_default-clause-refused : goal.returns-in_default-clause-refused
@@ -66,15 +66,10 @@ enter_accepted-requires-clause-there g c κs within =
     let off = taken-off c.self.invariant c.split_off_first-others.new.self c.split_off_first-others.result c.pop_front.new.self c.get.result.now c.in-Some.letter c.split_off_first-others.ensures.before c.split_off_first-others.ensures.from c.in-Some.ensures c.get.ensures in
     still-there c.self.invariant _ _ c.accept.new.self off.place (sym c.index_mut-process.ensures.value) c.deref.ensures.value
 
-pub enter_accepted-requires-clause-in_ready : goal.enter_accepted-requires-clause-in_ready
-enter_accepted-requires-clause-in_ready g c κs within =
+pub enter_accepted-requires-clause-was : goal.enter_accepted-requires-clause-was
+enter_accepted-requires-clause-was g c κs within =
     let off = taken-off c.self.invariant c.split_off_first-others.new.self c.split_off_first-others.result c.pop_front.new.self c.get.result.now c.in-Some.letter c.split_off_first-others.ensures.before c.split_off_first-others.ensures.from c.in-Some.ensures c.get.ensures in
-    was-in-ready c.self.invariant _ _ c.accept.new.self off.place (sym c.index_mut-process.ensures.value) c.deref.ensures.value
-
-pub enter_accepted-requires-clause-in_unready : goal.enter_accepted-requires-clause-in_unready
-enter_accepted-requires-clause-in_unready g c κs within =
-    let off = taken-off c.self.invariant c.split_off_first-others.new.self c.split_off_first-others.result c.pop_front.new.self c.get.result.now c.in-Some.letter c.split_off_first-others.ensures.before c.split_off_first-others.ensures.from c.in-Some.ensures c.get.ensures in
-    was-in-unready c.self.invariant _ _ c.accept.new.self off.place (sym c.index_mut-process.ensures.value) c.deref.ensures.value
+    was-in-contest c.self.invariant _ _ c.accept.new.self off.place (sym c.index_mut-process.ensures.value) c.deref.ensures.value
 
 pub enter_accepted-requires-clause-behind : goal.enter_accepted-requires-clause-behind
 enter_accepted-requires-clause-behind g c κs within later =
@@ -86,8 +81,8 @@ enter_accepted-requires-clause-behind g c κs within later =
     let old = c.index_mut-process.result.now in
     let same = c.in_default-accept.ensures.same in
     let behind = subst (λ (l : Letter _). would_lead old.pending old.waiting l.sign l ≡ false) c.get-2.ensures (sym c.would_lead-leads.ensures ∙ later) in
-    entered-behind i.processes.items c.deref.result.now place old c.accept.new.self i.ready i.unready i.marked at c.deref.ensures.value same.1 same.3
-    (c.in_default-accept.ensures.behind behind) c.self.invariant.ready_entered c.self.invariant.unready_entered c.self.invariant.past_marked c.self.invariant.least_told
+    contest-kept i.processes.items c.deref.result.now place old c.accept.new.self i.contest at c.deref.ensures.value same.1 same.3
+    (c.in_default-accept.ensures.behind behind) c.self.invariant.in_contest
 
 pub invariant_of-self-2 : goal.invariant_of-self-2
 invariant_of-self-2 g c =
@@ -98,7 +93,7 @@ invariant_of-self-2 g c =
     let at = process-there c.self.invariant _ _ off.place (sym c.index_mut-process.ensures.value) in
     let same = c.in_default-accept.ensures.same in
     let within = without-all (IsWithinRun i.config.lps (end_of i.config)) (is_for_worker i.config i.worker) i.outbox c.self.invariant.sendable in
-    inside-changed c.self.invariant place c.accept.new.self at same.0 same.1 c.deref.ensures.value c.enter_accepted.ensures.ready c.enter_accepted.ensures.unready c.enter_accepted.ensures.marked c.enter_accepted.ensures.told
+    inside-changed c.self.invariant place c.accept.new.self at same.0 same.1 c.deref.ensures.value c.enter_accepted.ensures
     (subst (λ (ls : List (Letter _)). AllWithinRun i.config ls) (sym (c.append-2.ensures.0 ∙ off.left)) within) c.self.invariant.few_made
 
 pub returns-clause-done : goal.returns-clause-done

@@ -1,15 +1,29 @@
-use Rattle.std.proofs.Common.{◌≡◌, ◌∙◌, ◌++◌, List, map, sym, ap}
-use Rattle.std.specs.List.{flat_map}
+use Rattle.std.proofs.Common.{◌≡◌, ◌∙◌, ◌++◌, List, map, sym, ap, subst}
+use Rattle.std.specs.List.{All, flat_map}
 use Rattle.vt_key.specs.Times.{Time, earlier}
 use Rattle.vt_key.specs.declared.letter.Letter.{Letter}
 use Rattle.vt_key.specs.declared.letter.Mail.{Mail}
 use Rattle.vt_model.specs.Settings.{end_of}
 use Rattle.vt_steps.specs.Letters.{least_time}
+use Rattle.vt_lp.specs.Held.{HeldProcess}
+use Rattle.vt_contest.specs.Contest.{IsContestOf}
 use Rattle.vt_kernel.specs.Held.{HeldWorker}
+use Rattle.vt_kernel.proofs.ProcessLemmas.{same-ends}
 use Rattle.vt_kernel.specs.Guards.{held_letters}
-use Rattle.vt_kernel.proofs.LeastLemmas.{kept_letters}
+use Rattle.vt_contest.proofs.LeastLemmas.{kept_letters}
 use Rattle.vt_kernel.proofs.TimeLemmas.{least_time-append}
 use Rattle.vt_kernel.proofs.kernel.Kernel.least.Goals as goal
+
+pub least-kept-requires-clause-contest : goal.least-kept-requires-clause-contest
+least-kept-requires-clause-contest g c κs within =
+    subst (λ (ps : List (HeldProcess _ _ _)). IsContestOf ps c.self.inside.contest) (sym c.deref-2.ensures.value) c.self.invariant.in_contest
+
+pub least-kept-requires-clause-ends : goal.least-kept-requires-clause-ends
+least-kept-requires-clause-ends g c κs within =
+    let k = c.self.inside in
+    subst (λ (ps : List (HeldProcess _ _ _)). All (λ (q : HeldProcess _ _ _). end_of q.config ≡ c.end-end.result) ps) (sym c.deref-2.ensures.value)
+    (subst (λ (t : Time). All (λ (q : HeldProcess _ _ _). end_of q.config ≡ t) k.processes.items) (sym c.end-end.ensures)
+    (same-ends k.config k.worker 0 k.processes.items c.self.invariant.own_processes))
 
 pub returns : goal.returns
 returns g c =
@@ -17,7 +31,7 @@ returns g c =
     let end = end_of k.config in
     let letters : List (Mail _) → List (Letter _) = map (λ (m : Mail _). m.letter) in
     let arrived : c.least_of_mail-arrived.result ≡ least_time c.end-end.result (letters k.arrived.items) = c.least_of_mail-arrived.ensures ∙ ap (λ (ms : List (Mail _)). least_time c.end-end.result (letters ms)) c.deref.ensures.value in
-    let kept : c.least_of_processes.result ≡ least_time end (flat_map kept_letters k.processes.items) = c.least_of_processes.ensures ∙ ap (λ (v : HeldWorker _ _ _). least_time (end_of v.config) (flat_map kept_letters v.processes)) (sym c.self.view_is) in
+    let kept : c.least-kept.result ≡ least_time end (flat_map kept_letters k.processes.items) = c.least-kept.ensures ∙ (λ j. least_time (c.end-end.ensures j) (flat_map kept_letters (c.deref-2.ensures.value j))) in
     let first : c.earlier.result ≡ earlier (least_time end k.outbox) (least_time end (letters k.arrived.items)) = c.earlier.ensures ∙ (λ j. earlier (c.least_of_letters-unsent.ensures j) (arrived j)) ∙ ap (λ (t : Time). earlier (least_time t k.outbox) (least_time t (letters k.arrived.items))) c.end-end.ensures in
     c.earlier-2.ensures
     ∙ (λ j. earlier (first j) (kept j))

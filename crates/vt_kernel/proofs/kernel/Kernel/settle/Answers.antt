@@ -8,7 +8,7 @@ use Rattle.vt_kernel.specs.Guards.{SettlesTo}
 use Rattle.vt_kernel.proofs.ProcessLemmas.{process-at}
 use Rattle.vt_kernel.proofs.LocalLemmas.{worker_view, place-within, written-same, inside-changed}
 use Rattle.vt_kernel.proofs.SettledWorker.{unknown-settled, settled-seen}
-use Rattle.vt_kernel.proofs.ReentryLemmas.{process-there, still-there, was-in-ready, was-in-unready}
+use Rattle.vt_kernel.proofs.ReentryLemmas.{process-there, still-there, was-in-contest}
 use Rattle.vt_kernel.proofs.kernel.Kernel.settle.Goals as goal
 
 pub index_mut-requires : goal.index_mut-requires
@@ -20,13 +20,9 @@ pub enter-requires-clause-there : goal.enter-requires-clause-there
 enter-requires-clause-there g c κs within =
     still-there c.self.invariant c.args.lp c.in-Some.place c.settle_process-settling.new.process c.in-Some.ensures.own (sym c.index_mut.ensures.value) c.deref.ensures.value
 
-pub enter-requires-clause-in_ready : goal.enter-requires-clause-in_ready
-enter-requires-clause-in_ready g c κs within =
-    was-in-ready c.self.invariant c.args.lp c.in-Some.place c.settle_process-settling.new.process c.in-Some.ensures.own (sym c.index_mut.ensures.value) c.deref.ensures.value
-
-pub enter-requires-clause-in_unready : goal.enter-requires-clause-in_unready
-enter-requires-clause-in_unready g c κs within =
-    was-in-unready c.self.invariant c.args.lp c.in-Some.place c.settle_process-settling.new.process c.in-Some.ensures.own (sym c.index_mut.ensures.value) c.deref.ensures.value
+pub enter-requires-clause-was : goal.enter-requires-clause-was
+enter-requires-clause-was g c κs within =
+    was-in-contest c.self.invariant c.args.lp c.in-Some.place c.settle_process-settling.new.process c.in-Some.ensures.own (sym c.index_mut.ensures.value) c.deref.ensures.value
 
 pub returns-in_default-clause-settles : goal.returns-in_default-clause-settles
 returns-in_default-clause-settles g c part s =
@@ -48,7 +44,7 @@ invariant_of-self g c =
     let f = process-at i.config i.worker 0 c.in-Some.place i.processes.items old c.self.invariant.own_processes at in
     let same = c.settle_process-settling.ensures.same in
     let within = subst (λ (k : Config). AllWithinRun k i.outbox → AllWithinRun k c.settle_process-settling.new.outbox) f.1 c.settle_process-settling.ensures.within in
-    inside-changed c.self.invariant c.in-Some.place c.settle_process-settling.new.process at same.0 same.1 c.deref.ensures.value c.enter.ensures.ready c.enter.ensures.unready c.enter.ensures.marked c.enter.ensures.told (within c.self.invariant.sendable) c.self.invariant.few_made
+    inside-changed c.self.invariant c.in-Some.place c.settle_process-settling.new.process at same.0 same.1 c.deref.ensures.value c.enter.ensures (within c.self.invariant.sendable) c.self.invariant.few_made
 
 pub returns-then-settling-clause-settles : goal.returns-then-settling-clause-settles
 returns-then-settling-clause-settles g c part s =
@@ -63,9 +59,9 @@ invariant_of-self-else-settling g c =
     let old = c.index_mut.result.now in
     let at = process-there c.self.invariant c.args.lp c.in-Some.place c.in-Some.ensures.own (sym c.index_mut.ensures.value) in
     let kept = c.settle_process-settling.ensures.unchanged c.if-settling.false in
-    subst (λ (ps : List (HeldProcess _ _ _)). IsWorkerInside i.config i.worker ps c.settle_process-settling.new.outbox i.arrived.items i.sent i.got i.serial i.ready i.unready i.marked)
+    subst (λ (ps : List (HeldProcess _ _ _)). IsWorkerInside i.config i.worker ps c.settle_process-settling.new.outbox i.arrived.items i.sent i.got i.serial i.contest)
     (sym (written-same i.processes.items c.in-Some.place old c.settle_process-settling.new.process at kept.0))
-    (subst (λ (ls : List (Letter _)). IsWorkerInside i.config i.worker i.processes.items ls i.arrived.items i.sent i.got i.serial i.ready i.unready i.marked) (sym kept.1) c.self.invariant)
+    (subst (λ (ls : List (Letter _)). IsWorkerInside i.config i.worker i.processes.items ls i.arrived.items i.sent i.got i.serial i.contest) (sym kept.1) c.self.invariant)
 
 pub returns-else-settling-clause-settles : goal.returns-else-settling-clause-settles
 returns-else-settling-clause-settles g c part s =

@@ -11,7 +11,7 @@ use Rattle.vt_kernel.specs.Guards.{IsDone}
 use Rattle.vt_kernel.proofs.ProcessLemmas.{process-at}
 use Rattle.vt_kernel.proofs.OwnSteps.{found, refused-at}
 use Rattle.vt_kernel.proofs.LocalLemmas.{worker_view, place-within, inside-changed, unknown-refused, written-same, at-found-done, no-serial}
-use Rattle.vt_kernel.proofs.ReentryLemmas.{process-there, still-there, was-in-ready, was-in-unready}
+use Rattle.vt_kernel.proofs.ReentryLemmas.{process-there, still-there, was-in-contest}
 use Rattle.vt_kernel.proofs.kernel.Kernel.undo.Goals as goal
 
 pub index_mut-requires : goal.index_mut-requires
@@ -23,13 +23,9 @@ pub enter-requires-clause-there : goal.enter-requires-clause-there
 enter-requires-clause-there g c κs within =
     still-there c.self.invariant c.args.lp c.in-Some.place c.undo-result.new.self c.in-Some.ensures.own (sym c.index_mut.ensures.value) c.deref.ensures.value
 
-pub enter-requires-clause-in_ready : goal.enter-requires-clause-in_ready
-enter-requires-clause-in_ready g c κs within =
-    was-in-ready c.self.invariant c.args.lp c.in-Some.place c.undo-result.new.self c.in-Some.ensures.own (sym c.index_mut.ensures.value) c.deref.ensures.value
-
-pub enter-requires-clause-in_unready : goal.enter-requires-clause-in_unready
-enter-requires-clause-in_unready g c κs within =
-    was-in-unready c.self.invariant c.args.lp c.in-Some.place c.undo-result.new.self c.in-Some.ensures.own (sym c.index_mut.ensures.value) c.deref.ensures.value
+pub enter-requires-clause-was : goal.enter-requires-clause-was
+enter-requires-clause-was g c κs within =
+    was-in-contest c.self.invariant c.args.lp c.in-Some.place c.undo-result.new.self c.in-Some.ensures.own (sym c.index_mut.ensures.value) c.deref.ensures.value
 
 pub returns-in_default-clause-refused : goal.returns-in_default-clause-refused
 returns-in_default-clause-refused g c part s =
@@ -48,7 +44,7 @@ invariant_of-self g c =
     let f = process-at i.config i.worker 0 c.in-Some.place i.processes.items old c.self.invariant.own_processes at in
     let same = c.undo-result.ensures.same in
     let within = subst (λ (k : Config). AllWithinRun k i.outbox → AllWithinRun k c.undo-result.new.outbox) f.1 c.undo-result.ensures.within in
-    inside-changed c.self.invariant c.in-Some.place c.undo-result.new.self at same.0 same.1 c.deref.ensures.value c.enter.ensures.ready c.enter.ensures.unready c.enter.ensures.marked c.enter.ensures.told (within c.self.invariant.sendable) c.self.invariant.few_made
+    inside-changed c.self.invariant c.in-Some.place c.undo-result.new.self at same.0 same.1 c.deref.ensures.value c.enter.ensures (within c.self.invariant.sendable) c.self.invariant.few_made
 
 pub returns-clause-done : goal.returns-clause-done
 returns-clause-done g c part s =

@@ -1,7 +1,7 @@
 use Rattle.std.proofs.Common.{◌∙◌, refl, sym}
-use Rattle.vt_kernel.specs.Held.{other_rank}
-use Rattle.vt_kernel.proofs.EnteringLemmas.{nothing-unready, tells-least}
-use Rattle.vt_kernel.proofs.local.unready_of.Goals as goal
+use Rattle.vt_contest.specs.Entries.{other_rank}
+use Rattle.vt_contest.proofs.RankLemmas.{nothing-unready, tells-least}
+use Rattle.vt_contest.proofs.entering.unready_of.Goals as goal
 
 pub returns-clause-rank : goal.returns-clause-rank
 returns-clause-rank g c = c.other_than.ensures ∙ (λ j. other_rank (c.requires.own j) (c.least_rank-least.ensures.rank j))

@@ -1,0 +1,8 @@
+pub mod Written
+pub mod TimeLemmas
+mod EntryLemmas
+mod RankLemmas
+mod IdleLemmas
+pub mod WinnerLemmas
+pub mod LeastLemmas
+pub mod ContestLemmas
