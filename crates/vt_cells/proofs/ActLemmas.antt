@@ -2,7 +2,7 @@
 use Rattle.std.proofs.Common.{◌≡◌, ℕ, true, false, cond, List, [], ◌++◌, ◌∙◌, ap, Some, None, Ok, slice_get}
 use Rattle.std.specs.Option.{option_map}
 use Rattle.vt_key.specs.declared.letter.Mail.{Mail}
-use Rattle.vt_key.specs.declared.fault.Fault.TheVariants.{NotLawful}
+use Rattle.vt_key.specs.declared.fault.Fault.TheVariants.{NotLawful, Closed}
 use Rattle.vt_model.specs.Simulation.{Simulation}
 use Rattle.vt_steps.specs.declared.step.Step.TheVariants.{Send, Fetch, Cut, Report, Commit, Close}
 use Rattle.vt_steps.specs.declared.step.Reply.TheVariants.{Done}
@@ -13,7 +13,7 @@ use Rattle.vt_steps.specs.BoardSteps.{cut_board, may_report, with_report}
 use Rattle.vt_steps.specs.BookSteps.{may_commit, with_rows, may_close, closed_book}
 use Rattle.vt_steps.specs.CellSteps.{may_send, send, fetch, cut, reported, report, commit, close}
 use Rattle.vt_steps.specs.Cells.{in_inbox, on_board, in_book, Acted, left_alone, acted_at, acted_close, act}
-use Rattle.vt_steps.proofs.steps.Outcomes.{unless_closed-open}
+use Rattle.vt_steps.proofs.steps.Outcomes.{unless_closed-open, unless_closed-shut}
 
 module _ {S P : Type 0} (sim : Simulation S P) where
   pub act-send : (w v : ℕ) (part : Part P) (mails : List (Mail P)) → may_send sim w v part ≡ true →
@@ -71,9 +71,23 @@ module _ {S P : Type 0} (sim : Simulation S P) where
       unless_closed-open book (left_alone part (in_book book)) (acted_at part in_book book (commit sim w part book)) open_is
       ∙ ap (λ b. acted_at part in_book book (cond b (Some (record { part = part_after_commit part; cell = with_rows w (rows_of_commit sim w part) part.floor book; reply = Done })) None)) may
 
+  pub act-commit_closed : (w : ℕ) (part : Part P) (book : Book) → book.is_closed ≡ true → act sim (Commit w) part (in_book book) ≡ left_alone part (in_book book) Closed
+  unfolding act
+  act-commit_closed w part book closed = unless_closed-shut book (left_alone part (in_book book)) (acted_at part in_book book (commit sim w part book)) closed
+
   pub act-close : (part : Part P) (book : Book) → book.is_closed ≡ false → may_close sim.end book ≡ true →
       act sim Close part (in_book book) ≡ record { part = part; cell = in_book (closed_book book); answer = Ok Done }
   unfolding act close
   act-close part book open_is may =
       unless_closed-open book (left_alone part (in_book book)) (acted_close part book (close sim book)) open_is
       ∙ ap (λ b. acted_close part book (cond b (Some (closed_book book)) None)) may
+
+  pub act-not_close : (part : Part P) (book : Book) → book.is_closed ≡ false → may_close sim.end book ≡ false → act sim Close part (in_book book) ≡ left_alone part (in_book book) NotLawful
+  unfolding act close
+  act-not_close part book open_is may =
+      unless_closed-open book (left_alone part (in_book book)) (acted_close part book (close sim book)) open_is
+      ∙ ap (λ b. acted_close part book (cond b (Some (closed_book book)) None)) may
+
+  pub act-close_closed : (part : Part P) (book : Book) → book.is_closed ≡ true → act sim Close part (in_book book) ≡ left_alone part (in_book book) Closed
+  unfolding act
+  act-close_closed part book closed = unless_closed-shut book (left_alone part (in_book book)) (acted_close part book (close sim book)) closed

@@ -1,21 +1,28 @@
 -- What a call answers and leaves that does a step on a kernel and on what a cell holds.
-use Rattle.std.specs.Prelude.{◌≡◌, ◌+◌, ◌<◌, ◌⊎◌, true, false, List, Result, Ok, Err, IfOk, IfErr}
+use Rattle.std.specs.Prelude.{◌≡◌, ℕ, ◌+◌, ◌<◌, ◌⊎◌, true, false, List, Some, Result, Ok, Err, IfOk, IfErr, slice_get}
 use Rattle.vt_key.specs.declared.fault.Fault.{Fault}
-use Rattle.vt_key.specs.declared.fault.Fault.TheVariants.{Memory, NotLawful, Exhausted}
+use Rattle.vt_key.specs.declared.fault.Fault.TheVariants.{Memory, NotLawful, Exhausted, Closed}
 use Rattle.vt_key.specs.declared.letter.Mail.{Mail}
 use Rattle.vt_key.specs.declared.letter.Colour.TheVariants.{White, Red}
 use Rattle.vt_key.specs.declared.limits.TheConstants.{MAX_COUNT}
+use Rattle.vt_model.specs.declared.rows.Row.{Row}
 use Rattle.vt_model.specs.declared.settings.Config.{Config}
 use Rattle.vt_model.specs.Handler.{Handlers}
+use Rattle.vt_model.specs.Histories.{IsLawful}
 use Rattle.vt_model.specs.Simulation.{Simulation, simulation_of}
 use Rattle.vt_steps.specs.declared.step.Step.{Step}
-use Rattle.vt_steps.specs.declared.step.Step.TheVariants.{Send, Fetch, Cut}
+use Rattle.vt_steps.specs.declared.step.Step.TheVariants.{Send, Fetch, Cut, Commit}
 use Rattle.vt_steps.specs.declared.step.Reply.{Reply}
+use Rattle.vt_steps.specs.declared.step.Reply.TheVariants.{Done}
 use Rattle.vt_steps.specs.Letters.{Counts, is_empty, count_of, count_colour}
-use Rattle.vt_steps.specs.World.{Part}
-use Rattle.vt_steps.specs.Cells.{Cell, on_board, act}
+use Rattle.vt_steps.specs.World.{Part, Book}
+use Rattle.vt_steps.specs.PartSteps.{part_after_commit, rows_of_commit}
+use Rattle.vt_steps.specs.BookSteps.{may_close}
+use Rattle.vt_steps.specs.Next.{reached}
+use Rattle.vt_steps.specs.Cells.{Cell, on_board, in_book, act}
 use Rattle.vt_board.specs.declared.board.Report.{Report}
 use Rattle.vt_board.specs.Calls.{reply_of}
+use Rattle.vt_book.specs.Books.{RunBook}
 use Rattle.vt_kernel.specs.Held.{HeldWorker, StandsFor}
 use Rattle.vt_kernel.specs.Refusals.{TakesMemory}
 
@@ -65,3 +72,44 @@ module _ {S P K : Type 0} (handlers : Handlers S P K) where
 abbrev pub answer_of : Result Report Fault → Result Reply Fault
 answer_of (Ok report) = Ok (reply_of report)
 answer_of (Err fault) = Err fault
+
+-- ---- commits
+
+-- rows are all that a kernel commits, whatever part it stands for; or there are none, since memory was refused
+abbrev pub IsBatchOf : {S P K : Type 0} → HeldWorker S P K → Result (List Row) Fault → Type 0
+IsBatchOf {S} {P} {K} k batch =
+    (handlers : Handlers S P K) (part : Part P) → StandsFor handlers k part → IfOk batch (λ rows. rows ≡ rows_of_commit (simulation_of handlers k.config) k.worker part)
+
+-- why a hand-in is refused: the book is closed; or it is open, and memory was refused
+abbrev pub IsHandInRefusal : Book → Fault → Type 0
+IsHandInRefusal book fault = ((fault ≡ Closed) × (book.is_closed ≡ true)) ⊎ ((fault ≡ Memory) × (book.is_closed ≡ false))
+
+-- why a close is refused: the book is closed; or it is open, and its floor isn't the end
+abbrev pub IsClosingRefusal : RunBook → Fault → Type 0
+IsClosingRefusal of fault = ((fault ≡ Closed) × (of.book.is_closed ≡ true)) ⊎ ((fault ≡ NotLawful) × (of.book.is_closed ≡ false) × (may_close of.end of.book ≡ false))
+
+module _ {S P K : Type 0} (handlers : Handlers S P K) where
+  -- the world after some list of steps has this book, and this kernel stands for the part of its worker there
+  pub record AreReached (k : HeldWorker S P K) (book : Book) : Type 0 where
+    pub serial : ℕ
+    pub steps : List Step
+    pub part : Part P
+    pub there : slice_get (reached (simulation_of handlers k.config) serial steps).parts k.worker ≡ Some part
+    pub stands : StandsFor handlers k part
+    pub book_is : (reached (simulation_of handlers k.config) serial steps).book ≡ book
+
+  -- a kernel and a book are of one world of a lawful simulation
+  abbrev pub AreOfOneWorld : HeldWorker S P K → Book → Type 0
+  AreOfOneWorld k book = IsLawful (simulation_of handlers k.config) × ∥ AreReached k book ∥₁
+
+  -- the commit of a worker does this to a cell, whatever part the kernel stands for
+  abbrev pub CommitsTo : Config → ℕ → HeldWorker S P K → Cell P → Cell P → Type 0
+  CommitsTo config w k found left =
+      (part : Part P) → StandsFor handlers k part → act (simulation_of handlers config) (Commit w) part found ≡ record { part = part_after_commit part; cell = left; answer = Ok Done }
+
+  -- a commit of a kernel that still keeps what it commits. Where it is done, it does so to the book; where it is refused, it says
+  -- why, and the book is as it was
+  pub record IsHandInOf (config : Config) (w : ℕ) (k : HeldWorker S P K) (found left : Book) (result : Result Reply Fault) : Type 0 where
+    pub done : IfOk result (λ reply. (reply ≡ Done) × CommitsTo config w k (in_book found) (in_book left))
+    pub refused : (part : Part P) → StandsFor handlers k part → IfErr result (IsCellRefusal (simulation_of handlers config) (Commit w) part (in_book found))
+    pub unchanged : IfErr result (λ fault. left ≡ found)

@@ -1,8 +1,10 @@
 //! The steps that reach beyond one worker: each on a kernel and on what a cell holds, which is an inbox, the board or the book.
 #![tactic(auto)]
 
+mod committing;
 mod cutting;
 mod mailing;
 
+pub use committing::{batch_of, close, commit, hand_in};
 pub use cutting::{cut, reply_of, report};
 pub use mailing::{fetch, send};

@@ -1,5 +1,6 @@
 -- A step on a kernel and on what a cell holds, as the step of the world that has them.
-use Rattle.std.proofs.Common.{◌≡◌, ℕ, ◌+◌, List, length, refl, ◌∙◌, ap, subst, arith, Some, Result, Ok, Err, slice_get, slice_set}
+use Rattle.std.proofs.Common.{◌≡◌, ℕ, ◌+◌, List, length, refl, sym, ◌∙◌, ap, subst, arith, Some, Result, Ok, Err, IfErr, slice_get, slice_set}
+use Rattle.std.proofs.Math.Logic.{∥∥₁_map}
 use Rattle.std.specs.Option.{option_map}
 use Rattle.std.proofs.lemmas.List.{length-set}
 use Rattle.vt_key.specs.Times.{Time}
@@ -10,15 +11,18 @@ use Rattle.vt_model.specs.Handler.{Handlers}
 use Rattle.vt_model.specs.Histories.{IsLawful}
 use Rattle.vt_model.specs.Simulation.{Simulation, simulation_of}
 use Rattle.vt_steps.specs.declared.step.Step.{Step}
+use Rattle.vt_steps.specs.declared.step.Step.TheVariants.{Close}
 use Rattle.vt_steps.specs.declared.step.Reply.{Reply}
-use Rattle.vt_steps.specs.World.{World, Board, Book}
-use Rattle.vt_steps.specs.Next.{next, with_part}
-use Rattle.vt_steps.specs.Cells.{CellName, inbox_of, board_cell, book_cell, Cell, in_inbox, on_board, in_book, content, with_content, worker_of, cell_of, Acted, put_back}
+use Rattle.vt_steps.specs.World.{Part, World, Board, Book}
+use Rattle.vt_steps.specs.Next.{next, with_part, reached}
+use Rattle.vt_steps.specs.Cells.{CellName, inbox_of, board_cell, book_cell, Cell, in_inbox, on_board, in_book, content, with_content, worker_of, cell_of, Acted, act, put_back}
 use Rattle.vt_steps.specs.Laws.{IsAny}
 use Rattle.vt_steps.specs.StandsFor.{GoesOn}
 use Rattle.vt_kernel.specs.Held.{HeldWorker, AllOwnMail}
 use Rattle.vt_kernel.specs.Refusals.{PassesLimit, IsStepRefusal}
-use Rattle.vt_cells.specs.Calls.{IsCellStepOf, PassesThere}
+use Rattle.vt_kernel.proofs.SettlingLemmas.{put-there}
+use Rattle.vt_cells.specs.Calls.{IsCellStepOf, PassesThere, AreOfOneWorld}
+use Rattle.vt_cells.proofs.BookSteps.{close-step}
 use Rattle.vt_cells.proofs.WorldLemmas.{next-put_back, limit-there, refused-there}
 use Rattle.vt_world.specs.Held.{HeldWorld, world_memory, StandsForWorld, AreInboxes, IsWorldInside}
 use Rattle.vt_world.specs.Calls.{IsStepOf}
@@ -26,7 +30,7 @@ use Rattle.vt_world.proofs.ReachedLemmas.{inside_view}
 use Rattle.vt_world.proofs.WorldLemmas.{found, part-changed}
 use Rattle.vt_world.proofs.WorldSteps.{who, goes}
 use Rattle.vt_world.proofs.StepLemmas.{step-done, step-refused, inside-stepped, inside-same}
-use Rattle.vt_world.proofs.Places.{are-workers, inboxes-changed, put-back, mail-back}
+use Rattle.vt_world.proofs.Places.{some-at, are-workers, inboxes-changed, put-back, mail-back}
 
 module _ {M S P K : Type 0} (handlers : Handlers S P K) (held : HeldWorld M S P K) (w : ℕ) (k new : HeldWorker S P K) where
   -- the world with a new worker w, and with what the cells hold then
@@ -138,3 +142,49 @@ module _ {M S P K : Type 0} (meaning : M → Handlers S P K) {held : HeldWorld M
     -- and the world keeps to itself
     pub cell-inside : {new_board_end new_book_end : Time} → new_board_end ≡ board_end → new_book_end ≡ book_end → IsWorldInside (meaning held.model) after new_board_end new_book_end
     cell-inside same_board same_book = inside-there same_board same_book result own-step
+
+-- ---- the book
+
+module _ {M S P K : Type 0} (meaning : M → Handlers S P K) {held : HeldWorld M S P K} {board_end book_end : Time} (inside : IsWorldInside (meaning held.model) held board_end book_end)
+    (lawful : IsLawful (simulation_of (meaning held.model) held.config)) where
+  -- a worker and the book are of one world
+  pub one-world : (w : ℕ) {k : HeldWorker S P K} → slice_get held.workers w ≡ Some k → AreOfOneWorld (meaning held.model) k held.book
+  one-world w {k} at =
+      let handlers = meaning held.model in
+      let is = who inside at in (
+        subst (λ (c : Config). IsLawful (simulation_of handlers c)) (sym is.1) lawful,
+        ∥∥₁_map inside.is_reached (λ x.
+            (let f = found handlers held (reached (simulation_of handlers held.config) x.0 x.1.0) w k inside.own_workers x.1.1 at in
+            record {
+              serial = x.0;
+              steps = x.1.0;
+              part = f.part;
+              there = subst (λ (y : ℕ × Config). slice_get (reached (simulation_of handlers y.1) x.0 x.1.0).parts y.0 ≡ Some f.part) (λ i. (sym is.0 i, sym is.1 i)) f.there;
+              stands = f.stands;
+              book_is = subst (λ (c : Config). (reached (simulation_of handlers c) x.0 x.1.0).book ≡ held.book) (sym is.1) x.1.1.book;
+            })),
+      )
+
+  module _ {book : Book} {result : Result Reply Fault}
+      (acts : (part : Part P) → act (simulation_of (meaning held.model) held.config) Close part (in_book held.book) ≡ record { part = part; cell = in_book book; answer = result }) (same : IfErr result (λ fault. book ≡ held.book)) where
+    -- a close changes no worker, as the first one shows
+    first : (k : HeldWorker S P K) × (slice_get held.workers 0 ≡ Some k)
+    first = some-at held.workers 0 (let size = inside.all_workers in let many = held.config.some_worker in omega (arith, size, many))
+
+    put : Puts (meaning held.model) held 0 first.0 first.0 book_cell (in_book held.book) (in_book book) held.inboxes held.board book
+    put = book-put inside first.1 first.0 book
+
+    back : after_step (meaning held.model) held 0 first.0 first.0 held.inboxes held.board book ≡ record held { book = book }
+    back = ap (λ ks. inside_view held.model held.config ks held.inboxes held.board book) (put-there held.workers 0 first.0 first.1)
+
+    its-step : IsCellStepOf (meaning held.model) first.0.config Close first.0 first.0 (in_book held.book) (in_book book) result
+    its-step =
+        subst (λ (c : Config). IsCellStepOf (meaning held.model) c Close first.0 first.0 (in_book held.book) (in_book book) result) (sym (who inside first.1).1)
+        (close-step (meaning held.model) held.config first.0 result acts same)
+
+    pub closes : {seen : HeldWorld M S P K} → held ≡ seen → IsStepOf (meaning seen.model) Close seen (record held { book = book }) result
+    closes {seen} seen_is = subst (λ (x : HeldWorld M S P K). IsStepOf (meaning seen.model) Close seen x result) back (cell-step meaning inside (λ u. Close) tt refl first.1 put its-step seen_is lawful)
+
+    pub closes-inside : {new_book_end : Time} → new_book_end ≡ book_end → IsWorldInside (meaning held.model) (record held { book = book }) board_end new_book_end
+    closes-inside {new_book_end} same_end =
+        subst (λ (x : HeldWorld M S P K). IsWorldInside (meaning held.model) x board_end new_book_end) back (cell-inside meaning inside (λ u. Close) tt refl first.1 put its-step refl same_end)

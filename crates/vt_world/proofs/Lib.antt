@@ -8,7 +8,6 @@ pub mod Places
 pub mod CellLemmas
 pub mod LocalLemmas
 pub mod LimitLemmas
-pub mod CommitLemmas
 pub mod RunLemmas
 pub mod MakingLemmas
 pub mod LeastLemmas

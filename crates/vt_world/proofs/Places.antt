@@ -75,12 +75,6 @@ module _ {M S P K : Type 0} {handlers : Handlers S P K} {held : HeldWorld M S P 
   pub mail-back : (w : ℕ) {inbox new : List (Mail P)} → slice_get held.inboxes w ≡ Some inbox → new ≡ inbox → slice_set held.inboxes w new ≡ held.inboxes
   mail-back w {inbox} here same = ap (slice_set held.inboxes w) same ∙ put-there held.inboxes w inbox here
 
-  pub board-back : {board : Board} → board ≡ held.board → record held { board = board } ≡ held
-  board-back same = ap (λ b. record held { board = b }) same
-
-  pub book-back : {book : Book} → book ≡ held.book → record held { book = book } ≡ held
-  book-back same = ap (λ b. record held { book = b }) same
-
 -- the worker that has a process
 module _ {M S P K : Type 0} {handlers : Handlers S P K} {held : HeldWorld M S P K} {board_end book_end : Time} (inside : IsWorldInside handlers held board_end book_end) (p : ℕ) {k : HeldWorker S P K} where
   pub owner-there : {owner : ℕ} → owner ≡ p % held.config.workers → owner < held.config.workers → k ≡ slice_index_or held.workers owner k → slice_get held.workers (p % held.config.workers) ≡ Some k
@@ -105,12 +99,3 @@ module _ {M S P K : Type 0} {handlers : Handlers S P K} {held : HeldWorld M S P 
   inside-worker step reply board book same_board same_book goes =
       inside-stepped inside step reply (slice_set held.workers w new) held.inboxes board book (length-set held.workers w new) are-workers
       refl inside.own_inboxes same_board same_book goes
-
-  -- a step changes a worker and an inbox
-  pub inside-mail : (step : Step) (reply : Reply) (v : ℕ) (inbox : List (Mail P)) → AllOwnMail held.config v inbox
-      → GoesOn (simulation_of handlers held.config) step (Ok reply) (world_memory handlers held) (world_memory handlers (inside_view held.model held.config (slice_set held.workers w new) (slice_set held.inboxes v inbox) held.board held.book))
-      → IsWorldInside handlers (inside_view held.model held.config (slice_set held.workers w new) (slice_set held.inboxes v inbox) held.board held.book) board_end book_end
-  inside-mail step reply v inbox own goes =
-      let here : v ≡ 0 + v = omega arith in
-      inside-stepped inside step reply (slice_set held.workers w new) (slice_set held.inboxes v inbox) held.board held.book (length-set held.workers w new) are-workers
-      (length-set held.inboxes v inbox) (inboxes-changed held.config 0 v held.inboxes inbox inside.own_inboxes (subst (λ n. AllOwnMail held.config n inbox) here own)) refl refl goes

@@ -1,36 +1,29 @@
 -- What a call that does a step of a world owes: what it answers and leaves, and that the world keeps to itself.
-use Rattle.std.proofs.Common.{◌≡◌, ℕ, ◌⊎◌, inl, inr, Bool, true, false, List, [], ◌∷◌, length, refl, sym, ◌∙◌, ap, subst, Result, Ok, Err, IsErrAnd}
-use Rattle.std.specs.Prelude.{MatchOption}
+use Rattle.std.proofs.Common.{◌≡◌, ℕ, inl, List, [], ◌∷◌, length, refl, sym, ◌∙◌, ap, subst, Result, Ok, Err, IsErrAnd}
 use Rattle.std.proofs.Math.Logic.{∥∥₁_map, ∥∥₁_elim}
 use Rattle.std.proofs.Math.Nat.{le_refl}
 use Rattle.std.proofs.Props.{props}
 use Rattle.vt_key.specs.Times.{Time, TimeAtMost}
 use Rattle.vt_key.specs.declared.letter.Mail.{Mail}
 use Rattle.vt_key.specs.declared.fault.Fault.{Fault}
-use Rattle.vt_key.specs.declared.fault.Fault.TheVariants.{NotLawful, Closed}
 use Rattle.vt_model.specs.declared.settings.Config.{Config}
 use Rattle.vt_model.specs.Handler.{Handlers}
 use Rattle.vt_model.specs.Histories.{IsLawful}
 use Rattle.vt_model.specs.Simulation.{simulation_of}
 use Rattle.vt_model.specs.Settings.{end_of}
 use Rattle.vt_steps.specs.declared.step.Step.{Step}
-use Rattle.vt_steps.specs.declared.step.Step.TheVariants.{Close}
 use Rattle.vt_steps.specs.declared.step.Reply.{Reply}
-use Rattle.vt_steps.specs.declared.step.Reply.TheVariants.{Done}
 use Rattle.vt_steps.specs.World.{World, Board, Book, book_floor}
 use Rattle.vt_steps.specs.Next.{next, run, reached}
 use Rattle.vt_steps.proofs.time.Floors.{nothing-falls, reached-times}
 use Rattle.vt_steps.specs.StandsFor.{GoesOn}
 use Rattle.vt_steps.proofs.steps.MemoryLemmas.{still_reached}
 use Rattle.vt_kernel.specs.Held.{HeldWorker}
-use Rattle.vt_steps.specs.BookSteps.{may_close, closed_book}
-use Rattle.vt_book.specs.Books.{RunBook, refusal_where, refusal_of_close}
 use Rattle.vt_kernel.specs.Refusals.{PassesLimit, IsStepRefusal}
 use Rattle.vt_world.specs.Held.{HeldWorld, world_memory, StandsForWorld, AreWorkers, AreInboxes, IsWorldInside, IsReached}
 use Rattle.vt_world.specs.Calls.{IsStepOf, floor_held}
 use Rattle.vt_world.proofs.ReachedLemmas.{inside_view}
 use Rattle.vt_world.proofs.ClosedLemmas.{done-closed, refused-closed, book-stays}
-use Rattle.vt_world.proofs.WorldSteps.{close-done, close-refused, close-closed}
 
 -- neither the announced time nor the book's floor falls by a step
 rises : {M S P K : Type 0} (handlers : Handlers S P K) (held new : HeldWorld M S P K) (step : Step) (answer : Result Reply Fault) → IsLawful (simulation_of handlers held.config) → new.config ≡ held.config
@@ -138,55 +131,3 @@ module _ {M S P K : Type 0} {handlers : Handlers S P K} {held : HeldWorld M S P 
   inside-same {new} {new_board_end} {new_book_end} same same_board same_book =
       subst (λ (v : HeldWorld M S P K). IsWorldInside handlers v new_board_end new_book_end) (sym same)
       (subst (λ e. IsWorldInside handlers held e new_book_end) (sym same_board) (subst (λ e. IsWorldInside handlers held board_end e) (sym same_book) inside))
-
--- ---- what a book refuses
-
--- a book that is closed refuses, an open one refuses what isn't lawful, and else nothing is refused
-pub refusal-cases : (is_closed is_lawful : Bool) (Taken : Type 0) (Refused : Fault → Type 0) → MatchOption (refusal_where is_closed is_lawful) Taken Refused
-    → ((is_closed ≡ true) × Refused Closed) ⊎ (((is_closed ≡ false) × (is_lawful ≡ false) × Refused NotLawful) ⊎ ((is_closed ≡ false) × (is_lawful ≡ true) × Taken))
-refusal-cases true is_lawful Taken Refused h = inl (refl, h)
-refusal-cases false false Taken Refused h = inr (inl (refl, refl, h))
-refusal-cases false true Taken Refused h = inr (inr (refl, refl, h))
-
-module _ {M S P K : Type 0} (handlers : Handlers S P K) (model : M) (config : Config) (workers : List (HeldWorker S P K)) (inboxes : List (List (Mail P))) (board : Board)
-    (of : RunBook) (same_end : of.end ≡ (end_of config)) where
-  -- what the book refuses to close, the world does
-  pub close-refuses : {X : Type 0} (new : RunBook) (result : Result X Fault) (x : X) (fault : Fault) (Kept : Type 0) → result ≡ Err fault
-      → MatchOption (refusal_of_close of) ((result ≡ Ok x) × Kept) (λ f. (result ≡ Err f) × (new ≡ of))
-      → (new ≡ of) × GoesOn (simulation_of handlers config) Close (Err fault) (world_memory handlers (inside_view model config workers inboxes board of.book)) (world_memory handlers (inside_view model config workers inboxes board of.book))
-  close-refuses new result x fault Kept is h =
-      let held = inside_view model config workers inboxes board of.book in
-      let lawful : may_close of.end of.book ≡ may_close (end_of config) of.book = ap (λ t. may_close t of.book) same_end in
-      elim (refusal-cases of.book.is_closed (may_close of.end of.book) ((result ≡ Ok x) × Kept) (λ f. (result ≡ Err f) × (new ≡ of)) h) [
-        | inl a ↦
-            let e : Err fault ≡ Err Closed = sym is ∙ a.1.0 in
-            let f : Closed ≡ fault = cc in
-            (a.1.1, subst (λ v. GoesOn (simulation_of handlers config) Close (Err v) (world_memory handlers held) (world_memory handlers held)) f (close-closed handlers held a.0))
-        | inr b ↦ elim b [
-          | inl a ↦
-              let e : Err fault ≡ Err NotLawful = sym is ∙ a.2.0 in
-              let f : NotLawful ≡ fault = cc in
-              (a.2.1, subst (λ v. GoesOn (simulation_of handlers config) Close (Err v) (world_memory handlers held) (world_memory handlers held)) f (close-refused handlers held a.0 (sym lawful ∙ a.1)))
-          | inr a ↦ absurd (let e : Err fault ≡ Ok x = sym is ∙ a.2.0 in cc)
-        ]
-      ]
-
-  -- what it closes, the world does
-  pub close-closes : {X : Type 0} (new : RunBook) (result : Result X Fault) (x y : X) → result ≡ Ok y
-      → MatchOption (refusal_of_close of) ((result ≡ Ok x) × (new ≡ record of { book = closed_book of.book })) (λ f. (result ≡ Err f) × (new ≡ of))
-      → (new ≡ record of { book = closed_book of.book })
-      × GoesOn (simulation_of handlers config) Close (Ok Done) (world_memory handlers (inside_view model config workers inboxes board of.book)) (world_memory handlers (inside_view model config workers inboxes board new.book))
-  close-closes new result x y is h =
-      let held = inside_view model config workers inboxes board of.book in
-      let lawful : may_close of.end of.book ≡ may_close (end_of config) of.book = ap (λ t. may_close t of.book) same_end in
-      elim (refusal-cases of.book.is_closed (may_close of.end of.book) ((result ≡ Ok x) × (new ≡ record of { book = closed_book of.book })) (λ f. (result ≡ Err f) × (new ≡ of)) h) [
-        | inl a ↦ absurd (let e : Ok y ≡ Err Closed = sym is ∙ a.1.0 in cc)
-        | inr b ↦ elim b [
-          | inl a ↦ absurd (let e : Ok y ≡ Err NotLawful = sym is ∙ a.2.0 in cc)
-          | inr a ↦ (
-            a.2.1,
-            subst (λ (r : RunBook). GoesOn (simulation_of handlers config) Close (Ok Done) (world_memory handlers held) (world_memory handlers (inside_view model config workers inboxes board r.book))) (sym a.2.1)
-                (close-done handlers held a.0 (sym lawful ∙ a.1)),
-          )
-        ]
-      ]

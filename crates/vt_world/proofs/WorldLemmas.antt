@@ -158,9 +158,6 @@ module _ {M S P K : Type 0} (handlers : Handlers S P K) where
 abbrev pub IsSame : {S P K : Type 0} → HeldWorker S P K → HeldWorker S P K → Type 0
 IsSame new k = (new.worker ≡ k.worker) × (new.config ≡ k.config)
 
-pub is-same : {S P K : Type 0} (new k : HeldWorker S P K) → new ≡ k → IsSame new k
-is-same new k same = (ap (λ x. x.worker) same, ap (λ x. x.config) same)
-
 module _ {M S P K : Type 0} {handlers : Handlers S P K} {held : HeldWorld M S P K} {board_end book_end : Time} (inside : IsWorldInside handlers held board_end book_end)
     (w : ℕ) {k : HeldWorker S P K} (at : slice_get held.workers w ≡ Some k) (step : Step) (is : IsLocalAt (simulation_of handlers held.config) w step) where
   -- a local step that is done by the worker is done by the world

@@ -1,28 +1,23 @@
--- Steps of a world whose worker or inbox isn't there, and what the book's calls do to it.
-use Rattle.std.proofs.Common.{◌≡◌, ℕ, zero, suc, ◌+◌, ◌≤◌, true, false, List, [], ◌∷◌, map, refl, sym, ◌∙◌, ap, subst, arith, Some, None, Result, Ok, Err, slice_get, slice_set}
+-- Steps of a world whose worker or inbox isn't there, and commits at a closed book.
+use Rattle.std.proofs.Common.{◌≡◌, ℕ, zero, suc, ◌+◌, ◌≤◌, true, false, List, [], ◌∷◌, map, refl, sym, ◌∙◌, ap, subst, arith, Some, None, Result, Err, slice_get}
 use Rattle.std.proofs.lemmas.Option.{slice_get_past}
 use Rattle.vt_key.specs.Times.{Time}
 use Rattle.vt_key.specs.declared.fault.Fault.{Fault}
 use Rattle.vt_key.specs.declared.fault.Fault.TheVariants.{NotLawful, Closed}
-use Rattle.vt_model.specs.declared.rows.Row.{Row}
-use Rattle.vt_model.specs.declared.settings.Config.{Config}
 use Rattle.vt_model.specs.Handler.{Handlers}
 use Rattle.vt_model.specs.Simulation.{simulation_of}
-use Rattle.vt_model.specs.Settings.{end_of}
 use Rattle.vt_steps.specs.declared.step.Step.{Step}
-use Rattle.vt_steps.specs.declared.step.Step.TheVariants.{Home, Accept, Send, Fetch, Cut, Report, Commit, Close}
+use Rattle.vt_steps.specs.declared.step.Step.TheVariants.{Home, Accept, Send, Fetch, Cut, Report, Commit}
 use Rattle.vt_steps.specs.declared.step.Reply.{Reply}
-use Rattle.vt_steps.specs.declared.step.Reply.TheVariants.{Done}
-use Rattle.vt_steps.specs.World.{Part, World, Book}
+use Rattle.vt_steps.specs.World.{World, Book}
 use Rattle.std.specs.Option.{option_and_then, option_map}
-use Rattle.vt_steps.specs.PartSteps.{home, accept, part_after_commit, rows_of_commit}
-use Rattle.vt_steps.specs.BookSteps.{may_commit, with_rows, may_close, closed_book}
-use Rattle.vt_steps.specs.Next.{Outcome, next, refused, replied, with_part, done_or_refused}
+use Rattle.vt_steps.specs.PartSteps.{home, accept}
+use Rattle.vt_steps.specs.Next.{Outcome, next, refused, with_part, done_or_refused}
 use Rattle.vt_steps.specs.StandsFor.{GoesOn}
-use Rattle.vt_kernel.specs.Held.{HeldWorker, part_memory, StandsFor as WorkerStandsFor}
-use Rattle.vt_steps.proofs.steps.CellSteps.{next-report_nobody, next-commit, next-commit_closed, next-close, next-not_close, next-close_closed, next-commit_nobody, next-send_nobody, next-send_nowhere, next-fetch_nobody, next-cut_nobody}
+use Rattle.vt_kernel.specs.Held.{HeldWorker, part_memory}
+use Rattle.vt_steps.proofs.steps.CellSteps.{next-report_nobody, next-commit_closed, next-commit_nobody, next-send_nobody, next-send_nowhere, next-fetch_nobody, next-cut_nobody}
 use Rattle.vt_world.specs.Held.{HeldWorld, world_memory, StandsForWorld, IsWorldInside}
-use Rattle.vt_world.proofs.WorldLemmas.{IsSame, nobody-at, worker-at, found, part-changed}
+use Rattle.vt_world.proofs.WorldLemmas.{nobody-at, worker-at}
 
 module _ {M S P K : Type 0} (handlers : Handlers S P K) (held : HeldWorld M S P K) where
   -- an outcome of the definitions, and what stands for its world
@@ -31,25 +26,6 @@ module _ {M S P K : Type 0} (handlers : Handlers S P K) (held : HeldWorld M S P 
       → ((next (simulation_of handlers held.config) world step).answer ≡ answer) × StandsForWorld handlers new (next (simulation_of handlers held.config) world step).world
   goes world step outcome answer new is answers of stands =
       (ap (λ (o : Outcome P). o.answer) is ∙ answers, subst (λ (o : Outcome P). StandsForWorld handlers new o.world) (sym is) stands)
-
-  pub close-done : held.book.is_closed ≡ false → may_close (end_of held.config) held.book ≡ true
-      → GoesOn (simulation_of handlers held.config) Close (Ok Done) (world_memory handlers held) (world_memory handlers (record held { book = closed_book held.book }))
-  close-done is_open may world h =
-      let sim = simulation_of handlers held.config in
-      goes world Close (replied (record world { book = closed_book world.book }) Done) (Ok Done) (record held { book = closed_book held.book })
-      (next-close sim world (ap (λ (b : Book). b.is_closed) h.book ∙ is_open) (ap (may_close (end_of held.config)) h.book ∙ may)) refl refl
-      (record { parts = h.parts; inboxes = h.inboxes; board = h.board; book = ap closed_book h.book })
-
-  pub close-refused : held.book.is_closed ≡ false → may_close (end_of held.config) held.book ≡ false
-      → GoesOn (simulation_of handlers held.config) Close (Err NotLawful) (world_memory handlers held) (world_memory handlers held)
-  close-refused is_open may world h =
-      goes world Close (refused world NotLawful) (Err NotLawful) held
-      (next-not_close (simulation_of handlers held.config) world (ap (λ (b : Book). b.is_closed) h.book ∙ is_open) (ap (may_close (end_of held.config)) h.book ∙ may)) refl refl h
-
-  pub close-closed : held.book.is_closed ≡ true
-      → GoesOn (simulation_of handlers held.config) Close (Err Closed) (world_memory handlers held) (world_memory handlers held)
-  close-closed closed world h =
-      goes world Close (refused world Closed) (Err Closed) held (next-close_closed (simulation_of handlers held.config) world (ap (λ (b : Book). b.is_closed) h.book ∙ closed)) refl refl h
 
 module _ {M S P K : Type 0} {handlers : Handlers S P K} {held : HeldWorld M S P K} {board_end book_end : Time} (inside : IsWorldInside handlers held board_end book_end) where
   -- the worker at its place is it
@@ -66,30 +42,6 @@ module _ {M S P K : Type 0} {handlers : Handlers S P K} {held : HeldWorld M S P 
       let none = slice_get_past held.inboxes v (let size = inside.all_inboxes in omega (arith, size, past)) in
       goes handlers held world (Send w v) (refused world NotLawful) (Err NotLawful) held
       (next-send_nowhere (simulation_of handlers held.config) world w v (ap (λ xs. slice_get xs v) h.inboxes ∙ none)) refl refl h
-
-  pub commit-done : (w : ℕ) {k : HeldWorker S P K} → slice_get held.workers w ≡ Some k → held.book.is_closed ≡ false
-      → may_commit (slice_get held.book.floors w) k.floor ≡ true → (new : HeldWorker S P K) → IsSame new k → (rows : List Row)
-      → ((part : Part P) → WorkerStandsFor handlers k part → (rows ≡ rows_of_commit (simulation_of handlers k.config) k.worker part) × WorkerStandsFor handlers new (part_after_commit part))
-      → GoesOn (simulation_of handlers held.config) (Commit w) (Ok Done) (world_memory handlers held)
-      (world_memory handlers (record held { workers = slice_set held.workers w new; book = with_rows w rows k.floor held.book }))
-  commit-done w {k} at is_open may new same rows done world h =
-      let sim = simulation_of handlers held.config in
-      let is = who at in
-      let f = found handlers held world w k inside.own_workers h at in
-      let d = done f.part f.stands in
-      let own_rows : rows_of_commit sim w f.part ≡ rows = ap (λ v. rows_of_commit sim v f.part) (sym is.0) ∙ ap (λ (c : Config). rows_of_commit (simulation_of handlers c) k.worker f.part) (sym is.1) ∙ sym d.0 in
-      let lawful : may_commit (slice_get world.book.floors w) f.part.floor ≡ true = ap (λ (b : Book). may_commit (slice_get b.floors w) f.part.floor) h.book ∙ ap (λ t. may_commit (slice_get held.book.floors w) t) f.stands.floor ∙ may in
-      let book : with_rows w (rows_of_commit sim w f.part) f.part.floor world.book ≡ with_rows w rows k.floor held.book =
-      ap (λ rs. with_rows w rs f.part.floor world.book) own_rows ∙ ap (λ t. with_rows w rows t world.book) f.stands.floor ∙ ap (with_rows w rows k.floor) h.book in
-      goes handlers held world (Commit w) (replied (record world { parts = slice_set world.parts w (part_after_commit f.part); book = with_rows w (rows_of_commit sim w f.part) f.part.floor world.book }) Done)
-      (Ok Done) (record held { workers = slice_set held.workers w new; book = with_rows w rows k.floor held.book })
-      (next-commit sim world w f.part f.there (ap (λ (b : Book). b.is_closed) h.book ∙ is_open) lawful) refl refl
-      (record {
-        parts = part-changed handlers held world w new (part_after_commit f.part) h (same.0 ∙ is.0) (same.1 ∙ is.1) d.1;
-        inboxes = h.inboxes;
-        board = h.board;
-        book = book;
-      })
 
   pub commit-closed : (w : ℕ) → held.book.is_closed ≡ true
       → GoesOn (simulation_of handlers held.config) (Commit w) (Err Closed) (world_memory handlers held) (world_memory handlers held)

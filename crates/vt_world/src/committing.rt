@@ -20,18 +20,13 @@ impl<'m, M: EventModel> World<'m, M> {
         if w >= self.config.workers {
             return Err(Fault::NotLawful);
         }
-        let floor = self.kernels[w as usize].floor();
-        let rows = self.kernels[w as usize].rows(alloc)?;
-        self.book.hand(w, &rows, floor)?;
-        self.kernels[w as usize].fossil();
-        Ok(Reply::Done)
+        vt_cells::commit(alloc, &mut self.kernels[w as usize], w, &mut self.book)
     }
 
     /// Closes the book, whose floor must be the end of the run.
     pub(crate) fn close(&mut self) -> Result<Reply, Fault>
         ensures { IsStepOf (M.handlers self.old.model) step.Close self.old self.new result }
     {
-        self.book.close()?;
-        Ok(Reply::Done)
+        vt_cells::close::<M>(&mut self.book)
     }
 }

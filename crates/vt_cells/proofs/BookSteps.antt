@@ -1,0 +1,193 @@
+-- Commit and Close on a kernel and the book, by what the kernel's and the book's calls do and refuse.
+use Rattle.std.proofs.Common.{◌≡◌, ℕ, inl, inr, Bool, true, false, ◌&&◌, List, [], ◌∷◌, refl, sym, ◌∙◌, ap, subst, arith, Some, None, Result, Ok, Err, IfErr, slice_get}
+use Rattle.std.specs.List.{list_all}
+use Rattle.std.proofs.Math.Logic.{∥∥₁_elim}
+use Rattle.std.proofs.Props.{props}
+use Rattle.std.proofs.lemmas.Bool.Decides.{nat_tests}
+use Rattle.std.proofs.lemmas.Option.{slice_get_within}
+use Rattle.vt_key.specs.Times.{Time, TimeAtMost, time_at_most, time_before}
+use Rattle.vt_key.specs.declared.fault.Fault.{Fault}
+use Rattle.vt_key.specs.declared.fault.Fault.TheVariants.{Memory, Closed}
+use Rattle.vt_model.specs.declared.rows.Row.{Row}
+use Rattle.vt_model.specs.declared.settings.Config.{Config}
+use Rattle.vt_model.specs.Handler.{Handlers}
+use Rattle.vt_model.specs.Histories.{IsLawful}
+use Rattle.vt_model.specs.Simulation.{Simulation, simulation_of}
+use Rattle.vt_model.specs.Settings.{end_of}
+use Rattle.vt_steps.specs.declared.step.Step.TheVariants.{Commit, Close}
+use Rattle.vt_steps.specs.declared.step.Reply.{Reply}
+use Rattle.vt_steps.specs.declared.step.Reply.TheVariants.{Done}
+use Rattle.vt_steps.specs.World.{Part, Book}
+use Rattle.vt_steps.specs.PartSteps.{part_after_commit, rows_of_commit}
+use Rattle.vt_steps.specs.BookSteps.{may_commit, with_rows, may_close, closed_book}
+use Rattle.vt_steps.specs.Next.{reached}
+use Rattle.vt_steps.specs.Cells.{Cell, Acted, in_book, left_alone, act}
+use Rattle.vt_steps.proofs.time.Floors.{AreTimesSound, reached-times}
+use Rattle.vt_steps.proofs.lists.Lists.{Every}
+use Rattle.vt_steps.proofs.lists.Places.{get-within}
+use Rattle.vt_steps.proofs.lists.Tests.{passes_both}
+use Rattle.vt_kernel.specs.Held.{HeldWorker, StandsFor}
+use Rattle.vt_book.specs.Books.{RunBook, may_hand, is_within, are_within, refusal_of_hand, refusal_where}
+use Rattle.vt_book.proofs.CommitRows.{IsBetween, commit-between}
+use Rattle.vt_cells.specs.Calls.{Acts, IsCellStepOf, IsBatchOf, AreReached, AreOfOneWorld, CommitsTo, IsHandInOf, IsClosingRefusal}
+use Rattle.vt_cells.proofs.ActLemmas.{act-commit, act-commit_closed, act-close, act-not_close, act-close_closed}
+
+-- rows that lie between two times, tested
+all-within : (from to : Time) (rows : List Row) → Every (IsBetween from to) rows → list_all (is_within from to) rows ≡ true
+all-within from to [] h = refl
+all-within from to (row ∷ rows) h =
+    let low = h.0.0 in
+    let high = h.0.1 in
+    let late : time_at_most from row.key.time ≡ true = grind (arith, nat_tests) in
+    let early : time_before row.key.time to ≡ true = grind (arith, nat_tests) in
+    passes_both (is_within from to row) (list_all (is_within from to) rows) (passes_both (time_at_most from row.key.time) (time_before row.key.time to) late early) (all-within from to rows h.1)
+
+-- what is lawful an open book doesn't refuse
+unrefused : (is_closed is_lawful : Bool) → is_closed ≡ false → is_lawful ≡ true → refusal_where is_closed is_lawful ≡ None
+unrefused true is_lawful h k = absurd (let e : true ≡ false = h in cc)
+unrefused false true h k = refl
+unrefused false false h k = absurd (let e : false ≡ true = k in cc)
+
+-- ---- commits
+
+-- the simulation of a kernel
+abbrev sim_of : {S P K : Type 0} → Handlers S P K → HeldWorker S P K → Simulation S P
+sim_of handlers k = simulation_of handlers k.config
+
+module _ {S P K : Type 0} {handlers : Handlers S P K} {k : HeldWorker S P K} {book : RunBook} (ends : book.end ≡ end_of k.config) where
+  module _ (lawful : IsLawful (sim_of handlers k)) (r : AreReached handlers k book.book) where
+    sound : AreTimesSound (sim_of handlers k) (reached (sim_of handlers k) r.serial r.steps)
+    sound = reached-times (sim_of handlers k) lawful r.serial r.steps
+
+    -- the floor up to which the worker has handed in
+    handed_in : (floor : Time) × (slice_get (reached (sim_of handlers k) r.serial r.steps).book.floors k.worker ≡ Some floor)
+    handed_in =
+        let world = reached (sim_of handlers k) r.serial r.steps in
+        let size = sound.floors.size in
+        get-within world.book.floors k.worker (let a = slice_get_within world.parts k.worker r.part r.there in omega (arith, a, size))
+
+    floor-there : slice_get book.book.floors k.worker ≡ Some handed_in.0
+    floor-there = ap (λ (b : Book). slice_get b.floors k.worker) (sym r.book_is) ∙ handed_in.1
+
+    may-up_to : may_commit (slice_get book.book.floors k.worker) k.floor ≡ true
+    may-up_to =
+        let low = sound.floors.handed_in k.worker r.part handed_in.0 r.there handed_in.1 in
+        let own : r.part.floor ≡ k.floor = r.stands.floor in
+        let above : time_at_most handed_in.0 k.floor ≡ true = grind (arith, nat_tests) in
+        ap (λ o. may_commit o k.floor) floor-there ∙ above
+
+    may-rows : (rows : List Row) → rows ≡ rows_of_commit (sim_of handlers k) k.worker r.part → may_hand book k.worker rows k.floor ≡ true
+    may-rows rows rows_are =
+        let announced = sound.floors.announced k.worker r.part r.there in
+        let bounded : TimeAtMost (reached (sim_of handlers k) r.serial r.steps).board.announced (end_of k.config) = sound.floors.bounded in
+        let own : r.part.floor ≡ k.floor = r.stands.floor in
+        let below : time_at_most k.floor book.end ≡ true = grind (arith, nat_tests) in
+        let between : Every (IsBetween handed_in.0 k.floor) rows =
+        subst (λ t. Every (IsBetween handed_in.0 t) rows) own
+        (subst (Every (IsBetween handed_in.0 r.part.floor)) (sym rows_are) (commit-between (sim_of handlers k) lawful r.serial r.steps k.worker r.part handed_in.0 r.there handed_in.1)) in
+        passes_both (may_commit (slice_get book.book.floors k.worker) k.floor) (time_at_most k.floor book.end && are_within (slice_get book.book.floors k.worker) k.floor rows) may-up_to
+        (passes_both (time_at_most k.floor book.end) (are_within (slice_get book.book.floors k.worker) k.floor rows) below
+        (ap (λ o. are_within o k.floor rows) floor-there ∙ all-within handed_in.0 k.floor rows between))
+
+  module _ (reaches : AreOfOneWorld handlers k book.book) {w : ℕ} (whose : k.worker ≡ w) where
+    -- a kernel of a reached world may hand in up to its floor
+    pub may-commit : may_commit (slice_get book.book.floors w) k.floor ≡ true
+    may-commit = subst (λ v. may_commit (slice_get book.book.floors v) k.floor ≡ true) whose (∥∥₁_elim reaches.1 (Prim.hlevel props) (may-up_to reaches.0))
+
+    -- and an open book takes its rows
+    pub hand-taken : {rows : List Row} {floor : Time} → floor ≡ k.floor → book.book.is_closed ≡ false → IsBatchOf k (Ok rows) → refusal_of_hand book w rows floor ≡ None
+    hand-taken {rows} floor_is is_open ready =
+        let may = subst (λ v. may_hand book v rows k.floor ≡ true) whose (∥∥₁_elim reaches.1 (Prim.hlevel props) (λ r. may-rows reaches.0 r rows (ready handlers r.part r.stands))) in
+        ap (refusal_of_hand book w rows) floor_is ∙ unrefused book.book.is_closed (may_hand book w rows k.floor) is_open may
+
+module _ {S P K : Type 0} (handlers : Handlers S P K) (k : HeldWorker S P K) (w : ℕ) (book : Book) where
+  -- what a closed book refuses
+  pub hand-closed : book.is_closed ≡ true → IsHandInOf handlers k.config w k book book (Err Closed)
+  hand-closed closed = record {
+    done = tt;
+    refused = λ part s. inl (ap (λ (x : Acted P). x.answer) (act-commit_closed (sim_of handlers k) w part book closed));
+    unchanged = refl;
+  }
+
+  module _ (may : may_commit (slice_get book.floors w) k.floor ≡ true) (is_open : book.is_closed ≡ false) where
+    acts : (part : Part P) → StandsFor handlers k part
+        → act (sim_of handlers k) (Commit w) part (in_book book) ≡ record { part = part_after_commit part; cell = in_book (with_rows w (rows_of_commit (sim_of handlers k) w part) part.floor book); answer = Ok Done }
+    acts part s = act-commit (sim_of handlers k) w part book is_open (ap (may_commit (slice_get book.floors w)) s.floor ∙ may)
+
+    -- one for which memory was refused
+    pub hand-memory : {left : Book} {fault : Fault} → fault ≡ Memory → left ≡ book → IsHandInOf handlers k.config w k book left (Err fault)
+    hand-memory is same = record {
+      done = tt;
+      refused = λ part s. inr (Done, ap (λ (x : Acted P). x.answer) (acts part s), inr (is, tt, λ past. past));
+      unchanged = same;
+    }
+
+    -- and one that the book has taken
+    pub hand-done : k.worker ≡ w → {left : Book} {rows : List Row} {floor : Time} → floor ≡ k.floor → IsBatchOf k (Ok rows) → left ≡ with_rows w rows floor book → IsHandInOf handlers k.config w k book left (Ok Done)
+    hand-done whose {left} {rows} {floor} floor_is ready left_is = record {
+      done = (
+        refl,
+        λ part s.
+            (let is : with_rows w (rows_of_commit (sim_of handlers k) w part) part.floor book ≡ left =
+            (λ i. with_rows w (sym (ready handlers part s ∙ ap (λ v. rows_of_commit (sim_of handlers k) v part) whose) i) ((s.floor ∙ sym floor_is) i) book) ∙ sym left_is in
+            acts part s ∙ ap (λ b. (let a : Acted P = record { part = part_after_commit part; cell = in_book b; answer = Ok Done } in a)) is),
+      );
+      refused = λ part s. tt;
+      unchanged = tt;
+    }
+
+module _ {S P K : Type 0} (handlers : Handlers S P K) {k new : HeldWorker S P K} {w : ℕ} where
+  -- a kernel that forgets what it has committed
+  pub commit-acts : (config : Config) {found left : Cell P} → CommitsTo handlers config w k found left → new.worker ≡ k.worker → new.config ≡ k.config
+      → ((part : Part P) → StandsFor handlers k part → StandsFor handlers new (part_after_commit part)) → Acts handlers config (Commit w) Done k found new left
+  commit-acts config to same_worker same_config forgets = record { acts = λ part s. (part_after_commit part, to part s, forgets part s); worker = same_worker; config_is = same_config }
+
+  pub commit-done : (config : Config) {book left : Book} (reply : Reply) → IsHandInOf handlers config w k book left (Ok reply) → new.worker ≡ k.worker → new.config ≡ k.config
+      → ((part : Part P) → StandsFor handlers k part → StandsFor handlers new (part_after_commit part)) → IsCellStepOf handlers config (Commit w) k new (in_book book) (in_book left) (Ok reply)
+  commit-done config {book} {left} reply h same_worker same_config forgets = record {
+    done = subst (λ r. Acts handlers config (Commit w) r k (in_book book) new (in_book left)) (sym h.done.0) (commit-acts config h.done.1 same_worker same_config forgets);
+    within = λ part s past. past;
+    refused = λ part s. tt;
+    unchanged = tt;
+  }
+
+  -- and one whose commit is refused
+  pub commit-refused : (config : Config) {book left : Book} (fault : Fault) → IsHandInOf handlers config w k book left (Err fault) → new ≡ k
+      → IsCellStepOf handlers config (Commit w) k new (in_book book) (in_book left) (Err fault)
+  commit-refused config fault h same = record { done = tt; within = λ part s. tt; refused = h.refused; unchanged = (same, ap in_book h.unchanged) }
+
+-- ---- closes
+
+module _ {S P : Type 0} (sim : Simulation S P) (part : Part P) (old new : RunBook) (ends : sim.end ≡ old.end) where
+  -- a close of an open book whose floor is the end
+  pub close-done : (old.book.is_closed ≡ false) × (may_close old.end old.book ≡ true) × (new ≡ record old { book = closed_book old.book })
+      → act sim Close part (in_book old.book) ≡ record { part = part; cell = in_book new.book; answer = Ok Done }
+  close-done c =
+      act-close sim part old.book c.0 (ap (λ t. may_close t old.book) ends ∙ c.1) ∙ ap (λ (b : RunBook). (let a : Acted P = record { part = part; cell = in_book b.book; answer = Ok Done } in a)) (sym c.2)
+
+  -- and one that is refused
+  pub close-refused : (fault : Fault) → IsClosingRefusal old fault → new.book ≡ old.book → act sim Close part (in_book old.book) ≡ record { part = part; cell = in_book new.book; answer = Err fault }
+  close-refused fault why same =
+      let refused : act sim Close part (in_book old.book) ≡ left_alone part (in_book old.book) fault =
+      elim why [
+        | inl c ↦ act-close_closed sim part old.book c.1 ∙ ap (left_alone part (in_book old.book)) (sym c.0)
+        | inr c ↦ act-not_close sim part old.book c.1 (ap (λ t. may_close t old.book) ends ∙ c.2) ∙ ap (left_alone part (in_book old.book)) (sym c.0)
+      ] in
+      refused ∙ ap (λ b. left_alone part (in_book b) fault) (sym same)
+
+-- a close, as a step that leaves a kernel
+pub close-step : {S P K : Type 0} (handlers : Handlers S P K) (config : Config) (k : HeldWorker S P K) {book left : Book} (result : Result Reply Fault)
+    → ((part : Part P) → act (simulation_of handlers config) Close part (in_book book) ≡ record { part = part; cell = in_book left; answer = result }) → IfErr result (λ fault. left ≡ book)
+    → IsCellStepOf handlers config Close k k (in_book book) (in_book left) result
+close-step handlers config k (Ok reply) acts same = record {
+  done = record { acts = λ part s. (part, acts part, s); worker = refl; config_is = refl };
+  within = λ part s past. past;
+  refused = λ part s. tt;
+  unchanged = tt;
+}
+close-step handlers config k (Err fault) acts same = record {
+  done = tt;
+  within = λ part s. tt;
+  refused = λ part s. inl (ap (λ (x : Acted _). x.answer) (acts part));
+  unchanged = (refl, ap in_book same);
+}

@@ -1,0 +1,101 @@
+//! Commit and Close, on a kernel and the book.
+
+ghost use Rattle.std.specs.Prelude.{◌≡◌, false, IfErr, MatchResult};
+ghost use Rattle.vt_key.specs.declared.fault.Fault.TheVariants.{Memory};
+ghost use Rattle.vt_model.specs.Handler.{Handlers};
+ghost use Rattle.vt_model.specs.Simulation.{Simulation, simulation_of};
+ghost use Rattle.vt_model.specs.Settings.{end_of};
+ghost use Rattle.vt_steps.specs.declared.step.Step.TheVariants as step;
+ghost use Rattle.vt_steps.specs.World.{Part, book_floor};
+ghost use Rattle.vt_steps.specs.Cells.{in_book, act};
+ghost use Rattle.vt_cells.specs.Calls.{IsBatchOf, AreOfOneWorld, IsHandInOf, IsHandInRefusal, IsClosingRefusal, IsCellStepOf};
+
+use std::alloc::Global;
+use vt_book::{Batch, Book};
+use vt_kernel::Kernel;
+use vt_key::Fault;
+use vt_model::Model as EventModel;
+use vt_steps::Reply;
+
+/// What a kernel would hand in, made ready.
+///
+/// [`Fault::Memory`]: memory was refused.
+pub fn batch_of<M: EventModel>(alloc: Global, kernel: &Kernel<M>) -> Result<Batch, Fault>
+    ensures rows { IsBatchOf kernel.now result }
+    ensures refused { IfErr result (λ fault. fault ≡ Memory) }
+{
+    let rows = kernel.rows(alloc)?;
+    Ok(Batch::of(rows))
+}
+
+/// Hands in to the book what was made ready of the kernel of worker `w`. The kernel keeps what it commits, until
+/// [`Kernel::fossil`].
+///
+/// [`Fault::Closed`]: the book is closed. [`Fault::Memory`]: memory was refused, here or for the batch. After either the
+/// book is as it was.
+pub fn hand_in<M: EventModel>(
+    kernel: &Kernel<M>,
+    w: u32,
+    batch: Result<Batch, Fault>,
+    book: &mut Book,
+) -> Result<Reply, Fault>
+    requires worker { kernel.now.worker ≡ w }
+    requires rows { IsBatchOf kernel.now batch }
+    requires end { book.old.end ≡ end_of kernel.now.config }
+    requires reached { (handlers : Handlers _ _ _) × AreOfOneWorld handlers kernel.now book.old.book }
+    ensures step { (handlers : Handlers _ _ _) → IsHandInOf handlers kernel.now.config w kernel.now book.old.book book.new.book result }
+    ensures end { book.new.end ≡ book.old.end }
+    ensures why { MatchResult result (λ _. book.old.book.is_closed ≡ false) (IsHandInRefusal book.old.book) }
+{
+    if book.is_closed() {
+        return Err(Fault::Closed);
+    }
+    let Ok(batch) = batch else {
+        return Err(Fault::Memory);
+    };
+    let floor = kernel.floor();
+    match book.hand_batch(w, batch, floor) {
+        Ok(()) => Ok(Reply::Done),
+        Err(fault) => Err(fault),
+    }
+}
+
+/// Commit: worker `w` hands the rows of its events below its floor in to the book, and forgets these events.
+///
+/// [`Fault::Closed`]: the book is closed. [`Fault::Memory`]: memory was refused. After either nothing has changed.
+pub fn commit<M: EventModel>(
+    alloc: Global,
+    kernel: &mut Kernel<M>,
+    w: u32,
+    book: &mut Book,
+) -> Result<Reply, Fault>
+    requires worker { kernel.old.worker ≡ w }
+    requires end { book.old.end ≡ end_of kernel.old.config }
+    requires reached { (handlers : Handlers _ _ _) × AreOfOneWorld handlers kernel.old book.old.book }
+    ensures step { (handlers : Handlers _ _ _) → IsCellStepOf handlers kernel.old.config (step.Commit w) kernel.old kernel.new (in_book book.old.book) (in_book book.new.book) result }
+    ensures end { book.new.end ≡ book.old.end }
+{
+    let batch = batch_of(alloc, kernel);
+    match hand_in(kernel, w, batch, book) {
+        Ok(reply) => {
+            kernel.fossil();
+            Ok(reply)
+        }
+        Err(fault) => Err(fault),
+    }
+}
+
+/// Close: the book, whose floor must be the end of the run, takes nothing more.
+///
+/// [`Fault::Closed`]: it is closed. [`Fault::NotLawful`]: its floor isn't the end of the run. After either it is as it was.
+pub fn close<M: EventModel>(book: &mut Book) -> Result<Reply, Fault>
+    ensures step { (sim : Simulation M.State M.Payload) → sim.end ≡ book.old.end → (part : Part M.Payload) → act sim step.Close part (in_book book.old.book) ≡ record { part = part; cell = in_book book.new.book; answer = result } }
+    ensures unchanged { IfErr result (λ _. book.new.book ≡ book.old.book) }
+    ensures why { MatchResult result (λ _. (book.old.book.is_closed ≡ false) × (book_floor book.new.end book.new.book ≡ book.new.end)) (IsClosingRefusal book.old) }
+    ensures end { book.new.end ≡ book.old.end }
+{
+    match book.close() {
+        Ok(()) => Ok(Reply::Done),
+        Err(fault) => Err(fault),
+    }
+}
