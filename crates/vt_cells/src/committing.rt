@@ -1,11 +1,12 @@
 //! Commit and Close, on a kernel and the book.
 
-ghost use Rattle.std.specs.Prelude.{◌≡◌, false, IfErr, MatchResult};
+ghost use Rattle.std.specs.Prelude.{◌≡◌, false, IfOk, IfErr, MatchResult};
 ghost use Rattle.vt_key.specs.declared.fault.Fault.TheVariants.{Memory};
 ghost use Rattle.vt_model.specs.Handler.{Handlers};
 ghost use Rattle.vt_model.specs.Simulation.{Simulation, simulation_of};
 ghost use Rattle.vt_model.specs.Settings.{end_of};
 ghost use Rattle.vt_steps.specs.declared.step.Step.TheVariants as step;
+ghost use Rattle.vt_steps.specs.declared.step.Reply.TheVariants.{Done};
 ghost use Rattle.vt_steps.specs.World.{Part, book_floor};
 ghost use Rattle.vt_steps.specs.Cells.{in_book, act};
 ghost use Rattle.vt_cells.specs.Calls.{IsBatchOf, AreOfOneWorld, IsHandInOf, IsHandInRefusal, IsClosingRefusal, IsCellStepOf};
@@ -90,6 +91,7 @@ pub fn commit<M: EventModel>(
 /// [`Fault::Closed`]: it is closed. [`Fault::NotLawful`]: its floor isn't the end of the run. After either it is as it was.
 pub fn close<M: EventModel>(book: &mut Book) -> Result<Reply, Fault>
     ensures step { (sim : Simulation M.State M.Payload) → sim.end ≡ book.old.end → (part : Part M.Payload) → act sim step.Close part (in_book book.old.book) ≡ record { part = part; cell = in_book book.new.book; answer = result } }
+    ensures reply { IfOk result (λ reply. reply ≡ Done) }
     ensures unchanged { IfErr result (λ _. book.new.book ≡ book.old.book) }
     ensures why { MatchResult result (λ _. (book.old.book.is_closed ≡ false) × (book_floor book.new.end book.new.book ≡ book.new.end)) (IsClosingRefusal book.old) }
     ensures end { book.new.end ≡ book.old.end }

@@ -1,33 +1,74 @@
 -- The book, once a place has claimed it.
-use Rattle.std.proofs.Common.{◌≡◌, ◌⊎◌, inl, inr, ℕ, true, false, map, sym, ◌∙◌, ap}
+use Rattle.std.proofs.Common.{◌≡◌, ◌⊎◌, inl, inr, ℕ, true, false, ◌∷◌, map, sym, ◌∙◌, ap, subst, Some, slice_get}
+use Rattle.atomic_table.specs.Table.{rest}
 use Rattle.vt_key.specs.declared.fault.Fault.{Fault}
 use Rattle.vt_key.specs.declared.fault.Fault.TheVariants.{Busy, Closed}
 use Rattle.vt_model.specs.declared.settings.Config.{Config}
-use Rattle.vt_model.specs.Simulation.{Simulation}
+use Rattle.vt_model.specs.Handler.{Handlers}
+use Rattle.vt_model.specs.Histories.{IsLawful}
+use Rattle.vt_model.specs.Simulation.{Simulation, simulation_of}
+use Rattle.vt_model.specs.Settings.{end_of}
 use Rattle.vt_steps.specs.World.{Book}
-use Rattle.vt_steps.specs.Cells.{Cell, in_book}
-use Rattle.vt_steps.specs.Marked.{answered, has_closed, shown}
+use Rattle.vt_steps.specs.Cells.{in_book}
+use Rattle.vt_steps.specs.Next.{reached}
+use Rattle.vt_steps.specs.Marked.{unmarked, answered, has_closed, shown}
 use Rattle.vt_steps.proofs.marks.OwnCloses.{closed-known}
+use Rattle.vt_kernel.specs.Held.{HeldWorker}
+use Rattle.vt_book.specs.Books.{RunBook}
+use Rattle.vt_cells.specs.Calls.{AreOfOneWorld}
+use Rattle.vt_places.specs.declared.slot.Slot.TheVariants as slot
 use Rattle.vt_places.specs.Kept.{Sat}
-use Rattle.vt_places.specs.Calls.{Holding, TookThere}
-use Rattle.vt_places.proofs.Cells.{same-found}
-use Rattle.vt_places.proofs.HeldLemmas.{same-book}
+use Rattle.vt_places.specs.Calls.{Holding, TookThere, Reaches}
+use Rattle.vt_places.proofs.HeldLemmas.{same-book, slot-is, slot-right, holds-after}
+use Rattle.vt_places.proofs.RefusalLemmas.{marks, part-there, book-there}
 
-module _ {S P : Type 0} {sim : Simulation S P} {config : Config} {m after : Sat P} {k : ℕ} (t : TookThere sim config (λ world. in_book world.book) m k after) {book : Book} {now : Cell P} (h : Holding config after k (in_book book) now) where
+module _ {S P : Type 0} {sim : Simulation S P} {config : Config} {m after : Sat P} {k : ℕ} (t : TookThere sim config (λ world. in_book world.book) m k after)
+    {book : RunBook} (value : after.1 ≡ (k, slot.Book book) ∷ rest after.1) where
   -- what the seat found is the book of the shown world
-  pub book-is : (shown sim t.known.log).book ≡ book
+  pub book-is : (shown sim t.known.log).book ≡ book.book
   book-is =
       let there = (shown sim t.known.log).book in
-      same-book there book (same-found k k (in_book there) (in_book book) (sym t.holds.hand ∙ h.hand))
+      same-book there book.book (sym (slot-is config after k (in_book there) (in_book there) t.holds (slot.Book book) value))
+
+  -- and of this run
+  pub book-ends : book.end ≡ end_of config
+  book-ends = let there = (shown sim t.known.log).book in slot-right config after k (in_book there) (in_book there) t.holds (slot.Book book) value
+
+  pub run-book : book ≡ record { end = end_of config; book = (shown sim t.known.log).book }
+  run-book = λ i. record { end = book-ends i; book = sym book-is i }
+
+  -- what the seat holds once that is another
+  pub book-put : (new : RunBook) {left : Book} → new.book ≡ left → new.end ≡ book.end → Holding config (after.0, (k, slot.Book new) ∷ rest after.1) k (in_book book.book) (in_book left)
+  book-put new {left} is same_end =
+      let there = (shown sim t.known.log).book in
+      subst (λ b. Holding config (after.0, (k, slot.Book new) ∷ rest after.1) k (in_book b) (in_book left)) book-is
+      (holds-after config after k (in_book there) (in_book there) t.holds (slot.Book new) (in_book left) (ap in_book is) (same_end ∙ book-ends))
 
   -- where the place has closed it, it is closed
-  closed-is : has_closed (map answered m.0.mine) ≡ true → book.is_closed ≡ true
+  closed-is : has_closed (map answered m.0.mine) ≡ true → book.book.is_closed ≡ true
   closed-is done = ap (λ (b : Book). b.is_closed) (sym book-is) ∙ closed-known sim m.0.worker t.known.log t.known.right (ap has_closed t.known.mine ∙ done)
 
-  pub not-open : {X : Type 0} → book.is_closed ≡ false → has_closed (map answered m.0.mine) ≡ true → X
+  pub not-open : {X : Type 0} → book.book.is_closed ≡ false → has_closed (map answered m.0.mine) ≡ true → X
   not-open open_is done = absurd (let e : true ≡ false = sym (closed-is done) ∙ open_is in cc)
 
   -- and what is refused there is refused as closed
-  pub refused-once : {fault : Fault} {Other : Type 0} → (Other → book.is_closed ≡ false) → ((fault ≡ Closed) × (book.is_closed ≡ true)) ⊎ Other → has_closed (map answered m.0.mine) ≡ true → (fault ≡ Busy) ⊎ (fault ≡ Closed)
+  pub refused-once : {fault : Fault} {Other : Type 0} → (Other → book.book.is_closed ≡ false) → ((fault ≡ Closed) × (book.book.is_closed ≡ true)) ⊎ Other → has_closed (map answered m.0.mine) ≡ true → (fault ≡ Busy) ⊎ (fault ≡ Closed)
   refused-once open_is (inl x) done = inr x.0
   refused-once open_is (inr x) done = not-open (open_is x) done
+
+module _ {S P K : Type 0} {handlers : Handlers S P K} {config : Config} {m after : Sat P} {cell : ℕ} (t : TookThere (simulation_of handlers config) config (λ world. in_book world.book) m cell after)
+    {k : HeldWorker S P K} (r : Reaches handlers config m.0 k) where
+  -- the kernel of the place's worker and the book are of one world
+  pub one-world : AreOfOneWorld handlers k (shown (simulation_of handlers config) t.known.log).book
+  one-world =
+      let steps = unmarked (marks t.known r.steps r.part r.led) in (
+        subst (λ (c : Config). IsLawful (simulation_of handlers c)) (sym r.config_is) t.lawful,
+        ∣ record {
+          serial = 0;
+          steps = steps;
+          part = r.part;
+          there = subst (λ (x : ℕ × Config). slice_get (reached (simulation_of handlers x.1) 0 steps).parts x.0 ≡ Some r.part) (λ i. (sym r.worker i, sym r.config_is i)) (part-there t.known r.steps r.part r.led);
+          stands = r.stands;
+          book_is = subst (λ (c : Config). (reached (simulation_of handlers c) 0 steps).book ≡ (shown (simulation_of handlers config) t.known.log).book) (sym r.config_is) (book-there t.known r.steps r.part r.led);
+        } ∣₁,
+      )

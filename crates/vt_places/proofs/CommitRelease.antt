@@ -15,11 +15,13 @@ use Rattle.vt_steps.specs.Cells.{book_cell, Cell}
 use Rattle.vt_steps.specs.Marked.{Made, marked, made_done, Leads}
 use Rattle.vt_steps.proofs.steps.LocalLeads.{leads}
 use Rattle.vt_kernel.specs.Held.{HeldWorker, StandsFor}
+use Rattle.vt_cells.specs.Calls.{CommitsTo}
+use Rattle.vt_cells.proofs.BookSteps.{commit-acts}
 use Rattle.vt_places.specs.declared.view.View.{View}
 use Rattle.vt_places.specs.Slots.{cell_count, word_at, home_word, cell_at}
 use Rattle.vt_places.specs.Kept.{Sat, Kept}
 use Rattle.vt_places.specs.Calls.{Reaches, Visited, Holding, ShowsFloor}
-use Rattle.vt_places.specs.Commits.{CommitsTo, Commits}
+use Rattle.vt_places.specs.Commits.{Commits}
 use Rattle.vt_places.proofs.CallLemmas.{WithHand, done-held}
 use Rattle.vt_places.proofs.Growth.{grown-not}
 use Rattle.vt_places.proofs.Keeps.{releases}
@@ -81,7 +83,7 @@ module _ {S P K : Type 0} (handlers : Handlers S P K) (config : Config) where
             stood = x.stood;
             mine = x.mine;
             at = done-held (simulation_of handlers config) v h.0 x.steps x.part (Commit worker) Done after x.at;
-            does = record { acts = λ part s. (part_after_commit part, x.commits part s, forgets part s); worker = same_worker; config_is = same_config };
+            does = commit-acts handlers config x.commits same_worker same_config forgets;
             stands = subst (StandsFor handlers left) (sym x.gone) (forgets x.part x.stood);
           };
           same = record { worker = x.same.worker; made = x.same.made; waiting = x.same.waiting };

@@ -12,8 +12,6 @@ pub mod CallLemmas
 pub mod GuardLemmas
 pub mod AloneLemmas
 pub mod Opening
-pub mod BookLemmas
 pub mod BookAt
 pub mod RefusalLemmas
-pub mod CommitAt
 pub mod ReachLemmas

@@ -1,49 +1,42 @@
 -- Refusals that are found in a claimed cell, as refusals of a world that cells and places showed.
-use Rattle.std.proofs.Common.{◌≡◌, inl, inr, ℕ, true, false, ◌&&◌, List, [], ◌∷◌, ◌++◌, refl, sym, ◌∙◌, ap, subst, arith, Option, Some, None, Ok, Err, slice_get}
-use Rattle.std.proofs.lemmas.Bool.Decides.{nat_tests}
-use Rattle.vt_key.specs.Times.{Time, TimeAtMost, time_at_most}
+use Rattle.std.proofs.Common.{◌≡◌, inl, inr, ℕ, false, List, [], ◌∷◌, ◌++◌, refl, sym, ◌∙◌, ap, subst, arith, Option, Some, None, Ok, Err, slice_get}
+use Rattle.vt_key.specs.Times.{Time, TimeAtMost}
 use Rattle.vt_key.specs.declared.fault.Fault.{Fault}
-use Rattle.vt_key.specs.declared.fault.Fault.TheVariants.{Memory, NotLawful, Closed}
-use Rattle.vt_model.specs.declared.rows.Row.{Row}
+use Rattle.vt_key.specs.declared.fault.Fault.TheVariants.{NotLawful}
 use Rattle.vt_model.specs.declared.rows.Record.{Record}
 use Rattle.vt_model.specs.Sequential.{seq_records}
 use Rattle.vt_model.specs.Histories.{IsLawful}
 use Rattle.vt_model.specs.Simulation.{Simulation}
 use Rattle.vt_steps.specs.declared.step.Step.{Step}
 use Rattle.vt_steps.specs.declared.step.Step.TheVariants.{Cut, Report, Commit, Close}
-use Rattle.vt_steps.specs.declared.step.Reply.TheVariants.{Done}
+use Rattle.vt_steps.specs.declared.step.Reply.{Reply}
 use Rattle.vt_steps.specs.World.{Part, Board, Book, World, book_floor, book_records}
-use Rattle.vt_steps.specs.PartSteps.{rows_of_commit}
 use Rattle.vt_steps.specs.BoardSteps.{cut_board}
-use Rattle.vt_steps.specs.BookSteps.{may_commit, may_close, with_rows}
 use Rattle.vt_steps.specs.Next.{Outcome, next, run}
 use Rattle.std.specs.Option.{option_map}
 use Rattle.vt_steps.specs.CellSteps.{CellEffect, cut, report}
-use Rattle.vt_steps.specs.Cells.{board_cell, book_cell, Cell, on_board, in_book, worker_of, cell_of, acted_at, act}
+use Rattle.vt_steps.specs.Cells.{CellName, board_cell, book_cell, Cell, on_board, in_book, content, worker_of, cell_of, acted_at, act, put_back}
 use Rattle.vt_steps.specs.Laws.{IsAny}
-use Rattle.vt_cells.specs.Calls.{IsCellRefusal}
-use Rattle.vt_cells.proofs.WorldLemmas.{refused-there}
+use Rattle.vt_cells.specs.Calls.{IsCellRefusal, IsHandInRefusal, IsClosingRefusal}
+use Rattle.vt_cells.proofs.WorldLemmas.{next-put_back, refused-there}
 use Rattle.vt_steps.specs.Marked.{Marked, unmarked, marked, shown, DoesSo, made_done, has_cut_since, has_closed}
-use Rattle.vt_steps.proofs.time.Floors.{AreTimesSound, reached-times}
-use Rattle.vt_steps.proofs.lists.Lists.{Every}
+use Rattle.vt_steps.proofs.time.Floors.{reached-times}
 use Rattle.vt_steps.proofs.steps.LocalLeads.{local-does}
 use Rattle.vt_steps.proofs.marks.MarkedRuns.{steps-append, shown-marked}
 use Rattle.vt_steps.proofs.marks.OwnCloses.{closed-floors, unclosable-floor, closed-known}
-use Rattle.vt_steps.proofs.lists.Places.{get-within}
 use Rattle.vt_steps.proofs.book.ReachedBooks.{reached-falls, reached-accounted}
 use Rattle.vt_steps.proofs.book.Records.{records-right}
-use Rattle.vt_steps.proofs.lists.Tests.{passes_both}
-use Rattle.std.proofs.lemmas.Option.{slice_get_within}
-use Rattle.vt_book.specs.Books.{may_hand, are_within}
 use Rattle.vt_steps.proofs.marks.OwnCuts.{refused-cut-known}
 use Rattle.vt_kernel.specs.Local.{local_steps}
 use Rattle.vt_kernel.specs.Refusals.{IsStepRefusal}
-use Rattle.vt_steps.proofs.steps.CellSteps.{next-commit, next-commit_closed, next-not_close, next-close_closed}
-use Rattle.vt_book.proofs.CommitRows.{IsBetween, commit-between}
 use Rattle.vt_places.specs.declared.view.View.{View}
 use Rattle.vt_places.specs.Calls.{Known, IsRefusedBy, IsCutRefusal, IsReportRefusal, IsCommitRefusal, IsCloseRefusal, IsFloorLeft, AreRecordsShown}
-use Rattle.vt_places.proofs.BookLemmas.{all-within, run-one}
 use Rattle.vt_places.proofs.Releases.{steps-lead}
+
+-- a list of one step
+run-one : {S P : Type 0} (sim : Simulation S P) (world : World P) (step : Step) → run sim world (step ∷ []) ≡ (next sim world step).world
+unfolding run
+run-one sim world step = refl
 
 module _ {S P : Type 0} {sim : Simulation S P} {v : View P} {k : ℕ} {cell : Cell P} (known : Known sim v k cell) (steps : List Step) (before : Part P) (led : local_steps sim v.worker steps v.part ≡ Some before) where
   -- the world that was shown, and the same after the place's local steps
@@ -72,10 +65,16 @@ module _ {S P : Type 0} {sim : Simulation S P} {v : View P} {k : ℕ} {cell : Ce
   pub refused-by : (step : Step) (fault : Fault) → IsStepRefusal sim step then_there fault → IsRefusedBy sim v step fault
   refused-by step fault is = record { log = known.log; right = known.right; part = known.part; mine = known.mine; own = known.own; steps = steps; before = before; led = led; refused = is }
 
-  -- a step that is refused on the place's part and on what the board's cell held
-  refused-at-board : (step : Step) → IsAny (worker_of sim step) v.worker → cell_of step ≡ Some board_cell → {fault : Fault} → IsCellRefusal sim step before (on_board there.board) fault → IsRefusedBy sim v step fault
-  refused-at-board step whose named {fault} why =
-      refused-by step fault (refused-there sim then_there step v.worker whose named then-part (ap (λ (b : Board). (let o : Option (Cell P) = Some (on_board b) in o)) then-board) why)
+  -- a step that is refused on the place's part and on what a cell held
+  module _ (step : Step) (whose : IsAny (worker_of sim step) v.worker) {fault : Fault} where
+    refused-at : (name : CellName) (held : Cell P) → cell_of step ≡ Some name → content then_there name ≡ Some held → IsCellRefusal sim step before held fault → IsRefusedBy sim v step fault
+    refused-at name held named holds why = refused-by step fault (refused-there sim then_there step v.worker whose named then-part holds why)
+
+    refused-at-board : cell_of step ≡ Some board_cell → IsCellRefusal sim step before (on_board there.board) fault → IsRefusedBy sim v step fault
+    refused-at-board named = refused-at board_cell (on_board there.board) named (ap (λ (b : Board). (let o : Option (Cell P) = Some (on_board b) in o)) then-board)
+
+    refused-at-book : cell_of step ≡ Some book_cell → IsCellRefusal sim step before (in_book there.book) fault → IsRefusedBy sim v step fault
+    refused-at-book named = refused-at book_cell (in_book there.book) named (ap (λ (b : Book). (let o : Option (Cell P) = Some (in_book b) in o)) then-book)
 
   -- where the definitions refuse it, it is not lawful
   acted-none : (held : Board) (o : Option (CellEffect P Board)) (fault : Fault) → (acted_at before on_board held o).answer ≡ Err fault → (o ≡ None) × (fault ≡ NotLawful)
@@ -114,73 +113,53 @@ module _ {S P : Type 0} {sim : Simulation S P} {v : View P} {k : ℕ} {cell : Ce
         ],
       )
 
-  -- ---- commit
+  -- ---- the book
+
+  -- the world after the place's local steps, as one that marked steps lead to
+  abbrev pub marks : List Marked
+  marks = known.log ++ marked v.worker steps
+
+  whole : shown sim marks ≡ then_there
+  whole = shown-marked sim known.log v.worker steps
+
+  pub part-there : slice_get (shown sim marks).parts v.worker ≡ Some before
+  part-there = ap (λ (n : World P). slice_get n.parts v.worker) whole ∙ then-part
+
+  pub book-there : (shown sim marks).book ≡ there.book
+  book-there = ap (λ (n : World P). n.book) whole ∙ then-book
 
   module _ (lawful : IsLawful sim) where
-    -- the world after the place's local steps, as one that marked steps lead to
-    abbrev marks : List Marked
-    marks = known.log ++ marked v.worker steps
-
-    whole : shown sim marks ≡ then_there
-    whole = shown-marked sim known.log v.worker steps
-
-    sound : AreTimesSound sim (shown sim marks)
-    sound = reached-times sim lawful 0 (unmarked marks)
-
-    part-there : slice_get (shown sim marks).parts v.worker ≡ Some before
-    part-there = ap (λ (n : World P). slice_get n.parts v.worker) whole ∙ then-part
-
-    book-there : (shown sim marks).book ≡ there.book
-    book-there = ap (λ (n : World P). n.book) whole ∙ then-book
-
-    -- what the worker hands in up to its floor is lawful
-    pub commit-may : (rows : List Row) (floor : Time) → rows ≡ rows_of_commit sim v.worker before → before.floor ≡ floor → may_hand (record { end = sim.end; book = there.book }) v.worker rows floor ≡ true
-    commit-may rows floor rows_are own =
-        let world = shown sim marks in
-        let s = sound in
-        let size = s.floors.size in
-        let handed_in = get-within world.book.floors v.worker (let a = slice_get_within world.parts v.worker before part-there in omega (arith, a, size)) in
-        let low = s.floors.handed_in v.worker before handed_in.0 part-there handed_in.1 in
-        let announced = s.floors.announced v.worker before part-there in
-        let bounded : TimeAtMost world.board.announced sim.end = s.floors.bounded in
-        let above : time_at_most handed_in.0 floor ≡ true = grind (arith, nat_tests) in
-        let ends : time_at_most floor sim.end ≡ true = grind (arith, nat_tests) in
-        let here : slice_get there.book.floors v.worker ≡ Some handed_in.0 = ap (λ (b : Book). slice_get b.floors v.worker) (sym book-there) ∙ handed_in.1 in
-        let between : Every (IsBetween handed_in.0 floor) rows =
-        subst (λ t. Every (IsBetween handed_in.0 t) rows) own
-        (subst (Every (IsBetween handed_in.0 before.floor)) (sym rows_are) (commit-between sim lawful 0 (unmarked marks) v.worker before handed_in.0 part-there handed_in.1)) in
-        passes_both (may_commit (slice_get there.book.floors v.worker) floor) (time_at_most floor sim.end && are_within (slice_get there.book.floors v.worker) floor rows)
-        (ap (λ o. may_commit o floor) here ∙ above)
-        (passes_both (time_at_most floor sim.end) (are_within (slice_get there.book.floors v.worker) floor rows) ends
-        (ap (λ o. are_within o floor rows) here ∙ all-within handed_in.0 floor rows between))
-
-    -- a commit that the book refuses as closed
-    pub commit-closed : there.book.is_closed ≡ true → IsCommitRefusal sim v Closed
-    commit-closed closed =
-        let out = next-commit_closed sim then_there v.worker (ap (λ (b : Book). b.is_closed) then-book ∙ closed) in
+    pub commit-refused : (fault : Fault) → IsHandInRefusal there.book fault → IsCellRefusal sim (Commit v.worker) before (in_book there.book) fault → IsCommitRefusal sim v fault
+    commit-refused fault why at =
         inr (
-          refused-by (Commit v.worker) Closed (inl (ap (λ (o : Outcome P). o.answer) out)),
-          inl (refl, closed-floors sim lawful known.log v.worker v.part closed known.part),
+          refused-at-book (Commit v.worker) refl refl at,
+          elim why [
+            | inl c ↦ inl (c.0, closed-floors sim lawful known.log v.worker v.part c.1 known.part)
+            | inr c ↦ inr c.0
+          ],
         )
 
-    -- one for which memory was refused
-    pub commit-memory : there.book.is_closed ≡ false → may_commit (slice_get there.book.floors v.worker) before.floor ≡ true → IsCommitRefusal sim v Memory
-    commit-memory open_is may =
-        let out = next-commit sim then_there v.worker before then-part (ap (λ (b : Book). b.is_closed) then-book ∙ open_is) (ap (λ (b : Book). may_commit (slice_get b.floors v.worker) before.floor) then-book ∙ may) in
-        inr (refused-by (Commit v.worker) Memory (inr (Done, ap (λ (o : Outcome P). o.answer) out, inr (refl, tt, λ past. past))), inr refl)
+    pub close-refused : (fault : Fault) → IsClosingRefusal (record { end = sim.end; book = there.book }) fault → (act sim Close before (in_book there.book)).answer ≡ Err fault → IsCloseRefusal sim v fault
+    close-refused fault why at =
+        inr (
+          refused-at-book Close tt refl (inl at),
+          elim why [
+            | inl c ↦ inl (c.0, closed-floors sim lawful known.log v.worker v.part c.1 known.part)
+            | inr c ↦ (let before_end = unclosable-floor sim lawful known.log c.2 in let low = known.seen in inr (c.0, omega arith))
+          ],
+        )
 
-    -- the floor that a commit leaves
-    pub commit-floor : (rows : List Row) (floor : Time) (left : Time) → rows ≡ rows_of_commit sim v.worker before → before.floor ≡ floor → there.book.is_closed ≡ false →
-        may_commit (slice_get there.book.floors v.worker) before.floor ≡ true → left ≡ book_floor sim.end (with_rows v.worker rows floor there.book) → IsFloorLeft sim v (Commit v.worker) left
-    commit-floor rows floor left rows_are own open_is may is =
-        let out = next-commit sim then_there v.worker before then-part (ap (λ (b : Book). b.is_closed) then-book ∙ open_is) (ap (λ (b : Book). may_commit (slice_get b.floors v.worker) before.floor) then-book ∙ may) in
-        let after : (next sim then_there (Commit v.worker)).world.book ≡ with_rows v.worker rows floor there.book =
-        ap (λ (o : Outcome P). o.world.book) out ∙ (λ i. with_rows v.worker (sym rows_are i) (own i) (then-book i)) in
-        let falls = reached-falls sim lawful 0 (unmarked known.log) (steps ++ Commit v.worker ∷ []) in
-        let same : run sim there (steps ++ Commit v.worker ∷ []) ≡ (next sim then_there (Commit v.worker)).world = steps-append sim there steps (Commit v.worker ∷ []) ∙ run-one sim then_there (Commit v.worker) in
-        let up : TimeAtMost (book_floor sim.end there.book) (book_floor sim.end (next sim then_there (Commit v.worker)).world.book) =
+    -- the floor that a step at the book leaves
+    pub floor-left : (step : Step) → IsAny (worker_of sim step) v.worker → cell_of step ≡ Some book_cell → {new : Part P} {left : Book} {reply : Reply}
+        → act sim step before (in_book there.book) ≡ record { part = new; cell = in_book left; answer = Ok reply } → (floor : Time) → floor ≡ book_floor sim.end left → IsFloorLeft sim v step floor
+    floor-left step whose named {left = left} does floor is =
+        let after : (next sim then_there step).world.book ≡ left =
+        ap (λ (o : Outcome P). o.world.book) (next-put_back sim then_there step v.worker whose named then-part (ap (λ (b : Book). (let o : Option (Cell P) = Some (in_book b) in o)) then-book) ∙ ap (put_back then_there v.worker book_cell) does) in
+        let falls = reached-falls sim lawful 0 (unmarked known.log) (steps ++ step ∷ []) in
+        let same : run sim there (steps ++ step ∷ []) ≡ (next sim then_there step).world = steps-append sim there steps (step ∷ []) ∙ run-one sim then_there step in
+        let up : TimeAtMost (book_floor sim.end there.book) (book_floor sim.end (next sim then_there step).world.book) =
         subst (λ (n : World P). TimeAtMost (book_floor sim.end there.book) (book_floor sim.end n.book)) same falls.floor in
-        let floor_is : left ≡ book_floor sim.end (next sim then_there (Commit v.worker)).world.book = is ∙ ap (book_floor sim.end) (sym after) in
+        let floor_is : floor ≡ book_floor sim.end (next sim then_there step).world.book = is ∙ ap (book_floor sim.end) (sym after) in
         let low = known.seen in
         record {
           log = known.log;
@@ -193,23 +172,6 @@ module _ {S P : Type 0} {sim : Simulation S P} {v : View P} {k : ℕ} {cell : Ce
           floor_is = floor_is;
           rises = omega (arith, up, floor_is, low);
         }
-
-    -- ---- close
-
-    pub close-closed : there.book.is_closed ≡ true → IsCloseRefusal sim v Closed
-    close-closed closed =
-        let out = next-close_closed sim then_there (ap (λ (b : Book). b.is_closed) then-book ∙ closed) in
-        inr (
-          refused-by Close Closed (inl (ap (λ (o : Outcome P). o.answer) out)),
-          inl (refl, closed-floors sim lawful known.log v.worker v.part closed known.part),
-        )
-
-    pub close-unlawful : there.book.is_closed ≡ false → may_close sim.end there.book ≡ false → IsCloseRefusal sim v NotLawful
-    close-unlawful open_is not_yet =
-        let out = next-not_close sim then_there (ap (λ (b : Book). b.is_closed) then-book ∙ open_is) (ap (may_close sim.end) then-book ∙ not_yet) in
-        let before_end = unclosable-floor sim lawful known.log not_yet in
-        let low = known.seen in
-        inr (refused-by Close NotLawful (inl (ap (λ (o : Outcome P). o.answer) out)), inr (refl, omega arith))
 
     -- ---- records
 

@@ -1,5 +1,5 @@
 -- A commit at the claimed book, while the kernel still keeps what is committed.
-use Rattle.std.specs.Prelude.{◌≡◌, ℕ, List, [], ◌∷◌, ◌++◌, Some, Ok}
+use Rattle.std.specs.Prelude.{◌≡◌, ℕ, List, [], ◌∷◌, ◌++◌, Some}
 use Rattle.vt_key.specs.Times.{Time}
 use Rattle.vt_model.specs.declared.settings.Config.{Config}
 use Rattle.vt_model.specs.Handler.{Handlers}
@@ -9,21 +9,16 @@ use Rattle.vt_steps.specs.declared.step.Step.{Step}
 use Rattle.vt_steps.specs.declared.step.Step.TheVariants.{Commit}
 use Rattle.vt_steps.specs.declared.step.Reply.TheVariants.{Done}
 use Rattle.vt_steps.specs.World.{Part}
-use Rattle.vt_steps.specs.Cells.{Cell, act}
 use Rattle.vt_steps.specs.Marked.{made_done}
 use Rattle.vt_steps.specs.PartSteps.{part_after_commit}
 use Rattle.vt_kernel.specs.Held.{HeldWorker, StandsFor}
 use Rattle.vt_kernel.specs.Local.{local_steps}
+use Rattle.vt_cells.specs.Calls.{CommitsTo}
 use Rattle.vt_places.specs.declared.view.View.{View}
 use Rattle.vt_places.specs.Hands.{empty_hand}
 use Rattle.vt_places.specs.Calls.{IsSamePlace, IsDoneAt, ShowsFloor}
 
 module _ {S P K : Type 0} (handlers : Handlers S P K) (config : Config) where
-  -- the commit of a worker does this to a cell, whatever part the kernel stands for
-  abbrev pub CommitsTo : ℕ → HeldWorker S P K → Cell P → Cell P → Type 0
-  CommitsTo worker k found now =
-      (part : Part P) → StandsFor handlers k part → act (simulation_of handlers config) (Commit worker) part found ≡ record { part = part_after_commit part; cell = now; answer = Ok Done }
-
   -- local steps that lead to the kernel as it was lent, and then a commit: they are the place's own steps from now on, its part is
   -- without what was committed, it holds nothing, and it was shown the floor of the book as it is now
   pub record Commits (v : View P) (worker : ℕ) (k : HeldWorker S P K) (seen : Time) (w : View P) : Type 0 where
@@ -34,7 +29,7 @@ module _ {S P K : Type 0} (handlers : Handlers S P K) (config : Config) where
     pub mine : w.mine ≡ v.mine ++ (made_done steps ++ record { step = Commit worker; reply = Done } ∷ [])
     pub gone : w.part ≡ part_after_commit part
     pub at : IsDoneAt (simulation_of handlers config) v steps part (Commit worker) Done w
-    pub commits : CommitsTo worker k at.found at.now
+    pub commits : CommitsTo handlers config worker k at.found at.now
     pub shows : ShowsFloor (end_of config) seen at.now
     pub same : IsSamePlace v w
     pub floor : w.seen ≡ seen

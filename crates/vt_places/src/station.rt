@@ -13,8 +13,8 @@ ghost use Rattle.vt_steps.specs.Laws.{IsAny};
 ghost use Rattle.vt_key.specs.declared.limits.TheConstants.{MAX_WORKERS};
 ghost use Rattle.vt_places.specs.Slots.{cell_count, word_at, claimed_word, cell_at};
 ghost use Rattle.vt_places.specs.Kept.{Kept, Rests};
-ghost use Rattle.vt_places.specs.Commits.{CommitsTo, Commits};
-ghost use Rattle.vt_cells.specs.Calls.{Acts};
+ghost use Rattle.vt_places.specs.Commits.{Commits};
+ghost use Rattle.vt_cells.specs.Calls.{Acts, CommitsTo};
 ghost use Rattle.vt_places.specs.Calls.{IsShown, Took, TookThere, Holding, MaySee, Reaches, Visited, Unvisited, Closes, ShowsFloor, seen_or};
 
 use crate::rule::{About, Aim, Law, Tell};

@@ -1,56 +1,60 @@
-use Rattle.std.proofs.Common.{inl, inr, [], refl, sym, ap, subst, ◌∙◌}
+use Rattle.std.proofs.Common.{◌≡◌, ◌+◌, [], ◌∷◌, Ok, Err, refl, sym, ap, subst, ◌∙◌}
+use Rattle.atomic_table.specs.Table.{rest}
 use Rattle.vt_model.specs.Simulation.{simulation_of}
 use Rattle.vt_model.specs.Settings.{end_of}
-use Rattle.vt_steps.specs.World.{Book}
-use Rattle.vt_steps.specs.BookSteps.{may_close, closed_book}
-use Rattle.vt_steps.specs.Cells.{in_book}
-use Rattle.vt_places.specs.Calls.{IsCloseRefusal}
-use Rattle.vt_cells.proofs.ActLemmas.{act-close}
+use Rattle.vt_steps.specs.declared.step.Step.TheVariants.{Close}
+use Rattle.vt_steps.specs.World.{book_floor}
+use Rattle.vt_steps.specs.Cells.{Acted, in_book, act}
+use Rattle.vt_book.specs.Books.{RunBook}
+use Rattle.vt_cells.specs.Calls.{IsClosingRefusal}
 use Rattle.vt_places.proofs.CallLemmas.{closes-there}
-use Rattle.vt_places.proofs.BookLemmas.{ends-closed}
-use Rattle.vt_places.proofs.BookAt.{book-is, not-open, refused-once}
+use Rattle.vt_places.proofs.BookAt.{book-ends, run-book, book-put, not-open, refused-once}
 use Rattle.vt_places.proofs.RefusalLemmas as refusal
 use Rattle.vt_places.proofs.station.Station.close_at.Goals as goal
-
-pub close_book-requires-clause-held : goal.close_book-requires-clause-held
-close_book-requires-clause-held g c κs within = (_, (c.if-not-claim_book.ensures.claimed refl).holds)
 
 pub release_close-requires-clause-held : goal.release_close-requires-clause-held
 release_close-requires-clause-held g c κs within =
     let key = c.args.self.now.table.shared.key in
     let sim = simulation_of (g.M.Model.handlers key.model.value) key.config in
-    let d = c.in-Ok.ensures.done in (
-      in_book d.0,
-      in_book (closed_book d.0),
-      d.2.2,
-      (λ part. act-close sim part d.0 d.2.0 d.2.1),
-      d.2.3,
+    let t = c.if-not-claim_book.ensures.claimed refl in
+    let value = c.slot_mut-held.ensures.value ∙ ap (λ s. (c.args.self.now.workers + 1, s) ∷ rest c.claim_book.new.seat.me.1) c.in-Book.is in
+    let ok = c.in-Ok.ensures in
+    let new = c.close.new.book in (
+      in_book c.in-Book.book.book,
+      in_book new.book,
+      book-put t value new refl ok.end,
+      (λ part. ok.step sim (sym (book-ends t value)) part ∙ ap (λ r. (let a : Acted _ = record { part = part; cell = in_book new.book; answer = Ok r } in a)) ok.reply),
+      c.floor-floor.ensures ∙ ap (λ e. book_floor e new.book) (ok.end ∙ book-ends t value),
     )
 
 pub returns-in-Ok-clause-closed : goal.returns-in-Ok-clause-closed
-returns-in-Ok-clause-closed g c = λ h. not-open (c.if-not-claim_book.ensures.claimed refl) c.in-Ok.ensures.done.1 c.in-Ok.ensures.done.2.0 h
+returns-in-Ok-clause-closed g c =
+    let value = c.slot_mut-held.ensures.value ∙ ap (λ s. (c.args.self.now.workers + 1, s) ∷ rest c.claim_book.new.seat.me.1) c.in-Book.is in
+    λ h. not-open (c.if-not-claim_book.ensures.claimed refl) value c.in-Ok.ensures.why.0 h
+
+pub returns-in-Ok-clause-done : goal.returns-in-Ok-clause-done
+returns-in-Ok-clause-done g c =
+    let key = c.args.self.now.table.shared.key in
+    let sim = simulation_of (g.M.Model.handlers key.model.value) key.config in
+    let t = c.if-not-claim_book.ensures.claimed refl in
+    let value = c.slot_mut-held.ensures.value ∙ ap (λ s. (c.args.self.now.workers + 1, s) ∷ rest c.claim_book.new.seat.me.1) c.in-Book.is in
+    let ok = c.in-Ok.ensures in
+    closes-there sim c.args.seat.now.me.0 c.claim_book.new.seat.me.0 c.floor-floor.result (end_of key.config) c.release_close.new.seat.me.0 t.place
+    (c.floor-floor.ensures ∙ ok.why.1 ∙ ok.end ∙ book-ends t value) c.release_close.ensures.done
 
 pub returns-in-Err-clause-refused : goal.returns-in-Err-clause-refused
 returns-in-Err-clause-refused g c =
     let key = c.args.self.now.table.shared.key in
     let sim = simulation_of (g.M.Model.handlers key.model.value) key.config in
     let t = c.if-not-claim_book.ensures.claimed refl in
+    let value = c.slot_mut-held.ensures.value ∙ ap (λ s. (c.args.self.now.workers + 1, s) ∷ rest c.claim_book.new.seat.me.1) c.in-Book.is in
     let v = c.args.seat.now.me.0 in
-    let d = c.in-Err.ensures.done in
-    let same = book-is t d.1 in
-    let closed = ap (λ (b : Book). b.is_closed) same in
-    elim d.2.1 [
-      | inl x ↦ subst (IsCloseRefusal sim v) (sym x.0) (refusal.close-closed t.known [] v.part refl t.lawful (closed ∙ x.1))
-      | inr x ↦ subst (IsCloseRefusal sim v) (sym x.0) (refusal.close-unlawful t.known [] v.part refl t.lawful (closed ∙ x.1) (ap (may_close (end_of key.config)) same ∙ x.2))
-    ]
+    let fault = c.in-Err.fault in
+    let why = c.in-Err.ensures in
+    refusal.close-refused t.known [] v.part refl t.lawful fault (subst (λ (b : RunBook). IsClosingRefusal b fault) (run-book t value) why.why)
+    (subst (λ (b : RunBook). (act sim Close v.part (in_book b.book)).answer ≡ Err fault) (run-book t value) (ap (λ (x : Acted _). x.answer) (why.step sim (sym (book-ends t value)) v.part)))
 
 pub returns-in-Err-clause-closed : goal.returns-in-Err-clause-closed
-returns-in-Err-clause-closed g c = λ h. refused-once (c.if-not-claim_book.ensures.claimed refl) c.in-Err.ensures.done.1 (λ x. x.1) c.in-Err.ensures.done.2.1 h
-
-pub returns-in-Ok-clause-done : goal.returns-in-Ok-clause-done
-returns-in-Ok-clause-done g c =
-    let key = c.args.self.now.table.shared.key in
-    let sim = simulation_of (g.M.Model.handlers key.model.value) key.config in
-    let place = (c.if-not-claim_book.ensures.claimed refl).place in
-    let d = c.in-Ok.ensures.done in
-    closes-there sim c.args.seat.now.me.0 c.close_book.new.seat.me.0 c.in-Ok.floor (end_of key.config) c.release_close.new.seat.me.0 (place.0, c.in-Ok.ensures.same.2 ∙ place.1) (d.2.3 ∙ ends-closed (end_of key.config) d.0 d.2.1) c.release_close.ensures.done
+returns-in-Err-clause-closed g c =
+    let value = c.slot_mut-held.ensures.value ∙ ap (λ s. (c.args.self.now.workers + 1, s) ∷ rest c.claim_book.new.seat.me.1) c.in-Book.is in
+    λ h. refused-once (c.if-not-claim_book.ensures.claimed refl) value (λ x. x.1) c.in-Err.ensures.why h

@@ -1,107 +1,100 @@
-use Rattle.std.proofs.Common.{◌≡◌, ◌+◌, inl, inr, ℕ, true, refl, sym, ap, subst, ◌∙◌}
+use Rattle.std.proofs.Common.{◌≡◌, ℕ, ◌+◌, ◌∷◌, Ok, refl, sym, ap, subst, ◌∙◌}
+use Rattle.atomic_table.specs.Table.{rest}
+use Rattle.vt_model.specs.declared.settings.Config.{Config}
 use Rattle.vt_model.specs.Simulation.{simulation_of}
 use Rattle.vt_model.specs.Settings.{end_of}
 use Rattle.vt_steps.specs.declared.step.Step.TheVariants.{Commit}
 use Rattle.vt_steps.specs.declared.step.Reply.TheVariants.{Done}
 use Rattle.vt_steps.specs.World.{Part, Book, book_floor}
-use Rattle.vt_steps.specs.PartSteps.{part_after_commit, rows_of_commit}
-use Rattle.vt_steps.specs.BookSteps.{with_rows}
-use Rattle.vt_steps.specs.Cells.{in_book}
-use Rattle.vt_steps.specs.Marked.{shown}
+use Rattle.vt_steps.specs.PartSteps.{part_after_commit}
+use Rattle.vt_steps.specs.Cells.{in_book, act}
 use Rattle.vt_kernel.specs.Held.{HeldWorker, StandsFor}
-use Rattle.vt_book.specs.Books.{may_hand}
-use Rattle.vt_places.specs.Calls.{IsCommitRefusal, IsFloorLeft, Visited, ShowsFloor}
-use Rattle.vt_places.specs.Commits.{CommitsTo}
-use Rattle.vt_places.proofs.BookAt.{book-is, not-open, refused-once}
+use Rattle.vt_cells.specs.Calls.{IsCellRefusal, IsHandInRefusal, AreOfOneWorld, CommitsTo}
+use Rattle.vt_places.specs.Calls.{Visited, ShowsFloor}
 use Rattle.vt_places.proofs.CommitRelease.{committed-visited}
-use Rattle.vt_places.proofs.CommitAt.{handed-is, ok-more, hand-lawful, commit-moves, commit-left, refused-closed, refused-memory}
+use Rattle.vt_places.proofs.BookAt.{book-is, book-ends, book-put, not-open, refused-once, one-world}
+use Rattle.vt_places.proofs.RefusalLemmas as refusal
 use Rattle.vt_places.proofs.station.Station.commit_at.Goals as goal
 
-pub hand_in-requires-clause-held : goal.hand_in-requires-clause-held
-hand_in-requires-clause-held g c κs within =
-    let key = c.args.self.now.table.shared.key in
-    let H = g.M.Model.handlers key.model.value in
+pub hand_in-requires-clause-reached : goal.hand_in-requires-clause-reached
+hand_in-requires-clause-reached g c κs within =
+    let H = g.M.Model.handlers c.args.self.now.table.shared.key.model.value in
     let t = c.if-not-claim_book.ensures.claimed refl in
-    let r = c.requires.kernel in
-    let k = c.args.kernel.now in
-    let book = (shown (simulation_of H key.config) t.known.log).book in (
-      book,
-      t.holds,
-      λ open_is. ok-more c.batch_of-batch.result (λ x. x ≡ rows_of_commit (simulation_of H k.config) k.worker r.part) (λ x. may_hand (record { end = (end_of key.config); book = book }) c.args.worker x c.floor-floor.result ≡ true)
-          (λ x is. ap (λ w. may_hand (record { end = (end_of key.config); book = book }) w x c.floor-floor.result) (sym c.requires.worker)
-          ∙ hand-lawful H key.config t.lawful c.args.seat.now.me.0 (c.args.self.now.workers + 1) t.cell t.known k r x c.floor-floor.result c.floor-floor.ensures is)
-          (c.batch_of-batch.ensures.rows H r.part r.stands),
-    )
+    let value = c.slot_mut-held.ensures.value ∙ ap (λ s. (c.args.self.now.workers + 1, s) ∷ rest c.claim_book.new.seat.me.1) c.in-Book.is in
+    (H, subst (AreOfOneWorld H c.args.kernel.now) (book-is t value) (one-world t c.requires.kernel))
 
 pub release_commit-requires-clause-held : goal.release_commit-requires-clause-held
 release_commit-requires-clause-held g c κs within =
     let key = c.args.self.now.table.shared.key in
     let H = g.M.Model.handlers key.model.value in
     let t = c.if-not-claim_book.ensures.claimed refl in
-    let w = c.args.worker in
-    let k = c.args.kernel.now in
-    let floor = c.floor-floor.result in
-    let book = (shown (simulation_of H key.config) t.known.log).book in
-    let d = c.in-Ok.ensures.done in
-    let rows = d.2.0 in
-    let same = book-is t d.1 in
-    let moves = commit-moves H key.config t.lawful c.args.seat.now.me.0 (c.args.self.now.workers + 1) t.cell t.known k c.requires.kernel rows floor (ap (λ (b : Book). b.is_closed) same ∙ d.2.2) c.floor-floor.ensures
-    (λ part s. handed-is c.batch_of-batch.result (λ x. x) rows (rows_of_commit (simulation_of H k.config) k.worker part) d.2.1 (c.batch_of-batch.ensures.rows H part s)) in
-    let moved : CommitsTo H key.config w k (in_book d.0) (in_book (with_rows w rows floor d.0)) =
-    subst (λ (b : Book). CommitsTo H key.config w k (in_book b) (in_book (with_rows w rows floor b))) same
-    (subst (λ (u : ℕ). CommitsTo H key.config u k (in_book book) (in_book (with_rows u rows floor book))) c.requires.worker moves) in (
-      in_book d.0,
-      in_book (with_rows w rows floor d.0),
-      d.2.3,
-      subst (λ (h : HeldWorker _ _ _). CommitsTo H key.config w h (in_book d.0) (in_book (with_rows w rows floor d.0))) (sym c.of.ensures) moved,
-      d.2.4,
+    let value = c.slot_mut-held.ensures.value ∙ ap (λ s. (c.args.self.now.workers + 1, s) ∷ rest c.claim_book.new.seat.me.1) c.in-Book.is in
+    let old = c.in-Book.book in
+    let new = c.hand_in.new.book in
+    let ok = c.in-Ok.ensures in (
+      in_book old.book,
+      in_book new.book,
+      book-put t value new refl ok.end,
+      subst (λ (x : Config × HeldWorker _ _ _). CommitsTo H x.0 c.args.worker x.1 (in_book old.book) (in_book new.book)) (λ i. (c.requires.kernel.config_is i, sym c.of.ensures i)) (ok.step H).done.1,
+      c.floor-seen.ensures ∙ ap (λ e. book_floor e new.book) (ok.end ∙ book-ends t value),
     )
+
+pub release_unchanged-requires-clause-held : goal.release_unchanged-requires-clause-held
+release_unchanged-requires-clause-held g c κs within =
+    let H = g.M.Model.handlers c.args.self.now.table.shared.key.model.value in
+    let value = c.slot_mut-held.ensures.value ∙ ap (λ s. (c.args.self.now.workers + 1, s) ∷ rest c.claim_book.new.seat.me.1) c.in-Book.is in
+    (in_book c.in-Book.book.book, book-put (c.if-not-claim_book.ensures.claimed refl) value c.hand_in.new.book (c.in-Err.ensures.step H).unchanged c.in-Err.ensures.end, tt)
 
 pub returns-in-Ok-clause-done : goal.returns-in-Ok-clause-done
 returns-in-Ok-clause-done g c =
     let key = c.args.self.now.table.shared.key in
     let H = g.M.Model.handlers key.model.value in
+    let sim = simulation_of H key.config in
     let v = c.args.seat.now.me.0 in
     let w = c.args.worker in
     let t = c.if-not-claim_book.ensures.claimed refl in
+    let value = c.slot_mut-held.ensures.value ∙ ap (λ s. (c.args.self.now.workers + 1, s) ∷ rest c.claim_book.new.seat.me.1) c.in-Book.is in
     let r = c.requires.kernel in
     let k = c.args.kernel.now in
-    let d = c.in-Ok.ensures.done in
-    let rows = d.2.0 in
-    let same = book-is t d.1 in
+    let new = c.hand_in.new.book in
+    let ok = c.in-Ok.ensures in
+    let seen = c.floor-seen.result in
     let after = c.release_commit.new.seat.me.0 in
-    let lent = c.of.result.value in
     let left = c.fossil.new.self in
-    let stands = subst (λ (h : HeldWorker _ _ _). (part : Part _) → StandsFor H h part → StandsFor H left (part_after_commit part)) (sym c.of.ensures) (λ part s. c.fossil.ensures.stands H part s) in
-    let visited = committed-visited H key.config v c.hand_in.new.seat.me.0 w lent left c.in-Ok.shown after (t.place.0, c.in-Ok.ensures.same.2 ∙ t.place.1) c.release_commit.ensures.done stands
-    (ap (λ (h : HeldWorker _ _ _). h.worker) (c.fossil.ensures.others) ∙ ap (λ (h : HeldWorker _ _ _). h.worker) (sym c.of.ensures))
-    (ap (λ (h : HeldWorker _ _ _). h.config) (c.fossil.ensures.others) ∙ ap (λ (h : HeldWorker _ _ _). h.config) (sym c.of.ensures)) in
-    let both = subst (λ (h : HeldWorker _ _ _). (r : Visited H key.config v h (Commit w) Done left c.in-Ok.shown after) × ShowsFloor (end_of key.config) c.in-Ok.shown r.visits.at.now) c.of.ensures visited in (
-      c.in-Ok.shown,
+    let others = c.fossil.ensures.others in
+    let same = sym c.of.ensures in
+    let forgets = subst (λ (h : HeldWorker _ _ _). (part : Part _) → StandsFor H h part → StandsFor H left (part_after_commit part)) same (c.fossil.ensures.stands H) in
+    let visited = committed-visited H key.config v c.claim_book.new.seat.me.0 w c.of.result.value left seen after t.place c.release_commit.ensures.done forgets
+    (ap (λ (h : HeldWorker _ _ _). h.worker) others ∙ ap (λ (h : HeldWorker _ _ _). h.worker) same) (ap (λ (h : HeldWorker _ _ _). h.config) others ∙ ap (λ (h : HeldWorker _ _ _). h.config) same) in
+    let both = subst (λ (h : HeldWorker _ _ _). (x : Visited H key.config v h (Commit w) Done left seen after) × ShowsFloor (end_of key.config) seen x.visits.at.now) c.of.ensures visited in
+    let does = subst (λ (f : Config). CommitsTo H f w k (in_book c.in-Book.book.book) (in_book new.book)) r.config_is (ok.step H).done.1 r.part r.stands in (
+      seen,
       both.0,
       both.1,
-      subst (λ (u : ℕ). IsFloorLeft (simulation_of H key.config) v (Commit u) c.in-Ok.shown) c.requires.worker
-          (commit-left H key.config t.lawful v (c.args.self.now.workers + 1) t.cell t.known k r rows c.floor-floor.result c.in-Ok.shown (ap (λ (b : Book). b.is_closed) same ∙ d.2.2) c.floor-floor.ensures
-          (handed-is c.batch_of-batch.result (λ x. x) rows (rows_of_commit (simulation_of H k.config) k.worker r.part) d.2.1 (c.batch_of-batch.ensures.rows H r.part r.stands))
-          (d.2.4 ∙ (λ i. book_floor (end_of key.config) (with_rows (sym c.requires.worker i) rows c.floor-floor.result (sym same i))))),
+      refusal.floor-left t.known r.steps r.part r.led t.lawful (Commit w) (sym c.requires.worker) refl
+          (subst (λ b. act sim (Commit w) r.part (in_book b) ≡ record { part = part_after_commit r.part; cell = in_book new.book; answer = Ok Done }) (sym (book-is t value)) does) seen
+          (c.floor-seen.ensures ∙ ap (λ e. book_floor e new.book) (ok.end ∙ book-ends t value)),
     )
 
 pub returns-in-Ok-clause-closed : goal.returns-in-Ok-clause-closed
-returns-in-Ok-clause-closed g c = λ h. not-open (c.if-not-claim_book.ensures.claimed refl) c.in-Ok.ensures.done.1 c.in-Ok.ensures.done.2.2 h
+returns-in-Ok-clause-closed g c =
+    let value = c.slot_mut-held.ensures.value ∙ ap (λ s. (c.args.self.now.workers + 1, s) ∷ rest c.claim_book.new.seat.me.1) c.in-Book.is in
+    λ h. not-open (c.if-not-claim_book.ensures.claimed refl) value c.in-Ok.ensures.why h
 
 pub returns-in-Err-clause-refused : goal.returns-in-Err-clause-refused
 returns-in-Err-clause-refused g c =
     let key = c.args.self.now.table.shared.key in
     let H = g.M.Model.handlers key.model.value in
     let t = c.if-not-claim_book.ensures.claimed refl in
-    let v = c.args.seat.now.me.0 in
-    let k = c.args.kernel.now in
-    let d = c.in-Err.ensures.done in
-    let closed = ap (λ (b : Book). b.is_closed) (book-is t d.1) in
-    elim d.2.1 [
-      | inl x ↦ subst (IsCommitRefusal (simulation_of H key.config) v) (sym x.0) (refused-closed H key.config t.lawful v (c.args.self.now.workers + 1) t.cell t.known k c.requires.kernel (closed ∙ x.1))
-      | inr x ↦ subst (IsCommitRefusal (simulation_of H key.config) v) (sym x.0) (refused-memory H key.config t.lawful v (c.args.self.now.workers + 1) t.cell t.known k c.requires.kernel (closed ∙ x.1))
-    ]
+    let value = c.slot_mut-held.ensures.value ∙ ap (λ s. (c.args.self.now.workers + 1, s) ∷ rest c.claim_book.new.seat.me.1) c.in-Book.is in
+    let r = c.requires.kernel in
+    let fault = c.in-Err.fault in
+    let why = c.in-Err.ensures in
+    let same = sym (book-is t value) in
+    refusal.commit-refused t.known r.steps r.part r.led t.lawful fault (subst (λ b. IsHandInRefusal b fault) same why.why)
+    (subst (λ (x : Config × ℕ × Book). IsCellRefusal (simulation_of H x.0) (Commit x.1) r.part (in_book x.2) fault) (λ i. (r.config_is i, sym c.requires.worker i, same i)) ((why.step H).refused r.part r.stands))
 
 pub returns-in-Err-clause-closed : goal.returns-in-Err-clause-closed
-returns-in-Err-clause-closed g c = λ h. refused-once (c.if-not-claim_book.ensures.claimed refl) c.in-Err.ensures.done.1 (λ x. x.1) c.in-Err.ensures.done.2.1 h
+returns-in-Err-clause-closed g c =
+    let value = c.slot_mut-held.ensures.value ∙ ap (λ s. (c.args.self.now.workers + 1, s) ∷ rest c.claim_book.new.seat.me.1) c.in-Book.is in
+    λ h. refused-once (c.if-not-claim_book.ensures.claimed refl) value (λ x. x.1) c.in-Err.ensures.why h

@@ -1,22 +1,19 @@
-use Rattle.std.proofs.Common.{[], refl, sym, ap, ◌∙◌}
-use Rattle.vt_model.specs.Settings.{end_of}
+use Rattle.std.proofs.Common.{◌+◌, [], ◌∷◌, refl, ap, ◌∙◌}
+use Rattle.atomic_table.specs.Table.{rest}
 use Rattle.vt_steps.specs.World.{book_floor, book_records}
+use Rattle.vt_book.specs.Books.{RunBook}
 use Rattle.vt_places.proofs.CallLemmas.{unvisited-held}
-use Rattle.vt_places.proofs.BookAt.{book-is}
+use Rattle.vt_places.proofs.BookAt.{run-book}
 use Rattle.vt_places.proofs.RefusalLemmas as refusal
 use Rattle.vt_places.proofs.station.Station.records_at.Goals as goal
 
-pub copy_records-requires-clause-held : goal.copy_records-requires-clause-held
-copy_records-requires-clause-held g c κs within = (_, (c.if-not-claim_book.ensures.claimed refl).holds)
-
 pub returns-in-Ok-clause-done : goal.returns-in-Ok-clause-done
 returns-in-Ok-clause-done g c =
-    let end = end_of c.args.self.now.table.shared.key.config in
     let t = c.if-not-claim_book.ensures.claimed refl in
     let v = c.args.seat.now.me.0 in
-    let d = c.in-Ok.ensures.done in
-    let same = sym (book-is t d.1) in (
-      c.in-Ok.floor,
-      refusal.records-shown t.known [] v.part refl t.lawful c.in-Ok.floor c.in-Ok.records.items (d.3.1 ∙ ap (book_floor end) same) (d.3.0 ∙ ap (book_records end) same),
-      unvisited-held v c.copy_records.new.seat.me.0 c.in-Ok.floor c.release_unchanged.new.seat.me.0 (t.place.0, c.in-Ok.ensures.same.2 ∙ t.place.1) c.release_unchanged.ensures.stays,
+    let value = c.slot_mut-held.ensures.value ∙ ap (λ s. (c.args.self.now.workers + 1, s) ∷ rest c.claim_book.new.seat.me.1) c.in-Book.is in
+    let is = run-book t value in (
+      c.floor-floor.result,
+      refusal.records-shown t.known [] v.part refl t.lawful c.floor-floor.result c.in-Ok.records.items (c.floor-floor.ensures ∙ ap (λ (b : RunBook). book_floor b.end b.book) is) (c.in-Ok.ensures.records ∙ ap (λ (b : RunBook). book_records b.end b.book) is),
+      unvisited-held v c.claim_book.new.seat.me.0 c.floor-floor.result c.release_unchanged.new.seat.me.0 t.place c.release_unchanged.ensures.stays,
     )

@@ -1,17 +1,15 @@
-use Rattle.std.proofs.Common.{[], refl, sym, ap, ◌∙◌}
-use Rattle.vt_model.specs.Settings.{end_of}
+use Rattle.std.proofs.Common.{◌+◌, [], ◌∷◌, refl, sym, ap, ◌∙◌}
+use Rattle.atomic_table.specs.Table.{rest}
 use Rattle.vt_steps.specs.World.{book_floor, book_records}
-use Rattle.vt_places.proofs.BookAt.{book-is}
+use Rattle.vt_book.specs.Books.{RunBook}
+use Rattle.vt_places.proofs.BookAt.{run-book}
 use Rattle.vt_places.proofs.RefusalLemmas as refusal
 use Rattle.vt_places.proofs.station.Station.take_out.Goals as goal
 
-pub take_records-requires-clause-held : goal.take_records-requires-clause-held
-take_records-requires-clause-held g c κs within = (_, (c.if-not-claim_book.ensures.claimed refl).holds)
-
 pub returns-clause-shown : goal.returns-clause-shown
 returns-clause-shown g c =
-    let end = end_of c.args.self.now.table.shared.key.config in
     let t = c.if-not-claim_book.ensures.claimed refl in
-    let d = c.take_records.ensures in
-    let same = sym (book-is t d.1) in
-    (book_floor end d.0, refusal.records-shown t.known [] c.args.place.seat.me.0.part refl t.lawful (book_floor end d.0) c.take_records.result.items (ap (book_floor end) same) (d.2 ∙ ap (book_records end) same))
+    let value = c.slot_mut-held.ensures.value ∙ ap (λ s. (c.args.self.now.workers + 1, s) ∷ rest c.claim_book.new.seat.me.1) (sym c.replace.ensures.value ∙ c.in-Book.is) in
+    let is = run-book t value in
+    let book = c.in-Book.book in
+    (book_floor book.end book.book, refusal.records-shown t.known [] c.args.place.seat.me.0.part refl t.lawful (book_floor book.end book.book) c.into_records.result.items (ap (λ (b : RunBook). book_floor b.end b.book) is) (c.into_records.ensures ∙ ap (λ (b : RunBook). book_records b.end b.book) is))
