@@ -19,7 +19,7 @@ use Rattle.vt_places.specs.declared.view.View.{View}
 use Rattle.vt_places.specs.Hands.{Hand, holding}
 use Rattle.vt_places.specs.Slots.{held_in}
 use Rattle.vt_places.specs.Kept.{Sat, Rests}
-use Rattle.vt_places.specs.Calls.{Unvisited, Known, Took, TookThere, Holding, IsDoneAt, Closes, Visited}
+use Rattle.vt_places.specs.Calls.{Unvisited, Known, Took, TookThere, Holding, IsDoneAt, Closes, Visited, Stays}
 use Rattle.vt_places.proofs.Cells.{inbox-name, board-name, book-name, inbox-holds, board-holds, book-holds}
 
 -- a view that differs in its hand alone
@@ -35,6 +35,10 @@ module _ {P : Type 0} where
         floor = x.floor;
         rests = x.rests;
       }
+
+  -- a seat whose cell was given back unchanged, and that was shown nothing
+  pub stays-held : (v w : View P) (after : View P) → WithHand v w → Unvisited w w.seen after → Stays v after
+  stays-held v w after h r = let x = unvisited-held v w w.seen after h r in (x.steps, x.floor ∙ ap (λ (y : View P). y.seen) h.1)
 
 -- what a place knows, and what it did, it knows and did whatever it holds
 module _ {S P : Type 0} (sim : Simulation S P) (v : View P) (hand : Hand P) where

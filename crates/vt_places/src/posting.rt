@@ -1,21 +1,14 @@
 //! Mail between workers: post and fetch.
 
-ghost use Rattle.std.specs.Prelude.{◌≡◌, ◌≤◌, ◌<◌, ◌+◌, List, [], true, false, length, IfOk, IfErr, MatchResult};
-ghost use Rattle.vt_key.specs.declared.letter.Mail.{Mail};
-ghost use Rattle.vt_key.specs.declared.limits.TheConstants.{MAX_COUNT};
-ghost use Rattle.vt_model.specs.Handler.{Handlers};
+ghost use Rattle.std.specs.Prelude.{◌≡◌, ◌<◌, true, false, IfErr, MatchResult};
 ghost use Rattle.vt_model.specs.Simulation.{simulation_of};
 ghost use Rattle.vt_steps.specs.declared.step.Step.TheVariants as step;
 ghost use Rattle.vt_steps.specs.declared.step.Reply.TheVariants as reply;
 ghost use Rattle.vt_steps.specs.World.{Part};
-ghost use Rattle.vt_steps.specs.Cells.{in_inbox};
 ghost use Rattle.vt_steps.specs.Letters.{is_empty};
 ghost use Rattle.vt_kernel.specs.Held.{StandsFor};
-ghost use Rattle.vt_kernel.specs.Guards.{IsSendRefusal};
-ghost use Rattle.vt_cells.specs.Calls.{Acts, IsTakeRefusal};
-ghost use Rattle.vt_places.specs.Slots.{cell_count};
 ghost use Rattle.vt_places.specs.Kept.{Rests};
-ghost use Rattle.vt_places.specs.Calls.{Holding, Reaches, Visited, Stays, IsPostRefusal, IsFetchRefusal};
+ghost use Rattle.vt_places.specs.Calls.{Reaches, Visited, Stays, IsPostRefusal, IsFetchRefusal};
 
 use crate::slot::Slot;
 use crate::station::{Seat, Station, Visit};
@@ -25,59 +18,6 @@ use vt_kernel::Kernel;
 use vt_key::Fault;
 use vt_model::Model as EventModel;
 use vt_steps::{Reply, Step};
-
-impl<M: EventModel> Station<M> {
-    /// Moves the letters of a kernel for worker `v` into the inbox of `v`, which is claimed.
-    fn put_letters(
-        &self,
-        seat: &mut Seat<M>,
-        kernel: &mut Kernel<M>,
-        v: u32,
-    ) -> Result<Reply, Fault>
-        requires table { seat.old.table_id ≡ self.now.table.shared.table_id }
-        requires held { (mails : List (Mail _)) × Holding self.now.table.shared.key.config seat.old.me v (in_inbox mails) (in_inbox mails) }
-        requires config { kernel.old.config ≡ self.now.table.shared.key.config }
-        ensures same { (seat.new.table_id ≡ seat.old.table_id) × (seat.new.id ≡ seat.old.id) × (seat.new.me.0 ≡ seat.old.me.0) }
-        ensures done { let key = self.now.table.shared.key in (mails : List (Mail _)) × (left : List (Mail _)) × MatchResult result
-            (λ r. Holding key.config seat.new.me v (in_inbox mails) (in_inbox left) × Acts (M.handlers key.model.value) key.config (step.Send kernel.old.worker v) r kernel.old (in_inbox mails) kernel.new (in_inbox left))
-            (λ _. Holding key.config seat.new.me v (in_inbox mails) (in_inbox mails) × (kernel.new ≡ kernel.old)) }
-        ensures reply { IfOk result (λ r. r ≡ reply.Done) }
-        ensures refused { let key = self.now.table.shared.key in (part : Part _) → StandsFor (M.handlers key.model.value) kernel.old part → IfErr result (λ fault. IsSendRefusal (simulation_of (M.handlers key.model.value) kernel.old.config) kernel.old.worker v part fault) }
-    {
-        let held = seat.slot_mut(&self.table.shared, v as usize);
-        let Slot::Inbox(mails) = held else {
-            unreachable!()
-        };
-        send(kernel, v, mails)
-    }
-}
-
-impl<M: EventModel> Station<M> {
-    /// Moves the mail of a worker's inbox, which is claimed, to its kernel.
-    fn take_letters(
-        &self,
-        seat: &mut Seat<M>,
-        kernel: &mut Kernel<M>,
-        worker: u32,
-    ) -> Result<Reply, Fault>
-        requires table { seat.old.table_id ≡ self.now.table.shared.table_id }
-        requires held { (mails : List (Mail _)) × Holding self.now.table.shared.key.config seat.old.me worker (in_inbox mails) (in_inbox mails) }
-        requires config { kernel.old.config ≡ self.now.table.shared.key.config }
-        requires worker { kernel.old.worker ≡ worker }
-        ensures same { (seat.new.table_id ≡ seat.old.table_id) × (seat.new.id ≡ seat.old.id) × (seat.new.me.0 ≡ seat.old.me.0) }
-        ensures done { let key = self.now.table.shared.key in (mails : List (Mail _)) × MatchResult result
-            (λ r. Holding key.config seat.new.me worker (in_inbox mails) (in_inbox []) × Acts (M.handlers key.model.value) key.config (step.Fetch worker) r kernel.old (in_inbox mails) kernel.new (in_inbox []))
-            (λ _. Holding key.config seat.new.me worker (in_inbox mails) (in_inbox mails) × (kernel.new ≡ kernel.old)) }
-        ensures reply { IfOk result (λ r. r ≡ reply.Done) }
-        ensures refused { (mails : List (Mail _)) → Holding self.now.table.shared.key.config seat.old.me worker (in_inbox mails) (in_inbox mails) → IfErr result (λ fault. IsTakeRefusal kernel.old.arrived kernel.old.got mails fault) }
-    {
-        let held = seat.slot_mut(&self.table.shared, worker as usize);
-        let Slot::Inbox(mails) = held else {
-            unreachable!()
-        };
-        fetch(kernel, mails)
-    }
-}
 
 impl<M: EventModel> Station<M> {
     /// Sends a worker's letters for worker `v` to the inbox of `v`.
@@ -103,7 +43,11 @@ impl<M: EventModel> Station<M> {
             return Err(Fault::Busy);
         }
         let before = Snapshot::of(kernel);
-        match self.put_letters(seat, kernel, v) {
+        let held = seat.slot_mut(&self.table.shared, v as usize);
+        let Slot::Inbox(mails) = held else {
+            unreachable!()
+        };
+        match send(kernel, v, mails) {
             Ok(reply) => {
                 let visit = Visit {
                     step: Step::Send(worker, v),
@@ -170,7 +114,11 @@ impl<M: EventModel> Station<M> {
             return Err(Fault::Busy);
         }
         let before = Snapshot::of(kernel);
-        match self.take_letters(seat, kernel, worker) {
+        let held = seat.slot_mut(&self.table.shared, worker as usize);
+        let Slot::Inbox(mails) = held else {
+            unreachable!()
+        };
+        match fetch(kernel, mails) {
             Ok(reply) => {
                 let visit = Visit {
                     step: Step::Fetch(worker),

@@ -1,30 +1,68 @@
-use Rattle.std.proofs.Common.{refl, sym, subst, ◌∙◌}
+use Rattle.std.proofs.Common.{ℕ, ◌∷◌, refl, sym, ap, subst, ◌∙◌}
+use Rattle.atomic_table.specs.Table.{rest}
+use Rattle.vt_model.specs.declared.settings.Config.{Config}
 use Rattle.vt_model.specs.Simulation.{simulation_of}
+use Rattle.vt_model.specs.Settings.{end_of}
 use Rattle.vt_steps.specs.declared.step.Step.TheVariants.{Cut}
 use Rattle.vt_steps.specs.declared.step.Reply.TheVariants.{Done}
-use Rattle.vt_steps.specs.Cells.{on_board}
-use Rattle.vt_steps.specs.Marked.{shown}
-use Rattle.vt_cells.specs.Calls.{IsCellRefusal}
-use Rattle.vt_places.proofs.CallLemmas.{visited-there}
+use Rattle.vt_steps.specs.Cells.{Cell, on_board}
+use Rattle.vt_kernel.specs.Held.{HeldWorker}
+use Rattle.vt_cells.specs.Calls.{Acts, IsCellRefusal}
+use Rattle.vt_places.specs.declared.slot.Slot.TheVariants as slot
+use Rattle.vt_places.proofs.HeldLemmas.{found-is, found-right, puts}
+use Rattle.vt_places.proofs.CallLemmas.{visited-there, stays-held}
 use Rattle.vt_places.proofs.RefusalLemmas.{cut-refused}
 use Rattle.vt_places.proofs.station.Station.cut_at.Goals as goal
 
-pub cut_board-requires-clause-held : goal.cut_board-requires-clause-held
-cut_board-requires-clause-held g c κs within = (_, (c.if-not-claim_board.ensures.claimed refl).holds)
+pub cut-requires-clause-end : goal.cut-requires-clause-end
+cut-requires-clause-end g c κs within =
+    let value = c.slot_mut-held.ensures.value ∙ ap (λ s. (c.args.self.now.workers, s) ∷ rest c.claim_board.new.seat.me.1) c.in-Board.is in
+    found-right (c.if-not-claim_board.ensures.claimed refl).holds (slot.Board c.in-Board.board) value ∙ ap (λ (f : Config). end_of f) (sym c.requires.kernel.config_is)
 
-pub returns-in-Err-clause-refused : goal.returns-in-Err-clause-refused
-returns-in-Err-clause-refused g c =
+pub release_visit-requires-clause-held : goal.release_visit-requires-clause-held
+release_visit-requires-clause-held g c κs within =
     let key = c.args.self.now.table.shared.key in
-    let sim = simulation_of (g.M.Model.handlers key.model.value) key.config in
+    let H = g.M.Model.handlers key.model.value in
     let t = c.if-not-claim_board.ensures.claimed refl in
-    let board = (shown sim t.known.log).board in
-    let r = c.requires.kernel in
-    cut-refused t.known r.steps r.part r.led t.lawful c.in-Err.fault
-    (subst (λ w. IsCellRefusal sim (Cut w) r.part (on_board board) c.in-Err.fault) (sym c.requires.worker) (c.in-Err.ensures.refused board t.holds r.part r.stands))
+    let value = c.slot_mut-held.ensures.value ∙ ap (λ s. (c.args.self.now.workers, s) ∷ rest c.claim_board.new.seat.me.1) c.in-Board.is in
+    let old = c.in-Board.board in
+    let new = c.cut.new.board in
+    let ok = c.in-Ok.ensures in (
+      on_board old.board,
+      on_board new.board,
+      puts t.holds (slot.Board old) value (slot.Board new) refl (ok.end ∙ found-right t.holds (slot.Board old) value),
+      subst (λ (x : Config × HeldWorker _ _ _ × HeldWorker _ _ _). Acts H x.0 (Cut c.args.worker) c.in-Ok.reply x.1 (on_board old.board) x.2 (on_board new.board)) (λ i. (c.requires.kernel.config_is i, sym c.of-before.ensures i, sym c.of.ensures i)) (ok.step H).done,
+    )
+
+pub release_unchanged-requires-clause-held : goal.release_unchanged-requires-clause-held
+release_unchanged-requires-clause-held g c κs within =
+    let H = g.M.Model.handlers c.args.self.now.table.shared.key.model.value in
+    let t = c.if-not-claim_board.ensures.claimed refl in
+    let value = c.slot_mut-held.ensures.value ∙ ap (λ s. (c.args.self.now.workers, s) ∷ rest c.claim_board.new.seat.me.1) c.in-Board.is in
+    let old = slot.Board c.in-Board.board in
+    let why = c.in-Err.ensures in
+    (on_board c.in-Board.board.board, puts t.holds old value (slot.Board c.cut.new.board) (why.step H).unchanged.1 (why.end ∙ found-right t.holds old value), tt)
 
 pub returns-in-Ok-clause-done : goal.returns-in-Ok-clause-done
 returns-in-Ok-clause-done g c =
     let key = c.args.self.now.table.shared.key in
-    let place = (c.if-not-claim_board.ensures.claimed refl).place in
-    visited-there (g.M.Model.handlers key.model.value) key.config c.args.seat.now.me.0 c.cut_board.new.seat.me.0 c.of-before.result.value c.of.result.value (Cut c.args.worker) c.in-Ok.reply c.release_visit.new.seat.me.0
-    c.args.kernel.now c.cut_board.new.kernel Done (place.0, c.in-Ok.ensures.same.2 ∙ place.1) c.of-before.ensures c.of.ensures c.in-Ok.ensures.reply c.release_visit.ensures.done
+    let t = c.if-not-claim_board.ensures.claimed refl in
+    visited-there (g.M.Model.handlers key.model.value) key.config c.args.seat.now.me.0 c.claim_board.new.seat.me.0 c.of-before.result.value c.of.result.value (Cut c.args.worker) c.in-Ok.reply c.release_visit.new.seat.me.0
+    c.args.kernel.now c.cut.new.kernel Done t.place c.of-before.ensures c.of.ensures c.in-Ok.ensures.reply c.release_visit.ensures.done
+
+pub returns-in-Err-clause-refused : goal.returns-in-Err-clause-refused
+returns-in-Err-clause-refused g c =
+    let key = c.args.self.now.table.shared.key in
+    let H = g.M.Model.handlers key.model.value in
+    let t = c.if-not-claim_board.ensures.claimed refl in
+    let value = c.slot_mut-held.ensures.value ∙ ap (λ s. (c.args.self.now.workers, s) ∷ rest c.claim_board.new.seat.me.1) c.in-Board.is in
+    let r = c.requires.kernel in
+    cut-refused t.known r.steps r.part r.led t.lawful c.in-Err.fault
+    (subst (λ (x : Config × ℕ × Cell _). IsCellRefusal (simulation_of H x.0) (Cut x.1) r.part x.2 c.in-Err.fault) (λ i. (r.config_is i, sym c.requires.worker i, found-is t.holds (slot.Board c.in-Board.board) value i))
+    ((c.in-Err.ensures.step H).refused r.part r.stands))
+
+pub returns-in-Err-clause-done : goal.returns-in-Err-clause-done
+returns-in-Err-clause-done g c =
+    let H = g.M.Model.handlers c.args.self.now.table.shared.key.model.value in
+    let t = c.if-not-claim_board.ensures.claimed refl in
+    (stays-held c.args.seat.now.me.0 c.claim_board.new.seat.me.0 c.release_unchanged.new.seat.me.0 t.place c.release_unchanged.ensures.stays, (c.in-Err.ensures.step H).unchanged.0)
