@@ -8,8 +8,6 @@ mod clearing;
 mod meter;
 mod reading;
 mod terminal;
-#[cfg(test)]
-mod tests;
 
 pub use clearing::Clearing;
 pub use meter::Meter;

@@ -2,5 +2,6 @@
 
 mod calls;
 mod finals;
+mod lines;
 mod running;
 mod watching;

@@ -1,8 +1,8 @@
-//! The texts of the lines. They are written down here by hand.
+//! The lines that tell of a run, as they are written down by hand.
 
-use crate::reading::{Reading, last_line, line};
 use std::rt::{self, HostRuntime};
 use std::test::Fail;
+use vt_meter::{Reading, last_line, line};
 
 fn reading(tick: u64, on_workers: bool, executed: u64, undone: u64) -> Reading {
     Reading {
