@@ -15,3 +15,5 @@ pub mod Opening
 pub mod BookAt
 pub mod RefusalLemmas
 pub mod ReachLemmas
+pub mod WorkLemmas
+pub mod FinalLemmas

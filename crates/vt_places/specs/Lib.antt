@@ -5,3 +5,4 @@ pub mod Told
 pub mod Calls
 pub mod Commits
 pub mod Making
+pub mod AtWork

@@ -23,15 +23,6 @@ use vt_kernel::Kernel;
 use vt_key::Fault;
 use vt_model::{Model as EventModel, Record};
 
-impl<P> Place<P> {
-    /// The number of the worker whose place it is.
-    pub fn worker(&self) -> u32
-        ensures { result ≡ place_worker self.now }
-    {
-        self.worker
-    }
-}
-
 impl<M: EventModel> Station<M> {
     /// Sends the kernel's letters for processes of worker `v` to the inbox of `v`.
     ///
@@ -166,7 +157,7 @@ impl<M: EventModel> Station<M> {
 
     /// Reads one word of the table and changes nothing. The read tells contracts that some list of steps leads to a world in
     /// which the part of the place's worker is what the place knows.
-    pub fn look(&self, place: &mut Place<M::Payload>)
+    pub(crate) fn look(&self, place: &mut Place<M::Payload>)
         requires own { place_table place.old ≡ station_table self.now }
         ensures same { (place_table place.new ≡ place_table place.old) × (place_worker place.new ≡ place_worker place.old) }
         ensures unchanged { place_view place.new ≡ place_view place.old }

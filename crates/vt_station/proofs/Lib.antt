@@ -1,3 +1,1 @@
-pub mod WorkLemmas
-pub mod FinalLemmas
 pub mod CrewLemmas

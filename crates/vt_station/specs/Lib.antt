@@ -1,3 +1,2 @@
-pub mod AtWork
 pub mod Turns
 pub mod Crew

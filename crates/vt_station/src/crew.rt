@@ -17,7 +17,6 @@ ghost use Rattle.vt_station.specs.Crew.{IsSameJob, IsSameWork, AllAt, AreInOrder
 use crate::bell::{Bells, Start};
 use crate::driver::{Driver, Outcome, Wanted};
 use crate::watch::Watch;
-use crate::worker::{NotMade, Worker};
 use std::alloc::Global;
 use std::marker::Model;
 use std::sync::Wait;
@@ -25,7 +24,7 @@ use std::thread;
 use std::thread::Threads;
 use vt_key::Fault;
 use vt_model::{Config, Model as EventModel, Record};
-use vt_places::{Place, Station};
+use vt_places::{NotMade, Place, Station, Worker};
 
 /// A run that stopped before its end: why, and the records that were committed, a beginning of all.
 #[derive(Drop)]

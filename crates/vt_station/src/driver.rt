@@ -4,13 +4,12 @@ ghost use Rattle.std.specs.Prelude.{◌≡◌, ◌<◌, ◌≤◌, ◌⊎◌, su
 ghost use Rattle.vt_model.specs.Simulation.{simulation_of};
 ghost use Rattle.vt_steps.specs.Finals.{worker_finals};
 ghost use Rattle.vt_places.specs.Told.{place_table, place_view};
-ghost use Rattle.vt_station.specs.AtWork.{IsAtSamePlace, IsAtSameStation};
+ghost use Rattle.vt_places.specs.AtWork.{IsAtSamePlace, IsAtSameStation};
 ghost use Rattle.vt_station.specs.Turns.{IsLasting, IsPassedOver, HasEnded};
 
 use crate::bell::Bells;
 use crate::pace::Pace;
 use crate::watch::{Progress, Watch};
-use crate::worker::Worker;
 use std::alloc::Global;
 use std::hint::spin_loop;
 use std::sync::Wait;
@@ -18,7 +17,7 @@ use std::thread::yield_now;
 use vt_board::Report;
 use vt_key::{Fault, When};
 use vt_model::{Model as EventModel, Out};
-use vt_places::Place;
+use vt_places::{Place, Worker};
 
 /// How often in a row a worker tries again at once after it found a cell claimed by another place. Then it yields its
 /// processor.

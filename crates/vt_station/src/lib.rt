@@ -6,9 +6,7 @@ mod crew;
 mod driver;
 mod pace;
 mod watch;
-mod worker;
 
 pub use crew::{Finished, Stopped, run_workers, run_workers_to_finals};
-pub use vt_places::{Place, Station, places_tell_the_list};
+pub use vt_places::{NotMade, Place, Station, Worker, places_tell_the_list};
 pub use watch::{Progress, Unwatched, Watch};
-pub use worker::{NotMade, Worker};

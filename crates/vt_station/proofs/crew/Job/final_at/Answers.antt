@@ -4,7 +4,7 @@ use Rattle.std.proofs.lemmas.Option.{slice_get_read}
 use Rattle.vt_model.specs.Simulation.{simulation_of}
 use Rattle.vt_steps.specs.Finals.{final_value}
 use Rattle.vt_station.specs.Crew.{AtJob}
-use Rattle.vt_station.proofs.FinalLemmas.{final-at, finals-there}
+use Rattle.vt_places.proofs.FinalLemmas.{final-at, finals-there}
 use Rattle.vt_station.proofs.crew.Job.final_at.Goals as goal
 
 pub returns : goal.returns

@@ -6,7 +6,7 @@ use Rattle.vt_places.specs.declared.place.Place.{Place}
 use Rattle.vt_places.specs.declared.view.View.{View}
 use Rattle.vt_station.specs.Crew.{AtJob, IsLeft}
 use Rattle.vt_station.specs.Turns.{HasEnded}
-use Rattle.vt_station.proofs.FinalLemmas.{finals-told}
+use Rattle.vt_places.proofs.FinalLemmas.{finals-told}
 use Rattle.vt_station.proofs.crew.Job.work.Goals as goal
 
 pub invariant_of-self-in-Ok-2 : goal.invariant_of-self-in-Ok-2

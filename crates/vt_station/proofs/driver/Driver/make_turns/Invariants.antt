@@ -1,4 +1,4 @@
-use Rattle.vt_station.specs.AtWork.{IsAtSameStation}
+use Rattle.vt_places.specs.AtWork.{IsAtSameStation}
 use Rattle.vt_station.proofs.driver.Driver.make_turns.Given as goal
 
 abbrev pub invariant-loop-turn : goal.invariant-loop-turn

@@ -1,0 +1,8 @@
+use Rattle.vt_places.proofs.WorkLemmas.{kernel-ready, called-at-work}
+use Rattle.vt_places.proofs.worker.Worker.fetch.Goals as goal
+
+pub invariant_of-self : goal.invariant_of-self
+invariant_of-self g c = called-at-work c.self.invariant c.fetch.ensures.same.0 c.fetch.ensures.ready
+
+pub fetch-requires-clause-kernel : goal.fetch-requires-clause-kernel
+fetch-requires-clause-kernel g c κs within = kernel-ready c.self.invariant

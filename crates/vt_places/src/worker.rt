@@ -1,0 +1,335 @@
+//! A worker at its place: the station's calls and the kernel's local steps together.
+
+ghost use Rattle.std.specs.Prelude.{◌≡◌, ◌<◌, false, None, Err, IfOk, IfErr, MatchResult};
+ghost use Rattle.vt_key.specs.Times.{Time, TimeAtMost, TimeBefore};
+ghost use Rattle.vt_key.specs.declared.fault.Fault.TheVariants.{Memory, NotLawful};
+ghost use Rattle.vt_model.specs.Simulation.{simulation_of};
+ghost use Rattle.vt_model.specs.Settings.{end_of};
+ghost use Rattle.vt_steps.specs.World.{Part, opening_part};
+ghost use Rattle.vt_steps.specs.Finals.{worker_finals};
+ghost use Rattle.vt_steps.specs.Letters.{is_empty};
+ghost use Rattle.vt_steps.specs.CellSteps.{may_send};
+ghost use Rattle.vt_steps.specs.declared.step.Step.TheVariants as step;
+ghost use Rattle.vt_steps.specs.declared.step.Reply.TheVariants as reply;
+ghost use Rattle.vt_board.specs.Calls.{reply_of};
+ghost use Rattle.vt_kernel.specs.Held.{StandsFor};
+ghost use Rattle.vt_kernel.specs.Local.{local_step};
+ghost use Rattle.vt_kernel.specs.Guards.{IsDone, IsExecuteRefusal, IsAcceptRefusal, SettlesTo};
+ghost use Rattle.vt_places.specs.Told.{station_model, station_config, station_table, place_table, place_view};
+ghost use Rattle.vt_places.specs.Making.{IsNew};
+ghost use Rattle.vt_places.specs.Calls.{Visited, Closes, Unvisited, Stays, ShowsFloor, IsPostRefusal, IsFetchRefusal, IsCutRefusal, IsReportRefusal, IsCommitRefusal, IsCloseRefusal, IsRecordsRefusal, IsFloorLeft, AreRecordsShown, IsRefusedOnceClosed};
+ghost use Rattle.vt_places.specs.AtWork.{IsAtSamePlace, IsAtSameStation};
+
+use crate::place::Place;
+use crate::station::Station;
+use std::alloc::Global;
+use std::marker::Model;
+use vt_board::Report;
+use vt_kernel::Kernel;
+use vt_key::{Fault, Stamp, When};
+use vt_model::{Config, Model as EventModel, Out, Record};
+
+/// A worker: a kernel, and the place at a station by which it acts there.
+///
+/// The type guarantees that the kernel is what local steps make of the worker's part after the place's last visit.
+#[derive(Drop)]
+pub struct Worker<'a, M: EventModel> {
+    alloc: Global,
+    station: &'a Station<M>,
+    model: &'a M,
+    config: Config,
+    place: Place<M::Payload>,
+    kernel: Kernel<M>,
+}
+
+impl<'a, M: EventModel> Model for Worker<'a, M> {
+    ghost use Rattle.vt_places.specs.Told.{station_model, station_config, station_table, place_table, place_view};
+    ghost use Rattle.vt_places.specs.AtWork.{AtWork, IsAtWork};
+
+    ghost Value = { AtWork M M.State M.Payload M.Kept };
+
+    ghost view = { λ w. record {
+      model = w.model.now;
+      config = station_config w.station.now;
+      table = station_table w.station.now;
+      view = place_view w.place;
+      kernel = w.kernel;
+    } };
+
+    ghost invariant = { λ w. IsAtWork M.handlers (station_model w.station.now) w.config (place_table w.place) (record {
+      model = w.model.now;
+      config = station_config w.station.now;
+      table = station_table w.station.now;
+      view = place_view w.place;
+      kernel = w.kernel;
+    }) };
+}
+
+/// Why a worker could not be made, and its place.
+#[derive(Drop)]
+pub struct NotMade<P> {
+    /// [`Fault::Memory`]: memory was refused.
+    pub fault: Fault,
+    /// The place, unchanged.
+    pub place: Place<P>,
+}
+
+impl<'a, M: EventModel> Worker<'a, M> {
+    /// Worker `w` with its kernel at the opening, at the place that the station made for it.
+    ///
+    /// [`NotMade`]: memory was refused.
+    pub fn new(
+        alloc: Global,
+        station: &'a Station<M>,
+        model: &'a M,
+        config: Config,
+        w: u32,
+        place: Place<M::Payload>,
+    ) -> Result<Worker<'a, M>, NotMade<M::Payload>>
+        requires known { w < config.workers }
+        requires told { (station_model station.now ≡ model.now) × (station_config station.now ≡ config) }
+        requires place { IsNew (simulation_of (M.handlers model.now) config) (station_table station.now) w place }
+        ensures made { IfOk result (λ made. (made.model ≡ model.now) × (made.config ≡ config) × (made.table ≡ station_table station.now)
+            × (made.view ≡ place_view place) × (made.kernel.worker ≡ w) × StandsFor (M.handlers model.now) made.kernel (opening_part (simulation_of (M.handlers model.now) config) 0 w)) }
+        ensures refused { IfErr result (λ not. (not.fault ≡ Memory) × (not.place ≡ place)) }
+    {
+        match Kernel::new(alloc, model, config, w) {
+            Ok(kernel) => Ok(Worker {
+                alloc,
+                station,
+                model,
+                config,
+                place,
+                kernel,
+            }),
+            Err(fault) => Err(NotMade { fault, place }),
+        }
+    }
+
+    /// Drops the worker's kernel and returns its place.
+    pub fn leave(self) -> Place<M::Payload>
+        ensures table { place_table result ≡ self.entry.table }
+        ensures view { place_view result ≡ self.entry.view }
+    {
+        self.place
+    }
+
+    /// The number of the worker.
+    pub fn number(&self) -> u32
+        ensures { result ≡ self.now.kernel.worker }
+    {
+        self.place.worker
+    }
+
+    /// The config of the run.
+    pub fn config(&self) -> Config
+        ensures { result ≡ self.now.config }
+    {
+        self.config
+    }
+}
+
+impl<'a, M: EventModel> Worker<'a, M> {
+    /// Executes the least pending event of process `lp`.
+    ///
+    /// [`Fault`]: as [`Kernel::execute`] says; the worker is unchanged.
+    pub fn execute(&mut self, lp: u32) -> Result<(), Fault>
+        ensures place { IsAtSamePlace self.old self.new }
+        ensures done { (part : Part _) → StandsFor (M.handlers self.old.model) self.old.kernel part → IfOk result (λ done. IsDone (M.handlers self.old.model) self.new.kernel (local_step (simulation_of (M.handlers self.old.model) self.old.kernel.config) self.old.kernel.worker (step.Execute lp) part)) }
+        ensures refused { (part : Part _) → StandsFor (M.handlers self.old.model) self.old.kernel part → IfErr result (λ fault. IsExecuteRefusal (simulation_of (M.handlers self.old.model) self.old.kernel.config) lp (local_step (simulation_of (M.handlers self.old.model) self.old.kernel.config) self.old.kernel.worker (step.Execute lp) part) fault) }
+        ensures kept { (part : Part _) → StandsFor (M.handlers self.old.model) self.old.kernel part → IfErr result (λ _. self.new.kernel ≡ self.old.kernel) }
+    {
+        let mut out = Out::new(self.config, 0, When::tick(0), 0);
+        self.execute_reusing(lp, &mut out)
+    }
+
+    /// As [`Worker::execute`], with an `out` that the caller lends, as [`Kernel::execute_reusing`] says.
+    pub fn execute_reusing(&mut self, lp: u32, out: &mut Out<M::Payload>) -> Result<(), Fault>
+        ensures place { IsAtSamePlace self.old self.new }
+        ensures done { (part : Part _) → StandsFor (M.handlers self.old.model) self.old.kernel part → IfOk result (λ done. IsDone (M.handlers self.old.model) self.new.kernel (local_step (simulation_of (M.handlers self.old.model) self.old.kernel.config) self.old.kernel.worker (step.Execute lp) part)) }
+        ensures refused { (part : Part _) → StandsFor (M.handlers self.old.model) self.old.kernel part → IfErr result (λ fault. IsExecuteRefusal (simulation_of (M.handlers self.old.model) self.old.kernel.config) lp (local_step (simulation_of (M.handlers self.old.model) self.old.kernel.config) self.old.kernel.worker (step.Execute lp) part) fault) }
+        ensures kept { (part : Part _) → StandsFor (M.handlers self.old.model) self.old.kernel part → IfErr result (λ _. self.new.kernel ≡ self.old.kernel) }
+    {
+        self.kernel.execute_reusing(self.alloc, self.model, lp, out)
+    }
+
+    /// Undoes the last past event of process `lp`.
+    ///
+    /// [`Fault::NotLawful`]: as [`Kernel::undo`] says; the worker is unchanged.
+    pub fn undo(&mut self, lp: u32) -> Result<(), Fault>
+        ensures place { IsAtSamePlace self.old self.new }
+        ensures done { (part : Part _) → StandsFor (M.handlers self.old.model) self.old.kernel part → IfOk result (λ done. IsDone (M.handlers self.old.model) self.new.kernel (local_step (simulation_of (M.handlers self.old.model) self.old.kernel.config) self.old.kernel.worker (step.Undo lp) part)) }
+        ensures refused { (part : Part _) → StandsFor (M.handlers self.old.model) self.old.kernel part → IfErr result (λ _. local_step (simulation_of (M.handlers self.old.model) self.old.kernel.config) self.old.kernel.worker (step.Undo lp) part ≡ None) }
+        ensures kept { IfErr result (λ fault. (fault ≡ NotLawful) × (self.new.kernel ≡ self.old.kernel)) }
+    {
+        self.kernel.undo(self.model, lp)
+    }
+
+    /// Annihilates the message and the anti-message of this stamp at process `lp`.
+    ///
+    /// [`Fault::NotLawful`]: as [`Kernel::cancel`] says; the worker is unchanged.
+    pub fn cancel(&mut self, lp: u32, stamp: Stamp) -> Result<(), Fault>
+        ensures place { IsAtSamePlace self.old self.new }
+        ensures done { (part : Part _) → StandsFor (M.handlers self.old.model) self.old.kernel part → IfOk result (λ done. IsDone (M.handlers self.old.model) self.new.kernel (local_step (simulation_of (M.handlers self.old.model) self.old.kernel.config) self.old.kernel.worker (step.Cancel lp stamp) part)) }
+        ensures refused { (part : Part _) → StandsFor (M.handlers self.old.model) self.old.kernel part → IfErr result (λ _. local_step (simulation_of (M.handlers self.old.model) self.old.kernel.config) self.old.kernel.worker (step.Cancel lp stamp) part ≡ None) }
+        ensures kept { IfErr result (λ fault. (fault ≡ NotLawful) × (self.new.kernel ≡ self.old.kernel)) }
+    {
+        self.kernel.cancel(lp, stamp)
+    }
+
+    /// Takes the first letter of the outbox that is for a process of this worker to it.
+    ///
+    /// [`Fault::NotLawful`]: there is none, or its process holds it already; the worker is unchanged.
+    pub fn home(&mut self) -> Result<(), Fault>
+        ensures place { IsAtSamePlace self.old self.new }
+        ensures done { (part : Part _) → StandsFor (M.handlers self.old.model) self.old.kernel part → IfOk result (λ done. IsDone (M.handlers self.old.model) self.new.kernel (local_step (simulation_of (M.handlers self.old.model) self.old.kernel.config) self.old.kernel.worker (step.Home self.old.kernel.worker) part)) }
+        ensures refused { (part : Part _) → StandsFor (M.handlers self.old.model) self.old.kernel part → IfErr result (λ _. local_step (simulation_of (M.handlers self.old.model) self.old.kernel.config) self.old.kernel.worker (step.Home self.old.kernel.worker) part ≡ None) }
+        ensures kept { IfErr result (λ fault. (fault ≡ NotLawful) × (self.new.kernel ≡ self.old.kernel)) }
+    {
+        self.kernel.home()
+    }
+
+    /// Takes the letter at index `i`, from 0, of the mail that has arrived to its process.
+    ///
+    /// [`Fault`]: as [`Kernel::accept`] says; the worker is unchanged.
+    pub fn accept(&mut self, i: u64) -> Result<(), Fault>
+        ensures place { IsAtSamePlace self.old self.new }
+        ensures done { (part : Part _) → StandsFor (M.handlers self.old.model) self.old.kernel part → IfOk result (λ done. IsDone (M.handlers self.old.model) self.new.kernel (local_step (simulation_of (M.handlers self.old.model) self.old.kernel.config) self.old.kernel.worker (step.Accept self.old.kernel.worker i) part)) }
+        ensures refused { (part : Part _) → StandsFor (M.handlers self.old.model) self.old.kernel part → IfErr result (λ fault. IsAcceptRefusal (local_step (simulation_of (M.handlers self.old.model) self.old.kernel.config) self.old.kernel.worker (step.Accept self.old.kernel.worker i) part) fault) }
+        ensures kept { IfErr result (λ _. self.new.kernel ≡ self.old.kernel) }
+    {
+        self.kernel.accept(self.alloc, i)
+    }
+
+    /// Undoes and cancels at process `lp` until neither is lawful there, and returns how many events it has undone, modulo 2^64.
+    pub fn settle(&mut self, lp: u32) -> u64
+        ensures place { IsAtSamePlace self.old self.new }
+        ensures settles { (part : Part _) → StandsFor (M.handlers self.old.model) self.old.kernel part → (new : Part _) × SettlesTo (simulation_of (M.handlers self.old.model) self.old.kernel.config) self.old.kernel.worker lp part new result × StandsFor (M.handlers self.old.model) self.new.kernel new }
+    {
+        self.kernel.settle(self.model, lp)
+    }
+}
+
+impl<'a, M: EventModel> Worker<'a, M> {
+    /// Sends all letters for processes of worker `v`.
+    ///
+    /// [`Fault`]: as [`Station::post`] says; the worker is unchanged.
+    pub fn post(&mut self, v: u32) -> Result<(), Fault>
+        ensures station { IsAtSameStation self.old self.new }
+        ensures done { MatchResult result
+            (λ _. Visited (M.handlers self.old.model) self.old.config self.old.view self.old.kernel (step.Send self.old.kernel.worker v) reply.Done self.new.kernel self.old.view.seen self.new.view)
+            (λ _. Stays self.old.view self.new.view × (self.new.kernel ≡ self.old.kernel)) }
+        ensures unlawful { (part : Part _) → StandsFor (M.handlers self.old.model) self.old.kernel part → may_send (simulation_of (M.handlers self.old.model) self.old.config) self.old.kernel.worker v part ≡ false → result ≡ Err NotLawful }
+        ensures refused { (part : Part _) → StandsFor (M.handlers self.old.model) self.old.kernel part → IfErr result (λ fault. IsPostRefusal (simulation_of (M.handlers self.old.model) self.old.config) self.old.kernel.worker v part fault) }
+    {
+        self.station.post(&mut self.place, &mut self.kernel, v)
+    }
+
+    /// Fetches the mail that was sent to this worker.
+    ///
+    /// [`Fault`]: as [`Station::fetch`] says; the worker is unchanged.
+    pub fn fetch(&mut self) -> Result<(), Fault>
+        ensures station { IsAtSameStation self.old self.new }
+        ensures done { MatchResult result
+            (λ _. Visited (M.handlers self.old.model) self.old.config self.old.view self.old.kernel (step.Fetch self.old.kernel.worker) reply.Done self.new.kernel self.old.view.seen self.new.view)
+            (λ _. Stays self.old.view self.new.view × (self.new.kernel ≡ self.old.kernel)) }
+        ensures unlawful { (part : Part _) → StandsFor (M.handlers self.old.model) self.old.kernel part → is_empty part.arrived ≡ false → result ≡ Err NotLawful }
+        ensures refused { (part : Part _) → StandsFor (M.handlers self.old.model) self.old.kernel part → IfErr result (λ fault. IsFetchRefusal (simulation_of (M.handlers self.old.model) self.old.config) self.old.view part fault) }
+    {
+        self.station.fetch(&mut self.place, &mut self.kernel)
+    }
+
+    /// Joins the open round of global virtual time; if none is open, it opens one.
+    ///
+    /// [`Fault`]: as [`Station::cut`] says; the worker is unchanged.
+    pub fn cut(&mut self) -> Result<(), Fault>
+        ensures station { IsAtSameStation self.old self.new }
+        ensures done { MatchResult result
+            (λ _. Visited (M.handlers self.old.model) self.old.config self.old.view self.old.kernel (step.Cut self.old.kernel.worker) reply.Done self.new.kernel self.old.view.seen self.new.view)
+            (λ _. Stays self.old.view self.new.view × (self.new.kernel ≡ self.old.kernel)) }
+        ensures refused { IfErr result (λ fault. IsCutRefusal (simulation_of (M.handlers self.old.model) self.old.config) self.old.view fault) }
+    {
+        self.station.cut(&mut self.place, &mut self.kernel)
+    }
+
+    /// Reports to the board, and returns the outcome.
+    ///
+    /// [`Fault`]: as [`Station::report`] says; the worker is unchanged.
+    pub fn report(&mut self) -> Result<Report, Fault>
+        ensures station { IsAtSameStation self.old self.new }
+        ensures done { MatchResult result
+            (λ report. Visited (M.handlers self.old.model) self.old.config self.old.view self.old.kernel (step.Report self.old.kernel.worker) (reply_of report) self.new.kernel self.old.view.seen self.new.view)
+            (λ _. Stays self.old.view self.new.view × (self.new.kernel ≡ self.old.kernel)) }
+        ensures refused { IfErr result (λ fault. IsReportRefusal (simulation_of (M.handlers self.old.model) self.old.config) self.old.view fault) }
+    {
+        self.station.report(&mut self.place, &mut self.kernel)
+    }
+
+    /// Hands the rows of the events below the worker's floor in to the book.
+    ///
+    /// [`Fault`]: as [`Station::commit`] says; the worker is unchanged.
+    pub fn commit(&mut self) -> Result<(), Fault>
+        ensures station { IsAtSameStation self.old self.new }
+        ensures done { MatchResult result
+            (λ _. (shown : Time) × (visited : Visited (M.handlers self.old.model) self.old.config self.old.view self.old.kernel (step.Commit self.old.kernel.worker) reply.Done self.new.kernel shown self.new.view)
+            × ShowsFloor (end_of self.old.config) shown visited.visits.at.now × IsFloorLeft (simulation_of (M.handlers self.old.model) self.old.config) self.old.view (step.Commit self.old.kernel.worker) shown)
+            (λ _. Stays self.old.view self.new.view × (self.new.kernel ≡ self.old.kernel)) }
+        ensures refused { IfErr result (λ fault. IsCommitRefusal (simulation_of (M.handlers self.old.model) self.old.config) self.old.view fault) }
+        ensures closed { IsRefusedOnceClosed self.old.view result }
+    {
+        self.station
+            .commit(self.alloc, &mut self.place, &mut self.kernel)
+    }
+
+    /// Closes the book.
+    ///
+    /// [`Fault`]: as [`Station::close`] says; the worker is unchanged.
+    pub fn close(&mut self) -> Result<(), Fault>
+        ensures station { IsAtSameStation self.old self.new }
+        ensures done { MatchResult result (λ _. Closes (simulation_of (M.handlers self.old.model) self.old.config) self.old.view (end_of self.old.config) self.new.view) (λ _. Stays self.old.view self.new.view) }
+        ensures kernel { self.new.kernel ≡ self.old.kernel }
+        ensures refused { IfErr result (λ fault. IsCloseRefusal (simulation_of (M.handlers self.old.model) self.old.config) self.old.view fault) }
+        ensures closed { IsRefusedOnceClosed self.old.view result }
+    {
+        self.station.close(&mut self.place)
+    }
+
+    /// The records that the book shows.
+    ///
+    /// [`Fault`]: as [`Station::records`] says; the worker is unchanged.
+    pub fn records(&mut self) -> Result<Vec<Record>, Fault>
+        ensures station { IsAtSameStation self.old self.new }
+        ensures kernel { self.new.kernel ≡ self.old.kernel }
+        ensures done { MatchResult result
+            (λ v. (floor : Time) × AreRecordsShown (simulation_of (M.handlers self.old.model) self.old.config) self.old.view floor v.items × Unvisited self.old.view floor self.new.view)
+            (λ _. Stays self.old.view self.new.view) }
+        ensures refused { IfErr result (λ fault. IsRecordsRefusal (simulation_of (M.handlers self.old.model) self.old.config) fault) }
+    {
+        self.station.records(self.alloc, &mut self.place)
+    }
+
+    /// The final value of each process of this worker, in rising order of processes: what the model's `finish` makes of the
+    /// state after the whole sequential run. The book may be open still.
+    ///
+    /// [`Fault::NotLawful`]: the worker's floor isn't the end of the run. [`Fault::Memory`]: it is, and memory was refused.
+    pub fn finals(&mut self) -> Result<Vec<u64>, Fault>
+        ensures place { IsAtSamePlace self.old self.new }
+        ensures kernel { self.new.kernel ≡ self.old.kernel }
+        ensures values { IfOk result (λ v. v.items ≡ worker_finals (simulation_of (M.handlers self.old.model) self.old.config) self.old.view.worker) }
+        ensures not_lawful { TimeBefore self.old.kernel.floor (end_of self.old.config) → result ≡ Err NotLawful }
+        ensures refused { TimeAtMost (end_of self.old.config) self.old.kernel.floor → IfErr result (λ fault. fault ≡ Memory) }
+    {
+        if self.kernel.floor() < self.config.end() {
+            return Err(Fault::NotLawful);
+        }
+        self.station.look(&mut self.place);
+        self.kernel.finals(self.alloc, self.model)
+    }
+
+    /// The worker's kernel, to be read.
+    pub fn kernel(&self) -> &Kernel<M>
+        ensures { result.now ≡ self.now.kernel }
+    {
+        &self.kernel
+    }
+}

@@ -1,8 +1,0 @@
-use Rattle.vt_station.proofs.WorkLemmas.{kernel-ready, called-at-work}
-use Rattle.vt_station.proofs.worker.Worker.cut.Goals as goal
-
-pub invariant_of-self : goal.invariant_of-self
-invariant_of-self g c = called-at-work c.self.invariant c.cut.ensures.same.0 c.cut.ensures.ready
-
-pub cut-requires-clause-kernel : goal.cut-requires-clause-kernel
-cut-requires-clause-kernel g c κs within = kernel-ready c.self.invariant
