@@ -7,6 +7,7 @@ ghost use Rattle.vt_text.specs.Records.{record_text, tail_text};
 ghost use Rattle.vt_text.specs.Writing.{AppendsBeginning, AppendsAllButHeld};
 
 use crate::{NUMBER_LEN, PRIORITY_LEN, Version, write_bytes};
+use itoa::write_digits;
 use std::io::Write;
 use std::marker::Model;
 use vt_key::Fault;
@@ -27,15 +28,7 @@ fn put_number(n: u64, text: &mut [u8], end: usize) -> usize
     ensures before { result ≤ end }
     ensures written { drop result text.new ≡ decimal n ++ drop end text.old }
 {
-    let mut left = n;
-    let mut at = end - 1;
-    while left >= 10 {
-        text[at] = b'0' + (left % 10) as u8;
-        left /= 10;
-        at -= 1;
-    }
-    text[at] = b'0' + left as u8;
-    at
+    write_digits(n, text, end)
 }
 
 /// Puts what ends the line of a record, which is its process, kind and value, at the end, and answers where it begins.
