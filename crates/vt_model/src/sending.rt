@@ -148,7 +148,6 @@ impl<P: Copy> Out<P> {
         delay > 0 || priority > self.time.priority()
     }
 
-    #[tactic(auto, using(crate::proofs::SendLemmas::sent_one, crate::proofs::SendLemmas::sent_none))]
     /// Sends `payload` to process `dest`, to be received `delay` ticks from now, with this priority; in a start, at tick
     /// `delay`. A send takes the next send number. If it would be received at the end of the run or later, it isn't sent.
     /// `dest` is below [`Out::lps`] and may be the handler's own process. The time of receipt is later than now
@@ -164,18 +163,10 @@ impl<P: Copy> Out<P> {
         if delay < self.end.ticks() - self.time.ticks() {
             let key = Key::new(self.time.after(delay, priority), self.lp, number);
             let sent = Sent { key, dest, payload };
-            match &mut self.sends {
-                Some(sends) => sends.push(sent),
-                None => {
-                    let mut sends = ArrayVec::new_in(sent);
-                    sends.push(sent);
-                    self.sends = Some(sends);
-                }
-            }
+            push_sent(&mut self.sends, sent);
         }
     }
 
-    #[tactic(auto, using(crate::proofs::SendLemmas::told))]
     /// Makes a record with this process and time. What `kind` stands for, the model says. There must be room
     /// ([`Out::emit_room`]).
     pub fn emit(&mut self, kind: u32, value: u64)
@@ -230,5 +221,20 @@ fn clear_sends<P: Copy>(sends: &mut Option<ArrayVec<Sent<P>, MAX_SENDS, Sent<P>>
 {
     if let Some(sends) = sends {
         sends.clear();
+    }
+}
+
+/// Adds a send behind the others, and makes their places if this is the first. There must be room for it.
+fn push_sent<P: Copy>(sends: &mut Option<ArrayVec<Sent<P>, MAX_SENDS, Sent<P>>>, sent: Sent<P>)
+    requires room { length (sends_held sends.old) < MAX_SENDS }
+    ensures { sends_held sends.new ≡ sends_held sends.old ++ sent ∷ [] }
+{
+    match sends {
+        Some(sends) => sends.push(sent),
+        None => {
+            let mut first = ArrayVec::new_in(sent);
+            first.push(sent);
+            *sends = Some(first);
+        }
     }
 }
