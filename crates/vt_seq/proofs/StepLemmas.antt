@@ -44,6 +44,12 @@ pub none_there : {X : Type 0} (xs : List X) → None ≡ slice_get xs 0 → xs �
 none_there [] h = refl
 none_there (y ∷ ys) h = absurd (cc)
 
+pub none_first : {X : Type 0} (xs : List X) → xs ≡ [] → None ≡ slice_get xs 0
+none_first xs h = ap (λ l. slice_get l 0) (sym h)
+
+pub not_both : {X : Type 0} (xs : List X) → xs ≡ [] → 0 < length xs → ⊥
+not_both xs h some = omega (arith, some, ap length h)
+
 module _ {P : Type 0} where
   pub among-at : (xs : List (Sent P)) (k : ℕ) (d : Sent P) → k < length xs → Among (slice_index_or xs k d) xs
   among-at [] k d l = absurd (omega (arith, l))

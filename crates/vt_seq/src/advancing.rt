@@ -104,7 +104,9 @@ fn join<P: Copy>(
     let Ok(()) = records.reserve(out.records().len()) else {
         return Err(Fault::Memory);
     };
-    pending.replace_first(out.sends())?;
+    let Ok(()) = pending.replace_first(out.sends()) else {
+        return Err(Fault::Memory);
+    };
     let _ = records.extend_from_slice(out.records());
     Ok(())
 }

@@ -50,11 +50,17 @@ impl<P: Copy> Days<P> {
         ensures empty { IfOk result (λ days. joined days ≡ []) }
         ensures refused { IfErr result (λ fault. fault ≡ Memory) }
     {
-        let mut days = Vec::with_capacity(alloc, DAYS).map_err(|_| Fault::Memory)?;
+        let Ok(mut days) = Vec::with_capacity(alloc, DAYS) else {
+            return Err(Fault::Memory);
+        };
         for _ in 0..DAYS {
-            days.push(Vec::new(alloc)).map_err(|_| Fault::Memory)?;
+            let Ok(()) = days.push(Vec::new(alloc)) else {
+                return Err(Fault::Memory);
+            };
         }
-        let marks = Marks::new(alloc, DAYS).map_err(|_| Fault::Memory)?;
+        let Ok(marks) = Marks::new(alloc, DAYS) else {
+            return Err(Fault::Memory);
+        };
         Ok(Days {
             alloc,
             days,

@@ -44,12 +44,14 @@ impl<'m, M: EventModel> Engine<'m, M> {
         ensures refused { IfErr result (λ fault. fault ≡ Memory) }
     {
         let mut pending = PendingEvents::new(alloc)?;
-        let mut processes = Vec::with_capacity(alloc, config.lps as usize).map_err(
-            |_| Fault::Memory,
-        )?;
+        let Ok(mut processes) = Vec::with_capacity(alloc, config.lps as usize) else {
+            return Err(Fault::Memory);
+        };
         for p in 0..config.lps {
             let process = start_process(model, config, p, &mut pending)?;
-            processes.push(process).map_err(|_| Fault::Memory)?;
+            let Ok(()) = processes.push(process) else {
+                return Err(Fault::Memory);
+            };
         }
         Ok(Engine {
             model,
@@ -108,7 +110,7 @@ impl<'m, M: EventModel> Engine<'m, M> {
         let Some(event) = self.pending.first() else {
             return Ok(false);
         };
-        advance(
+        match advance(
             &mut self.processes[event.dest as usize],
             self.model,
             self.config,
@@ -116,8 +118,10 @@ impl<'m, M: EventModel> Engine<'m, M> {
             &mut self.pending,
             records,
             out,
-        )?;
-        Ok(true)
+        ) {
+            Ok(()) => Ok(true),
+            Err(fault) => Err(fault),
+        }
     }
 
     /// The final value of each process, in rising order of processes.
@@ -135,7 +139,9 @@ impl<'m, M: EventModel> Engine<'m, M> {
         let mut values = Vec::new(alloc);
         for p in 0..self.config.lps {
             let value = self.model.finish(p, &self.processes[p as usize].state);
-            values.push(value).map_err(|_| Fault::Memory)?;
+            let Ok(()) = values.push(value) else {
+                return Err(Fault::Memory);
+            };
         }
         Ok(values)
     }

@@ -175,7 +175,9 @@ fn copy_below(alloc: Global, records: &[Record], t: When) -> Result<Vec<Record>,
     let mut found = Vec::new(alloc);
     for record in records {
         if record.when() < t {
-            found.push(*record).map_err(|_| Fault::Memory)?;
+            let Ok(()) = found.push(*record) else {
+                return Err(Fault::Memory);
+            };
         }
     }
     Ok(found)

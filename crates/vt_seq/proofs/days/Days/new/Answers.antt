@@ -20,7 +20,7 @@ loop-preserved g c =
 pub invariant_of-result : goal.invariant_of-result
 invariant_of-result g c =
     let xs : List (Vec (Entry _) Global) = c.loop.days.items in
-    let made : c.in_ok-marks.marks ≡ replicate 1024 false = search rules in
+    let made : c.in-Ok-new.marks ≡ replicate 1024 false = search rules in
     let count-is : vec_len c.loop.days ≡ 1024 = omega (arith, c.loop.days.ok.0, c.loop.invariant.len, c.loop-test.false, c.loop.auto.counter-end) in
     let count : 1024 ≡ length (map (λ (v : Vec (Entry _) Global). v.items) xs) = let same : length (map (λ (v : Vec (Entry _) Global). v.items) xs) ≡ length xs = length-map xs (λ (v : Vec (Entry _) Global). v.items) in omega (arith, same, c.loop.days.ok.0, count-is) in
     (made ∙ ap (λ (n : ℕ). replicate n false) count ∙ empty-marks (map (λ (v : Vec (Entry _) Global). v.items) xs) c.loop.invariant.empty, (λ clear. c.loop.invariant.empty), count-is)

@@ -1,4 +1,4 @@
-use Rattle.std.proofs.Common.{rules, ◌≡◌, ℕ, suc, ◌+◌, ◌∙◌, List, [], ◌∷◌, ◌++◌, length, map, sym, ap, arith}
+use Rattle.std.proofs.Common.{rules, ◌≡◌, ℕ, suc, ◌+◌, ◌∙◌, List, [], ◌∷◌, ◌++◌, length, map, sym, ap, subst, refl, ◌<◌, arith}
 use Rattle.std.proofs.lemmas.List.{map-append}
 use Rattle.std.proofs.Math.Logic.{∥∥₁_elim}
 use Rattle.std.proofs.Props.{props}
@@ -7,7 +7,7 @@ use Rattle.vt_model.specs.Simulation.{Triple, simulation_of, after}
 use Rattle.vt_model.specs.declared.process.Process.{Process}
 use Rattle.vt_model.specs.Sequential.{after_steps, events_of, whole_run, numbers_below}
 use Rattle.vt_model.proofs.LawLemmas.{lawful_of}
-use Rattle.vt_seq.proofs.StepLemmas.{none_pending, none_there}
+use Rattle.vt_seq.proofs.StepLemmas.{none_pending, none_there, none_first, not_both}
 use Rattle.vt_model.proofs.EndLemmas.{executed_all}
 use Rattle.vt_seq.proofs.engine.Engine.finals.Goals as goal
 
@@ -46,6 +46,22 @@ loop-p-preserved g c n st =
     ∙ sym (map-append final (numbers_below p) (p ∷ [])) ∙ ap (λ k. map final (numbers_below k)) next
 
 pub returns-clause-not_lawful : goal.returns-clause-not_lawful
-returns-clause-not_lawful g c some =
-    let none : length c.args.self.now.pending ≡ 0 = ap length (none_there c.args.self.now.pending c.in-None.ensures) in
-    absurd (omega (arith, some, none))
+returns-clause-not_lawful g c some = absurd (not_both c.args.self.now.pending (none_there c.args.self.now.pending c.in-None.ensures) some)
+
+pub returns-clause-refused : goal.returns-clause-refused
+returns-clause-refused g c none = tt
+
+pub returns-in_default-clause-not_lawful : goal.returns-in_default-clause-not_lawful
+returns-in_default-clause-not_lawful g c some = refl
+
+pub returns-in_default-clause-refused : goal.returns-in_default-clause-refused
+returns-in_default-clause-refused g c none = absurd (c.in_default.not-None (c.first.ensures ∙ sym (none_first c.args.self.now.pending none)))
+
+pub returns-in_default-push-clause-not_lawful : goal.returns-in_default-push-clause-not_lawful
+returns-in_default-push-clause-not_lawful g c some = absurd (not_both c.args.self.now.pending (none_there c.args.self.now.pending c.in-None.ensures) some)
+
+pub returns-in_default-push-clause-refused : goal.returns-in_default-push-clause-refused
+returns-in_default-push-clause-refused g c none = refl
+
+pub index-requires : goal.index-requires
+index-requires g c = subst (λ (k : ℕ). c.loop-p.p < k) (sym c.args.self.now.all_there) c.loop-p-test.true

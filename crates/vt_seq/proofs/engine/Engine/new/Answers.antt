@@ -17,9 +17,9 @@ lawful g m config = lawful_of (g.M.Model.handlers m) config (g.met.M.Model.start
 
 pub loop-p-init : goal.loop-p-init
 loop-p-init g c =
-    let empty : c.in_ok-processes.processes.items ≡ [] = search rules in
+    let empty : c.in-Ok.processes.items ≡ [] = search rules in
     record {
-      started = none_started _ (lawful g c.args.model.now c.args.config) c.in_ok-pending.pending c.in_ok-processes.processes.items c.in_ok-pending.ensures.empty empty;
+      started = none_started _ (lawful g c.args.model.now c.args.config) c.in_ok-pending.pending c.in-Ok.processes.items c.in_ok-pending.ensures.empty empty;
       numbered = λ r d l. absurd (omega (arith, l));
       streams = λ r d l. absurd (omega (arith, l));
     }

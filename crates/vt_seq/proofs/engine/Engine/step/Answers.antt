@@ -1,8 +1,7 @@
-use Rattle.std.proofs.Common.{rules, ◌≡◌, ℕ, suc, ◌<◌, ◌≤◌, List, length, slice_index_or, sym, subst, ◌⊎◌, inl, inr}
+use Rattle.std.proofs.Common.{rules, ◌≡◌, ℕ, suc, ◌<◌, ◌≤◌, List, length, slice_index_or, sym, subst, inl, inr}
 use Rattle.std.proofs.Math.Logic.{∥∥₁_map, ∥∥₁_elim}
 use Rattle.std.proofs.Props.{props}
 use base.Stored.{Coded-set}
-use Rattle.vt_key.specs.declared.fault.Fault.TheVariants.{Memory, Exhausted}
 use Rattle.vt_key.specs.declared.limits.TheConstants.{MAX_COUNT}
 use Rattle.vt_model.specs.declared.process.Process.{Process}
 use Rattle.vt_model.specs.declared.sending.Sent.{Sent}
@@ -13,9 +12,8 @@ use Rattle.vt_model.specs.Settings.{end_of}
 use Rattle.vt_model.specs.Simulation.{simulation_of}
 use Rattle.vt_model.proofs.LawLemmas.{lawful_of}
 use Rattle.vt_model.proofs.Sizes.{out_fits}
-use Rattle.vt_seq.specs.Limits.{IsStepRefusal}
 use Rattle.vt_seq.specs.Queue.{IsWithinRun}
-use Rattle.vt_seq.proofs.StepLemmas.{next_of, seated_state, stands_step, stays_at, refused_next, unmoved, numbers_below_next, taken_next, falls, none_there, either_way, set_same, set_all, in_err, if_err}
+use Rattle.vt_seq.proofs.StepLemmas.{next_of, seated_state, stands_step, stays_at, refused_next, unmoved, numbers_below_next, taken_next, falls, none_there, either_way, set_same, set_all}
 use Rattle.vt_seq.proofs.GivenLemmas.{adds_nothing, adds_step}
 use Rattle.vt_seq.proofs.engine.Engine.step.Given.{Over}
 use Rattle.vt_seq.proofs.engine.Engine.step.Goals as goal
@@ -64,44 +62,42 @@ advance-requires-after_bounds g c κs within =
       ),
     )
 
-pub returns-clause-falls : goal.returns-clause-falls
-returns-clause-falls g c is =
+pub returns-in-Ok-clause-falls : goal.returns-in-Ok-clause-falls
+returns-in-Ok-clause-falls g c is =
     let s = c.args.self.now in
     let next = next_of c.in-Some.ensures c.index_mut.ensures.value s.within_run (search (rules, s.all_there)) in
-    falls _ (lawful g s.model.now s.config) c.advance.new.process next c.in_ok-advance.ensures.done
+    falls _ (lawful g s.model.now s.config) c.advance.new.process next c.in-Ok.ensures.done
 
-pub returns-clause-steps : goal.returns-clause-steps
-returns-clause-steps g c n st =
+pub returns-in-Ok-clause-steps : goal.returns-in-Ok-clause-steps
+returns-in-Ok-clause-steps g c n st =
     let s = c.args.self.now in
     let next = next_of c.in-Some.ensures c.index_mut.ensures.value s.within_run (search (rules, s.all_there)) in
-    stands_step _ (lawful g s.model.now s.config) n c.advance.new.process st next c.in_ok-advance.ensures.done
+    stands_step _ (lawful g s.model.now s.config) n c.advance.new.process st next c.in-Ok.ensures.done
 
-pub returns-clause-adds : goal.returns-clause-adds
-returns-clause-adds g c n st =
+pub returns-in-Ok-clause-adds : goal.returns-in-Ok-clause-adds
+returns-in-Ok-clause-adds g c n st =
     let s = c.args.self.now in
     let next = next_of c.in-Some.ensures c.index_mut.ensures.value s.within_run (search (rules, s.all_there)) in
-    adds_step _ (lawful g s.model.now s.config) n c.advance.new.process st next c.in_ok-advance.ensures.done
+    adds_step _ (lawful g s.model.now s.config) n c.advance.new.process st next c.in-Ok.ensures.done
 
-pub returns-in_err-advance-clause-processes : goal.returns-in_err-advance-clause-processes
-returns-in_err-advance-clause-processes g c =
+pub returns-in-Err-clause-processes : goal.returns-in-Err-clause-processes
+returns-in-Err-clause-processes g c =
     let s = c.args.self.now in
     let m = s.model.now in
     let next = next_of c.in-Some.ensures c.index_mut.ensures.value s.within_run (search (rules, s.all_there)) in
-    in_err c.from_residual.result (∥∥₁_elim s.stands (Prim.hlevel (props, Coded-set g.row.M-State.coded)) (λ x.
+    (∥∥₁_elim s.stands (Prim.hlevel (props, Coded-set g.row.M-State.coded)) (λ x.
     set_same s.processes.items c.in-Some.event.dest c.index_mut.result.now c.advance.new.process next.at
-    (c.in_err-advance.ensures.process (seated_state (g.M.Model.handlers m) s.config (g.M.Model.IsState m) (g.met.M.Model.start_state m) (g.met.M.Model.forward_state m) x.0 x.1 next))))
+    (c.in-Err.ensures.process (seated_state (g.M.Model.handlers m) s.config (g.M.Model.IsState m) (g.met.M.Model.start_state m) (g.met.M.Model.forward_state m) x.0 x.1 next))))
 
-pub returns-in_err-advance-clause-refused : goal.returns-in_err-advance-clause-refused
-returns-in_err-advance-clause-refused g c n st =
+pub returns-in-Err-clause-refused : goal.returns-in-Err-clause-refused
+returns-in-Err-clause-refused g c n st =
     let s = c.args.self.now in
     let next = next_of c.in-Some.ensures c.index_mut.ensures.value s.within_run (search (rules, s.all_there)) in
-    if_err (IsStepRefusal _ n) c.from_residual.result c.in_err-advance.field-0.0 c.from_residual.ensures.1
-    (refused_next _ (lawful g s.model.now s.config) n st next s.numbered c.in_err-advance.ensures.refused)
+    (refused_next _ (lawful g s.model.now s.config) n st next s.numbered c.in-Err.ensures.refused)
 
-pub returns-in_err-advance-clause-faults : goal.returns-in_err-advance-clause-faults
-returns-in_err-advance-clause-faults g c =
-    if_err (λ fault. (fault ≡ Memory) ⊎ (fault ≡ Exhausted)) c.from_residual.result c.in_err-advance.field-0.0 c.from_residual.ensures.1
-    (elim c.in_err-advance.ensures.refused [ inl h ↦ inr h.0 | inr h ↦ inl h.0 ])
+pub returns-in-Err-clause-faults : goal.returns-in-Err-clause-faults
+returns-in-Err-clause-faults g c =
+    (elim c.in-Err.ensures.refused [ inl h ↦ inr h.0 | inr h ↦ inl h.0 ])
 
 pub invariant_of-self-2 : goal.invariant_of-self-2
 invariant_of-self-2 g c =
@@ -127,3 +123,8 @@ invariant_of-self-2 g c =
           (λ done. (suc x.0, stands_step _ (lawful g m s.config) x.0 q x.1 next done))
           (λ pending records process. (x.0, unmoved _ x.0 q x.1 next pending process)));
     }
+
+pub invariant_of-self : goal.invariant_of-self
+invariant_of-self g c =
+    let s = c.args.self.now in
+    record { within_run = s.within_run; all_there = s.all_there; numbered = s.numbered; streams = s.streams; stands = s.stands }
