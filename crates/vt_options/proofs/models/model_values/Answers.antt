@@ -1,6 +1,7 @@
 use Rattle.std.proofs.Common.{◌≡◌, ◌≢◌, arith, rules}
 use Rattle.std.proofs.lemmas.Result.{err_from_is_err_and}
 use Rattle.clap.specs.Words.{first_value, found_of}
+use Rattle.vt_options.proofs.OwnLemmas.{if_refused}
 use Rattle.vt_options.proofs.ModelLemmas.{given_here, good_more, refused, within_here}
 use Rattle.vt_options.proofs.models.model_values.Goals.{then-index-wanted, else-index-wanted}
 use Rattle.vt_options.proofs.models.model_values.Goals as goal
@@ -36,3 +37,15 @@ loop-index-preserved c =
             good = good;
           }
     ]
+
+pub returns-in_err-values-clause-ok : goal.returns-in_err-values-clause-ok
+returns-in_err-values-clause-ok c = if_refused _ _ c.from_residual.result c.from_residual.ensures.1
+
+pub returns-in_err-values-clause-within : goal.returns-in_err-values-clause-within
+returns-in_err-values-clause-within c = if_refused _ _ c.from_residual.result c.from_residual.ensures.1
+
+pub returns-in_err-values-clause-good : goal.returns-in_err-values-clause-good
+returns-in_err-values-clause-good c = if_refused _ _ c.from_residual.result c.from_residual.ensures.1
+
+pub returns-clause-err : goal.returns-clause-err
+returns-clause-err c = tt

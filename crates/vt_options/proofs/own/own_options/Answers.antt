@@ -2,7 +2,7 @@ use Rattle.std.proofs.Common.{◌+◌, subst, sym, take}
 use Rattle.std.proofs.lemmas.Result.{err_from_is_err_and}
 use Rattle.clap.specs.Words.{first_value, found_of}
 use Rattle.vt_options.specs.Own.{AreWithin, GiveValues, number_table}
-use Rattle.vt_options.proofs.OwnLemmas.{values_more, good_more, within_more, refused}
+use Rattle.vt_options.proofs.OwnLemmas.{values_more, good_more, within_more, refused, if_refused}
 use Rattle.vt_options.proofs.own.own_options.Goals as goal
 
 pub returns-in_err-value-clause-err : goal.returns-in_err-value-clause-err
@@ -23,3 +23,15 @@ loop-own-preserved c =
       within = subst (AreWithin (take (l.own-index + 1) table)) items (within_more given table l.own-index _ c.loop-own-test.true v l.values.items c.in_ok-value.ensures.within l.invariant.within);
       good = good_more given table l.own-index _ c.loop-own-test.true v c.in_ok-value.ensures.ok l.invariant.good;
     }
+
+pub returns-in_err-value-clause-ok : goal.returns-in_err-value-clause-ok
+returns-in_err-value-clause-ok c = if_refused _ _ c.from_residual.result c.from_residual.ensures.1
+
+pub returns-in_err-value-clause-within : goal.returns-in_err-value-clause-within
+returns-in_err-value-clause-within c = if_refused _ _ c.from_residual.result c.from_residual.ensures.1
+
+pub returns-in_err-value-clause-good : goal.returns-in_err-value-clause-good
+returns-in_err-value-clause-good c = if_refused _ _ c.from_residual.result c.from_residual.ensures.1
+
+pub returns-clause-err : goal.returns-clause-err
+returns-clause-err c = tt
