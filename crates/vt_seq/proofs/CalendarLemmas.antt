@@ -1,9 +1,11 @@
 -- Entries in order, and entries by days.
-use Rattle.std.proofs.Common.{◌≡◌, ℕ, zero, suc, ◌+◌, ◌<◌, ◌≤◌, ◌⊎◌, inl, inr, List, [], ◌∷◌, ◌++◌, Bool, true, false, if◌then◌else◌, length, map, replicate, get_or, slice_get, slice_index_or, slice_set, Option, option_to_list, Some, None, Result, Ok, Err, IfOk, IfErr, is_ok, Vec, Global, refl, sym, subst, ap, ◌∙◌, arith}
+use Rattle.std.proofs.Common.{◌≡◌, ℕ, zero, suc, ◌+◌, ◌/◌, ◌^◌, ◌<◌, ◌≤◌, ◌⊎◌, inl, inr, List, [], ◌∷◌, ◌++◌, Bool, true, false, if◌then◌else◌, length, map, replicate, get_or, slice_get, slice_index_or, slice_set, Option, option_to_list, Some, None, Result, Ok, Err, IfOk, IfErr, is_ok, Vec, Global, refl, sym, subst, ap, ◌∙◌, arith}
 use Rattle.std.specs.List.Sorted.{IsPermutation, IsSorted}
 use Rattle.std.specs.Ordering.{is_lt}
 use Rattle.std.proofs.lemmas.Bool.{cases_order}
 use Rattle.std.proofs.lemmas.List.{append_assoc, append-nil, map-append, map-set}
+use Rattle.std.proofs.Math.Nat.{div-mul-le_self}
+use Rattle.std.proofs.lemmas.Nat.{le-div, pow_pos}
 use Rattle.std.proofs.lemmas.List.Sorted.{IsPermutation-refl, IsPermutation-sym, IsPermutation-trans, IsPermutation-append_left, IsPermutation-append_right, IsPermutation-append_comm, IsPermutation-middle, IsPermutation-to_front, IsPermutation-map}
 use Rattle.vt_key.specs.Order.{KeyBefore}
 use Rattle.vt_key.specs.Times.{ticks_of}
@@ -12,7 +14,7 @@ use Rattle.vt_model.specs.Histories.{Among}
 use Rattle.vt_model.proofs.HistoryLemmas.{among-left, among-right}
 use Rattle.vt_seq.specs.declared.entry.Entry.{Entry}
 use Rattle.vt_seq.specs.Entries.{entry_cmp, events_in, IsLeast, IsFalling}
-use Rattle.vt_seq.specs.Days.{joined, is_used, IsPut, IsTaken, AreDated, AreJustBefore}
+use Rattle.vt_seq.specs.Days.{day_of, joined, is_used, IsPut, IsTaken, AreDated, AreJustBefore}
 use Rattle.vt_seq.proofs.HeapLemmas.{less-key, not-before-trans, among-permuted, least-append, least-popped}
 
 -- what is found in a list of which one place was set
@@ -25,6 +27,10 @@ set-found (x ∷ xs) (suc i) (suc j) y l h = elim (set-found xs i j y l h) [
   | inl u ↦ let at : j ≡ i = u.0 in inl (ap suc at, u.1)
   | inr u ↦ inr ((λ same. u.0 (omega (arith, same))), u.1)
 ]
+
+-- a later tick isn't of an earlier day
+days-rise : (scale a b : ℕ) → a ≤ b → day_of scale a ≤ day_of scale b
+days-rise scale a b h = le-div (a / 2 ^ scale) b (2 ^ scale) (pow_pos scale) (omega (arith, h, div-mul-le_self a (2 ^ scale)))
 
 exchange : {X : Type 0} (xs ys zs : List X) → IsPermutation (xs ++ (ys ++ zs)) (ys ++ (xs ++ zs))
 exchange xs ys zs = subst (λ l. IsPermutation l (ys ++ (xs ++ zs))) (append_assoc xs ys zs)
@@ -68,8 +74,8 @@ module _ {P : Type 0} where
         ]),
       )
 
-  pub just-last : (ys : List (Entry P)) (x : Entry P) (tick : ℕ) → AreJustBefore tick (ys ++ x ∷ []) → AreJustBefore tick ys × (ticks_of x.event.key.time + 1 ≡ tick)
-  just-last ys x tick h = ((λ d m. h d (with-last d ys x (inl m))), h x.event (with-last x.event ys x (inr refl)))
+  pub just-last : (ys : List (Entry P)) (x : Entry P) (scale day : ℕ) → AreJustBefore scale day (ys ++ x ∷ []) → AreJustBefore scale day ys × (day_of scale (ticks_of x.event.key.time) + 1 ≡ day)
+  just-last ys x scale day h = ((λ d m. h d (with-last d ys x (inl m))), h x.event (with-last x.event ys x (inr refl)))
 
   -- ---- entries by days
 
@@ -98,26 +104,27 @@ module _ {P : Type 0} where
   joined-least x [] h = λ d m before. absurd m
   joined-least x (k ∷ days) h = least-append x k (joined days) (h 0 k refl) (joined-least x days (λ i l at. h (suc i) l at))
 
-  -- an event of an earlier tick is before all in the days
-  pub dated-least : (x : Entry P) (base next : ℕ) (days : List (List (Entry P))) → AreDated base next days → ticks_of x.event.key.time < base + next → IsLeast x (joined days)
-  dated-least x base next days dated early = joined-least x days (λ i l at d m before.
+  -- an event of an earlier day is before all in the days
+  pub dated-least : (x : Entry P) (scale base next : ℕ) (days : List (List (Entry P))) → AreDated scale base next days → day_of scale (ticks_of x.event.key.time) < base + next → IsLeast x (joined days)
+  dated-least x scale base next days dated early = joined-least x days (λ i l at d m before.
       let it = dated i l d at m in
-      let tick : ticks_of d.key.time ≡ base + i = it.0 in
+      let day : day_of scale (ticks_of d.key.time) ≡ base + i = it.0 in
       let late : next ≤ i = it.1 in
-      elim before [
-        | inl less ↦ let z : d.key.time < x.event.key.time = less in omega (arith, tick, late, early, z)
-        | inr same ↦ let z : d.key.time ≡ x.event.key.time = same.0 in omega (arith, tick, late, early, z)
-      ])
+      let not_after : ticks_of d.key.time ≤ ticks_of x.event.key.time = elim before [
+        | inl less ↦ let z : d.key.time < x.event.key.time = less in omega (arith, z)
+        | inr same ↦ let z : d.key.time ≡ x.event.key.time = same.0 in omega (arith, z)
+      ] in
+      omega (arith, day, late, early, days-rise scale (ticks_of d.key.time) (ticks_of x.event.key.time) not_after))
 
-  pub dated-put : (base next day : ℕ) (x : Entry P) (old new : List (List (Entry P))) → AreDated base next old → IsPut day x old new → ticks_of x.event.key.time ≡ base + day → next ≤ day → AreDated base next new
-  dated-put base next day x old new dated put tick late i l d at m =
+  pub dated-put : (scale base next day : ℕ) (x : Entry P) (old new : List (List (Entry P))) → AreDated scale base next old → IsPut day x old new → day_of scale (ticks_of x.event.key.time) ≡ base + day → next ≤ day → AreDated scale base next new
+  dated-put scale base next day x old new dated put tick late i l d at m =
       elim (set-found old day i (put.list ++ x ∷ []) l (subst (λ (days : List (List (Entry P))). slice_get days i ≡ Some l) put.is at)) [
         | inl u ↦
             let here : i ≡ day = u.0 in
             let both : Among d (events_in (put.list ++ x ∷ [])) = subst (λ (k : List (Entry P)). Among d (events_in k)) u.1 m in
             elim (last-or put.list x d both) [
-              | inl n ↦ let it = dated day put.list d put.there n in let t : ticks_of d.key.time ≡ base + day = it.0 in (omega (arith, t, here), omega (arith, late, here))
-              | inr same ↦ let t : ticks_of d.key.time ≡ ticks_of x.event.key.time = ap (λ (e : Sent P). ticks_of e.key.time) same in (omega (arith, t, tick, here), omega (arith, late, here))
+              | inl n ↦ let it = dated day put.list d put.there n in let t : day_of scale (ticks_of d.key.time) ≡ base + day = it.0 in (omega (arith, t, here), omega (arith, late, here))
+              | inr same ↦ let t : day_of scale (ticks_of d.key.time) ≡ day_of scale (ticks_of x.event.key.time) = ap (λ (e : Sent P). day_of scale (ticks_of e.key.time)) same in (omega (arith, t, tick, here), omega (arith, late, here))
             ]
         | inr u ↦ dated i l d u.1 m
       ] where
@@ -125,8 +132,8 @@ module _ {P : Type 0} where
         last-or [] x d m = elim m [ inl at ↦ inr at | inr never ↦ absurd never ]
         last-or (y ∷ ys) x d m = elim m [ inl at ↦ inl (inl at) | inr n ↦ elim (last-or ys x d n) [ inl o ↦ inl (inr o) | inr at ↦ inr at ] ]
 
-  pub dated-taken : (base next day : ℕ) (list : List (Entry P)) (old new : List (List (Entry P))) → AreDated base next old → IsTaken day list old new → AreDated base (day + 1) new
-  dated-taken base next day list old new dated taken i l d at m =
+  pub dated-taken : (scale base next day : ℕ) (list : List (Entry P)) (old new : List (List (Entry P))) → AreDated scale base next old → IsTaken day list old new → AreDated scale base (day + 1) new
+  dated-taken scale base next day list old new dated taken i l d at m =
       elim (set-found old day i [] l (subst (λ (days : List (List (Entry P))). slice_get days i ≡ Some l) taken.is at)) [
         | inl u ↦ absurd (subst (λ (k : List (Entry P)). Among d (events_in k)) u.1 m)
         | inr u ↦
@@ -140,11 +147,11 @@ module _ {P : Type 0} where
             ] in (it.0, later)
       ]
 
-  pub taken-just : (base next day : ℕ) (list : List (Entry P)) (old new : List (List (Entry P))) → AreDated base next old → IsTaken day list old new → AreJustBefore (base + (day + 1)) list
-  taken-just base next day list old new dated taken d m = let t : ticks_of d.key.time ≡ base + day = (dated day list d taken.there m).0 in omega (arith, t)
+  pub taken-just : (scale base next day : ℕ) (list : List (Entry P)) (old new : List (List (Entry P))) → AreDated scale base next old → IsTaken day list old new → AreJustBefore scale (base + (day + 1)) list
+  taken-just scale base next day list old new dated taken d m = let t : day_of scale (ticks_of d.key.time) ≡ base + day = (dated day list d taken.there m).0 in omega (arith, t)
 
-  pub just-permuted : (tick : ℕ) (xs ys : List (Entry P)) → IsPermutation xs ys → AreJustBefore tick xs → AreJustBefore tick ys
-  just-permuted tick xs ys h before d m =
+  pub just-permuted : (scale day : ℕ) (xs ys : List (Entry P)) → IsPermutation xs ys → AreJustBefore scale day xs → AreJustBefore scale day ys
+  just-permuted scale day xs ys h before d m =
       before d (among-permuted (events_in ys) (events_in xs) (IsPermutation-sym (events_in xs) (events_in ys) (IsPermutation-map (λ (e : Entry P). e.event) xs ys h)) d m)
 
   -- ---- marks
@@ -246,28 +253,28 @@ module _ {P : Type 0} where
       subst (λ (l : List (Entry P)). IsPermutation (l ++ others) (x ∷ (ys ++ others))) (sym h)
       (subst (λ (l : List (Entry P)). IsPermutation l (x ∷ (ys ++ others))) (sym (append_assoc ys (x ∷ []) others)) (IsPermutation-middle ys x others))
 
-  pub last-least : (base next : ℕ) (xs ys : List (Entry P)) (x : Entry P) (days : List (List (Entry P))) → xs ≡ ys ++ x ∷ [] → IsFalling xs → AreJustBefore (base + next) xs → AreDated base next days → IsLeast x (xs ++ joined days)
-  last-least base next xs ys x days h falling before dated =
+  pub last-least : (scale base next : ℕ) (xs ys : List (Entry P)) (x : Entry P) (days : List (List (Entry P))) → xs ≡ ys ++ x ∷ [] → IsFalling xs → AreJustBefore scale (base + next) xs → AreDated scale base next days → IsLeast x (xs ++ joined days)
+  last-least scale base next xs ys x days h falling before dated =
       let least : IsLeast x ys = (falling-last ys x (subst (λ (l : List (Entry P)). IsFalling l) h falling)).1 in
-      let at : ticks_of x.event.key.time + 1 ≡ base + next = (just-last ys x (base + next) (subst (λ (l : List (Entry P)). AreJustBefore (base + next) l) h before)).1 in
-      let early : ticks_of x.event.key.time < base + next = omega (arith, at) in
+      let at : day_of scale (ticks_of x.event.key.time) + 1 ≡ base + next = (just-last ys x scale (base + next) (subst (λ (l : List (Entry P)). AreJustBefore scale (base + next) l) h before)).1 in
+      let early : day_of scale (ticks_of x.event.key.time) < base + next = omega (arith, at) in
       subst (λ (l : List (Entry P)). IsLeast x (l ++ joined days)) (sym h)
-      (least-append x (ys ++ x ∷ []) (joined days) (least-popped x (ys ++ x ∷ []) ys (IsPermutation-to_front ys x) least) (dated-least x base next days dated early))
+      (least-append x (ys ++ x ∷ []) (joined days) (least-popped x (ys ++ x ∷ []) ys (IsPermutation-to_front ys x) least) (dated-least x scale base next days dated early))
 
   pub falling-left : (left old : List (Entry P)) (r : Option (Entry P)) → old ≡ left ++ option_to_list r → IsFalling old → IsFalling left
   falling-left left old None h f = subst (λ (l : List (Entry P)). IsFalling l) (h ∙ append-nil left) f
   falling-left left old (Some x) h f = (falling-last left x (subst (λ (l : List (Entry P)). IsFalling l) h f)).0
 
-  pub just-left : (tick : ℕ) (left old : List (Entry P)) (r : Option (Entry P)) → old ≡ left ++ option_to_list r → AreJustBefore tick old → AreJustBefore tick left
-  just-left tick left old None h f = subst (λ (l : List (Entry P)). AreJustBefore tick l) (h ∙ append-nil left) f
-  just-left tick left old (Some x) h f = (just-last left x tick (subst (λ (l : List (Entry P)). AreJustBefore tick l) h f)).0
+  pub just-left : (scale day : ℕ) (left old : List (Entry P)) (r : Option (Entry P)) → old ≡ left ++ option_to_list r → AreJustBefore scale day old → AreJustBefore scale day left
+  just-left scale day left old None h f = subst (λ (l : List (Entry P)). AreJustBefore scale day l) (h ∙ append-nil left) f
+  just-left scale day left old (Some x) h f = (just-last left x scale day (subst (λ (l : List (Entry P)). AreJustBefore scale day l) h f)).0
 
   -- ---- an event is put, or not
 
-  pub dated-either : {V E : Type 0} (base next day : ℕ) (x : Entry P) (old new : List (List (Entry P))) (r : Result V E) → IfOk r (λ _. IsPut day x old new) → IfErr r (λ _. new ≡ old)
-      → AreDated base next old → ticks_of x.event.key.time ≡ base + day → next ≤ day → AreDated base next new
-  dated-either base next day x old new (Ok v) put kept dated tick late = dated-put base next day x old new dated put tick late
-  dated-either base next day x old new (Err e) put kept dated tick late = subst (λ (days : List (List (Entry P))). AreDated base next days) (sym kept) dated
+  pub dated-either : {V E : Type 0} (scale base next day : ℕ) (x : Entry P) (old new : List (List (Entry P))) (r : Result V E) → IfOk r (λ _. IsPut day x old new) → IfErr r (λ _. new ≡ old)
+      → AreDated scale base next old → day_of scale (ticks_of x.event.key.time) ≡ base + day → next ≤ day → AreDated scale base next new
+  dated-either scale base next day x old new (Ok v) put kept dated tick late = dated-put scale base next day x old new dated put tick late
+  dated-either scale base next day x old new (Err e) put kept dated tick late = subst (λ (days : List (List (Entry P))). AreDated scale base next days) (sym kept) dated
 
   pub entries-put : (day : ℕ) (x : Entry P) (present : List (Entry P)) (old new : List (List (Entry P))) → IsPut day x old new → IsPermutation (x ∷ (present ++ joined old)) (present ++ joined new)
   entries-put day x present old new put =
@@ -294,14 +301,14 @@ module _ {P : Type 0} where
   none-there (k ∷ days) zero l none at = (let z : l ≡ k = (let y : Some k ≡ Some l = at in cc) in z) ∙ (append-none k (joined days) none).0
   none-there (k ∷ days) (suc i) l none at = none-there days i l (append-none k (joined days) none).1 at
 
-  pub none-dated : (base next : ℕ) (days : List (List (Entry P))) → joined days ≡ [] → AreDated base next days
-  none-dated base next days none i l d at m = absurd (subst (λ (k : List (Entry P)). Among d (events_in k)) (none-there days i l none at) m)
+  pub none-dated : (scale base next : ℕ) (days : List (List (Entry P))) → joined days ≡ [] → AreDated scale base next days
+  none-dated scale base next days none i l d at m = absurd (subst (λ (k : List (Entry P)). Among d (events_in k)) (none-there days i l none at) m)
 
   pub none-falling : (xs : List (Entry P)) → xs ≡ [] → IsFalling xs
   none-falling xs none = subst (λ (l : List (Entry P)). IsFalling l) (sym none) tt
 
-  pub none-just : (tick : ℕ) (xs : List (Entry P)) → xs ≡ [] → AreJustBefore tick xs
-  none-just tick xs none d m = absurd (subst (λ (k : List (Entry P)). Among d (events_in k)) none m)
+  pub none-just : (scale day : ℕ) (xs : List (Entry P)) → xs ≡ [] → AreJustBefore scale day xs
+  none-just scale day xs none d m = absurd (subst (λ (k : List (Entry P)). Among d (events_in k)) none m)
 
   pub empty-of : (xs : List (Entry P)) → length xs ≡ 0 → xs ≡ []
   empty-of [] none = refl

@@ -1,5 +1,5 @@
 -- Entries by days, and what a calendar keeps of them.
-use Rattle.std.specs.Prelude.{◌≡◌, ℕ, ◌+◌, ◌<◌, ◌≤◌, Bool, true, false, List, [], ◌∷◌, ◌++◌, slice_get, slice_set, Some}
+use Rattle.std.specs.Prelude.{◌≡◌, ℕ, ◌+◌, ◌/◌, ◌^◌, ◌<◌, ◌≤◌, Bool, true, false, List, [], ◌∷◌, ◌++◌, slice_get, slice_set, Some}
 use Rattle.vt_key.specs.Times.{ticks_of}
 use Rattle.vt_model.specs.declared.sending.Sent.{Sent}
 use Rattle.vt_model.specs.Histories.{Among}
@@ -7,9 +7,13 @@ use Rattle.vt_seq.specs.declared.days.TheConstants.{DAYS}
 use Rattle.vt_seq.specs.declared.entry.Entry.{Entry}
 use Rattle.vt_seq.specs.Entries.{events_in}
 
--- whether a tick is that of a later day of the window that begins at `base`
+-- the day of a tick, where a day has 2 ^ scale ticks
+abbrev pub day_of : ℕ → ℕ → ℕ
+day_of scale tick = tick / 2 ^ scale
+
+-- whether a day is a later one of the window that begins at the day `base`
 abbrev pub IsNear : ℕ → ℕ → ℕ → Type 0
-IsNear base next tick = (base + next ≤ tick) × (tick < base + DAYS)
+IsNear base next day = (base + next ≤ day) × (day < base + DAYS)
 
 module _ {P : Type 0} where
   -- the entries of all days
@@ -35,13 +39,13 @@ module _ {P : Type 0} where
     pub first : (i : ℕ) (l : List (Entry P)) → i < day → slice_get old i ≡ Some l → l ≡ []
     pub is : new ≡ slice_set old day []
 
-  -- each day has events of one tick, the base's for day 0, and days before `next` have none
-  abbrev pub AreDated : ℕ → ℕ → List (List (Entry P)) → Type 0
-  AreDated base next days = (i : ℕ) (l : List (Entry P)) (d : Sent P) → slice_get days i ≡ Some l → Among d (events_in l) → (ticks_of d.key.time ≡ base + i) × (next ≤ i)
+  -- each list has the events of one day, the first those of the day `base`, and lists before `next` have none
+  abbrev pub AreDated : ℕ → ℕ → ℕ → List (List (Entry P)) → Type 0
+  AreDated scale base next days = (i : ℕ) (l : List (Entry P)) (d : Sent P) → slice_get days i ≡ Some l → Among d (events_in l) → (day_of scale (ticks_of d.key.time) ≡ base + i) × (next ≤ i)
 
-  -- each event's tick is right before this one
-  abbrev pub AreJustBefore : ℕ → List (Entry P) → Type 0
-  AreJustBefore tick xs = (d : Sent P) → Among d (events_in xs) → ticks_of d.key.time + 1 ≡ tick
+  -- each event's day is right before this one
+  abbrev pub AreJustBefore : ℕ → ℕ → List (Entry P) → Type 0
+  AreJustBefore scale day xs = (d : Sent P) → Among d (events_in xs) → day_of scale (ticks_of d.key.time) + 1 ≡ day
 
   -- the entries of a calendar: those of the present day, then those of the others
   abbrev pub entries_of : List (Entry P) → List (List (Entry P)) → List (Entry P)

@@ -1,31 +1,38 @@
 //! A calendar of pending events.
 
-ghost use Rattle.std.specs.Prelude.{◌≡◌, ◌+◌, ◌<◌, ◌∷◌, [], IfOk, IfErr, IfSome, IfNone, Err};
+ghost use Rattle.std.specs.Prelude.{◌≡◌, ◌+◌, ◌<◌, ◌≤◌, ◌∷◌, [], IfOk, IfErr, IfSome, IfNone, Err};
 ghost use Rattle.std.specs.List.Sorted.{IsPermutation};
 ghost use Rattle.vt_key.specs.declared.fault.Fault.TheVariants.{Memory, NotLawful};
 ghost use Rattle.vt_key.specs.Times.{ticks_of};
+ghost use Rattle.vt_seq.specs.declared.fit.TheConstants.{MOST_SCALE};
 ghost use Rattle.vt_seq.specs.Entries.{IsFalling, IsFalling-prop, IsLeast};
-ghost use Rattle.vt_seq.specs.Days.{entries_of, AreDated, AreJustBefore, IsNear, IsSettled};
+ghost use Rattle.vt_seq.specs.Days.{day_of, entries_of, AreDated, AreJustBefore, IsNear, IsSettled};
 
 use crate::days::Days;
 use crate::entry::Entry;
+use crate::fit::{Fit, MOST_SCALE};
 use std::alloc::Global;
 use vt_key::Fault;
 use vt_model::Sent;
 
-/// Pending events of a window of ticks: those of the present tick in order, the first one last, and a list without order for
-/// each later tick. A tick's events are put in order when it becomes the present one.
+/// Pending events of a window of days: those of the present day in order, the first one last, and a list without order for
+/// each later day. A day's events are put in order when it becomes the present one. A day has one tick at first. When the window begins
+/// anew, its days become longer if many events came too late for it, and shorter if many came too soon.
 #[derive(Drop)]
 pub(crate) struct Calendar<P: Copy> {
-    /// The tick of day 0.
+    /// A day has two to the power of this many ticks.
+    scale: u32,
+    /// The first day of the window: its first tick by the ticks of a day.
     base: u64,
-    /// The day after the present one.
+    /// The day after the present one, counted from the window's first.
     next: usize,
     present: Vec<Entry<P>>,
     days: Days<P>,
+    fit: Fit,
+    ghost scaled: { scale ≤ MOST_SCALE },
     ghost falling: { IsFalling present.items } by { IsFalling-prop present.items },
-    ghost just_past: { AreJustBefore (base + next) present.items },
-    ghost dated: { AreDated base next days },
+    ghost just_past: { AreJustBefore scale (base + next) present.items },
+    ghost dated: { AreDated scale base next days },
 }
 
 impl<P: Copy> Calendar<P> {
@@ -39,10 +46,12 @@ impl<P: Copy> Calendar<P> {
     {
         let days = Days::new(alloc)?;
         Ok(Calendar {
+            scale: 0,
             base: 0,
             next: 0,
             present: Vec::new(alloc),
             days,
+            fit: Fit::new(),
         })
     }
 
@@ -64,7 +73,7 @@ impl<P: Copy> Calendar<P> {
         ensures rest { IfSome result (λ x. IsPermutation (entries_of self.old.present.items self.old.days) (x ∷ entries_of self.new.present.items self.new.days)) }
         ensures least { IfSome result (λ x. IsLeast x (entries_of self.old.present.items self.old.days)) }
         ensures nothing { IfNone result (self.old.present.items ≡ []) }
-        ensures window { (self.new.base ≡ self.old.base) × (self.new.next ≡ self.old.next) }
+        ensures window { (self.new.scale ≡ self.old.scale) × (self.new.base ≡ self.old.base) × (self.new.next ≡ self.old.next) }
     {
         if self.present.is_empty() {
             return None;
@@ -75,33 +84,41 @@ impl<P: Copy> Calendar<P> {
         Some(entry)
     }
 
-    /// Puts an event into its day. Its tick must be a later one of the window.
+    /// Puts an event into its day, which must be a later one of the window.
     ///
-    /// [`Fault::NotLawful`]: its tick isn't one. [`Fault::Memory`]: it is, and memory was refused. After either nothing
-    /// changes.
+    /// [`Fault::NotLawful`]: its day isn't one. [`Fault::Memory`]: it is, and memory was refused. After either no event has
+    /// changed.
     pub(crate) fn put(&mut self, event: &Sent<P>) -> Result<(), Fault>
         ensures put { IfOk result (λ _. IsPermutation (record { event = event.now } ∷ entries_of self.old.present.items self.old.days) (entries_of self.new.present.items self.new.days)) }
         ensures kept { IfErr result (λ fault. entries_of self.new.present.items self.new.days ≡ entries_of self.old.present.items self.old.days) }
-        ensures not_lawful { (IsNear self.old.base self.old.next (ticks_of event.now.key.time) → ⊥) → result ≡ Err NotLawful }
-        ensures refused { IsNear self.old.base self.old.next (ticks_of event.now.key.time) → IfErr result (λ fault. fault ≡ Memory) }
-        ensures window { (self.new.base ≡ self.old.base) × (self.new.next ≡ self.old.next) }
+        ensures not_lawful { (IsNear self.old.base self.old.next (day_of self.old.scale (ticks_of event.now.key.time)) → ⊥) → result ≡ Err NotLawful }
+        ensures refused { IsNear self.old.base self.old.next (day_of self.old.scale (ticks_of event.now.key.time)) → IfErr result (λ fault. fault ≡ Memory) }
+        ensures window { (self.new.scale ≡ self.old.scale) × (self.new.base ≡ self.old.base) × (self.new.next ≡ self.old.next) }
     {
-        let tick = event.key.when().ticks();
-        if tick < self.base {
+        let day = day_of(event.key.when().ticks(), self.scale);
+        if day < self.base {
+            self.fit.count_soon();
             return Err(Fault::NotLawful);
         }
-        let day = (tick - self.base) as usize;
+        let day = (day - self.base) as usize;
         if day < self.next {
+            self.fit.count_soon();
             return Err(Fault::NotLawful);
         }
-        self.days.put(day, event)
+        match self.days.put(day, event) {
+            Ok(()) => Ok(()),
+            Err(fault) => {
+                self.fit.count_late();
+                Err(fault)
+            }
+        }
     }
 
     /// Makes the first day that has an event the present one, if that has none.
     pub(crate) fn settle(&mut self)
         ensures same { IsPermutation (entries_of self.old.present.items self.old.days) (entries_of self.new.present.items self.new.days) }
         ensures settled { IsSettled self.new.present.items self.new.days }
-        ensures base { self.new.base ≡ self.old.base }
+        ensures base { (self.new.scale ≡ self.old.scale) × (self.new.base ≡ self.old.base) }
         ensures next { self.new.present.items ≡ [] → self.new.next ≡ self.old.next }
     {
         if !self.present.is_empty() {
@@ -109,20 +126,30 @@ impl<P: Copy> Calendar<P> {
         }
         if let Some(day) = self.days.take_first(&mut self.present) {
             self.next = day + 1;
+            self.fit.count_taken(self.present.len());
             self.present.sort_unstable();
         }
     }
 
-    /// Lets the window begin at a tick, if there is no event.
+    /// Lets the window begin with the day of a tick, if there is no event.
     pub(crate) fn move_to(&mut self, tick: u64)
         requires { IsSettled self.old.present.items self.old.days }
         ensures same { entries_of self.new.present.items self.new.days ≡ entries_of self.old.present.items self.old.days }
-        ensures moved { self.old.present.items ≡ [] → (self.new.base ≡ tick) × (self.new.next ≡ 0) }
-        ensures stays { (self.old.present.items ≡ [] → ⊥) → (self.new.base ≡ self.old.base) × (self.new.next ≡ self.old.next) }
+        ensures moved { self.old.present.items ≡ [] → (self.new.base ≡ day_of self.new.scale tick) × (self.new.next ≡ 0) }
+        ensures stays { (self.old.present.items ≡ [] → ⊥) → (self.new.scale ≡ self.old.scale) × (self.new.base ≡ self.old.base) × (self.new.next ≡ self.old.next) }
     {
         if self.present.is_empty() {
-            self.base = tick;
+            self.scale = self.fit.better_scale(self.scale);
+            self.base = day_of(tick, self.scale);
             self.next = 0;
         }
     }
+}
+
+/// The day of a tick, where a day has two to the power of `scale` ticks.
+fn day_of(tick: u64, scale: u32) -> u64
+    requires { scale ≤ MOST_SCALE }
+    ensures { result ≡ day_of scale tick }
+{
+    tick >> scale
 }

@@ -8,6 +8,7 @@ mod days;
 mod engine;
 mod entry;
 mod execution;
+mod fit;
 mod pending;
 mod run;
 

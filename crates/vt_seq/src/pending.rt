@@ -6,7 +6,7 @@ ghost use Rattle.vt_key.specs.declared.fault.Fault.TheVariants.{Memory};
 ghost use Rattle.vt_key.specs.Times.{ticks_of};
 ghost use Rattle.vt_seq.specs.Queue.{all_inserted, AreNew};
 ghost use Rattle.vt_seq.specs.Entries.{in_order, IsLeast, IsQueue};
-ghost use Rattle.vt_seq.specs.Days.{entries_of, IsSettled};
+ghost use Rattle.vt_seq.specs.Days.{day_of, entries_of, IsSettled};
 
 use crate::calendar::Calendar;
 use crate::entry::Entry;
@@ -16,9 +16,9 @@ use std::marker::Model;
 use vt_key::Fault;
 use vt_model::Sent;
 
-/// The events that were sent and not yet executed: those of the near ticks in a calendar, and the others in a heap whose top
+/// The events that were sent and not yet executed: those of the near days in a calendar, and the others in a heap whose top
 /// is the event of least key. An event goes into or out of the heap at a cost that grows with the logarithm of how many
-/// there are, and in the calendar only the events of one tick are put in order.
+/// there are, and in the calendar only the events of one day are put in order.
 ///
 /// Contracts see the events in the order of their keys.
 #[derive(Drop)]
@@ -131,8 +131,8 @@ fn remove_first<P: Copy>(calendar: &mut Calendar<P>, far: &mut BinaryHeap<Entry<
     requires settled { IsSettled calendar.old.present.items calendar.old.days }
     requires some { 0 < length (in_order (entries_of calendar.old.present.items calendar.old.days ++ heap_items far.old)) }
     ensures rest { IsQueue (entries_of calendar.new.present.items calendar.new.days) (heap_items far.new) × (in_order (entries_of calendar.new.present.items calendar.new.days ++ heap_items far.new) ≡ drop 1 (in_order (entries_of calendar.old.present.items calendar.old.days ++ heap_items far.old))) }
-    ensures moved { calendar.old.present.items ≡ [] → (d : _) → slice_get (in_order (entries_of calendar.old.present.items calendar.old.days ++ heap_items far.old)) 0 ≡ Some d → (calendar.new.base ≡ ticks_of d.key.time) × (calendar.new.next ≡ 0) }
-    ensures stays { (calendar.old.present.items ≡ [] → ⊥) → (calendar.new.base ≡ calendar.old.base) × (calendar.new.next ≡ calendar.old.next) }
+    ensures moved { calendar.old.present.items ≡ [] → (d : _) → slice_get (in_order (entries_of calendar.old.present.items calendar.old.days ++ heap_items far.old)) 0 ≡ Some d → (calendar.new.base ≡ day_of calendar.new.scale (ticks_of d.key.time)) × (calendar.new.next ≡ 0) }
+    ensures stays { (calendar.old.present.items ≡ [] → ⊥) → (calendar.new.scale ≡ calendar.old.scale) × (calendar.new.base ≡ calendar.old.base) × (calendar.new.next ≡ calendar.old.next) }
     ensures capacity { heap_capacity far.new ≡ heap_capacity far.old }
     ensures len { heap_len far.new ≤ heap_len far.old }
 {
@@ -156,7 +156,7 @@ fn put_all<P: Copy>(calendar: &mut Calendar<P>, far: &mut BinaryHeap<Entry<P>>, 
     ensures events { in_order (entries_of calendar.new.present.items calendar.new.days ++ heap_items far.new) ≡ all_inserted events.now (in_order (entries_of calendar.old.present.items calendar.old.days ++ heap_items far.old)) }
     ensures queue { IsQueue (entries_of calendar.new.present.items calendar.new.days) (heap_items far.new) }
     ensures settled { IsSettled calendar.new.present.items calendar.new.days }
-    ensures base { calendar.new.base ≡ calendar.old.base }
+    ensures base { (calendar.new.scale ≡ calendar.old.scale) × (calendar.new.base ≡ calendar.old.base) }
 {
     for event in events {
         if calendar.put(event).is_err() {

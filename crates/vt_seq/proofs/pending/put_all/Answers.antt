@@ -1,4 +1,4 @@
-use Rattle.std.proofs.Common.{◌≡◌, ℕ, suc, ◌+◌, ◌≤◌, ◌∙◌, ◌++◌, List, ◌∷◌, drop, length, refl, sym, ap, subst, arith}
+use Rattle.std.proofs.Common.{◌≡◌, ℕ, suc, ◌+◌, ◌≤◌, ◌∙◌, ◌++◌, List, ◌∷◌, drop, length, sym, ap, subst, arith}
 use Rattle.std.specs.BinaryHeap.{heap_items, heap_len, heap_capacity}
 use Rattle.std.proofs.lemmas.List.{drop_more, drop_all}
 use Rattle.vt_model.specs.declared.sending.Sent.{Sent}
@@ -40,7 +40,7 @@ loop-event-preserved g c =
       room = room;
       queue = put.0;
       fresh = subst (AreNew rest) (sym put.1) fresh.1;
-      base = c.put.ensures.window.0 ∙ inv.base;
+      base = (c.put.ensures.window.0 ∙ inv.base.0, c.put.ensures.window.1 ∙ inv.base.1);
       same = ap (all_inserted rest) put.1 ∙ ap (λ (es : List (Sent _)). all_inserted es old) (sym more) ∙ inv.same;
     }
 

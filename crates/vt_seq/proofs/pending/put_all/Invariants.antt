@@ -10,6 +10,6 @@ invariant-loop-event g l = record {
   room : heap_len l.far + length (drop l.event-index l.events) ≤ heap_capacity l.far;
   queue : IsQueue (entries_of l.calendar.present.items l.calendar.days) (heap_items l.far);
   fresh : AreNew (drop l.event-index l.events) (in_order (entries_of l.calendar.present.items l.calendar.days ++ heap_items l.far));
-  base : l.calendar.base ≡ l.initial.calendar.base;
+  base : (l.calendar.scale ≡ l.initial.calendar.scale) × (l.calendar.base ≡ l.initial.calendar.base);
   same : all_inserted (drop l.event-index l.events) (in_order (entries_of l.calendar.present.items l.calendar.days ++ heap_items l.far)) ≡ all_inserted l.events (in_order (entries_of l.initial.calendar.present.items l.initial.calendar.days ++ heap_items l.initial.far));
 }

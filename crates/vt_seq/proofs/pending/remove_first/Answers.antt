@@ -4,7 +4,7 @@ use Rattle.vt_key.specs.Times.{ticks_of}
 use Rattle.vt_model.specs.declared.sending.Sent.{Sent}
 use Rattle.vt_seq.specs.declared.entry.Entry.{Entry}
 use Rattle.vt_seq.specs.Entries.{in_order, IsLeast, IsQueue}
-use Rattle.vt_seq.specs.Days.{entries_of}
+use Rattle.vt_seq.specs.Days.{day_of, entries_of}
 use Rattle.vt_seq.proofs.HeapLemmas.{top-least, least-popped, least-append, in-far, first-event, near-removed, far-removed}
 use Rattle.vt_seq.proofs.pending.remove_first.Given.{Over}
 use Rattle.vt_seq.proofs.pending.remove_first.Goals as goal
@@ -54,4 +54,4 @@ returns-clause-moved g c none d at =
     let head : slice_get (in_order (near ++ far)) 0 ≡ Some x.event = first-event x (near ++ far) (near ++ left) c.requires.queue.apart (in-far x near far left c.in-Some-pop.ensures.permutation) (least-append x near far first.0 first.1) in
     let same : x.event ≡ d = (let both : Some x.event ≡ Some d = sym head ∙ at in cc) in
     let moved = c.move_to.ensures.moved none in
-    (moved.0 ∙ c.ticks.ensures ∙ ap ticks_of c.when.ensures ∙ ap (λ (e : Sent _). ticks_of e.key.time) same, moved.1)
+    (moved.0 ∙ ap (day_of c.move_to.new.self.scale) (c.ticks.ensures ∙ ap ticks_of c.when.ensures ∙ ap (λ (e : Sent _). ticks_of e.key.time) same), moved.1)

@@ -20,4 +20,4 @@ returns-clause-among g c =
 pub returns-clause-least : goal.returns-clause-least
 returns-clause-least g c =
     let it = c.args.self.now in
-    last-least it.base it.next it.present.items (split g c).0 c.index.result.now it.days (split g c).1 it.falling it.just_past it.dated
+    last-least it.scale it.base it.next it.present.items (split g c).0 c.index.result.now it.days (split g c).1 it.falling it.just_past it.dated

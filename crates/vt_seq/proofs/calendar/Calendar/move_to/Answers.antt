@@ -7,4 +7,4 @@ invariant_of-self g c =
     let it = c.args.self.now in
     let zero : length it.present.items ≡ 0 = search rules in
     let none : it.present.items ≡ [] = empty-of it.present.items zero in
-    record { falling = none-falling it.present.items none; just_past = none-just _ it.present.items none; dated = none-dated _ _ it.days (c.requires none) }
+    record { scaled = c.better_scale-self.ensures; falling = none-falling it.present.items none; just_past = none-just _ _ it.present.items none; dated = none-dated _ _ _ it.days (c.requires none) }

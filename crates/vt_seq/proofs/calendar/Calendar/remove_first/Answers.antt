@@ -8,8 +8,9 @@ invariant_of-self g c =
     let it = c.args.self.now in
     let left = c.pop.new.self.items in
     record {
+      scaled = it.scaled;
       falling = falling-left left it.present.items c.pop.result c.pop.ensures.items it.falling;
-      just_past = just-left (it.base + it.next) left it.present.items c.pop.result c.pop.ensures.items it.just_past;
+      just_past = just-left it.scale (it.base + it.next) left it.present.items c.pop.result c.pop.ensures.items it.just_past;
       dated = it.dated;
     }
 
@@ -19,4 +20,4 @@ returns-clause-rest g c = last-out c.args.self.now.present.items c.pop.new.self.
 pub returns-clause-least : goal.returns-clause-least
 returns-clause-least g c =
     let it = c.args.self.now in
-    last-least it.base it.next it.present.items c.pop.new.self.items c.in-Some.entry it.days c.in-Some.ensures.items it.falling it.just_past it.dated
+    last-least it.scale it.base it.next it.present.items c.pop.new.self.items c.in-Some.entry it.days c.in-Some.ensures.items it.falling it.just_past it.dated

@@ -8,15 +8,16 @@ use Rattle.vt_seq.proofs.calendar.Calendar.settle.Goals as goal
 pub overflow_add-self : goal.overflow_add-self
 overflow_add-self g c = omega (arith, c.in-Some.ensures.bound)
 
-pub invariant_of-self : goal.invariant_of-self
-invariant_of-self g c =
+pub invariant_of-self-in-Some : goal.invariant_of-self-in-Some
+invariant_of-self-in-Some g c =
     let it = c.args.self.now in
     let day = c.in-Some.day in
     let list = c.take_first.new.present.items in
     record {
+      scaled = it.scaled;
       falling = sorted-falling c.sort_unstable.new.self.items c.sort_unstable.ensures.sorted;
-      just_past = just-permuted (it.base + (day + 1)) list c.sort_unstable.new.self.items c.sort_unstable.ensures.permutation (taken-just it.base it.next day list it.days c.take_first.new.self it.dated c.in-Some.ensures.taken);
-      dated = dated-taken it.base it.next day list it.days c.take_first.new.self it.dated c.in-Some.ensures.taken;
+      just_past = just-permuted it.scale (it.base + (day + 1)) list c.sort_unstable.new.self.items c.sort_unstable.ensures.permutation (taken-just it.scale it.base it.next day list it.days c.take_first.new.self it.dated c.in-Some.ensures.taken);
+      dated = dated-taken it.scale it.base it.next day list it.days c.take_first.new.self it.dated c.in-Some.ensures.taken;
     }
 
 pub invariant_of-self-in_default : goal.invariant_of-self-in_default
@@ -25,9 +26,10 @@ invariant_of-self-in_default g c =
     let zero : length it.present.items ≡ 0 = search rules in
     let none : c.take_first.new.present.items ≡ [] = c.in_default.ensures.present_kept ∙ empty-of it.present.items zero in
     record {
+      scaled = it.scaled;
       falling = none-falling c.take_first.new.present.items none;
-      just_past = none-just (it.base + it.next) c.take_first.new.present.items none;
-      dated = subst (λ (days : List (List (Entry _))). AreDated it.base it.next days) (sym c.in_default.ensures.kept) it.dated;
+      just_past = none-just it.scale (it.base + it.next) c.take_first.new.present.items none;
+      dated = subst (λ (days : List (List (Entry _))). AreDated it.scale it.base it.next days) (sym c.in_default.ensures.kept) it.dated;
     }
 
 pub returns-in-Some-clause-same : goal.returns-in-Some-clause-same

@@ -1,4 +1,4 @@
-use Rattle.std.proofs.Common.{◌≡◌, ℕ, suc, IfOk, IfErr, sym, subst}
+use Rattle.std.proofs.Common.{ℕ, suc, IfOk, IfErr, sym, subst}
 use Rattle.std.proofs.Math.Logic.{∥∥₁_map}
 use Rattle.vt_model.specs.Simulation.{Simulation, simulation_of}
 use Rattle.vt_seq.specs.Limits.{IsCounted, IsStepRefusal}
