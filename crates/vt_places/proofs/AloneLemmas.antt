@@ -248,7 +248,7 @@ module _ {S P : Type 0} (sim : Simulation S P) (v : View P) where
           let book = (shown sim b.log).book in
           guarded-here Close fault one b [] v.part refl tt book_cell (in_book book) refl refl (close-any sim book b.before v.part) guard
 
-module _ {S P K : Type 0} (handlers : Handlers S P K) (config : Config) (v w : View P) (before left : HeldWorker S P K) (r : Reaches handlers config v before) (Kept : Type 0) where
+module _ {S P K : Type 0} (handlers : Handlers S P K) (config : Config) (v w : View P) (before left : HeldWorker S P K) (r : Reaches handlers config v before) (Kept : Type 0) {worker : ℕ} (own : v.worker ≡ worker) where
   abbrev sim : Simulation S P
   sim = simulation_of handlers config
 
@@ -258,10 +258,11 @@ module _ {S P K : Type 0} (handlers : Handlers S P K) (config : Config) (v w : V
       let at = d.visits.at in
       (reply, done-alone sim v r.steps r.part step reply at.cell at.found at.known one r.led whose at.about (ap (λ (a : Acted P). a.answer) (d.visits.does.acts r.part r.stands).1))
 
-  pub cut-alone : {X : Type 0} (result : Result X Fault) (seen : Time) → MatchResult result (λ _. Visited handlers config v before (Cut v.worker) Done left seen w) (λ _. Kept)
-      → IfErr result (λ fault. IsCutRefusal sim v fault) → IsRefusedAlone sim v r.steps (Cut v.worker) result
+  pub cut-alone : {X : Type 0} (result : Result X Fault) (seen : Time) → MatchResult result (λ _. Visited handlers config v before (Cut worker) Done left seen w) (λ _. Kept)
+      → IfErr result (λ fault. IsCutRefusal sim v fault) → IsRefusedAlone sim v r.steps (Cut worker) result
   cut-alone result seen done why =
-      by-answer sim v result r.steps (Cut v.worker) (λ _. Visited handlers config v before (Cut v.worker) Done left seen w) Kept (λ fault. IsCutRefusal sim v fault) done why (λ one x d. went (Cut v.worker) Done seen refl one d) stops guards
+      subst (λ (u : ℕ). MatchResult result (λ _. Visited handlers config v before (Cut u) Done left seen w) (λ _. Kept) → IsRefusedAlone sim v r.steps (Cut u) result) own
+      (λ at. by-answer sim v result r.steps (Cut v.worker) (λ _. Visited handlers config v before (Cut v.worker) Done left seen w) Kept (λ fault. IsCutRefusal sim v fault) at why (λ one x d. went (Cut v.worker) Done seen refl one d) stops guards) done
     where
       stops : sim.workers ≡ 1 → (fault f : Fault) → IsCutRefusal sim v fault → (next sim (own_world sim v r.steps) (Cut v.worker)).answer ≡ Err f → fault ≡ f
       stops one fault f (inl busy) no_step = absurd (let more = busy.1 in omega arith)
@@ -277,10 +278,11 @@ module _ {S P K : Type 0} (handlers : Handlers S P K) (config : Config) (v w : V
           let board = (shown sim b.log).board in
           guarded-here sim v (Cut v.worker) fault one b r.steps r.part r.led refl board_cell (on_board board) refl refl (cut-any sim v.worker board b.before r.part) guard
 
-  pub report-alone : {X : Type 0} (result : Result X Fault) (seen : Time) (reply : X → Reply) → IsLawful sim → MatchResult result (λ x. Visited handlers config v before (Report v.worker) (reply x) left seen w) (λ _. Kept)
-      → IfErr result (λ fault. IsReportRefusal sim v fault) → IsRefusedAlone sim v r.steps (Report v.worker) result
+  pub report-alone : {X : Type 0} (result : Result X Fault) (seen : Time) (reply : X → Reply) → IsLawful sim → MatchResult result (λ x. Visited handlers config v before (Report worker) (reply x) left seen w) (λ _. Kept)
+      → IfErr result (λ fault. IsReportRefusal sim v fault) → IsRefusedAlone sim v r.steps (Report worker) result
   report-alone result seen reply lawful done why =
-      by-answer sim v result r.steps (Report v.worker) (λ x. Visited handlers config v before (Report v.worker) (reply x) left seen w) Kept (λ fault. IsReportRefusal sim v fault) done why (λ one x d. went (Report v.worker) (reply x) seen refl one d) stops guards
+      subst (λ (u : ℕ). MatchResult result (λ x. Visited handlers config v before (Report u) (reply x) left seen w) (λ _. Kept) → IsRefusedAlone sim v r.steps (Report u) result) own
+      (λ at. by-answer sim v result r.steps (Report v.worker) (λ x. Visited handlers config v before (Report v.worker) (reply x) left seen w) Kept (λ fault. IsReportRefusal sim v fault) at why (λ one x d. went (Report v.worker) (reply x) seen refl one d) stops guards) done
     where
       stops : sim.workers ≡ 1 → (fault f : Fault) → IsReportRefusal sim v fault → (next sim (own_world sim v r.steps) (Report v.worker)).answer ≡ Err f → fault ≡ f
       stops one fault f (inl busy) no_step = absurd (let more = busy.1 in omega arith)
@@ -308,10 +310,11 @@ module _ {S P K : Type 0} (handlers : Handlers S P K) (config : Config) (v w : V
               not-both (next sim (refusing sim v (Report v.worker) fault one x.0 r.steps r.part r.led refl) (Report v.worker)).answer taken.0 fault taken.1
               (by-guard sim v (Report v.worker) fault one x.0 r.steps r.part r.led refl guard)
 
-  pub commit-alone : {X : Type 0} (result : Result X Fault) (DoneSo : X → Type 0) → IsLawful sim → v.worker < sim.workers → ((x : X) → DoneSo x → (seen : Time) × Visited handlers config v before (Commit v.worker) Done left seen w)
-      → MatchResult result DoneSo (λ _. Kept) → IfErr result (λ fault. IsCommitRefusal sim v fault) → IsRefusedAlone sim v r.steps (Commit v.worker) result
-  commit-alone result DoneSo lawful known visits done why =
-      by-answer sim v result r.steps (Commit v.worker) DoneSo Kept (λ fault. IsCommitRefusal sim v fault) done why (λ one x d. (let e = visits x d in went (Commit v.worker) Done e.0 refl one e.1)) stops guards
+  pub commit-alone : {X : Type 0} (result : Result X Fault) → IsLawful sim → v.worker < sim.workers → MatchResult result (λ _. (seen : Time) × Visited handlers config v before (Commit worker) Done left seen w) (λ _. Kept)
+      → IfErr result (λ fault. IsCommitRefusal sim v fault) → IsRefusedAlone sim v r.steps (Commit worker) result
+  commit-alone result lawful known done why =
+      subst (λ (u : ℕ). MatchResult result (λ _. (seen : Time) × Visited handlers config v before (Commit u) Done left seen w) (λ _. Kept) → IsRefusedAlone sim v r.steps (Commit u) result) own
+      (λ at. by-answer sim v result r.steps (Commit v.worker) (λ _. (seen : Time) × Visited handlers config v before (Commit v.worker) Done left seen w) Kept (λ fault. IsCommitRefusal sim v fault) at why (λ one x d. went (Commit v.worker) Done d.0 refl one d.1) stops guards) done
     where
       by_closed : (fault f : Fault) → sim.workers ≡ 1 → (b : IsRefusedBy sim v (Commit v.worker) fault) → (next sim (own_world sim v r.steps) (Commit v.worker)).answer ≡ Err f → (c : Bool) → (shown sim b.log).book.is_closed ≡ c → fault ≡ f
       by_closed fault f one b no_step true is =

@@ -1,6 +1,7 @@
 -- From a claim to a release: what a seat holds in between, and that its place is the same.
-use Rattle.std.proofs.Common.{◌≡◌, ℕ, ◌<◌, List, [], ◌∷◌, sym, ◌∙◌, ap, subst, Some}
+use Rattle.std.proofs.Common.{◌≡◌, ℕ, ◌<◌, List, [], ◌∷◌, sym, refl, ◌∙◌, ap, subst, Some, Result, Ok, Err, MatchResult, IfErr}
 use Rattle.vt_key.specs.Times.{Time}
+use Rattle.vt_key.specs.declared.fault.Fault.{Fault}
 use Rattle.vt_key.specs.declared.letter.Mail.{Mail}
 use Rattle.vt_model.specs.declared.settings.Config.{Config}
 use Rattle.vt_model.specs.Handler.{Handlers}
@@ -19,7 +20,7 @@ use Rattle.vt_places.specs.declared.view.View.{View}
 use Rattle.vt_places.specs.Hands.{Hand, holding}
 use Rattle.vt_places.specs.Slots.{held_in}
 use Rattle.vt_places.specs.Kept.{Sat, Rests}
-use Rattle.vt_places.specs.Calls.{Unvisited, Known, Took, TookThere, Holding, IsDoneAt, Closes, Visited, Stays}
+use Rattle.vt_places.specs.Calls.{Unvisited, Known, Took, TookThere, Holding, IsDoneAt, Closes, Visited, Stays, answer_as}
 use Rattle.vt_places.proofs.Cells.{inbox-name, board-name, book-name, inbox-holds, board-holds, book-holds}
 
 -- a view that differs in its hand alone
@@ -87,6 +88,21 @@ module _ {S P K : Type 0} (handlers : Handlers S P K) (config : Config) (v w : V
       → Visited handlers config v lent step said done v.seen after
   visited-there lent done said h was is answers r =
       subst (λ (k : HeldWorker S P K × HeldWorker S P K × Reply). Visited handlers config v k.0 step k.2 k.1 v.seen after) (λ i. (was i, is i, answers i)) (visited-held h r)
+
+-- a step that was done or refused, and how its call was answered
+module _ {S P K : Type 0} (handlers : Handlers S P K) (config : Config) (v w : View P) (before left lent done : HeldWorker S P K) (step : Step) (after : View P) (h : WithHand v w) (was : before ≡ lent) (is : left ≡ done) (Same : Type 0) where
+  abbrev Left : Result Reply Fault → Type 0
+  Left answer = MatchResult answer (λ reply. Visited handlers config w before step reply left w.seen after) (λ _. Unvisited w w.seen after)
+
+  pub tried-there : {X : Type 0} (reply : X → Reply) (result : Result X Fault) {answer : Result Reply Fault} → answer ≡ answer_as reply result → Left answer
+      → IfErr answer (λ _. (done ≡ lent) × Same) → MatchResult result (λ x. Visited handlers config v lent step (reply x) done v.seen after) (λ _. Stays v after × (done ≡ lent))
+  tried-there reply (Ok x) told r kept = visited-there handlers config v w before left step (reply x) after lent done (reply x) h was is refl (subst Left told r)
+  tried-there reply (Err fault) told r kept = (stays-held v w after h (subst Left told r), (subst (λ (a : Result Reply Fault). IfErr a (λ _. (done ≡ lent) × Same)) told kept).0)
+
+-- a call is refused for the reason of its step
+pub tried-refused : {X : Type 0} (reply : X → Reply) (result : Result X Fault) {answer : Result Reply Fault} (why : Fault → Type 0) → answer ≡ answer_as reply result → IfErr answer why → IfErr result why
+tried-refused reply (Ok x) why told r = tt
+tried-refused reply (Err fault) why told r = subst (λ (a : Result Reply Fault). IfErr a why) told r
 
 module _ {S P : Type 0} {sim : Simulation S P} {config : Config} {m after : Sat P} {k : ℕ} (t : Took sim config m k after) (rests : Rests m) where
   -- a claim leaves the place as it was

@@ -9,7 +9,6 @@ pub mod CommitRelease
 pub mod HeldLemmas
 pub mod ActLemmas
 pub mod CallLemmas
-pub mod GuardLemmas
 pub mod AloneLemmas
 pub mod Opening
 pub mod BookAt

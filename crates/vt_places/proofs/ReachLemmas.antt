@@ -9,6 +9,7 @@ use Rattle.vt_model.specs.Handler.{Handlers}
 use Rattle.vt_model.specs.declared.settings.Config.{Config}
 use Rattle.vt_model.specs.Simulation.{Simulation, simulation_of}
 use Rattle.vt_steps.specs.declared.step.Step.{Step}
+use Rattle.vt_steps.specs.declared.step.Reply.{Reply}
 use Rattle.vt_steps.specs.World.{Part, opening_part}
 use Rattle.vt_kernel.specs.Held.{HeldWorker, StandsFor}
 use Rattle.vt_kernel.specs.Local.{local_step, local_steps}
@@ -16,7 +17,7 @@ use Rattle.vt_kernel.specs.Guards.{IsDone, SettlesTo}
 use Rattle.vt_places.specs.declared.view.View.{View}
 use Rattle.vt_places.specs.Kept.{Sat}
 use Rattle.vt_places.specs.Making.{Opens}
-use Rattle.vt_places.specs.Calls.{HasSameSteps, Unvisited, Closes, Stays, Reaches}
+use Rattle.vt_places.specs.Calls.{HasSameSteps, Unvisited, Closes, Stays, Reaches, Visited}
 
 module _ {S P : Type 0} (sim : Simulation S P) (w : ℕ) where
   -- a list of steps and then another
@@ -95,6 +96,24 @@ module _ {S P K : Type 0} (handlers : Handlers S P K) (config : Config) (v w : V
 
   reaches-steps : HasSameSteps v w → Reaches handlers config w k
   reaches-steps h = reaches-there h.same.worker h.part
+
+  -- after a step at a cell
+  pub reaches-visited : (left : HeldWorker S P K) (seen : Time) (step : Step) (reply : Reply) → Visited handlers config v k step reply left seen w → Reaches handlers config w left
+  reaches-visited left seen step reply d =
+      record {
+        worker = d.visits.does.worker ∙ r.worker ∙ sym d.same.worker;
+        config_is = d.visits.does.config_is ∙ r.config_is;
+        steps = [];
+        part = w.part;
+        led = refl;
+        stands = d.visits.stands;
+      }
+
+  -- done or refused
+  pub reaches-tried : (left : HeldWorker S P K) (step : Step) (answer : Result Reply Fault) (Same : Type 0) → MatchResult answer (λ reply. Visited handlers config v k step reply left v.seen w) (λ _. Unvisited v v.seen w)
+      → IfErr answer (λ _. (left ≡ k) × Same) → Reaches handlers config w left
+  reaches-tried left step (Ok reply) Same d kept = reaches-visited left v.seen step reply d
+  reaches-tried left step (Err fault) Same d kept = subst (λ (h : HeldWorker S P K). Reaches handlers config w h) (sym kept.0) (reaches-steps d.steps)
 
   -- after a close, done or refused
   pub reaches-closed : {S' X : Type 0} (sim : Simulation S' P) (seen : Time) (result : Result X Fault) → MatchResult result (λ _. Closes sim v seen w) (λ _. Stays v w) → Reaches handlers config w k

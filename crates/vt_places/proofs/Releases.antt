@@ -1,9 +1,10 @@
 -- The release after each call, in the words of its contract.
-use Rattle.std.proofs.Common.{◌≡◌, ◌≢◌, ◌⊎◌, inl, inr, ℕ, ◌%◌, ◌<◌, arith, cond, List, [], ◌∷◌, ◌++◌, refl, sym, ◌∙◌, ap, subst, le_refl, nat_eq, Option, Some, None, Ok}
+use Rattle.std.proofs.Common.{◌≡◌, ◌≢◌, ◌⊎◌, inl, inr, ℕ, ◌%◌, ◌<◌, arith, cond, List, [], ◌∷◌, ◌++◌, refl, sym, ◌∙◌, ap, subst, le_refl, nat_eq, Option, Some, None, Result, Ok, Err, MatchResult}
 use Rattle.std.proofs.lemmas.List.{append-nil}
 use Rattle.std.proofs.lemmas.Bool.Decides.{eqb_tells}
 use Rattle.atomic_table.specs.Table.{Allows}
 use Rattle.vt_key.specs.Times.{Time, TimeAtMost}
+use Rattle.vt_key.specs.declared.fault.Fault.{Fault}
 use Rattle.vt_model.specs.Handler.{Handlers}
 use Rattle.vt_model.specs.Histories.{IsLawful}
 use Rattle.vt_model.specs.declared.settings.Config.{Config}
@@ -26,7 +27,7 @@ use Rattle.vt_places.specs.declared.view.View.{View}
 use Rattle.vt_places.specs.Hands.{empty_hand}
 use Rattle.vt_places.specs.Slots.{cell_count, word_at, empty_word, claimed_word, home_word, cell_at, held_in}
 use Rattle.vt_places.specs.Kept.{Sat, HasGrown, Kept, Rests}
-use Rattle.vt_cells.specs.Calls.{Acts}
+use Rattle.vt_cells.specs.Calls.{Acts, IsCellStepOf}
 use Rattle.vt_places.specs.Calls.{seen_or, Unvisited, Closes, Known, Reaches, Visited, Holding, ShowsFloor, MaySee}
 use Rattle.vt_places.proofs.Growth.{grown-not}
 use Rattle.vt_places.proofs.Keeps.{releases, Looked, looks}
@@ -83,23 +84,27 @@ empty-not_claimed e = absurd (omega arith)
 pub home-not_empty : {X : Type 0} → home_word ≡ empty_word → X
 home-not_empty e = absurd (omega arith)
 
+-- a seat has given its cell back: it holds none, and is of the same worker
+abbrev pub GaveBack : {P : Type 0} → Sat P → Sat P → Type 0
+GaveBack m after = Rests after × (after.0.worker ≡ m.0.worker)
+
 pub may-see : {P : Type 0} (end t : Time) (seen : Option Time) (cell : Cell P) → MaySee end seen cell → TimeAtMost (seen_or t seen) t ⊎ ShowsFloor end (seen_or t seen) cell
 may-see end t None cell h = inl (le_refl t)
 may-see end t (Some now) cell h = inr h
 
 module _ {S P K : Type 0} (handlers : Handlers S P K) (config : Config) (lawful : IsLawful (simulation_of handlers config)) where
   -- without a step, and with the cell as it was
-  pub leaves-unvisited : (slots id k : ℕ) (m : Sat P) (seen : Option Time) (found : Cell P) → k < cell_count config.workers → Holding config m k found found → MaySee (end_of config) seen found
-      → Allows (Kept (simulation_of handlers config) config) slots id m (word_at k) (λ _. home_word) (λ _. (λ (n : ℕ) (after : Sat P). (after.1 ≡ []) × Unvisited m.0 (seen_or m.0.seen seen) after.0) home_word)
-  leaves-unvisited slots id k m seen found near h sees =
+  pub leaves-unvisited : (slots id k x : ℕ) (m : Sat P) (seen : Option Time) (found : Cell P) → k < cell_count config.workers → x ≢ claimed_word → (x ≡ empty_word → found ≡ in_inbox []) → Holding config m k found found → MaySee (end_of config) seen found
+      → Allows (Kept (simulation_of handlers config) config) slots id m (word_at k) (λ _. x) (λ _. (λ (n : ℕ) (after : Sat P). GaveBack m after × Unvisited m.0 (seen_or m.0.seen seen) after.0) x)
+  leaves-unvisited slots id k x m seen found near home empty h sees =
       let sim = simulation_of handlers config in
       let same : Leads sim m.0.worker (cell_at sim.workers k) m.0.part found [] m.0.part (held_in h.slot) [] =
       subst (λ (c : Cell P). Leads sim m.0.worker (cell_at sim.workers k) m.0.part found [] m.0.part c []) (sym h.now_is) (leads-nowhere sim m.0.worker (cell_at sim.workers k) m.0.part found) in
-      releases sim config lawful slots id k home_word m found h.slot [] m.0.part [] (λ _. m.0.log) (seen_or m.0.seen seen) (λ (n : ℕ) (after : Sat P). (after.1 ≡ []) × Unvisited m.0 (seen_or m.0.seen seen) after.0) near home-not_claimed (λ e _. home-not_empty e) h.carried h.hand h.right same
+      releases sim config lawful slots id k x m found h.slot [] m.0.part [] (λ _. m.0.log) (seen_or m.0.seen seen) (λ (n : ℕ) (after : Sat P). GaveBack m after × Unvisited m.0 (seen_or m.0.seen seen) after.0) near home (λ e _. h.now_is ∙ empty e) h.carried h.hand h.right same
       (λ log g. subst (HasGrown m.0.worker m.0.log) (sym (append-nil log)) g)
       (subst (λ (c : Cell P). TimeAtMost (seen_or m.0.seen seen) m.0.seen ⊎ ShowsFloor sim.end (seen_or m.0.seen seen) c) (sym h.now_is) (may-see (end_of config) m.0.seen seen found sees))
       (λ n known. (
-        refl,
+        ((refl, refl), refl),
         record {
           steps = record { same = record { worker = refl; made = refl; waiting = refl }; part = refl; mine = append-nil m.0.mine; log = refl };
           floor = refl;
@@ -139,17 +144,29 @@ module _ {S P K : Type 0} (handlers : Handlers S P K) (config : Config) (lawful 
       → x ≢ claimed_word → (x ≡ empty_word → now ≡ in_inbox [])
       → IsAny (worker_of (simulation_of handlers config) step) m.0.worker → IsAny (cell_of step) (cell_at config.workers k)
       → Holding config m k found now → Acts handlers config step reply before found left now → Reaches handlers config m.0 before
-      → Allows (Kept (simulation_of handlers config) config) slots id m (word_at k) (λ _. x) (λ _. (λ (n : ℕ) (after : Sat P). (after.1 ≡ []) × Visited handlers config m.0 before step reply left m.0.seen after.0) x)
+      → Allows (Kept (simulation_of handlers config) config) slots id m (word_at k) (λ _. x) (λ _. (λ (n : ℕ) (after : Sat P). GaveBack m after × Visited handlers config m.0 before step reply left m.0.seen after.0) x)
   leaves-visited slots id k x m found now before left step reply near home empty whose at h does way =
       let sim = simulation_of handlers config in
       let a = does.acts way.part way.stands in
       let goes : Leads sim m.0.worker (cell_at sim.workers k) m.0.part found (way.steps ++ step ∷ []) a.0 now (made_done way.steps ++ record { step = step; reply = reply } ∷ []) =
       leads sim m.0.worker (cell_at sim.workers k) way.steps step m.0.part way.part a.0 found now reply (steps-lead sim m.0.worker way.steps m.0.part way.part way.led) whose at a.1 in
       releases sim config lawful slots id k x m found h.slot (way.steps ++ step ∷ []) a.0 (made_done way.steps ++ record { step = step; reply = reply } ∷ []) (λ log. log ++ marked m.0.worker (way.steps ++ step ∷ [])) m.0.seen
-      (λ (n : ℕ) (after : Sat P). (after.1 ≡ []) × Visited handlers config m.0 before step reply left m.0.seen after.0) near home (λ e _. h.now_is ∙ empty e) h.carried h.hand h.right
+      (λ (n : ℕ) (after : Sat P). GaveBack m after × Visited handlers config m.0 before step reply left m.0.seen after.0) near home (λ e _. h.now_is ∙ empty e) h.carried h.hand h.right
       (subst (λ (c : Cell P). Leads sim m.0.worker (cell_at sim.workers k) m.0.part found (way.steps ++ step ∷ []) a.0 c (made_done way.steps ++ record { step = step; reply = reply } ∷ [])) (sym h.now_is) goes)
       (λ log _. grown-not m.0.worker (log ++ marked m.0.worker (way.steps ++ step ∷ []))) (inl (le_refl m.0.seen))
-      (λ n known. (refl, visited-at k m.0 found now before left step reply at does way known))
+      (λ n known. (((refl, refl), refl), visited-at k m.0 found now before left step reply at does way known))
+
+  -- after local steps and one step at the cell that was done or refused
+  pub leaves-tried : (slots id k x : ℕ) (m : Sat P) (found now : Cell P) (before left : HeldWorker S P K) (step : Step) (answer : Result Reply Fault) → k < cell_count config.workers
+      → x ≢ claimed_word → (x ≡ empty_word → now ≡ in_inbox [])
+      → IsAny (worker_of (simulation_of handlers config) step) m.0.worker → IsAny (cell_of step) (cell_at config.workers k)
+      → Holding config m k found now → IsCellStepOf handlers config step before left found now answer → Reaches handlers config m.0 before
+      → Allows (Kept (simulation_of handlers config) config) slots id m (word_at k) (λ _. x)
+      (λ _. (λ (n : ℕ) (after : Sat P). GaveBack m after × MatchResult answer (λ reply. Visited handlers config m.0 before step reply left m.0.seen after.0) (λ _. Unvisited m.0 m.0.seen after.0)) x)
+  leaves-tried slots id k x m found now before left step (Ok reply) near home empty whose at h tried way = leaves-visited slots id k x m found now before left step reply near home empty whose at h tried.done way
+  leaves-tried slots id k x m found now before left step (Err fault) near home empty whose at h tried way =
+      let same = tried.unchanged.1 in
+      leaves-unvisited slots id k x m None found near home (λ e. sym same ∙ empty e) (subst (λ c. Holding config m k found c) same h) tt
 
   -- at a load that finds an inbox empty, after local steps and one step that finds it so and leaves it so
   pub leaves-looked : (slots id k : ℕ) (m : Sat P) (before left : HeldWorker S P K) (step : Step) (reply : Reply) → k < config.workers → Rests m

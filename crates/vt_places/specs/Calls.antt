@@ -40,6 +40,11 @@ abbrev pub seen_or : Time → Option Time → Time
 seen_or before None = before
 seen_or before (Some now) = now
 
+-- an answer as that of a step, by the reply that its value stands for
+abbrev pub answer_as : {X : Type 0} → (X → Reply) → Result X Fault → Result Reply Fault
+answer_as reply (Ok x) = Ok (reply x)
+answer_as reply (Err fault) = Err fault
+
 -- ---- what changes of a view
 
 module _ {P : Type 0} where

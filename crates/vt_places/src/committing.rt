@@ -1,19 +1,18 @@
 //! The book: commit, close and what it shows.
 
-ghost use Rattle.std.specs.Prelude.{◌≡◌, ◌<◌, IfOk, IfErr, MatchResult};
+ghost use Rattle.std.specs.Prelude.{◌≡◌, ◌<◌, [], IfOk, IfErr, MatchResult};
 ghost use Rattle.vt_key.specs.Times.{Time as TimeValue};
 ghost use Rattle.vt_key.specs.declared.fault.Fault.TheVariants.{Busy};
 ghost use Rattle.vt_model.specs.Simulation.{simulation_of};
 ghost use Rattle.vt_model.specs.Settings.{end_of};
 ghost use Rattle.vt_steps.specs.declared.step.Step.TheVariants as step;
 ghost use Rattle.vt_steps.specs.declared.step.Reply.TheVariants as reply;
-ghost use Rattle.vt_places.specs.Kept.{Rests};
-ghost use Rattle.vt_places.specs.Told.{station_model, station_config, station_table, place_table, place_view};
-ghost use Rattle.vt_places.specs.Calls.{Reaches, Visited, Closes, Unvisited, Stays, ShowsFloor, IsCommitRefusal, IsCloseRefusal, IsRecordsRefusal, IsFloorLeft, AreRecordsShown, IsRefusedOnceClosed};
+ghost use Rattle.vt_places.specs.Told.{station_model, station_config, station_table, place_table, place_worker, place_view};
+ghost use Rattle.vt_places.specs.Calls.{Reaches, Visited, Closes, Unvisited, Stays, ShowsFloor, IsCommitRefusal, IsCloseRefusal, IsRecordsRefusal, IsFloorLeft, AreRecordsShown, IsRefusedOnceClosed, IsRefusedAlone};
 
 use crate::place::Place;
 use crate::slot::Slot;
-use crate::station::{Lent, Seat, Station};
+use crate::station::{Lent, Station};
 use std::alloc::Global;
 use std::mem;
 use std::snapshot::Snapshot;
@@ -23,28 +22,31 @@ use vt_key::Fault;
 use vt_model::{Model as EventModel, Record};
 
 impl<M: EventModel> Station<M> {
-    /// The commit of a worker. Its rows are made before the book is claimed, and its kernel forgets them after the book is given
-    /// back.
-    pub(crate) fn commit_at(
+    /// The worker hands the rows of its events below its floor in to the book. It will never undo these events.
+    ///
+    /// [`Fault::Busy`]: another place has claimed the book. [`Fault::Closed`]: the book is closed. [`Fault::Memory`]:
+    /// memory was refused. After each of them the place and the kernel are unchanged.
+    pub fn commit(
         &self,
         alloc: Global,
-        seat: &mut Seat<M>,
+        place: &mut Place<M::Payload>,
         kernel: &mut Kernel<M>,
-        worker: u32,
     ) -> Result<(), Fault>
-        requires table { seat.old.table_id ≡ self.now.table.shared.table_id }
-        requires rests { Rests seat.old.me }
-        requires worker { seat.old.me.0.worker ≡ worker }
-        requires kernel { let key = self.now.table.shared.key in Reaches (M.handlers key.model.value) key.config seat.old.me.0 kernel.old }
-        ensures same { (seat.new.table_id ≡ seat.old.table_id) × (seat.new.id ≡ seat.old.id) × Rests seat.new.me }
-        ensures done { let key = self.now.table.shared.key in MatchResult result
-            (λ _. (shown : TimeValue) × (visited : Visited (M.handlers key.model.value) key.config seat.old.me.0 kernel.old (step.Commit worker) reply.Done kernel.new shown seat.new.me.0)
-            × ShowsFloor (end_of key.config) shown visited.visits.at.now × IsFloorLeft (simulation_of (M.handlers key.model.value) key.config) seat.old.me.0 (step.Commit worker) shown)
-            (λ _. Stays seat.old.me.0 seat.new.me.0 × (kernel.new ≡ kernel.old)) }
-        ensures refused { let key = self.now.table.shared.key in IfErr result (λ fault. IsCommitRefusal (simulation_of (M.handlers key.model.value) key.config) seat.old.me.0 fault) }
-        ensures closed { IsRefusedOnceClosed seat.old.me.0 result }
+        requires own { place_table place.old ≡ station_table self.now }
+        requires kernel { Reaches (M.handlers (station_model self.now)) (station_config self.now) (place_view place.old) kernel.old }
+        ensures same { (place_table place.new ≡ place_table place.old) × (place_worker place.new ≡ place_worker place.old) }
+        ensures done { let handlers = M.handlers (station_model self.now) in let config = station_config self.now in MatchResult result
+            (λ _. (shown : TimeValue) × (visited : Visited handlers config (place_view place.old) kernel.old (step.Commit (place_worker place.old)) reply.Done kernel.new shown (place_view place.new))
+            × ShowsFloor (end_of config) shown visited.visits.at.now × IsFloorLeft (simulation_of handlers config) (place_view place.old) (step.Commit (place_worker place.old)) shown)
+            (λ _. Stays (place_view place.old) (place_view place.new) × (kernel.new ≡ kernel.old)) }
+        ensures refused { IfErr result (λ fault. IsCommitRefusal (simulation_of (M.handlers (station_model self.now)) (station_config self.now)) (place_view place.old) fault) }
+        ensures closed { IsRefusedOnceClosed (place_view place.old) result }
+        ensures alone { let handlers = M.handlers (station_model self.now) in let config = station_config self.now in (reaches : Reaches handlers config (place_view place.old) kernel.old) → IsRefusedAlone (simulation_of handlers config) (place_view place.old) reaches.steps (step.Commit (place_worker place.old)) result }
+        ensures ready { Reaches (M.handlers (station_model self.now)) (station_config self.now) (place_view place.new) kernel.new }
     {
         let batch = batch_of(alloc, kernel);
+        let worker = place.worker;
+        let seat = &mut place.seat;
         if !self.claim_book(seat) {
             return Err(Fault::Busy);
         }
@@ -70,18 +72,20 @@ impl<M: EventModel> Station<M> {
             }
         }
     }
-}
 
-impl<M: EventModel> Station<M> {
-    /// The close.
-    pub(crate) fn close_at(&self, seat: &mut Seat<M>) -> Result<(), Fault>
-        requires table { seat.old.table_id ≡ self.now.table.shared.table_id }
-        requires rests { Rests seat.old.me }
-        ensures same { (seat.new.table_id ≡ seat.old.table_id) × (seat.new.id ≡ seat.old.id) × Rests seat.new.me }
-        ensures done { let key = self.now.table.shared.key in MatchResult result (λ _. Closes (simulation_of (M.handlers key.model.value) key.config) seat.old.me.0 (end_of key.config) seat.new.me.0) (λ _. Stays seat.old.me.0 seat.new.me.0) }
-        ensures refused { let key = self.now.table.shared.key in IfErr result (λ fault. IsCloseRefusal (simulation_of (M.handlers key.model.value) key.config) seat.old.me.0 fault) }
-        ensures closed { IsRefusedOnceClosed seat.old.me.0 result }
+    /// Closes the book, whose floor must be the end of the run: no row will follow. It takes no memory.
+    ///
+    /// [`Fault::Busy`]: another place has claimed the book. [`Fault::Closed`]: the book is closed.
+    /// [`Fault::NotLawful`]: its floor isn't the end of the run. After each of them the place is unchanged.
+    pub fn close(&self, place: &mut Place<M::Payload>) -> Result<(), Fault>
+        requires own { place_table place.old ≡ station_table self.now }
+        ensures same { (place_table place.new ≡ place_table place.old) × (place_worker place.new ≡ place_worker place.old) }
+        ensures done { let handlers = M.handlers (station_model self.now) in let config = station_config self.now in MatchResult result (λ _. Closes (simulation_of handlers config) (place_view place.old) (end_of config) (place_view place.new)) (λ _. Stays (place_view place.old) (place_view place.new)) }
+        ensures refused { IfErr result (λ fault. IsCloseRefusal (simulation_of (M.handlers (station_model self.now)) (station_config self.now)) (place_view place.old) fault) }
+        ensures alone { IsRefusedAlone (simulation_of (M.handlers (station_model self.now)) (station_config self.now)) (place_view place.old) [] step.Close result }
+        ensures closed { IsRefusedOnceClosed (place_view place.old) result }
     {
+        let seat = &mut place.seat;
         if !self.claim_book(seat) {
             return Err(Fault::Busy);
         }
@@ -102,16 +106,24 @@ impl<M: EventModel> Station<M> {
         }
     }
 
-    /// The records that the book shows.
-    pub(crate) fn records_at(&self, alloc: Global, seat: &mut Seat<M>) -> Result<Vec<Record>, Fault>
-        requires table { seat.old.table_id ≡ self.now.table.shared.table_id }
-        requires rests { Rests seat.old.me }
-        ensures same { (seat.new.table_id ≡ seat.old.table_id) × (seat.new.id ≡ seat.old.id) × Rests seat.new.me }
-        ensures done { let key = self.now.table.shared.key in MatchResult result
-            (λ v. (floor : TimeValue) × AreRecordsShown (simulation_of (M.handlers key.model.value) key.config) seat.old.me.0 floor v.items × Unvisited seat.old.me.0 floor seat.new.me.0)
-            (λ _. Stays seat.old.me.0 seat.new.me.0) }
-        ensures refused { let key = self.now.table.shared.key in IfErr result (λ fault. IsRecordsRefusal (simulation_of (M.handlers key.model.value) key.config) fault) }
+    /// Copies of the records that the book shows: exactly the sequential run's below some floor. That floor is at least
+    /// each floor that this place was shown before.
+    ///
+    /// [`Fault::Busy`]: another place has claimed the book. [`Fault::Memory`]: memory was refused. After either the
+    /// place is unchanged.
+    pub fn records(
+        &self,
+        alloc: Global,
+        place: &mut Place<M::Payload>,
+    ) -> Result<Vec<Record>, Fault>
+        requires own { place_table place.old ≡ station_table self.now }
+        ensures same { (place_table place.new ≡ place_table place.old) × (place_worker place.new ≡ place_worker place.old) }
+        ensures done { let handlers = M.handlers (station_model self.now) in let config = station_config self.now in MatchResult result
+            (λ v. (floor : TimeValue) × AreRecordsShown (simulation_of handlers config) (place_view place.old) floor v.items × Unvisited (place_view place.old) floor (place_view place.new))
+            (λ _. Stays (place_view place.old) (place_view place.new)) }
+        ensures refused { IfErr result (λ fault. IsRecordsRefusal (simulation_of (M.handlers (station_model self.now)) (station_config self.now)) fault) }
     {
+        let seat = &mut place.seat;
         if !self.claim_book(seat) {
             return Err(Fault::Busy);
         }
@@ -149,5 +161,16 @@ impl<M: EventModel> Station<M> {
             unreachable!()
         };
         Ok(book.into_records())
+    }
+
+    /// The same records, taken out of the book and not copied, with the end of the station. It takes no memory.
+    ///
+    /// [`Fault::Busy`]: another place had claimed the book.
+    pub fn into_records(self, alloc: Global, place: Place<M::Payload>) -> Result<Vec<Record>, Fault>
+        requires own { place_table place ≡ station_table self }
+        ensures shown { let sim = simulation_of (M.handlers (station_model self)) (station_config self) in IfOk result (λ v. (floor : TimeValue) × AreRecordsShown sim (place_view place) floor v.items) }
+        ensures refused { IfErr result (λ fault. (fault ≡ Busy) × (1 < (station_config self).workers)) }
+    {
+        self.take_out(alloc, place)
     }
 }

@@ -5,83 +5,52 @@ ghost use Rattle.vt_model.specs.Simulation.{simulation_of};
 ghost use Rattle.vt_steps.specs.declared.step.Step.TheVariants as step;
 ghost use Rattle.vt_steps.specs.declared.step.Reply.TheVariants as reply;
 ghost use Rattle.vt_board.specs.Calls.{reply_of};
-ghost use Rattle.vt_places.specs.Kept.{Rests};
-ghost use Rattle.vt_places.specs.Calls.{Reaches, Visited, Stays, IsCutRefusal, IsReportRefusal};
+ghost use Rattle.vt_cells.specs.Calls.{answer_of};
+ghost use Rattle.vt_places.specs.Told.{station_model, station_config, station_table, place_table, place_worker, place_view};
+ghost use Rattle.vt_places.specs.Calls.{Reaches, Visited, Stays, IsCutRefusal, IsReportRefusal, IsRefusedAlone, answer_as};
 
+use crate::place::Place;
 use crate::slot::Slot;
-use crate::station::{Seat, Station, Visit};
+use crate::station::{HOME, Station, Visit};
 use std::snapshot::Snapshot;
 use vt_board::Report;
 use vt_cells::{cut, reply_of, report};
 use vt_kernel::Kernel;
 use vt_key::Fault;
 use vt_model::Model as EventModel;
-use vt_steps::Step;
+use vt_steps::{Reply, Step};
 
-impl<M: EventModel> Station<M> {
-    /// Does a worker's cut.
-    pub(crate) fn cut_at(
-        &self,
-        seat: &mut Seat<M>,
-        kernel: &mut Kernel<M>,
-        worker: u32,
-    ) -> Result<(), Fault>
-        requires table { seat.old.table_id ≡ self.now.table.shared.table_id }
-        requires rests { Rests seat.old.me }
-        requires worker { seat.old.me.0.worker ≡ worker }
-        requires kernel { let key = self.now.table.shared.key in Reaches (M.handlers key.model.value) key.config seat.old.me.0 kernel.old }
-        ensures same { (seat.new.table_id ≡ seat.old.table_id) × (seat.new.id ≡ seat.old.id) × Rests seat.new.me }
-        ensures done { let key = self.now.table.shared.key in MatchResult result
-            (λ _. Visited (M.handlers key.model.value) key.config seat.old.me.0 kernel.old (step.Cut worker) reply.Done kernel.new seat.old.me.0.seen seat.new.me.0)
-            (λ _. Stays seat.old.me.0 seat.new.me.0 × (kernel.new ≡ kernel.old)) }
-        ensures refused { let key = self.now.table.shared.key in IfErr result (λ fault. IsCutRefusal (simulation_of (M.handlers key.model.value) key.config) seat.old.me.0 fault) }
-    {
-        if !self.claim_board(seat) {
-            return Err(Fault::Busy);
-        }
-        let before = Snapshot::of(kernel);
-        let held = seat.slot_mut(&self.table.shared, self.workers);
-        let Slot::Board(board) = held else {
-            unreachable!()
-        };
-        match cut(kernel, worker, board) {
-            Ok(reply) => {
-                let visit = Visit {
-                    step: Step::Cut(worker),
-                    reply,
-                    before,
-                    left: Snapshot::of(kernel),
-                };
-                self.release_visit(seat, self.workers, &visit);
-                Ok(())
-            }
-            Err(fault) => {
-                self.release_unchanged(seat, self.workers, None);
-                Err(fault)
-            }
-        }
+/// What a report was answered, as the answer of a step.
+fn answer_of(answer: &Result<Report, Fault>) -> Result<Reply, Fault>
+    ensures step { result ≡ answer_of answer.now }
+    ensures told { result ≡ answer_as reply_of answer.now }
+{
+    match answer {
+        Ok(report) => Ok(reply_of(*report)),
+        Err(fault) => Err(*fault),
     }
 }
 
 impl<M: EventModel> Station<M> {
-    /// Does a worker's report.
-    pub(crate) fn report_at(
-        &self,
-        seat: &mut Seat<M>,
-        kernel: &mut Kernel<M>,
-        worker: u32,
-    ) -> Result<Report, Fault>
-        requires table { seat.old.table_id ≡ self.now.table.shared.table_id }
-        requires rests { Rests seat.old.me }
-        requires worker { seat.old.me.0.worker ≡ worker }
-        requires kernel { let key = self.now.table.shared.key in Reaches (M.handlers key.model.value) key.config seat.old.me.0 kernel.old }
-        ensures same { (seat.new.table_id ≡ seat.old.table_id) × (seat.new.id ≡ seat.old.id) × Rests seat.new.me }
-        ensures done { let key = self.now.table.shared.key in MatchResult result
-            (λ report. Visited (M.handlers key.model.value) key.config seat.old.me.0 kernel.old (step.Report worker) (reply_of report) kernel.new seat.old.me.0.seen seat.new.me.0)
-            (λ _. Stays seat.old.me.0 seat.new.me.0 × (kernel.new ≡ kernel.old)) }
-        ensures refused { let key = self.now.table.shared.key in IfErr result (λ fault. IsReportRefusal (simulation_of (M.handlers key.model.value) key.config) seat.old.me.0 fault) }
+    /// The worker joins the open round; if none is open, it opens one. It changes its colour and learns the announced
+    /// time. It takes no memory.
+    ///
+    /// [`Fault::Busy`]: another place has claimed the board. [`Fault::NotLawful`]: the worker has cut in the open
+    /// round. [`Fault::Exhausted`]: one more round would be more than 2^63. After each of them the place and the
+    /// kernel are unchanged.
+    pub fn cut(&self, place: &mut Place<M::Payload>, kernel: &mut Kernel<M>) -> Result<(), Fault>
+        requires own { place_table place.old ≡ station_table self.now }
+        requires kernel { Reaches (M.handlers (station_model self.now)) (station_config self.now) (place_view place.old) kernel.old }
+        ensures same { (place_table place.new ≡ place_table place.old) × (place_worker place.new ≡ place_worker place.old) }
+        ensures done { let handlers = M.handlers (station_model self.now) in let config = station_config self.now in MatchResult result
+            (λ _. Visited handlers config (place_view place.old) kernel.old (step.Cut (place_worker place.old)) reply.Done kernel.new (place_view place.old).seen (place_view place.new))
+            (λ _. Stays (place_view place.old) (place_view place.new) × (kernel.new ≡ kernel.old)) }
+        ensures refused { IfErr result (λ fault. IsCutRefusal (simulation_of (M.handlers (station_model self.now)) (station_config self.now)) (place_view place.old) fault) }
+        ensures alone { let handlers = M.handlers (station_model self.now) in let config = station_config self.now in (reaches : Reaches handlers config (place_view place.old) kernel.old) → IsRefusedAlone (simulation_of handlers config) (place_view place.old) reaches.steps (step.Cut (place_worker place.old)) result }
+        ensures ready { Reaches (M.handlers (station_model self.now)) (station_config self.now) (place_view place.new) kernel.new }
     {
-        let values = kernel.report_values();
+        let worker = place.worker;
+        let seat = &mut place.seat;
         if !self.claim_board(seat) {
             return Err(Fault::Busy);
         }
@@ -90,22 +59,56 @@ impl<M: EventModel> Station<M> {
         let Slot::Board(board) = held else {
             unreachable!()
         };
-        match report(kernel, worker, values, board) {
-            Ok(report) => {
-                let report = &report;
-                let visit = Visit {
-                    step: Step::Report(worker),
-                    reply: reply_of(*report),
-                    before,
-                    left: Snapshot::of(kernel),
-                };
-                self.release_visit(seat, self.workers, &visit);
-                Ok(*report)
-            }
-            Err(fault) => {
-                self.release_unchanged(seat, self.workers, None);
-                Err(fault)
-            }
+        let visit = Visit {
+            step: Step::Cut(worker),
+            answer: cut(kernel, worker, board),
+            before,
+            left: Snapshot::of(kernel),
+        };
+        self.release_visit(seat, self.workers, HOME, &visit);
+        visit.outcome()
+    }
+
+    /// The worker reports its counts and its least time to the board, and learns the announced time. It takes no
+    /// memory.
+    ///
+    /// [`Fault::Busy`]: another place has claimed the board. [`Fault::NotLawful`]: no round is open, some worker
+    /// hasn't cut in it, or this worker has reported in this pass. After either the place and the kernel are
+    /// unchanged.
+    pub fn report(
+        &self,
+        place: &mut Place<M::Payload>,
+        kernel: &mut Kernel<M>,
+    ) -> Result<Report, Fault>
+        requires own { place_table place.old ≡ station_table self.now }
+        requires kernel { Reaches (M.handlers (station_model self.now)) (station_config self.now) (place_view place.old) kernel.old }
+        ensures same { (place_table place.new ≡ place_table place.old) × (place_worker place.new ≡ place_worker place.old) }
+        ensures done { let handlers = M.handlers (station_model self.now) in let config = station_config self.now in MatchResult result
+            (λ report. Visited handlers config (place_view place.old) kernel.old (step.Report (place_worker place.old)) (reply_of report) kernel.new (place_view place.old).seen (place_view place.new))
+            (λ _. Stays (place_view place.old) (place_view place.new) × (kernel.new ≡ kernel.old)) }
+        ensures refused { IfErr result (λ fault. IsReportRefusal (simulation_of (M.handlers (station_model self.now)) (station_config self.now)) (place_view place.old) fault) }
+        ensures alone { let handlers = M.handlers (station_model self.now) in let config = station_config self.now in (reaches : Reaches handlers config (place_view place.old) kernel.old) → IsRefusedAlone (simulation_of handlers config) (place_view place.old) reaches.steps (step.Report (place_worker place.old)) result }
+        ensures ready { Reaches (M.handlers (station_model self.now)) (station_config self.now) (place_view place.new) kernel.new }
+    {
+        let values = kernel.report_values();
+        let worker = place.worker;
+        let seat = &mut place.seat;
+        if !self.claim_board(seat) {
+            return Err(Fault::Busy);
         }
+        let before = Snapshot::of(kernel);
+        let held = seat.slot_mut(&self.table.shared, self.workers);
+        let Slot::Board(board) = held else {
+            unreachable!()
+        };
+        let answer = report(kernel, worker, values, board);
+        let visit = Visit {
+            step: Step::Report(worker),
+            answer: answer_of(&answer),
+            before,
+            left: Snapshot::of(kernel),
+        };
+        self.release_visit(seat, self.workers, HOME, &visit);
+        answer
     }
 }

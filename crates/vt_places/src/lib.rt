@@ -2,10 +2,10 @@
 //! which it acts on them.
 #![tactic(auto)]
 
-mod calls;
 mod committing;
 mod cutting;
 mod history;
+mod looking;
 mod making;
 mod place;
 mod posting;

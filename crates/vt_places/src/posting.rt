@@ -1,44 +1,56 @@
 //! Mail between workers: post and fetch.
 
-ghost use Rattle.std.specs.Prelude.{◌≡◌, ◌<◌, true, false, IfErr, MatchResult};
+ghost use Rattle.std.specs.Prelude.{◌≡◌, true, false, Err, IfErr, MatchResult};
+ghost use Rattle.vt_key.specs.declared.fault.Fault.TheVariants.{NotLawful};
 ghost use Rattle.vt_model.specs.Simulation.{simulation_of};
 ghost use Rattle.vt_steps.specs.declared.step.Step.TheVariants as step;
 ghost use Rattle.vt_steps.specs.declared.step.Reply.TheVariants as reply;
 ghost use Rattle.vt_steps.specs.World.{Part};
 ghost use Rattle.vt_steps.specs.Letters.{is_empty};
+ghost use Rattle.vt_steps.specs.CellSteps.{may_send};
 ghost use Rattle.vt_kernel.specs.Held.{StandsFor};
-ghost use Rattle.vt_places.specs.Kept.{Rests};
+ghost use Rattle.vt_places.specs.Told.{station_model, station_config, station_table, place_table, place_worker, place_view};
 ghost use Rattle.vt_places.specs.Calls.{Reaches, Visited, Stays, IsPostRefusal, IsFetchRefusal};
 
+use crate::place::Place;
 use crate::slot::Slot;
-use crate::station::{Seat, Station, Visit};
+use crate::station::{HOME, Station, Visit, word_of_inbox};
 use std::snapshot::Snapshot;
 use vt_cells::{fetch, send};
 use vt_kernel::Kernel;
 use vt_key::Fault;
 use vt_model::Model as EventModel;
-use vt_steps::{Reply, Step};
+use vt_steps::Step;
 
 impl<M: EventModel> Station<M> {
-    /// Sends a worker's letters for worker `v` to the inbox of `v`.
-    pub(crate) fn post_at(
+    /// Sends the kernel's letters for processes of worker `v` to the inbox of `v`.
+    ///
+    /// The kernel must be the place's own. It was made for the place's worker, with the station's model and config,
+    /// and only local calls have changed it since the last visit. This holds for every call that takes a kernel.
+    ///
+    /// [`Fault::NotLawful`]: `v` is this worker, or the kernel has no letter for a process of `v`.
+    /// [`Fault::Exhausted`]: the count of mail sent would pass 2^63. [`Fault::Busy`]: another place has claimed the
+    /// inbox. [`Fault::Memory`]: memory was refused. Faults are tested in this order. After each of them the place
+    /// and the kernel are unchanged.
+    pub fn post(
         &self,
-        seat: &mut Seat<M>,
+        place: &mut Place<M::Payload>,
         kernel: &mut Kernel<M>,
-        worker: u32,
         v: u32,
     ) -> Result<(), Fault>
-        requires table { seat.old.table_id ≡ self.now.table.shared.table_id }
-        requires rests { Rests seat.old.me }
-        requires worker { seat.old.me.0.worker ≡ worker }
-        requires kernel { let key = self.now.table.shared.key in Reaches (M.handlers key.model.value) key.config seat.old.me.0 kernel.old }
-        ensures same { (seat.new.table_id ≡ seat.old.table_id) × (seat.new.id ≡ seat.old.id) × Rests seat.new.me }
-        ensures done { let key = self.now.table.shared.key in MatchResult result
-            (λ _. Visited (M.handlers key.model.value) key.config seat.old.me.0 kernel.old (step.Send worker v) reply.Done kernel.new seat.old.me.0.seen seat.new.me.0)
-            (λ _. Stays seat.old.me.0 seat.new.me.0 × (kernel.new ≡ kernel.old)) }
-        ensures refused { let key = self.now.table.shared.key in (part : Part _) → StandsFor (M.handlers key.model.value) kernel.old part → IfErr result (λ fault. IsPostRefusal (simulation_of (M.handlers key.model.value) key.config) worker v part fault) }
+        requires own { place_table place.old ≡ station_table self.now }
+        requires kernel { Reaches (M.handlers (station_model self.now)) (station_config self.now) (place_view place.old) kernel.old }
+        ensures same { (place_table place.new ≡ place_table place.old) × (place_worker place.new ≡ place_worker place.old) }
+        ensures done { let handlers = M.handlers (station_model self.now) in let config = station_config self.now in MatchResult result
+            (λ _. Visited handlers config (place_view place.old) kernel.old (step.Send (place_worker place.old) v) reply.Done kernel.new (place_view place.old).seen (place_view place.new))
+            (λ _. Stays (place_view place.old) (place_view place.new) × (kernel.new ≡ kernel.old)) }
+        ensures refused { let handlers = M.handlers (station_model self.now) in let config = station_config self.now in (part : Part _) → StandsFor handlers kernel.old part → IfErr result (λ fault. IsPostRefusal (simulation_of handlers config) (place_worker place.old) v part fault) }
+        ensures unlawful { let handlers = M.handlers (station_model self.now) in let config = station_config self.now in (part : Part _) → StandsFor handlers kernel.old part → may_send (simulation_of handlers config) (place_worker place.old) v part ≡ false → result ≡ Err NotLawful }
+        ensures ready { Reaches (M.handlers (station_model self.now)) (station_config self.now) (place_view place.new) kernel.new }
     {
         kernel.may_send(v)?;
+        let worker = place.worker;
+        let seat = &mut place.seat;
         if !self.claim(seat, v as usize) {
             return Err(Fault::Busy);
         }
@@ -47,66 +59,37 @@ impl<M: EventModel> Station<M> {
         let Slot::Inbox(mails) = held else {
             unreachable!()
         };
-        match send(kernel, v, mails) {
-            Ok(reply) => {
-                let visit = Visit {
-                    step: Step::Send(worker, v),
-                    reply,
-                    before,
-                    left: Snapshot::of(kernel),
-                };
-                self.release_visit(seat, v as usize, &visit);
-                Ok(())
-            }
-            Err(fault) => {
-                self.release_unchanged(seat, v as usize, None);
-                Err(fault)
-            }
-        }
-    }
-
-    /// Whether the worker's inbox is empty. If it is, this look was the worker's fetch.
-    fn finds_nothing(&self, seat: &mut Seat<M>, kernel: &Kernel<M>, worker: u32) -> bool
-        requires table { seat.old.table_id ≡ self.now.table.shared.table_id }
-        requires rests { Rests seat.old.me }
-        requires worker { seat.old.me.0.worker ≡ worker }
-        requires known { worker < self.now.workers }
-        requires accepted { is_empty kernel.now.arrived ≡ true }
-        requires kernel { let key = self.now.table.shared.key in Reaches (M.handlers key.model.value) key.config seat.old.me.0 kernel.now }
-        ensures same { (seat.new.table_id ≡ seat.old.table_id) × (seat.new.id ≡ seat.old.id) × Rests seat.new.me }
-        ensures done { let key = self.now.table.shared.key in result ≡ true → Visited (M.handlers key.model.value) key.config seat.old.me.0 kernel.now (step.Fetch worker) reply.Done kernel.now seat.old.me.0.seen seat.new.me.0 }
-        ensures not { result ≡ false → seat.new.me ≡ seat.old.me }
-    {
         let visit = Visit {
-            step: Step::Fetch(worker),
-            reply: Reply::Done,
-            before: Snapshot::of(kernel),
+            step: Step::Send(worker, v),
+            answer: send(kernel, v, mails),
+            before,
             left: Snapshot::of(kernel),
         };
-        self.finds_empty(seat, worker as usize, &visit)
+        self.release_visit(seat, v as usize, HOME, &visit);
+        visit.outcome()
     }
 
-    /// Fetches a worker's mail. It claims the inbox only if there is something in it.
-    pub(crate) fn fetch_at(
-        &self,
-        seat: &mut Seat<M>,
-        kernel: &mut Kernel<M>,
-        worker: u32,
-    ) -> Result<(), Fault>
-        requires table { seat.old.table_id ≡ self.now.table.shared.table_id }
-        requires rests { Rests seat.old.me }
-        requires worker { seat.old.me.0.worker ≡ worker }
-        requires known { worker < self.now.workers }
-        requires kernel { let key = self.now.table.shared.key in Reaches (M.handlers key.model.value) key.config seat.old.me.0 kernel.old }
-        ensures same { (seat.new.table_id ≡ seat.old.table_id) × (seat.new.id ≡ seat.old.id) × Rests seat.new.me }
-        ensures done { let key = self.now.table.shared.key in MatchResult result
-            (λ _. Visited (M.handlers key.model.value) key.config seat.old.me.0 kernel.old (step.Fetch worker) reply.Done kernel.new seat.old.me.0.seen seat.new.me.0)
-            (λ _. Stays seat.old.me.0 seat.new.me.0 × (kernel.new ≡ kernel.old)) }
-        ensures refused { let key = self.now.table.shared.key in (part : Part _) → StandsFor (M.handlers key.model.value) kernel.old part → IfErr result (λ fault. IsFetchRefusal (simulation_of (M.handlers key.model.value) key.config) seat.old.me.0 part fault) }
+    /// Moves the mail of the worker's inbox to its kernel, as arrived. It takes no memory.
+    ///
+    /// [`Fault::NotLawful`]: mail that arrived before is not accepted yet. [`Fault::Busy`]: another place has claimed
+    /// the inbox. [`Fault::Exhausted`]: a count of mail got would pass 2^63. After each of them the place and the
+    /// kernel are unchanged.
+    pub fn fetch(&self, place: &mut Place<M::Payload>, kernel: &mut Kernel<M>) -> Result<(), Fault>
+        requires own { place_table place.old ≡ station_table self.now }
+        requires kernel { Reaches (M.handlers (station_model self.now)) (station_config self.now) (place_view place.old) kernel.old }
+        ensures same { (place_table place.new ≡ place_table place.old) × (place_worker place.new ≡ place_worker place.old) }
+        ensures done { let handlers = M.handlers (station_model self.now) in let config = station_config self.now in MatchResult result
+            (λ _. Visited handlers config (place_view place.old) kernel.old (step.Fetch (place_worker place.old)) reply.Done kernel.new (place_view place.old).seen (place_view place.new))
+            (λ _. Stays (place_view place.old) (place_view place.new) × (kernel.new ≡ kernel.old)) }
+        ensures refused { let handlers = M.handlers (station_model self.now) in let config = station_config self.now in (part : Part _) → StandsFor handlers kernel.old part → IfErr result (λ fault. IsFetchRefusal (simulation_of handlers config) (place_view place.old) part fault) }
+        ensures unlawful { let handlers = M.handlers (station_model self.now) in (part : Part _) → StandsFor handlers kernel.old part → is_empty part.arrived ≡ false → result ≡ Err NotLawful }
+        ensures ready { Reaches (M.handlers (station_model self.now)) (station_config self.now) (place_view place.new) kernel.new }
     {
         if kernel.arrived_len() > 0 {
             return Err(Fault::NotLawful);
         }
+        let worker = place.worker;
+        let seat = &mut place.seat;
         if self.finds_nothing(seat, kernel, worker) {
             return Ok(());
         }
@@ -118,21 +101,14 @@ impl<M: EventModel> Station<M> {
         let Slot::Inbox(mails) = held else {
             unreachable!()
         };
-        match fetch(kernel, mails) {
-            Ok(reply) => {
-                let visit = Visit {
-                    step: Step::Fetch(worker),
-                    reply,
-                    before,
-                    left: Snapshot::of(kernel),
-                };
-                self.release_emptied(seat, worker as usize, &visit);
-                Ok(())
-            }
-            Err(fault) => {
-                self.release_unchanged(seat, worker as usize, None);
-                Err(fault)
-            }
-        }
+        let visit = Visit {
+            step: Step::Fetch(worker),
+            answer: fetch(kernel, mails),
+            before,
+            left: Snapshot::of(kernel),
+        };
+        let word = word_of_inbox(mails);
+        self.release_visit(seat, worker as usize, word, &visit);
+        visit.outcome()
     }
 }

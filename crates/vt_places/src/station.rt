@@ -1,6 +1,6 @@
 //! The station and its places.
 
-ghost use Rattle.std.specs.Prelude.{◌≡◌, ◌<◌, ◌≤◌, ◌+◌, [], true, false, Ok};
+ghost use Rattle.std.specs.Prelude.{◌≡◌, ◌≢◌, ◌<◌, ◌≤◌, ◌+◌, [], true, false, Ok, IfOk, MatchResult};
 ghost use Rattle.atomic_table.specs.Table.{Allows};
 ghost use Rattle.vt_model.specs.Histories.{IsLawful};
 ghost use Rattle.vt_model.specs.Simulation.{simulation_of};
@@ -11,11 +11,11 @@ ghost use Rattle.vt_steps.specs.World.{Part};
 ghost use Rattle.vt_steps.specs.Cells.{Cell, in_inbox, on_board, in_book, worker_of, cell_of, book_cell, act};
 ghost use Rattle.vt_steps.specs.Laws.{IsAny};
 ghost use Rattle.vt_key.specs.declared.limits.TheConstants.{MAX_WORKERS};
-ghost use Rattle.vt_places.specs.Slots.{cell_count, word_at, claimed_word, cell_at};
+ghost use Rattle.vt_places.specs.Slots.{cell_count, word_at, empty_word, claimed_word, cell_at};
 ghost use Rattle.vt_places.specs.Kept.{Kept, Rests};
 ghost use Rattle.vt_places.specs.Commits.{Commits};
-ghost use Rattle.vt_cells.specs.Calls.{Acts, CommitsTo};
-ghost use Rattle.vt_places.specs.Calls.{IsShown, Took, TookThere, Holding, MaySee, Reaches, Visited, Unvisited, Closes, ShowsFloor, seen_or};
+ghost use Rattle.vt_cells.specs.Calls.{IsCellStepOf, CommitsTo};
+ghost use Rattle.vt_places.specs.Calls.{Took, TookThere, Holding, MaySee, Reaches, Visited, Unvisited, Closes, ShowsFloor, answer_as, seen_or};
 
 use crate::rule::{About, Aim, Law, Tell};
 use crate::slot::Slot;
@@ -25,7 +25,7 @@ use std::alloc::Global;
 use std::marker::Brand;
 use std::snapshot::Snapshot;
 use vt_kernel::Kernel;
-use vt_key::When;
+use vt_key::{Fault, Mail, When};
 use vt_model::Model as EventModel;
 use vt_steps::{Reply, Step};
 
@@ -53,13 +53,26 @@ pub struct Station<M: EventModel> {
     ghost counted: { table.shared.key.config.workers ≡ workers },
 }
 
-/// A step with its reply, and the kernel before the call and after it.
+/// A step with its answer, and the kernel before the call and after it.
 #[derive(Drop)]
 pub(crate) struct Visit<M: EventModel> {
     pub(crate) step: Step,
-    pub(crate) reply: Reply,
+    pub(crate) answer: Result<Reply, Fault>,
     pub(crate) before: Snapshot<Kernel<M>>,
     pub(crate) left: Snapshot<Kernel<M>>,
+}
+
+impl<M: EventModel> Visit<M> {
+    /// The answer of a step whose only reply is that it was done.
+    pub(crate) fn outcome(self) -> Result<(), Fault>
+        requires reply { IfOk self.answer (λ reply. reply ≡ Done) }
+        ensures { self.answer ≡ answer_as (λ _. Done) result }
+    {
+        match self.answer {
+            Ok(_) => Ok(()),
+            Err(fault) => Err(fault),
+        }
+    }
 }
 
 /// A commit of a worker, with the kernel before the call, and the floor of the book after the commit.
@@ -74,13 +87,13 @@ pub(crate) struct Lent<M: EventModel> {
 const STRIDE: usize = 16;
 
 /// The word of an inbox that is empty and that nobody has claimed.
-const EMPTY: u64 = 0;
+pub(crate) const EMPTY: u64 = 0;
 
 /// The word of a cell that a place has claimed.
 const CLAIMED: u64 = 1;
 
 /// The word of a cell that nobody has claimed.
-const HOME: u64 = 2;
+pub(crate) const HOME: u64 = 2;
 
 /// The index of the word of cell `cells`; also the number of words that `cells` cells take.
 pub(crate) fn words_of(cells: usize) -> usize
@@ -88,6 +101,14 @@ pub(crate) fn words_of(cells: usize) -> usize
     ensures { result ≡ word_at cells }
 {
     STRIDE * cells
+}
+
+/// The word of an inbox that nobody has claimed, by its mail.
+pub(crate) fn word_of_inbox<P>(mails: &Vec<Mail<P>>) -> u64
+    ensures free { result ≢ claimed_word }
+    ensures empty { result ≡ empty_word → mails.now.items ≡ [] }
+{
+    if mails.is_empty() { EMPTY } else { HOME }
 }
 
 impl<M: EventModel> Station<M> {
@@ -127,7 +148,12 @@ impl<M: EventModel> Station<M> {
     }
 
     /// Loads a word. `_told` only fixes the type of the aim.
-    fn load<J: Aim<M::Payload>, T>(&self, seat: &mut Seat<M>, cell: usize, _told: &T) -> u64
+    pub(crate) fn load<J: Aim<M::Payload>, T>(
+        &self,
+        seat: &mut Seat<M>,
+        cell: usize,
+        _told: &T,
+    ) -> u64
         requires table { seat.old.table_id ≡ self.now.table.shared.table_id }
         requires near { cell < cell_count self.now.workers }
         requires allowed { let shelf = self.now.table.shared in let sim = simulation_of (M.handlers shelf.key.model.value) shelf.key.config in IsLawful sim → Allows (Kept sim shelf.key.config) shelf.table_id.slots seat.old.id seat.old.me (word_at cell) (λ n. n) J.after }
@@ -143,7 +169,7 @@ impl<M: EventModel> Station<M> {
         requires table { seat.old.table_id ≡ self.now.table.shared.table_id }
         requires near { cell < cell_count self.now.workers }
         requires rests { Rests seat.old.me }
-        ensures same { (seat.new.table_id ≡ seat.old.table_id) × (seat.new.id ≡ seat.old.id) }
+        ensures same { (seat.new.table_id ≡ seat.old.table_id) × (seat.new.id ≡ seat.old.id) × (seat.new.me.0.worker ≡ seat.old.me.0.worker) }
         ensures claimed { let key = self.now.table.shared.key in result ≡ true → Took (simulation_of (M.handlers key.model.value) key.config) key.config seat.old.me cell seat.new.me }
         ensures busy { result ≡ false → (seat.new.me ≡ seat.old.me) × (1 < self.now.workers) }
     {
@@ -154,7 +180,7 @@ impl<M: EventModel> Station<M> {
     pub(crate) fn claim_board(&self, seat: &mut Seat<M>) -> bool
         requires table { seat.old.table_id ≡ self.now.table.shared.table_id }
         requires rests { Rests seat.old.me }
-        ensures same { (seat.new.table_id ≡ seat.old.table_id) × (seat.new.id ≡ seat.old.id) }
+        ensures same { (seat.new.table_id ≡ seat.old.table_id) × (seat.new.id ≡ seat.old.id) × (seat.new.me.0.worker ≡ seat.old.me.0.worker) }
         ensures claimed { let key = self.now.table.shared.key in result ≡ true → TookThere (simulation_of (M.handlers key.model.value) key.config) key.config (λ world. on_board world.board) seat.old.me self.now.workers seat.new.me }
         ensures busy { result ≡ false → (seat.new.me ≡ seat.old.me) × (1 < self.now.workers) }
     {
@@ -165,67 +191,30 @@ impl<M: EventModel> Station<M> {
     pub(crate) fn claim_book(&self, seat: &mut Seat<M>) -> bool
         requires table { seat.old.table_id ≡ self.now.table.shared.table_id }
         requires rests { Rests seat.old.me }
-        ensures same { (seat.new.table_id ≡ seat.old.table_id) × (seat.new.id ≡ seat.old.id) }
+        ensures same { (seat.new.table_id ≡ seat.old.table_id) × (seat.new.id ≡ seat.old.id) × (seat.new.me.0.worker ≡ seat.old.me.0.worker) }
         ensures claimed { let key = self.now.table.shared.key in result ≡ true → TookThere (simulation_of (M.handlers key.model.value) key.config) key.config (λ world. in_book world.book) seat.old.me (self.now.workers + 1) seat.new.me }
         ensures busy { result ≡ false → (seat.new.me ≡ seat.old.me) × (1 < self.now.workers) }
     {
         self.claim(seat, self.workers + 1)
     }
 
-    /// Reads one word of the table and changes nothing. The read tells contracts that some list of steps leads to a world in
-    /// which the part of the seat's worker is what its place knows.
-    pub(crate) fn look_at(&self, seat: &mut Seat<M>)
-        requires table { seat.old.table_id ≡ self.now.table.shared.table_id }
-        requires rests { Rests seat.old.me }
-        ensures same { (seat.new.table_id ≡ seat.old.table_id) × (seat.new.id ≡ seat.old.id) × Rests seat.new.me }
-        ensures unchanged { seat.new.me ≡ seat.old.me }
-        ensures shown { let key = self.now.table.shared.key in IsShown (simulation_of (M.handlers key.model.value) key.config) seat.old.me.0 }
-    {
-        let _ = self.load::<Brand, ()>(seat, 0, &());
-    }
-
-    /// Looks at a worker's inbox by one load, and answers whether it is empty. If it is, the worker's steps that find it
-    /// empty are put behind all others in the list of steps.
-    pub(crate) fn finds_empty(&self, seat: &mut Seat<M>, cell: usize, visit: &Visit<M>) -> bool
-        requires table { seat.old.table_id ≡ self.now.table.shared.table_id }
-        requires near { cell < self.now.workers }
-        requires rests { Rests seat.old.me }
-        requires marks { let key = self.now.table.shared.key in IsAny (worker_of (simulation_of (M.handlers key.model.value) key.config) visit.now.step) seat.old.me.0.worker × IsAny (cell_of visit.now.step) (cell_at key.config.workers cell) }
-        requires acts { let key = self.now.table.shared.key in Acts (M.handlers key.model.value) key.config visit.now.step visit.now.reply visit.now.before.value (in_inbox []) visit.now.left.value (in_inbox []) }
-        requires kernel { let key = self.now.table.shared.key in Reaches (M.handlers key.model.value) key.config seat.old.me.0 visit.now.before.value }
-        ensures same { (seat.new.table_id ≡ seat.old.table_id) × (seat.new.id ≡ seat.old.id) × Rests seat.new.me }
-        ensures done { let key = self.now.table.shared.key in result ≡ true → Visited (M.handlers key.model.value) key.config seat.old.me.0 visit.now.before.value visit.now.step visit.now.reply visit.now.left.value seat.old.me.0.seen seat.new.me.0 }
-        ensures not { result ≡ false → seat.new.me ≡ seat.old.me }
-    {
-        self.load::<Brand, Visit<M>>(seat, cell, visit) == EMPTY
-    }
-
-    /// Gives a cell back after a step. The worker's steps are put behind all others in the list of steps.
-    pub(crate) fn release_visit(&self, seat: &mut Seat<M>, cell: usize, visit: &Visit<M>)
+    /// Gives a cell back after a step, done or refused. If it was done, the worker's steps are put behind all others in the list
+    /// of steps.
+    pub(crate) fn release_visit(&self, seat: &mut Seat<M>, cell: usize, word: u64, visit: &Visit<M>)
         requires table { seat.old.table_id ≡ self.now.table.shared.table_id }
         requires near { cell < cell_count self.now.workers }
+        requires free { word ≢ claimed_word }
         requires marks { let key = self.now.table.shared.key in IsAny (worker_of (simulation_of (M.handlers key.model.value) key.config) visit.now.step) seat.old.me.0.worker × IsAny (cell_of visit.now.step) (cell_at key.config.workers cell) }
-        requires held { let key = self.now.table.shared.key in (found : Cell _) × (now : Cell _) × Holding key.config seat.old.me cell found now
-            × Acts (M.handlers key.model.value) key.config visit.now.step visit.now.reply visit.now.before.value found visit.now.left.value now }
+        requires held { let key = self.now.table.shared.key in (found : Cell _) × (now : Cell _) × Holding key.config seat.old.me cell found now × (word ≡ empty_word → now ≡ in_inbox [])
+            × IsCellStepOf (M.handlers key.model.value) key.config visit.now.step visit.now.before.value visit.now.left.value found now visit.now.answer }
         requires kernel { let key = self.now.table.shared.key in Reaches (M.handlers key.model.value) key.config seat.old.me.0 visit.now.before.value }
-        ensures same { (seat.new.table_id ≡ seat.old.table_id) × (seat.new.id ≡ seat.old.id) × Rests seat.new.me }
-        ensures done { let key = self.now.table.shared.key in Visited (M.handlers key.model.value) key.config seat.old.me.0 visit.now.before.value visit.now.step visit.now.reply visit.now.left.value seat.old.me.0.seen seat.new.me.0 }
+        ensures same { (seat.new.table_id ≡ seat.old.table_id) × (seat.new.id ≡ seat.old.id) × Rests seat.new.me × (seat.new.me.0.worker ≡ seat.old.me.0.worker) }
+        ensures done { let key = self.now.table.shared.key in MatchResult visit.now.answer
+            (λ reply. Visited (M.handlers key.model.value) key.config seat.old.me.0 visit.now.before.value visit.now.step reply visit.now.left.value seat.old.me.0.seen seat.new.me.0)
+            (λ _. Unvisited seat.old.me.0 seat.old.me.0.seen seat.new.me.0) }
+        ensures ready { let key = self.now.table.shared.key in Reaches (M.handlers key.model.value) key.config seat.new.me.0 visit.now.left.value }
     {
-        self.store::<Brand, Visit<M>>(seat, cell, HOME, visit);
-    }
-
-    /// Gives an inbox back empty after a step. The worker's steps are put behind all others in the list of steps.
-    pub(crate) fn release_emptied(&self, seat: &mut Seat<M>, cell: usize, visit: &Visit<M>)
-        requires table { seat.old.table_id ≡ self.now.table.shared.table_id }
-        requires near { cell < self.now.workers }
-        requires marks { let key = self.now.table.shared.key in IsAny (worker_of (simulation_of (M.handlers key.model.value) key.config) visit.now.step) seat.old.me.0.worker × IsAny (cell_of visit.now.step) (cell_at key.config.workers cell) }
-        requires held { let key = self.now.table.shared.key in (found : Cell _) × Holding key.config seat.old.me cell found (in_inbox [])
-            × Acts (M.handlers key.model.value) key.config visit.now.step visit.now.reply visit.now.before.value found visit.now.left.value (in_inbox []) }
-        requires kernel { let key = self.now.table.shared.key in Reaches (M.handlers key.model.value) key.config seat.old.me.0 visit.now.before.value }
-        ensures same { (seat.new.table_id ≡ seat.old.table_id) × (seat.new.id ≡ seat.old.id) × Rests seat.new.me }
-        ensures done { let key = self.now.table.shared.key in Visited (M.handlers key.model.value) key.config seat.old.me.0 visit.now.before.value visit.now.step visit.now.reply visit.now.left.value seat.old.me.0.seen seat.new.me.0 }
-    {
-        self.store::<Brand, Visit<M>>(seat, cell, EMPTY, visit);
+        self.store::<Brand, Visit<M>>(seat, cell, word, visit);
     }
 
     /// Gives a cell back unchanged; a floor of the book may have been shown.
@@ -233,7 +222,7 @@ impl<M: EventModel> Station<M> {
         requires table { seat.old.table_id ≡ self.now.table.shared.table_id }
         requires near { cell < cell_count self.now.workers }
         requires held { let key = self.now.table.shared.key in (found : Cell _) × Holding key.config seat.old.me cell found found × MaySee (end_of key.config) seen found }
-        ensures same { (seat.new.table_id ≡ seat.old.table_id) × (seat.new.id ≡ seat.old.id) × Rests seat.new.me }
+        ensures same { (seat.new.table_id ≡ seat.old.table_id) × (seat.new.id ≡ seat.old.id) × Rests seat.new.me × (seat.new.me.0.worker ≡ seat.old.me.0.worker) }
         ensures stays { Unvisited seat.old.me.0 (seen_or seat.old.me.0.seen seen) seat.new.me.0 }
     {
         self.store::<Brand, Option<When>>(seat, cell, HOME, &seen);

@@ -1,12 +1,72 @@
+use Rattle.std.proofs.Common.{◌≡◌, ◌+◌, [], ◌∷◌, Ok, Err, refl, sym, ap, subst, ◌∙◌}
+use Rattle.atomic_table.specs.Table.{rest}
 use Rattle.vt_model.specs.Simulation.{simulation_of}
 use Rattle.vt_model.specs.Settings.{end_of}
-use Rattle.vt_places.specs.Calls.{Stays}
+use Rattle.vt_steps.specs.declared.step.Step.TheVariants.{Close}
+use Rattle.vt_steps.specs.World.{book_floor}
+use Rattle.vt_steps.specs.Cells.{Acted, in_book, act}
+use Rattle.vt_book.specs.Books.{RunBook}
+use Rattle.vt_cells.specs.Calls.{IsClosingRefusal}
+use Rattle.vt_places.proofs.CallLemmas.{closes-there}
+use Rattle.vt_places.proofs.BookAt.{book-ends, run-book, book-put, not-open, refused-once}
 use Rattle.vt_places.proofs.AloneLemmas.{close-alone}
+use Rattle.vt_places.proofs.RefusalLemmas as refusal
 use Rattle.vt_places.proofs.station.Station.close.Goals as goal
 
-pub returns-clause-alone : goal.returns-clause-alone
-returns-clause-alone g c =
+pub release_close-requires-clause-held : goal.release_close-requires-clause-held
+release_close-requires-clause-held g c κs within =
+    let key = c.args.self.now.table.shared.key in
+    let sim = simulation_of (g.M.Model.handlers key.model.value) key.config in
+    let t = c.if-not-claim_book.ensures.claimed refl in
+    let value = c.slot_mut-held.ensures.value ∙ ap (λ s. (c.args.self.now.workers + 1, s) ∷ rest c.claim_book.new.seat.me.1) c.in-Book.is in
+    let ok = c.in-Ok.ensures in
+    let new = c.close.new.book in (
+      in_book c.in-Book.book.book,
+      in_book new.book,
+      book-put t value new refl ok.end,
+      (λ part. ok.step sim (sym (book-ends t value)) part ∙ ap (λ r. (let a : Acted _ = record { part = part; cell = in_book new.book; answer = Ok r } in a)) ok.reply),
+      c.floor-floor.ensures ∙ ap (λ e. book_floor e new.book) (ok.end ∙ book-ends t value),
+    )
+
+pub returns-in-Ok-clause-closed : goal.returns-in-Ok-clause-closed
+returns-in-Ok-clause-closed g c =
+    let value = c.slot_mut-held.ensures.value ∙ ap (λ s. (c.args.self.now.workers + 1, s) ∷ rest c.claim_book.new.seat.me.1) c.in-Book.is in
+    λ h. not-open (c.if-not-claim_book.ensures.claimed refl) value c.in-Ok.ensures.why.0 h
+
+pub returns-in-Ok-clause-done : goal.returns-in-Ok-clause-done
+returns-in-Ok-clause-done g c =
+    let key = c.args.self.now.table.shared.key in
+    let sim = simulation_of (g.M.Model.handlers key.model.value) key.config in
+    let t = c.if-not-claim_book.ensures.claimed refl in
+    let value = c.slot_mut-held.ensures.value ∙ ap (λ s. (c.args.self.now.workers + 1, s) ∷ rest c.claim_book.new.seat.me.1) c.in-Book.is in
+    let ok = c.in-Ok.ensures in
+    closes-there sim c.args.place.now.seat.me.0 c.claim_book.new.seat.me.0 c.floor-floor.result (end_of key.config) c.release_close.new.seat.me.0 t.place
+    (c.floor-floor.ensures ∙ ok.why.1 ∙ ok.end ∙ book-ends t value) c.release_close.ensures.done
+
+pub returns-in-Err-clause-refused : goal.returns-in-Err-clause-refused
+returns-in-Err-clause-refused g c =
+    let key = c.args.self.now.table.shared.key in
+    let sim = simulation_of (g.M.Model.handlers key.model.value) key.config in
+    let t = c.if-not-claim_book.ensures.claimed refl in
+    let value = c.slot_mut-held.ensures.value ∙ ap (λ s. (c.args.self.now.workers + 1, s) ∷ rest c.claim_book.new.seat.me.1) c.in-Book.is in
+    let v = c.args.place.now.seat.me.0 in
+    let fault = c.in-Err.fault in
+    let why = c.in-Err.ensures in
+    refusal.close-refused t.known [] v.part refl t.lawful fault (subst (λ (b : RunBook). IsClosingRefusal b fault) (run-book t value) why.why)
+    (subst (λ (b : RunBook). (act sim Close v.part (in_book b.book)).answer ≡ Err fault) (run-book t value) (ap (λ (x : Acted _). x.answer) (why.step sim (sym (book-ends t value)) v.part)))
+
+pub returns-in-Err-clause-closed : goal.returns-in-Err-clause-closed
+returns-in-Err-clause-closed g c =
+    let value = c.slot_mut-held.ensures.value ∙ ap (λ s. (c.args.self.now.workers + 1, s) ∷ rest c.claim_book.new.seat.me.1) c.in-Book.is in
+    λ h. refused-once (c.if-not-claim_book.ensures.claimed refl) value (λ x. x.1) c.in-Err.ensures.why h
+
+pub returns-in-Ok-clause-alone : goal.returns-in-Ok-clause-alone
+returns-in-Ok-clause-alone g c =
+    let key = c.args.self.now.table.shared.key in
+    close-alone (simulation_of (g.M.Model.handlers key.model.value) key.config) c.args.place.now.seat.me.0 (Ok tt) (end_of key.config) c.release_close.new.seat.me.0 (Unit {0}) (returns-in-Ok-clause-done g c) tt
+
+pub returns-in-Err-clause-alone : goal.returns-in-Err-clause-alone
+returns-in-Err-clause-alone g c =
     let key = c.args.self.now.table.shared.key in
     let v = c.args.place.now.seat.me.0 in
-    let w = c.close_at.new.seat.me.0 in
-    close-alone (simulation_of (g.M.Model.handlers key.model.value) key.config) v c.close_at.result (end_of key.config) w (Stays v w) c.close_at.ensures.done c.close_at.ensures.refused
+    close-alone (simulation_of (g.M.Model.handlers key.model.value) key.config) v (Err c.in-Err.fault) (end_of key.config) v (Unit {0}) tt (returns-in-Err-clause-refused g c)

@@ -1,34 +1,122 @@
-use Rattle.std.proofs.Common.{◌≡◌, ℕ, ◌<◌, sym, ap, subst, arith, MatchResult}
-use Rattle.atomic_table.specs.Seated.{TableId}
-use Rattle.vt_key.specs.Times.{Time}
-use Rattle.vt_model.proofs.LawLemmas.{lawful_of}
+use Rattle.std.proofs.Common.{◌≡◌, ℕ, ◌+◌, ◌∷◌, Ok, Err, refl, sym, ap, subst, ◌∙◌}
+use Rattle.atomic_table.specs.Table.{rest}
+use Rattle.vt_model.specs.declared.settings.Config.{Config}
 use Rattle.vt_model.specs.Simulation.{simulation_of}
 use Rattle.vt_model.specs.Settings.{end_of}
 use Rattle.vt_steps.specs.declared.step.Step.TheVariants.{Commit}
 use Rattle.vt_steps.specs.declared.step.Reply.TheVariants.{Done}
-use Rattle.vt_places.specs.Calls.{Visited, ShowsFloor, IsFloorLeft, Stays, IsRefusedAlone}
+use Rattle.vt_steps.specs.World.{Part, Book, book_floor}
+use Rattle.vt_steps.specs.PartSteps.{part_after_commit}
+use Rattle.vt_steps.specs.Cells.{in_book, act}
+use Rattle.vt_kernel.specs.Held.{HeldWorker, StandsFor}
+use Rattle.vt_cells.specs.Calls.{IsCellRefusal, IsHandInRefusal, AreOfOneWorld, CommitsTo}
+use Rattle.vt_places.specs.Calls.{Visited, ShowsFloor}
+use Rattle.vt_places.proofs.CommitRelease.{committed-visited}
+use Rattle.vt_places.proofs.BookAt.{book-is, book-ends, book-put, not-open, refused-once, one-world}
+use Rattle.vt_places.proofs.ReachLemmas.{reaches-visited}
 use Rattle.vt_places.proofs.AloneLemmas.{commit-alone}
+use Rattle.vt_places.proofs.RefusalLemmas as refusal
 use Rattle.vt_places.proofs.station.Station.commit.Goals as goal
 
-pub returns-clause-alone : goal.returns-clause-alone
-returns-clause-alone g c r =
+pub hand_in-requires-clause-reached : goal.hand_in-requires-clause-reached
+hand_in-requires-clause-reached g c κs within =
+    let H = g.M.Model.handlers c.args.self.now.table.shared.key.model.value in
+    let t = c.if-not-claim_book.ensures.claimed refl in
+    let value = c.slot_mut-held.ensures.value ∙ ap (λ s. (c.args.self.now.workers + 1, s) ∷ rest c.claim_book.new.seat.me.1) c.in-Book.is in
+    (H, subst (AreOfOneWorld H c.args.kernel.now) (book-is t value) (one-world t c.requires.kernel))
+
+pub release_commit-requires-clause-held : goal.release_commit-requires-clause-held
+release_commit-requires-clause-held g c κs within =
     let key = c.args.self.now.table.shared.key in
-    let m = key.model.value in
-    let H = g.M.Model.handlers m in
+    let H = g.M.Model.handlers key.model.value in
+    let t = c.if-not-claim_book.ensures.claimed refl in
+    let value = c.slot_mut-held.ensures.value ∙ ap (λ s. (c.args.self.now.workers + 1, s) ∷ rest c.claim_book.new.seat.me.1) c.in-Book.is in
+    let old = c.in-Book.book in
+    let new = c.hand_in.new.book in
+    let ok = c.in-Ok.ensures in (
+      in_book old.book,
+      in_book new.book,
+      book-put t value new refl ok.end,
+      subst (λ (x : Config × HeldWorker _ _ _). CommitsTo H x.0 c.args.place.now.worker x.1 (in_book old.book) (in_book new.book)) (λ i. (c.requires.kernel.config_is i, sym c.of.ensures i)) (ok.step H).done.1,
+      c.floor-seen.ensures ∙ ap (λ e. book_floor e new.book) (ok.end ∙ book-ends t value),
+    )
+
+pub release_unchanged-requires-clause-held : goal.release_unchanged-requires-clause-held
+release_unchanged-requires-clause-held g c κs within =
+    let H = g.M.Model.handlers c.args.self.now.table.shared.key.model.value in
+    let value = c.slot_mut-held.ensures.value ∙ ap (λ s. (c.args.self.now.workers + 1, s) ∷ rest c.claim_book.new.seat.me.1) c.in-Book.is in
+    (in_book c.in-Book.book.book, book-put (c.if-not-claim_book.ensures.claimed refl) value c.hand_in.new.book (c.in-Err.ensures.step H).unchanged c.in-Err.ensures.end, tt)
+
+pub returns-in-Ok-clause-done : goal.returns-in-Ok-clause-done
+returns-in-Ok-clause-done g c =
+    let key = c.args.self.now.table.shared.key in
+    let H = g.M.Model.handlers key.model.value in
     let sim = simulation_of H key.config in
     let v = c.args.place.now.seat.me.0 in
-    let w = c.commit_at.new.seat.me.0 in
+    let w = c.args.place.now.worker in
+    let t = c.if-not-claim_book.ensures.claimed refl in
+    let value = c.slot_mut-held.ensures.value ∙ ap (λ s. (c.args.self.now.workers + 1, s) ∷ rest c.claim_book.new.seat.me.1) c.in-Book.is in
+    let r = c.requires.kernel in
     let k = c.args.kernel.now in
-    let left = c.commit_at.new.kernel in
-    let own = c.args.place.now.own in
-    let counted = c.args.self.now.counted in
-    let slots = c.args.self.now.slots in
-    let there = c.args.place.now.known in
-    let same = ap (λ (t : TableId). t.slots) c.requires.own in
-    let known : v.worker < key.config.workers = omega arith in
-    subst (λ (u : ℕ). IsRefusedAlone sim v r.steps (Commit u) c.commit_at.result) own
-    (commit-alone H key.config v w k left r (Stays v w × (left ≡ k)) c.commit_at.result
-    (λ _. (shown : Time) × (visited : Visited H key.config v k (Commit v.worker) Done left shown w) × ShowsFloor (end_of key.config) shown visited.visits.at.now × IsFloorLeft sim v (Commit v.worker) shown)
-    (lawful_of H key.config (g.met.M.Model.start_within m) (g.met.M.Model.forward_within m)) known (λ x d. (d.0, d.1))
-    (subst (λ (u : ℕ). MatchResult c.commit_at.result (λ _. (shown : Time) × (visited : Visited H key.config v k (Commit u) Done left shown w) × ShowsFloor (end_of key.config) shown visited.visits.at.now × IsFloorLeft sim v (Commit u) shown) (λ _. Stays v w × (left ≡ k))) (sym own) c.commit_at.ensures.done)
-    c.commit_at.ensures.refused)
+    let new = c.hand_in.new.book in
+    let ok = c.in-Ok.ensures in
+    let seen = c.floor-seen.result in
+    let after = c.release_commit.new.seat.me.0 in
+    let left = c.fossil.new.self in
+    let others = c.fossil.ensures.others in
+    let same = sym c.of.ensures in
+    let forgets = subst (λ (h : HeldWorker _ _ _). (part : Part _) → StandsFor H h part → StandsFor H left (part_after_commit part)) same (c.fossil.ensures.stands H) in
+    let visited = committed-visited H key.config v c.claim_book.new.seat.me.0 w c.of.result.value left seen after t.place c.release_commit.ensures.done forgets
+    (ap (λ (h : HeldWorker _ _ _). h.worker) others ∙ ap (λ (h : HeldWorker _ _ _). h.worker) same) (ap (λ (h : HeldWorker _ _ _). h.config) others ∙ ap (λ (h : HeldWorker _ _ _). h.config) same) in
+    let both = subst (λ (h : HeldWorker _ _ _). (x : Visited H key.config v h (Commit w) Done left seen after) × ShowsFloor (end_of key.config) seen x.visits.at.now) c.of.ensures visited in
+    let does = subst (λ (f : Config). CommitsTo H f w k (in_book c.in-Book.book.book) (in_book new.book)) r.config_is (ok.step H).done.1 r.part r.stands in (
+      seen,
+      both.0,
+      both.1,
+      refusal.floor-left t.known r.steps r.part r.led t.lawful (Commit w) (sym c.args.place.now.own) refl
+          (subst (λ b. act sim (Commit w) r.part (in_book b) ≡ record { part = part_after_commit r.part; cell = in_book new.book; answer = Ok Done }) (sym (book-is t value)) does) seen
+          (c.floor-seen.ensures ∙ ap (λ e. book_floor e new.book) (ok.end ∙ book-ends t value)),
+    )
+
+pub returns-in-Ok-clause-closed : goal.returns-in-Ok-clause-closed
+returns-in-Ok-clause-closed g c =
+    let value = c.slot_mut-held.ensures.value ∙ ap (λ s. (c.args.self.now.workers + 1, s) ∷ rest c.claim_book.new.seat.me.1) c.in-Book.is in
+    λ h. not-open (c.if-not-claim_book.ensures.claimed refl) value c.in-Ok.ensures.why h
+
+pub returns-in-Err-clause-refused : goal.returns-in-Err-clause-refused
+returns-in-Err-clause-refused g c =
+    let key = c.args.self.now.table.shared.key in
+    let H = g.M.Model.handlers key.model.value in
+    let t = c.if-not-claim_book.ensures.claimed refl in
+    let value = c.slot_mut-held.ensures.value ∙ ap (λ s. (c.args.self.now.workers + 1, s) ∷ rest c.claim_book.new.seat.me.1) c.in-Book.is in
+    let r = c.requires.kernel in
+    let fault = c.in-Err.fault in
+    let why = c.in-Err.ensures in
+    let same = sym (book-is t value) in
+    refusal.commit-refused t.known r.steps r.part r.led t.lawful fault (subst (λ b. IsHandInRefusal b fault) same why.why)
+    (subst (λ (x : Config × ℕ × Book). IsCellRefusal (simulation_of H x.0) (Commit x.1) r.part (in_book x.2) fault) (λ i. (r.config_is i, sym c.args.place.now.own i, same i)) ((why.step H).refused r.part r.stands))
+
+pub returns-in-Err-clause-closed : goal.returns-in-Err-clause-closed
+returns-in-Err-clause-closed g c =
+    let value = c.slot_mut-held.ensures.value ∙ ap (λ s. (c.args.self.now.workers + 1, s) ∷ rest c.claim_book.new.seat.me.1) c.in-Book.is in
+    λ h. refused-once (c.if-not-claim_book.ensures.claimed refl) value (λ x. x.1) c.in-Err.ensures.why h
+
+pub returns-in-Ok-clause-ready : goal.returns-in-Ok-clause-ready
+returns-in-Ok-clause-ready g c =
+    let key = c.args.self.now.table.shared.key in
+    let done = returns-in-Ok-clause-done g c in
+    reaches-visited (g.M.Model.handlers key.model.value) key.config c.args.place.now.seat.me.0 c.release_commit.new.seat.me.0 c.args.kernel.now c.requires.kernel c.fossil.new.self done.0 (Commit c.args.place.now.worker) Done done.1
+
+pub returns-in-Ok-clause-alone : goal.returns-in-Ok-clause-alone
+returns-in-Ok-clause-alone g c r =
+    let key = c.args.self.now.table.shared.key in
+    let t = c.if-not-claim_book.ensures.claimed refl in
+    let done = returns-in-Ok-clause-done g c in
+    commit-alone (g.M.Model.handlers key.model.value) key.config c.args.place.now.seat.me.0 c.release_commit.new.seat.me.0 c.args.kernel.now c.fossil.new.self r (Unit {0}) c.args.place.now.own (Ok tt) t.lawful t.known.within (done.0, done.1) tt
+
+pub returns-in-Err-clause-alone : goal.returns-in-Err-clause-alone
+returns-in-Err-clause-alone g c r =
+    let key = c.args.self.now.table.shared.key in
+    let t = c.if-not-claim_book.ensures.claimed refl in
+    let k = c.args.kernel.now in
+    commit-alone (g.M.Model.handlers key.model.value) key.config c.args.place.now.seat.me.0 c.release_unchanged.new.seat.me.0 k k r (Unit {0}) c.args.place.now.own (Err c.in-Err.fault) t.lawful t.known.within tt (returns-in-Err-clause-refused g c)

@@ -1,22 +1,79 @@
-use Rattle.std.proofs.Common.{◌≡◌, ℕ, sym, subst, MatchResult}
-use Rattle.vt_model.proofs.LawLemmas.{lawful_of}
+use Rattle.std.proofs.Common.{◌≡◌, ℕ, ◌∷◌, refl, sym, ap, subst, ◌∙◌, Result}
+use Rattle.std.proofs.lemmas.Result.{IfErr-weaker}
+use Rattle.atomic_table.specs.Table.{rest}
+use Rattle.vt_key.specs.declared.fault.Fault.{Fault}
+use Rattle.vt_model.specs.declared.settings.Config.{Config}
 use Rattle.vt_model.specs.Simulation.{simulation_of}
+use Rattle.vt_model.specs.Settings.{end_of}
 use Rattle.vt_steps.specs.declared.step.Step.TheVariants.{Report}
+use Rattle.vt_steps.specs.declared.step.Reply.{Reply}
+use Rattle.vt_steps.specs.Cells.{Cell, on_board}
+use Rattle.vt_kernel.specs.Held.{HeldWorker}
 use Rattle.vt_board.specs.Calls.{reply_of}
-use Rattle.vt_places.specs.Calls.{Visited, Stays, IsRefusedAlone}
+use Rattle.vt_cells.specs.Calls.{IsCellStepOf, IsCellRefusal, answer_of}
+use Rattle.vt_places.specs.declared.slot.Slot.TheVariants as slot
+use Rattle.vt_places.specs.Calls.{Stays, IsReportRefusal}
+use Rattle.vt_places.proofs.HeldLemmas.{found-is, found-right, puts}
+use Rattle.vt_places.proofs.Releases.{home-not_empty}
+use Rattle.vt_places.proofs.CallLemmas.{tried-there, tried-refused}
+use Rattle.vt_places.proofs.RefusalLemmas.{report-refused}
 use Rattle.vt_places.proofs.AloneLemmas.{report-alone}
 use Rattle.vt_places.proofs.station.Station.report.Goals as goal
+
+pub report-answer-requires-clause-end : goal.report-answer-requires-clause-end
+report-answer-requires-clause-end g c κs within =
+    let t = c.if-not-claim_board.ensures.claimed refl in
+    let value = c.slot_mut-held.ensures.value ∙ ap (λ s. (c.args.self.now.workers, s) ∷ rest c.claim_board.new.seat.me.1) c.in-Board.is in
+    found-right t.holds (slot.Board c.in-Board.board) value ∙ ap (λ (f : Config). end_of f) (sym c.requires.kernel.config_is)
+
+pub release_visit-requires-clause-held : goal.release_visit-requires-clause-held
+release_visit-requires-clause-held g c κs within =
+    let H = g.M.Model.handlers c.args.self.now.table.shared.key.model.value in
+    let t = c.if-not-claim_board.ensures.claimed refl in
+    let value = c.slot_mut-held.ensures.value ∙ ap (λ s. (c.args.self.now.workers, s) ∷ rest c.claim_board.new.seat.me.1) c.in-Board.is in
+    let old = c.in-Board.board in
+    let new = c.report-answer.new.board in (
+      on_board old.board,
+      on_board new.board,
+      puts t.holds (slot.Board old) value (slot.Board new) refl (c.report-answer.ensures.end ∙ found-right t.holds (slot.Board old) value),
+      (λ e. home-not_empty e),
+      subst (λ (x : Config × HeldWorker _ _ _ × HeldWorker _ _ _ × Result Reply Fault). IsCellStepOf H x.0 (Report c.args.place.now.worker) x.1 x.2 (on_board old.board) (on_board new.board) x.3)
+          (λ i. (c.requires.kernel.config_is i, sym c.of-before.ensures i, sym c.of.ensures i, sym c.answer_of.ensures.step i)) (c.report-answer.ensures.step H),
+    )
+
+pub returns-clause-done : goal.returns-clause-done
+returns-clause-done g c =
+    let key = c.args.self.now.table.shared.key in
+    let H = g.M.Model.handlers key.model.value in
+    let v = c.args.place.now.seat.me.0 in
+    let w = c.release_visit.new.seat.me.0 in
+    let k = c.args.kernel.now in
+    let left = c.report-answer.new.kernel in
+    let step = Report c.args.place.now.worker in
+    let tried = subst (λ (a : Result Reply Fault). IsCellStepOf H k.config step k left (on_board c.in-Board.board.board) (on_board c.report-answer.new.board.board) a) (sym c.answer_of.ensures.step) (c.report-answer.ensures.step H) in
+    tried-there H key.config v c.claim_board.new.seat.me.0 c.of-before.result.value c.of.result.value k left step w (c.if-not-claim_board.ensures.claimed refl).place c.of-before.ensures c.of.ensures _
+    reply_of c.report-answer.result c.answer_of.ensures.told c.release_visit.ensures.done
+    tried.unchanged
+
+pub returns-clause-refused : goal.returns-clause-refused
+returns-clause-refused g c =
+    let key = c.args.self.now.table.shared.key in
+    let H = g.M.Model.handlers key.model.value in
+    let why = IsReportRefusal (simulation_of H key.config) c.args.place.now.seat.me.0 in
+    let t = c.if-not-claim_board.ensures.claimed refl in
+    let value = c.slot_mut-held.ensures.value ∙ ap (λ s. (c.args.self.now.workers, s) ∷ rest c.claim_board.new.seat.me.1) c.in-Board.is in
+    let r = c.requires.kernel in
+    tried-refused reply_of c.report-answer.result why (sym c.answer_of.ensures.step ∙ c.answer_of.ensures.told)
+    (IfErr-weaker (answer_of c.report-answer.result) _ why
+    (λ fault at. report-refused t.known r.steps r.part r.led fault
+    (subst (λ (x : Config × ℕ × Cell _). IsCellRefusal (simulation_of H x.0) (Report x.1) r.part x.2 fault) (λ i. (r.config_is i, sym c.args.place.now.own i, found-is t.holds (slot.Board c.in-Board.board) value i)) at))
+    ((c.report-answer.ensures.step H).refused r.part r.stands))
 
 pub returns-clause-alone : goal.returns-clause-alone
 returns-clause-alone g c r =
     let key = c.args.self.now.table.shared.key in
-    let m = key.model.value in
-    let H = g.M.Model.handlers m in
     let v = c.args.place.now.seat.me.0 in
-    let w = c.report_at.new.seat.me.0 in
+    let w = c.release_visit.new.seat.me.0 in
     let k = c.args.kernel.now in
-    let left = c.report_at.new.kernel in
-    let own = c.args.place.now.own in
-    subst (λ (u : ℕ). IsRefusedAlone (simulation_of H key.config) v r.steps (Report u) c.report_at.result) own
-    (report-alone H key.config v w k left r (Stays v w × (left ≡ k)) c.report_at.result v.seen reply_of (lawful_of H key.config (g.met.M.Model.start_within m) (g.met.M.Model.forward_within m))
-    (subst (λ (u : ℕ). MatchResult c.report_at.result (λ report. Visited H key.config v k (Report u) (reply_of report) left v.seen w) (λ _. Stays v w × (left ≡ k))) (sym own) c.report_at.ensures.done) c.report_at.ensures.refused)
+    let left = c.report-answer.new.kernel in
+    report-alone (g.M.Model.handlers key.model.value) key.config v w k left r (Stays v w × (left ≡ k)) c.args.place.now.own c.report-answer.result v.seen reply_of (c.if-not-claim_board.ensures.claimed refl).lawful (returns-clause-done g c) (returns-clause-refused g c)

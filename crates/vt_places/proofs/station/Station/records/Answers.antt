@@ -5,12 +5,12 @@ use Rattle.vt_book.specs.Books.{RunBook}
 use Rattle.vt_places.proofs.CallLemmas.{unvisited-held}
 use Rattle.vt_places.proofs.BookAt.{run-book}
 use Rattle.vt_places.proofs.RefusalLemmas as refusal
-use Rattle.vt_places.proofs.station.Station.records_at.Goals as goal
+use Rattle.vt_places.proofs.station.Station.records.Goals as goal
 
 pub returns-in-Ok-clause-done : goal.returns-in-Ok-clause-done
 returns-in-Ok-clause-done g c =
     let t = c.if-not-claim_book.ensures.claimed refl in
-    let v = c.args.seat.now.me.0 in
+    let v = c.args.place.now.seat.me.0 in
     let value = c.slot_mut-held.ensures.value ∙ ap (λ s. (c.args.self.now.workers + 1, s) ∷ rest c.claim_book.new.seat.me.1) c.in-Book.is in
     let is = run-book t value in (
       c.floor-floor.result,

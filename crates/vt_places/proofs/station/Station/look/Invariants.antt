@@ -1,6 +1,6 @@
 use Rattle.vt_model.specs.Simulation.{simulation_of}
 use Rattle.vt_places.proofs.Keeps.{Read}
-use Rattle.vt_places.proofs.station.Station.look_at.Given as goal
+use Rattle.vt_places.proofs.station.Station.look.Given as goal
 
 abbrev pub ghosts-load : goal.ghosts-load
 ghosts-load g a =

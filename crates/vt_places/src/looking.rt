@@ -1,0 +1,45 @@
+//! Looks at a cell, without a claim.
+
+ghost use Rattle.std.specs.Prelude.{◌≡◌, ◌<◌, true, false};
+ghost use Rattle.vt_model.specs.Simulation.{simulation_of};
+ghost use Rattle.vt_steps.specs.declared.step.Step.TheVariants as step;
+ghost use Rattle.vt_steps.specs.declared.step.Reply.TheVariants as reply;
+ghost use Rattle.vt_steps.specs.Letters.{is_empty};
+ghost use Rattle.vt_places.specs.Kept.{Rests};
+ghost use Rattle.vt_places.specs.Told.{station_model, station_config, station_table, place_table, place_worker, place_view};
+ghost use Rattle.vt_places.specs.Calls.{IsShown, Reaches, Visited};
+
+use crate::place::Place;
+use crate::station::{EMPTY, Seat, Station};
+use std::marker::Brand;
+use vt_kernel::Kernel;
+use vt_model::Model as EventModel;
+
+impl<M: EventModel> Station<M> {
+    /// Looks at a worker's inbox by one load, and answers whether it is empty. If it is, this look was the worker's fetch: its
+    /// steps are put behind all others in the list of steps.
+    pub(crate) fn finds_nothing(&self, seat: &mut Seat<M>, kernel: &Kernel<M>, worker: u32) -> bool
+        requires table { seat.old.table_id ≡ self.now.table.shared.table_id }
+        requires rests { Rests seat.old.me }
+        requires worker { seat.old.me.0.worker ≡ worker }
+        requires known { worker < self.now.workers }
+        requires accepted { is_empty kernel.now.arrived ≡ true }
+        requires kernel { let key = self.now.table.shared.key in Reaches (M.handlers key.model.value) key.config seat.old.me.0 kernel.now }
+        ensures same { (seat.new.table_id ≡ seat.old.table_id) × (seat.new.id ≡ seat.old.id) × Rests seat.new.me }
+        ensures done { let key = self.now.table.shared.key in result ≡ true → Visited (M.handlers key.model.value) key.config seat.old.me.0 kernel.now (step.Fetch worker) reply.Done kernel.now seat.old.me.0.seen seat.new.me.0 }
+        ensures not { result ≡ false → seat.new.me ≡ seat.old.me }
+    {
+        self.load::<Brand, Kernel<M>>(seat, worker as usize, kernel) == EMPTY
+    }
+
+    /// Reads one word of the table and changes nothing. The read tells contracts that some list of steps leads to a world in
+    /// which the part of the place's worker is what the place knows.
+    pub(crate) fn look(&self, place: &mut Place<M::Payload>)
+        requires own { place_table place.old ≡ station_table self.now }
+        ensures same { (place_table place.new ≡ place_table place.old) × (place_worker place.new ≡ place_worker place.old) }
+        ensures unchanged { place_view place.new ≡ place_view place.old }
+        ensures shown { IsShown (simulation_of (M.handlers (station_model self.now)) (station_config self.now)) (place_view place.old) }
+    {
+        let _ = self.load::<Brand, ()>(&mut place.seat, 0, &());
+    }
+}
