@@ -65,7 +65,7 @@ fn or_none(number: Option<u32>) -> u64 {
 fn choices_told(kernel: &Kernel<Hop>) -> u64 {
     sum_of_numbers(&[
         or_none(kernel.next()),
-        or_none(kernel.next_receiver()),
+        or_none(kernel.receiver_from(0)),
         or_none(kernel.home_for()),
         or_none(kernel.arrived_for(0)),
     ])

@@ -7,7 +7,6 @@ use Rattle.std.proofs.lemmas.Option.{get_or_from_slice_get, slice_get_within, sl
 use Rattle.vt_lp.specs.Ripe.{rows_of_ripe}
 use Rattle.vt_lp.proofs.RipeLemmas.{rows-ripe}
 use Rattle.vt_key.specs.Times.{Time}
-use Rattle.vt_key.specs.declared.letter.Letter.{Letter}
 use Rattle.vt_key.specs.declared.letter.Mail.{Mail}
 use Rattle.vt_model.specs.declared.rows.Row.{Row}
 use Rattle.vt_model.specs.declared.settings.Config.{Config}
@@ -20,7 +19,7 @@ use Rattle.vt_steps.specs.StandsFor.{StandsForProcess, StandForProcesses, entry_
 use Rattle.vt_lp.specs.Held.{HeldProcess, process_memory, remembered, StandsFor as ProcessStandsFor}
 use Rattle.vt_contest.specs.declared.contest.Contest.{Contest}
 use Rattle.vt_contest.specs.Contest.{IsContestOf}
-use Rattle.vt_kernel.specs.Held.{HeldWorker, StandsFor, AreProcesses, IsWorkerInside}
+use Rattle.vt_kernel.specs.Held.{HeldOutbox, HeldWorker, StandsFor, AreProcesses, IsWorkerInside}
 use Rattle.vt_kernel.specs.Guards.{IsForgotten, HasForgotten}
 use Rattle.vt_kernel.proofs.PartLemmas.{stands_along}
 use Rattle.vt_kernel.proofs.ProcessLemmas.{get-map_of, stands-at, process-at}
@@ -155,7 +154,7 @@ module _ {S P K : Type 0} where
       }
 
   -- how the fields of a worker go together then
-  pub inside-commit : {config : Config} {w : ℕ} {xs : List (HeldProcess S P K)} {outbox : List (Letter P)} {arrived : List (Mail P)} {sent got : Counts} {serial : ℕ} {contest : Contest} →
+  pub inside-commit : {config : Config} {w : ℕ} {xs : List (HeldProcess S P K)} {outbox : HeldOutbox P} {arrived : List (Mail P)} {sent got : Counts} {serial : ℕ} {contest : Contest} →
       (floor : Time) (ys : List (HeldProcess S P K)) (new_contest : Contest) → length ys ≡ length xs →
       ((k : ℕ) (d : HeldProcess S P K) → k < length xs → IsForgotten floor (slice_index_or xs k d) (slice_index_or ys k d)) →
       IsContestOf ys new_contest →
@@ -166,6 +165,7 @@ module _ {S P K : Type 0} where
     all_there = long ∙ h.all_there;
     own_processes = are-forgotten floor config w 0 xs ys (forgotten-each floor xs ys long each) h.own_processes;
     sendable = h.sendable;
+    by_worker = h.by_worker;
     own_mail = h.own_mail;
     few_sent = h.few_sent;
     few_got = h.few_got;

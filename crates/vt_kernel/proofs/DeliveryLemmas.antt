@@ -1,5 +1,5 @@
 -- Home and Accept: a letter leaves the outbox or the mail that has arrived, and reaches its process.
-use Rattle.std.proofs.Common.{◌≡◌, ℕ, zero, suc, ◌/◌, ◌%◌, inl, inr, Bool, true, false, cond, nat_eq, List, [], ◌∷◌, take, drop, refl, sym, ◌∙◌, ap, subst, Option, Some, None, slice_get, slice_set, if◌then◌else◌}
+use Rattle.std.proofs.Common.{◌≡◌, ℕ, suc, ◌/◌, ◌%◌, inl, inr, Bool, true, false, cond, nat_eq, List, [], ◌∷◌, take, drop, refl, sym, ◌∙◌, ap, subst, Some, None, slice_get, slice_set, if◌then◌else◌}
 use Rattle.std.specs.List.{All, find, remove}
 use Rattle.vt_key.specs.Queues.{without_first}
 use Rattle.std.proofs.lemmas.List.Elements.{All-cons, All-head, All-tail, All-append, All-take, All-drop}
@@ -20,7 +20,7 @@ use Rattle.vt_lp.specs.Held.{HeldProcess, IsWithinRun, StandsFor as ProcessStand
 use Rattle.vt_lp.specs.Guards.{holds_letter, IsDone as ProcessIsDone}
 use Rattle.vt_lp.proofs.AcceptLemmas.{accepted, accept-by}
 use Rattle.vt_contest.specs.declared.contest.Contest.{Contest}
-use Rattle.vt_kernel.specs.Held.{HeldWorker, StandsFor, AreProcesses, IsWorkerInside}
+use Rattle.vt_kernel.specs.Held.{HeldWorker, HeldOutbox, StandsFor, AreProcesses, IsWorkerInside}
 use Rattle.vt_kernel.specs.Local.{local_step}
 use Rattle.vt_kernel.specs.Guards.{IsDone}
 use Rattle.vt_kernel.proofs.OwnSteps.{own, own-step, found, refused-at}
@@ -154,12 +154,12 @@ module _ {S P K : Type 0} (handlers : Handlers S P K) (held : HeldWorker S P K) 
       ∙ ap (accept_mail (simulation_of handlers held.config) i part) (ap (λ ms. slice_get ms i) h.arrived ∙ none)
 
 -- a letter that was found in the outbox is for one of the worker's processes, before the end of the run
-pub found-in : {S P K : Type 0} {config : Config} {w : ℕ} {processes : List (HeldProcess S P K)} {outbox : List (Letter P)} {arrived : List (Mail P)} {sent got : Counts} {serial : ℕ} {contest : Contest}
-    → IsWorkerInside config w processes outbox arrived sent got serial contest → (letter : Letter P) → find (λ (l : Letter P). nat_eq (l.event.dest % config.workers) w) outbox ≡ Some letter
+pub found-in : {S P K : Type 0} {config : Config} {w : ℕ} {processes : List (HeldProcess S P K)} {outbox : HeldOutbox P} {arrived : List (Mail P)} {sent got : Counts} {serial : ℕ} {contest : Contest}
+    → IsWorkerInside config w processes outbox arrived sent got serial contest → (letter : Letter P) → find (λ (l : Letter P). nat_eq (l.event.dest % config.workers) w) outbox.letters ≡ Some letter
     → (letter.event.dest % config.workers ≡ w) × IsWithinRun config.lps (end_of config) letter
 found-in {config = config} {w = w} {outbox = outbox} h letter is = (
-  for-worker config.workers w letter.event.dest (find-passes (λ l. nat_eq (l.event.dest % config.workers) w) outbox letter is),
-  find-all (IsWithinRun config.lps (end_of config)) (λ l. nat_eq (l.event.dest % config.workers) w) outbox letter h.sendable is,
+  for-worker config.workers w letter.event.dest (find-passes (λ l. nat_eq (l.event.dest % config.workers) w) outbox.letters letter is),
+  find-all (IsWithinRun config.lps (end_of config)) (λ l. nat_eq (l.event.dest % config.workers) w) outbox.letters letter h.sendable is,
 )
 
 -- Accept of a letter that its process does not hold is lawful

@@ -1,22 +1,22 @@
 -- How the fields of a worker go together after one of them changed.
-use Rattle.std.proofs.Common.{ℕ, List}
-use Rattle.vt_key.specs.declared.letter.Letter.{Letter}
+use Rattle.std.proofs.Common.{◌≡◌, ℕ, List}
 use Rattle.vt_key.specs.declared.letter.Mail.{Mail}
 use Rattle.vt_model.specs.declared.settings.Config.{Config}
 use Rattle.vt_steps.specs.Letters.{Counts}
 use Rattle.vt_lp.specs.Held.{HeldProcess, AllWithinRun}
 use Rattle.vt_contest.specs.declared.contest.Contest.{Contest}
-use Rattle.vt_kernel.specs.Held.{IsWorkerInside, AllOwnMail, AreCounted}
+use Rattle.vt_kernel.specs.Held.{HeldOutbox, IsWorkerInside, AllOwnMail, AreCounted}
 
-module _ {S P K : Type 0} {config : Config} {w : ℕ} {processes : List (HeldProcess S P K)} {outbox : List (Letter P)} {arrived : List (Mail P)} {sent got : Counts} {serial : ℕ} {contest : Contest} where
-  inside-with : (letters : List (Letter P)) (mails : List (Mail P)) (made_counts got_counts : Counts) → AllWithinRun config letters → AllOwnMail config w mails → AreCounted made_counts → AreCounted got_counts →
+module _ {S P K : Type 0} {config : Config} {w : ℕ} {processes : List (HeldProcess S P K)} {outbox : HeldOutbox P} {arrived : List (Mail P)} {sent got : Counts} {serial : ℕ} {contest : Contest} where
+  inside-with : (letters : HeldOutbox P) (mails : List (Mail P)) (made_counts got_counts : Counts) → AllWithinRun config letters.letters → letters.config ≡ config → AllOwnMail config w mails → AreCounted made_counts → AreCounted got_counts →
       IsWorkerInside config w processes outbox arrived sent got serial contest →
       IsWorkerInside config w processes letters mails made_counts got_counts serial contest
-  inside-with letters mails made_counts got_counts within own few_made few_got h = record {
+  inside-with letters mails made_counts got_counts within by own few_made few_got h = record {
     known = h.known;
     all_there = h.all_there;
     own_processes = h.own_processes;
     sendable = within;
+    by_worker = by;
     own_mail = own;
     few_sent = few_made;
     few_got = few_got;
@@ -28,10 +28,10 @@ module _ {S P K : Type 0} {config : Config} {w : ℕ} {processes : List (HeldPro
   pub inside-arrived : (mails : List (Mail P)) (counts : Counts) → AllOwnMail config w mails → AreCounted counts →
       IsWorkerInside config w processes outbox arrived sent got serial contest →
       IsWorkerInside config w processes outbox mails sent counts serial contest
-  inside-arrived mails counts own few h = inside-with outbox mails sent counts h.sendable own h.few_sent few h
+  inside-arrived mails counts own few h = inside-with outbox mails sent counts h.sendable h.by_worker own h.few_sent few h
 
   -- another outbox, and other counts of what was sent
-  pub inside-outbox : (letters : List (Letter P)) (counts : Counts) → AllWithinRun config letters → AreCounted counts →
+  pub inside-outbox : (letters : HeldOutbox P) (counts : Counts) → AllWithinRun config letters.letters → letters.config ≡ config → AreCounted counts →
       IsWorkerInside config w processes outbox arrived sent got serial contest →
       IsWorkerInside config w processes letters arrived counts got serial contest
-  inside-outbox letters counts within few h = inside-with letters arrived counts got within h.own_mail few h.few_got h
+  inside-outbox letters counts within by few h = inside-with letters arrived counts got within by h.own_mail few h.few_got h

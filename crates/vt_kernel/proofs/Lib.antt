@@ -1,3 +1,4 @@
+pub mod Blank
 pub mod CommitLemmas
 pub mod FinalLemmas
 pub mod ProcessLemmas
@@ -8,6 +9,8 @@ pub mod InsideLemmas
 pub mod MakeLemmas
 pub mod PartLemmas
 pub mod PartingLemmas
+pub mod OutboxLemmas
+pub mod PutLemmas
 pub mod PlaceLemmas
 pub mod ReportLemmas
 pub mod SendLemmas

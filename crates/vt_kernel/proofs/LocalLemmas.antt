@@ -22,7 +22,7 @@ use Rattle.vt_lp.specs.Guards.{IsDone as ProcessIsDone}
 use Rattle.vt_contest.specs.declared.contest.Contest.{Contest}
 use Rattle.vt_contest.specs.Contest.{IsContestOf}
 use Rattle.vt_contest.proofs.Written.{put-there}
-use Rattle.vt_kernel.specs.Held.{HeldWorker, IsWorkerInside, StandsFor, AreProcesses, process_of}
+use Rattle.vt_kernel.specs.Held.{HeldWorker, HeldOutbox, IsWorkerInside, StandsFor, AreProcesses, process_of}
 use Rattle.vt_kernel.specs.Guards.{IsDone}
 use Rattle.vt_kernel.proofs.ProcessLemmas.{process-at, processes-changed, place-known, place-unknown, get-past}
 use Rattle.vt_kernel.proofs.OwnSteps.{at_own, not-own, no-process, found, done-at, refused-at, IsFound}
@@ -53,7 +53,7 @@ index-get (y ∷ ys) (suc i) x within is = index-get ys i x (omega arith) is
 abbrev pub IsOwnPlace : Config → ℕ → ℕ → ℕ → Type 0
 IsOwnPlace config w p place = (place ≡ p / config.workers) × (p % config.workers ≡ w) × (p < config.lps)
 
-module _ {S P K : Type 0} {config : Config} {w : ℕ} {processes : List (HeldProcess S P K)} {outbox : List (Letter P)} {arrived : List (Mail P)} {sent got : Counts} {serial : ℕ} {contest : Contest}
+module _ {S P K : Type 0} {config : Config} {w : ℕ} {processes : List (HeldProcess S P K)} {outbox : HeldOutbox P} {arrived : List (Mail P)} {sent got : Counts} {serial : ℕ} {contest : Contest}
     (h : IsWorkerInside config w processes outbox arrived sent got serial contest) where
   -- the place of one of the worker's processes is within
   pub place-within : (p place : ℕ) → IsOwnPlace config w p place → place < length processes
@@ -65,17 +65,18 @@ module _ {S P K : Type 0} {config : Config} {w : ℕ} {processes : List (HeldPro
       omega (arith, known, all, is)
 
   -- a process that has changed and has entered the contest again, with what was made by it
-  pub inside-changed : (place : ℕ) {q : HeldProcess S P K} (new : HeldProcess S P K) {letters : List (Letter P)} {next : ℕ} {now : List (HeldProcess S P K)} {new_contest : Contest}
+  pub inside-changed : (place : ℕ) {q : HeldProcess S P K} (new : HeldProcess S P K) {letters : HeldOutbox P} {next : ℕ} {now : List (HeldProcess S P K)} {new_contest : Contest}
       → slice_get processes place ≡ Some q → new.lp ≡ q.lp → new.config ≡ q.config → now ≡ slice_set processes place new
-      → IsContestOf now new_contest → AllWithinRun config letters → next ≤ MAX_COUNT
+      → IsContestOf now new_contest → AllWithinRun config letters.letters → letters.config ≡ config → next ≤ MAX_COUNT
       → IsWorkerInside config w (slice_set processes place new) letters arrived sent got next new_contest
-  inside-changed place {q} new {letters} {next} {now} {new_contest} at same_lp same_config is in_contest within few =
+  inside-changed place {q} new {letters} {next} {now} {new_contest} at same_lp same_config is in_contest within by few =
       let who = process-at config w 0 place processes q h.own_processes at in
       record {
         known = h.known;
         all_there = length-set processes place new ∙ h.all_there;
         own_processes = processes-changed config w 0 place processes new h.own_processes (same_lp ∙ who.0) (same_config ∙ who.1);
         sendable = within;
+        by_worker = by;
         own_mail = h.own_mail;
         few_sent = h.few_sent;
         few_got = h.few_got;

@@ -1,16 +1,13 @@
 -- The process that a call changes: it is there, and enters the contest again.
-use Rattle.std.proofs.Common.{◌≡◌, ◌∙◌, ℕ, ◌+◌, ◌*◌, ◌/◌, ◌%◌, ◌<◌, true, nat_lt, List, ◌++◌, length, refl, sym, ap, subst, arith, Some, slice_get, slice_set, slice_index_or}
+use Rattle.std.proofs.Common.{◌≡◌, ◌∙◌, ℕ, ◌+◌, ◌*◌, ◌/◌, ◌%◌, ◌<◌, true, nat_lt, List, length, refl, sym, ap, subst, arith, Some, slice_get, slice_set, slice_index_or}
 use Rattle.std.proofs.Math.Nat.{div-add-mod'}
 use Rattle.std.proofs.lemmas.Bool.{ltb-true}
 use Rattle.std.proofs.lemmas.List.{length-set}
 use Rattle.std.proofs.lemmas.Option.{slice_get_within}
 use Rattle.std.specs.List.{find}
 use Rattle.vt_key.specs.Times.{TimeBefore}
-use Rattle.vt_key.specs.Queues.{without_first}
 use Rattle.vt_key.specs.declared.letter.Letter.{Letter}
 use Rattle.vt_key.specs.declared.letter.Mail.{Mail}
-use Rattle.vt_list.specs.First.{before_first, from_first}
-use Rattle.vt_list.proofs.Firsts.{TakesOff, taken-first}
 use Rattle.vt_model.specs.declared.settings.Config.{Config}
 use Rattle.vt_model.specs.Settings.{end_of}
 use Rattle.vt_steps.specs.Letters.{Counts}
@@ -20,7 +17,7 @@ use Rattle.vt_contest.specs.Contest.{WasContestOf}
 use Rattle.vt_contest.proofs.Written.{get-all}
 use Rattle.vt_contest.proofs.ContestLemmas.{contest-before}
 use Rattle.vt_kernel.specs.Guards.{is_for_worker}
-use Rattle.vt_kernel.specs.Held.{IsWorkerInside, IsOwnMail}
+use Rattle.vt_kernel.specs.Held.{HeldOutbox, IsWorkerInside, IsOwnMail}
 use Rattle.vt_kernel.proofs.ProcessLemmas.{process-at}
 use Rattle.vt_kernel.proofs.LocalLemmas.{IsOwnPlace, index-get, place-within}
 use Rattle.vt_kernel.proofs.DeliveryLemmas.{found-in}
@@ -32,7 +29,7 @@ in-changed xs now place q new at is =
     let size : length now ≡ length xs = ap length is ∙ length-set xs place new in
     omega (arith, less, size)
 
-module _ {S P K : Type 0} {config : Config} {w : ℕ} {processes : List (HeldProcess S P K)} {outbox : List (Letter P)} {arrived : List (Mail P)} {sent got : Counts} {serial : ℕ} {contest : Contest}
+module _ {S P K : Type 0} {config : Config} {w : ℕ} {processes : List (HeldProcess S P K)} {outbox : HeldOutbox P} {arrived : List (Mail P)} {sent got : Counts} {serial : ℕ} {contest : Contest}
     (h : IsWorkerInside config w processes outbox arrived sent got serial contest) where
   -- the process that an index finds
   pub process-there : (p place : ℕ) {old : HeldProcess S P K} → IsOwnPlace config w p place → slice_index_or processes place old ≡ old → slice_get processes place ≡ Some old
@@ -66,17 +63,15 @@ module _ {S P K : Type 0} {config : Config} {w : ℕ} {processes : List (HeldPro
       let own = get-all (IsOwnMail config w) arrived at mail h.own_mail there in
       record { there = there; own = own; place = (refl, own.own, own.within.known) }
 
-  -- a letter that is taken off the outbox for one of the worker's processes
-  pub record TakenOff (letter : Letter P) (rest : List (Letter P)) : Type 0 where
-    pub there : find (is_for_worker config w) outbox ≡ Some letter
-    pub left : rest ≡ without_first (is_for_worker config w) outbox
+  -- the first letter of the outbox for one of the worker's processes
+  pub record IsFirstOwn (letter : Letter P) : Type 0 where
+    pub there : find (is_for_worker config w) outbox.letters ≡ Some letter
     pub place : IsOwnPlace config w letter.event.dest (letter.event.dest / config.workers)
     pub soon : TimeBefore letter.event.rank.key.time (end_of config)
 
-  pub taken-off : (before from rest : List (Letter P)) (letter taken : Letter P) → before ≡ before_first (is_for_worker config w) outbox → from ≡ from_first (is_for_worker config w) outbox
-      → TakesOff (λ (l : Letter P). l) from (Some taken) rest → letter ≡ taken → TakenOff letter (before ++ rest)
-  taken-off before from rest letter taken before_is from_is told got =
-      let off = taken-first (is_for_worker config w) (λ (l : Letter P). l) outbox before from rest (Some taken) before_is from_is told in
-      let there : find (is_for_worker config w) outbox ≡ Some letter = sym off.0 ∙ ap Some (sym got) in
+  pub first-own : (letter taken : Letter P) → Some taken ≡ find (is_for_worker outbox.config w) outbox.letters → letter ≡ taken → IsFirstOwn letter
+  first-own letter taken found got =
+      let there : find (is_for_worker config w) outbox.letters ≡ Some letter =
+      ap (λ (k : Config). find (is_for_worker k w) outbox.letters) (sym h.by_worker) ∙ sym found ∙ ap Some (sym got) in
       let own = found-in h letter there in
-      record { there = there; left = off.1; place = (refl, own.0, own.1.known); soon = own.1.soon }
+      record { there = there; place = (refl, own.0, own.1.known); soon = own.1.soon }

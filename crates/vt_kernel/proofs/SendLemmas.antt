@@ -65,6 +65,10 @@ module _ {S P : Type 0} (sim : Simulation S P) (w v : ℕ) (part : Part P) where
 
 -- ---- the refusals
 
+-- why there is no room for so many letters, of which so many may be sent
+abbrev pub IsRoomRefusal : ℕ → ℕ → Fault → Type 0
+IsRoomRefusal most count fault = ((fault ≡ NotLawful) × (count ≡ 0)) ⊎ ((0 < count) × (((fault ≡ Exhausted) × (most < count)) ⊎ ((fault ≡ Memory) × (count ≤ most))))
+
 module _ {S P K : Type 0} where
   -- how many letters are to be sent, by a part that the worker stands for
   pub count_sent : {held now : HeldWorker S P K} → held ≡ now → (handlers : Handlers S P K) (v : ℕ) (part : Part P) → StandsFor handlers now part →
@@ -74,8 +78,7 @@ module _ {S P K : Type 0} where
 
   pub refused-send : {held now : HeldWorker S P K} → held ≡ now → (handlers : Handlers S P K) (v : ℕ) (part : Part P) → StandsFor handlers now part →
       (fault : Fault) (most : ℕ) → most + count_of held.sent held.colour ≡ MAX_COUNT → nat_eq held.worker v ≡ false →
-      ((fault ≡ NotLawful) × (length (filter (is_for_worker held.config v) held.outbox) ≡ 0))
-      ⊎ ((0 < length (filter (is_for_worker held.config v) held.outbox)) × (((fault ≡ Exhausted) × (most < length (filter (is_for_worker held.config v) held.outbox))) ⊎ ((fault ≡ Memory) × (length (filter (is_for_worker held.config v) held.outbox) ≤ most)))) →
+      IsRoomRefusal most (length (filter (is_for_worker held.config v) held.outbox)) fault →
       IsSendRefusal (simulation_of handlers now.config) now.worker v part fault
   refused-send {held} {now} e handlers v part s fault most room other why =
       let sim = simulation_of handlers now.config in

@@ -1,6 +1,6 @@
 -- What the calls of a worker answer and leave, by the steps of a world's part.
-use Rattle.std.specs.Prelude.{◌≡◌, ℕ, ◌+◌, ◌<◌, ◌≤◌, ◌⊎◌, ◌/◌, ◌%◌, ◌^◌, Bool, nat_eq, true, false, List, ◌++◌, map, length, Option, Some, None, slice_get, slice_set, slice_index_or}
-use Rattle.std.specs.List.{flat_map}
+use Rattle.std.specs.Prelude.{◌≡◌, ℕ, ◌+◌, ◌<◌, ◌≤◌, ◌⊎◌, ◌/◌, ◌%◌, ◌^◌, Bool, nat_eq, not, ◌&&◌, true, false, List, ◌++◌, map, length, Option, Some, None, slice_get, slice_set, slice_index_or}
+use Rattle.std.specs.List.{flat_map, list_any}
 use Rattle.vt_key.specs.Times.{Time}
 use Rattle.vt_key.specs.declared.limits.TheConstants.{MAX_COUNT}
 use Rattle.vt_key.specs.declared.letter.Letter.{Letter}
@@ -72,6 +72,10 @@ module _ {S P : Type 0} (sim : Simulation S P) where
 -- the letter is for a process of worker v
 abbrev pub is_for_worker : {P : Type 0} → Config → ℕ → Letter P → Bool
 is_for_worker config v letter = nat_eq (letter.event.dest % config.workers) v
+
+-- the worker's outbox holds letters for processes of worker v, which is another one
+abbrev pub holds_letters_for : {S P K : Type 0} → HeldWorker S P K → ℕ → Bool
+holds_letters_for held v = not (nat_eq held.worker v) && list_any (is_for_worker held.config v) held.outbox
 
 -- the letter as mail of this colour
 abbrev pub mailed : {P : Type 0} → Colour → Letter P → Mail P

@@ -31,6 +31,12 @@ pub record HeldWorker (S P K : Type 0) : Type 0 where
   pub floor : Time
   pub serial : ℕ
 
+-- what a contract sees of a worker's outbox: its letters in the order in which they came, and the config by whose workers they are
+-- sorted
+pub record HeldOutbox (P : Type 0) : Type 0 where
+  pub config : Config
+  pub letters : List (Letter P)
+
 module _ {S P K : Type 0} (handlers : Handlers S P K) where
   -- what a worker is as memory of a world's part
   abbrev pub part_memory : HeldWorker S P K → PartMemory S P
@@ -88,12 +94,13 @@ pub record AreCounted (counts : Counts) : Type 0 where
   pub red : counts.red ≤ MAX_COUNT
 
 -- how the fields of a worker go together
-pub record IsWorkerInside {S P K : Type 0} (config : Config) (w : ℕ) (processes : List (HeldProcess S P K)) (outbox : List (Letter P))
+pub record IsWorkerInside {S P K : Type 0} (config : Config) (w : ℕ) (processes : List (HeldProcess S P K)) (outbox : HeldOutbox P)
     (arrived : List (Mail P)) (sent got : Counts) (serial : ℕ) (contest : Contest) : Type 0 where
   pub known : w < config.workers
   pub all_there : length processes ≡ (config.lps + (config.workers - 1) - w) / config.workers
   pub own_processes : AreProcesses config w 0 processes
-  pub sendable : AllWithinRun config outbox
+  pub sendable : AllWithinRun config outbox.letters
+  pub by_worker : outbox.config ≡ config
   pub own_mail : AllOwnMail config w arrived
   pub few_sent : AreCounted sent
   pub few_got : AreCounted got

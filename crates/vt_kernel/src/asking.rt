@@ -13,7 +13,6 @@ ghost use Rattle.vt_kernel.specs.Held.{StandsFor};
 ghost use Rattle.vt_kernel.specs.Guards.{IsSendRefusal};
 
 use crate::kernel::Kernel;
-use crate::sending::count_for;
 use vt_key::Fault;
 use vt_model::Model as EventModel;
 
@@ -32,7 +31,7 @@ impl<M: EventModel> Kernel<M> {
             return Err(Fault::NotLawful);
         }
         let room = self.sent.room(self.colour);
-        let Some(count) = count_for(&self.outbox, self.config, v, room) else {
+        let Some(count) = self.outbox.count_for(v, room) else {
             return Err(Fault::Exhausted);
         };
         if count == 0 {

@@ -12,8 +12,7 @@ ghost use Rattle.vt_kernel.specs.Held.{StandsFor};
 ghost use Rattle.vt_kernel.specs.Guards.{held_letters};
 
 use crate::kernel::Kernel;
-use vt_key::{Letter, Mail, When};
-use vt_list::List;
+use vt_key::{Mail, When};
 use vt_model::Model as EventModel;
 
 impl<M: EventModel> Kernel<M> {
@@ -55,22 +54,11 @@ impl<M: EventModel> Kernel<M> {
         ensures { result ≡ least_time (end_of self.now.config) (held_letters self.now) }
     {
         let end = self.config.end();
-        let unsent = least_of_letters(&self.outbox, end);
+        let unsent = self.outbox.least(end);
         let arrived = least_of_mail(&self.arrived, end);
         let kept = self.contest.least(&self.processes, end);
         unsent.earlier(arrived).earlier(kept)
     }
-}
-
-/// The least time of these letters; the end of the run if there are none.
-fn least_of_letters<P: Copy>(letters: &List<Letter<P>>, end: When) -> When
-    ensures { result ≡ least_time end letters.now }
-{
-    let mut least = end;
-    for letter in letters.iter() {
-        least = least.earlier(letter.event.rank.key.when());
-    }
-    least
 }
 
 /// The least time of this mail; the end of the run if there is none.

@@ -17,10 +17,10 @@ ghost use Rattle.vt_kernel.specs.Guards.{IsDone, IsAcceptRefusal};
 
 use crate::kernel::Kernel;
 use std::alloc::Global;
+use std::snapshot::Snapshot;
 use vt_key::{Fault, Letter};
-use vt_list::Predicate;
 use vt_lp::Lp;
-use vt_model::{Config, Model as EventModel};
+use vt_model::Model as EventModel;
 
 impl<M: EventModel> Kernel<M> {
     /// Home: the first letter of the outbox that is for a process of this worker goes there. It takes no memory.
@@ -32,23 +32,17 @@ impl<M: EventModel> Kernel<M> {
         ensures kept { IfErr result (λ fault. (fault ≡ NotLawful) × (self.new ≡ self.old)) }
         ensures same { (self.new.worker ≡ self.old.worker) × (self.new.config ≡ self.old.config) }
     {
-        let own = IsFor {
-            config: self.config,
-            worker: self.worker,
-        };
-        let mut others = self.outbox.split_off_first(&own);
-        let Some(letter) = others.pop_front() else {
+        let before = Snapshot::of(&self.outbox);
+        let Some(letter) = self.outbox.pop_for(self.worker) else {
             return Err(Fault::NotLawful);
         };
         let place = (letter.get().event.dest / self.config.workers) as usize;
         let process = &mut self.processes[place];
         let leads = process.would_lead(letter.get());
         if let Err((fault, letter)) = process.accept(letter) {
-            others.push_front(letter);
-            self.outbox.append(&mut others);
+            self.outbox.put_back(self.worker, letter, &before);
             return Err(fault);
         }
-        self.outbox.append(&mut others);
         self.contest.enter_accepted(&self.processes, place, leads);
         Ok(())
     }
@@ -94,21 +88,4 @@ fn unmade<M: EventModel>(process: &Lp<M>, letter: Letter<M::Payload>) -> Fault
         return Fault::NotLawful;
     }
     Fault::Memory
-}
-
-// Lets the letters for this worker's processes pass.
-#[derive(Drop)]
-pub(crate) struct IsFor {
-    pub(crate) config: Config,
-    pub(crate) worker: u32,
-}
-
-impl<P> Predicate<Letter<P>> for IsFor {
-    ghost use Rattle.std.specs.Prelude.{nat_eq, ◌%◌};
-
-    ghost passes = { λ t letter. nat_eq (letter.event.dest % t.config.workers) t.worker };
-
-    fn test(&self, letter: &Letter<P>) -> bool {
-        self.config.owner(letter.event.dest) == self.worker
-    }
 }

@@ -4,10 +4,10 @@ ghost use Rattle.std.specs.Prelude.{◌≡◌, ◌%◌, ◌^◌, length};
 ghost use Rattle.vt_steps.specs.Letters.{count_of};
 
 use crate::counts::Counts;
+use crate::outbox::Outbox;
 use std::marker::Model;
 use vt_contest::Contest;
-use vt_key::{Colour, Letter, Mail, When};
-use vt_list::List;
+use vt_key::{Colour, Mail, When};
 use vt_lp::{Lp, Spare};
 use vt_model::{Config, Model as EventModel};
 
@@ -21,7 +21,7 @@ pub struct Kernel<M: EventModel> {
     pub(crate) config: Config,
     pub(crate) worker: u32,
     pub(crate) processes: Vec<Lp<M>>,
-    pub(crate) outbox: List<Letter<M::Payload>>,
+    pub(crate) outbox: Outbox<M::Payload>,
     pub(crate) arrived: Vec<Mail<M::Payload>>,
     pub(crate) colour: Colour,
     pub(crate) sent: Counts,
@@ -44,7 +44,7 @@ impl<M: EventModel> Model for Kernel<M> {
       worker = k.worker;
       config = k.config;
       processes = k.processes.items;
-      outbox = k.outbox;
+      outbox = k.outbox.letters;
       arrived = k.arrived.items;
       colour = k.colour;
       sent = k.sent;

@@ -13,6 +13,7 @@ ghost use Rattle.vt_kernel.specs.Guards.{IsDone, AreWithinLimits, IsExecuteRefus
 use crate::kernel::Kernel;
 use std::alloc::Global;
 use vt_key::{Fault, Stamp, When};
+use vt_list::List;
 use vt_model::{Config, Model as EventModel, Out};
 
 impl<M: EventModel> Kernel<M> {
@@ -60,14 +61,16 @@ impl<M: EventModel> Kernel<M> {
         let Some(place) = place_of(self.config, self.worker, lp) else {
             return Err(Fault::NotLawful);
         };
+        let mut sent = List::new(alloc);
         let result = self.processes[place].execute_reusing(
             alloc,
             model,
             &mut self.serial,
-            &mut self.outbox,
+            &mut sent,
             &mut self.spare,
             out,
         );
+        self.outbox.put(sent);
         self.contest.enter(&self.processes, place);
         result
     }
@@ -86,7 +89,9 @@ impl<M: EventModel> Kernel<M> {
         let Some(place) = place_of(self.config, self.worker, lp) else {
             return Err(Fault::NotLawful);
         };
-        let result = self.processes[place].undo(model, &mut self.outbox);
+        let mut sent = List::new(*self.arrived.allocator());
+        let result = self.processes[place].undo(model, &mut sent);
+        self.outbox.put(sent);
         self.contest.enter(&self.processes, place);
         result
     }

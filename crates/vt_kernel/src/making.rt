@@ -13,6 +13,7 @@ ghost use Rattle.vt_kernel.specs.Held.{StandsFor, AreProcesses};
 
 use crate::counts::Counts;
 use crate::kernel::Kernel;
+use crate::outbox::Outbox;
 use std::alloc::Global;
 use vt_contest::Contest;
 use vt_key::{Colour, Fault, Letter, MAX_COUNT, MAX_PROCESSES, MAX_WORKERS, When};
@@ -75,8 +76,10 @@ fn open<M: EventModel>(
     ensures refused { IfErr result (λ fault. fault ≡ Memory) }
 {
     let mut serial = serial;
-    let mut outbox = List::new(alloc);
-    let processes = start_all(alloc, model, config, w, &mut serial, &mut outbox)?;
+    let mut outbox = Outbox::new(alloc, config)?;
+    let mut sent = List::new(alloc);
+    let processes = start_all(alloc, model, config, w, &mut serial, &mut sent)?;
+    outbox.put(sent);
     let contest = Contest::new(alloc, &processes)?;
     Ok(Kernel {
         config,

@@ -1,8 +1,6 @@
 //! Mail that leaves for another worker.
 
-ghost use Rattle.std.specs.Prelude.{◌≡◌, ◌%◌, ◌+◌, ◌<◌, ◌≤◌, ◌⊎◌, ◌++◌, true, not, length, map, filter, vec_len, IfOk, IfErr, IfSome, IfNone};
-ghost use Rattle.std.specs.List.{find};
-ghost use Rattle.std.specs.Option.{option_map};
+ghost use Rattle.std.specs.Prelude.{◌≡◌, ℕ, ◌+◌, ◌<◌, ◌≤◌, ◌⊎◌, ◌++◌, true, false, not, length, map, filter, vec_len, IfOk, IfErr, IfSome, IfNone};
 ghost use Rattle.std.specs.Vec.{vec_capacity};
 ghost use Rattle.vt_key.specs.Times.{earlier};
 ghost use Rattle.vt_key.specs.declared.fault.Fault.TheVariants.{Memory, NotLawful, Exhausted};
@@ -15,12 +13,12 @@ ghost use Rattle.vt_steps.specs.World.{Part};
 ghost use Rattle.vt_steps.specs.PartSteps.{part_after_send, mail_of_send};
 ghost use Rattle.vt_steps.specs.CellSteps.{may_send};
 ghost use Rattle.vt_kernel.specs.Held.{StandsFor, AllOwnMail};
-ghost use Rattle.vt_kernel.specs.Guards.{is_for_worker, mailed, IsSendRefusal};
+ghost use Rattle.vt_kernel.specs.Guards.{is_for_worker, mailed, holds_letters_for, IsSendRefusal};
 
 use crate::kernel::Kernel;
-use std::mem;
+use crate::outbox::Outbox;
 use vt_key::{Colour, Fault, Letter, Mail, When};
-use vt_list::{List, Predicate};
+use vt_list::List;
 use vt_lp::Spare;
 use vt_model::{Config, Model as EventModel};
 
@@ -46,50 +44,42 @@ impl<M: EventModel> Kernel<M> {
             return Err(Fault::NotLawful);
         }
         let room = self.sent.room(self.colour);
-        let count = make_room(&self.outbox, self.config, v, room, mail)?;
-        let least = move_letters(
-            &mut self.outbox,
-            &mut self.spare,
-            self.config,
-            v,
-            self.colour,
-            mail,
-        );
+        let count = make_room(&self.outbox, v, room, mail)?;
+        let letters = self.outbox.take_for(v, *mail.allocator());
+        let least = move_letters(letters, &mut self.spare, self.config, self.colour, mail);
         self.sent.raise(self.colour, count);
         self.red_minimum = self.red_minimum.earlier(least);
         Ok(())
     }
 
-    /// The worker that the next send should go to: the receiver of the first letter of the outbox that is for another
-    /// worker. None if all letters of the outbox are for processes of this worker.
-    pub fn next_receiver(&self) -> Option<u32>
-        ensures { result ≡ option_map (λ letter. letter.event.dest % self.now.config.workers) (find (λ letter. not (is_for_worker self.now.config self.now.worker letter)) self.now.outbox) }
+    /// The first worker from number `v` on, other than this one, that the outbox holds letters for; None if there is none.
+    /// A send to it is lawful.
+    pub fn receiver_from(&self, v: u32) -> Option<u32>
+        ensures first { IfSome result (λ u. (v ≤ u) × (u < self.now.config.workers) × (holds_letters_for self.now u ≡ true) × ((k : ℕ) → v ≤ k → k < u → holds_letters_for self.now k ≡ false)) }
+        ensures nobody { IfNone result ((k : ℕ) → v ≤ k → holds_letters_for self.now k ≡ false) }
     {
-        let others = IsForAnother {
-            config: self.config,
-            worker: self.worker,
-        };
-        let Some(letter) = self.outbox.find(&others) else {
-            return None;
-        };
-        Some(self.config.owner(letter.event.dest))
+        for u in v..self.config.workers {
+            if u != self.worker && self.outbox.has_for(u) {
+                return Some(u);
+            }
+        }
+        None
     }
 }
 
 /// Makes room in `mail` for the letters of an outbox that are for processes of worker `v`, and returns their number.
 fn make_room<P: Copy>(
-    outbox: &List<Letter<P>>,
-    config: Config,
+    outbox: &Outbox<P>,
     v: u32,
     most: u64,
     mail: &mut Vec<Mail<P>>,
 ) -> Result<u64, Fault>
     ensures items { mail.new.items ≡ mail.old.items }
-    ensures count { IfOk result (λ n. (n ≡ length (filter (is_for_worker config v) outbox.now)) × (n ≤ most) × (0 < n)) }
-    ensures room { IfOk result (λ n. vec_len mail.new + length (filter (is_for_worker config v) outbox.now) ≤ vec_capacity mail.new) }
-    ensures refused { let count = length (filter (is_for_worker config v) outbox.now) in IfErr result (λ fault. ((fault ≡ NotLawful) × (count ≡ 0)) ⊎ ((0 < count) × (((fault ≡ Exhausted) × (most < count)) ⊎ ((fault ≡ Memory) × (count ≤ most))))) }
+    ensures count { IfOk result (λ n. (n ≡ length (filter (is_for_worker outbox.now.config v) outbox.now.letters)) × (n ≤ most) × (0 < n)) }
+    ensures room { IfOk result (λ n. vec_len mail.new + length (filter (is_for_worker outbox.now.config v) outbox.now.letters) ≤ vec_capacity mail.new) }
+    ensures refused { let count = length (filter (is_for_worker outbox.now.config v) outbox.now.letters) in IfErr result (λ fault. ((fault ≡ NotLawful) × (count ≡ 0)) ⊎ ((0 < count) × (((fault ≡ Exhausted) × (most < count)) ⊎ ((fault ≡ Memory) × (count ≤ most))))) }
 {
-    let Some(count) = count_for(outbox, config, v, most) else {
+    let Some(count) = outbox.count_for(v, most) else {
         return Err(Fault::Exhausted);
     };
     if count == 0 {
@@ -101,74 +91,29 @@ fn make_room<P: Copy>(
     Ok(count)
 }
 
-/// How many letters of an outbox are for processes of worker `v`; None if there are more than `most`.
-pub(crate) fn count_for<P: Copy>(
-    outbox: &List<Letter<P>>,
-    config: Config,
-    v: u32,
-    most: u64,
-) -> Option<u64>
-    ensures count { IfSome result (λ n. (n ≡ length (filter (is_for_worker config v) outbox.now)) × (n ≤ most)) }
-    ensures more { IfNone result (most < length (filter (is_for_worker config v) outbox.now)) }
-{
-    let mut count = 0;
-    for letter in outbox.iter() {
-        if config.owner(letter.event.dest) == v {
-            if count == most {
-                return None;
-            }
-            count += 1;
-        }
-    }
-    Some(count)
-}
-
-/// Moves the letters for processes of worker `v` from the outbox to the back of `mail`, which must have room. Returns
-/// their least time, or the end of the run if there are none. The nodes are kept for other letters.
+/// Moves letters to the back of `mail`, which must have room. Returns their least time, or the end of the run if there are
+/// none. The nodes are kept for other letters.
 fn move_letters<P: Copy, K: Copy>(
-    outbox: &mut List<Letter<P>>,
+    letters: List<Letter<P>>,
     spare: &mut Spare<P, K>,
     config: Config,
-    v: u32,
     colour: Colour,
     mail: &mut Vec<Mail<P>>,
 ) -> When
-    requires room { vec_len mail.old + length (filter (is_for_worker config v) outbox.old) ≤ vec_capacity mail.old }
-    ensures outbox { outbox.new ≡ filter (λ letter. not (is_for_worker config v letter)) outbox.old }
-    ensures mail { mail.new.items ≡ mail.old.items ++ map (mailed colour) (filter (is_for_worker config v) outbox.old) }
-    ensures least { result ≡ least_time (end_of config) (filter (is_for_worker config v) outbox.old) }
+    requires room { vec_len mail.old + length letters ≤ vec_capacity mail.old }
+    ensures mail { mail.new.items ≡ mail.old.items ++ map (mailed colour) letters }
+    ensures least { result ≡ least_time (end_of config) letters }
 {
-    let mut letters = mem::replace(outbox, List::new(*mail.allocator()));
+    let mut letters = letters;
     let mut least = config.end();
     while let Some(parcel) = letters.pop_front() {
         let letter = parcel.get();
-        if config.owner(letter.event.dest) == v {
-            least = least.earlier(letter.event.rank.key.when());
-            let _ = mail.push(Mail {
-                letter: *letter,
-                colour,
-            });
-            spare.keep_letter(parcel);
-        } else {
-            outbox.push_back(parcel);
-        }
+        least = least.earlier(letter.event.rank.key.when());
+        let _ = mail.push(Mail {
+            letter: *letter,
+            colour,
+        });
+        spare.keep_letter(parcel);
     }
     least
-}
-
-// Lets the letters for other workers' processes pass.
-#[derive(Drop)]
-struct IsForAnother {
-    config: Config,
-    worker: u32,
-}
-
-impl<P> Predicate<Letter<P>> for IsForAnother {
-    ghost use Rattle.std.specs.Prelude.{nat_eq, not, ◌%◌};
-
-    ghost passes = { λ t letter. not (nat_eq (letter.event.dest % t.config.workers) t.worker) };
-
-    fn test(&self, letter: &Letter<P>) -> bool {
-        self.config.owner(letter.event.dest) != self.worker
-    }
 }

@@ -25,12 +25,14 @@ impl<M: EventModel> Kernel<M> {
         let Some(place) = place_of(self.config, self.worker, lp) else {
             return 0;
         };
+        let mut sent = List::new(*self.arrived.allocator());
         let settling = settle_process(
             &mut self.processes[place],
             model,
-            &mut self.outbox,
+            &mut sent,
             &mut self.spare,
         );
+        self.outbox.put(sent);
         if settling.changed {
             self.contest.enter(&self.processes, place);
         }

@@ -5,7 +5,6 @@ ghost use Rattle.std.specs.Option.{option_map};
 ghost use Rattle.std.specs.List.{find};
 ghost use Rattle.vt_kernel.specs.Guards.{is_for_worker};
 
-use crate::delivering::IsFor;
 use crate::kernel::Kernel;
 use vt_model::Model as EventModel;
 
@@ -26,11 +25,7 @@ impl<M: EventModel> Kernel<M> {
     pub fn home_for(&self) -> Option<u32>
         ensures { result ≡ option_map (λ letter. letter.event.dest) (find (is_for_worker self.now.config self.now.worker) self.now.outbox) }
     {
-        let own = IsFor {
-            config: self.config,
-            worker: self.worker,
-        };
-        let Some(letter) = self.outbox.find(&own) else {
+        let Some(letter) = self.outbox.first_for(self.worker) else {
             return None;
         };
         Some(letter.event.dest)

@@ -226,13 +226,15 @@ impl<'a, M: EventModel> Driver<'a, M> {
         Ok(most)
     }
 
-    /// Sends to each worker that there are letters for, until all are sent or another place has claimed an inbox.
+    /// Sends to each worker that there are letters for, until all are sent or another place has claimed an inbox. It begins
+    /// with the worker behind this one, so that the workers don't all begin at one inbox.
     fn post_all(&mut self) -> Result<(), Fault>
         ensures same { IsAtSameStation self.old.worker self.new.worker }
         ensures lasting { IfErr result IsLasting }
     {
+        let mut from = self.worker.number().saturating_add(1);
         for _ in 0..self.worker.config().workers {
-            let Some(v) = self.worker.kernel().next_receiver() else {
+            let Some(v) = self.receiver_from(from) else {
                 break;
             };
             let answer = self.worker.post(v);
@@ -240,8 +242,18 @@ impl<'a, M: EventModel> Driver<'a, M> {
                 break;
             }
             self.bells.post(v);
+            from = v.saturating_add(1);
         }
         Ok(())
+    }
+
+    /// The first worker that there are letters for, of those from this number on and then of all.
+    fn receiver_from(&self, from: u32) -> Option<u32> {
+        let kernel = self.worker.kernel();
+        match kernel.receiver_from(from) {
+            None => kernel.receiver_from(0),
+            found => found,
+        }
     }
 
     /// Whether a call was done. Notes if another place had claimed the cell. An error is a fault that no later turn

@@ -1,28 +1,28 @@
-use Rattle.std.proofs.Common.{◌≡◌, ◌≤◌, ◌+◌, ◌-◌, List, length, refl, sym, ap, subst, arith}
+use Rattle.std.proofs.Common.{◌≡◌, ◌≤◌, ◌+◌, ◌-◌, ◌∙◌, ◌++◌, List, length, refl, sym, ap, subst, arith}
 use Rattle.std.specs.List.{All}
 use Rattle.std.proofs.lemmas.List.Elements.{All-nil}
 use Rattle.std.proofs.Math.Nat.{div-le_self}
 use Rattle.vt_key.specs.declared.limits.TheConstants.{MAX_COUNT}
 use Rattle.vt_steps.specs.Letters.{Counts}
-use Rattle.vt_lp.specs.Held.{HeldProcess}
+use Rattle.vt_lp.specs.Held.{HeldProcess, AllWithinRun}
 use Rattle.vt_contest.specs.Contest.{IsContestOf, IsIdle}
-use Rattle.vt_kernel.specs.Held.{AllOwnMail, IsOwnMail, AreCounted}
+use Rattle.vt_kernel.specs.Held.{HeldOutbox, AllOwnMail, IsOwnMail, AreCounted}
 use Rattle.vt_kernel.proofs.MakeLemmas.{all-idle, stand-opening}
 use Rattle.vt_kernel.proofs.making.open.Goals as goal
 
 none_counted : (counts : Counts) → counts ≡ record { white = 0; red = 0 } → AreCounted counts
 none_counted counts is = subst AreCounted (sym is) (record { white = omega arith; red = omega arith })
 
-pub new-requires-clause-few : goal.new-requires-clause-few
-new-requires-clause-few g c κs within =
+pub new-requires-2-clause-few : goal.new-requires-2-clause-few
+new-requires-2-clause-few g c κs within =
     let config = c.args.config in
     let count = c.in_ok-processes.ensures.count in
     let items : length c.deref.result.now ≡ length c.in_ok-processes.processes.items = ap length c.deref.ensures.value in
     let less = div-le_self (config.lps + (config.workers - 1) - c.args.w) config.workers in
     omega (arith, items, count, less, config.few_processes, config.few_workers)
 
-pub new-requires-clause-idle : goal.new-requires-clause-idle
-new-requires-clause-idle g c κs within =
+pub new-requires-2-clause-idle : goal.new-requires-2-clause-idle
+new-requires-2-clause-idle g c κs within =
     subst (λ (ps : List (HeldProcess _ _ _)). All IsIdle ps) (sym c.deref.ensures.value)
     (all-idle (g.M.Model.handlers c.args.model.now) c.in_ok-processes.processes.items c.in_ok-processes.ensures.started)
 
@@ -31,14 +31,16 @@ invariant_of-result g c =
     let config = c.args.config in
     let made = c.in_ok-processes.ensures in
     let few : c.start_all.new.serial ≤ MAX_COUNT = omega (arith, made.serial, c.requires.fits) in
+    let put : c.put.new.self.letters ≡ c.start_all.new.outbox = ap (λ (o : HeldOutbox _). o.letters) c.put.ensures ∙ ap (λ (o : HeldOutbox _). o.letters ++ c.start_all.new.outbox) c.in_ok-outbox.ensures.empty in
     record {
       known = c.requires.known;
       all_there = made.count;
       own_processes = made.processes;
-      sendable = made.within;
-      own_mail = subst (AllOwnMail config c.args.w) (sym c.new-2.ensures.items) (All-nil (IsOwnMail config c.args.w));
-      few_sent = none_counted c.new-3.result c.new-3.ensures;
-      few_got = none_counted c.new-4.result c.new-4.ensures;
+      sendable = subst (AllWithinRun config) (sym put) made.within;
+      by_worker = ap (λ (o : HeldOutbox _). o.config) (c.put.ensures ∙ ap (λ (o : HeldOutbox _). record o { letters = o.letters ++ c.start_all.new.outbox }) c.in_ok-outbox.ensures.empty);
+      own_mail = subst (AllOwnMail config c.args.w) (sym c.new-3.ensures.items) (All-nil (IsOwnMail config c.args.w));
+      few_sent = none_counted c.new-4.result c.new-4.ensures;
+      few_got = none_counted c.new-5.result c.new-5.ensures;
       few_made = few;
       in_contest = subst (λ (ps : List (HeldProcess _ _ _)). IsContestOf ps c.in_ok-contest.contest) c.deref.ensures.value c.in_ok-contest.ensures.made;
     }
@@ -50,11 +52,11 @@ returns-clause-opening g c =
     let made = c.in_ok-processes.ensures in
     record {
       processes = stand-opening handlers c.args.config c.args.w _ items made.processes made.started made.count;
-      outbox = sym made.outbox;
-      arrived = sym c.new-2.ensures.items;
+      outbox = sym (ap (λ (o : HeldOutbox _). o.letters) c.put.ensures ∙ ap (λ (o : HeldOutbox _). o.letters ++ c.start_all.new.outbox) c.in_ok-outbox.ensures.empty ∙ made.outbox);
+      arrived = sym c.new-3.ensures.items;
       colour = refl;
-      sent = sym c.new-3.ensures;
-      got = sym c.new-4.ensures;
+      sent = sym c.new-4.ensures;
+      got = sym c.new-5.ensures;
       red_minimum = sym c.end.ensures;
       floor = sym c.tick.ensures;
       serial = sym made.serial;

@@ -26,7 +26,7 @@ use Rattle.vt_kernel.proofs.kernel.Kernel.accept.Goals as goal
 pub returns-in_default-clause-refused : goal.returns-in_default-clause-refused
 returns-in_default-clause-refused g c handlers part s =
     let i = c.self.inside in
-    let held = worker_view i.worker i.config i.processes.items i.outbox i.arrived.items i.colour i.sent i.got i.red_minimum i.floor i.serial in
+    let held = worker_view i.worker i.config i.processes.items i.outbox.letters i.arrived.items i.colour i.sent i.got i.red_minimum i.floor i.serial in
     let stands = subst (λ (v : HeldWorker _ _ _). StandsFor handlers v part) (sym c.self.view_is) s in
     let past : length i.arrived.items ≤ c.args.i = subst (λ (l : List (Mail _)). length l ≤ c.args.i) c.deref.ensures.value c.in_default.ensures.lookup.3 in
     subst (λ (v : HeldWorker _ _ _). IsAcceptRefusal (local_step (simulation_of handlers v.config) v.worker (step.Accept v.worker c.args.i) part) NotLawful) c.self.view_is
@@ -49,7 +49,7 @@ returns-in_default-letter-clause-refused g c handlers part s =
     let dest = mail.letter.event.dest in
     let place = dest / c.self.inside.config.workers in
     let a = addressed c.self.invariant c.args.i mail c.deref.ensures.value (sym c.in-Some.ensures.lookup.0) c.in-Some.ensures.lookup.1 in
-    let held = worker_view i.worker i.config i.processes.items i.outbox i.arrived.items i.colour i.sent i.got i.red_minimum i.floor i.serial in
+    let held = worker_view i.worker i.config i.processes.items i.outbox.letters i.arrived.items i.colour i.sent i.got i.red_minimum i.floor i.serial in
     let stands = subst (λ (v : HeldWorker _ _ _). StandsFor handlers v part) (sym c.self.view_is) s in
     let q = c.index.result.now in
     let at = process-there c.self.invariant _ _ a.place (sym c.index.ensures) in
@@ -112,7 +112,7 @@ returns-in-Err-clause-refused g c handlers part s =
     let a = addressed c.self.invariant c.args.i mail c.deref.ensures.value (sym c.in-Some.ensures.lookup.0) c.in-Some.ensures.lookup.1 in
     let old = c.index_mut-process.result.now in
     let at = process-there c.self.invariant _ _ a.place (sym c.index_mut-process.ensures.value) in
-    let held = worker_view i.worker i.config i.processes.items i.outbox i.arrived.items i.colour i.sent i.got i.red_minimum i.floor i.serial in
+    let held = worker_view i.worker i.config i.processes.items i.outbox.letters i.arrived.items i.colour i.sent i.got i.red_minimum i.floor i.serial in
     let stands = subst (λ (v : HeldWorker _ _ _). StandsFor handlers v part) (sym c.self.view_is) s in
     let none = accept-refused handlers held c.self.invariant.own_processes part stands c.args.i mail place old a.there refl a.own.own at
     (λ process st. subst (λ (l : Letter _). accept_process l process ≡ None) c.in-Ok.ensures.made (c.in-Err.ensures.refused handlers process st)) in
@@ -157,7 +157,7 @@ invariant_of-self-2 g c =
     let rest = removed-all (IsOwnMail i.config i.worker) i.arrived.items c.args.i c.self.invariant.own_mail in
     inside-arrived c.remove.new.self.items i.got (subst (λ (ms : List (Mail _)). AllOwnMail i.config i.worker ms) (sym c.remove.ensures.items) rest) c.self.invariant.few_got
     (inside-changed c.self.invariant place c.accept.new.self at same.0 same.1 c.deref-2.ensures.value c.enter_accepted.ensures
-    c.self.invariant.sendable c.self.invariant.few_made)
+    c.self.invariant.sendable c.self.invariant.by_worker c.self.invariant.few_made)
 
 pub returns-clause-done : goal.returns-clause-done
 returns-clause-done g c handlers part s =
@@ -168,11 +168,11 @@ returns-clause-done g c handlers part s =
     let a = addressed c.self.invariant c.args.i mail c.deref.ensures.value (sym c.in-Some.ensures.lookup.0) c.in-Some.ensures.lookup.1 in
     let old = c.index_mut-process.result.now in
     let at = process-there c.self.invariant _ _ a.place (sym c.index_mut-process.ensures.value) in
-    let held = worker_view i.worker i.config i.processes.items i.outbox i.arrived.items i.colour i.sent i.got i.red_minimum i.floor i.serial in
+    let held = worker_view i.worker i.config i.processes.items i.outbox.letters i.arrived.items i.colour i.sent i.got i.red_minimum i.floor i.serial in
     let stands = subst (λ (v : HeldWorker _ _ _). StandsFor handlers v part) (sym c.self.view_is) s in
     let new = c.accept.new.self in
     let same = c.in_default-accept.ensures.same in
-    let view = λ (ms : List (Mail _)). worker_view i.worker i.config (slice_set i.processes.items place new) i.outbox ms i.colour i.sent i.got i.red_minimum i.floor i.serial in
+    let view = λ (ms : List (Mail _)). worker_view i.worker i.config (slice_set i.processes.items place new) i.outbox.letters ms i.colour i.sent i.got i.red_minimum i.floor i.serial in
     subst (λ (v : HeldWorker _ _ _). IsDone handlers (view c.remove.new.self.items) (local_step (simulation_of handlers v.config) v.worker (step.Accept v.worker c.args.i) part)) c.self.view_is
     (subst (λ (ms : List (Mail _)). IsDone handlers (view ms) (local_step (simulation_of handlers i.config) i.worker (step.Accept i.worker c.args.i) part)) (sym c.remove.ensures.items)
     (accept-done handlers held c.self.invariant.own_processes part stands c.args.i mail place old new a.there refl a.own.own at

@@ -13,7 +13,7 @@ use Rattle.vt_kernel.proofs.kernel.Kernel.cancel.Goals as goal
 pub returns-in_default-clause-refused : goal.returns-in_default-clause-refused
 returns-in_default-clause-refused g c handlers part s =
     let i = c.self.inside in
-    let held = worker_view i.worker i.config i.processes.items i.outbox i.arrived.items i.colour i.sent i.got i.red_minimum i.floor i.serial in
+    let held = worker_view i.worker i.config i.processes.items i.outbox.letters i.arrived.items i.colour i.sent i.got i.red_minimum i.floor i.serial in
     subst (λ (v : HeldWorker _ _ _). local_step (simulation_of handlers v.config) v.worker (step.Cancel c.args.lp c.args.stamp) part ≡ None) c.self.view_is
     (unknown-refused handlers held c.self.invariant.own_processes part (subst (λ (v : HeldWorker _ _ _). StandsFor handlers v part) (sym c.self.view_is) s)
     c.args.lp (cancel_process c.args.stamp) i.config.some_worker c.self.invariant.all_there c.in_default.ensures.other)
@@ -33,7 +33,7 @@ invariant_of-self g c =
 pub returns-in-Err-clause-refused : goal.returns-in-Err-clause-refused
 returns-in-Err-clause-refused g c handlers part s =
     let i = c.self.inside in
-    let held = worker_view i.worker i.config i.processes.items i.outbox i.arrived.items i.colour i.sent i.got i.red_minimum i.floor i.serial in
+    let held = worker_view i.worker i.config i.processes.items i.outbox.letters i.arrived.items i.colour i.sent i.got i.red_minimum i.floor i.serial in
     let own = c.in-Some.ensures.own in
     let at = process-there c.self.invariant c.args.lp c.in-Some.place c.in-Some.ensures.own (sym c.index_mut.ensures.value) in
     subst (λ (v : HeldWorker _ _ _). local_step (simulation_of handlers v.config) v.worker (step.Cancel c.args.lp c.args.stamp) part ≡ None) c.self.view_is
@@ -52,19 +52,19 @@ pub invariant_of-self-2 : goal.invariant_of-self-2
 invariant_of-self-2 g c =
     let at = process-there c.self.invariant c.args.lp c.in-Some.place c.in-Some.ensures.own (sym c.index_mut.ensures.value) in
     let same = c.in_default-cancel_into.ensures.same in
-    inside-changed c.self.invariant c.in-Some.place c.cancel_into.new.self at same.0 same.1 c.deref.ensures.value c.enter.ensures c.self.invariant.sendable c.self.invariant.few_made
+    inside-changed c.self.invariant c.in-Some.place c.cancel_into.new.self at same.0 same.1 c.deref.ensures.value c.enter.ensures c.self.invariant.sendable c.self.invariant.by_worker c.self.invariant.few_made
 
 pub returns-clause-done : goal.returns-clause-done
 returns-clause-done g c handlers part s =
     let i = c.self.inside in
-    let held = worker_view i.worker i.config i.processes.items i.outbox i.arrived.items i.colour i.sent i.got i.red_minimum i.floor i.serial in
+    let held = worker_view i.worker i.config i.processes.items i.outbox.letters i.arrived.items i.colour i.sent i.got i.red_minimum i.floor i.serial in
     let own = c.in-Some.ensures.own in
     let old = c.index_mut.result.now in
     let new = c.cancel_into.new.self in
     let at = process-there c.self.invariant c.args.lp c.in-Some.place c.in-Some.ensures.own (sym c.index_mut.ensures.value) in
     let same = c.in_default-cancel_into.ensures.same in
-    subst (λ (v : HeldWorker _ _ _). IsDone handlers (worker_view i.worker i.config (slice_set i.processes.items c.in-Some.place new) i.outbox i.arrived.items i.colour i.sent i.got i.red_minimum i.floor i.serial)
+    subst (λ (v : HeldWorker _ _ _). IsDone handlers (worker_view i.worker i.config (slice_set i.processes.items c.in-Some.place new) i.outbox.letters i.arrived.items i.colour i.sent i.got i.red_minimum i.floor i.serial)
     (local_step (simulation_of handlers v.config) v.worker (step.Cancel c.args.lp c.args.stamp) part)) c.self.view_is
     (changed-done handlers held c.self.invariant.own_processes part (subst (λ (v : HeldWorker _ _ _). StandsFor handlers v part) (sym c.self.view_is) s)
-    c.args.lp c.in-Some.place old new i.outbox i.serial (cancel_process c.args.stamp) own.0 own.1 at same.0 same.1
-    (λ process st. plain-done handlers new (cancel_process c.args.stamp process) i.outbox i.serial (c.in_default-cancel_into.ensures.done handlers process st)))
+    c.args.lp c.in-Some.place old new i.outbox.letters i.serial (cancel_process c.args.stamp) own.0 own.1 at same.0 same.1
+    (λ process st. plain-done handlers new (cancel_process c.args.stamp process) i.outbox.letters i.serial (c.in_default-cancel_into.ensures.done handlers process st)))

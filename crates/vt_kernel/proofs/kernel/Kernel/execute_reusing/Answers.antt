@@ -1,4 +1,4 @@
-use Rattle.std.proofs.Common.{rules, ◌≡◌, ◌/◌, ◌%◌, ◌≤◌, ◌∙◌, IfOk, IfErr, IfSome, Some, slice_get, slice_set, sym, subst, refl}
+use Rattle.std.proofs.Common.{rules, ◌≡◌, ◌/◌, ◌%◌, ◌≤◌, ◌∙◌, IfOk, IfErr, IfSome, Some, slice_get, slice_set, sym, ap, subst, refl}
 use Rattle.std.proofs.lemmas.Result.{IfErr-weaker, IfOk-weaker}
 use Rattle.vt_key.specs.declared.fault.Fault.TheVariants.{NotLawful}
 use Rattle.vt_key.specs.declared.limits.TheConstants.{MAX_COUNT}
@@ -9,13 +9,14 @@ use Rattle.vt_steps.specs.declared.step.Step.TheVariants as step
 use Rattle.vt_steps.proofs.lists.Places.{get-put_same}
 use Rattle.vt_lp.specs.Held.{HeldProcess, AllWithinRun}
 use Rattle.vt_lp.specs.Guards.{IsDone as ProcessIsDone, IsExecuteRefusal as ProcessRefusal}
-use Rattle.vt_kernel.specs.Held.{HeldWorker, StandsFor, process_of}
+use Rattle.vt_kernel.specs.Held.{HeldWorker, HeldOutbox, StandsFor, process_of}
 use Rattle.vt_kernel.specs.Local.{local_step}
 use Rattle.vt_kernel.specs.Guards.{IsDone, AreWithinLimits, IsExecuteRefusal}
 use Rattle.vt_model.proofs.Sizes.{out_fits}
 use Rattle.vt_kernel.proofs.ProcessLemmas.{process-at, processes-changed}
 use Rattle.vt_kernel.proofs.OwnSteps.{own-execute, found, within-limits, same-execute, refusal-at, own-step}
 use Rattle.vt_kernel.proofs.LocalLemmas.{worker_view, place-within, inside-changed, unknown-refused, written-same, either-way, at-found-done, execute-step, both-errors, own-process}
+use Rattle.vt_kernel.proofs.PutLemmas.{put-done, put-kept, put-within}
 use Rattle.vt_kernel.proofs.ReentryLemmas.{process-there, still-there, was-in-contest}
 use Rattle.vt_kernel.proofs.kernel.Kernel.execute_reusing.Goals as goal
 
@@ -42,7 +43,7 @@ pub returns-in_default-clause-refused : goal.returns-in_default-clause-refused
 returns-in_default-clause-refused g c part s =
     let i = c.self.inside in
     let handlers = g.M.Model.handlers c.args.model.now in
-    let held = worker_view i.worker i.config i.processes.items i.outbox i.arrived.items i.colour i.sent i.got i.red_minimum i.floor i.serial in
+    let held = worker_view i.worker i.config i.processes.items i.outbox.letters i.arrived.items i.colour i.sent i.got i.red_minimum i.floor i.serial in
     let h = subst (λ (v : HeldWorker _ _ _). StandsFor handlers v part) (sym c.self.view_is) s in
     let none = unknown-refused handlers held c.self.invariant.own_processes part h c.args.lp (execute-step handlers held part c.args.lp) i.config.some_worker c.self.invariant.all_there c.in_default.ensures.other in
     subst (λ (v : HeldWorker _ _ _). IsExecuteRefusal (simulation_of handlers v.config) c.args.lp (local_step (simulation_of handlers v.config) v.worker (step.Execute c.args.lp) part) NotLawful) c.self.view_is
@@ -55,15 +56,17 @@ invariant_of-self g c =
     let at = process-there c.self.invariant c.args.lp c.in-Some.place c.in-Some.ensures.own (sym c.index_mut.ensures.value) in
     let f = process-at i.config i.worker 0 c.in-Some.place i.processes.items old c.self.invariant.own_processes at in
     let same = c.execute_reusing-result.ensures.same in
-    let within = subst (λ (k : Config). AllWithinRun k i.outbox → AllWithinRun k c.execute_reusing-result.new.outbox) f.1 c.execute_reusing-result.ensures.within in
+    let within = subst (λ (k : Config). AllWithinRun k c.new-sent.result → AllWithinRun k c.execute_reusing-result.new.outbox) f.1 c.execute_reusing-result.ensures.within in
+    let put = ap (λ (o : HeldOutbox _). o.letters) c.put.ensures in
     let few : c.execute_reusing-result.new.serial ≤ MAX_COUNT = either-way c.execute_reusing-result.result (λ _ counted. counted.1) (λ _ kept. subst (λ n. n ≤ MAX_COUNT) (sym kept.1) c.self.invariant.few_made) c.execute_reusing-result.ensures.counted c.execute_reusing-result.ensures.kept in
-    inside-changed c.self.invariant c.in-Some.place c.execute_reusing-result.new.self at same.0 same.1 c.deref.ensures.value c.enter.ensures (within c.self.invariant.sendable) few
+    inside-changed c.self.invariant c.in-Some.place c.execute_reusing-result.new.self at same.0 same.1 c.deref.ensures.value c.enter.ensures (put-within i.outbox.letters c.execute_reusing-result.new.outbox c.new-sent.ensures put i.config within c.self.invariant.sendable)
+    (ap (λ (o : HeldOutbox _). o.config) c.put.ensures ∙ c.self.invariant.by_worker) few
 
 pub returns-clause-done : goal.returns-clause-done
 returns-clause-done g c part s =
     let i = c.self.inside in
     let handlers = g.M.Model.handlers c.args.model.now in
-    let held = worker_view i.worker i.config i.processes.items i.outbox i.arrived.items i.colour i.sent i.got i.red_minimum i.floor i.serial in
+    let held = worker_view i.worker i.config i.processes.items i.outbox.letters i.arrived.items i.colour i.sent i.got i.red_minimum i.floor i.serial in
     let own = c.in-Some.ensures.own in
     let old = c.index_mut.result.now in
     let new = c.execute_reusing-result.new.self in
@@ -72,14 +75,15 @@ returns-clause-done g c part s =
     let h = subst (λ (v : HeldWorker _ _ _). StandsFor handlers v part) (sym c.self.view_is) s in
     let f = found handlers held part c.args.lp old h c.self.invariant.own_processes own.1 (subst (λ k. slice_get i.processes.items k ≡ Some old) own.0 at) in
     let one = same-execute handlers held part c.args.lp old f.process h own.1 f.lp f.config in
-    subst (λ (v : HeldWorker _ _ _). IfOk c.execute_reusing-result.result (λ _. IsDone handlers (worker_view i.worker i.config (slice_set i.processes.items c.in-Some.place new) c.execute_reusing-result.new.outbox i.arrived.items i.colour i.sent i.got i.red_minimum i.floor c.execute_reusing-result.new.serial)
+    let put = ap (λ (o : HeldOutbox _). o.letters) c.put.ensures in
+    subst (λ (v : HeldWorker _ _ _). IfOk c.execute_reusing-result.result (λ _. IsDone handlers (worker_view i.worker i.config (slice_set i.processes.items c.in-Some.place new) c.put.new.self.letters i.arrived.items i.colour i.sent i.got i.red_minimum i.floor c.execute_reusing-result.new.serial)
     (local_step (simulation_of handlers v.config) v.worker (step.Execute c.args.lp) part))) c.self.view_is
     (IfOk-weaker c.execute_reusing-result.result _ _ (λ _ done.
-    subst (λ x. IsDone handlers (worker_view i.worker i.config (slice_set i.processes.items c.in-Some.place new) c.execute_reusing-result.new.outbox i.arrived.items i.colour i.sent i.got i.red_minimum i.floor c.execute_reusing-result.new.serial) x)
+    subst (λ x. IsDone handlers (worker_view i.worker i.config (slice_set i.processes.items c.in-Some.place new) c.put.new.self.letters i.arrived.items i.colour i.sent i.got i.red_minimum i.floor c.execute_reusing-result.new.serial) x)
     (sym (own-execute (simulation_of handlers i.config) i.worker c.args.lp part))
-    (at-found-done handlers held c.self.invariant.own_processes part h c.args.lp c.in-Some.place old new c.execute_reusing-result.new.outbox c.execute_reusing-result.new.serial
+    (at-found-done handlers held c.self.invariant.own_processes part h c.args.lp c.in-Some.place old new c.put.new.self.letters c.execute_reusing-result.new.serial
     (execute-step handlers held part c.args.lp) own.0 own.1 f same.0 same.1
-    (subst (λ x. ProcessIsDone handlers new x i.outbox c.execute_reusing-result.new.outbox i.serial c.execute_reusing-result.new.serial) one done))) (c.execute_reusing-result.ensures.done f.process f.stands))
+    (subst (λ x. ProcessIsDone handlers new x i.outbox.letters c.put.new.self.letters i.serial c.execute_reusing-result.new.serial) one (put-done i.outbox.letters c.execute_reusing-result.new.outbox c.new-sent.ensures put done)))) (c.execute_reusing-result.ensures.done f.process f.stands))
 
 pub returns-clause-counted : goal.returns-clause-counted
 returns-clause-counted g c part s =
@@ -92,7 +96,7 @@ returns-clause-counted g c part s =
     let same = c.execute_reusing-result.ensures.same in
     let who = process-at i.config i.worker 0 c.in-Some.place i.processes.items old c.self.invariant.own_processes at in
     let processes = slice_set i.processes.items c.in-Some.place new in
-    let held = worker_view i.worker i.config processes c.execute_reusing-result.new.outbox i.arrived.items i.colour i.sent i.got i.red_minimum i.floor c.execute_reusing-result.new.serial in
+    let held = worker_view i.worker i.config processes c.put.new.self.letters i.arrived.items i.colour i.sent i.got i.red_minimum i.floor c.execute_reusing-result.new.serial in
     let are = processes-changed i.config i.worker 0 c.in-Some.place i.processes.items new c.self.invariant.own_processes (same.0 ∙ who.0) (same.1 ∙ who.1) in
     let there : slice_get processes (c.args.lp / i.config.workers) ≡ Some new = subst (λ k. slice_get processes k ≡ Some new) own.0 (get-put_same i.processes.items c.in-Some.place old new at) in
     let f = found handlers held part c.args.lp new s are own.1 there in
@@ -103,7 +107,7 @@ pub returns-clause-refused : goal.returns-clause-refused
 returns-clause-refused g c part s =
     let i = c.self.inside in
     let handlers = g.M.Model.handlers c.args.model.now in
-    let held = worker_view i.worker i.config i.processes.items i.outbox i.arrived.items i.colour i.sent i.got i.red_minimum i.floor i.serial in
+    let held = worker_view i.worker i.config i.processes.items i.outbox.letters i.arrived.items i.colour i.sent i.got i.red_minimum i.floor i.serial in
     let sim = simulation_of handlers i.config in
     let own = c.in-Some.ensures.own in
     let old = c.index_mut.result.now in
@@ -125,29 +129,31 @@ pub returns-clause-unchanged : goal.returns-clause-unchanged
 returns-clause-unchanged g c part s =
     let i = c.self.inside in
     let handlers = g.M.Model.handlers c.args.model.now in
-    let held = worker_view i.worker i.config i.processes.items i.outbox i.arrived.items i.colour i.sent i.got i.red_minimum i.floor i.serial in
+    let held = worker_view i.worker i.config i.processes.items i.outbox.letters i.arrived.items i.colour i.sent i.got i.red_minimum i.floor i.serial in
     let own = c.in-Some.ensures.own in
     let old = c.index_mut.result.now in
     let new = c.execute_reusing-result.new.self in
     let at = process-there c.self.invariant c.args.lp c.in-Some.place c.in-Some.ensures.own (sym c.index_mut.ensures.value) in
     let h = subst (λ (v : HeldWorker _ _ _). StandsFor handlers v part) (sym c.self.view_is) s in
     let f = found handlers held part c.args.lp old h c.self.invariant.own_processes own.1 (subst (λ k. slice_get i.processes.items k ≡ Some old) own.0 at) in
+    let put = ap (λ (o : HeldOutbox _). o.letters) c.put.ensures in
     both-errors c.execute_reusing-result.result (λ _ same kept.
-    (λ j. worker_view i.worker i.config (written-same i.processes.items c.in-Some.place old new at same j) (kept.0 j) i.arrived.items i.colour i.sent i.got i.red_minimum i.floor (kept.1 j)) ∙ c.self.view_is)
+    (λ j. worker_view i.worker i.config (written-same i.processes.items c.in-Some.place old new at same j) (put-kept i.outbox.letters c.execute_reusing-result.new.outbox c.new-sent.ensures put kept.0 j) i.arrived.items i.colour i.sent i.got i.red_minimum i.floor (kept.1 j)) ∙ c.self.view_is)
     (c.execute_reusing-result.ensures.unchanged f.process f.stands) c.execute_reusing-result.ensures.kept
 
 pub returns-clause-restored : goal.returns-clause-restored
 returns-clause-restored g c known =
     let i = c.self.inside in
-    let held = worker_view i.worker i.config i.processes.items i.outbox i.arrived.items i.colour i.sent i.got i.red_minimum i.floor i.serial in
+    let held = worker_view i.worker i.config i.processes.items i.outbox.letters i.arrived.items i.colour i.sent i.got i.red_minimum i.floor i.serial in
     let own = c.in-Some.ensures.own in
     let old = c.index_mut.result.now in
     let new = c.execute_reusing-result.new.self in
     let at = process-there c.self.invariant c.args.lp c.in-Some.place c.in-Some.ensures.own (sym c.index_mut.ensures.value) in
     let here = subst (λ (v : HeldWorker _ _ _). IfSome (process_of v c.args.lp) (λ (p : HeldProcess _ _ _). g.M.Model.IsState c.args.model.now p.triple.state)) (sym c.self.view_is) known in
     let is_state = subst (λ x. IfSome x (λ (p : HeldProcess _ _ _). g.M.Model.IsState c.args.model.now p.triple.state)) (own-process held c.args.lp c.in-Some.place old own.0 own.1 at) here in
+    let put = ap (λ (o : HeldOutbox _). o.letters) c.put.ensures in
     both-errors c.execute_reusing-result.result (λ _ same kept.
-    (λ j. worker_view i.worker i.config (written-same i.processes.items c.in-Some.place old new at same j) (kept.0 j) i.arrived.items i.colour i.sent i.got i.red_minimum i.floor (kept.1 j)) ∙ c.self.view_is)
+    (λ j. worker_view i.worker i.config (written-same i.processes.items c.in-Some.place old new at same j) (put-kept i.outbox.letters c.execute_reusing-result.new.outbox c.new-sent.ensures put kept.0 j) i.arrived.items i.colour i.sent i.got i.red_minimum i.floor (kept.1 j)) ∙ c.self.view_is)
     (c.execute_reusing-result.ensures.restored is_state) c.execute_reusing-result.ensures.kept
 
 pub returns-clause-not_lawful : goal.returns-clause-not_lawful
@@ -156,8 +162,9 @@ returns-clause-not_lawful g c =
     let old = c.index_mut.result.now in
     let new = c.execute_reusing-result.new.self in
     let at = process-there c.self.invariant c.args.lp c.in-Some.place c.in-Some.ensures.own (sym c.index_mut.ensures.value) in
+    let put = ap (λ (o : HeldOutbox _). o.letters) c.put.ensures in
     both-errors c.execute_reusing-result.result (λ _ same kept is.
-    (λ j. worker_view i.worker i.config (written-same i.processes.items c.in-Some.place old new at (same is) j) (kept.0 j) i.arrived.items i.colour i.sent i.got i.red_minimum i.floor (kept.1 j)) ∙ c.self.view_is)
+    (λ j. worker_view i.worker i.config (written-same i.processes.items c.in-Some.place old new at (same is) j) (put-kept i.outbox.letters c.execute_reusing-result.new.outbox c.new-sent.ensures put kept.0 j) i.arrived.items i.colour i.sent i.got i.red_minimum i.floor (kept.1 j)) ∙ c.self.view_is)
     c.execute_reusing-result.ensures.not_lawful c.execute_reusing-result.ensures.kept
 
 pub returns-clause-but_processes : goal.returns-clause-but_processes
@@ -165,5 +172,6 @@ returns-clause-but_processes g c =
     let i = c.self.inside in
     let new = c.execute_reusing-result.new.self in
     let processes = slice_set i.processes.items c.in-Some.place new in
-    subst (λ (v : HeldWorker _ _ _). IfErr c.execute_reusing-result.result (λ _. worker_view i.worker i.config processes c.execute_reusing-result.new.outbox i.arrived.items i.colour i.sent i.got i.red_minimum i.floor c.execute_reusing-result.new.serial ≡ record v { processes = processes })) c.self.view_is
-    (IfErr-weaker c.execute_reusing-result.result _ _ (λ _ kept j. worker_view i.worker i.config processes (kept.0 j) i.arrived.items i.colour i.sent i.got i.red_minimum i.floor (kept.1 j)) c.execute_reusing-result.ensures.kept)
+    let put = ap (λ (o : HeldOutbox _). o.letters) c.put.ensures in
+    subst (λ (v : HeldWorker _ _ _). IfErr c.execute_reusing-result.result (λ _. worker_view i.worker i.config processes c.put.new.self.letters i.arrived.items i.colour i.sent i.got i.red_minimum i.floor c.execute_reusing-result.new.serial ≡ record v { processes = processes })) c.self.view_is
+    (IfErr-weaker c.execute_reusing-result.result _ _ (λ _ kept j. worker_view i.worker i.config processes (put-kept i.outbox.letters c.execute_reusing-result.new.outbox c.new-sent.ensures put kept.0 j) i.arrived.items i.colour i.sent i.got i.red_minimum i.floor (kept.1 j)) c.execute_reusing-result.ensures.kept)

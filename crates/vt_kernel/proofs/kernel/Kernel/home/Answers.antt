@@ -1,36 +1,58 @@
-use Rattle.std.proofs.Common.{rules, ◌≡◌, ◌/◌, ◌%◌, ◌∙◌, None, slice_set, List, [], sym, ap, subst, refl, nat_eq, false}
+use Rattle.std.proofs.Common.{rules, ◌≡◌, ◌/◌, ◌∙◌, None, slice_set, List, [], sym, ap, subst, refl, false}
+use Rattle.std.specs.List.{find}
 use Rattle.vt_key.specs.Times.{TimeBefore}
+use Rattle.vt_key.specs.Queues.{without_first}
 use Rattle.vt_key.specs.declared.letter.Letter.{Letter}
-use Rattle.vt_list.proofs.Firsts.{taken-first}
 use Rattle.vt_model.specs.declared.settings.Config.{Config}
 use Rattle.vt_model.specs.Simulation.{simulation_of}
 use Rattle.vt_model.specs.Settings.{end_of}
 use Rattle.vt_steps.specs.declared.step.Step.TheVariants as step
-use Rattle.vt_lp.specs.Held.{AllWithinRun, IsWithinRun}
+use Rattle.vt_lp.specs.Held.{HeldProcess, AllWithinRun, IsWithinRun}
 use Rattle.vt_steps.specs.ProcessSteps.{accept_process}
 use Rattle.vt_lp.specs.Guards.{would_lead, IsDone as ProcessIsDone}
-use Rattle.vt_kernel.specs.Held.{HeldWorker, StandsFor}
+use Rattle.vt_kernel.specs.Held.{HeldWorker, HeldOutbox, IsWorkerInside, StandsFor}
 use Rattle.vt_kernel.specs.Local.{local_step}
 use Rattle.vt_kernel.specs.Guards.{IsDone, is_for_worker}
 use Rattle.vt_contest.proofs.ContestLemmas.{contest-kept}
-use Rattle.vt_kernel.proofs.LocalLemmas.{worker_view, place-within, inside-changed}
+use Rattle.vt_kernel.proofs.LocalLemmas.{worker_view, place-within, inside-changed, written-same}
 use Rattle.vt_kernel.proofs.DeliveryLemmas.{without-all, home-done, home-refused, home-nothing}
-use Rattle.vt_kernel.proofs.ReentryLemmas.{process-there, process-is, still-there, was-in-contest, taken-off}
+use Rattle.vt_kernel.proofs.OutboxLemmas.{none-popped}
+use Rattle.vt_kernel.proofs.ReentryLemmas.{process-there, process-is, still-there, was-in-contest, first-own}
 use Rattle.vt_kernel.proofs.kernel.Kernel.home.Goals as goal
+
+pub invariant_of-self : goal.invariant_of-self
+invariant_of-self g c =
+    let i = c.self.inside in
+    subst (λ (o : HeldOutbox _). IsWorkerInside i.config i.worker i.processes.items o i.arrived.items i.sent i.got i.serial i.contest)
+    (sym (none-popped i.worker c.in_default.ensures.letter c.pop_for.ensures.left)) c.self.invariant
+
+pub returns-in_default-clause-kept : goal.returns-in_default-clause-kept
+returns-in_default-clause-kept g c =
+    let i = c.self.inside in
+    let still = none-popped i.worker c.in_default.ensures.letter c.pop_for.ensures.left in
+    (refl, (λ j. worker_view i.worker i.config i.processes.items ((still j).letters) i.arrived.items i.colour i.sent i.got i.red_minimum i.floor i.serial) ∙ c.self.view_is)
+
+pub invariant_of-self-in-Err : goal.invariant_of-self-in-Err
+invariant_of-self-in-Err g c =
+    let i = c.self.inside in
+    let off = first-own c.self.invariant c.get.result.now c.in-Some.letter c.in-Some.ensures.letter c.get.ensures in
+    let place = c.get.result.now.event.dest / i.config.workers in
+    let at = process-there c.self.invariant _ _ off.place (sym c.index_mut-process.ensures.value) in
+    subst (λ (ps : List (HeldProcess _ _ _)). IsWorkerInside i.config i.worker ps c.put_back.new.self i.arrived.items i.sent i.got i.serial i.contest)
+    (sym (written-same i.processes.items place c.index_mut-process.result.now c.accept.new.self at c.in-Err.ensures.kept.2))
+    (subst (λ (o : HeldOutbox _). IsWorkerInside i.config i.worker i.processes.items o i.arrived.items i.sent i.got i.serial i.contest) (sym (c.put_back.ensures ∙ c.of-before.ensures)) c.self.invariant)
 
 pub returns-in_default-clause-refused : goal.returns-in_default-clause-refused
 returns-in_default-clause-refused g c handlers part s =
     let i = c.self.inside in
-    let test = λ (l : Letter _). nat_eq (l.event.dest % i.config.workers) i.worker in
-    let parts = c.split_off_first-others.ensures in
-    let off = taken-first test (λ (l : Letter _). l) i.outbox c.split_off_first-others.new.self c.split_off_first-others.result c.pop_front.new.self None parts.before parts.from c.in_default.ensures in
-    let held = worker_view i.worker i.config i.processes.items i.outbox i.arrived.items i.colour i.sent i.got i.red_minimum i.floor i.serial in
+    let none = ap (λ (k : Config). find (is_for_worker k i.worker) i.outbox.letters) (sym c.self.invariant.by_worker) ∙ sym c.in_default.ensures.letter in
+    let held = worker_view i.worker i.config i.processes.items i.outbox.letters i.arrived.items i.colour i.sent i.got i.red_minimum i.floor i.serial in
     subst (λ (v : HeldWorker _ _ _). local_step (simulation_of handlers v.config) v.worker (step.Home v.worker) part ≡ None) c.self.view_is
-    (home-nothing handlers held c.self.invariant.own_processes part (subst (λ (v : HeldWorker _ _ _). StandsFor handlers v part) (sym c.self.view_is) s) (sym off.0))
+    (home-nothing handlers held c.self.invariant.own_processes part (subst (λ (v : HeldWorker _ _ _). StandsFor handlers v part) (sym c.self.view_is) s) none)
 
 pub index_mut-process-requires : goal.index_mut-process-requires
 index_mut-process-requires g c =
-    let off = taken-off c.self.invariant c.split_off_first-others.new.self c.split_off_first-others.result c.pop_front.new.self c.get.result.now c.in-Some.letter c.split_off_first-others.ensures.before c.split_off_first-others.ensures.from c.in-Some.ensures c.get.ensures in
+    let off = first-own c.self.invariant c.get.result.now c.in-Some.letter c.in-Some.ensures.letter c.get.ensures in
     let dest = c.get.result.now.event.dest in
     let place = dest / c.self.inside.config.workers in
     let less = place-within c.self.invariant _ _ off.place in
@@ -38,13 +60,13 @@ index_mut-process-requires g c =
 
 pub accept-requires-clause-dest : goal.accept-requires-clause-dest
 accept-requires-clause-dest g c κs within =
-    let off = taken-off c.self.invariant c.split_off_first-others.new.self c.split_off_first-others.result c.pop_front.new.self c.get.result.now c.in-Some.letter c.split_off_first-others.ensures.before c.split_off_first-others.ensures.from c.in-Some.ensures c.get.ensures in
+    let off = first-own c.self.invariant c.get.result.now c.in-Some.letter c.in-Some.ensures.letter c.get.ensures in
     let at = process-there c.self.invariant _ _ off.place (sym c.index_mut-process.ensures.value) in
     ap (λ (l : Letter _). l.event.dest) (sym c.get.ensures) ∙ (process-is c.self.invariant _ _ off.place at).0
 
 pub accept-requires-clause-soon : goal.accept-requires-clause-soon
 accept-requires-clause-soon g c κs within =
-    let off = taken-off c.self.invariant c.split_off_first-others.new.self c.split_off_first-others.result c.pop_front.new.self c.get.result.now c.in-Some.letter c.split_off_first-others.ensures.before c.split_off_first-others.ensures.from c.in-Some.ensures c.get.ensures in
+    let off = first-own c.self.invariant c.get.result.now c.in-Some.letter c.in-Some.ensures.letter c.get.ensures in
     let at = process-there c.self.invariant _ _ off.place (sym c.index_mut-process.ensures.value) in
     subst (λ (l : Letter _). TimeBefore l.event.rank.key.time (end_of c.index_mut-process.result.now.config)) c.get.ensures
     (subst (λ (k : Config). TimeBefore c.get.result.now.event.rank.key.time (end_of k)) (sym (process-is c.self.invariant _ _ off.place at).1) off.soon)
@@ -52,29 +74,29 @@ accept-requires-clause-soon g c κs within =
 pub returns-in-Err-clause-refused : goal.returns-in-Err-clause-refused
 returns-in-Err-clause-refused g c handlers part s =
     let i = c.self.inside in
-    let off = taken-off c.self.invariant c.split_off_first-others.new.self c.split_off_first-others.result c.pop_front.new.self c.get.result.now c.in-Some.letter c.split_off_first-others.ensures.before c.split_off_first-others.ensures.from c.in-Some.ensures c.get.ensures in
+    let off = first-own c.self.invariant c.get.result.now c.in-Some.letter c.in-Some.ensures.letter c.get.ensures in
     let dest = c.get.result.now.event.dest in
     let place = dest / c.self.inside.config.workers in
     let at = process-there c.self.invariant _ _ off.place (sym c.index_mut-process.ensures.value) in
-    let held = worker_view i.worker i.config i.processes.items i.outbox i.arrived.items i.colour i.sent i.got i.red_minimum i.floor i.serial in
+    let held = worker_view i.worker i.config i.processes.items i.outbox.letters i.arrived.items i.colour i.sent i.got i.red_minimum i.floor i.serial in
     subst (λ (v : HeldWorker _ _ _). local_step (simulation_of handlers v.config) v.worker (step.Home v.worker) part ≡ None) c.self.view_is
     (home-refused handlers held c.self.invariant.own_processes part (subst (λ (v : HeldWorker _ _ _). StandsFor handlers v part) (sym c.self.view_is) s) c.get.result.now place c.index_mut-process.result.now off.there refl off.place.1 at
     (λ process st. subst (λ (l : Letter _). accept_process l process ≡ None) (sym c.get.ensures) (c.in-Err.ensures.refused handlers process st)))
 
 pub enter_accepted-requires-clause-there : goal.enter_accepted-requires-clause-there
 enter_accepted-requires-clause-there g c κs within =
-    let off = taken-off c.self.invariant c.split_off_first-others.new.self c.split_off_first-others.result c.pop_front.new.self c.get.result.now c.in-Some.letter c.split_off_first-others.ensures.before c.split_off_first-others.ensures.from c.in-Some.ensures c.get.ensures in
+    let off = first-own c.self.invariant c.get.result.now c.in-Some.letter c.in-Some.ensures.letter c.get.ensures in
     still-there c.self.invariant _ _ c.accept.new.self off.place (sym c.index_mut-process.ensures.value) c.deref.ensures.value
 
 pub enter_accepted-requires-clause-was : goal.enter_accepted-requires-clause-was
 enter_accepted-requires-clause-was g c κs within =
-    let off = taken-off c.self.invariant c.split_off_first-others.new.self c.split_off_first-others.result c.pop_front.new.self c.get.result.now c.in-Some.letter c.split_off_first-others.ensures.before c.split_off_first-others.ensures.from c.in-Some.ensures c.get.ensures in
+    let off = first-own c.self.invariant c.get.result.now c.in-Some.letter c.in-Some.ensures.letter c.get.ensures in
     was-in-contest c.self.invariant _ _ c.accept.new.self off.place (sym c.index_mut-process.ensures.value) c.deref.ensures.value
 
 pub enter_accepted-requires-clause-behind : goal.enter_accepted-requires-clause-behind
 enter_accepted-requires-clause-behind g c κs within later =
     let i = c.self.inside in
-    let off = taken-off c.self.invariant c.split_off_first-others.new.self c.split_off_first-others.result c.pop_front.new.self c.get.result.now c.in-Some.letter c.split_off_first-others.ensures.before c.split_off_first-others.ensures.from c.in-Some.ensures c.get.ensures in
+    let off = first-own c.self.invariant c.get.result.now c.in-Some.letter c.in-Some.ensures.letter c.get.ensures in
     let dest = c.get.result.now.event.dest in
     let place = dest / c.self.inside.config.workers in
     let at = process-there c.self.invariant _ _ off.place (sym c.index_mut-process.ensures.value) in
@@ -87,28 +109,32 @@ enter_accepted-requires-clause-behind g c κs within later =
 pub invariant_of-self-2 : goal.invariant_of-self-2
 invariant_of-self-2 g c =
     let i = c.self.inside in
-    let off = taken-off c.self.invariant c.split_off_first-others.new.self c.split_off_first-others.result c.pop_front.new.self c.get.result.now c.in-Some.letter c.split_off_first-others.ensures.before c.split_off_first-others.ensures.from c.in-Some.ensures c.get.ensures in
+    let off = first-own c.self.invariant c.get.result.now c.in-Some.letter c.in-Some.ensures.letter c.get.ensures in
     let dest = c.get.result.now.event.dest in
     let place = dest / c.self.inside.config.workers in
     let at = process-there c.self.invariant _ _ off.place (sym c.index_mut-process.ensures.value) in
     let same = c.in_default-accept.ensures.same in
-    let within = without-all (IsWithinRun i.config.lps (end_of i.config)) (is_for_worker i.config i.worker) i.outbox c.self.invariant.sendable in
+    let left : c.pop_for.new.self.letters ≡ without_first (is_for_worker i.config i.worker) i.outbox.letters =
+    ap (λ (o : HeldOutbox _). o.letters) c.pop_for.ensures.left ∙ ap (λ (k : Config). without_first (is_for_worker k i.worker) i.outbox.letters) c.self.invariant.by_worker in
+    let within = without-all (IsWithinRun i.config.lps (end_of i.config)) (is_for_worker i.config i.worker) i.outbox.letters c.self.invariant.sendable in
     inside-changed c.self.invariant place c.accept.new.self at same.0 same.1 c.deref.ensures.value c.enter_accepted.ensures
-    (subst (λ (ls : List (Letter _)). AllWithinRun i.config ls) (sym (c.append-2.ensures.0 ∙ off.left)) within) c.self.invariant.few_made
+    (subst (λ (ls : List (Letter _)). AllWithinRun i.config ls) (sym left) within) (ap (λ (o : HeldOutbox _). o.config) c.pop_for.ensures.left ∙ c.self.invariant.by_worker) c.self.invariant.few_made
 
 pub returns-clause-done : goal.returns-clause-done
 returns-clause-done g c handlers part s =
     let i = c.self.inside in
-    let off = taken-off c.self.invariant c.split_off_first-others.new.self c.split_off_first-others.result c.pop_front.new.self c.get.result.now c.in-Some.letter c.split_off_first-others.ensures.before c.split_off_first-others.ensures.from c.in-Some.ensures c.get.ensures in
+    let off = first-own c.self.invariant c.get.result.now c.in-Some.letter c.in-Some.ensures.letter c.get.ensures in
     let dest = c.get.result.now.event.dest in
     let place = dest / c.self.inside.config.workers in
     let at = process-there c.self.invariant _ _ off.place (sym c.index_mut-process.ensures.value) in
-    let held = worker_view i.worker i.config i.processes.items i.outbox i.arrived.items i.colour i.sent i.got i.red_minimum i.floor i.serial in
+    let held = worker_view i.worker i.config i.processes.items i.outbox.letters i.arrived.items i.colour i.sent i.got i.red_minimum i.floor i.serial in
     let new = c.accept.new.self in
     let same = c.in_default-accept.ensures.same in
     let view = λ (ls : List (Letter _)). worker_view i.worker i.config (slice_set i.processes.items place new) ls i.arrived.items i.colour i.sent i.got i.red_minimum i.floor i.serial in
-    subst (λ (v : HeldWorker _ _ _). IsDone handlers (view c.append-2.new.self) (local_step (simulation_of handlers v.config) v.worker (step.Home v.worker) part)) c.self.view_is
-    (subst (λ (ls : List (Letter _)). IsDone handlers (view ls) (local_step (simulation_of handlers i.config) i.worker (step.Home i.worker) part)) (sym (c.append-2.ensures.0 ∙ off.left))
+    let left : c.pop_for.new.self.letters ≡ without_first (is_for_worker i.config i.worker) i.outbox.letters =
+    ap (λ (o : HeldOutbox _). o.letters) c.pop_for.ensures.left ∙ ap (λ (k : Config). without_first (is_for_worker k i.worker) i.outbox.letters) c.self.invariant.by_worker in
+    subst (λ (v : HeldWorker _ _ _). IsDone handlers (view c.pop_for.new.self.letters) (local_step (simulation_of handlers v.config) v.worker (step.Home v.worker) part)) c.self.view_is
+    (subst (λ (ls : List (Letter _)). IsDone handlers (view ls) (local_step (simulation_of handlers i.config) i.worker (step.Home i.worker) part)) (sym left)
     (home-done handlers held c.self.invariant.own_processes part (subst (λ (v : HeldWorker _ _ _). StandsFor handlers v part) (sym c.self.view_is) s) c.get.result.now place c.index_mut-process.result.now new off.there refl off.place.1 at
     same.0 same.1
     (λ process st. subst (λ (l : Letter _). ProcessIsDone handlers new (accept_process l process) [] [] 0 0) (sym c.get.ensures) (c.in_default-accept.ensures.done handlers process st))))

@@ -32,9 +32,9 @@ returns g c =
     let letters : List (Mail _) → List (Letter _) = map (λ (m : Mail _). m.letter) in
     let arrived : c.least_of_mail-arrived.result ≡ least_time c.end-end.result (letters k.arrived.items) = c.least_of_mail-arrived.ensures ∙ ap (λ (ms : List (Mail _)). least_time c.end-end.result (letters ms)) c.deref.ensures.value in
     let kept : c.least-kept.result ≡ least_time end (flat_map kept_letters k.processes.items) = c.least-kept.ensures ∙ (λ j. least_time (c.end-end.ensures j) (flat_map kept_letters (c.deref-2.ensures.value j))) in
-    let first : c.earlier.result ≡ earlier (least_time end k.outbox) (least_time end (letters k.arrived.items)) = c.earlier.ensures ∙ (λ j. earlier (c.least_of_letters-unsent.ensures j) (arrived j)) ∙ ap (λ (t : Time). earlier (least_time t k.outbox) (least_time t (letters k.arrived.items))) c.end-end.ensures in
+    let first : c.earlier.result ≡ earlier (least_time end k.outbox.letters) (least_time end (letters k.arrived.items)) = c.earlier.ensures ∙ (λ j. earlier (c.least-unsent.ensures j) (arrived j)) ∙ ap (λ (t : Time). earlier (least_time t k.outbox.letters) (least_time t (letters k.arrived.items))) c.end-end.ensures in
     c.earlier-2.ensures
     ∙ (λ j. earlier (first j) (kept j))
-    ∙ ap (λ (t : Time). earlier t (least_time end (flat_map kept_letters k.processes.items))) (sym (least_time-append end k.outbox (letters k.arrived.items)))
-    ∙ sym (least_time-append end (k.outbox ++ letters k.arrived.items) (flat_map kept_letters k.processes.items))
+    ∙ ap (λ (t : Time). earlier t (least_time end (flat_map kept_letters k.processes.items))) (sym (least_time-append end k.outbox.letters (letters k.arrived.items)))
+    ∙ sym (least_time-append end (k.outbox.letters ++ letters k.arrived.items) (flat_map kept_letters k.processes.items))
     ∙ ap (λ (v : HeldWorker _ _ _). least_time (end_of v.config) (held_letters v)) c.self.view_is

@@ -14,7 +14,7 @@ use Rattle.vt_kernel.proofs.kernel.Kernel.next.Goals as goal
 pub overflow_mul-result : goal.overflow_mul-result
 overflow_mul-result g c =
     let i = c.self.inside in
-    let held = worker_view i.worker i.config i.processes.items i.outbox i.arrived.items i.colour i.sent i.got i.red_minimum i.floor i.serial in
+    let held = worker_view i.worker i.config i.processes.items i.outbox.letters i.arrived.items i.colour i.sent i.got i.red_minimum i.floor i.serial in
     let least = c.in_ok-place.ensures.least (entries_of ready_of i.processes.items) c.self.invariant.in_contest.ready in
     let is = next-is ready_of held c.in_ok-place.place c.self.invariant.known c.self.invariant.all_there least in
     omega (arith, is.0, i.config.few_processes)
@@ -22,7 +22,7 @@ overflow_mul-result g c =
 pub overflow_add-result : goal.overflow_add-result
 overflow_add-result g c =
     let i = c.self.inside in
-    let held = worker_view i.worker i.config i.processes.items i.outbox i.arrived.items i.colour i.sent i.got i.red_minimum i.floor i.serial in
+    let held = worker_view i.worker i.config i.processes.items i.outbox.letters i.arrived.items i.colour i.sent i.got i.red_minimum i.floor i.serial in
     let least = c.in_ok-place.ensures.least (entries_of ready_of i.processes.items) c.self.invariant.in_contest.ready in
     let is = next-is ready_of held c.in_ok-place.place c.self.invariant.known c.self.invariant.all_there least in
     omega (arith, is.0, i.config.few_processes)
@@ -30,7 +30,7 @@ overflow_add-result g c =
 pub returns-clause-least : goal.returns-clause-least
 returns-clause-least g c =
     let i = c.self.inside in
-    let held = worker_view i.worker i.config i.processes.items i.outbox i.arrived.items i.colour i.sent i.got i.red_minimum i.floor i.serial in
+    let held = worker_view i.worker i.config i.processes.items i.outbox.letters i.arrived.items i.colour i.sent i.got i.red_minimum i.floor i.serial in
     let least = c.in_ok-place.ensures.least (entries_of ready_of i.processes.items) c.self.invariant.in_contest.ready in
     subst (λ (v : HeldWorker _ _ _). NextIs ready_of v (c.in_ok-place.place * i.config.workers + i.worker)) c.self.view_is
     (next-is ready_of held c.in_ok-place.place c.self.invariant.known c.self.invariant.all_there least)
@@ -38,7 +38,7 @@ returns-clause-least g c =
 pub returns-clause-lawful : goal.returns-clause-lawful
 returns-clause-lawful g c handlers part s =
     let i = c.self.inside in
-    let held = worker_view i.worker i.config i.processes.items i.outbox i.arrived.items i.colour i.sent i.got i.red_minimum i.floor i.serial in
+    let held = worker_view i.worker i.config i.processes.items i.outbox.letters i.arrived.items i.colour i.sent i.got i.red_minimum i.floor i.serial in
     let p = c.in_ok-place.place * i.config.workers + i.worker in
     let h = subst (λ (v : HeldWorker _ _ _). StandsFor handlers v part) (sym c.self.view_is) s in
     let least = c.in_ok-place.ensures.least (entries_of ready_of i.processes.items) c.self.invariant.in_contest.ready in
@@ -49,7 +49,7 @@ returns-clause-lawful g c handlers part s =
 pub returns-in_err-place-clause-unlawful : goal.returns-in_err-place-clause-unlawful
 returns-in_err-place-clause-unlawful g c handlers part s =
     let i = c.self.inside in
-    let held = worker_view i.worker i.config i.processes.items i.outbox i.arrived.items i.colour i.sent i.got i.red_minimum i.floor i.serial in
+    let held = worker_view i.worker i.config i.processes.items i.outbox.letters i.arrived.items i.colour i.sent i.got i.red_minimum i.floor i.serial in
     let h = subst (λ (v : HeldWorker _ _ _). StandsFor handlers v part) (sym c.self.view_is) s in
     let nobody = c.in_err-place.ensures.nobody (entries_of ready_of i.processes.items) c.self.invariant.in_contest.ready in
     none-says c.from_residual.result _

@@ -1,13 +1,13 @@
-use Rattle.std.proofs.Common.{rules, List, sym, subst}
+use Rattle.std.proofs.Common.{rules, ◌∙◌, List, sym, ap, subst}
 use Rattle.vt_model.specs.declared.settings.Config.{Config}
 use Rattle.vt_model.specs.Simulation.{simulation_of}
-use Rattle.vt_key.specs.declared.letter.Letter.{Letter}
 use Rattle.vt_lp.specs.Held.{HeldProcess, AllWithinRun}
-use Rattle.vt_kernel.specs.Held.{HeldWorker, IsWorkerInside, StandsFor}
+use Rattle.vt_kernel.specs.Held.{HeldWorker, HeldOutbox, IsWorkerInside, StandsFor}
 use Rattle.vt_kernel.specs.Guards.{SettlesTo}
 use Rattle.vt_kernel.proofs.ProcessLemmas.{process-at}
 use Rattle.vt_kernel.proofs.LocalLemmas.{worker_view, place-within, written-same, inside-changed}
 use Rattle.vt_kernel.proofs.SettledWorker.{unknown-settled, settled-seen}
+use Rattle.vt_kernel.proofs.PutLemmas.{put-nothing, put-settled, put-within}
 use Rattle.vt_kernel.proofs.ReentryLemmas.{process-there, still-there, was-in-contest}
 use Rattle.vt_kernel.proofs.kernel.Kernel.settle.Goals as goal
 
@@ -28,7 +28,7 @@ pub returns-in_default-clause-settles : goal.returns-in_default-clause-settles
 returns-in_default-clause-settles g c part s =
     let i = c.self.inside in
     let handlers = g.M.Model.handlers c.args.model.now in
-    let held = worker_view i.worker i.config i.processes.items i.outbox i.arrived.items i.colour i.sent i.got i.red_minimum i.floor i.serial in
+    let held = worker_view i.worker i.config i.processes.items i.outbox.letters i.arrived.items i.colour i.sent i.got i.red_minimum i.floor i.serial in
     let h = subst (λ (v : HeldWorker _ _ _). StandsFor handlers v part) (sym c.self.view_is) s in (
       part,
       subst (λ (v : HeldWorker _ _ _). SettlesTo (simulation_of handlers v.config) v.worker c.args.lp part part 0) c.self.view_is
@@ -43,15 +43,19 @@ invariant_of-self g c =
     let at = process-there c.self.invariant c.args.lp c.in-Some.place c.in-Some.ensures.own (sym c.index_mut.ensures.value) in
     let f = process-at i.config i.worker 0 c.in-Some.place i.processes.items old c.self.invariant.own_processes at in
     let same = c.settle_process-settling.ensures.same in
-    let within = subst (λ (k : Config). AllWithinRun k i.outbox → AllWithinRun k c.settle_process-settling.new.outbox) f.1 c.settle_process-settling.ensures.within in
-    inside-changed c.self.invariant c.in-Some.place c.settle_process-settling.new.process at same.0 same.1 c.deref.ensures.value c.enter.ensures (within c.self.invariant.sendable) c.self.invariant.few_made
+    let within = subst (λ (k : Config). AllWithinRun k c.new-sent.result → AllWithinRun k c.settle_process-settling.new.outbox) f.1 c.settle_process-settling.ensures.within in
+    let put = ap (λ (o : HeldOutbox _). o.letters) c.put.ensures in
+    inside-changed c.self.invariant c.in-Some.place c.settle_process-settling.new.process at same.0 same.1 c.deref.ensures.value c.enter.ensures (put-within i.outbox.letters c.settle_process-settling.new.outbox c.new-sent.ensures put i.config within c.self.invariant.sendable)
+    (ap (λ (o : HeldOutbox _). o.config) c.put.ensures ∙ c.self.invariant.by_worker) c.self.invariant.few_made
 
 pub returns-then-settling-clause-settles : goal.returns-then-settling-clause-settles
 returns-then-settling-clause-settles g c part s =
+    let i = c.self.inside in
     let settling = c.settle_process-settling in
     let at = process-there c.self.invariant c.args.lp c.in-Some.place c.in-Some.ensures.own (sym c.index_mut.ensures.value) in
-    settled-seen (g.M.Model.handlers c.args.model.now) c.self.view_is c.self.invariant.own_processes part s c.args.lp c.in-Some.place settling.result.undone settling.new.process settling.new.outbox
-    c.in-Some.ensures.own at settling.ensures.same settling.ensures.settled
+    let put = ap (λ (o : HeldOutbox _). o.letters) c.put.ensures in
+    settled-seen (g.M.Model.handlers c.args.model.now) c.self.view_is c.self.invariant.own_processes part s c.args.lp c.in-Some.place settling.result.undone settling.new.process c.put.new.self.letters
+    c.in-Some.ensures.own at settling.ensures.same (λ process st. put-settled i.outbox.letters settling.new.outbox c.new-sent.ensures put (settling.ensures.settled process st))
 
 pub invariant_of-self-else-settling : goal.invariant_of-self-else-settling
 invariant_of-self-else-settling g c =
@@ -59,13 +63,16 @@ invariant_of-self-else-settling g c =
     let old = c.index_mut.result.now in
     let at = process-there c.self.invariant c.args.lp c.in-Some.place c.in-Some.ensures.own (sym c.index_mut.ensures.value) in
     let kept = c.settle_process-settling.ensures.unchanged c.if-settling.false in
-    subst (λ (ps : List (HeldProcess _ _ _)). IsWorkerInside i.config i.worker ps c.settle_process-settling.new.outbox i.arrived.items i.sent i.got i.serial i.contest)
+    let still = put-nothing c.settle_process-settling.new.outbox c.new-sent.ensures c.put.ensures kept.1 in
+    subst (λ (ps : List (HeldProcess _ _ _)). IsWorkerInside i.config i.worker ps c.put.new.self i.arrived.items i.sent i.got i.serial i.contest)
     (sym (written-same i.processes.items c.in-Some.place old c.settle_process-settling.new.process at kept.0))
-    (subst (λ (ls : List (Letter _)). IsWorkerInside i.config i.worker i.processes.items ls i.arrived.items i.sent i.got i.serial i.contest) (sym kept.1) c.self.invariant)
+    (subst (λ (o : HeldOutbox _). IsWorkerInside i.config i.worker i.processes.items o i.arrived.items i.sent i.got i.serial i.contest) (sym still) c.self.invariant)
 
 pub returns-else-settling-clause-settles : goal.returns-else-settling-clause-settles
 returns-else-settling-clause-settles g c part s =
+    let i = c.self.inside in
     let settling = c.settle_process-settling in
     let at = process-there c.self.invariant c.args.lp c.in-Some.place c.in-Some.ensures.own (sym c.index_mut.ensures.value) in
-    settled-seen (g.M.Model.handlers c.args.model.now) c.self.view_is c.self.invariant.own_processes part s c.args.lp c.in-Some.place settling.result.undone settling.new.process settling.new.outbox
-    c.in-Some.ensures.own at settling.ensures.same settling.ensures.settled
+    let put = ap (λ (o : HeldOutbox _). o.letters) c.put.ensures in
+    settled-seen (g.M.Model.handlers c.args.model.now) c.self.view_is c.self.invariant.own_processes part s c.args.lp c.in-Some.place settling.result.undone settling.new.process c.put.new.self.letters
+    c.in-Some.ensures.own at settling.ensures.same (λ process st. put-settled i.outbox.letters settling.new.outbox c.new-sent.ensures put (settling.ensures.settled process st))

@@ -3,7 +3,7 @@ use Rattle.vt_key.specs.Times.{earlier}
 use Rattle.vt_key.specs.declared.letter.Letter.{Letter}
 use Rattle.vt_steps.specs.Letters.{least_time}
 use Rattle.vt_kernel.proofs.TimeLemmas.{same_low, earlier-end}
-use Rattle.vt_kernel.proofs.cutting.least_of_letters.Goals as goal
+use Rattle.vt_kernel.proofs.outbox.least_of_letters.Goals as goal
 
 pub loop-letter-init : goal.loop-letter-init
 loop-letter-init g c =

@@ -1,7 +1,7 @@
 use Rattle.std.proofs.Common.{◌≡◌}
 use Rattle.vt_key.specs.Times.{TimeAtMost, earlier}
 use Rattle.vt_steps.specs.Letters.{least_time}
-use Rattle.vt_kernel.proofs.cutting.least_of_letters.Given as goal
+use Rattle.vt_kernel.proofs.outbox.least_of_letters.Given as goal
 
 abbrev pub invariant-loop-letter : goal.invariant-loop-letter
 invariant-loop-letter g l =
