@@ -6,6 +6,8 @@ use Rattle.vt_key.specs.declared.letter.Sign.TheVariants.{Plus, Minus}
 use Rattle.vt_model.specs.declared.limits.TheConstants.{MAX_DRAWS}
 use Rattle.vt_model.specs.declared.settings.Config.{Config}
 use Rattle.vt_model.specs.Handler.{Handlers}
+use Rattle.vt_model.specs.Process.{IsProcessStream}
+use Rattle.vt_stream.specs.Words.{Stream, moved}
 use Rattle.vt_model.specs.Simulation.{Triple, simulation_of, rows_of}
 use Rattle.vt_steps.specs.Letters.{unstamped, stamped, signed}
 use Rattle.vt_steps.specs.StandsFor.{IsRemembered}
@@ -17,6 +19,16 @@ use Rattle.vt_lp.specs.Past.{past_event}
 -- drawn words given back
 pub place-back : (at n : ℕ) → at < 2 ^ 64 → n ≤ MAX_DRAWS → ((at + n) % 2 ^ 64 + (2 ^ 64 - n)) % 2 ^ 64 ≡ at
 place-back at n small few = omega arith
+
+-- so the stream is where it was
+pub stream-back : (before after : Stream) (n : ℕ) → before.place < 2 ^ 64 → n ≤ MAX_DRAWS → after ≡ moved before n → record after { place = (after.place + (2 ^ 64 - n)) % 2 ^ 64 } ≡ before
+stream-back before after n small few is =
+    ap (λ (s : Stream). record s { place = (s.place + (2 ^ 64 - n)) % 2 ^ 64 }) is
+    ∙ (λ j. record { key = before.key; process = before.process; place = place-back before.place n small few j })
+
+-- drawing words leaves its key and process
+pub stream-stays : {seed p : ℕ} (n : ℕ) (before after : Stream) → after ≡ moved before n → IsProcessStream seed p before → IsProcessStream seed p after
+stream-stays n before after is own = record { key = ap (λ (s : Stream). s.key) is ∙ own.key; process = ap (λ (s : Stream). s.process) is ∙ own.process }
 
 -- the events of letters
 pub events-signed : {P : Type 0} (sign : Sign) (es : List (Event P)) → map (λ l. l.event) (map (signed sign) es) ≡ es

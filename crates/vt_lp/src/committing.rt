@@ -30,9 +30,9 @@ impl<M: EventModel> Lp<M> {
     {
         let mut events = Vec::new(alloc);
         for past_event in self.past.events().iter() {
-            events
-                .push(past_event.letter.get().event)
-                .map_err(|_| Fault::Memory)?;
+            let Ok(()) = events.push(past_event.letter.get().event) else {
+                return Err(Fault::Memory);
+            };
         }
         Ok(events)
     }

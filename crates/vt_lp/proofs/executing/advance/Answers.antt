@@ -1,4 +1,4 @@
-use Rattle.std.proofs.Common.{◌∙◌, inl, inr, List, [], map, length, ap, sym, subst, refl, arith}
+use Rattle.std.proofs.Common.{ℕ, ◌≤◌, ◌∙◌, inl, inr, List, [], map, length, ap, sym, subst, refl, arith}
 use Rattle.std.specs.List.{All}
 use Rattle.vt_key.specs.Times.{TimeBefore}
 use Rattle.vt_key.specs.declared.letter.Letter.{Letter}
@@ -7,7 +7,8 @@ use Rattle.vt_stream.specs.Words.{Stream}
 use Rattle.vt_model.specs.declared.sending.Sent.{Sent}
 use Rattle.vt_model.specs.declared.rows.Record.{Record}
 use Rattle.vt_model.specs.Handler.{IsFresh}
-use Rattle.vt_model.specs.Process.{triple_at}
+use Rattle.vt_model.specs.Process.{triple_at, IsProcessStream}
+use Rattle.vt_key.specs.declared.limits.TheConstants.{MAX_COUNT}
 use Rattle.vt_model.specs.Simulation.{Triple, simulation_of, rows_of}
 use Rattle.vt_model.proofs.LawLemmas.{lawful_of}
 use Rattle.vt_model.specs.Settings.{end_of}
@@ -15,7 +16,7 @@ use Rattle.vt_steps.specs.Letters.{unstamped, stamped, signed}
 use Rattle.vt_lp.specs.Held.{AllWithinRun, IsReady}
 use Rattle.vt_model.proofs.Sizes.{out_fits}
 use Rattle.vt_lp.proofs.Stamping.{letters-all, letters-within}
-use Rattle.vt_lp.proofs.Advancing.{remembers}
+use Rattle.vt_lp.proofs.Advancing.{remembers, stream-back, stream-stays}
 use Rattle.vt_lp.proofs.executing.advance.Goals as goal
 use Rattle.vt_lp.proofs.executing.advance.Goals.{then-number-gt-MAX_COUNT-via-then-number-gt-MAX_COUNT, then-number-gt-MAX_COUNT-via-else-number-gt-MAX_COUNT+then-not-is_counted}
 
@@ -116,3 +117,66 @@ returns-in-Err-clause-refused g c =
     let number = ap (λ (t : Triple _). t.number) fires.triple in
     let sends = ap length (c.sends.ensures ∙ fires.sends) in
     inr (c.in-Err.ensures.refused, omega (arith, c.if-number-gt-MAX_COUNT.false, c.number.ensures, number), grind (arith, c.is_counted.ensures, c.if-not-is_counted.false, sends))
+
+pub returns-clause-triple : goal.returns-clause-triple
+returns-clause-triple g c =
+    (λ j. record { state = c.execute_into-drawn.new.self.state; number = c.execute_into-drawn.ensures.number j; place = c.execute_into-drawn.new.self.stream.place }) ∙ c.execute_into-drawn.ensures.fires.triple
+
+pub returns-clause-messages : goal.returns-clause-messages
+returns-clause-messages g c =
+    c.in-Ok.ensures.messages ∙ (λ j. map (signed Plus) (stamped (c.owner-worker.ensures.value j) c.args.serial ((c.sends-2.ensures ∙ c.execute_into-drawn.ensures.fires.sends) j)))
+
+pub returns-clause-anti_messages : goal.returns-clause-anti_messages
+returns-clause-anti_messages g c =
+    c.in-Ok.ensures.anti_messages ∙ (λ j. map (signed Minus) (stamped (c.owner-worker.ensures.value j) c.args.serial ((c.sends-2.ensures ∙ c.execute_into-drawn.ensures.fires.sends) j)))
+
+pub returns-clause-few : goal.returns-clause-few
+returns-clause-few g c = c.execute_into-drawn.ensures.few
+
+pub returns-clause-few_sends : goal.returns-clause-few_sends
+returns-clause-few_sends g c = c.requires.numbered
+
+pub returns-clause-numbered : goal.returns-clause-numbered
+returns-clause-numbered g c = subst (λ (n : ℕ). n ≤ MAX_COUNT) (c.number.ensures ∙ sym c.execute_into-drawn.ensures.number) c.if-number-gt-MAX_COUNT.false
+
+pub returns-clause-stream : goal.returns-clause-stream
+returns-clause-stream g c = stream-stays _ c.args.process.now.stream c.execute_into-drawn.new.self.stream c.execute_into-drawn.ensures.stream c.requires.stream
+
+pub returns-clause-drew : goal.returns-clause-drew
+returns-clause-drew g c = (refl, c.execute_into-drawn.ensures.stream)
+
+pub returns-then-number-gt-MAX_COUNT-clause-numbered : goal.returns-then-number-gt-MAX_COUNT-clause-numbered
+returns-then-number-gt-MAX_COUNT-clause-numbered g c = subst (λ (n : ℕ). n ≤ MAX_COUNT) (sym c.undo.ensures.number) c.requires.numbered
+
+pub returns-then-number-gt-MAX_COUNT-clause-stream : goal.returns-then-number-gt-MAX_COUNT-clause-stream
+returns-then-number-gt-MAX_COUNT-clause-stream g c =
+    subst (IsProcessStream c.args.config.seed c.args.event.dest)
+    (sym (c.undo.ensures.stream ∙ stream-back c.args.process.now.stream c.execute_into-drawn.new.self.stream c.execute_into-drawn.result.drawn c.execute_into-drawn.ensures.in_range c.execute_into-drawn.ensures.few c.execute_into-drawn.ensures.stream)) c.requires.stream
+
+pub returns-then-number-gt-MAX_COUNT-clause-but_state : goal.returns-then-number-gt-MAX_COUNT-clause-but_state
+returns-then-number-gt-MAX_COUNT-clause-but_state g c =
+    (c.undo.ensures.number, c.undo.ensures.stream ∙ stream-back c.args.process.now.stream c.execute_into-drawn.new.self.stream c.execute_into-drawn.result.drawn c.execute_into-drawn.ensures.in_range c.execute_into-drawn.ensures.few c.execute_into-drawn.ensures.stream)
+
+pub returns-then-number-gt-MAX_COUNT-clause-unchanged : goal.returns-then-number-gt-MAX_COUNT-clause-unchanged
+returns-then-number-gt-MAX_COUNT-clause-unchanged g c ok =
+    let stream = c.undo.ensures.stream ∙ stream-back c.args.process.now.stream c.execute_into-drawn.new.self.stream c.execute_into-drawn.result.drawn c.execute_into-drawn.ensures.in_range c.execute_into-drawn.ensures.few c.execute_into-drawn.ensures.stream in
+    let state = c.undo.ensures.state ∙ c.execute_into-drawn.ensures.undoes ok in
+    λ j. record { stream = stream j; number = c.undo.ensures.number j; state = state j }
+
+pub returns-in-Err-clause-numbered : goal.returns-in-Err-clause-numbered
+returns-in-Err-clause-numbered g c = subst (λ (n : ℕ). n ≤ MAX_COUNT) (sym c.undo-in-Err.ensures.number) c.requires.numbered
+
+pub returns-in-Err-clause-stream : goal.returns-in-Err-clause-stream
+returns-in-Err-clause-stream g c =
+    subst (IsProcessStream c.args.config.seed c.args.event.dest)
+    (sym (c.undo-in-Err.ensures.stream ∙ stream-back c.args.process.now.stream c.execute_into-drawn.new.self.stream c.execute_into-drawn.result.drawn c.execute_into-drawn.ensures.in_range c.execute_into-drawn.ensures.few c.execute_into-drawn.ensures.stream)) c.requires.stream
+
+pub returns-in-Err-clause-but_state : goal.returns-in-Err-clause-but_state
+returns-in-Err-clause-but_state g c =
+    (c.undo-in-Err.ensures.number, c.undo-in-Err.ensures.stream ∙ stream-back c.args.process.now.stream c.execute_into-drawn.new.self.stream c.execute_into-drawn.result.drawn c.execute_into-drawn.ensures.in_range c.execute_into-drawn.ensures.few c.execute_into-drawn.ensures.stream)
+
+pub returns-in-Err-clause-unchanged : goal.returns-in-Err-clause-unchanged
+returns-in-Err-clause-unchanged g c ok =
+    let stream = c.undo-in-Err.ensures.stream ∙ stream-back c.args.process.now.stream c.execute_into-drawn.new.self.stream c.execute_into-drawn.result.drawn c.execute_into-drawn.ensures.in_range c.execute_into-drawn.ensures.few c.execute_into-drawn.ensures.stream in
+    let state = c.undo-in-Err.ensures.state ∙ c.execute_into-drawn.ensures.undoes ok in
+    λ j. record { stream = stream j; number = c.undo-in-Err.ensures.number j; state = state j }

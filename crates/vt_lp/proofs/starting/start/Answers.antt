@@ -38,3 +38,13 @@ returns-in-Ok-clause-within g c =
     subst (λ (xs : List (Letter _)). AllWithinRun config xs) (sym made)
     (letters-within config.lps (end_of config) Plus c.owner-worker.result c.args.serial (sim.start c.args.lp).sends
     (λ d m. lawful.known_start c.args.lp d c.requires.known m) (λ d m. lawful.ends_start c.args.lp d c.requires.known m))
+
+pub returns-in-Ok-clause-triple : goal.returns-in-Ok-clause-triple
+returns-in-Ok-clause-triple g c = c.start-process.ensures.triple
+
+pub returns-in-Ok-clause-messages : goal.returns-in-Ok-clause-messages
+returns-in-Ok-clause-messages g c =
+    c.in-Ok.ensures.letters ∙ (λ j. map (signed Plus) (stamped (c.owner-worker.ensures.value j) c.args.serial ((c.sends-2.ensures ∙ c.start-process.ensures.sends) j)))
+
+pub returns-in-Ok-clause-stream : goal.returns-in-Ok-clause-stream
+returns-in-Ok-clause-stream g c = c.start-process.ensures.stream

@@ -232,3 +232,60 @@ returns-in-Err-keep-clause-but_state g c =
     ∙ place-back l.process.stream.place drawn c.advance.ensures.in_range c.in-Ok.ensures.few in
     subst (λ (v : HeldProcess _ _ _). (c.keep.new.past ≡ v.past) × (c.keep.new.pending ≡ v.pending) × (l.waiting ≡ v.waiting) × (at.number ≡ v.triple.number) × (at.stream.place ≡ v.triple.place)) c.self.view_is
     (left.1, left.0, refl, c.undo.ensures.number ∙ drew.0, place)
+
+pub returns-in_default-clause-done : goal.returns-in_default-clause-done
+returns-in_default-clause-done g c h s = tt
+
+pub returns-in_default-clause-counted : goal.returns-in_default-clause-counted
+returns-in_default-clause-counted g c = tt
+
+pub returns-in_default-clause-within : goal.returns-in_default-clause-within
+returns-in_default-clause-within g c all = all
+
+pub returns-in-Err-clause-done : goal.returns-in-Err-clause-done
+returns-in-Err-clause-done g c h s = tt
+
+pub returns-in-Err-clause-counted : goal.returns-in-Err-clause-counted
+returns-in-Err-clause-counted g c = tt
+
+pub returns-in-Err-clause-within : goal.returns-in-Err-clause-within
+returns-in-Err-clause-within g c all = all
+
+pub returns-in-Err-keep-clause-done : goal.returns-in-Err-keep-clause-done
+returns-in-Err-keep-clause-done g c h s = tt
+
+pub returns-in-Err-keep-clause-counted : goal.returns-in-Err-keep-clause-counted
+returns-in-Err-keep-clause-counted g c = tt
+
+pub returns-in-Err-keep-clause-within : goal.returns-in-Err-keep-clause-within
+returns-in-Err-keep-clause-within g c all = all
+
+pub returns-in_default-clause-same : goal.returns-in_default-clause-same
+returns-in_default-clause-same g c = (refl, refl)
+
+pub returns-in-Err-clause-same : goal.returns-in-Err-clause-same
+returns-in-Err-clause-same g c = (ap (λ (v : HeldProcess _ _ _). v.lp) c.self.view_is, ap (λ (v : HeldProcess _ _ _). v.config) c.self.view_is)
+
+pub returns-in-Err-keep-clause-same : goal.returns-in-Err-keep-clause-same
+returns-in-Err-keep-clause-same g c = (ap (λ (v : HeldProcess _ _ _). v.lp) c.self.view_is, ap (λ (v : HeldProcess _ _ _). v.config) c.self.view_is)
+
+pub returns-clause-same : goal.returns-clause-same
+returns-clause-same g c = (ap (λ (v : HeldProcess _ _ _). v.lp) c.self.view_is, ap (λ (v : HeldProcess _ _ _). v.config) c.self.view_is)
+
+pub returns-clause-refused : goal.returns-clause-refused
+returns-clause-refused g c h s = tt
+
+pub returns-clause-unchanged : goal.returns-clause-unchanged
+returns-clause-unchanged g c h s = tt
+
+pub returns-clause-restored : goal.returns-clause-restored
+returns-clause-restored g c is_state = tt
+
+pub returns-clause-not_lawful : goal.returns-clause-not_lawful
+returns-clause-not_lawful g c = tt
+
+pub returns-clause-but_state : goal.returns-clause-but_state
+returns-clause-but_state g c = tt
+
+pub returns-clause-kept : goal.returns-clause-kept
+returns-clause-kept g c = tt
