@@ -1,5 +1,5 @@
 -- A program's command line is a simple one, whatever its options.
-use Rattle.std.proofs.Common.{◌≡◌, ℕ, ◌+◌, ◌<◌, ◌∙◌, refl, sym, true, false, not, List, length, take, get_or, map, ap, ap₂, [], ◌∷◌, ◌++◌, Result, Ok, Err, IfOk, MatchResult, append_assoc, append-nil, codes}
+use Rattle.std.proofs.Common.{◌≡◌, ℕ, ◌+◌, ◌<◌, ◌∙◌, refl, sym, true, false, not, List, length, take, get_or, map, ap, ap₂, [], ◌∷◌, ◌++◌, Result, Ok, Err, IfOk, IfErr, MatchResult, append_assoc, append-nil, codes}
 use Rattle.std.specs.List.{list_all, list_any}
 use Rattle.std.proofs.lemmas.List.{take_more, map-append}
 use Rattle.std.proofs.lemmas.List.Sums.{fold-append}
@@ -80,6 +80,13 @@ module _ (name : Text) (run replay : List Text) where
   pub is_plain : is_simple_and_free (program_app name run replay) ≡ true
   is_plain = ap is_simple_and_free (program_is name run replay) ∙ free_is
 
+-- and so is what is equal to it
+pub simple_as : (a : App) (name : Text) (run replay : List Text) → a ≡ program_app name run replay → is_simple a ≡ true
+simple_as a name run replay is = ap is_simple is ∙ is_ready name run replay
+
+pub free_as : (a : App) (name : Text) (run replay : List Text) → a ≡ program_app name run replay → is_simple_and_free a ≡ true
+free_as a name run replay is = ap is_simple_and_free is ∙ is_plain name run replay
+
 -- one option more
 pub options_more : {X : Type 0} (name_of : X → Text) (a : App) (options : List X) (i : ℕ) (d : X) → i < length options → with_options a (map name_of (take (i + 1) options)) ≡ with_rule (with_options a (map name_of (take i options))) (option_rule (name_of (get_or options i d)))
 options_more name_of a options i d h =
@@ -90,3 +97,7 @@ options_more name_of a options i d h =
 pub ok_part : {X Y : Type 0} (r : Result X Y) (P : X → Type 0) (Q : Y → Type 0) → MatchResult r P Q → IfOk r P
 ok_part (Ok x) P Q h = h
 ok_part (Err e) P Q h = tt
+
+pub err_part : {X Y : Type 0} (r : Result X Y) (P : X → Type 0) (Q : Y → Type 0) → MatchResult r P Q → IfErr r Q
+err_part (Ok x) P Q h = tt
+err_part (Err e) P Q h = h
