@@ -66,10 +66,14 @@ pub(crate) fn first_of_sums(words: &[u64], sums: &[u64], from: usize) -> Option<
     ensures nothing { IfNone result ((other : ℕ) → from ≤ other → is_set words.now other ≡ false) }
 {
     let at = from / 64;
-    let word = *words.get(at)?;
-    if let Some(bit) = first_one(word, (from % 64) as u32) {
+    let Some(word) = words.get(at) else {
+        return None;
+    };
+    if let Some(bit) = first_one(*word, (from % 64) as u32) {
         return Some(at * 64 + bit as usize);
     }
-    let next = first_set(sums, at + 1)?;
+    let Some(next) = first_set(sums, at + 1) else {
+        return None;
+    };
     Some(next * 64 + words[next].trailing_zeros() as usize)
 }
