@@ -1,8 +1,8 @@
-use Rattle.std.proofs.Common.{rules, ◌≡◌, ℕ, suc, ◌≤◌, [], length, IfOk, IfErr, ap, subst, arith}
+use Rattle.std.proofs.Common.{rules, ◌≡◌, ℕ, suc, ◌≤◌, ◌<◌, ◌↔◌, ◌∙◌, IsTrue, [], length, IfOk, IfErr, ap, subst, arith}
 use Rattle.vt_model.specs.Simulation.{simulation_of}
 use Rattle.vt_model.specs.declared.settings.Config.{Config}
 use Rattle.vt_model.proofs.LawLemmas.{lawful_of}
-use Rattle.vt_model.specs.Sequential.{after_steps, seq_records}
+use Rattle.vt_model.specs.Sequential.{after_steps, seq_records, weight}
 use Rattle.vt_model.specs.Settings.{end_of}
 use Rattle.vt_seq.specs.Given.{records_to, AddsStep}
 use Rattle.vt_seq.specs.Limits.{IsCounted, IsStepRefusal}
@@ -66,3 +66,27 @@ returns-clause-adds g c =
     subst (λ (v : Standing _ _ _). (n : ℕ) → IsAt (simulation_of (g.M.Model.handlers v.model) v.config) n v → IfOk c.step.result (λ more. AddsStep (simulation_of (g.M.Model.handlers v.model) v.config) n c.args.records.now.items c.step.new.records.items))
     c.self.view_is
     (λ n is. c.step.ensures.adds n (after-stands sim e.model.now e.config n e.pending e.processes.items e.stands is))
+
+pub returns-clause-model : goal.returns-clause-model
+returns-clause-model g c = c.step.ensures.model ∙ ap (λ (v : Standing _ _ _). v.model) c.self.view_is
+
+pub returns-clause-config : goal.returns-clause-config
+returns-clause-config g c = c.step.ensures.config ∙ ap (λ (v : Standing _ _ _). v.config) c.self.view_is
+
+pub returns-clause-more : goal.returns-clause-more
+returns-clause-more g c = subst (λ (v : Standing _ _ _). IfOk c.step.result (λ more. IsTrue more ↔ (0 < length v.pending))) c.self.view_is c.step.ensures.more
+
+pub returns-clause-none_added : goal.returns-clause-none_added
+returns-clause-none_added g c = c.step.ensures.none_added
+
+pub returns-clause-records_kept : goal.returns-clause-records_kept
+returns-clause-records_kept g c = c.step.ensures.records
+
+pub returns-clause-faults : goal.returns-clause-faults
+returns-clause-faults g c = c.step.ensures.faults
+
+pub returns-clause-falls : goal.returns-clause-falls
+returns-clause-falls g c =
+    let f = c.step.new.self in
+    subst (λ (v : Standing _ _ _). IfOk c.step.result (λ more. IsTrue more → weight (simulation_of (g.M.Model.handlers v.model) v.config) f.pending < weight (simulation_of (g.M.Model.handlers v.model) v.config) v.pending))
+    c.self.view_is c.step.ensures.falls
