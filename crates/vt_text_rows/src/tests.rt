@@ -4,3 +4,4 @@ mod command;
 mod records;
 mod steps;
 mod taken;
+mod told;

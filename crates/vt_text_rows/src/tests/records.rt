@@ -1,8 +1,11 @@
 //! Records that are printed, numbers that are read, and bytes that are written.
 
+use crate::tests::told::{holds, is_text};
 use std::alloc::AllocGlobal;
 use std::io::{self, Error, ErrorKind, Write};
 use std::process::Abort;
+use std::rt::HostRuntime;
+use std::test::Fail;
 use vt_key::Fault;
 use vt_model::Record;
 use vt_text::{TEXT_ROOM, TextBuffer, Version, print_records, read_number, write_bytes};
@@ -25,19 +28,25 @@ const LARGEST: Record = Record {
 };
 
 // These records must be printed so.
-fn prints(rt: &(impl Abort + AllocGlobal), records: &[Record], version: Version, want: &str) {
+fn prints(
+    rt: &(impl Abort + AllocGlobal),
+    records: &[Record],
+    version: Version,
+    want: &str,
+) -> Result<(), Fail> {
     let mut text = Vec::new(rt.alloc());
-    assert_eq!(rt; print_records(&mut text, records, version), Ok(()));
-    assert!(rt; text.as_slice() == want.as_bytes(), "{want}");
+    print_records(&mut text, records, version)?;
+    is_text(rt, &text, want);
+    Ok(())
 }
 
 #[test]
-fn prints_the_largest_numbers(rt: HostRuntime) {
+fn prints_the_largest_numbers(rt: HostRuntime) -> Result<(), Fail> {
     let lines = "1 0 1 1\n18446744073709551615 4294967295 4294967295 18446744073709551615\n";
-    prints(&rt, &[FIRST, LARGEST], Version::One, lines);
+    prints(&rt, &[FIRST, LARGEST], Version::One, lines)?;
     let lines =
         "twarp-records 2\n18446744073709551615 255 4294967295 4294967295 18446744073709551615\n";
-    prints(&rt, &[LARGEST], Version::Two, lines);
+    prints(&rt, &[LARGEST], Version::Two, lines)
 }
 
 /// What a writer does at one of its calls.
@@ -81,8 +90,9 @@ fn writes(rt: &(impl Abort + AllocGlobal), calls: [Call; 3], want: Result<(), Fa
         calls,
         at: 0,
     };
-    assert_eq!(rt; print_records(&mut writer, &[FIRST], Version::One), want);
-    assert!(rt; writer.taken.as_slice() == taken.as_bytes(), "{taken}");
+    let found = print_records(&mut writer, &[FIRST], Version::One);
+    holds(rt, found == want, taken);
+    is_text(rt, &writer.taken, taken);
 }
 
 /// Short writes are gone on after. A failed, an interrupted and an empty write are a fault.
@@ -98,32 +108,51 @@ fn writes_may_be_short_and_may_fail(rt: HostRuntime) {
     writes(&rt, [three, Call::Takes(0), Call::Takes(9)], failed, "1 0");
 }
 
-#[test]
-fn a_buffer_hands_on_what_has_no_room(rt: HostRuntime) {
-    let mut written = Vec::new(rt.alloc());
-    let mut text = TextBuffer::new();
-    text.push_number(12);
-    assert!(rt; text.has_room(TEXT_ROOM - 2) && !text.has_room(TEXT_ROOM - 1));
-    let long = [b'x'; TEXT_ROOM];
-    assert_eq!(rt; text.put_bytes(&mut written, &long), Ok(()));
-    assert_eq!(rt; written.len(), TEXT_ROOM + 2);
-    assert!(rt; written.starts_with(b"12x"));
-    assert_eq!(rt; text.put_bytes(&mut written, b"end"), Ok(()));
-    assert_eq!(rt; written.len(), TEXT_ROOM + 2);
-    assert_eq!(rt; text.flush(&mut written), Ok(()));
-    assert!(rt; written.ends_with(b"xend"));
+// These bytes are put into the buffer. Then so many must have been written.
+fn puts(
+    rt: &impl Abort,
+    text: &mut TextBuffer,
+    written: &mut Vec<u8>,
+    bytes: &[u8],
+    want: usize,
+) -> Result<(), Fail> {
+    text.put_bytes(written, bytes)?;
+    holds(rt, written.len() == want, "so many bytes are written");
+    Ok(())
 }
 
 #[test]
-fn writes_all_bytes(rt: HostRuntime) {
+fn a_buffer_hands_on_what_has_no_room(rt: HostRuntime) -> Result<(), Fail> {
     let mut written = Vec::new(rt.alloc());
-    assert_eq!(rt; write_bytes(&mut written, b"twarp"), Ok(()));
-    assert!(rt; written.as_slice() == b"twarp".as_slice());
+    let mut text = TextBuffer::new();
+    text.push_number(12);
+    let has_room = text.has_room(TEXT_ROOM - 2) && !text.has_room(TEXT_ROOM - 1);
+    holds(&rt, has_room, "room for all but two bytes");
+    puts(
+        &rt,
+        &mut text,
+        &mut written,
+        &[b'x'; TEXT_ROOM],
+        TEXT_ROOM + 2,
+    )?;
+    puts(&rt, &mut text, &mut written, b"end", TEXT_ROOM + 2)?;
+    text.flush(&mut written)?;
+    holds(&rt, written.starts_with(b"12x"), "12x begins it");
+    holds(&rt, written.ends_with(b"xend"), "xend ends it");
+    Ok(())
+}
+
+#[test]
+fn writes_all_bytes(rt: HostRuntime) -> Result<(), Fail> {
+    let mut written = Vec::new(rt.alloc());
+    write_bytes(&mut written, b"twarp")?;
+    is_text(&rt, &written, "twarp");
+    Ok(())
 }
 
 // This text must be read as this number, or as none.
 fn reads(rt: &impl Abort, text: &str, want: Option<u64>) {
-    assert_eq!(rt; read_number(text.as_bytes()), want, "at {text}");
+    holds(rt, read_number(text.as_bytes()) == want, text);
 }
 
 #[test]
