@@ -5,7 +5,7 @@
 
 ghost use Rattle.std.specs.Prelude.{◌==◌, nat_lt};
 
-use std::alloc::{AllocError, AllocGlobal};
+use std::alloc::{AllocError, AllocGlobal, Global};
 use std::cell::Cell;
 use std::io::Write;
 use std::mem::{self, size_of};
@@ -79,49 +79,88 @@ struct Shelf {
     drops: Rc<Cell<u64>>,
 }
 
-fn parcel<T: Drop>(rt: &impl AllocGlobal, item: T) -> Result<Parcel<T>, Fail> {
-    match Parcel::new(rt.alloc(), item) {
+fn parcel<T: Drop>(alloc: Global, item: T) -> Result<Parcel<T>, Fail> {
+    match Parcel::new(alloc, item) {
         Ok(parcel) => Ok(parcel),
         Err(_item) => Err(Fail::from(AllocError)),
     }
 }
 
-fn tell(text: &mut Vec<u8>, item: Option<&Item>) -> Result<(), Fail> {
-    match item {
-        Some(item) => write!(text, " {}", item.number)?,
-        None => write!(text, " none")?,
-    }
+fn tell_word(text: &mut Vec<u8>, word: &str) -> Result<(), Fail> {
+    write!(text, " {word}")?;
     Ok(())
+}
+
+fn tell_number(text: &mut Vec<u8>, number: usize) -> Result<(), Fail> {
+    write!(text, " {number}")?;
+    Ok(())
+}
+
+fn tell_bool(text: &mut Vec<u8>, is_so: bool) -> Result<(), Fail> {
+    tell_word(text, if is_so { "true" } else { "false" })
+}
+
+/// Tells the number of an item, or that there is none.
+fn tell_item(text: &mut Vec<u8>, item: Option<&Item>) -> Result<(), Fail> {
+    match item {
+        Some(item) => tell_number(text, item.number as usize),
+        None => tell_word(text, "none"),
+    }
 }
 
 /// Tells what was taken out, and drops it.
 fn tell_taken(text: &mut Vec<u8>, taken: Option<Parcel<Item>>) -> Result<(), Fail> {
     match taken {
-        Some(parcel) => tell(text, Some(parcel.get())),
-        None => tell(text, None),
+        Some(parcel) => tell_item(text, Some(parcel.get())),
+        None => tell_item(text, None),
     }
 }
 
 fn tell_all(text: &mut Vec<u8>, items: Iter<'_, Item>) -> Result<(), Fail> {
     for item in items {
-        tell(text, Some(item))?;
+        tell_item(text, Some(item))?;
     }
     Ok(())
 }
 
+fn tell_backwards(text: &mut Vec<u8>, list: &List<Item>) -> Result<(), Fail> {
+    for item in list.iter_back() {
+        tell_item(text, Some(item))?;
+    }
+    Ok(())
+}
+
+fn tell_row(text: &mut Vec<u8>, row: &Lines<Item>) -> Result<(), Fail> {
+    for items in row.iter() {
+        tell_word(text, ":")?;
+        tell_all(text, items)?;
+    }
+    Ok(())
+}
+
+/// The word at this place of a line, or an empty one.
+fn word_at<'t>(words: &[&'t str], at: usize) -> &'t str {
+    words.get(at).copied().unwrap_or("")
+}
+
+/// The number at the end of a line's words, or 0.
+fn number_of(words: &[&str]) -> u32 {
+    word_at(words, 2).parse::<u32>().unwrap_or(0)
+}
+
 impl Shelf {
-    fn new(rt: &impl AllocGlobal) -> Result<Shelf, Fail> {
+    fn new(alloc: Global) -> Result<Shelf, Fail> {
         Ok(Shelf {
-            list: List::new(rt.alloc()),
-            more: List::new(rt.alloc()),
-            line: Line::new(rt.alloc()),
-            row: Lines::new(rt.alloc()),
-            stack: Stack::new(rt.alloc()),
-            drops: Rc::new(rt.alloc(), Cell::new(0u64))?,
+            list: List::new(alloc),
+            more: List::new(alloc),
+            line: Line::new(alloc),
+            row: Lines::new(alloc),
+            stack: Stack::new(alloc),
+            drops: Rc::new(alloc, Cell::new(0u64))?,
         })
     }
 
-    fn item(&self, rt: &impl AllocGlobal, number: u32) -> Result<Parcel<Item>, Fail> {
+    fn item(&self, alloc: Global, number: u32) -> Result<Parcel<Item>, Fail> {
         let key = Key::new(When::tick(u64::from(number / 2)), 0, 0);
         let stamp = Stamp {
             worker: 0,
@@ -132,7 +171,7 @@ impl Shelf {
             rank: Rank { key, stamp },
             drops: self.drops.clone()?,
         };
-        parcel(rt, item)
+        parcel(alloc, item)
     }
 
     /// Puts an item in, and whether there is such a call.
@@ -181,7 +220,7 @@ impl Shelf {
     }
 
     /// Moves what comes first in one of them to another, or all of it. No item is dropped.
-    fn carry(&mut self, rt: &impl AllocGlobal, call: &str) -> bool {
+    fn carry(&mut self, alloc: Global, call: &str) -> bool {
         match call {
             "list.append_more" => self.list.append(&mut self.more),
             "more.append_list" => self.more.append(&mut self.list),
@@ -194,7 +233,7 @@ impl Shelf {
             "stack.to_list" => if let Some(item) = self.stack.pop() {
                 self.list.push_back(item);
             },
-            "line.to_row" => self.line_to_row(rt),
+            "line.to_row" => self.line_to_row(alloc),
             "row.to_line" => if let Some(line) = self.row.pop_line() {
                 self.line = line;
             },
@@ -203,82 +242,85 @@ impl Shelf {
         true
     }
 
-    fn line_to_row(&mut self, rt: &impl AllocGlobal) {
-        let line = mem::replace(&mut self.line, Line::new(rt.alloc()));
+    fn line_to_row(&mut self, alloc: Global) {
+        let line = mem::replace(&mut self.line, Line::new(alloc));
         if !line.is_empty() {
             self.row.push_line(line);
         }
     }
 
     /// Drops all that lies in one of them.
-    fn forget(&mut self, rt: &impl AllocGlobal, what: &str) -> bool {
+    fn forget(&mut self, alloc: Global, what: &str) -> bool {
         match what {
-            "list" => self.list = List::new(rt.alloc()),
-            "more" => self.more = List::new(rt.alloc()),
-            "line" => self.line = Line::new(rt.alloc()),
-            "row" => self.row = Lines::new(rt.alloc()),
-            "stack" => self.stack = Stack::new(rt.alloc()),
+            "list" => self.list = List::new(alloc),
+            "more" => self.more = List::new(alloc),
+            "line" => self.line = Line::new(alloc),
+            "row" => self.row = Lines::new(alloc),
+            "stack" => self.stack = Stack::new(alloc),
             _ => return false,
         }
         true
     }
 
-    fn tell(&self, text: &mut Vec<u8>, what: &str) -> Result<(), Fail> {
-        match what {
-            "list" => tell_all(text, self.list.iter())?,
-            "backwards" => for item in self.list.iter_back() {
-                tell(text, Some(item))?;
-            },
-            "line" => tell_all(text, self.line.iter())?,
-            "row" => for items in self.row.iter() {
-                write!(text, " :")?;
-                tell_all(text, items)?;
-            },
-            "lens" => {
-                let (list, more) = (self.list.len(), self.more.len());
-                write!(text, " {list} {more} {}", self.stack.len())?;
-            }
-            "empty" => {
-                let (list, line) = (self.list.is_empty(), self.line.is_empty());
-                write!(text, " {list} {line} {}", self.row.is_empty())?;
-            }
-            _ => write!(text, " {:x}", self.drops.get())?,
-        }
+    fn tell_lens(&self, text: &mut Vec<u8>) -> Result<(), Fail> {
+        tell_number(text, self.list.len())?;
+        tell_number(text, self.more.len())?;
+        tell_number(text, self.stack.len())
+    }
+
+    fn tell_empty(&self, text: &mut Vec<u8>) -> Result<(), Fail> {
+        tell_bool(text, self.list.is_empty())?;
+        tell_bool(text, self.line.is_empty())?;
+        tell_bool(text, self.row.is_empty())
+    }
+
+    fn tell_drops(&self, text: &mut Vec<u8>) -> Result<(), Fail> {
+        let drops = self.drops.get();
+        write!(text, " {drops:x}")?;
         Ok(())
     }
 
-    /// What the words of a line answer.
-    fn answer(&mut self, rt: &impl AllocGlobal, words: &[&str]) -> Result<Vec<u8>, Fail> {
-        let mut text = Vec::new(rt.alloc());
-        let call = words.get(1).copied().unwrap_or("");
-        let number = match words.get(2) {
-            Some(word) => word.parse::<u32>().unwrap_or(0),
-            None => 0,
-        };
-        let known = match words.first().copied().unwrap_or("") {
-            "put" => {
-                let item = self.item(rt, number)?;
-                self.put(call, item)
-            }
-            "carry" => self.carry(rt, call),
-            "forget" => self.forget(rt, call),
-            "take" => {
-                tell_taken(&mut text, self.take(call, number))?;
-                true
-            }
-            "look" => {
-                tell(&mut text, self.look(call, number))?;
-                true
-            }
-            _ => {
-                self.tell(&mut text, call)?;
-                true
-            }
-        };
-        if !known {
-            write!(text, " unknown")?;
+    fn tell(&self, text: &mut Vec<u8>, what: &str) -> Result<(), Fail> {
+        match what {
+            "list" => tell_all(text, self.list.iter()),
+            "backwards" => tell_backwards(text, &self.list),
+            "line" => tell_all(text, self.line.iter()),
+            "row" => tell_row(text, &self.row),
+            "lens" => self.tell_lens(text),
+            "empty" => self.tell_empty(text),
+            _ => self.tell_drops(text),
         }
-        Ok(text)
+    }
+
+    /// Changes what the words of a line say, and whether there is such a call.
+    fn change(&mut self, alloc: Global, words: &[&str]) -> Result<bool, Fail> {
+        let call = word_at(words, 1);
+        match word_at(words, 0) {
+            "put" => {
+                let item = self.item(alloc, number_of(words))?;
+                Ok(self.put(call, item))
+            }
+            "carry" => Ok(self.carry(alloc, call)),
+            "forget" => Ok(self.forget(alloc, call)),
+            _ => Ok(false),
+        }
+    }
+
+    /// Tells what the words of a line answer.
+    fn answer(&mut self, alloc: Global, words: &[&str], text: &mut Vec<u8>) -> Result<(), Fail> {
+        let call = word_at(words, 1);
+        match word_at(words, 0) {
+            "take" => tell_taken(text, self.take(call, number_of(words))),
+            "look" => tell_item(text, self.look(call, number_of(words))),
+            "tell" => self.tell(text, call),
+            _ => {
+                if self.change(alloc, words)? {
+                    Ok(())
+                } else {
+                    tell_word(text, "unknown")
+                }
+            }
+        }
     }
 }
 
@@ -286,23 +328,23 @@ impl Shelf {
 fn plays(rt: &(impl Abort + AllocGlobal), shelf: &mut Shelf, line: &str) -> Result<(), Fail> {
     let (call, want) = line.split_once(" =").unwrap_or((line, ""));
     let words: Vec<&str> = call.split_ascii_whitespace().collect(rt.alloc())?;
-    let answer = shelf.answer(rt, &words)?;
+    let mut answer = Vec::new(rt.alloc());
+    shelf.answer(rt.alloc(), &words, &mut answer)?;
     assert!(rt; answer.as_slice() == want.as_bytes(), "{line}");
     Ok(())
 }
 
 // A new shelf plays the lines of a text.
 fn scenario(rt: &(impl Abort + AllocGlobal), lines: &str) -> Result<(), Fail> {
-    let mut shelf = Shelf::new(rt)?;
+    let mut shelf = Shelf::new(rt.alloc())?;
     for line in lines.split('\n') {
         plays(rt, &mut shelf, line)?;
     }
     Ok(())
 }
 
-#[test]
-fn a_list_gives_and_takes_at_both_ends(rt: HostRuntime) -> Result<(), Fail> {
-    let lines = "\
+/// A list gives and takes at both ends.
+const BOTH_ENDS: &str = "\
 put list.push_back 1
 put list.push_back 2
 put list.push_front 0
@@ -321,12 +363,9 @@ look list.get 0 = none
 look list.front = none
 look list.back = none
 tell drops = 111";
-    scenario(&rt, lines)
-}
 
-#[test]
-fn an_appended_list_follows_in_order_and_is_empty_then(rt: HostRuntime) -> Result<(), Fail> {
-    let lines = "\
+/// An appended list follows in order, and is empty then.
+const APPENDED: &str = "\
 carry list.append_more
 put list.push_back 0
 put list.push_back 1
@@ -350,12 +389,9 @@ forget more
 tell drops = 100
 forget list
 tell drops = 1111";
-    scenario(&rt, lines)
-}
 
-#[test]
-fn an_item_of_equal_rank_goes_behind(rt: HostRuntime) -> Result<(), Fail> {
-    let lines = "\
+/// An item of equal rank goes behind.
+const EQUAL_RANK: &str = "\
 put list.insert 5
 put list.insert 0
 put list.insert 4
@@ -366,12 +402,9 @@ put line.insert 0
 put line.insert 4
 put line.insert 3
 tell line = 0 3 5 4";
-    scenario(&rt, lines)
-}
 
-#[test]
-fn the_first_that_passes_is_found_and_removed(rt: HostRuntime) -> Result<(), Fail> {
-    let lines = "\
+/// The first that passes is found and removed.
+const FIRST_THAT_PASSES: &str = "\
 put list.push_back 1
 put list.push_back 2
 put list.push_back 3
@@ -393,12 +426,9 @@ take line.remove_first 1 = 1
 tell line = 0 2
 look line.front = 0
 tell drops = 110";
-    scenario(&rt, lines)
-}
 
-#[test]
-fn items_go_from_a_list_to_a_line_to_a_stack_and_back(rt: HostRuntime) -> Result<(), Fail> {
-    let lines = "\
+/// Items go from a list to a line to a stack and back.
+const FROM_LIST_TO_STACK: &str = "\
 put list.push_back 0
 put list.push_back 1
 put list.push_back 2
@@ -427,12 +457,9 @@ forget stack
 tell drops = 11100
 forget list
 tell drops = 11111";
-    scenario(&rt, lines)
-}
 
-#[test]
-fn lines_stand_in_a_row(rt: HostRuntime) -> Result<(), Fail> {
-    let lines = "\
+/// Lines stand in a row.
+const ROW: &str = "\
 look row.front = none
 carry row.to_line
 put line.push_front 6
@@ -460,7 +487,20 @@ forget row
 tell drops = 1000110
 forget line
 tell drops = 1111110";
-    scenario(&rt, lines)
+
+#[test]
+fn lists_lines_and_stacks_do_what_the_texts_say(rt: HostRuntime) -> Result<(), Fail> {
+    for lines in [
+        BOTH_ENDS,
+        APPENDED,
+        EQUAL_RANK,
+        FIRST_THAT_PASSES,
+        FROM_LIST_TO_STACK,
+        ROW,
+    ] {
+        scenario(&rt, lines)?;
+    }
+    Ok(())
 }
 
 // Run with its allocation refused, as `rt try --test --fail-alloc 1` does, it takes the other arm.
@@ -469,50 +509,65 @@ fn a_refused_node_hands_its_item_back(rt: HostRuntime) {
     match Parcel::new(rt.alloc(), 7u32) {
         Ok(mut parcel) => {
             *parcel.get_mut() += 1;
-            assert_eq!(rt; *parcel.get(), 8);
-            assert_eq!(rt; parcel.into_value(), 8);
+            assert!(rt; parcel.into_value() == 8);
         }
-        Err(item) => assert_eq!(rt; item, 7),
+        Err(item) => assert!(rt; item == 7),
     }
 }
 
 // So 64 lists that are empty cost what one does.
 #[test]
 fn a_line_and_a_row_of_lines_are_one_word_each(rt: HostRuntime) {
-    assert_eq!(rt; size_of::<Line<u64>>(), 8);
-    assert_eq!(rt; size_of::<Lines<u64>>(), 8);
+    assert!(rt; size_of::<Line<u64>>() == 8 && size_of::<Lines<u64>>() == 8);
+}
+
+/// A line of so many numbers, the last one in front.
+fn line_of(alloc: Global, count: u32) -> Result<Line<u32>, Fail> {
+    let mut line = Line::new(alloc);
+    for number in 0..count {
+        line.push_front(parcel(alloc, number)?);
+    }
+    Ok(line)
+}
+
+/// A row of so many lines of ten numbers.
+fn row_of(alloc: Global, count: u32) -> Result<Lines<u32>, Fail> {
+    let mut row = Lines::new(alloc);
+    for _ in 0..count {
+        let line = line_of(alloc, 10)?;
+        if !line.is_empty() {
+            row.push_line(line);
+        }
+    }
+    Ok(row)
+}
+
+/// A list of so many numbers.
+fn list_of(alloc: Global, count: u32) -> Result<List<u32>, Fail> {
+    let mut list = List::new(alloc);
+    for number in 0..count {
+        list.push_back(parcel(alloc, number)?);
+    }
+    Ok(list)
+}
+
+/// A stack of so many numbers.
+fn stack_of(alloc: Global, count: u32) -> Result<Stack<u32>, Fail> {
+    let mut stack = Stack::new(alloc);
+    for number in 0..count {
+        stack.push(parcel(alloc, number)?);
+    }
+    Ok(stack)
 }
 
 // A drop by recursion would take many times the stack that a thread has.
 #[test]
 fn a_million_nodes_are_dropped_on_a_small_stack(rt: HostRuntime) -> Result<(), Fail> {
-    let mut list = List::new(rt.alloc());
-    let mut stack = Stack::new(rt.alloc());
-    for number in 0..1_000_000u32 {
-        list.push_back(parcel(&rt, number)?);
-        stack.push(parcel(&rt, number)?);
-    }
-    assert_eq!(rt; (list.len(), stack.len()), (1_000_000, 1_000_000));
-    Ok(())
-}
-
-#[test]
-fn a_million_nodes_of_lines_are_dropped_on_a_small_stack(rt: HostRuntime) -> Result<(), Fail> {
-    let mut row = Lines::new(rt.alloc());
-    for _ in 0..100_000u32 {
-        let mut line = Line::new(rt.alloc());
-        for number in 0..10u32 {
-            line.push_front(parcel(&rt, number)?);
-        }
-        if !line.is_empty() {
-            row.push_line(line);
-        }
-    }
-    let mut line = Line::new(rt.alloc());
-    for number in 0..1_000_000u32 {
-        line.push_front(parcel(&rt, number)?);
-    }
-    assert_eq!(rt; line.front().copied(), Some(999_999));
-    assert_eq!(rt; row.front().copied(), Some(9));
+    let list = list_of(rt.alloc(), 1_000_000)?;
+    let stack = stack_of(rt.alloc(), 1_000_000)?;
+    let line = line_of(rt.alloc(), 1_000_000)?;
+    let row = row_of(rt.alloc(), 100_000)?;
+    assert!(rt; list.len() == 1_000_000 && stack.len() == 1_000_000);
+    assert!(rt; line.front().copied() == Some(999_999) && row.front().copied() == Some(9));
     Ok(())
 }

@@ -1,10 +1,12 @@
 //! How drawn runs of PHOLD and of the closed network of stations end, after expected/models.py, a program of its own in another
 //! language. Their records stand in `examples/calls`.
 
-use std::alloc::AllocGlobal;
-use std::process::Abort;
-use std::rt::{self, HostRuntime};
+use crate::tests::sequential::{finals_of, opened, whole};
+use crate::tests::told::holds;
+use std::alloc::Global;
+use std::rt::HostRuntime;
 use std::test::Fail;
+use vt_key::Fault;
 use vt_model::{Config, Model as EventModel};
 use vt_models::{Phold, Stations};
 use vt_seq::Sequential;
@@ -12,40 +14,56 @@ use vt_seq::Sequential;
 // What is told of a process at the end: its final value, its send number and its place in its random words.
 type Ending = (u64, u64, u64);
 
-// A run of three processes must leave so many records, and these processes.
-fn ends_so<M: EventModel>(
-    rt: &(impl Abort + AllocGlobal),
-    model: &M,
-    records: usize,
-    endings: [Ending; 3],
-) -> Result<(), Fail> {
-    let config = Config::new(3, 1, 20, 258)?;
-    let mut run = Sequential::new(rt.alloc(), model, config)?;
-    assert_eq!(rt; run.run(rt.alloc())?.len(), records);
-    let finals = run.finals(rt.alloc())?;
-    for (lp, (value, ending)) in (0..3u32).zip(finals.iter().zip(&endings)) {
-        is_left(rt, &run, lp, *value, ending);
-    }
-    Ok(())
+fn is_left<M: EventModel>(run: &Sequential<'_, M>, lp: u32, value: u64, want: Ending) -> bool {
+    let (wanted, number, place) = want;
+    value == wanted && run.number(lp) == Some(number) && run.place(lp) == Some(place)
 }
 
-fn is_left<M: EventModel>(
-    rt: &impl Abort,
-    run: &Sequential<'_, M>,
-    lp: u32,
-    value: u64,
-    ending: &Ending,
-) {
-    let number = run.number(lp).expect(rt, "number");
-    let place = run.place(lp).expect(rt, "place");
-    assert_eq!(rt; (value, number, place), *ending);
+// Whether the processes are left so, with these final values.
+fn are_left<M: EventModel>(run: &Sequential<'_, M>, finals: &[u64], want: [Ending; 3]) -> bool {
+    let [first, second, third] = want;
+    match finals {
+        [a, b, c] => {
+            is_left(run, 0, *a, first) && is_left(run, 1, *b, second) && is_left(run, 2, *c, third)
+        }
+        _ => false,
+    }
+}
+
+// Whether a run ends with so many records, and leaves its processes so.
+fn is_ended<M: EventModel>(
+    alloc: Global,
+    run: &mut Sequential<'_, M>,
+    records: usize,
+    want: [Ending; 3],
+) -> Result<bool, Fault> {
+    let count = whole(alloc, run)?.len();
+    let finals = finals_of(alloc, run)?;
+    Ok(count == records && are_left(run, &finals, want))
+}
+
+// Whether a run of three processes does.
+fn ends_so<M: EventModel>(
+    alloc: Global,
+    model: &M,
+    records: usize,
+    want: [Ending; 3],
+) -> Result<bool, Fault> {
+    let config = Config::new(3, 1, 20, 258)?;
+    match opened(alloc, model, config) {
+        Ok(mut run) => is_ended(alloc, &mut run, records, want),
+        Err(fault) => Err(fault),
+    }
 }
 
 /// `expected/models.py phold 3 20 258 2 40 2 5`, and `stations 3 20 258 2 4 3`
 #[test]
 fn drawn_runs_end_as_those_of_another_program(rt: HostRuntime) -> Result<(), Fail> {
     let phold = Phold::new(2, 40, 2, 5)?;
-    ends_so(&rt, &phold, 26, [(7, 9, 18), (7, 9, 19), (12, 14, 27)])?;
+    let want = [(7, 9, 18), (7, 9, 19), (12, 14, 27)];
+    holds(&rt, ends_so(rt.alloc(), &phold, 26, want)?, "phold");
     let stations = Stations::new(2, 4, 3)?;
-    ends_so(&rt, &stations, 33, [(5, 10, 10), (5, 11, 11), (8, 16, 16)])
+    let want = [(5, 10, 10), (5, 11, 11), (8, 16, 16)];
+    holds(&rt, ends_so(rt.alloc(), &stations, 33, want)?, "stations");
+    Ok(())
 }

@@ -1,6 +1,7 @@
 //! Pending letters in the order of their ranks.
 
-use std::alloc::AllocError;
+use crate::tests::told::holds;
+use std::alloc::{AllocError, Global};
 use std::mem::size_of;
 use std::test::*;
 use vt_key::{Event, Key, Letter, Rank, Sign, Stamp, When};
@@ -17,30 +18,50 @@ fn rank(key: (u64, u32, u64), stamp: (u32, u64)) -> Rank {
     }
 }
 
-fn letter(rt: &HostRuntime, rank: Rank) -> Result<Parcel<Letter<u64>>, Fail> {
+fn letter(alloc: Global, rank: Rank) -> Result<Parcel<Letter<u64>>, Fail> {
     let event = Event {
         rank,
         dest: 0,
         payload: 0,
     };
     let sign = Sign::Plus;
-    match Parcel::new(rt.alloc(), Letter { event, sign }) {
+    match Parcel::new(alloc, Letter { event, sign }) {
         Ok(parcel) => Ok(parcel),
         Err(_letter) => Err(Fail::from(AllocError)),
     }
 }
 
-// A caller that doesn't know whether the rank is new asks first.
-fn put(queue: &mut Pending<u64>, letter: Parcel<Letter<u64>>) -> bool {
+// Puts a letter of this rank in. A caller that doesn't know whether the rank is new asks first.
+fn put(alloc: Global, queue: &mut Pending<u64>, rank: Rank) -> Result<bool, Fail> {
+    let letter = letter(alloc, rank)?;
     let is_new = !queue.holds(letter.get().event.rank);
     if is_new {
         queue.insert(letter);
     }
-    is_new
+    Ok(is_new)
 }
 
-fn taken(parcel: Option<Parcel<Letter<u64>>>) -> Option<Rank> {
-    parcel.map(|p| p.into_value().event.rank)
+// Whether this rank was taken.
+fn is_taken(parcel: Option<Parcel<Letter<u64>>>, want: Rank) -> bool {
+    match parcel {
+        Some(parcel) => parcel.into_value().event.rank == want,
+        None => false,
+    }
+}
+
+fn is_least(queue: &Pending<u64>, want: Rank) -> bool {
+    match queue.least() {
+        Some(letter) => letter.event.rank == want,
+        None => false,
+    }
+}
+
+fn is_taken_first(queue: &mut Pending<u64>, want: Rank) -> bool {
+    is_taken(queue.take_least(), want)
+}
+
+fn is_taken_by_stamp(queue: &mut Pending<u64>, want: Rank) -> bool {
+    is_taken(queue.take_stamp(want.stamp), want)
 }
 
 #[test]
@@ -50,19 +71,29 @@ fn letters_leave_by_stamp_and_by_rank(rt: HostRuntime) -> Result<(), Fail> {
     let third = rank((3, 1, 1), (1, 1));
     let mut queue = Pending::new(rt.alloc());
     for rank in [first, second, third] {
-        assert!(rt; put(&mut queue, letter(&rt, rank)?));
+        holds(&rt, put(rt.alloc(), &mut queue, rank)?, "a new rank");
     }
-    assert_eq!(rt; queue.len(), 3);
-    assert_eq!(rt; queue.least().map(|l| l.event.rank), Some(second));
-    assert_eq!(rt; taken(queue.take_stamp(third.stamp)), Some(third));
-    assert_eq!(rt; taken(queue.take_least()), Some(second));
-    assert_eq!(rt; taken(queue.take_least()), Some(first));
-    assert!(rt; queue.take_least().is_none());
-    assert!(rt; queue.is_empty());
+    holds(
+        &rt,
+        queue.len() == 3 && is_least(&queue, second),
+        "three letters",
+    );
+    holds(
+        &rt,
+        is_taken_by_stamp(&mut queue, third),
+        "the third by its stamp",
+    );
+    holds(&rt, is_taken_first(&mut queue, second), "the second");
+    holds(&rt, is_taken_first(&mut queue, first), "the first");
+    holds(
+        &rt,
+        queue.take_least().is_none() && queue.is_empty(),
+        "no more",
+    );
     Ok(())
 }
 
 #[test]
 fn a_queue_is_three_words(rt: HostRuntime) {
-    assert_eq!(rt; size_of::<Pending<u64>>(), 24);
+    holds(&rt, size_of::<Pending<u64>>() == 24, "24 bytes");
 }

@@ -1,85 +1,107 @@
 //! A run of the hop model that is read on its way. Whole runs stand in `examples/calls`.
 
-use crate::tests::told::are_told;
-use std::alloc::AllocGlobal;
+use crate::tests::told::{are_told, holds};
+use std::alloc::{AllocGlobal, Global};
 use std::process::Abort;
-use std::rt::{self, HostRuntime};
+use std::rt::HostRuntime;
 use std::test::Fail;
 use vt_key::{Fault, When};
-use vt_model::Config;
+use vt_model::{Config, Model as EventModel, Record};
 use vt_models::Hop;
 use vt_seq::Sequential;
 
-// A run of the model by so many processes, up to this tick.
-fn opened<'m>(
-    rt: &(impl Abort + AllocGlobal),
-    model: &'m Hop,
-    lps: u32,
-    end: u64,
-) -> Sequential<'m, Hop> {
-    let config = Config::new(lps, 1, end, 0).expect(rt, "config");
-    Sequential::new(rt.alloc(), model, config).expect(rt, "memory")
+// These calls say nothing: what is known of a run isn't carried from call to call.
+
+pub(crate) fn opened<M: EventModel>(
+    alloc: Global,
+    model: &M,
+    config: Config,
+) -> Result<Sequential<'_, M>, Fault> {
+    Sequential::new(alloc, model, config)
 }
 
-// The whole run must have exactly these records.
-fn runs(
-    rt: &(impl Abort + AllocGlobal),
-    run: &mut Sequential<'_, Hop>,
-    want: &str,
-) -> Result<(), Fail> {
-    let records = run.run(rt.alloc())?;
-    are_told(rt, &records, want)
+pub(crate) fn whole<M: EventModel>(
+    alloc: Global,
+    run: &mut Sequential<'_, M>,
+) -> Result<Vec<Record>, Fault> {
+    run.run(alloc)
+}
+
+pub(crate) fn finals_of<M: EventModel>(
+    alloc: Global,
+    run: &Sequential<'_, M>,
+) -> Result<Vec<u64>, Fault> {
+    run.finals(alloc)
+}
+
+fn below(alloc: Global, run: &Sequential<'_, Hop>, tick: u64) -> Result<Vec<Record>, Fault> {
+    run.records_below(alloc, When::tick(tick))
+}
+
+// Whether a step tells so whether there was an event to execute.
+fn steps(run: &mut Sequential<'_, Hop>, want: bool) -> bool {
+    match run.step() {
+        Ok(is_executed) => is_executed == want,
+        Err(_) => false,
+    }
+}
+
+// Whether the next sends of these processes, of which one isn't there, have these numbers.
+fn has_numbers(run: &Sequential<'_, Hop>) -> bool {
+    run.number(0) == Some(3) && run.number(2).is_none()
 }
 
 // These must be the records so far, of those before this time.
 fn shows_below(
     rt: &(impl Abort + AllocGlobal),
     run: &Sequential<'_, Hop>,
-    time: When,
+    tick: u64,
     want: &str,
 ) -> Result<(), Fail> {
-    let below = run.records_below(rt.alloc(), time)?;
-    are_told(rt, &below, want)
+    let records = below(rt.alloc(), run, tick)?;
+    are_told(rt, &records, want)
 }
 
-// The processes must have these final values.
-fn ends_with(rt: &(impl Abort + AllocGlobal), run: &Sequential<'_, Hop>, want: &[u64]) {
-    let finals = run.finals(rt.alloc()).expect(rt, "finals");
-    assert_eq!(rt; finals.as_slice(), want);
+// Three steps must each execute an event.
+fn takes_three(rt: &impl Abort, run: &mut Sequential<'_, Hop>) {
+    for _ in 0..3 {
+        holds(rt, steps(run, true), "a step");
+    }
 }
 
-fn has_no_finals(rt: &(impl Abort + AllocGlobal), run: &Sequential<'_, Hop>) {
-    assert!(rt; matches!(run.finals(rt.alloc()), Err(Fault::NotLawful)));
+fn is_read_on_its_way(
+    rt: &(impl Abort + AllocGlobal),
+    run: &Sequential<'_, Hop>,
+) -> Result<(), Fail> {
+    shows_below(rt, run, 3, "1 0 0 1 1\n2 0 1 1 2\n")?;
+    shows_below(rt, run, 10, "1 0 0 1 1\n2 0 1 1 2\n3 0 1 1 513\n")?;
+    let finals = finals_of(rt.alloc(), run);
+    holds(rt, matches!(finals, Err(Fault::NotLawful)), "no finals");
+    Ok(())
 }
 
-// A step must tell whether there was an event to execute.
-fn steps(rt: &impl Abort, run: &mut Sequential<'_, Hop>, want: bool) {
-    assert_eq!(rt; run.step(), Ok(want));
+fn is_read_at_its_end(
+    rt: &(impl Abort + AllocGlobal),
+    run: &mut Sequential<'_, Hop>,
+) -> Result<(), Fail> {
+    holds(rt, steps(run, false) && has_numbers(run), "no more steps");
+    let finals = finals_of(rt.alloc(), run)?;
+    holds(rt, finals.as_slice() == &[66049, 131330][..], "finals");
+    let all = "1 0 0 1 1\n2 0 1 1 2\n3 0 1 1 513\n4 0 0 1 258\n5 0 0 1 66049\n6 0 1 1 131330\n";
+    let records = whole(rt.alloc(), run)?;
+    are_told(rt, &records, all)
 }
 
-// The next send of the process must have this number.
-fn has_number(rt: &impl Abort, run: &Sequential<'_, Hop>, lp: u32, want: Option<u64>) {
-    assert_eq!(rt; run.number(lp), want);
+fn is_read(rt: &(impl Abort + AllocGlobal), run: &mut Sequential<'_, Hop>) -> Result<(), Fail> {
+    takes_three(rt, run);
+    is_read_on_its_way(rt, run)?;
+    takes_three(rt, run);
+    is_read_at_its_end(rt, run)
 }
 
 #[test]
 fn a_run_is_read_on_its_way(rt: HostRuntime) -> Result<(), Fail> {
-    let model = Hop::new(2, 1, 2, 0).expect(&rt, "options");
-    let mut run = opened(&rt, &model, 2, 10);
-    for _ in 0..3 {
-        steps(&rt, &mut run, true);
-    }
-    shows_below(&rt, &run, When::tick(3), "1 0 0 1 1\n2 0 1 1 2\n")?;
-    let all = "1 0 0 1 1\n2 0 1 1 2\n3 0 1 1 513\n";
-    shows_below(&rt, &run, When::tick(10), all)?;
-    has_no_finals(&rt, &run);
-    for _ in 3..6 {
-        steps(&rt, &mut run, true);
-    }
-    steps(&rt, &mut run, false);
-    has_number(&rt, &run, 0, Some(3));
-    has_number(&rt, &run, 2, None);
-    ends_with(&rt, &run, &[66049, 131330]);
-    let all = "1 0 0 1 1\n2 0 1 1 2\n3 0 1 1 513\n4 0 0 1 258\n5 0 0 1 66049\n6 0 1 1 131330\n";
-    runs(&rt, &mut run, all)
+    let model = Hop::new(2, 1, 2, 0)?;
+    let mut run = opened(rt.alloc(), &model, Config::new(2, 1, 10, 0)?)?;
+    is_read(&rt, &mut run)
 }
