@@ -59,13 +59,22 @@ pub(crate) fn try_calls<S: Subject>(
     Ok(())
 }
 
+fn tell_line(rt: &HostRuntime, name: &str, what: &str) -> io::Result<()> {
+    println!(rt; "{name} {what}")
+}
+
 /// Tells that a call was refused for memory, and whether all was as before.
 pub(crate) fn tell_refused(rt: &HostRuntime, name: &str, is_kept: bool) -> io::Result<()> {
-    if is_kept {
-        println!(rt; "{name} refused and kept")
+    let what = if is_kept {
+        "refused and kept"
     } else {
-        println!(rt; "{name} refused and CHANGED")
-    }
+        "refused and CHANGED"
+    };
+    tell_line(rt, name, what)
+}
+
+fn tell_fault(rt: &HostRuntime, name: &str, number: u32) -> io::Result<()> {
+    println!(rt; "{name} refused {number}")
 }
 
 /// Tells what a call was answered.
@@ -75,8 +84,16 @@ pub(crate) fn tell_answer(
     answer: Result<(), Fault>,
 ) -> io::Result<()> {
     match answer {
-        Ok(()) => println!(rt; "{name} ok"),
-        Err(fault) => println!(rt; "{name} refused {}", fault.number()),
+        Ok(()) => tell_line(rt, name, "ok"),
+        Err(fault) => tell_fault(rt, name, fault.number()),
+    }
+}
+
+/// What a call was answered, without what it gave.
+pub(crate) fn answer_of<T: Drop>(given: Result<T, Fault>) -> Result<(), Fault> {
+    match given {
+        Ok(_) => Ok(()),
+        Err(fault) => Err(fault),
     }
 }
 
@@ -102,11 +119,14 @@ pub(crate) fn tell_made<T: Drop>(
 pub(crate) fn sum_of_records(records: &[Record]) -> u64 {
     let mut sum = 1u64;
     for record in records {
-        sum = mixed(sum, time_told(record.when()));
-        sum = mixed(sum, record.lp as u64);
-        sum = mixed(sum, record.value);
+        sum = mixed(sum, record_told(record));
     }
     sum
+}
+
+fn record_told(record: &Record) -> u64 {
+    let sum = mixed(time_told(record.when()), u64::from(record.lp));
+    mixed(sum, record.value)
 }
 
 /// A number for a list of events.

@@ -1,13 +1,13 @@
 //! The sequential simulator.
 
 use crate::calls::{
-    NONE, Subject, Told, counted, is_refused, mixed, sum_of_numbers, sum_of_records, tell_answer,
-    tell_made, tell_refused, try_calls,
+    NONE, Subject, Told, answer_of, counted, is_refused, mixed, sum_of_numbers, sum_of_records,
+    tell_answer, tell_made, tell_refused, try_calls,
 };
 use std::alloc::Global;
 use std::io;
 use vt_key::{Fault, When};
-use vt_model::Config;
+use vt_model::{Config, Record};
 use vt_models::Hop;
 use vt_seq::Sequential;
 
@@ -49,19 +49,41 @@ impl<'m> Run<'m> {
         mixed(number, self.run.place(p).unwrap_or(NONE))
     }
 
+    fn records(&self, alloc: Global) -> Result<Vec<Record>, Fault> {
+        self.run.records_below(alloc, When::tick(10))
+    }
+
+    fn finals(&self, alloc: Global) -> Result<Vec<u64>, Fault> {
+        self.run.finals(alloc)
+    }
+
     fn records_told(&self, alloc: Global) -> Option<u64> {
-        match self.run.records_below(alloc, When::tick(10)) {
+        match self.records(alloc) {
             Ok(records) => Some(sum_of_records(&records)),
             Err(_) => None,
         }
     }
 
+    fn records_or_again(&self, alloc: Global) -> u64 {
+        match self.records_told(alloc) {
+            Some(records) => records,
+            None => self.records_told(alloc).unwrap_or(NONE),
+        }
+    }
+
     // No process has an end while an event is pending.
     fn finals_told(&self, alloc: Global) -> Option<u64> {
-        match self.run.finals(alloc) {
+        match self.finals(alloc) {
             Ok(finals) => Some(sum_of_numbers(&finals)),
             Err(Fault::NotLawful) => Some(0),
             Err(_) => None,
+        }
+    }
+
+    fn finals_or_again(&self, alloc: Global) -> u64 {
+        match self.finals_told(alloc) {
+            Some(finals) => finals,
+            None => self.finals_told(alloc).unwrap_or(NONE),
         }
     }
 }
@@ -78,28 +100,20 @@ impl<'m> Subject for Run<'m> {
     }
 
     fn told(&mut self, alloc: Global) -> Told {
-        let records = match self.records_told(alloc) {
-            Some(records) => records,
-            None => self.records_told(alloc).unwrap_or(NONE),
-        };
-        let finals = match self.finals_told(alloc) {
-            Some(finals) => finals,
-            None => self.finals_told(alloc).unwrap_or(NONE),
-        };
         [
             self.process_told(0),
             self.process_told(1),
-            records,
-            finals,
+            self.records_or_again(alloc),
+            self.finals_or_again(alloc),
             0,
         ]
     }
 
     fn make(&mut self, alloc: Global, call: Call) -> Result<(), Fault> {
         match call {
-            Call::Step => self.step().map(|_| ()),
-            Call::RecordsBelow => self.run.records_below(alloc, When::tick(10)).map(|_| ()),
-            Call::Finals => self.run.finals(alloc).map(|_| ()),
+            Call::Step => answer_of(self.step()),
+            Call::RecordsBelow => answer_of(self.records(alloc)),
+            Call::Finals => answer_of(self.finals(alloc)),
         }
     }
 }
@@ -116,26 +130,28 @@ fn opened<'m>(rt: &HostRuntime, model: &'m Hop, config: Config) -> io::Result<Op
 }
 
 // Whether a run tells this after some steps, up to a hundred.
-fn is_on_the_way(alloc: Global, model: &Hop, config: Config, wanted: Told) -> bool {
-    let Ok(mut twin) = Run::new(alloc, model, config) else {
-        return false;
-    };
+fn comes_to(alloc: Global, run: &mut Run<'_>, wanted: Told) -> bool {
     for _ in 0..100 {
-        if twin.told(alloc) == wanted {
+        if run.told(alloc) == wanted {
             return true;
         }
-        if !twin.step().unwrap_or(false) {
+        if !matches!(run.step(), Ok(true)) {
             return false;
         }
     }
     false
 }
 
+// Whether another run of the model, step by step, comes to tell this.
+fn is_on_the_way(alloc: Global, model: &Hop, config: Config, wanted: Told) -> bool {
+    match Run::new(alloc, model, config) {
+        Ok(mut twin) => comes_to(alloc, &mut twin, wanted),
+        Err(_) => false,
+    }
+}
+
 // A whole run. Where it is refused, the steps before are kept: another run, step by step, comes there.
-fn whole(rt: &HostRuntime, model: &Hop, config: Config) -> io::Result<()> {
-    let Some(mut run) = opened(rt, model, config)? else {
-        return Ok(());
-    };
+fn try_whole(rt: &HostRuntime, run: &mut Run<'_>, model: &Hop, config: Config) -> io::Result<()> {
     let mut answer = run.whole(rt.alloc(), 6);
     if is_refused(&answer) {
         let now = run.told(rt.alloc());
@@ -144,6 +160,13 @@ fn whole(rt: &HostRuntime, model: &Hop, config: Config) -> io::Result<()> {
         answer = run.whole(rt.alloc(), 6);
     }
     tell_answer(rt, "Sequential::run", answer)
+}
+
+fn whole(rt: &HostRuntime, model: &Hop, config: Config) -> io::Result<()> {
+    match opened(rt, model, config)? {
+        Some(mut run) => try_whole(rt, &mut run, model, config),
+        None => Ok(()),
+    }
 }
 
 const CALLS: [Call; 9] = [

@@ -1,25 +1,58 @@
 //! A station, whose places are driven by hand from one thread.
 
+ghost use Rattle.std.specs.Prelude.{◌≡◌, ◌<◌, length};
+ghost use Rattle.vt_model.specs.Simulation.{simulation_of};
+ghost use Rattle.vt_places.specs.Told.{station_model, station_config, station_table};
+ghost use Rattle.vt_places.specs.Making.{AreNew, IsNew};
+
 use crate::calls::{
-    NONE, Subject, Told, is_refused, sum_of_numbers, sum_of_records, tell_answer, tell_refused,
-    time_told, try_call,
+    NONE, Subject, Told, answer_of, is_refused, sum_of_numbers, sum_of_records, tell_answer,
+    tell_refused, time_told, try_call,
 };
 use crate::world::{AHEAD, COMMITS};
 use std::alloc::Global;
 use std::io;
 use vt_kernel::Kernel;
 use vt_key::{Colour, Fault};
-use vt_model::Config;
+use vt_model::{Config, Model as EventModel, Record};
 use vt_models::Hop;
-use vt_station::{Station, Worker};
-use vt_station_rows::workers_at;
+use vt_places::{Place, Station, Worker};
 use vt_steps::Step;
 
 // Worker 0 with process 0, and worker 1 with process 1.
 #[derive(Drop)]
 struct Crew<'a> {
-    first: Worker<'a, Hop>,
-    second: Worker<'a, Hop>,
+    workers: Vec<Worker<'a, Hop>>,
+}
+
+impl<'a> Crew<'a> {
+    fn kernel_told(&self, w: u32) -> u64 {
+        match self.workers.get(w as usize) {
+            Some(worker) => kernel_told(worker.kernel(), w),
+            None => NONE,
+        }
+    }
+
+    fn records_told(&mut self, w: usize) -> u64 {
+        match self.workers.get_mut(w) {
+            Some(worker) => records_or_again(worker),
+            None => NONE,
+        }
+    }
+
+    fn step(&mut self, step: Step) -> Result<(), Fault> {
+        match self.workers.get_mut(worker_of(step) as usize) {
+            Some(worker) => make(worker, step),
+            None => Err(Fault::NotLawful),
+        }
+    }
+
+    fn records(&mut self) -> Result<(), Fault> {
+        match self.workers.get_mut(0) {
+            Some(worker) => answer_of(records(worker)),
+            None => Err(Fault::NotLawful),
+        }
+    }
 }
 
 // The mail that a worker has, sent and got.
@@ -81,8 +114,12 @@ fn kernel_told(kernel: &Kernel<Hop>, p: u32) -> u64 {
     ])
 }
 
+fn records(worker: &mut Worker<'_, Hop>) -> Result<Vec<Record>, Fault> {
+    worker.records()
+}
+
 fn records_told(worker: &mut Worker<'_, Hop>) -> Option<u64> {
-    match worker.records() {
+    match records(worker) {
         Ok(records) => Some(sum_of_records(&records)),
         Err(_) => None,
     }
@@ -96,22 +133,44 @@ fn records_or_again(worker: &mut Worker<'_, Hop>) -> u64 {
     }
 }
 
-fn make(worker: &mut Worker<'_, Hop>, step: Step) -> Result<(), Fault> {
+// Makes a step at the worker's own processes.
+fn make_local(worker: &mut Worker<'_, Hop>, step: Step) -> Result<(), Fault> {
     match step {
         Step::Execute(lp) => worker.execute(lp),
         Step::Undo(lp) => worker.undo(lp),
         Step::Cancel(lp, stamp) => worker.cancel(lp, stamp),
         Step::Home(_) => worker.home(),
         Step::Accept(_, i) => worker.accept(i),
+        _ => Err(Fault::NotLawful),
+    }
+}
+
+// Makes a step at what the workers share.
+fn make_shared(worker: &mut Worker<'_, Hop>, step: Step) -> Result<(), Fault> {
+    match step {
         Step::Send(_, v) => worker.post(v),
         Step::Fetch(_) => worker.fetch(),
         Step::Cut(_) => worker.cut(),
-        Step::Report(_) => match worker.report() {
-            Ok(_) => Ok(()),
-            Err(fault) => Err(fault),
-        },
         Step::Commit(_) => worker.commit(),
         Step::Close => worker.close(),
+        _ => Err(Fault::NotLawful),
+    }
+}
+
+fn report(worker: &mut Worker<'_, Hop>) -> Result<(), Fault> {
+    match worker.report() {
+        Ok(_) => Ok(()),
+        Err(fault) => Err(fault),
+    }
+}
+
+fn make(worker: &mut Worker<'_, Hop>, step: Step) -> Result<(), Fault> {
+    match step {
+        Step::Report(_) => report(worker),
+        Step::Send(_, _) | Step::Fetch(_) | Step::Cut(_) | Step::Commit(_) | Step::Close => {
+            make_shared(worker, step)
+        }
+        _ => make_local(worker, step),
     }
 }
 
@@ -155,19 +214,18 @@ impl<'a> Subject for Crew<'a> {
 
     fn told(&mut self, _alloc: Global) -> Told {
         [
-            kernel_told(self.first.kernel(), 0),
-            kernel_told(self.second.kernel(), 1),
-            records_or_again(&mut self.first),
-            records_or_again(&mut self.second),
+            self.kernel_told(0),
+            self.kernel_told(1),
+            self.records_told(0),
+            self.records_told(1),
             0,
         ]
     }
 
     fn make(&mut self, _alloc: Global, call: Call) -> Result<(), Fault> {
         match call {
-            Call::Step(step) if worker_of(step) == 0 => make(&mut self.first, step),
-            Call::Step(step) => make(&mut self.second, step),
-            Call::Records => self.first.records().map(|_| ()),
+            Call::Step(step) => self.step(step),
+            Call::Records => self.records(),
         }
     }
 }
@@ -183,16 +241,58 @@ fn try_steps(rt: &HostRuntime, crew: &mut Crew<'_>, steps: &[Step]) -> io::Resul
 
 const CREW: &str = "Station::new and Worker::new";
 
-// Two workers are driven to the end.
-fn drive(rt: &HostRuntime, workers: Vec<Worker<'_, Hop>>) -> io::Result<()> {
-    let mut workers = workers;
-    let (Some(second), Some(first)) = (workers.pop(), workers.pop()) else {
-        return tell_answer(rt, CREW, Err(Fault::NotLawful));
-    };
+// The workers are driven to the end.
+fn drive(rt: &HostRuntime, crew: &mut Crew<'_>) -> io::Result<()> {
     tell_answer(rt, CREW, Ok(()))?;
-    let mut crew = Crew { first, second };
-    try_steps(rt, &mut crew, &AHEAD)?;
-    try_steps(rt, &mut crew, &COMMITS)
+    try_steps(rt, crew, &AHEAD)?;
+    try_steps(rt, crew, &COMMITS)
+}
+
+// Adds worker `w`, at its place.
+fn add<'a, M: EventModel>(
+    alloc: Global,
+    station: &'a Station<M>,
+    model: &'a M,
+    config: Config,
+    w: u32,
+    place: Place<M::Payload>,
+    workers: &mut Vec<Worker<'a, M>>,
+) -> Result<(), Fault>
+    requires known { w < config.workers }
+    requires told { (station_model station.now ≡ model.now) × (station_config station.now ≡ config) }
+    requires place { IsNew (simulation_of (M.handlers model.now) config) (station_table station.now) w place }
+{
+    match Worker::new(alloc, station, model, config, w, place) {
+        Ok(worker) => match workers.push(worker) {
+            Ok(()) => Ok(()),
+            Err(_) => Err(Fault::Memory),
+        },
+        Err(not_made) => Err(not_made.fault),
+    }
+}
+
+// The workers of a station's two places, in order.
+fn workers_of<'a, M: EventModel>(
+    alloc: Global,
+    station: &'a Station<M>,
+    model: &'a M,
+    config: Config,
+    places: Vec<Place<M::Payload>>,
+) -> Result<Vec<Worker<'a, M>>, Fault>
+    requires told { (station_model station.now ≡ model.now) × (station_config station.now ≡ config) }
+    requires count { length places.items ≡ config.workers }
+    requires places { AreNew (simulation_of (M.handlers model.now) config) (station_table station.now) 0 places.items }
+{
+    let mut places = places;
+    if places.len() != 2 {
+        return Err(Fault::NotLawful);
+    }
+    let first = places.remove(0);
+    let second = places.remove(0);
+    let mut workers = Vec::new(alloc);
+    add(alloc, station, model, config, 0, first, &mut workers)?;
+    add(alloc, station, model, config, 1, second, &mut workers)?;
+    Ok(workers)
 }
 
 // A station whose workers are driven; or why they weren't made.
@@ -201,8 +301,8 @@ fn opened(rt: &HostRuntime, model: &Hop, config: Config) -> io::Result<Result<()
         Ok(made) => made,
         Err(fault) => return Ok(Err(fault)),
     };
-    match workers_at(rt.alloc(), &station, model, config, places) {
-        Ok(workers) => Ok(Ok(drive(rt, workers)?)),
+    match workers_of(rt.alloc(), &station, model, config, places) {
+        Ok(workers) => Ok(Ok(drive(rt, &mut Crew { workers })?)),
         Err(fault) => Ok(Err(fault)),
     }
 }

@@ -1,14 +1,14 @@
 //! A world of two processes on two workers.
 
 use crate::calls::{
-    NONE, Subject, Told, is_refused, mixed, sum_of_events, sum_of_numbers, sum_of_records,
+    NONE, Subject, Told, answer_of, is_refused, sum_of_events, sum_of_numbers, sum_of_records,
     tell_answer, tell_made, tell_refused, time_told, try_calls,
 };
 use std::alloc::Global;
 use std::io;
-use vt_key::{Fault, Stamp};
+use vt_key::{Event, Fault, Stamp};
 use vt_model::Config;
-use vt_models::Hop;
+use vt_models::{Hop, Token};
 use vt_steps::Step;
 use vt_world::{Stop, World};
 
@@ -38,18 +38,40 @@ impl<'m> Drive<'m> {
     }
 
     fn times_told(&self) -> u64 {
-        let times = mixed(
+        sum_of_numbers(&[
             time_told(self.world.announced()),
             time_told(self.world.floor()),
-        );
-        let times = mixed(times, time_told(self.world.least()));
-        mixed(times, self.world.is_closed() as u64)
+            time_told(self.world.least()),
+            self.world.is_closed() as u64,
+        ])
+    }
+
+    fn step(&mut self, alloc: Global, step: &Step) -> Result<(), Fault> {
+        match self.world.step(alloc, step) {
+            Ok(_) => Ok(()),
+            Err(fault) => Err(fault),
+        }
+    }
+
+    fn past(&self, alloc: Global, lp: u32) -> Result<Vec<Event<Token>>, Fault> {
+        self.world.past(alloc, lp)
+    }
+
+    fn finals(&self, alloc: Global) -> Result<Vec<u64>, Fault> {
+        self.world.finals(alloc)
     }
 
     fn past_told(&self, alloc: Global, lp: u32) -> Option<u64> {
-        match self.world.past(alloc, lp) {
+        match self.past(alloc, lp) {
             Ok(past) => Some(sum_of_events(&past)),
             Err(_) => None,
+        }
+    }
+
+    fn past_or_again(&self, alloc: Global, lp: u32) -> u64 {
+        match self.past_told(alloc, lp) {
+            Some(past) => past,
+            None => self.past_told(alloc, lp).unwrap_or(NONE),
         }
     }
 
@@ -60,19 +82,26 @@ impl<'m> Drive<'m> {
         }
     }
 
+    fn records_or_again(&self, alloc: Global) -> u64 {
+        match self.records_told(alloc) {
+            Some(records) => records,
+            None => self.records_told(alloc).unwrap_or(NONE),
+        }
+    }
+
     // No process has an end before the book is closed.
     fn finals_told(&self, alloc: Global) -> Option<u64> {
-        match self.world.finals(alloc) {
+        match self.finals(alloc) {
             Ok(finals) => Some(sum_of_numbers(&finals)),
             Err(Fault::NotLawful) => Some(0),
             Err(_) => None,
         }
     }
 
-    fn past_or_again(&self, alloc: Global, lp: u32) -> u64 {
-        match self.past_told(alloc, lp) {
-            Some(past) => past,
-            None => self.past_told(alloc, lp).unwrap_or(NONE),
+    fn finals_or_again(&self, alloc: Global) -> u64 {
+        match self.finals_told(alloc) {
+            Some(finals) => finals,
+            None => self.finals_told(alloc).unwrap_or(NONE),
         }
     }
 }
@@ -89,31 +118,20 @@ impl<'m> Subject for Drive<'m> {
     }
 
     fn told(&mut self, alloc: Global) -> Told {
-        let records = match self.records_told(alloc) {
-            Some(records) => records,
-            None => self.records_told(alloc).unwrap_or(NONE),
-        };
-        let finals = match self.finals_told(alloc) {
-            Some(finals) => finals,
-            None => self.finals_told(alloc).unwrap_or(NONE),
-        };
         [
             self.times_told(),
             self.past_or_again(alloc, 0),
             self.past_or_again(alloc, 1),
-            records,
-            finals,
+            self.records_or_again(alloc),
+            self.finals_or_again(alloc),
         ]
     }
 
     fn make(&mut self, alloc: Global, call: Call) -> Result<(), Fault> {
         match call {
-            Call::Step(step) => match self.world.step(alloc, &step) {
-                Ok(_) => Ok(()),
-                Err(fault) => Err(fault),
-            },
-            Call::Past => self.world.past(alloc, 0).map(|_| ()),
-            Call::Finals => self.world.finals(alloc).map(|_| ()),
+            Call::Step(step) => self.step(alloc, &step),
+            Call::Past => answer_of(self.past(alloc, 0)),
+            Call::Finals => answer_of(self.finals(alloc)),
         }
     }
 }
@@ -131,10 +149,10 @@ fn opened<'m>(rt: &HostRuntime, model: &'m Hop, config: Config) -> io::Result<Op
 
 // Whether a new world that does these steps tells this.
 fn is_after(alloc: Global, model: &Hop, config: Config, steps: &[Step], wanted: Told) -> bool {
-    let Ok(mut twin) = Drive::new(alloc, model, config) else {
-        return false;
-    };
-    matches!(twin.run(alloc, steps), Ok(0)) && twin.told(alloc) == wanted
+    match Drive::new(alloc, model, config) {
+        Ok(mut twin) => matches!(twin.run(alloc, steps), Ok(0)) && twin.told(alloc) == wanted,
+        Err(_) => false,
+    }
 }
 
 // How many steps of a list were done where it stopped for memory.
