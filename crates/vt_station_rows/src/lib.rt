@@ -10,6 +10,5 @@ mod hand;
 mod refusals;
 #[cfg(test)]
 mod replay;
+#[cfg(test)]
 mod workers;
-
-pub use workers::workers_at;

@@ -1,15 +1,14 @@
 //! Whole runs at a station.
 
 use crate::driving::{Crew, all_records, record};
-use crate::hand::Hand;
-use crate::workers_at;
+use crate::workers::workers_at;
 use std::process::Abort;
 use std::rt::HostRuntime;
 use vt_board::Report;
 use vt_key::{Fault, When};
 use vt_model::Config;
 use vt_models::Hop;
-use vt_station::Station;
+use vt_places::Station;
 use vt_steps::Step;
 
 #[test]
@@ -18,23 +17,23 @@ fn a_straggler_is_rolled_back_and_all_is_committed(rt: HostRuntime) {
     let config = Config::new(2, 2, 10, 0).expect(&rt, "config");
     let (station, places) = Station::new(rt.alloc(), &model, config).expect(&rt, "memory");
     let workers = workers_at(rt.alloc(), &station, &model, config, places).expect(&rt, "memory");
-    commits_all(&rt, &mut Crew::of(&rt, workers));
+    commits_all(&rt, &mut Crew { workers });
 }
 
 fn commits_all(rt: &impl Abort, crew: &mut Crew<'_>) {
     crew.run_ahead(rt);
-    crew.second.shows(rt, 1, 2);
+    crew.shows(rt, 1, 1, 2);
     crew.roll_back(rt);
-    crew.second.shows(rt, 1, 258);
-    crew.first.shows(rt, 0, 258);
-    crew.first.does(rt, Step::Cut(0));
+    crew.shows(rt, 1, 1, 258);
+    crew.shows(rt, 0, 0, 258);
+    crew.does(rt, 0, Step::Cut(0));
     crew.agree(rt);
     crew.commit_all(rt);
-    crew.first.refuses(rt, Step::Commit(0), Fault::Closed);
+    crew.refuses(rt, 0, Step::Commit(0), Fault::Closed);
     crew.read(rt, &all_records());
-    crew.second.refuses(rt, Step::Commit(1), Fault::Closed);
-    crew.second.refuses(rt, Step::Close, Fault::Closed);
-    crew.first.reads(rt, &all_records());
+    crew.refuses(rt, 1, Step::Commit(1), Fault::Closed);
+    crew.refuses(rt, 1, Step::Close, Fault::Closed);
+    crew.reads(rt, 0, &all_records());
 }
 
 #[test]
@@ -42,23 +41,20 @@ fn one_worker_alone(rt: HostRuntime) {
     let model = Hop::new(0, 1, 2, 0).expect(&rt, "options");
     let config = Config::new(1, 1, 2, 0).expect(&rt, "config");
     let (station, places) = Station::new(rt.alloc(), &model, config).expect(&rt, "memory");
-    let mut workers = workers_at(rt.alloc(), &station, &model, config, places).expect(
-        &rt, "memory",
-    );
-    let worker = workers.pop().expect(&rt, "a worker");
-    runs_alone(&rt, &mut Hand::of(worker));
+    let workers = workers_at(rt.alloc(), &station, &model, config, places).expect(&rt, "memory");
+    runs_alone(&rt, &mut Crew { workers });
 }
 
-fn runs_alone(rt: &impl Abort, worker: &mut Hand<'_>) {
-    worker.reads(rt, &[]);
-    worker.does(rt, Step::Home(0));
-    worker.does(rt, Step::Execute(0));
-    worker.does(rt, Step::Cut(0));
-    worker.reports(rt, &Ok(Report::Announced(When::tick(2))));
-    worker.refuses(rt, Step::Close, Fault::NotLawful);
-    worker.reads(rt, &[]);
-    worker.does(rt, Step::Commit(0));
-    worker.reads(rt, &[record(1, 0, 1)]);
-    worker.does(rt, Step::Close);
-    worker.reads(rt, &[record(1, 0, 1)]);
+fn runs_alone(rt: &impl Abort, crew: &mut Crew<'_>) {
+    crew.reads(rt, 0, &[]);
+    crew.does(rt, 0, Step::Home(0));
+    crew.does(rt, 0, Step::Execute(0));
+    crew.does(rt, 0, Step::Cut(0));
+    crew.reports(rt, 0, &Ok(Report::Announced(When::tick(2))));
+    crew.refuses(rt, 0, Step::Close, Fault::NotLawful);
+    crew.reads(rt, 0, &[]);
+    crew.does(rt, 0, Step::Commit(0));
+    crew.reads(rt, 0, &[record(1, 0, 1)]);
+    crew.does(rt, 0, Step::Close);
+    crew.reads(rt, 0, &[record(1, 0, 1)]);
 }

@@ -9,7 +9,7 @@ ghost use Rattle.vt_places.specs.Making.{AreNew};
 use std::alloc::Global;
 use vt_key::Fault;
 use vt_model::{Config, Model as EventModel};
-use vt_station::{Place, Station, Worker};
+use vt_places::{Place, Station, Worker};
 
 /// A worker at each of these places, which the station made for all of its workers, in order.
 ///
