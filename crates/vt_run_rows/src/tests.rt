@@ -4,4 +4,5 @@ mod calls;
 mod finals;
 mod lines;
 mod running;
+mod told;
 mod watching;

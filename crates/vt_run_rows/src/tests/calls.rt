@@ -1,9 +1,10 @@
 //! How often a world calls its model's handlers.
 
+use crate::tests::told::holds;
 use std::alloc::AllocGlobal;
 use std::cell::Cell;
 use std::process::Abort;
-use std::rt::{self, HostRuntime};
+use std::rt::HostRuntime;
 use std::test::Fail;
 use vt_key::When;
 use vt_model::{Bits, Config, Draws, Model as EventModel, Out};
@@ -97,16 +98,47 @@ impl<M: EventModel> EventModel for Counting<M> {
 }
 
 // These steps must be taken, and so many of them refused. Then the handlers have been called so often.
-fn takes<M: EventModel>(
+fn takes(
     rt: &(impl Abort + AllocGlobal),
-    world: &mut World<'_, Counting<M>>,
-    model: &Counting<M>,
+    world: &mut World<'_, Counting<Hop>>,
+    model: &Counting<Hop>,
     steps: &[Step],
     refused: u64,
     want: (u32, u32),
 ) {
-    assert!(rt; world.run(rt.alloc(), steps) == Ok(refused));
-    assert_eq!(rt; model.calls(), want);
+    let is_taken = matches!(world.run(rt.alloc(), steps), Ok(found) if found == refused);
+    holds(rt, is_taken && model.calls() == want, "steps and calls");
+}
+
+// Both processes execute their tokens.
+const AHEAD: [Step; 4] = [
+    Step::Home(0),
+    Step::Home(1),
+    Step::Execute(1),
+    Step::Execute(0),
+];
+
+// The second one is overtaken. Nothing was to be undone before.
+const STRAGGLER: [Step; 4] = [
+    Step::Undo(1),
+    Step::Send(0, 1),
+    Step::Fetch(1),
+    Step::Accept(1, 0),
+];
+
+const UNDONE: [Step; 2] = [Step::Undo(1), Step::Undo(1)];
+
+const AGAIN: [Step; 3] = [Step::Execute(1), Step::Execute(1), Step::Execute(1)];
+
+fn overtakes(
+    rt: &(impl Abort + AllocGlobal),
+    world: &mut World<'_, Counting<Hop>>,
+    model: &Counting<Hop>,
+) {
+    takes(rt, world, model, &AHEAD, 0, (2, 0));
+    takes(rt, world, model, &STRAGGLER, 1, (2, 0));
+    takes(rt, world, model, &UNDONE, 1, (2, 1));
+    takes(rt, world, model, &AGAIN, 1, (4, 1));
 }
 
 /// Process 1 executes its token, and is overtaken by that of process 0. A step that is refused calls nothing.
@@ -118,29 +150,6 @@ fn an_execution_is_one_forward_and_an_undo_one_reverse(rt: HostRuntime) -> Resul
         reverses: Cell::new(0),
     };
     let mut world = World::new(rt.alloc(), &model, Config::new(2, 2, 10, 0)?)?;
-    let ahead = [
-        Step::Home(0),
-        Step::Home(1),
-        Step::Execute(1),
-        Step::Execute(0),
-    ];
-    takes(&rt, &mut world, &model, &ahead, 0, (2, 0));
-    let straggler = [
-        Step::Undo(1),
-        Step::Send(0, 1),
-        Step::Fetch(1),
-        Step::Accept(1, 0),
-    ];
-    takes(&rt, &mut world, &model, &straggler, 1, (2, 0));
-    takes(
-        &rt,
-        &mut world,
-        &model,
-        &[Step::Undo(1), Step::Undo(1)],
-        1,
-        (2, 1),
-    );
-    let again = [Step::Execute(1), Step::Execute(1), Step::Execute(1)];
-    takes(&rt, &mut world, &model, &again, 1, (4, 1));
+    overtakes(&rt, &mut world, &model);
     Ok(())
 }

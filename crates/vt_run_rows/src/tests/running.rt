@@ -1,8 +1,8 @@
 //! Runs, and what is expected of them.
 
+use crate::tests::told::holds;
 use std::alloc::AllocGlobal;
 use std::process::Abort;
-use std::rt;
 use std::sync::Wait;
 use std::thread::Threads;
 use vt_model::{Config, Model as EventModel, Record};
@@ -51,8 +51,9 @@ where
     M::State: Send,
     M::Kept: Send,
 {
-    match run_workers(rt, rt.alloc(), config, model, watch, TURNS) {
-        Ok(records) => assert!(rt; records.as_slice() == want),
-        Err(stopped) => assert_eq!(rt; stopped.fault.number(), 0),
-    }
+    let is_given = match run_workers(rt, rt.alloc(), config, model, watch, TURNS) {
+        Ok(records) => records.as_slice() == want,
+        Err(_) => false,
+    };
+    holds(rt, is_given, "the records of the run");
 }

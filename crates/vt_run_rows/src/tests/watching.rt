@@ -1,7 +1,8 @@
 //! What a run tells what watches it.
 
 use crate::tests::running::{all_records, gives, two_hops};
-use std::rt::{self, HostRuntime};
+use crate::tests::told::{holds, kept};
+use std::rt::HostRuntime;
 use std::sync::atomic::{AtomicU64, Ordering};
 use vt_model::Config;
 use vt_station::{Progress, Watch};
@@ -51,9 +52,9 @@ fn two_workers_execute_at_once(rt: HostRuntime) {
     };
     let config = Config::new(2, 2, 10, 0).expect(&rt, "config");
     gives(&rt, &two_hops(&rt), config, &watch, &all_records());
-    assert_eq!(rt; watch.given_up.load(Ordering::SeqCst), 0);
-    assert!(rt; watch.first.load(Ordering::SeqCst) >= 3);
-    assert!(rt; watch.second.load(Ordering::SeqCst) >= 3);
+    holds(&rt, kept(&watch.given_up) == 0, "no worker gave up");
+    let is_each = kept(&watch.first) >= 3 && kept(&watch.second) >= 3;
+    holds(&rt, is_each, "each worker executes three events");
 }
 
 // Watches the turns that it is told.
@@ -87,10 +88,9 @@ fn turns_begin_at_one_and_never_fall(rt: HostRuntime) {
     };
     let config = Config::new(2, 1, 10, 0).expect(&rt, "config");
     gives(&rt, &two_hops(&rt), config, &watch, &all_records());
-    assert_eq!(rt; watch.first.load(Ordering::SeqCst), 1);
-    assert_eq!(rt; watch.falls.load(Ordering::SeqCst), 0);
-    assert!(rt; watch.last.load(Ordering::SeqCst) > 1);
-    assert!(rt; watch.calls.load(Ordering::SeqCst) >= 6);
+    let is_rising = kept(&watch.first) == 1 && kept(&watch.falls) == 0 && kept(&watch.last) > 1;
+    holds(&rt, is_rising, "turns rise from 1");
+    holds(&rt, kept(&watch.calls) >= 6, "a call for each event");
 }
 
 // Adds up what it is told.
@@ -138,6 +138,16 @@ fn no_sums() -> Sums {
     }
 }
 
+// A run of so many workers must have told this: it began once, to this end, and executed and kept what its records say.
+fn told_all(watch: &Sums, workers: u32) -> bool {
+    let executed = kept(&watch.executed);
+    let begun = (kept(&watch.begun), kept(&watch.end), kept(&watch.workers));
+    begun == (1, 10, u64::from(workers))
+        && executed == kept(&watch.executions)
+        && executed.saturating_sub(kept(&watch.undone)) == 6
+        && kept(&watch.tick) == 10
+}
+
 /// Each event of the run leaves one record. Whatever was undone, what was executed and not undone is the run.
 #[test]
 fn what_is_kept_is_the_run(rt: HostRuntime) {
@@ -145,13 +155,6 @@ fn what_is_kept_is_the_run(rt: HostRuntime) {
         let watch = no_sums();
         let config = Config::new(2, workers, 10, 0).expect(&rt, "config");
         gives(&rt, &two_hops(&rt), config, &watch, &all_records());
-        let executed = watch.executed.load(Ordering::SeqCst);
-        let undone = watch.undone.load(Ordering::SeqCst);
-        assert_eq!(rt; watch.begun.load(Ordering::SeqCst), 1);
-        assert_eq!(rt; watch.end.load(Ordering::SeqCst), 10);
-        assert_eq!(rt; watch.workers.load(Ordering::SeqCst), u64::from(workers));
-        assert_eq!(rt; executed, watch.executions.load(Ordering::SeqCst));
-        assert_eq!(rt; executed.saturating_sub(undone), 6);
-        assert_eq!(rt; watch.tick.load(Ordering::SeqCst), 10);
+        holds(&rt, told_all(&watch, workers), "the sums of the run");
     }
 }
