@@ -1,5 +1,5 @@
-use Rattle.std.proofs.Common.{◌≡◌, ◌∙◌, [], List, IfOk, IfErr, ap, ap₂, map, subst}
-use Rattle.clap.specs.Words.{App, Text, HasKind, fault_of, subcommand_of, subcommand_rows_of}
+use Rattle.std.proofs.Common.{◌≡◌, ◌∙◌, [], IfOk, IfErr, ap, ap₂, map, subst}
+use Rattle.clap.specs.Words.{App, HasKind, fault_of, subcommand_of, subcommand_rows_of}
 use Rattle.vt_options.specs.Line.{names_of, program_app}
 use Rattle.vt_options.specs.Own.{app_for, models_of}
 use Rattle.vt_options.proofs.asking.table_matches.Goals as goal

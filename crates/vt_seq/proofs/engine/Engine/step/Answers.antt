@@ -1,4 +1,4 @@
-use Rattle.std.proofs.Common.{rules, ◌≡◌, ℕ, suc, ◌<◌, ◌≤◌, List, length, slice_index_or, sym, subst, inl, inr}
+use Rattle.std.proofs.Common.{rules, ℕ, suc, ◌<◌, ◌≤◌, List, length, slice_index_or, sym, subst, inl, inr}
 use Rattle.std.proofs.Math.Logic.{∥∥₁_map, ∥∥₁_elim}
 use Rattle.std.proofs.Props.{props}
 use base.Stored.{Coded-set}
