@@ -1,9 +1,8 @@
 -- When mail may be sent, and how it is counted.
-use Rattle.std.proofs.Common.{◌≡◌, ◌∙◌, ℕ, ◌+◌, ◌<◌, ◌≤◌, ◌⊎◌, Bool, true, false, not, nat_eq, cond, ◌||◌, ◌&&◌, List, [], ◌∷◌, length, map, refl, sym, ap, subst, inl, inr, arith, Result, Ok, Err}
+use Rattle.std.proofs.Common.{◌≡◌, ◌∙◌, ℕ, ◌+◌, ◌<◌, ◌≤◌, ◌⊎◌, Bool, true, false, not, nat_eq, cond, ◌||◌, ◌&&◌, List, [], ◌∷◌, length, map, refl, sym, ap, inl, inr, arith}
 use Rattle.std.proofs.lemmas.Bool.Decides.{nat_tests}
 use Rattle.std.proofs.lemmas.List.Elements.{All-filter, All-map, filter_passes}
 use Rattle.std.specs.List.{filter, list_any}
-use Rattle.std.specs.Result.{IfErr, IsErrAnd}
 use Rattle.vt_key.specs.declared.fault.Fault.{Fault}
 use Rattle.vt_key.specs.declared.fault.Fault.TheVariants.{Memory, NotLawful, Exhausted}
 use Rattle.vt_key.specs.declared.letter.Letter.{Letter}
@@ -110,9 +109,3 @@ module _ {P : Type 0} (config : Config) (v : ℕ) (colour : Colour) where
       let chosen = filter (is_for_worker config v) letters in
       All-map (IsOwnMail config v) (mailed colour) chosen
       (λ k d inside. own_mail-one _ (All-filter (is_for_worker config v) (IsWithinRun config.lps (end_of config)) letters within k d inside) (filter_passes (is_for_worker config v) letters k d inside))
-
--- ---- the error that a `?` hands on
-
-pub if_err : {V E : Type 0} (F : E → Type 0) (r : Result V E) (x : E) → IsErrAnd r (λ e. e ≡ x) → F x → IfErr r F
-if_err F (Ok v) x h f = tt
-if_err F (Err e) x h f = subst F (sym h) f

@@ -1,5 +1,5 @@
 -- The past events before a floor: their rows, and the process that has committed them.
-use Rattle.std.proofs.Common.{◌≡◌, ◌++◌, ◌+◌, ◌∷◌, Bool, true, false, if◌then◌else◌, ℕ, suc, List, [], map, take, drop, length, refl, sym, subst, ◌∙◌, ap, arith, append_assoc, get_or, ◌<◌, ◌≤◌, slice_get, Some, None, Result, Ok, Err, IfOk, IsErrAnd}
+use Rattle.std.proofs.Common.{◌≡◌, ◌++◌, ◌+◌, ◌∷◌, Bool, true, false, if◌then◌else◌, ℕ, suc, List, [], map, take, drop, length, refl, sym, subst, ◌∙◌, ap, arith, append_assoc, get_or, ◌<◌, ◌≤◌, slice_get, Some, None}
 use Rattle.std.specs.Prelude.{All}
 use Rattle.std.specs.List.{enumerate_from, prefix_len}
 use Rattle.std.proofs.lemmas.List.{map-append, take_more, length-take-le}
@@ -23,11 +23,6 @@ use Rattle.vt_steps.proofs.steps.MemoryLemmas.{forgets}
 use Rattle.vt_lp.specs.declared.entry.PastEvent.{PastEvent}
 use Rattle.vt_lp.specs.Held.{HeldProcess, StandsFor, remembered, process_memory, IsNotPending, IsOwnEvent, IsRisingPast, IsProcessInside}
 use Rattle.vt_lp.specs.Ripe.{is_ripe, unripe_events, rows_of_ripe}
-
--- nothing has to hold of a refusal's value
-pub if_refused : {V E : Type 0} (F : E → Type 0) (P : V → Type 0) (r : Result V E) → IsErrAnd r F → IfOk r P
-if_refused F P (Ok v) h = absurd h
-if_refused F P (Err e) h = tt
 
 -- the rows of records and one more
 pub rows_of_more : (key : Key) (records : List Record) (i : ℕ) (d : Record) → i < length records →

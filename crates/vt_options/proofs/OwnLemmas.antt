@@ -1,5 +1,5 @@
 -- The options of a model, one after the other.
-use Rattle.std.proofs.Common.{◌≡◌, ◌<◌, ◌+◌, ◌++◌, ◌∙◌, ℕ, List, [], ◌∷◌, Option, Some, None, ap, ap₂, sym, refl, subst, inl, inr, codes, length, take, drop, get_or, map, true, Result, Ok, Err, IfOk, IsErrAnd}
+use Rattle.std.proofs.Common.{◌≡◌, ◌<◌, ◌+◌, ◌++◌, ◌∙◌, ℕ, List, [], ◌∷◌, Option, Some, None, ap, ap₂, sym, refl, subst, inl, inr, codes, length, take, drop, get_or, map, true}
 use Rattle.std.proofs.lemmas.List.{take_more, drop_more, map-append, take-append-drop}
 use Rattle.std.proofs.lemmas.Slice.Zip.{all_zipped_more}
 use Rattle.clap.specs.Words.{Text}
@@ -93,8 +93,3 @@ module _ (line : Line) (words : List Text) (found : Given) (e : (name : Text) �
   pub replay_refused : AreBy line.app (codes "replay") words → NamesBad (line.bad_of_replay found) fault → IsRefusedByOf line words fault
   replay_refused are (inl memory) = by_memory line words fault memory
   replay_refused are (inr h) = requests.replay_refused line words found e fault h.0 are h.1
-
--- nothing has to hold of a refusal's value
-pub if_refused : {V E : Type 0} (F : E → Type 0) (P : V → Type 0) (r : Result V E) → IsErrAnd r F → IfOk r P
-if_refused F P (Ok v) h = absurd h
-if_refused F P (Err e) h = tt

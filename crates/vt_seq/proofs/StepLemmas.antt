@@ -1,5 +1,5 @@
 -- One step of the code is one step of the definition.
-use Rattle.std.proofs.Common.{◌≡◌, ℕ, zero, suc, ◌+◌, ◌^◌, ◌<◌, ◌≤◌, inl, inr, List, [], ◌∷◌, ◌++◌, Bool, true, false, not, filter, drop, Option, Some, None, nat_eq, nat_lt, length, slice_get, slice_index_or, slice_set, Result, Ok, Err, IfOk, IfErr, IsErrAnd, refl, sym, subst, ap, ◌∙◌, arith}
+use Rattle.std.proofs.Common.{◌≡◌, ℕ, zero, suc, ◌+◌, ◌^◌, ◌<◌, ◌≤◌, inl, inr, List, [], ◌∷◌, ◌++◌, Bool, true, false, not, filter, drop, Option, Some, None, nat_eq, nat_lt, length, slice_get, slice_index_or, slice_set, Result, Ok, Err, IfOk, IfErr, refl, sym, subst, ap, ◌∙◌, arith}
 use Rattle.std.specs.List.{sum_by}
 use Rattle.std.proofs.lemmas.List.{set-get_or, get_or-set_same, get_or-set_other}
 use Rattle.std.proofs.lemmas.List.Sums.{sum_by-cons}
@@ -272,15 +272,6 @@ stays_at sim lawful n {pending} {processes} none st =
 pub either_way : {V E G A B C D : Type 0} (r : Result V E) → IfOk r (λ v. A) → IfErr r (λ e. B) → IfErr r (λ e. C) → IfErr r (λ e. D) → (A → G) → (B → C → D → G) → G
 either_way (Ok v) a b c d f h = f a
 either_way (Err e) a b c d f h = h b c d
-
-pub in_err : {V E B : Type 0} (r : Result V E) → B → IfErr r (λ e. B)
-in_err (Ok v) b = tt
-in_err (Err e) b = b
-
--- what holds of the error that a result is
-pub if_err : {V E : Type 0} (F : E → Type 0) (r : Result V E) (x : E) → IsErrAnd r (λ e. e ≡ x) → F x → IfErr r F
-if_err F (Ok v) x h f = tt
-if_err F (Err e) x h f = subst F (sym h) f
 
 pub nil_of : {X : Type 0} (xs : List X) → length xs ≡ 0 → xs ≡ []
 nil_of [] h = refl

@@ -1,5 +1,5 @@
 -- Lengths of decimal texts, and texts that are partly written and partly held.
-use Rattle.std.proofs.Common.{◌≡◌, ℕ, ◌-◌, ◌^◌, ◌<◌, ◌≤◌, List, [], ◌++◌, length, take, drop, Option, ap, sym, subst, ◌∙◌, arith, append_assoc, append-nil, length-append, length-drop, take-append-drop, Result, Ok, Err, OnErr, IsErrAnd, OnOk}
+use Rattle.std.proofs.Common.{◌≡◌, ℕ, ◌-◌, ◌^◌, ◌<◌, ◌≤◌, List, [], ◌++◌, length, take, drop, Option, ap, sym, subst, ◌∙◌, arith, append_assoc, append-nil, length-append, length-drop, take-append-drop, Result, Ok, Err, OnErr}
 use Rattle.std.specs.Fmt.{decimal}
 use Rattle.std.specs.Io.KnownBytes.{Appends}
 use Rattle.std.specs.List.{flat_map}
@@ -109,8 +109,3 @@ lines_split f xs i = ap (flat_map f) (sym (take-append-drop i xs)) ∙ flat_map-
 pub on_err : {T E P : Type 0} (r : Result T E) → P → OnErr r P
 on_err (Ok x) p = tt
 on_err (Err e) p = p
-
--- nothing has to hold of a refusal's value
-pub if_refused : {V E : Type 0} (F : E → Type 0) (Q : Type 0) (r : Result V E) → IsErrAnd r F → OnOk r Q
-if_refused F Q (Ok v) h = absurd h
-if_refused F Q (Err e) h = tt

@@ -12,7 +12,7 @@ use Rattle.vt_steps.specs.World.{process_at}
 use Rattle.vt_lp.specs.Held.{HeldProcess, StandsFor as ProcessStandsFor, opening_process}
 use Rattle.vt_kernel.specs.Held.{AreProcesses}
 use Rattle.vt_kernel.proofs.MakeLemmas.{started_sends, started-more, started-fits, place-left, places-done, place-own, stamped-append, are-push}
-use Rattle.vt_kernel.proofs.SendLemmas.{if_err}
+use Rattle.vt_key.proofs.ResultLemmas.{if_err}
 use Rattle.vt_kernel.proofs.making.start_all.Goals as goal
 
 pub loop-p-preserved : goal.loop-p-preserved

@@ -1,4 +1,4 @@
-use Rattle.vt_lp.proofs.RipeLemmas.{if_refused}
+use Rattle.vt_key.proofs.ResultLemmas.{if_refused}
 use Rattle.vt_lp.proofs.committing.append_ripe.Goals as goal
 
 pub returns-in_err-append_rows-clause-rows : goal.returns-in_err-append_rows-clause-rows

@@ -1,4 +1,4 @@
-use Rattle.vt_options.proofs.OwnLemmas.{if_refused}
+use Rattle.vt_key.proofs.ResultLemmas.{if_refused}
 use Rattle.vt_options.proofs.asking.read_replay.Goals as goal
 
 pub returns-in_err-model-clause-ok : goal.returns-in_err-model-clause-ok

@@ -1,7 +1,7 @@
 use Rattle.std.proofs.Common.{◌≡◌, ◌≢◌, arith, rules}
 use Rattle.std.proofs.lemmas.Result.{err_from_is_err_and}
 use Rattle.clap.specs.Words.{first_value, found_of}
-use Rattle.vt_options.proofs.OwnLemmas.{if_refused}
+use Rattle.vt_key.proofs.ResultLemmas.{if_refused}
 use Rattle.vt_options.proofs.ModelLemmas.{given_here, good_more, refused, within_here}
 use Rattle.vt_options.proofs.models.model_values.Goals.{then-index-wanted, else-index-wanted}
 use Rattle.vt_options.proofs.models.model_values.Goals as goal

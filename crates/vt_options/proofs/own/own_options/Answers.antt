@@ -2,7 +2,8 @@ use Rattle.std.proofs.Common.{◌+◌, subst, sym, take}
 use Rattle.std.proofs.lemmas.Result.{err_from_is_err_and}
 use Rattle.clap.specs.Words.{first_value, found_of}
 use Rattle.vt_options.specs.Own.{AreWithin, GiveValues, number_table}
-use Rattle.vt_options.proofs.OwnLemmas.{values_more, good_more, within_more, refused, if_refused}
+use Rattle.vt_key.proofs.ResultLemmas.{if_refused}
+use Rattle.vt_options.proofs.OwnLemmas.{values_more, good_more, within_more, refused}
 use Rattle.vt_options.proofs.own.own_options.Goals as goal
 
 pub returns-in_err-value-clause-err : goal.returns-in_err-value-clause-err

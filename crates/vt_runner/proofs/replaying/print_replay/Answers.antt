@@ -1,7 +1,7 @@
 use Rattle.std.proofs.lemmas.Result.{on_ok_weaker}
 use Rattle.vt_model.proofs.LawLemmas.{lawful_of}
 use Rattle.vt_model.specs.Simulation.{simulation_of}
-use Rattle.vt_seq.proofs.StepLemmas.{if_err}
+use Rattle.vt_key.proofs.ResultLemmas.{if_err}
 use Rattle.vt_world.specs.Answers.{PassesAtStart}
 use Rattle.vt_runner.specs.Replays.{IsReplayText, IsRepliesText, Writes, Begins, StopsReplay}
 use Rattle.vt_runner.proofs.ReplayLemmas.{both, of_given, opened, output_stops, lines_written, replay_begun, replay_written, replies_begun, show_stops}

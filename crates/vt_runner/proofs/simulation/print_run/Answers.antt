@@ -1,7 +1,8 @@
 use Rattle.std.proofs.Common.{rules, arith, ◌∙◌}
 use Rattle.std.proofs.lemmas.Result.{on_ok_weaker}
 use Rattle.vt_model.proofs.Sizes.{out_fits, first_out}
-use Rattle.vt_seq.proofs.StepLemmas.{if_err, nil_of}
+use Rattle.vt_key.proofs.ResultLemmas.{if_err}
+use Rattle.vt_seq.proofs.StepLemmas.{nil_of}
 use Rattle.vt_text.specs.Writing.{AppendsAllButHeld}
 use Rattle.vt_runner.specs.Runs.{run_text, StopsRun}
 use Rattle.vt_runner.proofs.PrintLemmas.{one_run, opened, first_stops, stepped, step_stops, emptied, put_stops, last_put, all_written, last_stops}

@@ -3,7 +3,7 @@ use Rattle.vt_model.specs.declared.settings.Config.{Config}
 use Rattle.vt_model.specs.Histories.{IsLawful}
 use Rattle.vt_model.specs.Simulation.{simulation_of}
 use Rattle.vt_model.proofs.LawLemmas.{lawful_of}
-use Rattle.vt_seq.proofs.StepLemmas.{if_err}
+use Rattle.vt_key.proofs.ResultLemmas.{if_err}
 use Rattle.vt_runner.specs.Runs.{text_below, run_text, StopsWork}
 use Rattle.vt_runner.proofs.RunLemmas.{part_begun, work_stops, output_begun}
 use Rattle.vt_runner.proofs.simulation.print_work.Given.{Over}

@@ -1,7 +1,8 @@
 use Rattle.std.proofs.lemmas.Result.{on_ok_weaker, on_err_weaker}
 use Rattle.vt_text.specs.Records.{records_text}
 use Rattle.vt_step_text.specs.Replies.{shown_text, state_text}
-use Rattle.vt_text.proofs.TextLemmas.{if_refused, on_err, of_longer}
+use Rattle.vt_key.proofs.ResultLemmas.{on_refused}
+use Rattle.vt_text.proofs.TextLemmas.{on_err, of_longer}
 use Rattle.vt_step_text.proofs.PrintLemmas.{both_put, second_stops}
 use Rattle.std.proofs.Common.{length}
 use Rattle.vt_step_text.proofs.printing.put_state.Goals as goal
@@ -19,7 +20,7 @@ returns-clause-err g c =
     on_err_weaker c.put_records.result (λ h. second_stops _ _ _ c.make_room.new.self a.text.now shown (records_text a.version a.records.now) c.in_ok-make_room.ensures.ok (rw c.push_shown.ensures.text at h)) c.put_records.ensures.err
 
 pub returns-in_err-make_room-clause-ok : goal.returns-in_err-make_room-clause-ok
-returns-in_err-make_room-clause-ok g c = if_refused _ _ c.from_residual.result c.from_residual.ensures.1
+returns-in_err-make_room-clause-ok g c = on_refused _ _ c.from_residual.result c.from_residual.ensures.1
 
 pub returns-in_err-make_room-clause-err : goal.returns-in_err-make_room-clause-err
 returns-in_err-make_room-clause-err g c =

@@ -18,7 +18,8 @@ use Rattle.vt_kernel.specs.Guards.{is_for_worker, mailed, IsSendRefusal}
 use Rattle.vt_kernel.proofs.InsideLemmas.{inside-outbox}
 use Rattle.vt_kernel.proofs.OutboxLemmas.{receiver-below}
 use Rattle.vt_kernel.proofs.PartLemmas.{stands-send, mail-sent}
-use Rattle.vt_kernel.proofs.SendLemmas.{IsRoomRefusal, count_of-counted, counted-raised, refused-send, own_mail-sent, count_sent, may_send-own, may_send-yes, if_err}
+use Rattle.vt_key.proofs.ResultLemmas.{if_err}
+use Rattle.vt_kernel.proofs.SendLemmas.{IsRoomRefusal, count_of-counted, counted-raised, refused-send, own_mail-sent, count_sent, may_send-own, may_send-yes}
 use Rattle.vt_kernel.proofs.kernel.Kernel.letters_for.Goals as goal
 
 pub returns-then-v-self-clause-refused : goal.returns-then-v-self-clause-refused

@@ -9,7 +9,8 @@ use Rattle.vt_seq.specs.Standing.{IsAt, with_records}
 use Rattle.vt_seq.proofs.GivenLemmas.{counted_whole}
 use Rattle.vt_model.proofs.Sizes.{out_fits, first_out}
 use Rattle.vt_seq.proofs.ProgressLemmas.{without_records, kept_on}
-use Rattle.vt_seq.proofs.StepLemmas.{none_pending, nil_of, if_err}
+use Rattle.vt_key.proofs.ResultLemmas.{if_err}
+use Rattle.vt_seq.proofs.StepLemmas.{none_pending, nil_of}
 use Rattle.vt_seq.proofs.execution.Execution.complete.Goals as goal
 
 pub new-out-requires : goal.new-out-requires

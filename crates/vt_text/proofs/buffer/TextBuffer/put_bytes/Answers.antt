@@ -1,7 +1,8 @@
 use Rattle.std.proofs.Common.{◌∙◌, ◌++◌, List, ℕ, ap, sym, append-nil}
 use Rattle.std.proofs.KnownBytes.{Appends-trans}
 use Rattle.std.proofs.lemmas.Result.{on_ok_weaker}
-use Rattle.vt_text.proofs.TextLemmas.{if_refused, on_err, of_longer}
+use Rattle.vt_key.proofs.ResultLemmas.{on_refused}
+use Rattle.vt_text.proofs.TextLemmas.{on_err, of_longer}
 use Rattle.vt_text.proofs.buffer.TextBuffer.put_bytes.Goals as goal
 
 pub returns-clause-ok : goal.returns-clause-ok
@@ -14,7 +15,7 @@ returns-clause-ok g c =
     }) c.write_bytes.ensures.ok
 
 pub returns-in_err-flush-clause-ok : goal.returns-in_err-flush-clause-ok
-returns-in_err-flush-clause-ok g c = if_refused _ _ c.from_residual.result c.from_residual.ensures.1
+returns-in_err-flush-clause-ok g c = on_refused _ _ c.from_residual.result c.from_residual.ensures.1
 
 pub returns-in_err-flush-clause-err : goal.returns-in_err-flush-clause-err
 returns-in_err-flush-clause-err g c = on_err c.from_residual.result (of_longer _ _ c.args.self.now c.args.bytes.now c.in_err-flush.ensures.err)
