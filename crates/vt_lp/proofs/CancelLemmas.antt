@@ -105,13 +105,14 @@ module _ {P : Type 0} where
         ap (λ (s : Stamp). can_annihilate s pending waiting) (sym same) ∙ fails
 
 -- the nodes of two letters are kept
-pub two-more : (old one two : KeptNodes) (a b : ℕ) → one ≡ record { letters = old.letters + a; events = old.events } → two ≡ record { letters = one.letters + b; events = one.events } →
-    a ≡ 1 → b ≡ 1 → two ≡ record { letters = old.letters + 2; events = old.events }
+pub two-more : (old one two : KeptNodes) (a b : ℕ) → one ≡ record old { letters = old.letters + a } → two ≡ record one { letters = one.letters + b } →
+    a ≡ 1 → b ≡ 1 → two ≡ record old { letters = old.letters + 2 }
 two-more old one two a b first second is are =
     let letters : one.letters ≡ old.letters + a = ap (λ (k : KeptNodes). k.letters) first in
     let events : one.events ≡ old.events = ap (λ (k : KeptNodes). k.events) first in
+    let held : one.held ≡ old.held = ap (λ (k : KeptNodes). k.held) first in
     let both : one.letters + b ≡ old.letters + 2 = omega (arith, letters, is, are) in
-    second ∙ (λ j. record { letters = both j; events = events j })
+    second ∙ (λ j. record { letters = both j; events = events j; held = held j })
 
 -- a fact, also where something is there
 pub IfNone-of : {X : Type 0} (o : Option X) (Q : Type 0) → Q → IfNone o Q

@@ -1,5 +1,5 @@
 -- How an executed event becomes a past one, and when the last past one has to be undone.
-use Rattle.std.specs.Prelude.{ℕ, ◌≡◌, ◌+◌, ◌<◌, ◌≤◌, ◌⊎◌, length, Bool, false, not, ◌||◌, List, [], ◌∷◌, if◌then◌else◌, Option, Some, None}
+use Rattle.std.specs.Prelude.{ℕ, ◌≡◌, refl, ◌+◌, ◌<◌, ◌≤◌, ◌⊎◌, length, Bool, false, not, ◌||◌, List, [], ◌∷◌, if◌then◌else◌, Option, Some, None}
 use Rattle.std.specs.List.{list_any, last_or}
 use Rattle.vt_key.specs.Order.{rank_before}
 use Rattle.vt_key.specs.declared.order.Rank.{Rank}
@@ -29,6 +29,7 @@ module _ {P K : Type 0} where
   -- the past event of this letter, which left this
   abbrev pub past_event : Letter P → Trail P K → PastEvent P K
   past_event letter trail = record {
+    key = letter.event.rank.key;
     letter = letter;
     kept = trail.kept;
     bits = trail.bits;
@@ -36,6 +37,7 @@ module _ {P K : Type 0} where
     number = trail.number;
     records = trail.records;
     anti_messages = trail.anti_messages;
+    keyed = refl;
   }
 
   -- the event that Execute would execute, if it is lawful

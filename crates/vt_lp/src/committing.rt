@@ -43,7 +43,7 @@ impl<M: EventModel> Lp<M> {
         ensures { result ≡ begins_ripe floor self.now.past }
     {
         match self.past.front() {
-            Some(first) => first.letter.get().event.rank.key.when() < floor,
+            Some(first) => first.key.when() < floor,
             None => false,
         }
     }
@@ -95,7 +95,7 @@ fn drop_ripe<P: Copy, K: Copy>(past: &mut Past<P, K>, spare: &mut Spare<P, K>, f
 {
     let mut some = false;
     while let Some(first) = past.front() {
-        if first.letter.get().event.rank.key.when() >= floor {
+        if first.key.when() >= floor {
             break;
         }
         if let Some(committed) = past.pop_front() {
@@ -117,7 +117,7 @@ fn append_ripe<P: Copy, K: Copy>(
     ensures refused { IfErr result (λ fault. (fault ≡ Memory) × ((some : List Row) × (rows.new.items ≡ rows.old.items ++ some))) }
 {
     for event in past.iter() {
-        let key = event.letter.get().event.rank.key;
+        let key = event.key;
         if key.when() >= floor {
             break;
         }

@@ -278,13 +278,14 @@ fn keep<P: Copy, K: Copy>(
         anti_messages,
     } = trail;
     let event = PastEvent {
+        records,
+        key: letter.get().event.rank.key,
         letter,
+        anti_messages,
         kept,
         bits,
         drawn,
         number,
-        records,
-        anti_messages,
     };
     match spare.event(alloc, event) {
         Ok(event) => {
@@ -293,13 +294,14 @@ fn keep<P: Copy, K: Copy>(
         }
         Err(event) => {
             let PastEvent {
+                records: _,
+                key: _,
                 letter,
+                anti_messages: _,
                 kept: _,
                 bits: _,
                 drawn: _,
                 number: _,
-                records: _,
-                anti_messages: _,
             } = event;
             pending.insert(letter);
             Err(Fault::Memory)

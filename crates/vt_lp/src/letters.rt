@@ -108,7 +108,7 @@ impl<M: EventModel> Lp<M> {
         ensures done { (handlers : Handlers _ _ _) (h : LogicalProcess _) → StandsFor handlers self.old h → IfOk result (λ done. IsDone handlers self.new (cancel_process stamp h) [] [] 0 0) }
         ensures refused { (handlers : Handlers _ _ _) (h : LogicalProcess _) → StandsFor handlers self.old h → IfErr result (λ fault. cancel_process stamp h ≡ None) }
         ensures kept { IfErr result (λ fault. (fault ≡ NotLawful) × (self.new ≡ self.old) × (spare.new ≡ spare.old)) }
-        ensures freed { IfOk result (λ done. spare.new ≡ record { letters = spare.old.letters + 2; events = spare.old.events }) }
+        ensures freed { IfOk result (λ done. spare.new ≡ record spare.old { letters = spare.old.letters + 2 }) }
         ensures lawful { IfOk result (λ done. can_annihilate stamp self.old.pending self.old.waiting ≡ true) }
         ensures unlawful { IfErr result (λ fault. can_annihilate stamp self.old.pending self.old.waiting ≡ false) }
         ensures fewer { IfOk result (λ done. (suc (length self.new.pending) ≡ length self.old.pending) × (suc (length self.new.waiting) ≡ length self.old.waiting)) }

@@ -1,7 +1,7 @@
 //! Nodes that processes no longer need, kept for the next letters and events.
 
 ghost use Rattle.std.specs.Prelude.{◌≡◌, ◌+◌, ◌-◌, [], length, IfOk, IfErr, IfSome, IfNone};
-ghost use Rattle.vt_lp.specs.Kept.{one_if_some};
+ghost use Rattle.vt_lp.specs.Kept.{one_if_some, held_by};
 
 use crate::entry::PastEvent;
 use std::alloc::Global;
@@ -17,7 +17,9 @@ use vt_list::{List, Parcel, Stack};
 /// regularly takes little new memory, and writes to memory that it has written before. All nodes are freed when the
 /// value is dropped.
 ///
-/// Contracts see how many nodes of letters and of past events are kept (`KeptNodes`).
+/// A past event keeps the nodes of its anti-messages until it is used again. So a commit reads and writes none of them.
+///
+/// Contracts see how many nodes of letters and of past events are kept, and how many anti-messages these hold (`KeptNodes`).
 #[derive(Drop)]
 pub struct Spare<P: Copy, K: Copy> {
     message: Option<Parcel<Letter<P>>>,
@@ -31,20 +33,22 @@ pub struct Spare<P: Copy, K: Copy> {
 
 impl<P: Copy, K: Copy> Model for Spare<P, K> {
     ghost use Rattle.std.specs.Prelude.{◌+◌, length};
-    ghost use Rattle.vt_lp.specs.Kept.{KeptNodes, one_if_some};
+    ghost use Rattle.std.specs.List.{sum_by};
+    ghost use Rattle.vt_lp.specs.Kept.{KeptNodes, one_if_some, held_by, held_if_some};
 
     ghost Value = { KeptNodes };
 
     ghost view = { λ s. record {
       letters = one_if_some s.message + one_if_some s.anti_message + length s.letters;
       events = one_if_some s.event + length s.events;
+      held = held_if_some s.event + sum_by held_by s.events;
     } };
 }
 
 impl<P: Copy, K: Copy> Spare<P, K> {
     /// An empty store.
     pub fn new(alloc: Global) -> Spare<P, K>
-        ensures { result ≡ record { letters = 0; events = 0 } }
+        ensures { result ≡ record { letters = 0; events = 0; held = 0 } }
     {
         Spare {
             message: None,
@@ -88,7 +92,7 @@ impl<P: Copy, K: Copy> Spare<P, K> {
     ) -> Result<Parcel<Letter<P>>, Letter<P>>
         ensures made { IfOk result (λ parcel. parcel ≡ letter) }
         ensures item_returned { IfErr result (λ refused. refused ≡ letter) }
-        ensures taken { self.new ≡ record { letters = self.old.letters - 1; events = self.old.events } }
+        ensures taken { self.new ≡ record self.old { letters = self.old.letters - 1 } }
         ensures none_left { IfErr result (λ _. self.old.letters ≡ 0) }
     {
         let Some(mut parcel) = self.take_letter() else {
@@ -108,31 +112,31 @@ impl<P: Copy, K: Copy> Spare<P, K> {
         ensures made { IfOk result (λ parcel. parcel ≡ event) }
         ensures item_returned { IfErr result (λ refused. refused ≡ event) }
         ensures taken { self.new.events ≡ self.old.events - 1 }
-        ensures kept { self.new.letters + self.new.events ≡ self.old.letters + self.old.events }
+        ensures kept { self.new.letters + self.new.events + self.new.held ≡ self.old.letters + self.old.events + self.old.held }
         ensures none_left { IfErr result (λ _. self.old.events ≡ 0) }
     {
         let Some(mut parcel) = self.take_event() else {
             return Parcel::new(alloc, event);
         };
         let PastEvent {
+            records: _,
+            key: _,
             letter,
+            mut anti_messages,
             kept: _,
             bits: _,
             drawn: _,
             number: _,
-            records: _,
-            anti_messages: _,
         } = parcel.replace(event);
         self.keep_letter(letter);
+        self.keep_letters(&mut anti_messages);
         Ok(parcel)
     }
 
-    /// Keeps the nodes of a committed past event and of its letters.
+    /// Keeps the node of a committed past event, with the nodes of its letters in it.
     pub(crate) fn collect(&mut self, event: Parcel<PastEvent<P, K>>)
-        ensures { self.new ≡ record { letters = self.old.letters + length event.anti_messages; events = self.old.events + 1 } }
+        ensures { self.new ≡ record { letters = self.old.letters; events = self.old.events + 1; held = self.old.held + held_by event } }
     {
-        let mut event = event;
-        self.keep_letters(&mut event.get_mut().anti_messages);
         if self.event.is_none() {
             self.event = Some(event);
         } else {
@@ -158,7 +162,7 @@ impl<P: Copy, K: Copy> Spare<P, K> {
 
     // Takes a node for a letter; None if none is kept. A node at hand comes first, since no other node is read to find it.
     fn take_letter(&mut self) -> Option<Parcel<Letter<P>>>
-        ensures taken { self.new ≡ record { letters = self.old.letters - 1; events = self.old.events } }
+        ensures taken { self.new ≡ record self.old { letters = self.old.letters - 1 } }
         ensures none_left { IfNone result (self.old.letters ≡ 0) }
     {
         if let Some(parcel) = self.message.take() {
@@ -172,9 +176,11 @@ impl<P: Copy, K: Copy> Spare<P, K> {
 
     // Takes a node for a past event, the one at hand first; None if none is kept.
     fn take_event(&mut self) -> Option<Parcel<PastEvent<P, K>>>
-        ensures taken { self.new ≡ record { letters = self.old.letters; events = self.old.events - 1 } }
+        ensures letters { self.new.letters ≡ self.old.letters }
+        ensures taken { self.new.events ≡ self.old.events - 1 }
         ensures none_left { IfNone result (self.old.events ≡ 0) }
-        ensures some_left { IfSome result (λ _. self.old.events ≡ self.new.events + 1) }
+        ensures some_left { IfSome result (λ event. (self.old.events ≡ self.new.events + 1) × (self.old.held ≡ self.new.held + held_by event)) }
+        ensures unchanged { IfNone result (self.new ≡ self.old) }
     {
         if let Some(parcel) = self.event.take() {
             return Some(parcel);
@@ -184,7 +190,7 @@ impl<P: Copy, K: Copy> Spare<P, K> {
 
     // Keeps the nodes of letters.
     fn keep_letters(&mut self, letters: &mut List<Letter<P>>)
-        ensures kept { self.new ≡ record { letters = self.old.letters + length letters.old; events = self.old.events } }
+        ensures kept { self.new ≡ record self.old { letters = self.old.letters + length letters.old } }
         ensures none_left { letters.new ≡ [] }
     {
         while let Some(letter) = letters.pop_front() {
@@ -194,7 +200,7 @@ impl<P: Copy, K: Copy> Spare<P, K> {
 
     /// Keeps the node of a letter, where there is one.
     pub(crate) fn keep_if_some(&mut self, letter: Option<Parcel<Letter<P>>>)
-        ensures { self.new ≡ record { letters = self.old.letters + one_if_some letter; events = self.old.events } }
+        ensures { self.new ≡ record self.old { letters = self.old.letters + one_if_some letter } }
     {
         if let Some(letter) = letter {
             self.keep_letter(letter);
@@ -203,7 +209,7 @@ impl<P: Copy, K: Copy> Spare<P, K> {
 
     /// Keeps the node of a letter.
     pub fn keep_letter(&mut self, letter: Parcel<Letter<P>>)
-        ensures { self.new ≡ record { letters = self.old.letters + 1; events = self.old.events } }
+        ensures { self.new ≡ record self.old { letters = self.old.letters + 1 } }
     {
         if self.message.is_none() {
             self.message = Some(letter);

@@ -43,13 +43,14 @@ impl<M: EventModel> Lp<M> {
             return Err(Fault::NotLawful);
         };
         let PastEvent {
+            records: _,
+            key: _,
             letter,
+            mut anti_messages,
             kept,
             bits,
             drawn,
             number,
-            records: _,
-            mut anti_messages,
         } = last.into_value();
         let event = letter.get().event;
         let sent = Sent {

@@ -1,6 +1,6 @@
 use Rattle.std.proofs.Common.{rules, ◌≡◌, ◌≤◌, ◌∙◌, Some, None, slice_get, ap, sym, subst}
 use Rattle.std.specs.Option.{option_copied}
-use Rattle.vt_key.specs.declared.letter.Letter.{Letter}
+use Rattle.vt_key.specs.Keys.{Key}
 use Rattle.vt_lp.proofs.RipeLemmas.{unripe_late, unripe_none}
 use Rattle.vt_lp.proofs.committing.drop_ripe.Goals as goal
 
@@ -9,7 +9,7 @@ returns-then-ge-clause-unripe g c =
     let past = c.loop-first.past in
     let first = c.in-Some.first.now in
     let at : slice_get past 0 ≡ Some first = sym c.front.ensures ∙ ap option_copied c.in-Some.is in
-    let late : c.args.floor ≤ first.letter.event.rank.key.time = subst (λ (l : Letter _). c.args.floor ≤ l.event.rank.key.time) c.get.ensures (let ge : c.args.floor ≤ c.get.result.now.event.rank.key.time = search rules in ge) in
+    let late : c.args.floor ≤ first.letter.event.rank.key.time = subst (λ (k : Key). c.args.floor ≤ k.time) (sym first.keyed) (let ge : c.args.floor ≤ first.key.time = search rules in ge) in
     sym (unripe_late c.args.floor past first at late) ∙ c.loop-first.invariant.unripe
 
 pub returns-in_default-clause-unripe : goal.returns-in_default-clause-unripe

@@ -4,6 +4,7 @@ use Rattle.vt_pending.specs.Letters.{holds_rank, IsRising}
 use Rattle.vt_key.specs.Queues.{letter_rank, insert_letter}
 use Rattle.vt_lp.specs.declared.entry.PastEvent.{PastEvent}
 use Rattle.vt_lp.proofs.Ends.{none-after, insert-first}
+use Rattle.vt_lp.proofs.PastLemmas.{as-made}
 use Rattle.vt_lp.proofs.executing.keep.Goals as goal
 
 pub insert-requires : goal.insert-requires
@@ -15,7 +16,8 @@ insert-requires g c =
 
 pub returns-in-Ok-clause-kept : goal.returns-in-Ok-clause-kept
 returns-in-Ok-clause-kept g c =
-    (c.in-Some.letter, c.in-Some.ensures.letters, c.push_back.ensures ∙ ap (λ (e : PastEvent _ _). c.args.past.now ++ e ∷ []) c.in-Ok.ensures.made)
+    let made = c.in-Ok.ensures.made ∙ as-made c.in-Some.letter c.args.trail _ c.event-arg-2-1.given.0 in
+    (c.in-Some.letter, c.in-Some.ensures.letters, c.push_back.ensures ∙ ap (λ (e : PastEvent _ _). c.args.past.now ++ e ∷ []) made)
 
 pub returns-in-Err-clause-unchanged : goal.returns-in-Err-clause-unchanged
 returns-in-Err-clause-unchanged g c =
