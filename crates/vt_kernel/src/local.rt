@@ -126,5 +126,5 @@ pub(crate) fn place_of(config: Config, worker: u32, lp: u32) -> Option<usize>
     if lp >= config.lps || config.owner(lp) != worker {
         return None;
     }
-    Some((lp / config.workers) as usize)
+    Some(config.index(lp) as usize)
 }

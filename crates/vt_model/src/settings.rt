@@ -1,6 +1,6 @@
 //! The numbers of a run.
 
-ghost use Rattle.std.specs.Prelude.{◌≡◌, ◌<◌, ◌≤◌, ◌%◌, None, IfOk, IfErr, IsSome};
+ghost use Rattle.std.specs.Prelude.{◌≡◌, ◌<◌, ◌≤◌, ◌/◌, ◌%◌, None, IfOk, IfErr, IsSome};
 ghost use Rattle.vt_key.specs.Faults.{option_named};
 ghost use Rattle.vt_key.specs.declared.limits.TheConstants.{MAX_PROCESSES, MAX_WORKERS, MAX_END};
 
@@ -67,6 +67,26 @@ impl Config {
         ensures value { result ≡ p % self.now.workers }
         ensures known { result < self.now.workers }
     {
-        p % self.workers
+        // By a power of two that stands in the code the compiler shifts. A division takes as long as many other instructions.
+        match self.workers {
+            1 => 0,
+            2 => p % 2,
+            4 => p % 4,
+            8 => p % 8,
+            workers => p % workers,
+        }
+    }
+
+    /// The index of logical process `p` among those of its worker, from 0: `p` divided by the number of workers.
+    pub fn index(&self, p: u32) -> u32
+        ensures { result ≡ p / self.now.workers }
+    {
+        match self.workers {
+            1 => p,
+            2 => p / 2,
+            4 => p / 4,
+            8 => p / 8,
+            workers => p / workers,
+        }
     }
 }
