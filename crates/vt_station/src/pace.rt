@@ -67,10 +67,10 @@ impl Pace {
         self.undone = self.undone.saturating_add(count as u64);
     }
 
-    /// Adapts the pace at a cut to what was taken back since the last one. A worker that is alone waits for nobody,
-    /// and keeps its pace.
+    /// Adapts the pace at a cut to what was taken back since the last one. In a worker that is alone its own letters may
+    /// undo what it executed in the turn in which they were sent.
     pub(crate) fn adapt(&mut self) {
-        if self.workers > 1 && (self.made > 0 || self.undone > 0) {
+        if self.made > 0 || self.undone > 0 {
             if self.undone.saturating_mul(TOO_MANY) > self.made {
                 self.most = (self.most / 2).max(1);
             } else if self.undone.saturating_mul(FEW) <= self.made {
