@@ -1,12 +1,12 @@
 //! Readers of a worker's processes.
 
-ghost use Rattle.std.specs.Prelude.{◌≡◌, ◌⊎◌, ◌%◌, ◌^◌, length, Some, IfSome, IfNone, IfOk, IfErr, OnOk};
-ghost use Rattle.std.specs.Option.{option_copied, option_map};
+ghost use Rattle.std.specs.Prelude.{◌≡◌, ◌⊎◌, ◌%◌, ◌^◌, false, length, Some, IfSome, IfNone, IfOk, IfErr, OnOk};
+ghost use Rattle.std.specs.Option.{option_copied, option_map, option_map_or};
 ghost use Rattle.vt_key.specs.declared.fault.Fault.TheVariants.{Memory, NotLawful};
 ghost use Rattle.vt_model.specs.Simulation.{simulation_of};
 ghost use Rattle.vt_steps.specs.World.{Part};
 ghost use Rattle.vt_steps.specs.Finals.{part_values};
-ghost use Rattle.vt_kernel.specs.Held.{StandsFor, held_values, process_of, IsProcessOf};
+ghost use Rattle.vt_kernel.specs.Held.{StandsFor, held_values, process_of, is_unsettled, IsProcessOf};
 ghost use Rattle.vt_lp.specs.Held.{executed_events};
 
 use crate::kernel::Kernel;
@@ -25,8 +25,18 @@ impl<M: EventModel> Kernel<M> {
         if self.config.owner(p) != self.worker {
             return None;
         }
-        let place = p / self.config.workers;
-        self.processes.get(place as usize)
+        self.processes.get(self.config.index(p) as usize)
+    }
+
+    /// Whether an anti-message waits at process `p`, or Execute isn't lawful there. If neither is so, Undo and Cancel aren't
+    /// lawful there either. False if the process isn't one of this worker's.
+    pub fn is_unsettled(&self, p: u32) -> bool
+        ensures { result ≡ option_map_or is_unsettled (process_of self.now p) false }
+    {
+        match self.process(p) {
+            Some(process) => process.has_waiting() || process.ready().is_none(),
+            None => false,
+        }
     }
 
     /// The state of process `p`; None if it isn't one of this worker's.

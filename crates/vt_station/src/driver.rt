@@ -62,7 +62,7 @@ pub(crate) enum Wanted {
 #[derive(Drop)]
 pub(crate) struct Driver<'a, M: EventModel> {
     worker: Worker<'a, M>,
-    // The processes that letters have reached since they were last settled.
+    // The processes that have to be settled, since letters have reached them.
     touched: Vec<u32>,
     // The worker's floor at its last hand-in.
     handed: When,
@@ -137,11 +137,14 @@ impl<'a, M: EventModel> Driver<'a, M> {
         self.worker.leave()
     }
 
-    /// Notes that a letter is for process `lp`, which has to be settled.
+    /// Notes that a letter has reached process `lp`, if it may have to be settled.
     fn touch(&mut self, lp: u32) -> Result<(), Fault>
         ensures same { self.new.worker ≡ self.old.worker }
         ensures lasting { IfErr result IsLasting }
     {
+        if !self.worker.kernel().is_unsettled(lp) {
+            return Ok(());
+        }
         let Ok(()) = self.touched.push(lp) else {
             return Err(Fault::Memory);
         };
@@ -173,8 +176,8 @@ impl<'a, M: EventModel> Driver<'a, M> {
             let Some(lp) = self.worker.kernel().arrived_for(i) else {
                 continue;
             };
-            self.touch(lp)?;
             pass_over(self.worker.accept(i))?;
+            self.touch(lp)?;
         }
         Ok(())
     }
@@ -188,10 +191,10 @@ impl<'a, M: EventModel> Driver<'a, M> {
             let Some(lp) = self.worker.kernel().home_for() else {
                 break;
             };
-            self.touch(lp)?;
             let Ok(()) = self.worker.home() else {
                 break;
             };
+            self.touch(lp)?;
         }
         Ok(())
     }

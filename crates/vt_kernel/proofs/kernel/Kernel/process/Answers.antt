@@ -10,7 +10,8 @@ returns-clause-known g c =
     let k = c.self.inside in
     let p = c.args.p in
     let place = p / k.config.workers in
-    let looked : IsItemAt k.processes.items place c.get.result = rw c.deref.ensures.value at c.get.ensures.lookup in
+    let looked : IsItemAt k.processes.items place c.get.result =
+    subst (λ at. IsItemAt k.processes.items at c.get.result) c.index.ensures (rw c.deref.ensures.value at c.get.ensures.lookup) in
     let own : p % k.config.workers ≡ k.worker = sym c.owner.ensures.value ∙ c.if-owner-self.false in
     let all : length k.processes.items ≡ (k.config.lps + (k.config.workers - 1) - k.worker) / k.config.workers = c.self.invariant.all_there in
     subst (λ (v : HeldWorker _ _ _). IfSome c.get.result (λ _. IsProcessOf v.config v.worker p)) c.self.view_is
@@ -24,7 +25,8 @@ returns-clause-unknown g c =
     let k = c.self.inside in
     let p = c.args.p in
     let place = p / k.config.workers in
-    let looked : IsItemAt k.processes.items place c.get.result = rw c.deref.ensures.value at c.get.ensures.lookup in
+    let looked : IsItemAt k.processes.items place c.get.result =
+    subst (λ at. IsItemAt k.processes.items at c.get.result) c.index.ensures (rw c.deref.ensures.value at c.get.ensures.lookup) in
     let all : length k.processes.items ≡ (k.config.lps + (k.config.workers - 1) - k.worker) / k.config.workers = c.self.invariant.all_there in
     subst (λ (v : HeldWorker _ _ _). IfNone c.get.result (IsProcessOf v.config v.worker p → ⊥)) c.self.view_is
     (if_none c.get.result (λ (past : length k.processes.items ≤ place) (is : IsProcessOf k.config k.worker p).
