@@ -1,8 +1,8 @@
 -- Items found by a test or by an index, and where an item goes by its rank.
 use Rattle.std.proofs.Common.{Bool, true, false, not, if◌then◌else◌, ◌≡◌, refl, sym, ap, ◌∙◌, arith}
-use Rattle.std.specs.Prelude.{ℕ, zero, suc, ◌+◌, ◌<◌, List, [], ◌∷◌, ◌++◌, length, take, drop, Option, Some, None, MatchOption, find, remove, slice_get}
+use Rattle.std.specs.Prelude.{ℕ, zero, suc, ◌<◌, List, [], ◌∷◌, ◌++◌, length, take, drop, Option, Some, None, MatchOption, find, remove, slice_get}
 use Rattle.std.specs.Option.{option_map}
-use Rattle.std.proofs.lemmas.List.{length-append, append_assoc}
+use Rattle.std.proofs.lemmas.List.{append-nil, append_assoc}
 use Rattle.vt_key.specs.Order.{rank_before}
 use Rattle.vt_key.specs.Queues.{without_first, insert_ordered}
 use Rattle.vt_key.specs.declared.order.Rank.{Rank}
@@ -90,7 +90,6 @@ pub record IsFurther {X : Type 0} (test : X → Bool) (old new : List X × List 
   pub before : old.0 ++ before_first test old.1 ≡ new.0 ++ before_first test new.1
   pub from : from_first test old.1 ≡ from_first test new.1
   pub whole : old.0 ++ old.1 ≡ new.0 ++ new.1
-  pub passed : length new.0 ≡ length old.0 + 1
   pub ahead : length new.1 < length old.1
 
 pub further : {X : Type 0} (test : X → Bool) (place : List X × List X) → first_fails test place.1 ≡ true → IsFurther test place (advanced place)
@@ -101,7 +100,14 @@ further test (passed, x ∷ ahead) fails = elim (test x) as (λ b. not b ≡ tru
     before = ap (λ b. passed ++ (if b then [] else x ∷ before_first test ahead)) is ∙ sym (append_assoc passed (x ∷ []) (before_first test ahead));
     from = ap (λ b. if b then x ∷ ahead else from_first test ahead) is;
     whole = sym (append_assoc passed (x ∷ []) ahead);
-    passed = length-append passed (x ∷ []);
     ahead = omega arith;
   }
 ] fails refl
+
+-- where none is ahead that fails, those that were passed are all before
+pub parted-here : {X : Type 0} (test : X → Bool) (passed ahead : List X) → first_fails test ahead ≡ false → passed ++ before_first test ahead ≡ passed
+parted-here test passed [] stops = append-nil passed
+parted-here test passed (x ∷ ahead) stops = elim (test x) as (λ b. not b ≡ false → passed ++ (if b then [] else x ∷ before_first test ahead) ≡ passed) [
+  | true ↦ λ h. append-nil passed
+  | false ↦ λ h. absurd (let k : true ≡ false = h in cc)
+] stops

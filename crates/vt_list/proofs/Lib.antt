@@ -3,6 +3,7 @@ pub mod Firsts
 mod Lending
 mod Links
 mod Owning
+mod RowPaths
 mod Paths
 mod Rows
 mod Splits

@@ -1,6 +1,6 @@
 //! A position in a chain.
 
-ghost use Rattle.std.specs.Prelude.{◌≡◌, ◌-◌, ◌%◌, ◌^◌, ◌↔◌, [], ◌∷◌, ◌++◌, length, take, drop, MatchOption, IsTrue};
+ghost use Rattle.std.specs.Prelude.{◌≡◌, ◌-◌, ◌↔◌, [], ◌∷◌, ◌++◌, length, take, drop, MatchOption, IsTrue};
 ghost use Rattle.vt_list.specs.First.{before_first, from_first, first_fails};
 ghost use Rattle.vt_list.specs.Linked.{advanced};
 
@@ -192,24 +192,17 @@ pub(crate) fn take_last<T>(chain: Chain<T>, alloc: Global) -> (Option<Box<Node<T
     (last.into_only(alloc), others)
 }
 
-/// The nodes before the first item that passes the test, the others, and how many those before are, modulo 2^64.
-pub(crate) fn split_at_first<T, P: Predicate<T>>(
-    chain: Chain<T>,
-    test: &P,
-) -> (Chain<T>, Chain<T>, usize)
+/// The nodes before the first item that passes the test, and the others.
+pub(crate) fn split_at_first<T, P: Predicate<T>>(chain: Chain<T>, test: &P) -> (Chain<T>, Chain<T>)
     ensures before { result.0 ≡ before_first (P.passes test.now) chain }
     ensures from { result.1 ≡ from_first (P.passes test.now) chain }
     ensures whole { chain ≡ result.0 ++ result.1 }
-    ensures passed { result.2 ≡ length result.0 % 2 ^ 64 }
 {
-    let mut passed: usize = 0;
     let mut cursor = Cursor::at_front(chain);
     while cursor.next_fails(test) {
         cursor = cursor.advance();
-        passed = passed.wrapping_add(1);
     }
-    let (before, from) = cursor.split();
-    (before, from, passed)
+    cursor.split()
 }
 
 /// The first `index` nodes, and the others.

@@ -152,7 +152,7 @@ impl<'a, T> Model for IterLines<'a, T> {
 
     ghost view = { λ i. map items (lines_of i.left.now.owned) };
 
-    ghost invariant = { λ i. (i.next ≡ first_or None i.left.now.owned) × StandInRow (lines_of i.left.now.owned) };
+    ghost invariant = { λ i. (i.next ≡ first_or None i.left.now.owned) × StandInRow None (lines_of i.left.now.owned) };
 }
 
 impl<'a, T> IterLines<'a, T> {

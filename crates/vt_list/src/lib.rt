@@ -18,10 +18,11 @@
 //! | Call | Time |
 //! |---|---|
 //! | `push_front`, `push_back`, `pop_front`, `pop_back`, `append`, `len`, `is_empty`, `front`, `back` | constant |
-//! | `get`, `remove`, `find`, `find_back`, `remove_first`, `split_off_first`, `insert_ordered` | the number of items that are passed over |
+//! | `get`, `remove`, `find`, `find_back`, `remove_first`, `insert_ordered` | the number of items that are passed over |
 //! | `push`, `pop`, `top` and `len` of a stack | constant; they touch one node at most |
 //! | `push_front`, `pop_front`, `front` and `is_empty` of a line | constant; they touch one node at most |
-//! | `find`, `remove_first`, `insert_ordered` of a line | the number of items that are passed over; they write two nodes at most |
+//! | `find`, `remove_first`, `pass` of a line, `pass` of lines | the number of items or lines that are passed over; they write one node at most |
+//! | `join` of a line and of lines | constant; it writes one node at most |
 //! | `push_line`, `pop_line`, `front` and `is_empty` of lines | constant; they touch one node at most |
 //! | dropping any of them | the number of items, in a loop and on constant stack |
 //!
@@ -40,7 +41,7 @@
 //! - `chain` is nodes that are linked both ways, with their two ends; `cursor` is a position in a chain, where it can
 //!   be split; `list` adds a count.
 //! - `trail` is nodes that are linked one way; `stack` adds a count; `path` is a position in a trail; `row` is trails
-//!   whose first nodes lead to each other.
+//!   whose first nodes lead to each other; `passing` is a position in a row.
 //!
 //! Only `blocks` and two functions of `node` are proved by hand. The rest is plain code that follows no raw pointer.
 //! Blocks, chains, trails and rows can't be dropped, so code that loses a node is refused.
@@ -56,7 +57,7 @@ mod link;
 mod list;
 mod node;
 mod parcel;
-mod parting;
+mod passing;
 mod path;
 mod predicate;
 mod row;
@@ -68,5 +69,7 @@ pub use line::Line;
 pub use lines::Lines;
 pub use list::List;
 pub use parcel::Parcel;
+pub use passing::Passed;
+pub use path::Beginning;
 pub use predicate::Predicate;
 pub use stack::Stack;

@@ -1,18 +1,17 @@
 //! Lists that are linked one way.
 
-ghost use Rattle.std.specs.Prelude.{◌≡◌, ◌↔◌, [], ◌∷◌, slice_get, find, MatchOption, IsTrue};
+ghost use Rattle.std.specs.Prelude.{◌≡◌, ◌↔◌, [], ◌∷◌, ◌++◌, slice_get, find, MatchOption, IsTrue};
 ghost use Rattle.std.specs.Option.{option_copied};
-ghost use Rattle.vt_key.specs.Queues.{without_first, insert_ordered};
+ghost use Rattle.vt_key.specs.Queues.{without_first};
+ghost use Rattle.vt_list.specs.First.{before_first, from_first};
 
 use crate::iter::Iter;
-use crate::list::RankedAfter;
 use crate::parcel::Parcel;
-use crate::path::part_at_first;
+use crate::path::{Beginning, part_at_first};
 use crate::predicate::Predicate;
 use crate::trail::Trail;
 use std::alloc::Global;
 use std::marker::Model;
-use vt_key::Ranked;
 
 /// A list of items that is linked one way, in one word. Contracts see the list of the items.
 ///
@@ -95,6 +94,25 @@ impl<T: Drop> Line<T> {
 }
 
 impl<T> Line<T> {
+    /// Takes out the items before the first one that passes the test. [`Line::join`] puts them back. It writes no node.
+    pub fn pass<P: Predicate<T>>(&mut self, test: &P) -> Beginning<T>
+        ensures passed { result ≡ before_first (P.passes test.now) self.old }
+        ensures others { self.new ≡ from_first (P.passes test.now) self.old }
+        ensures whole { self.old ≡ result ++ self.new }
+    {
+        let (passed, ahead) = part_at_first(self.trail.take(), test);
+        self.trail.put(ahead);
+        passed
+    }
+
+    /// Puts the items in front of all others. It writes only the last of their nodes.
+    pub fn join(&mut self, passed: Beginning<T>)
+        ensures { self.new ≡ passed ++ self.old }
+    {
+        let trail = self.trail.take();
+        self.trail.put(passed.join(trail));
+    }
+
     /// Whether there is no item.
     pub fn is_empty(&self) -> bool
         ensures { IsTrue result ↔ (self.now ≡ []) }
@@ -121,18 +139,5 @@ impl<T> Line<T> {
         ensures { option_copied result ≡ find (P.passes test.now) self.now }
     {
         self.iter().first_passing(test)
-    }
-}
-
-impl<T: Drop + Ranked> Line<T> {
-    /// Puts the item in front of the first one of greater rank, or behind all others if there is none. It walks there
-    /// from the front.
-    pub fn insert_ordered(&mut self, parcel: Parcel<T>)
-        ensures { self.new ≡ insert_ordered T.rank_of parcel self.old }
-    {
-        let later = RankedAfter(parcel.get().rank());
-        let (before, after) = part_at_first(self.trail.take(), &later);
-        self.trail
-            .put(before.join(after.with_first(parcel.into_node())));
     }
 }

@@ -1,11 +1,14 @@
 //! Lines in a row.
 
-ghost use Rattle.std.specs.Prelude.{◌≡◌, ◌≢◌, ◌↔◌, [], ◌∷◌, MatchOption, IfNone, IfSome, IsTrue};
+ghost use Rattle.std.specs.Prelude.{◌≡◌, ◌≢◌, ◌↔◌, [], ◌∷◌, ◌++◌, MatchOption, IfNone, IfSome, IsTrue};
 ghost use Rattle.std.specs.Option.{option_copied};
-ghost use Rattle.vt_list.specs.Lines.{first_item};
+ghost use Rattle.vt_list.specs.First.{before_first, from_first};
+ghost use Rattle.vt_list.specs.Lines.{first_item, begins_with};
 
 use crate::iter::IterLines;
 use crate::line::Line;
+use crate::passing::{Passed, pass_row};
+use crate::predicate::Predicate;
 use crate::row::Row;
 use std::alloc::Global;
 use std::marker::Model;
@@ -76,6 +79,26 @@ impl<T: Drop> Lines<T> {
 }
 
 impl<T> Lines<T> {
+    /// Takes out the lines before the first one whose first item passes the test. [`Lines::join`] puts them back. It
+    /// writes no node.
+    pub fn pass<P: Predicate<T>>(&mut self, test: &P) -> Passed<T>
+        ensures passed { result ≡ before_first (begins_with (P.passes test.now)) self.old }
+        ensures others { self.new ≡ from_first (begins_with (P.passes test.now)) self.old }
+        ensures whole { self.old ≡ result ++ self.new }
+    {
+        let (passed, ahead) = pass_row(self.row.take(), test);
+        self.row.put(ahead);
+        passed
+    }
+
+    /// Puts the lines in front of all others. It writes only the first node of the last of them.
+    pub fn join(&mut self, passed: Passed<T>)
+        ensures { self.new ≡ passed ++ self.old }
+    {
+        let row = self.row.take();
+        self.row.put(passed.join(row));
+    }
+
     /// Whether there is no line.
     pub fn is_empty(&self) -> bool
         ensures { IsTrue result ↔ (self.now ≡ []) }

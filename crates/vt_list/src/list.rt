@@ -129,7 +129,7 @@ impl<T: Drop> List<T> {
         ensures item { result ≡ find (P.passes test.now) self.old }
         ensures others { self.new ≡ without_first (P.passes test.now) self.old }
     {
-        let (before, from, _) = split_at_first(self.chain.take(), test);
+        let (before, from) = split_at_first(self.chain.take(), test);
         let (found, after) = take_first(from, self.alloc);
         self.chain.put(before.join(after));
         let node = found?;
@@ -225,7 +225,7 @@ impl<T: Drop + Ranked> List<T> {
         ensures { self.new ≡ insert_ordered T.rank_of parcel self.old }
     {
         let later = RankedAfter(parcel.get().rank());
-        let (before, after, _) = split_at_first(self.chain.take(), &later);
+        let (before, after) = split_at_first(self.chain.take(), &later);
         self.chain
             .put(before.join(Chain::of(parcel.into_node())).join(after));
         self.count = self.count.wrapping_add(1);
@@ -234,7 +234,7 @@ impl<T: Drop + Ranked> List<T> {
 
 // Lets items of greater rank pass.
 #[derive(Drop)]
-pub(crate) struct RankedAfter(pub(crate) Rank);
+struct RankedAfter(Rank);
 
 impl<T: Ranked> Predicate<T> for RankedAfter {
     ghost use Rattle.vt_key.specs.Order.{rank_before};

@@ -124,9 +124,11 @@ impl<T> Path<T> {
     }
 }
 
-/// The first nodes of a trail; the last of them still leads on to the node behind it. A clause sees the list of their
-/// items.
-pub(crate) struct Beginning<T> {
+/// The first nodes of a trail, which a walk passed. The last of them still leads on to the node behind it. Contracts see
+/// the list of their items.
+///
+/// It is not `Drop`, so code that doesn't join them to the others again is refused.
+pub struct Beginning<T> {
     head: Link,
     last: Link,
     next: Link,

@@ -32,7 +32,7 @@ impl<T> Model for Row<T> {
 
     ghost view = { λ r. map items (lines_of r.nodes.owned) };
 
-    ghost invariant = { λ r. (r.head ≡ first_or None r.nodes.owned) × StandInRow (lines_of r.nodes.owned) };
+    ghost invariant = { λ r. (r.head ≡ first_or None r.nodes.owned) × StandInRow None (lines_of r.nodes.owned) };
 }
 
 impl<T> Row<T> {

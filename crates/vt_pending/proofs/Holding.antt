@@ -6,23 +6,19 @@ use Rattle.vt_key.specs.Queues.{letter_rank, has_rank}
 use Rattle.vt_key.specs.declared.order.Rank.{Rank}
 use Rattle.vt_key.specs.declared.letter.Letter.{Letter}
 use Rattle.vt_key.proofs.OrderLemmas.{rank-irreflexive, rank_before-true, before-rank_before, rank_same-true}
-use Rattle.vt_pending.specs.Letters.{some_has_rank, holds_rank, AllAfter, IsRising}
+use Rattle.vt_pending.specs.Letters.{some_has_rank, holds_rank, is_reached, AllAfter, IsRising}
 use Rattle.vt_pending.proofs.Rising.{first-false, second-false}
 
 -- a rank that is before another is not the same
-before-differs : (a r : Rank) → RankBefore a r → rank_same a r ≡ false
+pub before-differs : (a r : Rank) → RankBefore a r → rank_same a r ≡ false
 before-differs a r before = elim (rank_same a r) as (λ b. rank_same a r ≡ b → b ≡ false) [
   | true ↦ λ is. absurd (rank-irreflexive a (subst (RankBefore a) (sym (rank_same-true a r is)) before))
   | false ↦ λ is. refl
 ] refl
 
 module _ {P : Type 0} (r : Rank) where
-  -- a letter that isn't before the rank
-  abbrev pub is_reached : Letter P → Bool
-  is_reached l = not (rank_before l.event.rank r)
-
   -- none that is after one that isn't before the rank has it
-  none-holds : (a : Rank) (ls : List (Letter P)) → rank_before a r ≡ false → AllAfter a ls → holds_rank r ls ≡ false
+  pub none-holds : (a : Rank) (ls : List (Letter P)) → rank_before a r ≡ false → AllAfter a ls → holds_rank r ls ≡ false
   none-holds a [] reached all = refl
   none-holds a (l ∷ ls) reached all = elim (has_rank r l) as (λ b. has_rank r l ≡ b → b || holds_rank r ls ≡ false) [
     | true ↦ λ is.
@@ -32,10 +28,10 @@ module _ {P : Type 0} (r : Rank) where
   ] refl
 
   -- of letters in rising rank the first that isn't before a rank has it, or none has
-  pub holds-first : (ls : List (Letter P)) → IsRising ls → some_has_rank r (find is_reached ls) ≡ holds_rank r ls
+  pub holds-first : (ls : List (Letter P)) → IsRising ls → some_has_rank r (find (is_reached r) ls) ≡ holds_rank r ls
   holds-first [] rises = refl
   holds-first (l ∷ ls) rises =
-      elim (rank_before (letter_rank l) r) as (λ b. rank_before (letter_rank l) r ≡ b → some_has_rank r (if not b then Some l else find is_reached ls) ≡ has_rank r l || holds_rank r ls) [
+      elim (rank_before (letter_rank l) r) as (λ b. rank_before (letter_rank l) r ≡ b → some_has_rank r (if not b then Some l else find (is_reached r) ls) ≡ has_rank r l || holds_rank r ls) [
         | true ↦ λ is. holds-first ls rises.1 ∙ ap (λ b. b || holds_rank r ls) (sym (before-differs (letter_rank l) r (rank_before-true (letter_rank l) r is)))
         | false ↦ λ is. alone (has_rank r l) (holds_rank r ls) (none-holds (letter_rank l) ls is rises.0)
       ] refl where

@@ -1,6 +1,7 @@
 mod Filters
 mod Finding
 mod Holding
+mod Inserting
 mod Kept
 mod Placing
 mod Rising

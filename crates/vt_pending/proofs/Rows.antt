@@ -35,7 +35,7 @@ module _ {P : Type 0} where
   in-own x = number-same (own x)
 
   -- what is in one list isn't in another
-  apart : (b : ℕ) (x : Letter P) → in_bucket b x ≡ false → (y : Letter P) → in_bucket b y ≡ true → not_in_bucket (own x) y ≡ true
+  pub apart : (b : ℕ) (x : Letter P) → in_bucket b x ≡ false → (y : Letter P) → in_bucket b y ≡ true → not_in_bucket (own x) y ≡ true
   apart b x other y here =
       elim (in_bucket (own x) y) as (λ c. in_bucket (own x) y ≡ c → not c ≡ true) [
         | true ↦ λ e.

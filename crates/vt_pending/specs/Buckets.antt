@@ -1,11 +1,11 @@
 -- Letters in 64 lists, by their ticks modulo 64.
-use Rattle.std.specs.Prelude.{◌≡◌, ◌≢◌, ℕ, ◌%◌, ◌<◌, ◌↔◌, Bool, false, not, nat_eq, IsBitSet, List, [], ◌∷◌, filter, find, slice_get, Option, None, Some, if◌then◌else◌}
+use Rattle.std.specs.Prelude.{◌≡◌, ◌≢◌, ℕ, ◌%◌, ◌<◌, ◌↔◌, Bool, false, not, ◌||◌, nat_eq, IsBitSet, List, [], ◌∷◌, filter, find, slice_get, Option, None, Some, if◌then◌else◌}
 use Rattle.vt_key.specs.Order.{rank_before}
 use Rattle.vt_key.specs.Times.{ticks_of}
 use Rattle.vt_key.specs.Queues.{letter_rank, insert_letter}
 use Rattle.vt_key.specs.declared.order.Rank.{Rank}
 use Rattle.vt_key.specs.declared.letter.Letter.{Letter}
-use Rattle.vt_pending.specs.Letters.{IsRising}
+use Rattle.vt_pending.specs.Letters.{reached_has, IsRising}
 
 -- the number of the list where letters of this rank are
 abbrev pub bucket_of : Rank → ℕ
@@ -52,6 +52,20 @@ module _ {P : Type 0} where
   abbrev pub least_from : (Letter P → Bool) → Option (Letter P) → List (List (Letter P)) → Option (Letter P)
   least_from test found [] = found
   least_from test found (list ∷ lists) = if both_before found (slice_get list 0) then found else least_from test (lesser found (find test list)) lists
+
+  -- the letter belongs in the list of this rank, or isn't before this rank
+  abbrev pub is_place : Rank → Letter P → Bool
+  is_place rank letter = in_bucket (bucket_of rank) letter || not (rank_before letter.event.rank rank)
+
+  -- the first list is list b, and its first letter that isn't before the rank has it
+  abbrev pub first_holds : ℕ → Rank → List (List (Letter P)) → Bool
+  first_holds b rank [] = false
+  first_holds b rank (list ∷ lists) = if some_in_bucket b (slice_get list 0) then reached_has rank list else false
+
+  -- the row with one letter more in list b, which then is the first one. If it wasn't, the letter is the first of its list
+  abbrev pub insert_here : ℕ → Letter P → List (List (Letter P)) → List (List (Letter P))
+  insert_here b letter [] = (letter ∷ []) ∷ []
+  insert_here b letter (list ∷ lists) = if some_in_bucket b (slice_get list 0) then insert_letter letter list ∷ lists else (letter ∷ list_at b lists) ∷ list ∷ without_list b lists
 
   -- the row with one letter more in list b, which then stands behind the lists whose first letters are before its first one
   abbrev pub insert_in : ℕ → Letter P → List (List (Letter P)) → List (List (Letter P))

@@ -1,7 +1,7 @@
 -- Letters in the order of their ranks.
-use Rattle.std.specs.Prelude.{Bool, false, Option, None, Some, List, [], ◌∷◌, find}
+use Rattle.std.specs.Prelude.{Bool, false, not, Option, None, Some, List, [], ◌∷◌, find}
 use Rattle.std.specs.List.{list_any}
-use Rattle.vt_key.specs.Order.{RankBefore}
+use Rattle.vt_key.specs.Order.{RankBefore, rank_before}
 use Rattle.vt_key.specs.Queues.{without_first, letter_rank, has_rank, has_stamp}
 use Rattle.vt_key.specs.declared.order.Rank.{Rank}
 use Rattle.vt_key.specs.declared.order.Stamp.{Stamp}
@@ -16,6 +16,14 @@ module _ {P : Type 0} where
   -- some letter has this rank
   abbrev pub holds_rank : Rank → List (Letter P) → Bool
   holds_rank rank = list_any (has_rank rank)
+
+  -- a letter that isn't before the rank
+  abbrev pub is_reached : Rank → Letter P → Bool
+  is_reached rank letter = not (rank_before letter.event.rank rank)
+
+  -- the first letter that isn't before the rank has it
+  abbrev pub reached_has : Rank → List (Letter P) → Bool
+  reached_has rank letters = some_has_rank rank (find (is_reached rank) letters)
 
   -- the first letter that has this stamp, if there is one
   abbrev pub first_of_stamp : Stamp → List (Letter P) → Option (Letter P)

@@ -1,9 +1,11 @@
 //! Lists of letters in a row: the 64 buckets by time.
 
-ghost use Rattle.std.specs.Prelude.{◌≡◌, ◌≢◌, ℕ, ◌<◌, ◌↔◌, [], None, find, slice_get, IsBitSet};
+ghost use Rattle.std.specs.Prelude.{◌≡◌, ◌≢◌, ℕ, ◌<◌, ◌↔◌, [], None, false, true, find, nat_eq, IfErr, IfOk, IsBitSet};
 ghost use Rattle.std.specs.Option.{option_copied};
-ghost use Rattle.vt_pending.specs.Letters.{some_has_rank};
-ghost use Rattle.vt_pending.specs.Buckets.{bucket_of, some_in_bucket, both_before, lesser, least_from, list_at, without_list, insert_in, put_list, put_some};
+ghost use Rattle.vt_key.specs.Order.{rank_before};
+ghost use Rattle.vt_key.specs.Queues.{insert_letter};
+ghost use Rattle.vt_pending.specs.Letters.{some_has_rank, holds_rank, reached_has, IsRising};
+ghost use Rattle.vt_pending.specs.Buckets.{bucket_of, some_in_bucket, both_before, lesser, least_from, list_at, without_list, first_holds, insert_here, insert_in, put_list, put_some, letters_of, IsRow};
 
 use crate::mask::Mask;
 use std::alloc::Global;
@@ -73,14 +75,12 @@ pub(crate) fn put_list<P: Copy>(lists: &mut Lines<Letter<P>>, list: Line<Letter<
     requires { list ≢ [] }
     ensures { lists.new ≡ put_list list lists.old }
 {
-    if !is_before(lists.front(), list.front()) {
-        lists.push_line(list);
-        return;
-    }
-    if let Some(first) = lists.pop_line() {
-        put_list(lists, list);
-        lists.push_line(first);
-    }
+    let Some(first) = list.front() else {
+        unreachable!();
+    };
+    let passed = lists.pass(&NotBefore(first.event.rank));
+    lists.push_line(list);
+    lists.join(passed);
 }
 
 /// Takes list `number` out of the row. If the mask says that it isn't there, the result is empty, and no list is
@@ -103,34 +103,119 @@ pub(crate) fn take_marked<P: Copy>(
 }
 
 /// Puts a letter into its list, `number`, and that list behind those whose first letters are before its first one.
+///
+/// An error means that a letter of its rank is there. It hands the letter back, and the row is unchanged.
 pub(crate) fn insert_in<P: Copy>(
     mask: Mask,
     lists: &mut Lines<Letter<P>>,
     number: u32,
     letter: Parcel<Letter<P>>,
     alloc: Global,
-)
+) -> Result<(), Parcel<Letter<P>>>
+    requires own { number ≡ bucket_of letter.event.rank }
     requires within { number < 64 }
     requires marked { (IsBitSet mask.bits number → ⊥) → list_at number lists.old ≡ [] }
-    ensures { lists.new ≡ insert_in number letter lists.old }
+    requires row { IsRow lists.old (letters_of lists.old) × IsRising (letters_of lists.old) }
+    ensures put { IfOk result (λ _. lists.new ≡ insert_in number letter lists.old) }
+    ensures new { IfOk result (λ _. holds_rank letter.event.rank (letters_of lists.old) ≡ false) }
+    ensures held { IfErr result (λ _. holds_rank letter.event.rank (letters_of lists.old) ≡ true) }
+    ensures unchanged { IfErr result (λ back. (back ≡ letter) × (lists.new ≡ lists.old)) }
 {
-    let Some(mut list) = lists.pop_line() else {
-        let mut own = Line::new(alloc);
-        own.push_front(letter);
-        lists.push_line(own);
-        return;
-    };
-    if is_in(list.front(), number) {
-        list.insert_ordered(letter);
-    } else if is_before(list.front(), Some(letter.get())) {
-        insert_in(mask, lists, number, letter, alloc);
-    } else {
-        let mut own = take_marked(mask, lists, number, alloc);
+    let passed = lists.pass(&Place(letter.get().event.rank));
+    let put = insert_here(mask, lists, number, letter, alloc);
+    lists.join(passed);
+    put
+}
+
+/// Puts a letter into list `number` if that is the first one. Else it becomes the first letter of that list, which then
+/// is the first one.
+///
+/// An error means that a letter of its rank is in the first list. It hands the letter back, and the row is unchanged.
+fn insert_here<P: Copy>(
+    mask: Mask,
+    lists: &mut Lines<Letter<P>>,
+    number: u32,
+    letter: Parcel<Letter<P>>,
+    alloc: Global,
+) -> Result<(), Parcel<Letter<P>>>
+    requires within { number < 64 }
+    requires marked { (IsBitSet mask.bits number → ⊥) → list_at number lists.old ≡ [] }
+    ensures put { IfOk result (λ _. lists.new ≡ insert_here number letter lists.old) }
+    ensures new { IfOk result (λ _. first_holds number letter.event.rank lists.old ≡ false) }
+    ensures held { IfErr result (λ _. first_holds number letter.event.rank lists.old ≡ true) }
+    ensures unchanged { IfErr result (λ back. (back ≡ letter) × (lists.new ≡ lists.old)) }
+{
+    if is_in(lists.front(), number) {
+        let Some(mut list) = lists.pop_line() else {
+            unreachable!();
+        };
+        let put = put_new(&mut list, letter);
         lists.push_line(list);
-        own.push_front(letter);
-        list = own;
+        return put;
     }
-    lists.push_line(list);
+    let mut own = take_marked(mask, lists, number, alloc);
+    own.push_front(letter);
+    lists.push_line(own);
+    Ok(())
+}
+
+/// Puts a letter into a list of letters in rising rank.
+///
+/// An error means that a letter of its rank is there. It hands the letter back, and the list is unchanged.
+fn put_new<P: Copy>(
+    list: &mut Line<Letter<P>>,
+    letter: Parcel<Letter<P>>,
+) -> Result<(), Parcel<Letter<P>>>
+    ensures put { IfOk result (λ _. list.new ≡ insert_letter letter list.old) }
+    ensures new { IfOk result (λ _. reached_has letter.event.rank list.old ≡ false) }
+    ensures held { IfErr result (λ _. reached_has letter.event.rank list.old ≡ true) }
+    ensures unchanged { IfErr result (λ back. (back ≡ letter) × (list.new ≡ list.old)) }
+{
+    let place = NotBefore(letter.get().event.rank);
+    let passed = list.pass(&place);
+    if has_rank(list.front(), place.0) {
+        list.join(passed);
+        return Err(letter);
+    }
+    list.push_front(letter);
+    list.join(passed);
+    Ok(())
+}
+
+/// Lets a letter pass that belongs in the list of this rank, or isn't before this rank. Letters of other lists have
+/// other ticks, so the ticks alone tell their order.
+#[derive(Drop)]
+struct Place(Rank);
+
+impl<P> Predicate<Letter<P>> for Place {
+    ghost use Rattle.vt_pending.specs.Buckets.{is_place};
+
+    ghost passes = { λ t letter. is_place t.0 letter };
+
+    fn test(&self, letter: &Letter<P>) -> bool {
+        bucket(letter.event.rank) == bucket(self.0) || !is_earlier(&letter.event.rank, &self.0)
+    }
+}
+
+/// Whether the tick of a rank is below that of another, in another list.
+fn is_earlier(rank: &Rank, other: &Rank) -> bool
+    ensures { nat_eq (bucket_of rank.now) (bucket_of other.now) ≡ false → result ≡ rank_before rank.now other.now }
+{
+    rank.key.when().ticks() < other.key.when().ticks()
+}
+
+/// Lets a letter pass that isn't before this rank.
+#[derive(Drop)]
+pub(crate) struct NotBefore(pub(crate) Rank);
+
+impl<P> Predicate<Letter<P>> for NotBefore {
+    ghost use Rattle.vt_pending.specs.Letters.{is_reached};
+
+    ghost passes = { λ t letter. is_reached t.0 letter };
+
+    fn test(&self, letter: &Letter<P>) -> bool {
+        !letter.event.rank.is_before(&self.0)
+    }
 }
 
 /// Puts back what is left of list `number`, and returns the mask afterwards.

@@ -7,7 +7,9 @@ ghost use Rattle.vt_key.specs.Queues.{has_stamp, insert_letter};
 ghost use Rattle.vt_pending.specs.Letters.{holds_rank, first_of_stamp, without_stamp, IsRising};
 ghost use Rattle.vt_pending.specs.Buckets.{in_bucket};
 
-use crate::buckets::{bucket, find_in, find_least, has_rank, insert_in, put_back, take_marked};
+use crate::buckets::{
+    NotBefore, bucket, find_in, find_least, has_rank, insert_in, put_back, take_marked,
+};
 use crate::mask::Mask;
 use std::alloc::Global;
 use std::marker::Model;
@@ -81,7 +83,13 @@ impl<P: Copy> Pending<P> {
     pub fn holds(&self, rank: Rank) -> bool
         ensures { result ≡ holds_rank rank self.now }
     {
-        self.is_held(rank)
+        let sought = NotBefore(rank);
+        let number = bucket(sought.0);
+        if !self.mask.has(number) {
+            return false;
+        }
+        let found = find_in(self.lists.iter(), number, &sought);
+        has_rank(found, sought.0)
     }
 
     /// Puts a letter in front of the first one of greater rank, or last if there is none. No letter of its rank may
@@ -91,10 +99,9 @@ impl<P: Copy> Pending<P> {
         ensures letters { self.new ≡ insert_letter letter self.old }
         ensures rising { IsRising self.new }
     {
-        let number = bucket(letter.get().event.rank);
-        insert_in(self.mask, &mut self.lists, number, letter, self.alloc);
-        self.mask = self.mask.with(number);
-        self.count = self.count.wrapping_add(1);
+        let Ok(()) = self.insert_new(letter) else {
+            unreachable!();
+        };
     }
 
     /// Puts a letter in as [`Pending::insert`] does, unless a letter of its rank is there.
@@ -107,10 +114,12 @@ impl<P: Copy> Pending<P> {
         ensures unchanged { IfErr result (λ back. (back ≡ letter) × (self.new ≡ self.old)) }
         ensures rising { IsRising self.new }
     {
-        if self.is_held(letter.get().event.rank) {
-            return Err(letter);
+        let number = bucket(letter.get().event.rank);
+        if let Err(back) = insert_in(self.mask, &mut self.lists, number, letter, self.alloc) {
+            return Err(back);
         }
-        self.insert(letter);
+        self.mask = self.mask.with(number);
+        self.count = self.count.wrapping_add(1);
         Ok(())
     }
 
@@ -166,37 +175,6 @@ impl<P: Copy> Pending<P> {
         self.mask = put_back(self.mask, &mut self.lists, number, list);
         self.count = self.count.wrapping_sub(1);
         Some(letter)
-    }
-
-    // What `holds` tells. The clause `rising` is for `insert_new`.
-    // Mostly a bit of the mask tells it, and a call would copy the rank.
-    #[inline(always)]
-    fn is_held(&self, rank: Rank) -> bool
-        ensures held { result ≡ holds_rank rank self.now }
-        ensures rising { IsRising self.now }
-    {
-        let sought = NotBefore(rank);
-        let number = bucket(sought.0);
-        if !self.mask.has(number) {
-            return false;
-        }
-        let found = find_in(self.lists.iter(), number, &sought);
-        has_rank(found, sought.0)
-    }
-}
-
-// Lets a letter pass that isn't before this rank.
-#[derive(Drop)]
-struct NotBefore(Rank);
-
-impl<P> Predicate<Letter<P>> for NotBefore {
-    ghost use Rattle.std.specs.Prelude.{not};
-    ghost use Rattle.vt_key.specs.Order.{rank_before};
-
-    ghost passes = { λ t letter. not (rank_before letter.event.rank t.0) };
-
-    fn test(&self, letter: &Letter<P>) -> bool {
-        !letter.event.rank.is_before(&self.0)
     }
 }
 

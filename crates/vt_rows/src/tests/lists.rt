@@ -68,6 +68,18 @@ impl Predicate<Item> for Below {
     }
 }
 
+/// Passes what is above a number.
+#[derive(Drop)]
+struct Above(u32);
+
+impl Predicate<Item> for Above {
+    ghost passes = { λ t item. nat_lt t.0 item.number };
+
+    fn test(&self, item: &Item) -> bool {
+        item.number > self.0
+    }
+}
+
 /// Two lists, a line, a row of lines and a stack, and how often each item was dropped.
 #[derive(Drop)]
 struct Shelf {
@@ -182,11 +194,19 @@ impl Shelf {
             "list.insert" => self.list.insert_ordered(item),
             "more.push_back" => self.more.push_back(item),
             "line.push_front" => self.line.push_front(item),
-            "line.insert" => self.line.insert_ordered(item),
+            "line.insert" => self.insert_in_line(item),
             "stack.push" => self.stack.push(item),
             _ => return false,
         }
         true
+    }
+
+    /// Puts an item in front of the first one of greater rank.
+    fn insert_in_line(&mut self, item: Parcel<Item>) {
+        let last_of_rank = item.get().number | 1;
+        let passed = self.line.pass(&Above(last_of_rank));
+        self.line.push_front(item);
+        self.line.join(passed);
     }
 
     /// Takes an item out.
@@ -234,6 +254,7 @@ impl Shelf {
                 self.list.push_back(item);
             },
             "line.to_row" => self.line_to_row(alloc),
+            "line.into_row" => self.line_into_row(alloc),
             "row.to_line" => if let Some(line) = self.row.pop_line() {
                 self.line = line;
             },
@@ -247,6 +268,17 @@ impl Shelf {
         if !line.is_empty() {
             self.row.push_line(line);
         }
+    }
+
+    /// Puts the line in front of the first one of the row that begins above its first item.
+    fn line_into_row(&mut self, alloc: Global) {
+        let line = mem::replace(&mut self.line, Line::new(alloc));
+        let Some(number) = line.front().map(|item| item.number) else {
+            return;
+        };
+        let passed = self.row.pass(&Above(number));
+        self.row.push_line(line);
+        self.row.join(passed);
     }
 
     /// Drops all that lies in one of them.
@@ -488,6 +520,29 @@ tell drops = 1000110
 forget line
 tell drops = 1111110";
 
+/// A line goes into a row at its place: in front, between two others, and behind them.
+const INTO_A_ROW: &str = "\
+carry line.into_row
+put line.push_front 4
+carry line.into_row
+tell row = : 4
+put line.push_front 9
+put line.push_front 8
+carry line.into_row
+put line.push_front 2
+put line.push_front 1
+carry line.into_row
+put line.push_front 6
+carry line.into_row
+tell row = : 1 2 : 4 : 6 : 8 9
+tell empty = true true false
+carry row.to_line
+tell line = 1 2
+tell row = : 4 : 6 : 8 9
+tell drops = 0
+forget row
+tell drops = 1101010000";
+
 #[test]
 fn lists_lines_and_stacks_do_what_the_texts_say(rt: HostRuntime) -> Result<(), Fail> {
     for lines in [
@@ -497,6 +552,7 @@ fn lists_lines_and_stacks_do_what_the_texts_say(rt: HostRuntime) -> Result<(), F
         FIRST_THAT_PASSES,
         FROM_LIST_TO_STACK,
         ROW,
+        INTO_A_ROW,
     ] {
         scenario(&rt, lines)?;
     }

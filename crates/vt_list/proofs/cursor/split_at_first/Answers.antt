@@ -1,4 +1,4 @@
-use Rattle.std.proofs.Common.{rules, arith, ◌∙◌}
+use Rattle.std.proofs.Common.{rules, ◌∙◌}
 use Rattle.vt_list.proofs.Firsts.{IsFurther, further}
 use Rattle.vt_list.proofs.cursor.split_at_first.Goals as goal
 
@@ -7,10 +7,8 @@ loop-cursor-preserved g c =
     let test = g.P.Predicate.passes c.args.test.now in
     let inv = c.loop-cursor.invariant in
     let one : IsFurther test c.loop-cursor.cursor c.advance-cursor.result = search (rules, further test c.loop-cursor.cursor) in
-    let more = one.passed in
     record {
       before = inv.before ∙ one.before;
       from = inv.from ∙ one.from;
       whole = inv.whole ∙ one.whole;
-      passed = omega (arith, inv.passed, more);
     }

@@ -1,4 +1,4 @@
-use Rattle.std.proofs.Common.{◌≡◌, ◌++◌, ◌%◌, ◌^◌, length}
+use Rattle.std.proofs.Common.{◌≡◌, ◌++◌, length}
 use Rattle.vt_list.specs.First.{before_first, from_first}
 use Rattle.vt_list.proofs.cursor.split_at_first.Given as goal
 
@@ -7,7 +7,6 @@ invariant-loop-cursor g l = let test = g.P.Predicate.passes l.fn.test in record 
   before : before_first test l.fn.chain ≡ l.cursor.0 ++ before_first test l.cursor.1;
   from : from_first test l.fn.chain ≡ from_first test l.cursor.1;
   whole : l.fn.chain ≡ l.cursor.0 ++ l.cursor.1;
-  passed : l.passed ≡ length l.cursor.0 % 2 ^ 64;
 }
 
 abbrev pub decreases-loop-cursor : goal.decreases-loop-cursor
