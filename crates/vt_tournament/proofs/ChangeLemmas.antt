@@ -1,9 +1,9 @@
 -- An entry was changed: from some place on each has its winner anew, and the places before it have the one from before.
-use Rattle.std.proofs.Common.{◌≡◌, ℕ, ◌+◌, ◌-◌, ◌/◌, ◌^◌, ◌<◌, ◌≤◌, ◌⊎◌, inl, inr, false, List, length, slice_index_or, Option, Some, None, slice_set, refl, sym, subst, ap, ◌∙◌, arith}
+use Rattle.std.proofs.Common.{◌≡◌, ℕ, ◌+◌, ◌*◌, ◌-◌, ◌/◌, ◌^◌, ◌<◌, ◌≤◌, ◌⊎◌, inl, inr, false, List, length, slice_index_or, Option, Some, None, slice_set, refl, sym, subst, ap, ◌∙◌, arith}
 use Rattle.std.proofs.lemmas.List.{get_or-set_other, length-set}
 use Rattle.std.proofs.lemmas.Bool.{cases_order}
 use Rattle.vt_key.specs.declared.order.Rank.{Rank}
-use Rattle.vt_tournament.specs.Contest.{Node, is_ahead, is_ahead_by, contestant, node_of, Fits, inner_places, last_place, place, node, IsBelow, IsAbove, IsWinner, IsBest, AreWinners, WasTournamentOf, IsChanged, IsCarried}
+use Rattle.vt_tournament.specs.Contest.{Node, is_ahead, is_ahead_by, contestant, node_of, Fits, inner_places, last_place, place, node, IsBelow, IsAbove, IsWinner, IsBest, AreWinners, WasTournamentOf, place_at, IsChanged, IsDecided, IsCarried}
 use Rattle.vt_tournament.proofs.AheadLemmas.{NotBehind, not_behind-transitive, not_behind-same, behind-none}
 use Rattle.vt_tournament.proofs.NodeLemmas.{somebody, ranked-known}
 use Rattle.vt_tournament.proofs.PathLemmas.{above-self, above-low, above-next, above-transitive, between, upward}
@@ -221,3 +221,39 @@ module _ (ranks : List (Option Rank)) (number : ℕ) (nodes : List Node) (few : 
                   | inr l ↦ above_it ranks number c.entry known few p (node nodes p) next_path had another won k (node nodes k) l (c.before k (omega (arith, l, more)))
                 ];
               }
+
+-- ---- nodes by their offsets
+
+-- a changed contestant's leaf
+pub leaf_decided : (ranks : List (Option Rank)) (number : ℕ) (nodes : List Node) → length ranks ≤ 2 ^ 23 → number < length ranks → WasTournamentOf number ranks nodes → (leaf : Node) → leaf ≡ node_of (contestant ranks number) → (offset : ℕ) → offset ≡ (length ranks + number) * 16 → (at : ℕ) → at ≡ place_at offset → IsDecided ranks number offset (slice_set nodes at leaf) leaf
+leaf_decided ranks number nodes few known was leaf own offset is at there =
+    let here : place ranks number ≡ at = omega (arith, is, there, known) in
+    let changed : IsChanged ranks number at (slice_set nodes at leaf) =
+    subst (λ (n : ℕ). IsChanged ranks number n (slice_set nodes n leaf)) here
+    (subst (λ (w : Node). IsChanged ranks number (place ranks number) (slice_set nodes (place ranks number) w)) (sym own) (begun ranks number nodes few known was)) in
+    record {
+      some = omega (arith, is, known);
+      whole = omega (arith, is);
+      changed = subst (λ (n : ℕ). IsChanged ranks number n (slice_set nodes at leaf)) there changed;
+      own = subst (λ (n : ℕ). leaf ≡ node (slice_set nodes at leaf) n) there (sym (node-set_same nodes at leaf (omega (arith, changed.high, changed.full, length-set nodes at leaf))));
+    }
+
+module _ (ranks : List (Option Rank)) (number : ℕ) (nodes : List Node) (few : length ranks ≤ 2 ^ 23) (known : number < length ranks) (offset : ℕ) (w : Node) (of : IsDecided ranks number offset nodes w) (more : 16 < offset) where
+  far : 32 ≤ offset
+  far = omega (arith, more, of.whole)
+
+  pub decided-fit : (k : ℕ) → IsBelow k ((place_at offset - 1) / 2) → Fits ranks (node nodes k)
+  decided-fit k h = (below_next ranks number nodes few known (place_at offset) of.changed (omega (arith, far)) k h).fits
+
+  -- the best of the two below the next node
+  pub decided-next : (best : Node) → IsBest ranks nodes ((place_at offset - 1) / 2) best → (at : ℕ) → at ≡ place_at (offset / 32 * 16) → IsDecided ranks number (offset / 32 * 16) (slice_set nodes at best) best
+  decided-next best is at there =
+      let here : (place_at offset - 1) / 2 ≡ at = omega (arith, far, there) in
+      let changed : IsChanged ranks number at (slice_set nodes at best) =
+      subst (λ (n : ℕ). IsChanged ranks number n (slice_set nodes n best)) here (gone_on ranks number nodes few known (place_at offset) of.changed (omega (arith, far)) best is) in
+      record {
+        some = omega (arith, far);
+        whole = omega arith;
+        changed = subst (λ (n : ℕ). IsChanged ranks number n (slice_set nodes at best)) there changed;
+        own = subst (λ (n : ℕ). best ≡ node (slice_set nodes at best) n) there (sym (node-set_same nodes at best (omega (arith, changed.high, of.changed.full))));
+      }

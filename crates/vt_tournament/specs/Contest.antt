@@ -94,6 +94,10 @@ IsBelow k above = (2 * above + 1 ≤ k) × (k ≤ 2 * above + 2)
 abbrev pub beside : ℕ → ℕ
 beside k = k - 1 + 2 * (k % 2)
 
+-- the place of the node with this offset: offsets count from 1, in steps of 16
+abbrev pub place_at : ℕ → ℕ
+place_at offset = offset / 16 - 1
+
 -- the node so many levels above another; above the root it is the root
 abbrev pub raised : ℕ → ℕ → ℕ
 raised zero k = k
@@ -140,6 +144,13 @@ pub record IsChanged (ranks : List (Option Rank)) (number at : ℕ) (nodes : Lis
   pub full : length nodes ≡ last_place (length ranks) + 1
   pub before : (k : ℕ) → k < at → IsWinner (slice_set ranks number entry) k (node nodes k)
   pub won : (k : ℕ) → at ≤ k → k ≤ last_place (length ranks) → IsWinner ranks k (node nodes k)
+
+-- from the node at this offset on all have their winners, after a change of this contestant, and this content is the node's
+pub record IsDecided (ranks : List (Option Rank)) (number offset : ℕ) (nodes : List Node) (w : Node) : Type 0 where
+  pub some : 16 ≤ offset
+  pub whole : offset % 16 ≡ 0
+  pub changed : IsChanged ranks number (place_at offset) nodes
+  pub own : w ≡ node nodes (place_at offset)
 
 -- this content is that of a node from which on all have their winners, after a change of a contestant that didn't win above
 pub record IsCarried (ranks : List (Option Rank)) (at : ℕ) (nodes : List Node) (w : Node) : Type 0 where

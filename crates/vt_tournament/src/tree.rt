@@ -3,7 +3,7 @@
 ghost use Rattle.std.specs.Prelude.{◌≡◌, true, ℕ, ◌+◌, ◌*◌, ◌/◌, ◌-◌, ◌<◌, ◌≤◌, ◌^◌, List, length, replicate, slice_get, slice_index_or, Option, Some, None, IfOk, IfErr, IfSome, IfNone};
 ghost use Rattle.vt_key.specs.declared.fault.Fault.TheVariants.{Memory};
 ghost use Rattle.vt_key.specs.declared.order.Rank.{Rank};
-ghost use Rattle.vt_tournament.specs.Contest.{contestant, node_of, inner_places, node, IsBelow, beside, Fits, IsBest, AreWinners, IsTournamentOf, WasTournamentOf, IsCarried};
+ghost use Rattle.vt_tournament.specs.Contest.{contestant, node_of, inner_places, node, IsBelow, beside, place_at, Fits, IsBest, AreWinners, IsTournamentOf, WasTournamentOf, IsDecided, IsCarried};
 ghost use Rattle.vt_tournament.specs.Least.{IsLeast};
 
 use crate::contestants::Contestants;
@@ -110,26 +110,34 @@ fn nodes_of_nobody(alloc: Global, count: u32) -> Result<Vec<Node>, Fault>
     Ok(nodes)
 }
 
-/// The sibling of a node. It is computed without a branch, since half of all branches here would be mispredicted.
-fn beside(at: usize) -> usize
-    requires below { 1 ≤ at }
-    requires small { at < 2 ^ 63 }
-    ensures { result ≡ beside at }
+/// The place of the node at an offset. An offset is 16 times the number of a node, counted from 1: nodes have 16 bytes, so
+/// the way from a leaf to the root is computed on addresses. In 32 bits no mask is too long for an instruction.
+fn place_at(offset: u32) -> usize
+    requires some { 16 ≤ offset }
+    ensures { result ≡ place_at offset }
 {
-    at - 1 + 2 * (at % 2)
+    offset as usize / 16 - 1
 }
 
-/// The better of node `at` and its sibling; `winner` is the content of node `at`.
-fn best_below<C: Contestants>(nodes: &[Node], contestants: &C, at: usize, winner: Node) -> Node
-    requires few { length (C.entries contestants.now) ≤ 2 ^ 23 }
-    requires below { 1 ≤ at }
-    requires small { at < 2 ^ 63 }
-    requires there { beside at < length nodes.now }
-    requires known { winner ≡ node nodes.now at }
-    requires fit { (k : ℕ) → IsBelow k ((at - 1) / 2) → Fits (C.entries contestants.now) (node nodes.now k) }
-    ensures { IsBest (C.entries contestants.now) nodes.now ((at - 1) / 2) result }
+/// The sibling of the node at an offset. It is computed without a branch, since half of all branches here would be
+/// mispredicted.
+fn beside(offset: u32) -> usize
+    requires below { 32 ≤ offset }
+    ensures { result ≡ beside (place_at offset) }
 {
-    winner.winner(nodes[beside(at)], contestants)
+    place_at(offset / 32 * 32 + (31 - offset % 32))
+}
+
+/// The better of the node at an offset and its sibling; `winner` is the node's content.
+fn best_below<C: Contestants>(nodes: &[Node], contestants: &C, offset: u32, winner: Node) -> Node
+    requires few { length (C.entries contestants.now) ≤ 2 ^ 23 }
+    requires below { 32 ≤ offset }
+    requires there { beside (place_at offset) < length nodes.now }
+    requires known { winner ≡ node nodes.now (place_at offset) }
+    requires fit { (k : ℕ) → IsBelow k ((place_at offset - 1) / 2) → Fits (C.entries contestants.now) (node nodes.now k) }
+    ensures { IsBest (C.entries contestants.now) nodes.now ((place_at offset - 1) / 2) result }
+{
+    winner.winner(nodes[beside(offset)], contestants)
 }
 
 /// Updates the nodes above a contestant whose entry was changed; `node` is its new leaf. The winner is carried up in
@@ -141,20 +149,65 @@ fn decide_above<C: Contestants>(contestants: &C, nodes: &mut [Node], number: u32
     requires own { node ≡ node_of (contestant (C.entries contestants.now) number) }
     ensures decided { AreWinners (C.entries contestants.now) nodes.new }
 {
-    // Who won at the root won at each node above its leaf.
     let led = nodes[0].number() == number;
-    let mut at = inner_places(contestants.count()) + number as usize;
-    let mut winner = node;
-    nodes[at] = winner;
-    while at > 0 {
-        let above = (at - 1) / 2;
-        if !led && nodes[above].number() != number {
-            carry_up(contestants, nodes, at, winner);
+    // The inner nodes are one fewer than the contestants, and the leaves come after them.
+    let offset = (contestants.count() as u32 + number) * 16;
+    nodes[place_at(offset)] = node;
+    // Who won at the root won at each node above its leaf.
+    if led {
+        decide_all(contestants, nodes, number, offset, node);
+    } else {
+        decide_won(contestants, nodes, number, offset, node);
+    }
+}
+
+/// Decides all nodes above a contestant's leaf anew; `leaf` is its content, and `from` its offset. The loop has no other
+/// choice than that of the better node.
+fn decide_all<C: Contestants>(
+    contestants: &C,
+    nodes: &mut [Node],
+    number: u32,
+    from: u32,
+    leaf: Node,
+)
+    requires known { number < length (C.entries contestants.now) }
+    requires few { length (C.entries contestants.now) ≤ 2 ^ 23 }
+    requires leaf { IsDecided (C.entries contestants.now) number from nodes.old leaf }
+    ensures decided { AreWinners (C.entries contestants.now) nodes.new }
+{
+    let mut offset = from;
+    let mut winner = leaf;
+    while offset > 16 {
+        winner = best_below(nodes, contestants, offset, winner);
+        offset = offset / 32 * 16;
+        nodes[place_at(offset)] = winner;
+    }
+}
+
+/// As [`decide_all`], up to the first node where another contestant had won. From there on the winner is carried up.
+fn decide_won<C: Contestants>(
+    contestants: &C,
+    nodes: &mut [Node],
+    number: u32,
+    from: u32,
+    leaf: Node,
+)
+    requires known { number < length (C.entries contestants.now) }
+    requires few { length (C.entries contestants.now) ≤ 2 ^ 23 }
+    requires leaf { IsDecided (C.entries contestants.now) number from nodes.old leaf }
+    ensures decided { AreWinners (C.entries contestants.now) nodes.new }
+{
+    let mut offset = from;
+    let mut winner = leaf;
+    while offset > 16 {
+        let above = offset / 32 * 16;
+        if nodes[place_at(above)].number() != number {
+            carry_up(contestants, nodes, place_at(offset), winner);
             return;
         }
-        winner = best_below(nodes, contestants, at, winner);
-        at = above;
-        nodes[at] = winner;
+        winner = best_below(nodes, contestants, offset, winner);
+        offset = above;
+        nodes[place_at(offset)] = winner;
     }
 }
 
