@@ -1,7 +1,6 @@
 -- The ranks that a process enters: where no anti-message waits, and where past events are forgotten.
 use Rattle.std.proofs.Common.{◌≡◌, ◌∙◌, ◌⊎◌, inl, inr, Bool, true, false, if◌then◌else◌, ℕ, List, [], ◌∷◌, ◌++◌, refl, sym, ap, subst, Option, Some, None, slice_get, IfSome, IfNone}
 use Rattle.std.specs.List.{last_or}
-use Rattle.std.specs.Option.{is_some}
 use Rattle.vt_key.specs.Order.{rank_before}
 use Rattle.vt_key.specs.Times.{Time}
 use Rattle.vt_key.specs.declared.order.Rank.{Rank}
@@ -32,10 +31,9 @@ alone : {P K : Type 0} (pending : List (Letter P)) (past : List (PastEvent P K))
 alone [] past r is = absurd (let w : None ≡ Some r = is in cc)
 alone (least ∷ rest) past r is = first_ready (may_come_after (last_or None past) least.event.rank) least.event.rank r is
 
-pub nothing-unready : {S P K : Type 0} (q : HeldProcess S P K) (ready : Option Rank) → ready ≡ ready_of q → is_some ready ≡ true → q.waiting ≡ [] → None ≡ unready_of q
-nothing-unready q None is part none = absurd (let w : false ≡ true = part in cc)
-nothing-unready q (Some r) is part none =
-    alone q.pending q.past r (sym is)
+pub nothing-unready : {S P K : Type 0} (q : HeldProcess S P K) (r : Rank) → ready_of q ≡ Some r → q.waiting ≡ [] → None ≡ unready_of q
+nothing-unready q r is none =
+    alone q.pending q.past r is
     ∙ (λ j. other_rank (ready_of q) (lesser_rank (slice_get q.pending 0) (slice_get (sym none j) 0)))
 
 -- ---- a process that forgets past events

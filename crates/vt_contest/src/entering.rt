@@ -1,7 +1,8 @@
 //! How a process enters the contest after a change.
 
-ghost use Rattle.std.specs.Prelude.{◌≡◌, ◌<◌, length, false};
-ghost use Rattle.vt_contest.specs.Entries.{ready_of, unready_of, other_rank, TellsLeast};
+ghost use Rattle.std.specs.Prelude.{◌≡◌, ◌<◌, length, false, None, slice_index_or};
+ghost use Rattle.vt_tournament.specs.Contest.{IsTournamentOf, WasTournamentOf};
+ghost use Rattle.vt_contest.specs.Entries.{entries_of, ready_of, unready_of, other_rank, TellsLeast};
 ghost use Rattle.vt_contest.specs.Contest.{IsContestOf, WasContestOf, WasBeforeForgetting};
 
 use crate::contest::Contest;
@@ -9,6 +10,7 @@ use crate::contestants::{IfReady, IfUnready, Teller, enter_into, ready_at, unrea
 use vt_key::Rank;
 use vt_lp::Lp;
 use vt_model::Model as EventModel;
+use vt_tournament::Tournament;
 
 impl Contest {
     /// Updates the contest after a change of the process at index `place` alone.
@@ -20,11 +22,12 @@ impl Contest {
         let process = &processes[place];
         let own = process.ready();
         let number = place as u32;
+        let may_enter = may_be_unready(process, &own);
+        enter_unready(&mut self.unready, processes, number, may_enter);
         let who_is_ready = Teller(|other| ready_at(processes, other));
         enter_into::<M, IfReady, _>(&mut self.ready, processes, number, &own, who_is_ready);
-        let rank = unready_of(process, &own);
-        let who_is_not = Teller(|other| unready_at(processes, other));
-        enter_into::<M, IfUnready, _>(&mut self.unready, processes, number, &rank, who_is_not);
+        // Before the tournaments are updated, the compiler would keep its comparisons.
+        tells_least(process);
         self.marked.set(place, process.has_past());
     }
 
@@ -55,19 +58,65 @@ impl Contest {
     }
 }
 
-/// The least rank of all pending messages and waiting anti-messages of a process; None if that is `ready`, the rank of the
-/// event that it may execute, or if there is none.
-fn unready_of<M: EventModel>(process: &Lp<M>, ready: &Option<Rank>) -> Option<Rank>
-    requires own { ready.now ≡ ready_of process.now }
-    ensures rank { result ≡ unready_of process.now }
-    ensures told { TellsLeast process.now }
+/// The least rank of a process tells its least time. Only the contract counts, and the compiler drops the call.
+fn tells_least<M: EventModel>(process: &Lp<M>)
+    ensures { TellsLeast process.now }
 {
-    let least = process.least_rank();
-    // Mostly no anti-message waits. Then the ready event has the least rank, and no ranks are compared.
-    if ready.is_some() && !process.has_waiting() {
-        return None;
+    process.least_rank();
+}
+
+/// Whether the least rank of a process may be another than `ready`, the rank of the event that it may execute. Mostly no
+/// anti-message waits. Then the ready event has the least rank, and no ranks are compared.
+fn may_be_unready<M: EventModel>(process: &Lp<M>, ready: &Option<Rank>) -> bool
+    requires own { ready.now ≡ ready_of process.now }
+    ensures { result ≡ false → None ≡ unready_of process.now }
+{
+    match ready {
+        Some(_) => process.has_waiting(),
+        None => process.least_rank().is_some(),
     }
-    other_than(ready, &least)
+}
+
+/// Updates the tournament of the least letters after a change of the process at index `place` alone. Unless `may_enter`, the
+/// process has no entry there. Mostly none has one, and nothing is changed.
+fn enter_unready<M: EventModel>(
+    unready: &mut Tournament,
+    processes: &[Lp<M>],
+    place: u32,
+    may_enter: bool,
+)
+    requires there { place < length processes.now }
+    requires none { may_enter ≡ false → slice_index_or (entries_of unready_of processes.now) place None ≡ None }
+    requires was { WasTournamentOf place (entries_of unready_of processes.now) unready.old }
+    ensures { IsTournamentOf (entries_of unready_of processes.now) unready.new }
+{
+    if !may_enter && unready.winner().is_none() {
+        return;
+    }
+    enter_letters(unready, processes, place, may_enter);
+}
+
+/// As [`enter_unready`], where a process has or had an entry. It stands apart, so that [`Contest::enter`] stays short.
+#[cold]
+#[inline(never)]
+fn enter_letters<M: EventModel>(
+    unready: &mut Tournament,
+    processes: &[Lp<M>],
+    place: u32,
+    may_enter: bool,
+)
+    requires there { place < length processes.now }
+    requires none { may_enter ≡ false → slice_index_or (entries_of unready_of processes.now) place None ≡ None }
+    requires was { WasTournamentOf place (entries_of unready_of processes.now) unready.old }
+    ensures { IsTournamentOf (entries_of unready_of processes.now) unready.new }
+{
+    let rank = if may_enter {
+        unready_at(processes, place)
+    } else {
+        None
+    };
+    let who_is_not = Teller(|other| unready_at(processes, other));
+    enter_into::<M, IfUnready, _>(unready, processes, place, &rank, who_is_not);
 }
 
 /// The least rank, or None if it is that of the ready event.
