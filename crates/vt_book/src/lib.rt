@@ -10,6 +10,7 @@ mod batch;
 mod book;
 mod floors;
 mod history;
+mod settle;
 mod waiting;
 
 pub use batch::Batch;
