@@ -5,14 +5,8 @@ ghost use Rattle.std.specs.Iterator.{at_most};
 ghost use Rattle.std.specs.Option.{option_copied};
 ghost use Rattle.std_collections.specs.Map.Iter.{TakesFirst, deref};
 
-use crate::blocks::Blocks;
-use crate::chain::Chain;
-use crate::link::Link;
-use crate::node::Node;
-use crate::predicate::Predicate;
-use crate::row::Row;
-use crate::trail::Trail;
 use std::marker::Model;
+use vt_nodes::{Blocks, Chain, Link, Node, Predicate, Row, Trail};
 
 /// An iterator over the items of a list from the front. Contracts see the items that are left.
 #[derive(Drop)]
@@ -23,7 +17,7 @@ pub struct Iter<'a, T> {
 
 impl<'a, T> Model for Iter<'a, T> {
     ghost use Rattle.std.specs.Prelude.{◌≡◌, List, None};
-    ghost use Rattle.vt_list.specs.Linked.{first_or, items, LeadOn};
+    ghost use Rattle.vt_nodes.specs.Linked.{first_or, items, LeadOn};
 
     ghost Value = { List T };
 
@@ -99,7 +93,7 @@ pub struct IterBack<'a, T> {
 
 impl<'a, T> Model for IterBack<'a, T> {
     ghost use Rattle.std.specs.Prelude.{◌≡◌, List, None, reverse};
-    ghost use Rattle.vt_list.specs.Linked.{last_or, items, LeadBack};
+    ghost use Rattle.vt_nodes.specs.Linked.{last_or, items, LeadBack};
 
     ghost Value = { List T };
 
@@ -145,8 +139,8 @@ pub struct IterLines<'a, T> {
 
 impl<'a, T> Model for IterLines<'a, T> {
     ghost use Rattle.std.specs.Prelude.{◌≡◌, List, None, map};
-    ghost use Rattle.vt_list.specs.Linked.{first_or, items};
-    ghost use Rattle.vt_list.specs.Lines.{lines_of, StandInRow};
+    ghost use Rattle.vt_nodes.specs.Linked.{first_or, items};
+    ghost use Rattle.vt_nodes.specs.Lines.{lines_of, StandInRow};
 
     ghost Value = { List (List T) };
 

@@ -31,45 +31,20 @@
 //!
 //! Lists, lines, stacks and parcels stay in the thread that made them: they hold raw pointers, and are not `Send`.
 //!
-//! # How it is built
-//!
-//! From the bottom up:
-//!
-//! - `blocks` owns memory and knows nothing of links. It has the only raw reads.
-//! - `link` is a pointer that may be null.
-//! - `node` has the links and the only raw writes.
-//! - `chain` is nodes that are linked both ways, with their two ends; `cursor` is a position in a chain, where it can
-//!   be split; `list` adds a count.
-//! - `trail` is nodes that are linked one way; `stack` adds a count; `path` is a position in a trail; `row` is trails
-//!   whose first nodes lead to each other; `passing` is a position in a row.
-//!
-//! Only `blocks` and two functions of `node` are proved by hand. The rest is plain code that follows no raw pointer.
-//! Blocks, chains, trails and rows can't be dropped, so code that loses a node is refused.
+//! Nodes, their links and who owns them are in `vt_nodes`. The types here add an allocator, a count and iterators.
 #![tactic(auto)]
 
-mod blocks;
-mod chain;
-mod cursor;
 mod iter;
 mod line;
 mod lines;
-mod link;
 mod list;
-mod node;
 mod parcel;
-mod passing;
-mod path;
-mod predicate;
-mod row;
 mod stack;
-mod trail;
 
 pub use iter::{Iter, IterBack, IterLines};
 pub use line::Line;
 pub use lines::Lines;
 pub use list::List;
 pub use parcel::Parcel;
-pub use passing::Passed;
-pub use path::Beginning;
-pub use predicate::Predicate;
 pub use stack::Stack;
+pub use vt_nodes::{Beginning, Passed, Predicate};

@@ -3,15 +3,13 @@
 ghost use Rattle.std.specs.Prelude.{◌≡◌, ◌↔◌, [], ◌∷◌, ◌++◌, slice_get, find, MatchOption, IsTrue};
 ghost use Rattle.std.specs.Option.{option_copied};
 ghost use Rattle.vt_key.specs.Queues.{without_first};
-ghost use Rattle.vt_list.specs.First.{before_first, from_first};
+ghost use Rattle.vt_nodes.specs.First.{before_first, from_first};
 
 use crate::iter::Iter;
 use crate::parcel::Parcel;
-use crate::path::{Beginning, part_at_first};
-use crate::predicate::Predicate;
-use crate::trail::Trail;
 use std::alloc::Global;
 use std::marker::Model;
+use vt_nodes::{Beginning, Predicate, Trail, part_at_first};
 
 /// A list of items that is linked one way, in one word. Contracts see the list of the items.
 ///

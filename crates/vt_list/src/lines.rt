@@ -2,16 +2,14 @@
 
 ghost use Rattle.std.specs.Prelude.{◌≡◌, ◌≢◌, ◌↔◌, [], ◌∷◌, ◌++◌, MatchOption, IfNone, IfSome, IsTrue};
 ghost use Rattle.std.specs.Option.{option_copied};
-ghost use Rattle.vt_list.specs.First.{before_first, from_first};
-ghost use Rattle.vt_list.specs.Lines.{first_item, begins_with};
+ghost use Rattle.vt_nodes.specs.First.{before_first, from_first};
+ghost use Rattle.vt_nodes.specs.Lines.{first_item, begins_with};
 
 use crate::iter::IterLines;
 use crate::line::Line;
-use crate::passing::{Passed, pass_row};
-use crate::predicate::Predicate;
-use crate::row::Row;
 use std::alloc::Global;
 use std::marker::Model;
+use vt_nodes::{Passed, Predicate, Row, pass_row};
 
 /// Lines in a row, none of them empty, in one word. Contracts see the list of the lines.
 ///

@@ -5,14 +5,12 @@ ghost use Rattle.std.specs.Option.{option_copied};
 ghost use Rattle.std_heap.specs.declared.Global.{Global as GlobalHandle};
 ghost use Rattle.vt_key.specs.Queues.{without_first, insert_ordered};
 
-use crate::chain::Chain;
-use crate::cursor::{split_at, split_at_first, take_first, take_last};
 use crate::iter::{Iter, IterBack};
 use crate::parcel::Parcel;
-use crate::predicate::Predicate;
 use std::alloc::Global;
 use std::marker::Model;
 use vt_key::{Rank, Ranked};
+use vt_nodes::{Chain, Predicate, split_at, split_at_first, take_first, take_last};
 
 /// A list of items, each in a node of its own. Contracts see the list of the items.
 ///

@@ -2,11 +2,10 @@
 
 ghost use Rattle.std.specs.Prelude.{◌≡◌, IfOk, IfErr};
 
-use crate::link::Link;
-use crate::node::Node;
 use std::alloc::Global;
 use std::marker::Model;
 use std::mem::replace;
+use vt_nodes::{Link, Node};
 
 /// An item in a node of its own, which is in no list and no stack. Contracts see the item.
 ///

@@ -4,9 +4,9 @@ ghost use Rattle.std.specs.Prelude.{◌≡◌, ◌%◌, ◌^◌, [], ◌∷◌, 
 ghost use Rattle.std.specs.Option.{option_copied};
 
 use crate::parcel::Parcel;
-use crate::trail::Trail;
 use std::alloc::Global;
 use std::marker::Model;
+use vt_nodes::Trail;
 
 /// A stack of items, each in a node of its own. Contracts see the list of the items, the top first.
 ///

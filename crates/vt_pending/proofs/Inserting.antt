@@ -6,8 +6,8 @@ use Rattle.vt_key.specs.Queues.{letter_rank, insert_letter}
 use Rattle.vt_key.specs.declared.order.Rank.{Rank}
 use Rattle.vt_key.specs.declared.letter.Letter.{Letter}
 use Rattle.vt_key.proofs.OrderLemmas.{rank_before-true, before-rank_before}
-use Rattle.vt_list.specs.First.{before_first, from_first}
-use Rattle.vt_list.specs.Lines.{begins_with}
+use Rattle.vt_nodes.specs.First.{before_first, from_first}
+use Rattle.vt_nodes.specs.Lines.{begins_with}
 use Rattle.vt_pending.specs.Letters.{some_has_rank, holds_rank, is_reached, IsRising}
 use Rattle.vt_pending.specs.Buckets.{bucket_of, in_bucket, not_in_bucket, list_at, without_list, is_place, first_holds, insert_here, insert_in, put_list, IsRow}
 use Rattle.vt_pending.proofs.Placing.{not-back, follows}

@@ -7,7 +7,7 @@ use Rattle.vt_key.specs.Queues.{letter_rank, has_rank, insert_letter}
 use Rattle.vt_key.specs.declared.order.Rank.{Rank}
 use Rattle.vt_key.specs.declared.letter.Letter.{Letter}
 use Rattle.vt_key.proofs.OrderLemmas.{rank_before-true, before-rank_before}
-use Rattle.vt_list.specs.Lines.{first_item}
+use Rattle.vt_nodes.specs.Lines.{first_item}
 use Rattle.vt_pending.specs.Letters.{holds_rank, AllAfter, IsRising}
 use Rattle.vt_pending.specs.Buckets.{bucket_of, in_bucket, not_in_bucket, some_in_bucket, list_at, without_list, insert_in, put_list, put_some, merged, letters_of, IsRow}
 use Rattle.vt_pending.proofs.Placing.{not-back, follows}

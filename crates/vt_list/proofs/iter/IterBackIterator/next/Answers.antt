@@ -1,7 +1,7 @@
 use Rattle.std.proofs.Common.{rules, reverse, sym, ap, ◌∙◌, subst}
 use Rattle.std_collections.specs.Map.Iter.{TakesFirst, deref}
-use Rattle.vt_list.specs.Linked.{items}
-use Rattle.vt_list.proofs.Links.{place-last, no-last, without-last}
+use Rattle.vt_nodes.specs.Linked.{items}
+use Rattle.vt_nodes.proofs.Links.{place-last, no-last, without-last}
 use Rattle.vt_list.proofs.iter.IterBackIterator.next.Goals as goal
 
 pub returns-in_err-at-clause-steps : goal.returns-in_err-at-clause-steps

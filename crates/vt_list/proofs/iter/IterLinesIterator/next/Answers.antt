@@ -1,5 +1,5 @@
 use Rattle.std.proofs.Common.{rules, sym, ◌∙◌}
-use Rattle.vt_list.proofs.Rows.{taken-off}
+use Rattle.vt_nodes.proofs.Rows.{taken-off}
 use Rattle.vt_list.proofs.iter.IterLinesIterator.next.Goals as goal
 
 pub invariant_of-line : goal.invariant_of-line

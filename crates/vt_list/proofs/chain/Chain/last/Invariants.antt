@@ -1,5 +1,0 @@
-use Rattle.std.specs.Prelude.{length, ◌-◌}
-use Rattle.vt_list.proofs.chain.Chain.last.Given as goal
-
-abbrev pub ghost-get : goal.ghost-get
-ghost-get g a = length a.self.now.owned - 1

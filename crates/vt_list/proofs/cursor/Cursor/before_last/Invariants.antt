@@ -1,8 +1,0 @@
-use Rattle.std.specs.Prelude.{length, ◌-◌}
-use Rattle.vt_list.proofs.cursor.Cursor.before_last.Given as goal
-
-abbrev pub ghost-split : goal.ghost-split
-ghost-split g a = length a.self.owned - 1
-
-abbrev pub ghost-get : goal.ghost-get
-ghost-get g a = 0

@@ -1,4 +1,0 @@
-use Rattle.vt_list.proofs.node.set_first_prev.Given as goal
-
-abbrev pub ghost-split : goal.ghost-split
-ghost-split g a = 1

@@ -1,0 +1,10 @@
+mod Boxes
+mod Further
+mod Lending
+pub mod Links
+mod Owning
+mod Paths
+mod RowPaths
+pub mod Rows
+mod Splits
+mod Walk

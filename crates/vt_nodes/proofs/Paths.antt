@@ -1,0 +1,34 @@
+-- The first nodes of a trail: one node more, and joined to others.
+use Rattle.std.proofs.Common.{◌≡◌, sym, ap, ◌∙◌, subst}
+use Rattle.std.specs.Prelude.{List, [], ◌∷◌, ◌++◌, take, drop, Option, Some, None, slice_index_or}
+use denote.RawPtr.{Ptr}
+use Rattle.vt_nodes.specs.declared.node.Node.{Node}
+use Rattle.vt_nodes.specs.Linked.{NodeAt, first_or, with_next, LeadOn, IsBeginning, IsPath}
+use Rattle.vt_nodes.proofs.Links.{none-some, first-append, last-append, first-with_next, on-with_next, on-append}
+
+module _ {X : Type 0} where
+  -- one node further
+  pub next-path : (head last next : Option Ptr) (p : Ptr) (passed ahead : List (NodeAt X)) (node : Node X) → next ≡ Some p → IsPath head last next passed ahead
+      → node ≡ (slice_index_or (take 1 ahead) 0 (p, node)).1 → IsPath head next node.next (passed ++ take 1 ahead) (drop 1 ahead)
+  next-path head last next p passed [] node is path read = absurd (none-some p (sym path.next_is ∙ is))
+  next-path head last next p passed (b ∷ ahead) node is path read =
+      let after : node.next ≡ b.1.next = ap (λ n. n.next) read in
+      record {
+        begun = record {
+          head_is = path.begun.head_is ∙ ap (λ n. first_or n passed) path.next_is ∙ sym (first-append node.next passed (b ∷ []));
+          last_is = path.next_is ∙ sym (last-append None passed (b ∷ []));
+          on = on-append node.next passed (b ∷ []) (subst (LeadOn passed) path.next_is path.begun.on) (sym after, tt);
+        };
+        next_is = after ∙ path.on.0;
+        on = path.on.1;
+      }
+
+  -- the first nodes, where the last one now leads on to the first of other nodes, and these
+  pub join-beginning : (head last next h : Option Ptr) (p : Ptr) (bs cs : List (NodeAt X)) → last ≡ Some p → IsBeginning head last next bs → h ≡ first_or None cs → LeadOn cs None
+      → (head ≡ first_or None (with_next h bs ++ cs)) × LeadOn (with_next h bs ++ cs) None
+  join-beginning head last next h p [] cs is begun at on = absurd (none-some p (sym begun.last_is ∙ is))
+  join-beginning head last next h p (b ∷ bs) cs is begun at on =
+      let front : List (NodeAt X) = with_next h (b ∷ bs) in (
+        begun.head_is ∙ sym (first-append None front cs ∙ first-with_next (first_or None cs) h (b ∷ bs)),
+        on-append None front cs (subst (LeadOn front) at (on-with_next next h (b ∷ bs) begun.on)) on,
+      )

@@ -1,0 +1,13 @@
+use Rattle.std.proofs.Common.{◌≡◌, ◌++◌, length}
+use Rattle.vt_nodes.specs.First.{before_first, from_first}
+use Rattle.vt_nodes.proofs.path.part_at_first.Given as goal
+
+abbrev pub invariant-loop-path : goal.invariant-loop-path
+invariant-loop-path g l = let test = g.P.Predicate.passes l.fn.test in record {
+  before : before_first test l.fn.trail ≡ l.path.0 ++ before_first test l.path.1;
+  from : from_first test l.fn.trail ≡ from_first test l.path.1;
+  whole : l.fn.trail ≡ l.path.0 ++ l.path.1;
+}
+
+abbrev pub decreases-loop-path : goal.decreases-loop-path
+decreases-loop-path g l = length l.path.1

@@ -1,0 +1,47 @@
+//! Nodes of linked lists: who owns them, and how they are linked by raw pointers.
+//!
+//! Lists are built on these types. Each part of a list is a value that owns its nodes: a [`Chain`] is linked both ways,
+//! a [`Trail`] one way, and a [`Row`] is trails whose first nodes lead to each other. A walk by a [`Predicate`] or by a
+//! count parts such a value in two. Parting and joining write one link or two, and take no memory.
+//!
+//! Contracts see each of them as the list of its items, and a row as the list of such lists.
+//!
+//! None of them can be dropped. Each ends only by `end`, which asks that no node is left, so code that loses a node is
+//! refused.
+//!
+//! # How it is built
+//!
+//! From the bottom up:
+//!
+//! - `blocks` owns memory and knows nothing of links. It has the only raw reads.
+//! - `link` is a pointer that may be null.
+//! - `node` has the links and the only raw writes.
+//! - `chain` is nodes that are linked both ways, with their two ends; `cursor` is a position in a chain, where it can
+//!   be split.
+//! - `trail` is nodes that are linked one way; `path` is a position in a trail; `row` is trails whose first nodes lead to
+//!   each other; `passing` is a position in a row.
+//!
+//! Only `blocks` and two functions of `node` are proved by hand. The rest is plain code that follows no raw pointer.
+#![tactic(auto)]
+
+mod blocks;
+mod chain;
+mod cursor;
+mod link;
+mod node;
+mod passing;
+mod path;
+mod predicate;
+mod row;
+mod trail;
+
+pub use blocks::Blocks;
+pub use chain::Chain;
+pub use cursor::{split_at, split_at_first, take_first, take_last};
+pub use link::Link;
+pub use node::Node;
+pub use passing::{Passed, pass_row};
+pub use path::{Beginning, part_at_first};
+pub use predicate::Predicate;
+pub use row::Row;
+pub use trail::Trail;

@@ -1,0 +1,203 @@
+//! A position in a row.
+
+ghost use Rattle.std.specs.Prelude.{◌≡◌, [], ◌++◌, IfNone};
+ghost use Rattle.std.specs.Option.{option_copied};
+ghost use Rattle.vt_nodes.specs.First.{before_first, from_first, first_fails};
+ghost use Rattle.vt_nodes.specs.Linked.{advanced};
+ghost use Rattle.vt_nodes.specs.Lines.{first_item, begins_with};
+
+use crate::blocks::Blocks;
+use crate::link::Link;
+use crate::node::{Node, set_first_prev};
+use crate::predicate::Predicate;
+use crate::row::Row;
+use std::marker::Model;
+
+/// A row with a position in it. A clause sees the trails that were passed, and those ahead.
+///
+/// The nodes stay linked as they were. Going on reads one link. The last trail that was passed is kept apart from those
+/// before it, since its first node is written where other trails come behind it.
+pub(crate) struct RowPath<T> {
+    head: Link,
+    last: Link,
+    next: Link,
+    before: Blocks<Node<T>>,
+    line: Blocks<Node<T>>,
+    ahead: Blocks<Node<T>>,
+}
+
+impl<T> Model for RowPath<T> {
+    ghost use Rattle.std.specs.Prelude.{◌≡◌, ◌++◌, List, None, map};
+    ghost use Rattle.vt_nodes.specs.Linked.{first_or, items};
+    ghost use Rattle.vt_nodes.specs.Lines.{lines_of, StandInRow, ArePassed};
+
+    ghost Value = { List (List T) × List (List T) };
+
+    ghost view = { λ p. (map items (lines_of (p.before.owned ++ p.line.owned)), map items (lines_of p.ahead.owned)) };
+
+    ghost invariant = { λ p. ArePassed p.head p.last p.next p.before.owned p.line.owned × (p.next ≡ first_or None p.ahead.owned) × StandInRow None (lines_of p.ahead.owned) };
+}
+
+impl<T> RowPath<T> {
+    /// The position in front of the first trail.
+    fn at_front(row: Row<T>) -> RowPath<T>
+        ensures { result ≡ ([], row) }
+    {
+        let Row { head, nodes } = row;
+        RowPath {
+            head,
+            last: Link::none(),
+            next: head,
+            before: Blocks::none(),
+            line: Blocks::none(),
+            ahead: nodes,
+        }
+    }
+
+    /// The first item of the next trail; None only at the end.
+    fn peek(&self) -> Option<&T>
+        ensures item { option_copied result ≡ first_item self.now.1 }
+        ensures none { IfNone result (self.now.1 ≡ []) }
+    {
+        let Some(next) = self.next.place() else {
+            return None;
+        };
+        Some(&self.ahead.get(next).item)
+    }
+
+    /// One trail further; unchanged at the end.
+    fn advance(self) -> RowPath<T>
+        ensures { result ≡ advanced self }
+    {
+        let RowPath {
+            head,
+            last,
+            next,
+            before,
+            line,
+            ahead,
+        } = self;
+        let Some(at) = next.place() else {
+            return RowPath {
+                head,
+                last,
+                next,
+                before,
+                line,
+                ahead,
+            };
+        };
+        let after = ahead.get(at).prev;
+        let (first, rest) = ahead.split();
+        RowPath {
+            head,
+            last: next,
+            next: after,
+            before: before.append(line),
+            line: first,
+            ahead: rest,
+        }
+    }
+
+    /// Whether there is a next trail, and its first item fails the test.
+    fn next_fails<P: Predicate<T>>(&self, test: &P) -> bool
+        ensures { result ≡ first_fails (begins_with (P.passes test.now)) self.now.1 }
+    {
+        match self.peek() {
+            Some(item) => !test.test(item),
+            None => false,
+        }
+    }
+
+    /// The trails that were passed, and those ahead. It writes no node.
+    fn part(self) -> (Passed<T>, Row<T>)
+        ensures { (result.0 ≡ self.0) × (result.1 ≡ self.1) }
+    {
+        let RowPath {
+            head,
+            last,
+            next,
+            before,
+            line,
+            ahead,
+        } = self;
+        let passed = Passed {
+            head,
+            last,
+            next,
+            before,
+            line,
+        };
+        let rest = Row {
+            head: next,
+            nodes: ahead,
+        };
+        (passed, rest)
+    }
+}
+
+/// The first trails of a row, which a walk passed. The last of them still leads on to the trail behind it. Contracts see
+/// the list of the lists of their items.
+///
+/// It is not `Drop`, so code that doesn't join them to the others again is refused.
+pub struct Passed<T> {
+    head: Link,
+    last: Link,
+    next: Link,
+    before: Blocks<Node<T>>,
+    line: Blocks<Node<T>>,
+}
+
+impl<T> Model for Passed<T> {
+    ghost use Rattle.std.specs.Prelude.{◌++◌, List, map};
+    ghost use Rattle.vt_nodes.specs.Linked.{items};
+    ghost use Rattle.vt_nodes.specs.Lines.{lines_of, ArePassed};
+
+    ghost Value = { List (List T) };
+
+    ghost view = { λ p. map items (lines_of (p.before.owned ++ p.line.owned)) };
+
+    ghost invariant = { λ p. ArePassed p.head p.last p.next p.before.owned p.line.owned };
+}
+
+impl<T> Passed<T> {
+    /// These trails, with `rest` behind them. It writes only the first node of the last of these trails.
+    pub fn join(self, rest: Row<T>) -> Row<T>
+        ensures { result ≡ self ++ rest }
+    {
+        let Passed {
+            head,
+            last,
+            next: _,
+            before,
+            line,
+        } = self;
+        let Some(start) = last.place() else {
+            before.end();
+            line.end();
+            return rest;
+        };
+        let Row {
+            head: next,
+            nodes: more,
+        } = rest;
+        let joined = set_first_prev(line, start, next).append(more);
+        Row {
+            head,
+            nodes: before.append(joined),
+        }
+    }
+}
+
+/// The trails before the first one whose first item passes the test, and the others.
+pub fn pass_row<T, P: Predicate<T>>(row: Row<T>, test: &P) -> (Passed<T>, Row<T>)
+    ensures before { result.0 ≡ before_first (begins_with (P.passes test.now)) row }
+    ensures from { result.1 ≡ from_first (begins_with (P.passes test.now)) row }
+    ensures whole { row ≡ result.0 ++ result.1 }
+{
+    let mut path = RowPath::at_front(row);
+    while path.next_fails(test) {
+        path = path.advance();
+    }
+    path.part()
+}
