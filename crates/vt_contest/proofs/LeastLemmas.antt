@@ -15,7 +15,7 @@ use Rattle.vt_lp.specs.Guards.{ready_rank, may_come_after}
 use Rattle.vt_contest.specs.Entries.{TellsLeast, ready_of, earliest_of, unready_of, other_rank, entries_of, rank_time}
 use Rattle.vt_contest.proofs.Written.{get-all}
 use Rattle.vt_contest.proofs.EntryLemmas.{entered-at}
-use Rattle.vt_contest.proofs.TimeLemmas.{least_time-low, least_time-append, same_low, same_times, at_most_both, earlier_low, earlier_low_right, not_before, at_most_chain}
+use Rattle.vt_steps.proofs.TimeLemmas.{least_time-low, least_time-append, same_low, same_times, at_most_both, earlier_low, earlier_low_right, not_before, at_most_chain}
 
 same_entry : {X : Type 0} (a b : X) → Some a ≡ Some b → a ≡ b
 same_entry a b e = cc

@@ -1,5 +1,4 @@
 pub mod Written
-pub mod TimeLemmas
 mod EntryLemmas
 mod RankLemmas
 mod IdleLemmas

@@ -19,7 +19,8 @@ use Rattle.vt_steps.specs.StandsFor.{StandsForProcess, StandForProcesses, entry_
 use Rattle.vt_lp.specs.Held.{HeldProcess, process_memory, remembered, StandsFor as ProcessStandsFor}
 use Rattle.vt_contest.specs.declared.contest.Contest.{Contest}
 use Rattle.vt_contest.specs.Contest.{IsContestOf}
-use Rattle.vt_kernel.specs.Held.{HeldOutbox, HeldWorker, StandsFor, AreProcesses, IsWorkerInside}
+use Rattle.vt_outbox.specs.Outbox.{HeldOutbox}
+use Rattle.vt_kernel.specs.Held.{HeldWorker, StandsFor, AreProcesses, IsWorkerInside}
 use Rattle.vt_kernel.specs.Guards.{IsForgotten, HasForgotten}
 use Rattle.vt_kernel.proofs.PartLemmas.{stands_along}
 use Rattle.vt_kernel.proofs.ProcessLemmas.{get-map_of, stands-at, process-at}

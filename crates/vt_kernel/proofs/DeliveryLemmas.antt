@@ -20,7 +20,8 @@ use Rattle.vt_lp.specs.Held.{HeldProcess, IsWithinRun, StandsFor as ProcessStand
 use Rattle.vt_lp.specs.Guards.{holds_letter, IsDone as ProcessIsDone}
 use Rattle.vt_lp.proofs.AcceptLemmas.{accepted, accept-by}
 use Rattle.vt_contest.specs.declared.contest.Contest.{Contest}
-use Rattle.vt_kernel.specs.Held.{HeldWorker, HeldOutbox, StandsFor, AreProcesses, IsWorkerInside}
+use Rattle.vt_outbox.specs.Outbox.{HeldOutbox}
+use Rattle.vt_kernel.specs.Held.{HeldWorker, StandsFor, AreProcesses, IsWorkerInside}
 use Rattle.vt_kernel.specs.Local.{local_step}
 use Rattle.vt_kernel.specs.Guards.{IsDone}
 use Rattle.vt_kernel.proofs.OwnSteps.{own, own-step, found, refused-at}

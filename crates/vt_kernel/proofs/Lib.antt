@@ -1,4 +1,3 @@
-pub mod Blank
 pub mod CommitLemmas
 pub mod FinalLemmas
 pub mod ProcessLemmas
@@ -8,8 +7,6 @@ pub mod EmptyLemmas
 pub mod InsideLemmas
 pub mod MakeLemmas
 pub mod PartLemmas
-pub mod PartingLemmas
-pub mod OutboxLemmas
 pub mod PutLemmas
 pub mod PlaceLemmas
 pub mod ReportLemmas

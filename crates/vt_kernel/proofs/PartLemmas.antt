@@ -14,7 +14,8 @@ use Rattle.vt_steps.specs.Letters.{Counts, raised, count_colour, least_time}
 use Rattle.vt_steps.specs.World.{Part}
 use Rattle.vt_steps.specs.PartSteps.{part_after_cut, part_after_fetch, part_after_send, mail_of_send}
 use Rattle.vt_kernel.specs.Held.{HeldWorker, StandsFor}
-use Rattle.vt_kernel.specs.Guards.{is_for_worker, mailed}
+use Rattle.vt_outbox.specs.Outbox.{is_for_worker}
+use Rattle.vt_kernel.specs.Guards.{mailed}
 
 module _ {S P K : Type 0} where
   -- a worker as it is seen, and the value that it was

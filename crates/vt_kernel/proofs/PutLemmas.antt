@@ -9,7 +9,7 @@ use Rattle.vt_steps.specs.World.{LogicalProcess}
 use Rattle.vt_steps.specs.ProcessSteps.{ProcessEffect}
 use Rattle.vt_lp.specs.Held.{HeldProcess, AllWithinRun, IsWithinRun}
 use Rattle.vt_lp.specs.Guards.{IsDone as ProcessIsDone}
-use Rattle.vt_kernel.specs.Held.{HeldOutbox}
+use Rattle.vt_outbox.specs.Outbox.{HeldOutbox}
 use Rattle.vt_kernel.specs.Settled.{IsSettledTo}
 
 module _ {P : Type 0} (before sent : List (Letter P)) {after empty : List (Letter P)} (none : empty ≡ []) (is : after ≡ before ++ sent) where

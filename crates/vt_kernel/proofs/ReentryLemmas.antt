@@ -16,8 +16,8 @@ use Rattle.vt_contest.specs.declared.contest.Contest.{Contest}
 use Rattle.vt_contest.specs.Contest.{WasContestOf}
 use Rattle.vt_contest.proofs.Written.{get-all}
 use Rattle.vt_contest.proofs.ContestLemmas.{contest-before}
-use Rattle.vt_kernel.specs.Guards.{is_for_worker}
-use Rattle.vt_kernel.specs.Held.{HeldOutbox, IsWorkerInside, IsOwnMail}
+use Rattle.vt_outbox.specs.Outbox.{is_for_worker, HeldOutbox}
+use Rattle.vt_kernel.specs.Held.{IsWorkerInside, IsOwnMail}
 use Rattle.vt_kernel.proofs.ProcessLemmas.{process-at}
 use Rattle.vt_kernel.proofs.LocalLemmas.{IsOwnPlace, index-get, place-within}
 use Rattle.vt_kernel.proofs.DeliveryLemmas.{found-in}

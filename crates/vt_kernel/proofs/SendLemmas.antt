@@ -19,7 +19,8 @@ use Rattle.vt_steps.specs.PartSteps.{is_for, letters_for}
 use Rattle.vt_steps.specs.CellSteps.{may_send}
 use Rattle.vt_lp.specs.Held.{AllWithinRun, IsWithinRun}
 use Rattle.vt_kernel.specs.Held.{HeldWorker, StandsFor, AreCounted, AllOwnMail, IsOwnMail}
-use Rattle.vt_kernel.specs.Guards.{is_for_worker, mailed, IsSendRefusal}
+use Rattle.vt_outbox.specs.Outbox.{is_for_worker}
+use Rattle.vt_kernel.specs.Guards.{mailed, IsSendRefusal}
 
 -- ---- counts
 

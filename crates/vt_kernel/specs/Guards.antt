@@ -8,7 +8,6 @@ use Rattle.vt_key.specs.declared.letter.Mail.{Mail}
 use Rattle.vt_key.specs.declared.letter.Colour.{Colour}
 use Rattle.vt_key.specs.declared.fault.Fault.{Fault}
 use Rattle.vt_key.specs.declared.fault.Fault.TheVariants.{Memory, NotLawful, Exhausted}
-use Rattle.vt_model.specs.declared.settings.Config.{Config}
 use Rattle.vt_model.specs.Handler.{Handlers}
 use Rattle.vt_model.specs.Simulation.{Simulation}
 use Rattle.vt_steps.specs.declared.step.Step.{Step}
@@ -18,6 +17,7 @@ use Rattle.vt_steps.specs.PartSteps.{letters_for, process_after_commit}
 use Rattle.vt_steps.specs.CellSteps.{may_send}
 use Rattle.vt_lp.specs.Held.{HeldProcess, StandsFor as ProcessStandsFor}
 use Rattle.vt_lp.specs.Guards.{number_of}
+use Rattle.vt_outbox.specs.Outbox.{is_for_worker}
 use Rattle.vt_kernel.specs.Held.{HeldWorker, StandsFor}
 use Rattle.vt_kernel.specs.Local.{local_steps, IsSettled, AreSettling, count_undos}
 
@@ -68,10 +68,6 @@ module _ {S P : Type 0} (sim : Simulation S P) where
     pub led : local_steps sim w steps part ≡ Some new
     pub settled : IsSettled sim w p new
     pub counted : undone ≡ count_undos steps % 2 ^ 64
-
--- the letter is for a process of worker v
-abbrev pub is_for_worker : {P : Type 0} → Config → ℕ → Letter P → Bool
-is_for_worker config v letter = nat_eq (letter.event.dest % config.workers) v
 
 -- the worker's outbox holds letters for processes of worker v, which is another one
 abbrev pub holds_letters_for : {S P K : Type 0} → HeldWorker S P K → ℕ → Bool

@@ -14,6 +14,7 @@ use Rattle.vt_steps.specs.Letters.{Counts, is_empty}
 use Rattle.vt_steps.specs.World.{Part}
 use Rattle.vt_steps.specs.StandsFor.{PartMemory, StandsForPart}
 use Rattle.vt_lp.specs.Held.{HeldProcess, process_memory, AllWithinRun, IsWithinRun}
+use Rattle.vt_outbox.specs.Outbox.{HeldOutbox}
 use Rattle.vt_contest.specs.declared.contest.Contest.{Contest}
 use Rattle.vt_contest.specs.Contest.{IsContestOf}
 use Rattle.vt_contest.specs.Entries.{ready_of}
@@ -32,12 +33,6 @@ pub record HeldWorker (S P K : Type 0) : Type 0 where
   pub red_minimum : Time
   pub floor : Time
   pub serial : ℕ
-
--- what a contract sees of a worker's outbox: its letters in the order in which they came, and the config by whose workers they are
--- sorted
-pub record HeldOutbox (P : Type 0) : Type 0 where
-  pub config : Config
-  pub letters : List (Letter P)
 
 module _ {S P K : Type 0} (handlers : Handlers S P K) where
   -- what a worker is as memory of a world's part

@@ -3,4 +3,3 @@ pub mod Local
 pub mod Guards
 pub mod Settled
 pub mod Refusals
-pub mod Outbox

@@ -4,12 +4,12 @@ ghost use Rattle.std.specs.Prelude.{◌≡◌, ◌%◌, ◌^◌, length};
 ghost use Rattle.vt_steps.specs.Letters.{count_of};
 
 use crate::counts::Counts;
-use crate::outbox::Outbox;
 use std::marker::Model;
 use vt_contest::Contest;
 use vt_key::{Colour, Mail, When};
 use vt_lp::{Lp, Spare};
 use vt_model::{Config, Model as EventModel};
+use vt_outbox::Outbox;
 
 /// One worker: its processes, its outbox, the mail that has arrived, its colour, counts, red minimum, floor and
 /// serial.

@@ -13,13 +13,13 @@ ghost use Rattle.vt_kernel.specs.Held.{StandsFor, AreProcesses};
 
 use crate::counts::Counts;
 use crate::kernel::Kernel;
-use crate::outbox::Outbox;
 use std::alloc::Global;
 use vt_contest::Contest;
 use vt_key::{Colour, Fault, Letter, MAX_COUNT, MAX_PROCESSES, MAX_WORKERS, When};
 use vt_list::List;
 use vt_lp::{Lp, Spare};
 use vt_model::{Config, MAX_SENDS, Model as EventModel, Out, Process};
+use vt_outbox::Outbox;
 
 /// The most events that the starts of a worker can send, whatever the model.
 const MOST_STARTED: u64 = MAX_SENDS as u64 * (MAX_PROCESSES as u64 + MAX_WORKERS as u64);

@@ -13,14 +13,15 @@ ghost use Rattle.vt_steps.specs.World.{Part};
 ghost use Rattle.vt_steps.specs.PartSteps.{part_after_send, mail_of_send};
 ghost use Rattle.vt_steps.specs.CellSteps.{may_send};
 ghost use Rattle.vt_kernel.specs.Held.{StandsFor, AllOwnMail};
-ghost use Rattle.vt_kernel.specs.Guards.{is_for_worker, mailed, holds_letters_for, IsSendRefusal};
+ghost use Rattle.vt_outbox.specs.Outbox.{is_for_worker};
+ghost use Rattle.vt_kernel.specs.Guards.{mailed, holds_letters_for, IsSendRefusal};
 
 use crate::kernel::Kernel;
-use crate::outbox::Outbox;
 use vt_key::{Colour, Fault, Letter, Mail, When};
 use vt_list::List;
 use vt_lp::Spare;
 use vt_model::{Config, Model as EventModel};
+use vt_outbox::Outbox;
 
 impl<M: EventModel> Kernel<M> {
     /// The worker's part of a send to worker `v`. It moves the letters of the outbox for processes of `v` to the back

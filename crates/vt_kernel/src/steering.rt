@@ -3,7 +3,7 @@
 ghost use Rattle.std.specs.Prelude.{◌≡◌, slice_get};
 ghost use Rattle.std.specs.Option.{option_map};
 ghost use Rattle.std.specs.List.{find};
-ghost use Rattle.vt_kernel.specs.Guards.{is_for_worker};
+ghost use Rattle.vt_outbox.specs.Outbox.{is_for_worker};
 
 use crate::kernel::Kernel;
 use vt_model::Model as EventModel;

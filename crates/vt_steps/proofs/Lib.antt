@@ -5,3 +5,4 @@ pub mod time
 pub mod book
 pub mod history
 pub mod marks
+pub mod TimeLemmas

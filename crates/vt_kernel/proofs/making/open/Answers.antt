@@ -6,7 +6,8 @@ use Rattle.vt_key.specs.declared.limits.TheConstants.{MAX_COUNT}
 use Rattle.vt_steps.specs.Letters.{Counts}
 use Rattle.vt_lp.specs.Held.{HeldProcess, AllWithinRun}
 use Rattle.vt_contest.specs.Contest.{IsContestOf, IsIdle}
-use Rattle.vt_kernel.specs.Held.{HeldOutbox, AllOwnMail, IsOwnMail, AreCounted}
+use Rattle.vt_outbox.specs.Outbox.{HeldOutbox}
+use Rattle.vt_kernel.specs.Held.{AllOwnMail, IsOwnMail, AreCounted}
 use Rattle.vt_kernel.proofs.MakeLemmas.{all-idle, stand-opening}
 use Rattle.vt_kernel.proofs.making.open.Goals as goal
 

@@ -9,7 +9,8 @@ use Rattle.vt_steps.specs.declared.step.Step.TheVariants as step
 use Rattle.vt_steps.proofs.lists.Places.{get-put_same}
 use Rattle.vt_lp.specs.Held.{HeldProcess, AllWithinRun}
 use Rattle.vt_lp.specs.Guards.{IsDone as ProcessIsDone, IsExecuteRefusal as ProcessRefusal}
-use Rattle.vt_kernel.specs.Held.{HeldWorker, HeldOutbox, StandsFor, process_of}
+use Rattle.vt_outbox.specs.Outbox.{HeldOutbox}
+use Rattle.vt_kernel.specs.Held.{HeldWorker, StandsFor, process_of}
 use Rattle.vt_kernel.specs.Local.{local_step}
 use Rattle.vt_kernel.specs.Guards.{IsDone, AreWithinLimits, IsExecuteRefusal}
 use Rattle.vt_model.proofs.Sizes.{out_fits}

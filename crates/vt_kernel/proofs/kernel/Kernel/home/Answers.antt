@@ -10,13 +10,14 @@ use Rattle.vt_steps.specs.declared.step.Step.TheVariants as step
 use Rattle.vt_lp.specs.Held.{HeldProcess, AllWithinRun, IsWithinRun}
 use Rattle.vt_steps.specs.ProcessSteps.{accept_process}
 use Rattle.vt_lp.specs.Guards.{would_lead, IsDone as ProcessIsDone}
-use Rattle.vt_kernel.specs.Held.{HeldWorker, HeldOutbox, IsWorkerInside, StandsFor}
+use Rattle.vt_outbox.specs.Outbox.{HeldOutbox, is_for_worker}
+use Rattle.vt_kernel.specs.Held.{HeldWorker, IsWorkerInside, StandsFor}
 use Rattle.vt_kernel.specs.Local.{local_step}
-use Rattle.vt_kernel.specs.Guards.{IsDone, is_for_worker}
+use Rattle.vt_kernel.specs.Guards.{IsDone}
 use Rattle.vt_contest.proofs.ContestLemmas.{contest-kept}
 use Rattle.vt_kernel.proofs.LocalLemmas.{worker_view, place-within, inside-changed, written-same}
 use Rattle.vt_kernel.proofs.DeliveryLemmas.{without-all, home-done, home-refused, home-nothing}
-use Rattle.vt_kernel.proofs.OutboxLemmas.{none-popped}
+use Rattle.vt_outbox.proofs.OutboxLemmas.{none-popped}
 use Rattle.vt_kernel.proofs.ReentryLemmas.{process-there, process-is, still-there, was-in-contest, first-own}
 use Rattle.vt_kernel.proofs.kernel.Kernel.home.Goals as goal
 

@@ -1,5 +1,5 @@
 use Rattle.vt_key.specs.Queues.{without_first}
-use Rattle.vt_kernel.specs.Guards.{is_for_worker}
+use Rattle.vt_outbox.specs.Outbox.{is_for_worker}
 use Rattle.vt_kernel.proofs.kernel.Kernel.home.Given as goal
 
 abbrev pub ghost-pop_for : goal.ghost-pop_for

@@ -13,10 +13,11 @@ use Rattle.vt_model.specs.Settings.{end_of}
 use Rattle.vt_steps.specs.Letters.{least_time, raised, count_of}
 use Rattle.vt_steps.specs.PartSteps.{letters_for}
 use Rattle.vt_lp.specs.Held.{AllWithinRun, IsWithinRun}
-use Rattle.vt_kernel.specs.Held.{HeldWorker, HeldOutbox, AllOwnMail, AreCounted}
-use Rattle.vt_kernel.specs.Guards.{is_for_worker, mailed, IsSendRefusal}
+use Rattle.vt_outbox.specs.Outbox.{HeldOutbox, is_for_worker}
+use Rattle.vt_kernel.specs.Held.{HeldWorker, AllOwnMail, AreCounted}
+use Rattle.vt_kernel.specs.Guards.{mailed, IsSendRefusal}
 use Rattle.vt_kernel.proofs.InsideLemmas.{inside-outbox}
-use Rattle.vt_kernel.proofs.OutboxLemmas.{receiver-below}
+use Rattle.vt_outbox.proofs.OutboxLemmas.{receiver-below}
 use Rattle.vt_kernel.proofs.PartLemmas.{stands-send, mail-sent}
 use Rattle.vt_key.proofs.ResultLemmas.{if_err}
 use Rattle.vt_kernel.proofs.SendLemmas.{IsRoomRefusal, count_of-counted, counted-raised, refused-send, own_mail-sent, count_sent, may_send-own, may_send-yes}

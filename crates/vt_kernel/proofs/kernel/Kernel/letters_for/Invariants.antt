@@ -1,6 +1,6 @@
 use Rattle.std.proofs.Common.{not}
 use Rattle.std.specs.List.{filter}
-use Rattle.vt_kernel.specs.Guards.{is_for_worker}
+use Rattle.vt_outbox.specs.Outbox.{is_for_worker}
 use Rattle.vt_kernel.proofs.kernel.Kernel.letters_for.Given as goal
 
 abbrev pub ghost-take_for : goal.ghost-take_for

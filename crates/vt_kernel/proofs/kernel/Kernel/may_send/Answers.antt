@@ -7,7 +7,7 @@ use Rattle.vt_model.specs.Simulation.{simulation_of}
 use Rattle.vt_steps.specs.Letters.{count_of}
 use Rattle.vt_steps.specs.PartSteps.{letters_for}
 use Rattle.vt_kernel.specs.Held.{HeldWorker}
-use Rattle.vt_kernel.specs.Guards.{is_for_worker}
+use Rattle.vt_outbox.specs.Outbox.{is_for_worker}
 use Rattle.vt_kernel.proofs.SendLemmas.{refused-send, count_sent, may_send-yes}
 use Rattle.vt_kernel.proofs.kernel.Kernel.may_send.Goals as goal
 

@@ -1,9 +1,21 @@
-use Rattle.std.proofs.Common.{◌≡◌, ◌≤◌, Bool, true, false, nat_lt, refl, subst, arith}
+use Rattle.std.proofs.Common.{◌≡◌, ◌∙◌, ◌≤◌, ℕ, Bool, true, false, not, ◌&&◌, nat_eq, nat_lt, refl, ap, subst, arith}
 use Rattle.std.proofs.lemmas.Bool.{ltb-true, ltb-false}
+use Rattle.vt_key.specs.declared.letter.Letter.{Letter}
+use Rattle.vt_outbox.specs.Outbox.{is_for_worker}
 use Rattle.vt_kernel.specs.Held.{HeldWorker}
 use Rattle.vt_kernel.specs.Guards.{holds_letters_for}
-use Rattle.vt_kernel.proofs.OutboxLemmas.{holds-none}
+use Rattle.vt_outbox.proofs.OutboxLemmas.{filter-never, never-beyond, none-filter}
 use Rattle.vt_kernel.proofs.kernel.Kernel.receiver_from.Goals as goal
+
+-- a worker holds no letters for a worker behind the last
+holds-none : {S P K : Type 0} (held : HeldWorker S P K) (k : ℕ) → held.config.workers ≤ k → holds_letters_for held k ≡ false
+holds-none held k past =
+    let test : Letter _ → Bool = is_for_worker held.config k in
+    ap (λ (b : Bool). not (nat_eq held.worker k) && b) (none-filter test held.outbox (filter-never test (never-beyond held.config k past) held.outbox)) ∙ never (not (nat_eq held.worker k))
+  where
+    never : (b : Bool) → (b && false) ≡ false
+    never true = refl
+    never false = refl
 
 pub returns-clause-nobody : goal.returns-clause-nobody
 returns-clause-nobody g c k from =

@@ -2,7 +2,8 @@ use Rattle.std.proofs.Common.{rules, ◌∙◌, List, sym, ap, subst}
 use Rattle.vt_model.specs.declared.settings.Config.{Config}
 use Rattle.vt_model.specs.Simulation.{simulation_of}
 use Rattle.vt_lp.specs.Held.{HeldProcess, AllWithinRun}
-use Rattle.vt_kernel.specs.Held.{HeldWorker, HeldOutbox, IsWorkerInside, StandsFor}
+use Rattle.vt_outbox.specs.Outbox.{HeldOutbox}
+use Rattle.vt_kernel.specs.Held.{HeldWorker, IsWorkerInside, StandsFor}
 use Rattle.vt_kernel.specs.Guards.{SettlesTo}
 use Rattle.vt_kernel.proofs.ProcessLemmas.{process-at}
 use Rattle.vt_kernel.proofs.LocalLemmas.{worker_view, place-within, written-same, inside-changed}

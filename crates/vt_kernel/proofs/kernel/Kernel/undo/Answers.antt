@@ -5,7 +5,8 @@ use Rattle.vt_model.specs.Simulation.{simulation_of}
 use Rattle.vt_steps.specs.ProcessSteps.{undo_process}
 use Rattle.vt_steps.specs.declared.step.Step.TheVariants as step
 use Rattle.vt_lp.specs.Held.{AllWithinRun}
-use Rattle.vt_kernel.specs.Held.{HeldWorker, HeldOutbox, StandsFor}
+use Rattle.vt_outbox.specs.Outbox.{HeldOutbox}
+use Rattle.vt_kernel.specs.Held.{HeldWorker, StandsFor}
 use Rattle.vt_kernel.specs.Local.{local_step}
 use Rattle.vt_kernel.specs.Guards.{IsDone}
 use Rattle.vt_kernel.proofs.ProcessLemmas.{process-at}

@@ -1,4 +1,0 @@
-use Rattle.vt_kernel.proofs.outbox.Outbox.take_for.Given as goal
-
-abbrev pub ghost-picked : goal.ghost-picked
-ghost-picked g a = g.letters

@@ -1,0 +1,3 @@
+mod Blank
+pub mod OutboxLemmas
+mod PartingLemmas

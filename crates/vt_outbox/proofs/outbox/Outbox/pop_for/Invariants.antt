@@ -1,0 +1,4 @@
+use Rattle.vt_outbox.proofs.outbox.Outbox.pop_for.Given as goal
+
+abbrev pub ghost-picked : goal.ghost-picked
+ghost-picked g a = g.letters
