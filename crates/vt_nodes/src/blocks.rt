@@ -71,13 +71,21 @@ impl<N> Blocks<N> {
         ghost count: { ℕ }
         ensures { result.now.owned ≡ drop count self.now.owned }
     {
-        self
+        self.part()
     }
 
     /// The first `count`, for as long as the blocks are lent.
     pub fn front(&self) -> &Blocks<N>
         ghost count: { ℕ }
         ensures { result.now.owned ≡ take count self.now.owned }
+    {
+        self.part()
+    }
+
+    // Some blocks in a row, behind the first `range.0` and `range.1` in all, for as long as the blocks are lent.
+    fn part(&self) -> &Blocks<N>
+        ghost range: { ℕ × ℕ }
+        ensures { result.now.owned ≡ take range.1 (drop range.0 self.now.owned) }
     {
         self
     }
