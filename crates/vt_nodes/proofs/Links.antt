@@ -1,9 +1,9 @@
 -- What becomes of links where nodes are joined and parted.
 use Rattle.std.proofs.Common.{◌≡◌, refl, sym, ap, ◌∙◌, subst, arith}
-use Rattle.std.specs.Prelude.{◌-◌, ◌<◌, List, [], ◌∷◌, ◌++◌, length, take, drop, reverse, Option, Some, None, slice_index_or}
+use Rattle.std.specs.Prelude.{◌-◌, ◌<◌, List, [], ◌∷◌, ◌++◌, length, map, take, drop, reverse, Option, Some, None, slice_index_or}
 use Rattle.std.proofs.lemmas.List.{take_at, drop_at, length-append, append_assoc, map-append, reverse-append}
-use denote.RawPtr.{Ptr}
-use Rattle.vt_nodes.specs.Blocks.{place_at}
+use denote.RawPtr.{Ptr, null_ptr}
+use Rattle.vt_nodes.specs.Blocks.{places, place_at}
 use Rattle.vt_nodes.specs.declared.node.Node.{Node}
 use Rattle.vt_nodes.specs.Linked.{NodeAt, first_or, last_or, with_next, with_prev, items, LeadOn, LeadBack, IsChain, IsPlace}
 
@@ -76,9 +76,27 @@ place-last p bs e =
     let some : 0 < length bs = some-last p bs l in
     (omega arith, ap (place_at bs) (sym (one-less p bs l)) ∙ ap (λ cs. place_at cs (length l.front)) l.is ∙ place-snoc p l.content l.front)
 
+-- one node is where its place says
+pub only-place : {Y : Type 0} (p : Ptr) (bs : List (Ptr × Y)) → places bs ≡ p ∷ [] → (0 < length bs) × (place_at bs 0 ≡ p)
+only-place p [] is = absurd (omega (arith, ap length is))
+only-place p (b ∷ bs) is = (omega arith, ap (λ ps. slice_index_or ps 0 null_ptr) is)
+
 -- ---- writing a link
 
 module _ {X : Type 0} where
+  -- where one node is written, and one of its links is what it was, the other one alone is changed
+  pub next-alone : (p : Ptr) (next : Option Ptr) (bs : List (NodeAt X)) (node : Node X) → places bs ≡ p ∷ [] → node ≡ (slice_index_or bs 0 (p, node)).1
+      → map {B = NodeAt X} (λ (b : NodeAt X). (b.0, record b.1 { next = next; prev = node.prev })) bs ≡ map {B = NodeAt X} (λ (b : NodeAt X). (b.0, record b.1 { next = next })) bs
+  next-alone p next [] node is read = refl
+  next-alone p next (b ∷ []) node is read = ap (λ (n : Node X). (b.0, record b.1 { next = next; prev = n.prev }) ∷ []) read
+  next-alone p next (b ∷ c ∷ bs) node is read = absurd (omega (arith, ap length is))
+
+  pub prev-alone : (p : Ptr) (prev : Option Ptr) (bs : List (NodeAt X)) (node : Node X) → places bs ≡ p ∷ [] → node ≡ (slice_index_or bs 0 (p, node)).1
+      → map {B = NodeAt X} (λ (b : NodeAt X). (b.0, record b.1 { next = node.next; prev = prev })) bs ≡ map {B = NodeAt X} (λ (b : NodeAt X). (b.0, record b.1 { prev = prev })) bs
+  prev-alone p prev [] node is read = refl
+  prev-alone p prev (b ∷ []) node is read = ap (λ (n : Node X). (b.0, record b.1 { next = n.next; prev = prev }) ∷ []) read
+  prev-alone p prev (b ∷ c ∷ bs) node is read = absurd (omega (arith, ap length is))
+
   -- writing the last link changes the last node alone
   pub with_next-snoc : (z : Option Ptr) (bs : List (NodeAt X)) (b : NodeAt X) → with_next z (bs ++ b ∷ []) ≡ bs ++ (b.0, record b.1 { next = z }) ∷ []
   with_next-snoc z [] b = refl

@@ -15,13 +15,13 @@
 //!
 //! - `blocks` owns memory and knows nothing of links. It has the only raw reads.
 //! - `link` is a pointer that may be null.
-//! - `node` has the links and the only raw writes.
+//! - `node` has the links and the only raw write.
 //! - `chain` is nodes that are linked both ways, with their two ends; `cursor` is a position in a chain, where it can
 //!   be split.
 //! - `trail` is nodes that are linked one way; `path` is a position in a trail; `row` is trails whose first nodes lead to
 //!   each other; `passing` is a position in a row.
 //!
-//! Only `blocks` and two functions of `node` are proved by hand. The rest is plain code that follows no raw pointer.
+//! Only `blocks` and one function of `node` are proved by hand. The rest is plain code that follows no raw pointer.
 #![tactic(auto)]
 
 mod blocks;

@@ -18,15 +18,25 @@ pub struct Node<T> {
     pub item: T,
 }
 
+/// The one node, which lies at `at`, with both links set.
+fn set_links<T>(node: Blocks<Node<T>>, at: *mut Node<T>, next: Link, prev: Link) -> Blocks<Node<T>>
+    requires { places node.owned ≡ at ∷ [] }
+    ensures { result.owned ≡ map (λ b. (b.0, record b.1 { next = next; prev = prev })) node.owned }
+{
+    unsafe {
+        (*at).next = next;
+        (*at).prev = prev;
+    }
+    node
+}
+
 /// The one node, which lies at `at`, with its forward link set to `next`.
 pub(crate) fn set_next<T>(node: Blocks<Node<T>>, at: *mut Node<T>, next: Link) -> Blocks<Node<T>>
     requires { places node.owned ≡ at ∷ [] }
     ensures { result.owned ≡ map (λ b. (b.0, record b.1 { next = next })) node.owned }
 {
-    unsafe {
-        (*at).next = next;
-    }
-    node
+    let prev = node.get(at).prev;
+    set_links(node, at, next, prev)
 }
 
 /// The one node, which lies at `at`, with its back link set to `prev`.
@@ -34,10 +44,8 @@ pub(crate) fn set_prev<T>(node: Blocks<Node<T>>, at: *mut Node<T>, prev: Link) -
     requires { places node.owned ≡ at ∷ [] }
     ensures { result.owned ≡ map (λ b. (b.0, record b.1 { prev = prev })) node.owned }
 {
-    unsafe {
-        (*at).prev = prev;
-    }
-    node
+    let next = node.get(at).next;
+    set_links(node, at, next, prev)
 }
 
 /// The same nodes, with the forward link of the last one, which lies at `last`, set to `next`.

@@ -1,0 +1,4 @@
+use Rattle.vt_nodes.proofs.node.set_prev.Given as goal
+
+abbrev pub ghost-get : goal.ghost-get
+ghost-get g a = 0
