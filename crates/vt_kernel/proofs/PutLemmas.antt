@@ -1,33 +1,43 @@
 -- What a process sent, put behind all letters of the outbox.
-use Rattle.std.proofs.Common.{◌≡◌, ◌∙◌, ℕ, List, [], ◌++◌, append-nil, sym, ap, subst, Option}
+use Rattle.std.proofs.Common.{◌≡◌, ◌∙◌, ◌≤◌, ℕ, List, [], ◌++◌, append-nil, sym, ap, subst, Option, slice_set, slice_index_or}
 use Rattle.std.proofs.lemmas.List.Elements.{All-append, All-nil}
+use Rattle.vt_key.specs.declared.limits.TheConstants.{MAX_COUNT}
 use Rattle.vt_key.specs.declared.letter.Letter.{Letter}
+use Rattle.vt_key.specs.declared.letter.Mail.{Mail}
 use Rattle.vt_model.specs.declared.settings.Config.{Config}
 use Rattle.vt_model.specs.Handler.{Handlers}
 use Rattle.vt_model.specs.Settings.{end_of}
+use Rattle.vt_steps.specs.Letters.{Counts}
 use Rattle.vt_steps.specs.World.{LogicalProcess}
 use Rattle.vt_steps.specs.ProcessSteps.{ProcessEffect}
 use Rattle.vt_lp.specs.Held.{HeldProcess, AllWithinRun, IsWithinRun}
 use Rattle.vt_lp.specs.Guards.{IsDone as ProcessIsDone}
+use Rattle.vt_contest.specs.declared.contest.Contest.{Contest}
+use Rattle.vt_contest.specs.Contest.{IsContestOf}
 use Rattle.vt_outbox.specs.Outbox.{HeldOutbox}
+use Rattle.vt_kernel.specs.Held.{IsWorkerInside}
 use Rattle.vt_kernel.specs.Settled.{IsSettledTo}
+use Rattle.vt_kernel.proofs.ProcessLemmas.{process-at}
+use Rattle.vt_kernel.proofs.LocalLemmas.{IsOwnPlace, inside-changed}
+use Rattle.vt_kernel.proofs.ReentryLemmas.{process-there}
 
-module _ {P : Type 0} (before sent : List (Letter P)) {after empty : List (Letter P)} (none : empty ≡ []) (is : after ≡ before ++ sent) where
+module _ {P : Type 0} (outbox : HeldOutbox P) {put : HeldOutbox P} (sent : List (Letter P)) {empty : List (Letter P)} (none : empty ≡ []) (is : put ≡ record outbox { letters = outbox.letters ++ sent }) where
+  behind : put.letters ≡ outbox.letters ++ sent
+  behind = ap (λ (o : HeldOutbox P). o.letters) is
+
   -- where nothing was sent, it has the letters that it had
-  pub put-kept : sent ≡ empty → after ≡ before
-  put-kept same = is ∙ ap (λ (ls : List (Letter P)). before ++ ls) (same ∙ none) ∙ append-nil before
+  pub put-kept : sent ≡ empty → put.letters ≡ outbox.letters
+  put-kept same = behind ∙ ap (λ (ls : List (Letter P)). outbox.letters ++ ls) (same ∙ none) ∙ append-nil outbox.letters
 
-  pub put-within : (config : Config) → (AllWithinRun config empty → AllWithinRun config sent) → AllWithinRun config before → AllWithinRun config after
-  put-within config more within =
-      let each = IsWithinRun {P = P} config.lps (end_of config) in
-      subst (AllWithinRun config) (sym is) (All-append each before sent within (more (subst (AllWithinRun config) (sym none) (All-nil each))))
+  pub put-nothing : sent ≡ empty → put ≡ outbox
+  put-nothing same = is ∙ (λ j. record outbox { letters = (sym behind ∙ put-kept same) j })
 
-  put-letters : (letters : List (Letter P)) → sent ≡ empty ++ letters → after ≡ before ++ letters
-  put-letters letters made = is ∙ ap (λ (ls : List (Letter P)). before ++ ls) (made ∙ ap (λ (ls : List (Letter P)). ls ++ letters) none)
+  put-letters : (letters : List (Letter P)) → sent ≡ empty ++ letters → put.letters ≡ outbox.letters ++ letters
+  put-letters letters made = behind ∙ ap (λ (ls : List (Letter P)). outbox.letters ++ ls) (made ∙ ap (λ (ls : List (Letter P)). ls ++ letters) none)
 
   -- what was done at the process with an empty list is done with the outbox
   pub put-done : {S K : Type 0} {handlers : Handlers S P K} {new : HeldProcess S P K} {step : Option (ProcessEffect P)} {serial next : ℕ}
-      → ProcessIsDone handlers new step empty sent serial next → ProcessIsDone handlers new step before after serial next
+      → ProcessIsDone handlers new step empty sent serial next → ProcessIsDone handlers new step outbox.letters put.letters serial next
   put-done done = record {
     effect = done.effect;
     lawful = done.lawful;
@@ -37,7 +47,7 @@ module _ {P : Type 0} (before sent : List (Letter P)) {after empty : List (Lette
   }
 
   pub put-settled : {S K : Type 0} {handlers : Handlers S P K} {process : LogicalProcess P} {new : HeldProcess S P K} {count : ℕ}
-      → IsSettledTo handlers process new empty sent count → IsSettledTo handlers process new before after count
+      → IsSettledTo handlers process new empty sent count → IsSettledTo handlers process new outbox.letters put.letters count
   put-settled settled = record {
     led = record {
       steps = settled.led.steps;
@@ -52,8 +62,16 @@ module _ {P : Type 0} (before sent : List (Letter P)) {after empty : List (Lette
     no_cancel = settled.no_cancel;
   }
 
--- an outbox behind whose letters nothing was put
-pub put-nothing : {P : Type 0} {outbox put : HeldOutbox P} (sent : List (Letter P)) {empty : List (Letter P)} → empty ≡ [] → put ≡ record outbox { letters = outbox.letters ++ sent } → sent ≡ empty → put ≡ outbox
-put-nothing {outbox = outbox} {put = put} sent none is same =
-    let kept : put.letters ≡ outbox.letters = put-kept outbox.letters sent none (ap (λ (o : HeldOutbox _). o.letters) is) same in
-    is ∙ (λ j. record outbox { letters = (sym (ap (λ (o : HeldOutbox _). o.letters) is) ∙ kept) j })
+  -- how a worker's fields go together once one of its processes has changed and entered the contest again
+  module _ {S K : Type 0} {config : Config} {w : ℕ} {processes : List (HeldProcess S P K)} {arrived : List (Mail P)} {out got : Counts} {serial : ℕ} {contest : Contest}
+      (h : IsWorkerInside config w processes outbox arrived out got serial contest) where
+    pub inside-put : (p place : ℕ) {old : HeldProcess S P K} (new : HeldProcess S P K) {now : List (HeldProcess S P K)} {entered : Contest} {next : ℕ}
+        → IsOwnPlace config w p place → slice_index_or processes place old ≡ old → (new.lp ≡ old.lp) × (new.config ≡ old.config) → now ≡ slice_set processes place new → IsContestOf now entered
+        → (AllWithinRun old.config empty → AllWithinRun old.config sent) → next ≤ MAX_COUNT → IsWorkerInside config w (slice_set processes place new) put arrived out got next entered
+    inside-put p place {old} new own found same now_is in_contest more few =
+        let at = process-there h p place own found in
+        let each = IsWithinRun {P = P} config.lps (end_of config) in
+        let within = subst (λ (k : Config). AllWithinRun k empty → AllWithinRun k sent) (process-at config w 0 place processes old h.own_processes at).1 more in
+        inside-changed h place new at same.0 same.1 now_is in_contest
+        (subst (AllWithinRun config) (sym behind) (All-append each outbox.letters sent h.sendable (within (subst (AllWithinRun config) (sym none) (All-nil each)))))
+        (ap (λ (o : HeldOutbox P). o.config) is ∙ h.by_worker) few

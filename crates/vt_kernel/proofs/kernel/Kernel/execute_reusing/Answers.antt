@@ -1,4 +1,4 @@
-use Rattle.std.proofs.Common.{rules, ◌≡◌, ◌/◌, ◌%◌, ◌≤◌, ◌∙◌, IfOk, IfErr, IfSome, Some, slice_get, slice_set, sym, ap, subst, refl}
+use Rattle.std.proofs.Common.{rules, ◌≡◌, ◌/◌, ◌%◌, ◌≤◌, ◌∙◌, IfOk, IfErr, IfSome, Some, slice_get, slice_set, sym, subst, refl}
 use Rattle.std.proofs.lemmas.Result.{IfErr-weaker, IfOk-weaker}
 use Rattle.vt_key.specs.declared.fault.Fault.TheVariants.{NotLawful}
 use Rattle.vt_key.specs.declared.limits.TheConstants.{MAX_COUNT}
@@ -7,17 +7,16 @@ use Rattle.vt_model.specs.Simulation.{simulation_of}
 use Rattle.vt_steps.specs.ProcessSteps.{execute_process}
 use Rattle.vt_steps.specs.declared.step.Step.TheVariants as step
 use Rattle.vt_steps.proofs.lists.Places.{get-put_same}
-use Rattle.vt_lp.specs.Held.{HeldProcess, AllWithinRun}
+use Rattle.vt_lp.specs.Held.{HeldProcess}
 use Rattle.vt_lp.specs.Guards.{IsDone as ProcessIsDone, IsExecuteRefusal as ProcessRefusal}
-use Rattle.vt_outbox.specs.Outbox.{HeldOutbox}
 use Rattle.vt_kernel.specs.Held.{HeldWorker, StandsFor, process_of}
 use Rattle.vt_kernel.specs.Local.{local_step}
 use Rattle.vt_kernel.specs.Guards.{IsDone, AreWithinLimits, IsExecuteRefusal}
 use Rattle.vt_model.proofs.Sizes.{out_fits}
 use Rattle.vt_kernel.proofs.ProcessLemmas.{process-at, processes-changed}
 use Rattle.vt_kernel.proofs.OwnSteps.{own-execute, found, within-limits, same-execute, refusal-at, own-step}
-use Rattle.vt_kernel.proofs.LocalLemmas.{worker_view, place-within, inside-changed, unknown-refused, written-same, either-way, at-found-done, execute-step, both-errors, own-process}
-use Rattle.vt_kernel.proofs.PutLemmas.{put-done, put-kept, put-within}
+use Rattle.vt_kernel.proofs.LocalLemmas.{worker_view, place-within, unknown-refused, written-same, either-way, at-found-done, execute-step, both-errors, own-process}
+use Rattle.vt_kernel.proofs.PutLemmas.{put-done, put-kept, inside-put}
 use Rattle.vt_kernel.proofs.ReentryLemmas.{process-there, still-there, was-in-contest}
 use Rattle.vt_kernel.proofs.kernel.Kernel.execute_reusing.Goals as goal
 
@@ -52,16 +51,10 @@ returns-in_default-clause-refused g c part s =
 
 pub invariant_of-self : goal.invariant_of-self
 invariant_of-self g c =
-    let i = c.self.inside in
-    let old = c.index_mut.result.now in
-    let at = process-there c.self.invariant c.args.lp c.in-Some.place c.in-Some.ensures.own (sym c.index_mut.ensures.value) in
-    let f = process-at i.config i.worker 0 c.in-Some.place i.processes.items old c.self.invariant.own_processes at in
-    let same = c.execute_reusing-result.ensures.same in
-    let within = subst (λ (k : Config). AllWithinRun k c.new-sent.result → AllWithinRun k c.execute_reusing-result.new.outbox) f.1 c.execute_reusing-result.ensures.within in
-    let put = ap (λ (o : HeldOutbox _). o.letters) c.put.ensures in
-    let few : c.execute_reusing-result.new.serial ≤ MAX_COUNT = either-way c.execute_reusing-result.result (λ _ counted. counted.1) (λ _ kept. subst (λ n. n ≤ MAX_COUNT) (sym kept.1) c.self.invariant.few_made) c.execute_reusing-result.ensures.counted c.execute_reusing-result.ensures.kept in
-    inside-changed c.self.invariant c.in-Some.place c.execute_reusing-result.new.self at same.0 same.1 c.deref.ensures.value c.enter.ensures (put-within i.outbox.letters c.execute_reusing-result.new.outbox c.new-sent.ensures put i.config within c.self.invariant.sendable)
-    (ap (λ (o : HeldOutbox _). o.config) c.put.ensures ∙ c.self.invariant.by_worker) few
+    let done = c.execute_reusing-result in
+    let few : done.new.serial ≤ MAX_COUNT = either-way done.result (λ _ counted. counted.1) (λ _ kept. subst (λ n. n ≤ MAX_COUNT) (sym kept.1) c.self.invariant.few_made) done.ensures.counted done.ensures.kept in
+    inside-put c.self.inside.outbox done.new.outbox c.new-sent.ensures c.put.ensures c.self.invariant c.args.lp c.in-Some.place done.new.self c.in-Some.ensures.own (sym c.index_mut.ensures.value) done.ensures.same c.deref.ensures.value c.enter.ensures
+    done.ensures.within few
 
 pub returns-clause-done : goal.returns-clause-done
 returns-clause-done g c part s =
@@ -76,7 +69,6 @@ returns-clause-done g c part s =
     let h = subst (λ (v : HeldWorker _ _ _). StandsFor handlers v part) (sym c.self.view_is) s in
     let f = found handlers held part c.args.lp old h c.self.invariant.own_processes own.1 (subst (λ k. slice_get i.processes.items k ≡ Some old) own.0 at) in
     let one = same-execute handlers held part c.args.lp old f.process h own.1 f.lp f.config in
-    let put = ap (λ (o : HeldOutbox _). o.letters) c.put.ensures in
     subst (λ (v : HeldWorker _ _ _). IfOk c.execute_reusing-result.result (λ _. IsDone handlers (worker_view i.worker i.config (slice_set i.processes.items c.in-Some.place new) c.put.new.self.letters i.arrived.items i.colour i.sent i.got i.red_minimum i.floor c.execute_reusing-result.new.serial)
     (local_step (simulation_of handlers v.config) v.worker (step.Execute c.args.lp) part))) c.self.view_is
     (IfOk-weaker c.execute_reusing-result.result _ _ (λ _ done.
@@ -84,7 +76,7 @@ returns-clause-done g c part s =
     (sym (own-execute (simulation_of handlers i.config) i.worker c.args.lp part))
     (at-found-done handlers held c.self.invariant.own_processes part h c.args.lp c.in-Some.place old new c.put.new.self.letters c.execute_reusing-result.new.serial
     (execute-step handlers held part c.args.lp) own.0 own.1 f same.0 same.1
-    (subst (λ x. ProcessIsDone handlers new x i.outbox.letters c.put.new.self.letters i.serial c.execute_reusing-result.new.serial) one (put-done i.outbox.letters c.execute_reusing-result.new.outbox c.new-sent.ensures put done)))) (c.execute_reusing-result.ensures.done f.process f.stands))
+    (subst (λ x. ProcessIsDone handlers new x i.outbox.letters c.put.new.self.letters i.serial c.execute_reusing-result.new.serial) one (put-done i.outbox c.execute_reusing-result.new.outbox c.new-sent.ensures c.put.ensures done)))) (c.execute_reusing-result.ensures.done f.process f.stands))
 
 pub returns-clause-counted : goal.returns-clause-counted
 returns-clause-counted g c part s =
@@ -137,9 +129,8 @@ returns-clause-unchanged g c part s =
     let at = process-there c.self.invariant c.args.lp c.in-Some.place c.in-Some.ensures.own (sym c.index_mut.ensures.value) in
     let h = subst (λ (v : HeldWorker _ _ _). StandsFor handlers v part) (sym c.self.view_is) s in
     let f = found handlers held part c.args.lp old h c.self.invariant.own_processes own.1 (subst (λ k. slice_get i.processes.items k ≡ Some old) own.0 at) in
-    let put = ap (λ (o : HeldOutbox _). o.letters) c.put.ensures in
     both-errors c.execute_reusing-result.result (λ _ same kept.
-    (λ j. worker_view i.worker i.config (written-same i.processes.items c.in-Some.place old new at same j) (put-kept i.outbox.letters c.execute_reusing-result.new.outbox c.new-sent.ensures put kept.0 j) i.arrived.items i.colour i.sent i.got i.red_minimum i.floor (kept.1 j)) ∙ c.self.view_is)
+    (λ j. worker_view i.worker i.config (written-same i.processes.items c.in-Some.place old new at same j) (put-kept i.outbox c.execute_reusing-result.new.outbox c.new-sent.ensures c.put.ensures kept.0 j) i.arrived.items i.colour i.sent i.got i.red_minimum i.floor (kept.1 j)) ∙ c.self.view_is)
     (c.execute_reusing-result.ensures.unchanged f.process f.stands) c.execute_reusing-result.ensures.kept
 
 pub returns-clause-restored : goal.returns-clause-restored
@@ -152,9 +143,8 @@ returns-clause-restored g c known =
     let at = process-there c.self.invariant c.args.lp c.in-Some.place c.in-Some.ensures.own (sym c.index_mut.ensures.value) in
     let here = subst (λ (v : HeldWorker _ _ _). IfSome (process_of v c.args.lp) (λ (p : HeldProcess _ _ _). g.M.Model.IsState c.args.model.now p.triple.state)) (sym c.self.view_is) known in
     let is_state = subst (λ x. IfSome x (λ (p : HeldProcess _ _ _). g.M.Model.IsState c.args.model.now p.triple.state)) (own-process held c.args.lp c.in-Some.place old own.0 own.1 at) here in
-    let put = ap (λ (o : HeldOutbox _). o.letters) c.put.ensures in
     both-errors c.execute_reusing-result.result (λ _ same kept.
-    (λ j. worker_view i.worker i.config (written-same i.processes.items c.in-Some.place old new at same j) (put-kept i.outbox.letters c.execute_reusing-result.new.outbox c.new-sent.ensures put kept.0 j) i.arrived.items i.colour i.sent i.got i.red_minimum i.floor (kept.1 j)) ∙ c.self.view_is)
+    (λ j. worker_view i.worker i.config (written-same i.processes.items c.in-Some.place old new at same j) (put-kept i.outbox c.execute_reusing-result.new.outbox c.new-sent.ensures c.put.ensures kept.0 j) i.arrived.items i.colour i.sent i.got i.red_minimum i.floor (kept.1 j)) ∙ c.self.view_is)
     (c.execute_reusing-result.ensures.restored is_state) c.execute_reusing-result.ensures.kept
 
 pub returns-clause-not_lawful : goal.returns-clause-not_lawful
@@ -163,9 +153,8 @@ returns-clause-not_lawful g c =
     let old = c.index_mut.result.now in
     let new = c.execute_reusing-result.new.self in
     let at = process-there c.self.invariant c.args.lp c.in-Some.place c.in-Some.ensures.own (sym c.index_mut.ensures.value) in
-    let put = ap (λ (o : HeldOutbox _). o.letters) c.put.ensures in
     both-errors c.execute_reusing-result.result (λ _ same kept is.
-    (λ j. worker_view i.worker i.config (written-same i.processes.items c.in-Some.place old new at (same is) j) (put-kept i.outbox.letters c.execute_reusing-result.new.outbox c.new-sent.ensures put kept.0 j) i.arrived.items i.colour i.sent i.got i.red_minimum i.floor (kept.1 j)) ∙ c.self.view_is)
+    (λ j. worker_view i.worker i.config (written-same i.processes.items c.in-Some.place old new at (same is) j) (put-kept i.outbox c.execute_reusing-result.new.outbox c.new-sent.ensures c.put.ensures kept.0 j) i.arrived.items i.colour i.sent i.got i.red_minimum i.floor (kept.1 j)) ∙ c.self.view_is)
     c.execute_reusing-result.ensures.not_lawful c.execute_reusing-result.ensures.kept
 
 pub returns-clause-but_processes : goal.returns-clause-but_processes
@@ -173,6 +162,5 @@ returns-clause-but_processes g c =
     let i = c.self.inside in
     let new = c.execute_reusing-result.new.self in
     let processes = slice_set i.processes.items c.in-Some.place new in
-    let put = ap (λ (o : HeldOutbox _). o.letters) c.put.ensures in
     subst (λ (v : HeldWorker _ _ _). IfErr c.execute_reusing-result.result (λ _. worker_view i.worker i.config processes c.put.new.self.letters i.arrived.items i.colour i.sent i.got i.red_minimum i.floor c.execute_reusing-result.new.serial ≡ record v { processes = processes })) c.self.view_is
-    (IfErr-weaker c.execute_reusing-result.result _ _ (λ _ kept j. worker_view i.worker i.config processes (put-kept i.outbox.letters c.execute_reusing-result.new.outbox c.new-sent.ensures put kept.0 j) i.arrived.items i.colour i.sent i.got i.red_minimum i.floor (kept.1 j)) c.execute_reusing-result.ensures.kept)
+    (IfErr-weaker c.execute_reusing-result.result _ _ (λ _ kept j. worker_view i.worker i.config processes (put-kept i.outbox c.execute_reusing-result.new.outbox c.new-sent.ensures c.put.ensures kept.0 j) i.arrived.items i.colour i.sent i.got i.red_minimum i.floor (kept.1 j)) c.execute_reusing-result.ensures.kept)

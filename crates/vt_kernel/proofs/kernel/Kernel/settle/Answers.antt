@@ -1,14 +1,12 @@
-use Rattle.std.proofs.Common.{rules, ◌∙◌, List, sym, ap, subst}
-use Rattle.vt_model.specs.declared.settings.Config.{Config}
+use Rattle.std.proofs.Common.{rules, List, sym, subst}
 use Rattle.vt_model.specs.Simulation.{simulation_of}
-use Rattle.vt_lp.specs.Held.{HeldProcess, AllWithinRun}
+use Rattle.vt_lp.specs.Held.{HeldProcess}
 use Rattle.vt_outbox.specs.Outbox.{HeldOutbox}
 use Rattle.vt_kernel.specs.Held.{HeldWorker, IsWorkerInside, StandsFor}
 use Rattle.vt_kernel.specs.Guards.{SettlesTo}
-use Rattle.vt_kernel.proofs.ProcessLemmas.{process-at}
-use Rattle.vt_kernel.proofs.LocalLemmas.{worker_view, place-within, written-same, inside-changed}
+use Rattle.vt_kernel.proofs.LocalLemmas.{worker_view, place-within, written-same}
 use Rattle.vt_kernel.proofs.SettledWorker.{unknown-settled, settled-seen}
-use Rattle.vt_kernel.proofs.PutLemmas.{put-nothing, put-settled, put-within}
+use Rattle.vt_kernel.proofs.PutLemmas.{put-nothing, put-settled, inside-put}
 use Rattle.vt_kernel.proofs.ReentryLemmas.{process-there, still-there, was-in-contest}
 use Rattle.vt_kernel.proofs.kernel.Kernel.settle.Goals as goal
 
@@ -39,24 +37,17 @@ returns-in_default-clause-settles g c part s =
 
 pub invariant_of-self : goal.invariant_of-self
 invariant_of-self g c =
-    let i = c.self.inside in
-    let old = c.index_mut.result.now in
-    let at = process-there c.self.invariant c.args.lp c.in-Some.place c.in-Some.ensures.own (sym c.index_mut.ensures.value) in
-    let f = process-at i.config i.worker 0 c.in-Some.place i.processes.items old c.self.invariant.own_processes at in
-    let same = c.settle_process-settling.ensures.same in
-    let within = subst (λ (k : Config). AllWithinRun k c.new-sent.result → AllWithinRun k c.settle_process-settling.new.outbox) f.1 c.settle_process-settling.ensures.within in
-    let put = ap (λ (o : HeldOutbox _). o.letters) c.put.ensures in
-    inside-changed c.self.invariant c.in-Some.place c.settle_process-settling.new.process at same.0 same.1 c.deref.ensures.value c.enter.ensures (put-within i.outbox.letters c.settle_process-settling.new.outbox c.new-sent.ensures put i.config within c.self.invariant.sendable)
-    (ap (λ (o : HeldOutbox _). o.config) c.put.ensures ∙ c.self.invariant.by_worker) c.self.invariant.few_made
+    let done = c.settle_process-settling in
+    inside-put c.self.inside.outbox done.new.outbox c.new-sent.ensures c.put.ensures c.self.invariant c.args.lp c.in-Some.place done.new.process c.in-Some.ensures.own (sym c.index_mut.ensures.value) done.ensures.same c.deref.ensures.value c.enter.ensures
+    done.ensures.within c.self.invariant.few_made
 
 pub returns-then-settling-clause-settles : goal.returns-then-settling-clause-settles
 returns-then-settling-clause-settles g c part s =
     let i = c.self.inside in
     let settling = c.settle_process-settling in
     let at = process-there c.self.invariant c.args.lp c.in-Some.place c.in-Some.ensures.own (sym c.index_mut.ensures.value) in
-    let put = ap (λ (o : HeldOutbox _). o.letters) c.put.ensures in
     settled-seen (g.M.Model.handlers c.args.model.now) c.self.view_is c.self.invariant.own_processes part s c.args.lp c.in-Some.place settling.result.undone settling.new.process c.put.new.self.letters
-    c.in-Some.ensures.own at settling.ensures.same (λ process st. put-settled i.outbox.letters settling.new.outbox c.new-sent.ensures put (settling.ensures.settled process st))
+    c.in-Some.ensures.own at settling.ensures.same (λ process st. put-settled i.outbox settling.new.outbox c.new-sent.ensures c.put.ensures (settling.ensures.settled process st))
 
 pub invariant_of-self-else-settling : goal.invariant_of-self-else-settling
 invariant_of-self-else-settling g c =
@@ -64,7 +55,7 @@ invariant_of-self-else-settling g c =
     let old = c.index_mut.result.now in
     let at = process-there c.self.invariant c.args.lp c.in-Some.place c.in-Some.ensures.own (sym c.index_mut.ensures.value) in
     let kept = c.settle_process-settling.ensures.unchanged c.if-settling.false in
-    let still = put-nothing c.settle_process-settling.new.outbox c.new-sent.ensures c.put.ensures kept.1 in
+    let still = put-nothing i.outbox c.settle_process-settling.new.outbox c.new-sent.ensures c.put.ensures kept.1 in
     subst (λ (ps : List (HeldProcess _ _ _)). IsWorkerInside i.config i.worker ps c.put.new.self i.arrived.items i.sent i.got i.serial i.contest)
     (sym (written-same i.processes.items c.in-Some.place old c.settle_process-settling.new.process at kept.0))
     (subst (λ (o : HeldOutbox _). IsWorkerInside i.config i.worker i.processes.items o i.arrived.items i.sent i.got i.serial i.contest) (sym still) c.self.invariant)
@@ -74,6 +65,5 @@ returns-else-settling-clause-settles g c part s =
     let i = c.self.inside in
     let settling = c.settle_process-settling in
     let at = process-there c.self.invariant c.args.lp c.in-Some.place c.in-Some.ensures.own (sym c.index_mut.ensures.value) in
-    let put = ap (λ (o : HeldOutbox _). o.letters) c.put.ensures in
     settled-seen (g.M.Model.handlers c.args.model.now) c.self.view_is c.self.invariant.own_processes part s c.args.lp c.in-Some.place settling.result.undone settling.new.process c.put.new.self.letters
-    c.in-Some.ensures.own at settling.ensures.same (λ process st. put-settled i.outbox.letters settling.new.outbox c.new-sent.ensures put (settling.ensures.settled process st))
+    c.in-Some.ensures.own at settling.ensures.same (λ process st. put-settled i.outbox settling.new.outbox c.new-sent.ensures c.put.ensures (settling.ensures.settled process st))

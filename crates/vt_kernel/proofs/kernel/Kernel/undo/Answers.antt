@@ -1,18 +1,14 @@
-use Rattle.std.proofs.Common.{rules, ◌≡◌, ◌∙◌, IfOk, IfErr, None, Some, slice_get, slice_set, sym, ap, subst}
+use Rattle.std.proofs.Common.{rules, ◌≡◌, ◌∙◌, IfOk, IfErr, None, Some, slice_get, slice_set, sym, subst}
 use Rattle.std.proofs.lemmas.Result.{IfErr-weaker, IfOk-weaker}
-use Rattle.vt_model.specs.declared.settings.Config.{Config}
 use Rattle.vt_model.specs.Simulation.{simulation_of}
 use Rattle.vt_steps.specs.ProcessSteps.{undo_process}
 use Rattle.vt_steps.specs.declared.step.Step.TheVariants as step
-use Rattle.vt_lp.specs.Held.{AllWithinRun}
-use Rattle.vt_outbox.specs.Outbox.{HeldOutbox}
 use Rattle.vt_kernel.specs.Held.{HeldWorker, StandsFor}
 use Rattle.vt_kernel.specs.Local.{local_step}
 use Rattle.vt_kernel.specs.Guards.{IsDone}
-use Rattle.vt_kernel.proofs.ProcessLemmas.{process-at}
 use Rattle.vt_kernel.proofs.OwnSteps.{found, refused-at}
-use Rattle.vt_kernel.proofs.LocalLemmas.{worker_view, place-within, inside-changed, unknown-refused, written-same, at-found-done, no-serial}
-use Rattle.vt_kernel.proofs.PutLemmas.{put-done, put-kept, put-within}
+use Rattle.vt_kernel.proofs.LocalLemmas.{worker_view, place-within, unknown-refused, written-same, at-found-done, no-serial}
+use Rattle.vt_kernel.proofs.PutLemmas.{put-done, put-kept, inside-put}
 use Rattle.vt_kernel.proofs.ReentryLemmas.{process-there, still-there, was-in-contest}
 use Rattle.vt_kernel.proofs.kernel.Kernel.undo.Goals as goal
 
@@ -40,15 +36,9 @@ returns-in_default-clause-refused g c part s =
 
 pub invariant_of-self : goal.invariant_of-self
 invariant_of-self g c =
-    let i = c.self.inside in
-    let old = c.index_mut.result.now in
-    let at = process-there c.self.invariant c.args.lp c.in-Some.place c.in-Some.ensures.own (sym c.index_mut.ensures.value) in
-    let f = process-at i.config i.worker 0 c.in-Some.place i.processes.items old c.self.invariant.own_processes at in
-    let same = c.undo-result.ensures.same in
-    let within = subst (λ (k : Config). AllWithinRun k c.new-sent.result → AllWithinRun k c.undo-result.new.outbox) f.1 c.undo-result.ensures.within in
-    let put = ap (λ (o : HeldOutbox _). o.letters) c.put.ensures in
-    inside-changed c.self.invariant c.in-Some.place c.undo-result.new.self at same.0 same.1 c.deref.ensures.value c.enter.ensures (put-within i.outbox.letters c.undo-result.new.outbox c.new-sent.ensures put i.config within c.self.invariant.sendable)
-    (ap (λ (o : HeldOutbox _). o.config) c.put.ensures ∙ c.self.invariant.by_worker) c.self.invariant.few_made
+    let done = c.undo-result in
+    inside-put c.self.inside.outbox done.new.outbox c.new-sent.ensures c.put.ensures c.self.invariant c.args.lp c.in-Some.place done.new.self c.in-Some.ensures.own (sym c.index_mut.ensures.value) done.ensures.same c.deref.ensures.value c.enter.ensures
+    done.ensures.within c.self.invariant.few_made
 
 pub returns-clause-done : goal.returns-clause-done
 returns-clause-done g c part s =
@@ -60,14 +50,13 @@ returns-clause-done g c part s =
     let new = c.undo-result.new.self in
     let at = process-there c.self.invariant c.args.lp c.in-Some.place c.in-Some.ensures.own (sym c.index_mut.ensures.value) in
     let same = c.undo-result.ensures.same in
-    let put = ap (λ (o : HeldOutbox _). o.letters) c.put.ensures in
     let h = subst (λ (v : HeldWorker _ _ _). StandsFor handlers v part) (sym c.self.view_is) s in
     let at_p = subst (λ k. slice_get i.processes.items k ≡ Some old) own.0 at in
     let f = found handlers held part c.args.lp old h c.self.invariant.own_processes own.1 at_p in
     subst (λ (v : HeldWorker _ _ _). IfOk c.undo-result.result (λ _. IsDone handlers (worker_view i.worker i.config (slice_set i.processes.items c.in-Some.place new) c.put.new.self.letters i.arrived.items i.colour i.sent i.got i.red_minimum i.floor i.serial)
     (local_step (simulation_of handlers v.config) v.worker (step.Undo c.args.lp) part))) c.self.view_is
     (IfOk-weaker c.undo-result.result _ _ (λ _ done. at-found-done handlers held c.self.invariant.own_processes part h c.args.lp c.in-Some.place old new c.put.new.self.letters i.serial undo_process own.0 own.1 f same.0 same.1
-    (no-serial handlers new (undo_process f.process) i.outbox.letters c.put.new.self.letters i.serial (put-done i.outbox.letters c.undo-result.new.outbox c.new-sent.ensures put done))) (c.undo-result.ensures.done f.process f.stands))
+    (no-serial handlers new (undo_process f.process) i.outbox.letters c.put.new.self.letters i.serial (put-done i.outbox c.undo-result.new.outbox c.new-sent.ensures c.put.ensures done))) (c.undo-result.ensures.done f.process f.stands))
 
 pub returns-clause-refused : goal.returns-clause-refused
 returns-clause-refused g c part s =
@@ -88,8 +77,7 @@ returns-clause-kept g c =
     let old = c.index_mut.result.now in
     let new = c.undo-result.new.self in
     let at = process-there c.self.invariant c.args.lp c.in-Some.place c.in-Some.ensures.own (sym c.index_mut.ensures.value) in
-    let put = ap (λ (o : HeldOutbox _). o.letters) c.put.ensures in
     IfErr-weaker c.undo-result.result _ _ (λ _ kept. (
       kept.0,
-      (λ j. worker_view i.worker i.config (written-same i.processes.items c.in-Some.place old new at kept.1 j) (put-kept i.outbox.letters c.undo-result.new.outbox c.new-sent.ensures put kept.2 j) i.arrived.items i.colour i.sent i.got i.red_minimum i.floor i.serial) ∙ c.self.view_is,
+      (λ j. worker_view i.worker i.config (written-same i.processes.items c.in-Some.place old new at kept.1 j) (put-kept i.outbox c.undo-result.new.outbox c.new-sent.ensures c.put.ensures kept.2 j) i.arrived.items i.colour i.sent i.got i.red_minimum i.floor i.serial) ∙ c.self.view_is,
     )) c.undo-result.ensures.kept
