@@ -1,29 +1,28 @@
-use Rattle.std.proofs.Common.{find, ap, sym, ◌∙◌}
+use Rattle.std.proofs.Common.{◌≡◌, find, ap, sym, ◌∙◌}
 use Rattle.std.specs.Option.{option_map}
 use Rattle.vt_key.specs.Queues.{without_first}
 use Rattle.vt_list.proofs.Firsts.{taken-first}
+use Rattle.vt_list.proofs.line.Line.remove_first.Given.{Over}
+use Rattle.vt_list.proofs.line.Line.remove_first.Goals.{After-put}
 use Rattle.vt_list.proofs.line.Line.remove_first.Goals as goal
+
+-- the item that was found, and the others
+removed : (g : Over) (c : After-put g)
+    → (option_map (λ n. n.value.item) c.split_first-found.result.0 ≡ find (g.P.Predicate.passes c.args.test.now) c.args.self.now) × (c.put.new.self ≡ without_first (g.P.Predicate.passes c.args.test.now) c.args.self.now)
+removed g c =
+    let test = g.P.Predicate.passes c.args.test.now in let parts = c.part_at_first-before in let off = c.split_first-found in let all = c.take.ensures.0 ∙ c.self.view_is in
+    let found = taken-first test (λ n. n.value.item) c.take.result parts.result.0 parts.result.1 off.result.1 off.result.0 parts.ensures.before parts.ensures.from off.ensures in
+    (found.0 ∙ ap (find test) all, c.put.ensures ∙ c.join.ensures ∙ found.1 ∙ ap (without_first test) all)
 
 pub returns-in_err-node-clause-item : goal.returns-in_err-node-clause-item
 returns-in_err-node-clause-item g c =
-    let test = g.P.Predicate.passes c.args.test.now in let parts = c.part_at_first-before in let off = c.split_first-found in
-    let found = taken-first test (λ n. n.value.item) c.take.result parts.result.0 parts.result.1 off.result.1 off.result.0 parts.ensures.before parts.ensures.from off.ensures in
-    c.from_residual.ensures ∙ ap (option_map (λ n. n.value.item)) (sym c.in_err-node.was) ∙ found.0 ∙ ap (find test) (c.take.ensures.0 ∙ c.self.view_is)
+    c.from_residual.ensures ∙ ap (option_map (λ n. n.value.item)) (sym c.in_err-node.was) ∙ (removed g (goal.at.returns-in_err-node-clause-item g c).After-put).0
 
 pub returns-in_err-node-clause-others : goal.returns-in_err-node-clause-others
-returns-in_err-node-clause-others g c =
-    let test = g.P.Predicate.passes c.args.test.now in let parts = c.part_at_first-before in let off = c.split_first-found in
-    let found = taken-first test (λ n. n.value.item) c.take.result parts.result.0 parts.result.1 off.result.1 off.result.0 parts.ensures.before parts.ensures.from off.ensures in
-    c.put.ensures ∙ c.join.ensures ∙ found.1 ∙ ap (without_first test) (c.take.ensures.0 ∙ c.self.view_is)
+returns-in_err-node-clause-others g c = (removed g (goal.at.returns-in_err-node-clause-others g c).After-put).1
 
 pub returns-clause-item : goal.returns-clause-item
-returns-clause-item g c =
-    let test = g.P.Predicate.passes c.args.test.now in let parts = c.part_at_first-before in let off = c.split_first-found in
-    let found = taken-first test (λ n. n.value.item) c.take.result parts.result.0 parts.result.1 off.result.1 off.result.0 parts.ensures.before parts.ensures.from off.ensures in
-    ap (option_map (λ n. n.value.item)) (sym c.in_ok-node.was) ∙ found.0 ∙ ap (find test) (c.take.ensures.0 ∙ c.self.view_is)
+returns-clause-item g c = ap (option_map (λ n. n.value.item)) (sym c.in_ok-node.was) ∙ (removed g (goal.at.returns-clause-item g c).After-put).0
 
 pub returns-clause-others : goal.returns-clause-others
-returns-clause-others g c =
-    let test = g.P.Predicate.passes c.args.test.now in let parts = c.part_at_first-before in let off = c.split_first-found in
-    let found = taken-first test (λ n. n.value.item) c.take.result parts.result.0 parts.result.1 off.result.1 off.result.0 parts.ensures.before parts.ensures.from off.ensures in
-    c.put.ensures ∙ c.join.ensures ∙ found.1 ∙ ap (without_first test) (c.take.ensures.0 ∙ c.self.view_is)
+returns-clause-others g c = (removed g (goal.at.returns-clause-others g c).After-put).1
