@@ -1,15 +1,9 @@
 -- Past events: the last one, and ranks that differ.
 use Rattle.std.proofs.Common.{◌≡◌, ◌⊎◌, inl, inr, suc, Bool, true, false, ◌-◌, List, [], ◌∷◌, Some, None, slice_get, length, refl, sym, subst, ◌∙◌, ap, arith}
-use Rattle.std.proofs.Math.Path.{path_j}
 use Rattle.std.specs.List.{last_or}
-use Rattle.vt_key.specs.Keys.{Key}
 use Rattle.vt_key.specs.Order.{RankBefore, rank_same}
-use Rattle.vt_key.specs.declared.letter.Letter.{Letter}
 use Rattle.vt_key.specs.declared.order.Rank.{Rank}
 use Rattle.vt_key.proofs.OrderLemmas.{rank-irreflexive, rank_same-true}
-use Rattle.vt_lp.specs.declared.entry.PastEvent.{PastEvent}
-use Rattle.vt_lp.specs.declared.executing.Trail.{Trail}
-use Rattle.vt_lp.specs.Past.{past_event}
 
 -- the last of a list, as the list tells it by its length
 pub last-at : {X : Type 0} (xs : List X) → last_or None xs ≡ slice_get xs (length xs - 1)
@@ -28,28 +22,3 @@ before-differs a b before = elim (cases (rank_same a b)) [
   cases : (t : Bool) → (t ≡ true) ⊎ (t ≡ false)
   cases true = inl refl
   cases false = inr refl
-
--- whichever copy of the letter's key it keeps, it is the past event of this letter
-pub as-made : {P K : Type 0} (letter : Letter P) (trail : Trail P K) (key : Key) (keyed : letter.event.rank.key ≡ key) →
-    (let e : PastEvent P K = record {
-      records = trail.records;
-      key = key;
-      letter = letter;
-      anti_messages = trail.anti_messages;
-      kept = trail.kept;
-      bits = trail.bits;
-      drawn = trail.drawn;
-      number = trail.number;
-      keyed = keyed;
-    } in e) ≡ past_event letter trail
-as-made {P = P} {K = K} letter trail key keyed = path_j (λ (k : Key) (same : letter.event.rank.key ≡ k). (let e : PastEvent P K = record {
-  records = trail.records;
-  key = k;
-  letter = letter;
-  anti_messages = trail.anti_messages;
-  kept = trail.kept;
-  bits = trail.bits;
-  drawn = trail.drawn;
-  number = trail.number;
-  keyed = same;
-} in e) ≡ past_event letter trail) refl keyed

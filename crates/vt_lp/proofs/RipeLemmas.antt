@@ -162,7 +162,7 @@ module _ {S P K : Type 0} (handlers : Handlers S P K) (floor : Time) where
   rows-lead sim p t now [] leads = refl
   rows-lead sim p t now (e ∷ es) leads = elim (is_ripe floor e) as (λ b.
       rows_from sim p t (entry_events (map entry_of (map (remembered handlers p) (if b then e ∷ ripe_events floor es else [])))) ≡
-      (if b then rows_of e.letter.event.rank.key e.records.items ++ rows_of_ripe floor es else [])) [
+      (if b then rows_of e.letter.event.rank.key e.records ++ rows_of_ripe floor es else [])) [
         | true ↦ (λ j. sym leads.0.rows j ++ rows-lead sim p (fired_at sim p t (remembered handlers p e)).triple now es leads.1 j)
         | false ↦ refl
       ]

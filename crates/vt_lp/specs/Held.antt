@@ -47,7 +47,7 @@ module _ {S P K : Type 0} (handlers : Handlers S P K) where
   remembered p e = record {
     event = e.letter.event;
     sent = map (λ letter. letter.event) e.anti_messages;
-    rows = rows_of e.letter.event.rank.key e.records.items;
+    rows = rows_of e.letter.event.rank.key e.records;
     back = way_back p e;
   }
 

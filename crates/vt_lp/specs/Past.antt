@@ -8,6 +8,7 @@ use Rattle.vt_key.specs.declared.fault.Fault.{Fault}
 use Rattle.vt_key.specs.declared.fault.Fault.TheVariants.{Memory, Exhausted}
 use Rattle.vt_key.specs.declared.letter.Event.{Event}
 use Rattle.vt_key.specs.declared.letter.Letter.{Letter}
+use Rattle.vt_model.specs.declared.rows.Record.{Record}
 use Rattle.vt_model.specs.Simulation.{Fired}
 use Rattle.vt_lp.specs.declared.entry.PastEvent.{PastEvent}
 use Rattle.vt_lp.specs.declared.executing.Trail.{Trail}
@@ -26,16 +27,16 @@ is_forced pending waiting rank =
     || list_any (λ letter. not (rank_before rank letter.event.rank)) waiting
 
 module _ {P K : Type 0} where
-  -- the past event of this letter, which left this
-  abbrev pub past_event : Letter P → Trail P K → PastEvent P K
-  past_event letter trail = record {
+  -- the past event of this letter, which left this trail and these records
+  abbrev pub past_event : Letter P → Trail P K → List Record → PastEvent P K
+  past_event letter trail records = record {
     key = letter.event.rank.key;
     letter = letter;
     kept = trail.kept;
     bits = trail.bits;
     drawn = trail.drawn;
     number = trail.number;
-    records = trail.records;
+    records = records;
     anti_messages = trail.anti_messages;
     keyed = refl;
   }

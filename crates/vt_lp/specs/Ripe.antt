@@ -23,4 +23,4 @@ module _ {P K : Type 0} (floor : Time) where
   -- the rows of the first past events, which are before the floor
   abbrev pub rows_of_ripe : List (PastEvent P K) → List Row
   rows_of_ripe [] = []
-  rows_of_ripe (e ∷ es) = if is_ripe e then rows_of e.letter.event.rank.key e.records.items ++ rows_of_ripe es else []
+  rows_of_ripe (e ∷ es) = if is_ripe e then rows_of e.letter.event.rank.key e.records ++ rows_of_ripe es else []

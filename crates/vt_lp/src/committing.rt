@@ -13,12 +13,12 @@ ghost use Rattle.vt_lp.specs.Ripe.{begins_ripe, unripe_events, rows_of_ripe};
 use crate::Lp;
 use crate::entry::PastEvent;
 use crate::past::Past;
+use crate::records::Records;
 use crate::spare::Spare;
-use arrayvec::ArrayVec;
 use std::alloc::Global;
 use vt_key::{Event, Fault, Key, When};
 use vt_list::List;
-use vt_model::{MAX_RECORDS, Model as EventModel, Record, Row};
+use vt_model::{Model as EventModel, Record, Row};
 
 impl<M: EventModel> Lp<M> {
     /// The past events, in the order of their execution.
@@ -127,12 +127,8 @@ fn append_ripe<P: Copy, K: Copy>(
 }
 
 /// Appends the rows of an event's records. If memory is refused, some may have been appended.
-fn append_rows(
-    key: Key,
-    records: &ArrayVec<Record, MAX_RECORDS>,
-    rows: &mut Vec<Row>,
-) -> Result<(), Fault>
-    ensures rows { IfOk result (λ done. rows.new.items ≡ rows.old.items ++ rows_of key records.now.items) }
+fn append_rows(key: Key, records: &Records, rows: &mut Vec<Row>) -> Result<(), Fault>
+    ensures rows { IfOk result (λ done. rows.new.items ≡ rows.old.items ++ rows_of key records.now) }
     ensures refused { IfErr result (λ fault. (fault ≡ Memory) × ((some : List Row) × (rows.new.items ≡ rows.old.items ++ some))) }
 {
     let key = &key;

@@ -2,16 +2,14 @@
 
 ghost use Rattle.std.specs.Prelude.{◌≡◌};
 
-use arrayvec::ArrayVec;
+use crate::records::Records;
 use vt_key::{Key, Letter};
 use vt_list::{List, Parcel};
-use vt_model::{Bits, MAX_RECORDS, Record};
+use vt_model::Bits;
 
 /// An executed event that is not committed yet, with all that its undo and its commit need.
 #[derive(Drop)]
 pub struct PastEvent<P: Copy, K: Copy> {
-    /// The records that the event made.
-    pub(crate) records: ArrayVec<Record, MAX_RECORDS>,
     /// The event's key. It stands in the message too, but a commit reads no other node with this copy at hand.
     pub(crate) key: Key,
     /// The message that brought the event, in its own node: an undo moves it back.
@@ -26,5 +24,7 @@ pub struct PastEvent<P: Copy, K: Copy> {
     pub(crate) drawn: u32,
     /// The send number before the event.
     pub(crate) number: u64,
+    /// The records that the event made. They stand last, since mostly only their first place is used.
+    pub(crate) records: Records,
     ghost keyed: { letter.event.rank.key ≡ key },
 }

@@ -5,6 +5,7 @@ ghost use Rattle.vt_key.specs.Times.{TimeBefore};
 ghost use Rattle.vt_key.specs.declared.fault.Fault.TheVariants.{Memory, NotLawful, Exhausted};
 ghost use Rattle.vt_key.specs.declared.letter.Letter.{Letter};
 ghost use Rattle.vt_key.specs.declared.letter.Sign.TheVariants.{Plus, Minus};
+ghost use Rattle.vt_model.specs.declared.limits.TheConstants.{MAX_RECORDS};
 ghost use Rattle.vt_model.specs.Process.{triple_at, IsProcessStream};
 ghost use Rattle.vt_model.specs.Simulation.{simulation_of};
 ghost use Rattle.vt_model.specs.Settings.{end_of};
@@ -18,21 +19,17 @@ ghost use Rattle.vt_lp.specs.Held.{StandsFor, AllWithinRun, IsReady, remembered}
 ghost use Rattle.vt_lp.specs.Guards.{IsDone, IsExecuteRefusal};
 ghost use Rattle.vt_lp.specs.Past.{past_event, ready_event, IsAdvanceRefusal};
 
-use crate::entry::PastEvent;
 use crate::lp::Lp;
 use crate::making::{is_counted, letters};
 use crate::past::Past;
 use crate::spare::Spare;
-use arrayvec::ArrayVec;
 use std::alloc::Global;
 use vt_key::{Event, Fault, Letter, MAX_COUNT, Sign, When};
 use vt_list::{List, Parcel};
-use vt_model::{
-    Bits, Config, MAX_DRAWS, MAX_RECORDS, Model as EventModel, Out, Process, Record, Sent, Undo,
-};
+use vt_model::{Bits, Config, MAX_DRAWS, Model as EventModel, Out, Process, Record, Sent, Undo};
 use vt_pending::Pending;
 
-/// What an executed event leaves for its undo and its commit.
+/// What an executed event leaves for its undo and its commit, beside its records.
 #[derive(Drop)]
 pub(crate) struct Trail<P: Copy, K: Copy> {
     /// What `forward` kept.
@@ -43,8 +40,6 @@ pub(crate) struct Trail<P: Copy, K: Copy> {
     pub(crate) drawn: u32,
     /// The send number before the event.
     pub(crate) number: u64,
-    /// The records that the event made.
-    pub(crate) records: ArrayVec<Record, MAX_RECORDS>,
     /// The anti-messages of what the event sent, in the order of the sends.
     pub(crate) anti_messages: List<Letter<P>>,
 }
@@ -126,7 +121,14 @@ impl<M: EventModel> Lp<M> {
         let kept = trail.kept;
         let drawn = trail.drawn;
         let number = trail.number;
-        if let Err(fault) = keep(alloc, spare, &mut self.pending, &mut self.past, trail) {
+        if let Err(fault) = keep(
+            alloc,
+            spare,
+            &mut self.pending,
+            &mut self.past,
+            trail,
+            out.records(),
+        ) {
             let sent = Sent {
                 key: event.rank.key,
                 dest: event.dest,
@@ -176,8 +178,9 @@ fn advance<M: EventModel>(
     ensures triple { let fired = (simulation_of (M.handlers model.now) config).fire event.dest (triple_at process.old.state process.old.number process.old.stream) (unstamped event) in IfOk result (λ a. triple_at process.new.state process.new.number process.new.stream ≡ fired.triple) }
     ensures messages { let fired = (simulation_of (M.handlers model.now) config).fire event.dest (triple_at process.old.state process.old.number process.old.stream) (unstamped event) in IfOk result (λ a. a.1 ≡ map (signed Plus) (stamped (event.dest % config.workers) serial fired.sends)) }
     ensures anti_messages { let fired = (simulation_of (M.handlers model.now) config).fire event.dest (triple_at process.old.state process.old.number process.old.stream) (unstamped event) in IfOk result (λ a. a.0.anti_messages ≡ map (signed Minus) (stamped (event.dest % config.workers) serial fired.sends)) }
-    ensures remembered { M.IsState model.now process.old.state → IfOk result (λ a. IsRemembered (simulation_of (M.handlers model.now) config) event.dest (triple_at process.old.state process.old.number process.old.stream) (remembered (M.handlers model.now) event.dest (past_event (signed Plus event) a.0))) }
+    ensures remembered { M.IsState model.now process.old.state → IfOk result (λ a. IsRemembered (simulation_of (M.handlers model.now) config) event.dest (triple_at process.old.state process.old.number process.old.stream) (remembered (M.handlers model.now) event.dest (past_event (signed Plus event) a.0 out.new.records))) }
     ensures few { IfOk result (λ a. a.0.drawn ≤ MAX_DRAWS) }
+    ensures few_records { IfOk result (λ a. length out.new.records ≤ MAX_RECORDS) }
     ensures few_sends { IfOk result (λ a. a.0.number ≤ MAX_COUNT) }
     ensures ready { IfOk result (λ a. All (IsReady config.lps (end_of config)) a.0.anti_messages) }
     ensures within { IfOk result (λ a. AllWithinRun config a.1) }
@@ -217,7 +220,6 @@ fn advance<M: EventModel>(
         bits,
         drawn,
         number,
-        records: out.take_records(),
         anti_messages,
     };
     Ok((trail, messages))
@@ -249,7 +251,7 @@ fn both_letters<P: Copy, K: Copy>(
     Ok((messages, anti_messages))
 }
 
-/// Moves the least pending event, with what it left, behind the last past one. A refusal leaves both lists unchanged.
+/// Moves the least pending event, with the trail and the records that it left, behind the last past one. A refusal leaves both lists unchanged.
 ///
 /// [`Fault::Memory`]: memory was refused.
 fn keep<P: Copy, K: Copy>(
@@ -258,10 +260,12 @@ fn keep<P: Copy, K: Copy>(
     pending: &mut Pending<P>,
     past: &mut Past<P, K>,
     trail: Trail<P, K>,
+    records: &[Record],
 ) -> Result<(), Fault>
+    requires few { length records.now ≤ MAX_RECORDS }
     requires some { 0 < length pending.old }
     requires rising { IsRising pending.old }
-    ensures kept { IfOk result (λ _. (letter : Letter _) × (pending.old ≡ letter ∷ pending.new) × (past.new ≡ past.old ++ past_event letter trail ∷ [])) }
+    ensures kept { IfOk result (λ _. (letter : Letter _) × (pending.old ≡ letter ∷ pending.new) × (past.new ≡ past.old ++ past_event letter trail records.now ∷ [])) }
     ensures rising { IsRising pending.new }
     ensures unchanged { IfErr result (λ fault. (pending.new ≡ pending.old) × (past.new ≡ past.old)) }
     ensures refused { IfErr result (λ fault. fault ≡ Memory) }
@@ -269,40 +273,12 @@ fn keep<P: Copy, K: Copy>(
     let Some(letter) = pending.take_least() else {
         return Err(Fault::NotLawful);
     };
-    let Trail {
-        kept,
-        bits,
-        drawn,
-        number,
-        records,
-        anti_messages,
-    } = trail;
-    let event = PastEvent {
-        records,
-        key: letter.get().event.rank.key,
-        letter,
-        anti_messages,
-        kept,
-        bits,
-        drawn,
-        number,
-    };
-    match spare.event(alloc, event) {
+    match spare.event(alloc, letter, trail, records) {
         Ok(event) => {
             past.push_back(event);
             Ok(())
         }
-        Err(event) => {
-            let PastEvent {
-                records: _,
-                key: _,
-                letter,
-                anti_messages: _,
-                kept: _,
-                bits: _,
-                drawn: _,
-                number: _,
-            } = event;
+        Err(letter) => {
             pending.insert(letter);
             Err(Fault::Memory)
         }

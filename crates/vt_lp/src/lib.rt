@@ -13,6 +13,8 @@ mod letters;
 mod lp;
 mod making;
 mod past;
+mod records;
+mod renewing;
 mod spare;
 mod starting;
 mod undoing;

@@ -1,13 +1,17 @@
 //! Nodes that processes no longer need, kept for the next letters and events.
 
-ghost use Rattle.std.specs.Prelude.{◌≡◌, ◌+◌, ◌-◌, [], length, IfOk, IfErr, IfSome, IfNone};
+ghost use Rattle.std.specs.Prelude.{◌≡◌, ◌+◌, ◌-◌, ◌≤◌, [], length, IfOk, IfErr, IfSome, IfNone};
+ghost use Rattle.vt_model.specs.declared.limits.TheConstants.{MAX_RECORDS};
 ghost use Rattle.vt_lp.specs.Kept.{one_if_some, held_by};
+ghost use Rattle.vt_lp.specs.Past.{past_event};
 
 use crate::entry::PastEvent;
+use crate::executing::Trail;
 use std::alloc::Global;
 use std::marker::Model;
 use vt_key::Letter;
 use vt_list::{List, Parcel, Stack};
+use vt_model::Record;
 
 /// Nodes of committed past events and of letters that are no longer needed, kept to be used again. Nothing depends on
 /// their old contents.
@@ -102,33 +106,27 @@ impl<P: Copy, K: Copy> Spare<P, K> {
         Ok(parcel)
     }
 
-    /// Puts the past event into a kept node, or else into a new one. An error means that memory was refused; it hands
-    /// the event back.
+    /// Puts the past event of this letter, which left this trail and these records, into a kept node, or else into a new
+    /// one. An error means that memory was refused; it hands the letter back.
     pub(crate) fn event(
         &mut self,
         alloc: Global,
-        event: PastEvent<P, K>,
-    ) -> Result<Parcel<PastEvent<P, K>>, PastEvent<P, K>>
-        ensures made { IfOk result (λ parcel. parcel ≡ event) }
-        ensures item_returned { IfErr result (λ refused. refused ≡ event) }
+        letter: Parcel<Letter<P>>,
+        trail: Trail<P, K>,
+        records: &[Record],
+    ) -> Result<Parcel<PastEvent<P, K>>, Parcel<Letter<P>>>
+        requires few { length records.now ≤ MAX_RECORDS }
+        ensures made { IfOk result (λ parcel. parcel ≡ past_event letter trail records.now) }
+        ensures letter_returned { IfErr result (λ refused. refused ≡ letter) }
         ensures taken { self.new.events ≡ self.old.events - 1 }
         ensures kept { self.new.letters + self.new.events + self.new.held ≡ self.old.letters + self.old.events + self.old.held }
         ensures none_left { IfErr result (λ _. self.old.events ≡ 0) }
     {
         let Some(mut parcel) = self.take_event() else {
-            return Parcel::new(alloc, event);
+            return new_event(alloc, letter, trail, records);
         };
-        let PastEvent {
-            records: _,
-            key: _,
-            letter,
-            mut anti_messages,
-            kept: _,
-            bits: _,
-            drawn: _,
-            number: _,
-        } = parcel.replace(event);
-        self.keep_letter(letter);
+        let (old_letter, mut anti_messages) = parcel.get_mut().renew(letter, trail, records);
+        self.keep_letter(old_letter);
         self.keep_letters(&mut anti_messages);
         Ok(parcel)
     }
@@ -221,12 +219,42 @@ impl<P: Copy, K: Copy> Spare<P, K> {
     }
 }
 
+/// The past event of this letter, which left this trail and these records, in a new node. An error means that memory was
+/// refused; it hands the letter back.
+fn new_event<P: Copy, K: Copy>(
+    alloc: Global,
+    letter: Parcel<Letter<P>>,
+    trail: Trail<P, K>,
+    records: &[Record],
+) -> Result<Parcel<PastEvent<P, K>>, Parcel<Letter<P>>>
+    requires few { length records.now ≤ MAX_RECORDS }
+    ensures made { IfOk result (λ parcel. parcel ≡ past_event letter trail records.now) }
+    ensures letter_returned { IfErr result (λ refused. refused ≡ letter) }
+{
+    match Parcel::new(alloc, PastEvent::new(letter, trail, records)) {
+        Ok(event) => Ok(event),
+        Err(event) => {
+            let PastEvent {
+                records: _,
+                key: _,
+                letter,
+                anti_messages: _,
+                kept: _,
+                bits: _,
+                drawn: _,
+                number: _,
+            } = event;
+            Err(letter)
+        }
+    }
+}
+
 // Reads words at both ends of a letter.
 fn read_letter<P: Copy>(letter: &Letter<P>) -> u64 {
     letter.event.rank.key.number() ^ u64::from(letter.event.dest)
 }
 
-// Reads words all over a past event.
+// Reads words all over the part of a past event that is mostly written.
 fn read_event<P: Copy, K: Copy>(event: &PastEvent<P, K>) -> u64 {
-    event.number ^ event.records.len() as u64 ^ event.anti_messages.len() as u64
+    event.key.number() ^ event.number ^ event.records.first_value()
 }

@@ -14,7 +14,7 @@ loop-record-init c = record { index_is = refl; rows_are = search rules }
 pub loop-record-preserved : goal.loop-record-preserved
 loop-record-preserved c =
     let i = c.loop-record.record-index in
-    let records = c.args.records.now.items in
+    let records = c.args.records.now in
     let d : Record = record { time = 0; priority = 0; lp = 0; kind = 0; value = 0 } in
     let fine : is_ok c.push.result ≡ true = search rules in
     let row : List Record → Row = λ rs. record { key = c.args.key; index = c.loop-record.index; rec = get_or rs i d } in
@@ -31,7 +31,7 @@ loop-record-preserved c =
 
 pub returns-clause-rows : goal.returns-clause-rows
 returns-clause-rows c =
-    let records = c.args.records.now.items in
+    let records = c.args.records.now in
     let all = take_all c.loop-record.record-index records
     (subst (λ (rs : List Record). length rs ≤ c.loop-record.record-index) c.as_slice-record-items.ensures.value c.loop-record-test.false) in
     c.loop-record.invariant.rows_are ∙ ap (λ (rs : List Record). c.args.rows.now.items ++ rows_of c.args.key rs) all

@@ -5,5 +5,5 @@ use Rattle.vt_lp.proofs.committing.append_rows.Given as goal
 abbrev pub invariant-loop-record : goal.invariant-loop-record
 invariant-loop-record l = record {
   index_is : l.index ≡ l.record-index;
-  rows_are : l.rows.items ≡ l.fn.rows.items ++ rows_of l.key (take l.record-index l.records.items);
+  rows_are : l.rows.items ≡ l.fn.rows.items ++ rows_of l.key (take l.record-index l.records);
 }

@@ -5,18 +5,17 @@ use Rattle.vt_key.specs.declared.letter.Letter.{Letter}
 use Rattle.vt_key.specs.declared.letter.Sign.TheVariants.{Plus, Minus}
 use Rattle.vt_stream.specs.Words.{Stream}
 use Rattle.vt_model.specs.declared.sending.Sent.{Sent}
-use Rattle.vt_model.specs.declared.rows.Record.{Record}
 use Rattle.vt_model.specs.Handler.{IsFresh}
 use Rattle.vt_model.specs.Process.{triple_at, IsProcessStream}
 use Rattle.vt_key.specs.declared.limits.TheConstants.{MAX_COUNT}
-use Rattle.vt_model.specs.Simulation.{Triple, simulation_of, rows_of}
+use Rattle.vt_model.specs.Simulation.{Triple, simulation_of}
 use Rattle.vt_model.proofs.LawLemmas.{lawful_of}
 use Rattle.vt_model.specs.Settings.{end_of}
 use Rattle.vt_steps.specs.Letters.{unstamped, stamped, signed}
 use Rattle.vt_lp.specs.Held.{AllWithinRun, IsReady}
 use Rattle.vt_model.proofs.Sizes.{out_fits}
 use Rattle.vt_lp.proofs.Stamping.{letters-all, letters-within}
-use Rattle.vt_lp.proofs.Advancing.{remembers, stream-back, stream-stays}
+use Rattle.vt_lp.proofs.Advancing.{remembers, few-records, stream-back, stream-stays}
 use Rattle.vt_lp.proofs.executing.advance.Goals as goal
 use Rattle.vt_lp.proofs.executing.advance.Goals.{then-number-gt-MAX_COUNT-via-then-number-gt-MAX_COUNT, then-number-gt-MAX_COUNT-via-else-number-gt-MAX_COUNT+then-not-is_counted}
 
@@ -28,9 +27,6 @@ sends-requires g c = out_fits _ _ g.met.M.Model.payload_align g.met.M.Model.payl
 
 pub sends-requires-2 : goal.sends-requires-2
 sends-requires-2 g c = out_fits _ _ g.met.M.Model.payload_align g.met.M.Model.payload_size
-
-pub take_records-requires : goal.take_records-requires
-take_records-requires g c = out_fits _ _ g.met.M.Model.payload_align g.met.M.Model.payload_size
 
 pub renew-requires : goal.renew-requires
 renew-requires g c =
@@ -57,12 +53,12 @@ returns-clause-remembered g c ok =
     let fired = sim.fire event.dest t (unstamped event) in
     let sends = c.sends-2.ensures ∙ c.execute_into-drawn.ensures.fires.sends in
     remembers (g.M.Model.handlers c.args.model.now) config event.dest c.owner-worker.result c.args.serial event t
-    (triple_at c.execute_into-drawn.new.self.state c.execute_into-drawn.new.self.number c.execute_into-drawn.new.self.stream) _
+    (triple_at c.execute_into-drawn.new.self.state c.execute_into-drawn.new.self.number c.execute_into-drawn.new.self.stream) _ _
     ((λ j. record { state = c.execute_into-drawn.new.self.state; number = c.execute_into-drawn.ensures.number j; place = c.execute_into-drawn.new.self.stream.place }) ∙ c.execute_into-drawn.ensures.fires.triple)
     (c.execute_into-drawn.ensures.undoes ok) refl c.execute_into-drawn.ensures.in_range c.execute_into-drawn.ensures.few
     (ap (λ (w : Stream). w.place) c.execute_into-drawn.ensures.stream)
     (c.in-Ok.ensures.anti_messages ∙ ap (λ (xs : List (Sent _)). map (signed Minus) (stamped c.owner-worker.result c.args.serial xs)) sends)
-    (ap (λ (xs : List Record). rows_of event.rank.key xs) c.take_records.ensures.taken ∙ c.execute_into-drawn.ensures.fires.rows)
+    c.execute_into-drawn.ensures.fires.rows
 
 pub returns-clause-ready : goal.returns-clause-ready
 returns-clause-ready g c =
@@ -132,6 +128,12 @@ returns-clause-anti_messages g c =
 
 pub returns-clause-few : goal.returns-clause-few
 returns-clause-few g c = c.execute_into-drawn.ensures.few
+
+pub returns-clause-few_records : goal.returns-clause-few_records
+returns-clause-few_records g c =
+    let p = c.args.process.now in
+    few-records (g.M.Model.handlers c.args.model.now) c.args.config (g.met.M.Model.forward_within c.args.model.now) c.args.event.dest (triple_at p.state p.number p.stream) (unstamped c.args.event) _
+    c.requires.known c.execute_into-drawn.ensures.fires.rows
 
 pub returns-clause-few_sends : goal.returns-clause-few_sends
 returns-clause-few_sends g c = c.requires.numbered

@@ -1,4 +1,4 @@
-use Rattle.std.proofs.Common.{◌≡◌, ◌∙◌, ◌<◌, ◌+◌, ◌-◌, ◌≤◌, ◌%◌, ◌^◌, ◌++◌, ◌∷◌, inr, List, map, length, sym, subst, refl, ap, arith}
+use Rattle.std.proofs.Common.{◌≡◌, ◌∙◌, ◌<◌, ◌+◌, ◌-◌, ◌≤◌, ◌%◌, ◌^◌, ◌++◌, ◌∷◌, inr, List, [], map, length, sym, subst, refl, ap, arith}
 use Rattle.std.specs.List.{All}
 use Rattle.std.proofs.lemmas.List.Elements.{All-head, All-append}
 use Rattle.vt_key.specs.declared.limits.TheConstants.{MAX_COUNT}
@@ -6,6 +6,7 @@ use Rattle.vt_key.specs.declared.fault.Fault.TheVariants.{NotLawful}
 use Rattle.vt_key.specs.declared.letter.Letter.{Letter}
 use Rattle.vt_key.specs.declared.letter.Sign.TheVariants.{Plus, Minus}
 use Rattle.vt_stream.specs.Words.{Stream}
+use Rattle.vt_model.specs.declared.rows.Record.{Record}
 use Rattle.vt_model.specs.Process.{triple_at}
 use Rattle.vt_model.specs.Simulation.{Triple, simulation_of}
 use Rattle.vt_model.proofs.LawLemmas.{after_state}
@@ -16,6 +17,7 @@ use Rattle.vt_steps.specs.ProcessSteps.{execute_process}
 use Rattle.vt_steps.proofs.steps.MemoryLemmas.{is_where}
 use Rattle.vt_lp.specs.Held.{HeldProcess, StandsFor, AllWithinRun, IsWithinRun, IsOwnLetter, process_memory}
 use Rattle.vt_lp.specs.Guards.{IsDone, IsExecuteRefusal}
+use Rattle.vt_lp.specs.Past.{past_event}
 use Rattle.vt_model.proofs.Sizes.{out_fits}
 use Rattle.vt_lp.proofs.Advancing.{place-back}
 use Rattle.vt_lp.proofs.Stamping.{length-letters}
@@ -124,7 +126,7 @@ returns-in-Err-keep-clause-unchanged g c h s =
     let after = c.advance.new.process in
     let back : triple_at c.undo.new.self.state c.undo.new.self.number c.undo.new.self.stream ≡ held.triple =
     (λ j. record { state = c.undo.ensures.state j; number = c.undo.ensures.number j; place = (c.undo.ensures.stream j).place })
-    ∙ came-back handlers l.config event.dest held.triple (triple_at after.state after.number after.stream) event c.in-Ok.advanced.0 c.in-Ok.ensures.triple (c.in-Ok.ensures.remembered ok) in
+    ∙ came-back handlers l.config event.dest held.triple (triple_at after.state after.number after.stream) event c.in-Ok.advanced.0 c.advance.new.out.records c.in-Ok.ensures.triple (c.in-Ok.ensures.remembered ok) in
     (λ j. record { lp = l.lp; config = l.config; triple = back j; past = left.1 j; pending = left.0 j; waiting = l.waiting }) ∙ c.self.view_is
 
 pub invariant_of-self-in_default-keep : goal.invariant_of-self-in_default-keep
@@ -134,7 +136,7 @@ invariant_of-self-in_default-keep g c =
     let event = c.in-Some.event in
     let own = ready-own l.lp (end_of l.config) l.pending l.past event inside.own_pending c.in-Some.ensures.event in
     let k = c.in_default-keep.ensures.kept in
-    inside-more l.config l.lp l.process.number _ l.process.stream _ l.past l.pending l.waiting event k.0 c.keep.new.pending c.in-Ok.advanced.0 c.keep.new.past inside
+    inside-more l.config l.lp l.process.number _ l.process.stream _ l.past l.pending l.waiting event k.0 c.keep.new.pending c.in-Ok.advanced.0 c.records.result.now c.keep.new.past inside
     c.in-Some.ensures.rising k.1 c.in-Some.ensures.event c.advance.ensures.numbered
     (record { key = c.advance.ensures.stream.key; process = c.advance.ensures.stream.process ∙ own.0 })
     c.in-Ok.ensures.few c.in-Ok.ensures.few_sends c.in-Ok.ensures.ready k.2
@@ -183,9 +185,10 @@ returns-clause-done g c h s =
     let mine : All (IsOwnLetter l.lp (end_of l.config) Plus) (k.0 ∷ c.keep.new.pending) = subst (λ (xs : List (Letter _)). All (IsOwnLetter l.lp (end_of l.config) Plus) xs) k.1 inside.own_pending in
     let new = process_view l.lp l.config after.state after.number after.stream c.keep.new.past c.keep.new.pending l.waiting in
     subst (λ (v : HeldProcess _ _ _). IsDone handlers new (execute_process (simulation_of handlers v.config) v.lp (v.lp % v.config.workers) c.args.serial.now h) c.args.outbox.now c.append.new.self c.args.serial.now (c.args.serial.now + c.len.result)) c.self.view_is
-    (executes handlers held w c.args.serial.now h k.0 c.keep.new.pending event.dest event (triple_at after.state after.number after.stream) c.in-Ok.advanced.0
+    (executes handlers held w c.args.serial.now h k.0 c.keep.new.pending event.dest event (triple_at after.state after.number after.stream) c.in-Ok.advanced.0 c.advance.new.out.records
     c.keep.new.past c.args.outbox.now c.append.new.self c.in-Ok.advanced.1 (c.args.serial.now + c.len.result)
-    now k.1 c.in-Some.ensures.event (All-head (IsOwnLetter l.lp (end_of l.config) Plus) k.0 c.keep.new.pending mine).signed own.0 k.2 c.in-Ok.ensures.triple (c.in-Ok.ensures.remembered ok)
+    now k.1 c.in-Some.ensures.event (All-head (IsOwnLetter l.lp (end_of l.config) Plus) k.0 c.keep.new.pending mine).signed own.0
+    (k.2 ∙ ap (λ (records : List Record). l.past ++ past_event k.0 c.in-Ok.advanced.0 records ∷ []) c.records.ensures) c.in-Ok.ensures.triple (c.in-Ok.ensures.remembered ok)
     (c.in-Ok.ensures.anti_messages ∙ (λ j. map (signed Minus) (stamped (own.0 j % l.config.workers) c.args.serial.now fired.sends)))
     (c.in-Ok.ensures.messages ∙ (λ j. map (signed Plus) (stamped (own.0 j % l.config.workers) c.args.serial.now fired.sends)))
     c.append.ensures.0
@@ -217,7 +220,7 @@ returns-in-Err-keep-clause-restored g c is_state =
     let after = c.advance.new.process in
     let back : triple_at c.undo.new.self.state c.undo.new.self.number c.undo.new.self.stream ≡ held.triple =
     (λ j. record { state = c.undo.ensures.state j; number = c.undo.ensures.number j; place = (c.undo.ensures.stream j).place })
-    ∙ came-back handlers l.config event.dest held.triple (triple_at after.state after.number after.stream) event c.in-Ok.advanced.0 c.in-Ok.ensures.triple (c.in-Ok.ensures.remembered ok) in
+    ∙ came-back handlers l.config event.dest held.triple (triple_at after.state after.number after.stream) event c.in-Ok.advanced.0 c.advance.new.out.records c.in-Ok.ensures.triple (c.in-Ok.ensures.remembered ok) in
     (λ j. record { lp = l.lp; config = l.config; triple = back j; past = left.1 j; pending = left.0 j; waiting = l.waiting }) ∙ c.self.view_is
 
 pub returns-in-Err-keep-clause-but_state : goal.returns-in-Err-keep-clause-but_state

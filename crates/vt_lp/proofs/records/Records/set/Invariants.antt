@@ -1,0 +1,10 @@
+use Rattle.std.proofs.Common.{◌≡◌, length, take}
+use Rattle.vt_model.specs.declared.limits.TheConstants.{MAX_RECORDS}
+use Rattle.vt_lp.proofs.records.Records.set.Given as goal
+
+abbrev pub invariant-loop-record : goal.invariant-loop-record
+invariant-loop-record l = record {
+  counted : l.count ≡ l.record-index;
+  long : length l.self-inside.places ≡ MAX_RECORDS;
+  written : take l.count l.self-inside.places ≡ take l.record-index l.records;
+}

@@ -1,0 +1,66 @@
+//! The records of a past event.
+
+ghost use Rattle.std.specs.Prelude.{◌≡◌, ◌≤◌, [], length};
+ghost use Rattle.vt_model.specs.declared.limits.TheConstants.{MAX_RECORDS as MOST};
+
+use std::marker::Model;
+use vt_model::{MAX_RECORDS, Record};
+
+/// The records that an event made. Contracts see the list of them.
+///
+/// They take the first places of an array. Records that are written over others touch no place behind them.
+#[derive(Drop)]
+pub(crate) struct Records {
+    count: usize,
+    places: [Record; MAX_RECORDS],
+}
+
+impl Model for Records {
+    ghost use Rattle.std.specs.Prelude.{◌≡◌, ◌≤◌, List, length, take};
+    ghost use Rattle.vt_model.specs.declared.rows.Record.{Record};
+    ghost use Rattle.vt_model.specs.declared.limits.TheConstants.{MAX_RECORDS};
+
+    ghost Value = { List Record };
+
+    ghost view = { λ r. take r.count r.places };
+
+    ghost invariant = { λ r. (r.count ≤ MAX_RECORDS) × (length r.places ≡ MAX_RECORDS) };
+}
+
+impl Records {
+    /// No records.
+    pub(crate) fn new() -> Records
+        ensures { result ≡ [] }
+    {
+        Records {
+            count: 0,
+            places: Default::default(),
+        }
+    }
+
+    /// Writes these records over the old ones.
+    pub(crate) fn set(&mut self, records: &[Record])
+        requires few { length records.now ≤ MOST }
+        ensures { self.new ≡ records.now }
+    {
+        let mut count = 0;
+        for record in records {
+            self.places[count] = *record;
+            count += 1;
+        }
+        self.count = count;
+    }
+
+    /// The records, in the order in which they were made.
+    pub(crate) fn as_slice(&self) -> &[Record]
+        ensures value { result.now ≡ self.now }
+        ensures fits { length result.now ≤ MOST }
+    {
+        &self.places[..self.count]
+    }
+
+    /// A value of the first record; of an old one if there is none.
+    pub(crate) fn first_value(&self) -> u64 {
+        self.places[0].value
+    }
+}

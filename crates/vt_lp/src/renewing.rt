@@ -1,0 +1,75 @@
+//! How an executed event becomes a past one, in a node that an old one had.
+
+ghost use Rattle.std.specs.Prelude.{◌≡◌, ◌≤◌, length};
+ghost use Rattle.vt_model.specs.declared.limits.TheConstants.{MAX_RECORDS};
+ghost use Rattle.vt_lp.specs.Past.{past_event};
+
+use crate::entry::PastEvent;
+use crate::executing::Trail;
+use crate::records::Records;
+use std::mem::replace;
+use vt_key::Letter;
+use vt_list::{List, Parcel};
+use vt_model::Record;
+
+impl<P: Copy, K: Copy> PastEvent<P, K> {
+    /// The past event of this letter, which left this trail and these records.
+    pub(crate) fn new(
+        letter: Parcel<Letter<P>>,
+        trail: Trail<P, K>,
+        records: &[Record],
+    ) -> PastEvent<P, K>
+        requires few { length records.now ≤ MAX_RECORDS }
+        ensures { result ≡ past_event letter trail records.now }
+    {
+        let Trail {
+            kept,
+            bits,
+            drawn,
+            number,
+            anti_messages,
+        } = trail;
+        let mut places = Records::new();
+        places.set(records);
+        PastEvent {
+            records: places,
+            key: letter.get().event.rank.key,
+            letter,
+            anti_messages,
+            kept,
+            bits,
+            drawn,
+            number,
+        }
+    }
+
+    /// Writes over this event the one that [`PastEvent::new`] gives, in place. Returns the letters of the old one.
+    pub(crate) fn renew(
+        &mut self,
+        letter: Parcel<Letter<P>>,
+        trail: Trail<P, K>,
+        records: &[Record],
+    ) -> (Parcel<Letter<P>>, List<Letter<P>>)
+        requires few { length records.now ≤ MAX_RECORDS }
+        ensures renewed { self.new ≡ past_event letter trail records.now }
+        ensures letters { (result.0 ≡ self.old.letter) × (result.1 ≡ self.old.anti_messages) }
+    {
+        let event = self;
+        let Trail {
+            kept,
+            bits,
+            drawn,
+            number,
+            anti_messages,
+        } = trail;
+        event.records.set(records);
+        event.key = letter.get().event.rank.key;
+        event.kept = kept;
+        event.bits = bits;
+        event.drawn = drawn;
+        event.number = number;
+        let old_letter = replace(&mut event.letter, letter);
+        let old_anti_messages = replace(&mut event.anti_messages, anti_messages);
+        (old_letter, old_anti_messages)
+    }
+}
