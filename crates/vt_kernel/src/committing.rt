@@ -27,7 +27,7 @@ impl<M: EventModel> Kernel<M> {
         ensures refused { IfErr result (λ fault. fault ≡ Memory) }
     {
         let mut rows = Vec::new(alloc);
-        let count = self.count_ripe();
+        let count = self.expected_rows();
         rows.reserve(count).map_err(|_| Fault::Memory)?;
         let mut from = 0;
         while let Some(place) = self.contest.first_with_past(from) {
@@ -37,9 +37,10 @@ impl<M: EventModel> Kernel<M> {
         Ok(rows)
     }
 
-    // How many processes have a past event before the worker's floor. No read of one process here waits for one of another,
-    // so the processor does several at once, and the rows find near what they are made from.
-    fn count_ripe(&self) -> usize {
+    // How many past events those processes have that have one before the worker's floor. Mostly each event has one row at
+    // most, so the rows needn't move to grow. No read of one process here waits for one of another, so the processor does
+    // several at once, and the rows find near what they are made from.
+    fn expected_rows(&self) -> usize {
         let mut count = 0_usize;
         let mut from = 0;
         for _ in 0..self.processes.len() {
@@ -47,7 +48,9 @@ impl<M: EventModel> Kernel<M> {
                 break;
             };
             if let Some(process) = self.processes.get(place) {
-                count = count.saturating_add(usize::from(process.is_ripe(self.floor)));
+                if process.is_ripe(self.floor) {
+                    count = count.saturating_add(process.past_len());
+                }
             }
             from = place.saturating_add(1);
         }
