@@ -1,8 +1,9 @@
 //! Stacks.
 
-ghost use Rattle.std.specs.Prelude.{◌≡◌, ◌%◌, ◌^◌, [], ◌∷◌, length, slice_get, MatchOption};
+ghost use Rattle.std.specs.Prelude.{◌≡◌, ◌%◌, ◌^◌, [], ◌∷◌, ◌++◌, length, slice_get, MatchOption};
 ghost use Rattle.std.specs.Option.{option_copied};
 
+use crate::list::List;
 use crate::parcel::Parcel;
 use std::alloc::Global;
 use std::marker::Model;
@@ -65,6 +66,17 @@ impl<T: Drop> Stack<T> {
         let trail = self.trail.take();
         self.trail.put(trail.with_first(parcel.into_node()));
         self.count = self.count.wrapping_add(1);
+    }
+
+    /// Puts the items of a list on top of all others, the first one on top. The list is empty afterwards. It writes only
+    /// the node of the list's last item.
+    pub fn push_all(&mut self, list: &mut List<T>)
+        ensures { (self.new ≡ list.old ++ self.old) × (list.new ≡ []) }
+    {
+        let trail = self.trail.take();
+        self.trail.put(trail.with_chain(list.chain.take()));
+        self.count = self.count.wrapping_add(list.count);
+        list.count = 0;
     }
 
     /// Takes out the item on top; None if the stack is empty. It reads only that item's node.

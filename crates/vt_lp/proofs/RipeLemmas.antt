@@ -7,6 +7,7 @@ use Rattle.std.proofs.lemmas.List.Elements.{All-tail}
 use Rattle.std.proofs.lemmas.Bool.Decides.{nat_tests}
 use Rattle.vt_key.specs.Times.{Time}
 use Rattle.vt_key.specs.Keys.{Key}
+use Rattle.vt_key.specs.declared.order.Rank.{Rank}
 use Rattle.vt_key.specs.declared.letter.Letter.{Letter}
 use Rattle.vt_stream.specs.Words.{Stream}
 use Rattle.vt_model.specs.declared.rows.Record.{Record}
@@ -19,9 +20,11 @@ use Rattle.vt_steps.specs.Rows.{rows_from}
 use Rattle.vt_steps.specs.World.{Entry, LogicalProcess, entry_events, triple_after}
 use Rattle.vt_steps.specs.PartSteps.{is_below, ripe, ripe_rows, process_after_commit}
 use Rattle.vt_steps.specs.StandsFor.{entry_of, fired_at, LeadTo}
+use Rattle.vt_steps.proofs.letters.RankTimes.{rank-order-time}
 use Rattle.vt_steps.proofs.steps.MemoryLemmas.{forgets}
 use Rattle.vt_lp.specs.declared.entry.PastEvent.{PastEvent}
 use Rattle.vt_lp.specs.Held.{HeldProcess, StandsFor, remembered, process_memory, IsNotPending, IsOwnEvent, IsRisingPast, IsProcessInside}
+use Rattle.vt_lp.specs.Guards.{last_rank}
 use Rattle.vt_lp.specs.Ripe.{is_ripe, unripe_events, rows_of_ripe}
 
 -- the rows of records and one more
@@ -55,6 +58,27 @@ rows_grow key records i n d others rows new is same within before =
 pub rows_of_none : (key : Key) → rows_of key [] ≡ []
 unfolding rows_of
 rows_of_none key = refl
+
+module _ {P K : Type 0} where
+  -- no past event is after the last one
+  until-last : (e : PastEvent P K) (es : List (PastEvent P K)) (last : Rank) → IsRisingPast (e ∷ es) → last_rank (e ∷ es) ≡ Some last → e.letter.event.rank.key.time ≤ last.key.time
+  until-last e [] last rises at = let same : e.letter.event.rank ≡ last = cc in omega (arith, ap (λ (r : Rank). r.key.time) same)
+  until-last e (d ∷ ds) last rises at =
+      let first = rank-order-time e.letter.event.rank d.letter.event.rank rises.0.0 in
+      let others = until-last d ds last rises.1 at in
+      omega (arith, first, others)
+
+  -- where the last one is before the floor, none stays
+  pub all-ripe : (floor : Time) (es : List (PastEvent P K)) (last : Rank) → IsRisingPast es → last_rank es ≡ Some last → last.key.time < floor → unripe_events floor es ≡ []
+  all-ripe floor [] last rises at early = refl
+  all-ripe floor (e ∷ []) last rises at early =
+      let soon = until-last e [] last rises at in
+      let is : is_ripe floor e ≡ true = grind (arith, nat_tests) in
+      ap (λ (b : Bool). if b then [] else e ∷ []) is
+  all-ripe floor (e ∷ d ∷ ds) last rises at early =
+      let soon = until-last e (d ∷ ds) last rises at in
+      let is : is_ripe floor e ≡ true = grind (arith, nat_tests) in
+      ap (λ (b : Bool). if b then unripe_events floor (d ∷ ds) else e ∷ d ∷ ds) is ∙ all-ripe floor (d ∷ ds) last rises.1 at early
 
 module _ {P K : Type 0} (floor : Time) where
   -- the past events that go first, as many as are before the floor

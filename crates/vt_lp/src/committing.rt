@@ -7,7 +7,7 @@ ghost use Rattle.vt_model.specs.Handler.{Handlers};
 ghost use Rattle.vt_model.specs.Simulation.{simulation_of, rows_of};
 ghost use Rattle.vt_steps.specs.World.{LogicalProcess};
 ghost use Rattle.vt_steps.specs.PartSteps.{ripe_rows, process_after_commit};
-ghost use Rattle.vt_lp.specs.Held.{StandsFor, executed_events};
+ghost use Rattle.vt_lp.specs.Held.{StandsFor, IsRisingPast, executed_events};
 ghost use Rattle.vt_lp.specs.Ripe.{begins_ripe, unripe_events, rows_of_ripe};
 
 use crate::Lp;
@@ -87,8 +87,24 @@ impl<M: EventModel> Lp<M> {
 }
 
 /// Drops the first past events, as many as are before the floor, and keeps their memory. Returns whether there was
-/// one.
+/// one. If the last one is before the floor, all are, and no key of a past event is read.
 fn drop_ripe<P: Copy, K: Copy>(past: &mut Past<P, K>, spare: &mut Spare<P, K>, floor: When) -> bool
+    requires rising { IsRisingPast past.old }
+    ensures unripe { past.new ≡ unripe_events floor past.old }
+    ensures unchanged { IsFalse result → past.new ≡ past.old }
+    ensures kept { spare.new.events + length past.new ≡ spare.old.events + length past.old }
+{
+    match past.last_rank() {
+        Some(last) if last.key.when() < floor => {
+            spare.collect_all(past);
+            true
+        }
+        _ => drop_first(past, spare, floor),
+    }
+}
+
+/// As [`drop_ripe`], one event after the other.
+fn drop_first<P: Copy, K: Copy>(past: &mut Past<P, K>, spare: &mut Spare<P, K>, floor: When) -> bool
     ensures unripe { past.new ≡ unripe_events floor past.old }
     ensures unchanged { IsFalse result → past.new ≡ past.old }
     ensures kept { spare.new.events + length past.new ≡ spare.old.events + length past.old }

@@ -1,12 +1,14 @@
 //! Nodes that processes no longer need, kept for the next letters and events.
 
 ghost use Rattle.std.specs.Prelude.{◌≡◌, ◌+◌, ◌-◌, ◌≤◌, [], length, IfOk, IfErr, IfSome, IfNone};
+ghost use Rattle.std.specs.List.{sum_by};
 ghost use Rattle.vt_model.specs.declared.limits.TheConstants.{MAX_RECORDS};
 ghost use Rattle.vt_lp.specs.Kept.{one_if_some, held_by};
 ghost use Rattle.vt_lp.specs.Past.{past_event};
 
 use crate::entry::PastEvent;
 use crate::executing::Trail;
+use crate::past::Past;
 use std::alloc::Global;
 use std::marker::Model;
 use vt_key::Letter;
@@ -140,6 +142,14 @@ impl<P: Copy, K: Copy> Spare<P, K> {
         } else {
             self.events.push(event);
         }
+    }
+
+    /// Keeps the nodes of committed past events, as [`Spare::collect`] does. It writes only the node of the last one.
+    pub(crate) fn collect_all(&mut self, past: &mut Past<P, K>)
+        ensures kept { self.new ≡ record { letters = self.old.letters; events = self.old.events + length past.old; held = self.old.held + sum_by held_by past.old } }
+        ensures none_left { past.new ≡ [] }
+    {
+        past.move_onto(&mut self.events);
     }
 
     // The old content of the node that the next letter gets.

@@ -202,6 +202,16 @@ module _ {X : Type 0} where
   join-chain h t n l p q (b ∷ bs) [] one other t_is n_is = absurd (none-some q (sym other.head_is ∙ n_is))
   join-chain h t n l p q (b ∷ bs) (c ∷ cs) one other t_is n_is = join-more h t n l b c bs cs one other
 
+  -- nodes of a chain lead on to others where the last link is written
+  pub chain-leads : (h t n : Option Ptr) (p : Ptr) (bs cs : List (NodeAt X)) → t ≡ Some p → IsChain h t bs → n ≡ first_or None cs → LeadOn cs None
+      → (h ≡ first_or None (with_next n bs ++ cs)) × LeadOn (with_next n bs ++ cs) None
+  chain-leads h t n p [] cs is chain next on = absurd (none-some p (sym chain.tail_is ∙ is))
+  chain-leads h t n p (b ∷ bs) cs is chain next on =
+      let front : List (NodeAt X) = with_next n (b ∷ bs) in (
+        chain.head_is ∙ sym (first-append None front cs ∙ first-with_next (first_or None cs) n (b ∷ bs)),
+        on-append None front cs (subst (LeadOn front) next (on-with_next None n (b ∷ bs) chain.on)) on,
+      )
+
   front-more : (h t last next : Option Ptr) (b : NodeAt X) (bs ahead : List (NodeAt X)) → IsPlace h t last next (b ∷ bs) ahead → IsChain h last (with_next None (b ∷ bs))
   front-more h t last next b bs ahead place = record {
     head_is = place.chain.head_is ∙ sym (first-with_next None None (b ∷ bs));

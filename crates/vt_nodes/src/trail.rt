@@ -1,11 +1,12 @@
 //! Nodes that are linked one way.
 
-ghost use Rattle.std.specs.Prelude.{◌≡◌, ◌↔◌, [], ◌∷◌, slice_get, MatchOption, IsTrue};
+ghost use Rattle.std.specs.Prelude.{◌≡◌, ◌↔◌, [], ◌∷◌, ◌++◌, slice_get, MatchOption, IsTrue};
 ghost use Rattle.std.specs.Option.{option_copied};
 
 use crate::blocks::Blocks;
+use crate::chain::Chain;
 use crate::link::Link;
-use crate::node::Node;
+use crate::node::{Node, set_last_next};
 use std::alloc::Global;
 use std::marker::Model;
 use std::mem::replace;
@@ -98,6 +99,26 @@ impl<T> Trail<T> {
             nodes: others,
         };
         (Some(one.into_box(at, alloc)), rest)
+    }
+
+    /// The nodes of a chain, with the others behind them. It writes only the last node of the chain.
+    pub fn with_chain(self, chain: Chain<T>) -> Trail<T>
+        ensures { result ≡ chain ++ self }
+    {
+        let Some(end) = chain.tail.place() else {
+            chain.end();
+            return self;
+        };
+        let Chain {
+            head,
+            tail: _,
+            nodes: front,
+        } = chain;
+        let Trail { head: next, nodes } = self;
+        Trail {
+            head,
+            nodes: set_last_next(front, end, next).append(nodes),
+        }
     }
 }
 

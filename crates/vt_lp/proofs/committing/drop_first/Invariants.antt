@@ -1,6 +1,6 @@
 use Rattle.std.proofs.Common.{◌≡◌, ◌+◌, IsFalse, length}
 use Rattle.vt_lp.specs.Ripe.{unripe_events}
-use Rattle.vt_lp.proofs.committing.drop_ripe.Given as goal
+use Rattle.vt_lp.proofs.committing.drop_first.Given as goal
 
 abbrev pub invariant-loop-first : goal.invariant-loop-first
 invariant-loop-first g l = record {
