@@ -5,5 +5,5 @@ pub mod RowLists
 pub mod FloorLemmas
 pub mod KeptLemmas
 pub mod FallingLemmas
-pub mod SettleLemmas
+pub mod RisingLemmas
 pub mod CommitRows

@@ -1,8 +1,7 @@
 -- How a book keeps its rows: the records of those that it shows, in the order of the rows, and the other rows.
 use Rattle.std.specs.Prelude.{◌≡◌, ℕ, false, List, [], ◌∷◌, ◌++◌}
 use Rattle.std.specs.List.{sum_by}
-use Rattle.std.specs.Ordering.{is_lt}
-use Rattle.std.specs.List.Sorted.{IsSorted, IsSortedWithin}
+use Rattle.std.specs.List.Sorted.{IsSorted}
 use Rattle.vt_key.specs.Times.{Time}
 use Rattle.vt_model.specs.declared.rows.Row.{Row}
 use Rattle.vt_model.specs.declared.rows.Record.{Record}
@@ -22,10 +21,6 @@ AreNotBefore row (r ∷ rs) = (row_before r row ≡ false) × AreNotBefore row r
 -- rows in falling order: none is before the one that stands behind it
 abbrev pub AreFalling : List Row → Type 0
 AreFalling rows = IsSorted (λ x y. ghosts.cmp y x) rows
-
--- so do as many of the first ones
-abbrev pub AreFallingTo : ℕ → List Row → Type 0
-AreFallingTo end rows = IsSortedWithin (λ x y. is_lt (ghosts.cmp y x)) rows 0 end
 
 -- what is kept of the rows that were handed in: the records of those before the floor, in the order of the rows, and the
 -- other rows
