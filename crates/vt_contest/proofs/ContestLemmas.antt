@@ -14,7 +14,7 @@ use Rattle.vt_tournament.specs.declared.node.Node.{Node}
 use Rattle.vt_tournament.specs.Contest.{IsTournamentOf, WasTournamentOf}
 use Rattle.vt_lp.specs.Held.{HeldProcess}
 use Rattle.vt_lp.specs.Guards.{TellsSame}
-use Rattle.vt_lp.specs.declared.entry.PastEvent.{PastEvent}
+use Rattle.vt_past.specs.declared.event.PastEvent.{PastEvent}
 use Rattle.vt_contest.specs.declared.contest.Contest.{Contest}
 use Rattle.vt_contest.specs.Entries.{entries_of, ready_of, unready_of, other_rank, earliest_of, rank_time, has_past, AreMarked, TellsLeast}
 use Rattle.vt_contest.specs.Contest.{IsContestOf, WasContestOf, AreReady, AreUnready, marks_of}

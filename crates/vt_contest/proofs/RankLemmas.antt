@@ -11,7 +11,7 @@ use Rattle.vt_steps.specs.Letters.{least_time}
 use Rattle.vt_lp.specs.Held.{HeldProcess}
 use Rattle.vt_lp.specs.Guards.{ready_rank, lesser_rank, may_come_after}
 use Rattle.vt_lp.specs.Ripe.{is_ripe, unripe_events}
-use Rattle.vt_lp.specs.declared.entry.PastEvent.{PastEvent}
+use Rattle.vt_past.specs.declared.event.PastEvent.{PastEvent}
 use Rattle.vt_contest.specs.Entries.{entries_of, ready_of, unready_of, other_rank, earliest_of, rank_time, TellsLeast}
 use Rattle.vt_contest.specs.Contest.{HasForgottenEvents}
 use Rattle.vt_contest.proofs.EntryLemmas.{entered-at}

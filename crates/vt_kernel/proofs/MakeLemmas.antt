@@ -15,7 +15,7 @@ use Rattle.vt_model.specs.Simulation.{Simulation, simulation_of, start_of}
 use Rattle.vt_steps.specs.Letters.{stamped}
 use Rattle.vt_steps.specs.World.{process_at, process_count, start_sends}
 use Rattle.vt_steps.specs.StandsFor.{StandsForProcess, StandForProcesses, entry_of}
-use Rattle.vt_lp.specs.declared.entry.PastEvent.{PastEvent}
+use Rattle.vt_past.specs.declared.event.PastEvent.{PastEvent}
 use Rattle.vt_lp.specs.Held.{HeldProcess, process_memory, remembered, StandsFor as ProcessStandsFor, opening_process}
 use Rattle.vt_contest.specs.Contest.{IsIdle}
 use Rattle.vt_kernel.specs.Held.{AreProcesses}

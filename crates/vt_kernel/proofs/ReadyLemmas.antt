@@ -14,7 +14,7 @@ use Rattle.vt_steps.specs.World.{Entry, LogicalProcess, Part}
 use Rattle.vt_steps.specs.ProcessSteps.{ProcessEffect, may_follow, effect_of_execute, execute_least, execute_process}
 use Rattle.vt_steps.specs.PartSteps.{with_effect}
 use Rattle.vt_steps.specs.StandsFor.{entry_of}
-use Rattle.vt_lp.specs.declared.entry.PastEvent.{PastEvent}
+use Rattle.vt_past.specs.declared.event.PastEvent.{PastEvent}
 use Rattle.vt_lp.specs.Held.{HeldProcess, process_memory, remembered, StandsFor as ProcessStandsFor}
 use Rattle.vt_lp.specs.Guards.{may_come_after, ready_rank}
 use Rattle.vt_contest.specs.Entries.{ready_of}

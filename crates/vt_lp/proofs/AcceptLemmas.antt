@@ -21,7 +21,7 @@ use Rattle.vt_steps.specs.World.{LogicalProcess}
 use Rattle.vt_steps.specs.StandsFor.{entry_of}
 use Rattle.vt_steps.specs.ProcessSteps.{ProcessEffect, holds, with_letter, accept_process}
 use Rattle.vt_pending.specs.Letters.{holds_rank}
-use Rattle.vt_lp.specs.declared.entry.PastEvent.{PastEvent}
+use Rattle.vt_past.specs.declared.event.PastEvent.{PastEvent}
 use Rattle.vt_lp.specs.Held.{HeldProcess, StandsFor, remembered, IsOwnLetter, IsNotPending, IsProcessInside}
 use Rattle.vt_lp.specs.Guards.{IsDone, holds_letter, is_first, would_lead, ready_rank, lesser_rank, TellsSame}
 use Rattle.vt_lp.proofs.RisingLemmas.{least_time-both}

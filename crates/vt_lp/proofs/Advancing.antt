@@ -20,9 +20,9 @@ use Rattle.vt_model.specs.Simulation.{Triple, words_at, fire_of, simulation_of, 
 use Rattle.vt_steps.specs.Letters.{unstamped, stamped, signed}
 use Rattle.vt_steps.specs.StandsFor.{IsRemembered}
 use Rattle.vt_steps.proofs.letters.Stamped.{unstamped-stamped}
-use Rattle.vt_lp.specs.declared.executing.Trail.{Trail}
+use Rattle.vt_past.specs.declared.event.Trail.{Trail}
 use Rattle.vt_lp.specs.Held.{remembered, way_back}
-use Rattle.vt_lp.specs.Past.{past_event}
+use Rattle.vt_past.specs.Events.{past_event}
 
 -- drawn words given back
 pub place-back : (at n : ℕ) → at < 2 ^ 64 → n ≤ MAX_DRAWS → ((at + n) % 2 ^ 64 + (2 ^ 64 - n)) % 2 ^ 64 ≡ at

@@ -17,10 +17,10 @@ use Rattle.vt_steps.specs.World.{LogicalProcess}
 use Rattle.vt_steps.specs.ProcessSteps.{ProcessEffect, are_opposite, cancel_process}
 use Rattle.vt_steps.proofs.lists.Lists.{find-among, find-passes}
 use Rattle.vt_pending.specs.Letters.{holds_rank, without_stamp}
-use Rattle.vt_lp.specs.declared.entry.PastEvent.{PastEvent}
+use Rattle.vt_past.specs.declared.event.PastEvent.{PastEvent}
 use Rattle.vt_lp.specs.Held.{HeldProcess, StandsFor, IsOwnLetter, IsNotPending, IsProcessInside}
 use Rattle.vt_lp.specs.Guards.{IsDone, can_annihilate}
-use Rattle.vt_lp.specs.Kept.{KeptNodes, one_if_some}
+use Rattle.vt_past.specs.Kept.{KeptNodes, one_if_some}
 use Rattle.vt_lp.proofs.AcceptLemmas.{left-false, right-false}
 
 module _ {P : Type 0} where

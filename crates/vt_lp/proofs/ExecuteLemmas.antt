@@ -28,11 +28,12 @@ use Rattle.vt_steps.specs.ProcessSteps.{may_follow, effect_of_execute, execute_l
 use Rattle.vt_steps.specs.StandsFor.{entry_of, IsRemembered, LeadTo}
 use Rattle.vt_steps.proofs.steps.MemoryLemmas.{is_where, goes_on, after-append}
 use Rattle.vt_steps.proofs.letters.Stamped.{length-stamped}
-use Rattle.vt_lp.specs.declared.entry.PastEvent.{PastEvent}
-use Rattle.vt_lp.specs.declared.executing.Trail.{Trail}
+use Rattle.vt_past.specs.declared.event.PastEvent.{PastEvent}
+use Rattle.vt_past.specs.declared.event.Trail.{Trail}
 use Rattle.vt_lp.specs.Held.{HeldProcess, StandsFor, process_memory, remembered, way_back, IsOwnLetter, IsOwnEvent, IsReady, AllAfter, IsRisingPast, IsNotPending, IsProcessInside}
 use Rattle.vt_lp.specs.Guards.{IsDone, IsExecuteRefusal, may_come_after}
-use Rattle.vt_lp.specs.Past.{past_event, ready_event, IsAdvanceRefusal}
+use Rattle.vt_past.specs.Events.{past_event}
+use Rattle.vt_lp.specs.Past.{ready_event, IsAdvanceRefusal}
 use Rattle.vt_lp.proofs.AcceptLemmas.{right-false}
 use Rattle.vt_lp.proofs.Ends.{none-after}
 use Rattle.vt_lp.proofs.Advancing.{events-signed}

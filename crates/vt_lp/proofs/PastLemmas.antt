@@ -5,14 +5,6 @@ use Rattle.vt_key.specs.Order.{RankBefore, rank_same}
 use Rattle.vt_key.specs.declared.order.Rank.{Rank}
 use Rattle.vt_key.proofs.OrderLemmas.{rank-irreflexive, rank_same-true}
 
--- the last of a list, as the list tells it by its length
-pub last-at : {X : Type 0} (xs : List X) → last_or None xs ≡ slice_get xs (length xs - 1)
-last-at [] = refl
-last-at {X = X} (x ∷ xs) = let less : suc (length xs) - 1 ≡ length xs = omega arith in from x xs ∙ ap (slice_get (x ∷ xs)) (sym less) where
-  from : (y : X) (ys : List X) → last_or (Some y) ys ≡ slice_get (y ∷ ys) (length ys)
-  from y [] = refl
-  from y (z ∷ zs) = from z zs
-
 -- a rank that is before another is not the same
 pub before-differs : (a b : Rank) → RankBefore a b → rank_same a b ≡ false
 before-differs a b before = elim (cases (rank_same a b)) [

@@ -9,7 +9,7 @@ use Rattle.vt_key.specs.declared.order.Rank.{Rank}
 use Rattle.vt_key.proofs.OrderLemmas.{rank-transitive, rank-total, rank_before-true, before-rank_before}
 use Rattle.vt_lp.proofs.Ends.{after-differs}
 use Rattle.vt_lp.proofs.PastLemmas.{before-differs}
-use Rattle.vt_lp.specs.declared.entry.PastEvent.{PastEvent}
+use Rattle.vt_past.specs.declared.event.PastEvent.{PastEvent}
 use Rattle.vt_lp.specs.Held.{AllAfter, IsRisingPast}
 
 -- the last that passes, of one more in front

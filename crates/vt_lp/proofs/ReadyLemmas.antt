@@ -5,8 +5,9 @@ use Rattle.vt_key.specs.Order.{RankBefore, rank_before, rank_same}
 use Rattle.vt_key.specs.declared.order.Rank.{Rank}
 use Rattle.vt_key.specs.declared.letter.Letter.{Letter}
 use Rattle.vt_key.proofs.OrderLemmas.{rank-transitive, rank_before-true}
-use Rattle.vt_lp.specs.declared.entry.PastEvent.{PastEvent}
-use Rattle.vt_lp.specs.Guards.{may_come_after, rank_of_last, last_rank, ready_rank}
+use Rattle.vt_past.specs.declared.event.PastEvent.{PastEvent}
+use Rattle.vt_past.specs.Events.{rank_of_last, last_rank}
+use Rattle.vt_lp.specs.Guards.{may_come_after, ready_rank}
 use Rattle.vt_lp.specs.Held.{IsRisingPast}
 use Rattle.vt_lp.specs.Past.{ready_event, is_forced, must_undo_last}
 use Rattle.vt_lp.proofs.PastLemmas.{before-differs}
@@ -56,24 +57,6 @@ module _ {P K : Type 0} where
 
   pub undo-nobody : (pending waiting : List (Letter P)) (past : List (PastEvent P K)) → None ≡ last_rank past → must_undo_last pending waiting (last_or None past) ≡ false
   undo-nobody pending waiting past is = undo-none pending waiting (last_or None past) is
-
-  -- ---- the last of past events
-
-  pub last-pushed : (past : List (PastEvent P K)) (e : PastEvent P K) → Some e.letter.event.rank ≡ last_rank (past ++ e ∷ [])
-  last-pushed [] e = refl
-  last-pushed (x ∷ xs) e = from x xs where
-    from : (y : PastEvent P K) (ys : List (PastEvent P K)) → Some e.letter.event.rank ≡ rank_of_last (last_or (Some y) (ys ++ e ∷ []))
-    from y [] = refl
-    from y (z ∷ zs) = from z zs
-
-  -- that of all but the first, where there is another
-  pub last-behind : (e : PastEvent P K) (past : List (PastEvent P K)) → (past ≡ [] → ⊥) → last_rank (e ∷ past) ≡ last_rank past
-  last-behind e [] some = absurd (some refl)
-  last-behind e (x ∷ xs) some = refl
-
-  pub last-popped : (first : Option (PastEvent P K)) (old new : List (PastEvent P K)) → MatchOption first ((old ≡ []) × (new ≡ [])) (λ e. old ≡ e ∷ new) → (new ≡ [] → ⊥) → last_rank old ≡ last_rank new
-  last-popped None old new is some = absurd (some is.1)
-  last-popped (Some e) old new is some = ap last_rank is ∙ last-behind e new some
 
   -- ---- events before a rank
 

@@ -22,9 +22,9 @@ use Rattle.vt_steps.specs.PartSteps.{is_below, ripe, ripe_rows, process_after_co
 use Rattle.vt_steps.specs.StandsFor.{entry_of, fired_at, LeadTo}
 use Rattle.vt_steps.proofs.letters.RankTimes.{rank-order-time}
 use Rattle.vt_steps.proofs.steps.MemoryLemmas.{forgets}
-use Rattle.vt_lp.specs.declared.entry.PastEvent.{PastEvent}
+use Rattle.vt_past.specs.declared.event.PastEvent.{PastEvent}
 use Rattle.vt_lp.specs.Held.{HeldProcess, StandsFor, remembered, process_memory, IsNotPending, IsOwnEvent, IsRisingPast, IsProcessInside}
-use Rattle.vt_lp.specs.Guards.{last_rank}
+use Rattle.vt_past.specs.Events.{last_rank}
 use Rattle.vt_lp.specs.Ripe.{is_ripe, unripe_events, rows_of_ripe}
 
 -- the rows of records and one more

@@ -19,7 +19,7 @@ use Rattle.vt_steps.specs.World.{Entry, LogicalProcess, triple_after}
 use Rattle.vt_steps.specs.ProcessSteps.{must_undo, effect_of_undo, undo_last, undo_process}
 use Rattle.vt_steps.specs.StandsFor.{entry_of, LeadTo}
 use Rattle.vt_steps.proofs.steps.MemoryLemmas.{goes_back}
-use Rattle.vt_lp.specs.declared.entry.PastEvent.{PastEvent}
+use Rattle.vt_past.specs.declared.event.PastEvent.{PastEvent}
 use Rattle.vt_lp.specs.Held.{HeldProcess, StandsFor, process_memory, remembered, way_back, IsOwnLetter, IsOwnEvent, IsReady, IsWithinRun, AllAfter, IsRisingPast, IsNotPending, IsProcessInside}
 use Rattle.vt_lp.specs.Guards.{IsDone}
 use Rattle.vt_lp.specs.Past.{is_forced, must_undo_last}

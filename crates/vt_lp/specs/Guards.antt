@@ -17,7 +17,7 @@ use Rattle.vt_model.specs.Simulation.{Simulation}
 use Rattle.vt_steps.specs.Letters.{least_time}
 use Rattle.vt_steps.specs.World.{LogicalProcess, triple_after}
 use Rattle.vt_steps.specs.ProcessSteps.{ProcessEffect, are_opposite}
-use Rattle.vt_lp.specs.declared.entry.PastEvent.{PastEvent}
+use Rattle.vt_past.specs.declared.event.PastEvent.{PastEvent}
 use Rattle.vt_lp.specs.Held.{HeldProcess, StandsFor}
 
 -- a step is done: it was lawful; the process stands for the one after it, its letters went to the back of the outbox, and it
@@ -55,14 +55,6 @@ module _ {P K : Type 0} where
   abbrev pub may_come_after : Option (PastEvent P K) → Rank → Bool
   may_come_after None rank = true
   may_come_after (Some last) rank = rank_before last.letter.event.rank rank
-
-  -- the rank of the last past event, if there is one
-  abbrev pub rank_of_last : Option (PastEvent P K) → Option Rank
-  rank_of_last None = None
-  rank_of_last (Some last) = Some last.letter.event.rank
-
-  abbrev pub last_rank : List (PastEvent P K) → Option Rank
-  last_rank past = rank_of_last (last_or None past)
 
   -- the rank of the event that Execute would execute, if it is lawful
   abbrev pub ready_rank : List (Letter P) → List (PastEvent P K) → Option Rank

@@ -17,7 +17,7 @@ use Rattle.vt_model.specs.Settings.{end_of}
 use Rattle.vt_steps.specs.World.{LogicalProcess}
 use Rattle.vt_steps.specs.StandsFor.{Remembered, ProcessMemory, StandsForProcess}
 use Rattle.vt_pending.specs.Letters.{holds_rank}
-use Rattle.vt_lp.specs.declared.entry.PastEvent.{PastEvent}
+use Rattle.vt_past.specs.declared.event.PastEvent.{PastEvent}
 
 -- the events of these past events, in their order
 abbrev pub executed_events : {P K : Type 0} → List (PastEvent P K) → List (Event P)

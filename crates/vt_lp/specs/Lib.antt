@@ -2,4 +2,3 @@ pub mod Held
 pub mod Guards
 pub mod Ripe
 pub mod Past
-pub mod Kept

@@ -10,8 +10,8 @@ use Rattle.vt_key.specs.declared.letter.Event.{Event}
 use Rattle.vt_key.specs.declared.letter.Letter.{Letter}
 use Rattle.vt_model.specs.declared.rows.Record.{Record}
 use Rattle.vt_model.specs.Simulation.{Fired}
-use Rattle.vt_lp.specs.declared.entry.PastEvent.{PastEvent}
-use Rattle.vt_lp.specs.declared.executing.Trail.{Trail}
+use Rattle.vt_past.specs.declared.event.PastEvent.{PastEvent}
+use Rattle.vt_past.specs.declared.event.Trail.{Trail}
 use Rattle.vt_lp.specs.Guards.{may_come_after}
 
 -- why an event that may be executed is not: a counter would pass its limit; or none would, and memory was refused
@@ -27,20 +27,6 @@ is_forced pending waiting rank =
     || list_any (λ letter. not (rank_before rank letter.event.rank)) waiting
 
 module _ {P K : Type 0} where
-  -- the past event of this letter, which left this trail and these records
-  abbrev pub past_event : Letter P → Trail P K → List Record → PastEvent P K
-  past_event letter trail records = record {
-    key = letter.event.rank.key;
-    letter = letter;
-    kept = trail.kept;
-    bits = trail.bits;
-    drawn = trail.drawn;
-    number = trail.number;
-    records = records;
-    anti_messages = trail.anti_messages;
-    keyed = refl;
-  }
-
   -- the event that Execute would execute, if it is lawful
   abbrev pub ready_event : List (Letter P) → List (PastEvent P K) → Option (Event P)
   ready_event [] past = None

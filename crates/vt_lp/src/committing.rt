@@ -11,14 +11,11 @@ ghost use Rattle.vt_lp.specs.Held.{StandsFor, IsRisingPast, executed_events};
 ghost use Rattle.vt_lp.specs.Ripe.{begins_ripe, unripe_events, rows_of_ripe};
 
 use crate::Lp;
-use crate::entry::PastEvent;
-use crate::past::Past;
-use crate::records::Records;
-use crate::spare::Spare;
 use std::alloc::Global;
 use vt_key::{Event, Fault, Key, When};
 use vt_list::List;
 use vt_model::{Model as EventModel, Record, Row};
+use vt_past::{Past, PastEvent, Records, Spare};
 
 impl<M: EventModel> Lp<M> {
     /// The past events, in the order of their execution.

@@ -17,32 +17,17 @@ ghost use Rattle.vt_steps.specs.StandsFor.{IsRemembered};
 ghost use Rattle.vt_steps.specs.World.{LogicalProcess};
 ghost use Rattle.vt_lp.specs.Held.{StandsFor, AllWithinRun, IsReady, remembered};
 ghost use Rattle.vt_lp.specs.Guards.{IsDone, IsExecuteRefusal};
-ghost use Rattle.vt_lp.specs.Past.{past_event, ready_event, IsAdvanceRefusal};
+ghost use Rattle.vt_past.specs.Events.{past_event};
+ghost use Rattle.vt_lp.specs.Past.{ready_event, IsAdvanceRefusal};
 
 use crate::lp::Lp;
 use crate::making::{is_counted, letters};
-use crate::past::Past;
-use crate::spare::Spare;
 use std::alloc::Global;
 use vt_key::{Event, Fault, Letter, MAX_COUNT, Sign, When};
 use vt_list::{List, Parcel};
 use vt_model::{Bits, Config, MAX_DRAWS, Model as EventModel, Out, Process, Record, Sent, Undo};
+use vt_past::{Past, Spare, Trail};
 use vt_pending::Pending;
-
-/// What an executed event leaves for its undo and its commit, beside its records.
-#[derive(Drop)]
-pub(crate) struct Trail<P: Copy, K: Copy> {
-    /// What `forward` kept.
-    pub(crate) kept: K,
-    /// The flags that `forward` set.
-    pub(crate) bits: Bits,
-    /// How many random words the event drew.
-    pub(crate) drawn: u32,
-    /// The send number before the event.
-    pub(crate) number: u64,
-    /// The anti-messages of what the event sent, in the order of the sends.
-    pub(crate) anti_messages: List<Letter<P>>,
-}
 
 impl<M: EventModel> Lp<M> {
     /// Executes the least pending event: the model's `forward` takes the process on, and the event becomes the last

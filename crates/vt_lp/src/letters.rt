@@ -14,12 +14,10 @@ ghost use Rattle.vt_lp.specs.Held.{StandsFor, IsRisingPast};
 ghost use Rattle.vt_lp.specs.Guards.{IsDone, holds_letter, would_lead, is_first, TellsSame, can_annihilate, may_come_after};
 
 use crate::Lp;
-use crate::entry::PastEvent;
-use crate::past::Past;
-use crate::spare::Spare;
 use vt_key::{Fault, Letter, Rank, Sign, Stamp};
 use vt_list::{List, Parcel, Predicate};
 use vt_model::Model as EventModel;
+use vt_past::{Past, PastEvent, Spare};
 use vt_pending::Pending;
 
 impl<M: EventModel> Lp<M> {

@@ -7,17 +7,12 @@
 #![tactic(auto)]
 
 mod committing;
-mod entry;
 mod executing;
 mod letters;
 mod lp;
 mod making;
-mod past;
-mod records;
-mod renewing;
-mod spare;
 mod starting;
 mod undoing;
 
 pub use lp::Lp;
-pub use spare::Spare;
+pub use vt_past::Spare;

@@ -6,10 +6,10 @@ ghost use Rattle.vt_steps.specs.Letters.{least_time};
 ghost use Rattle.vt_lp.specs.Guards.{ready_rank, lesser_rank};
 ghost use Rattle.vt_model.specs.Settings.{end_of};
 
-use crate::past::Past;
 use std::marker::Model;
 use vt_key::{Letter, Rank, When};
 use vt_model::{Config, Model as EventModel, Process};
+use vt_past::Past;
 use vt_pending::Pending;
 
 /// A logical process with rollback: its state, send number and stream position; its past events, with what undoes

@@ -4,11 +4,11 @@ ghost use Rattle.std.specs.Prelude.{◌≡◌, ◌+◌, ◌≤◌, ◌↔◌, le
 ghost use Rattle.vt_key.specs.declared.fault.Fault.TheVariants.{Memory};
 ghost use Rattle.vt_steps.specs.Letters.{stamped, signed};
 
-use crate::spare::Spare;
 use std::alloc::Global;
 use vt_key::{Event, Fault, Letter, MAX_COUNT, Rank, Sign, Stamp};
 use vt_list::List;
 use vt_model::Sent;
+use vt_past::Spare;
 
 /// The letters of these sends, each in a parcel of its own: with this sign, and with stamps of this worker from
 /// `serial` on.

@@ -10,12 +10,11 @@ ghost use Rattle.vt_lp.specs.Held.{StandsFor, opening_process, AllWithinRun};
 
 use crate::lp::Lp;
 use crate::making::{is_counted, letters};
-use crate::past::Past;
-use crate::spare::Spare;
 use std::alloc::Global;
 use vt_key::{Fault, Letter, MAX_COUNT, Sign, When};
 use vt_list::List;
 use vt_model::{Config, Model as EventModel, Out, Process};
+use vt_past::{Past, Spare};
 use vt_pending::Pending;
 
 impl<M: EventModel> Lp<M> {

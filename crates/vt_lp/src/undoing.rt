@@ -11,12 +11,11 @@ ghost use Rattle.vt_lp.specs.Held.{StandsFor, AllWithinRun};
 ghost use Rattle.vt_lp.specs.Guards.{IsDone};
 ghost use Rattle.vt_lp.specs.Past.{must_undo_last};
 
-use crate::entry::PastEvent;
 use crate::lp::Lp;
-use crate::past::Past;
 use vt_key::{Fault, Letter, Rank};
 use vt_list::List;
 use vt_model::{Model as EventModel, Sent};
+use vt_past::{Past, PastEvent};
 use vt_pending::Pending;
 
 impl<M: EventModel> Lp<M> {

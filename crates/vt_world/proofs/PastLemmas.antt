@@ -19,7 +19,7 @@ use Rattle.vt_steps.specs.Next.{reached}
 use Rattle.vt_steps.specs.StandsFor.{entry_of}
 use Rattle.vt_steps.proofs.history.HistoriesTheorem.{histories}
 use Rattle.vt_lp.specs.Held.{HeldProcess, executed_events, process_memory, remembered}
-use Rattle.vt_lp.specs.declared.entry.PastEvent.{PastEvent}
+use Rattle.vt_past.specs.declared.event.PastEvent.{PastEvent}
 use Rattle.vt_kernel.specs.Held.{HeldWorker, IsProcessOf, process_of}
 use Rattle.vt_kernel.proofs.ProcessLemmas.{get-map_of, stands-at}
 use Rattle.vt_world.specs.Held.{HeldWorld, StandsForWorld, IsReached, IsWorldInside}

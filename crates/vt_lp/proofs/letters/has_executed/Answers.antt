@@ -2,7 +2,7 @@ use Rattle.std.proofs.Common.{◌≡◌, ◌∙◌, sym, ap, find, reverse, List
 use Rattle.std.specs.Option.{option_copied}
 use Rattle.vt_key.specs.Order.{rank_same}
 use Rattle.vt_key.specs.declared.letter.Letter.{Letter}
-use Rattle.vt_lp.specs.declared.entry.PastEvent.{PastEvent}
+use Rattle.vt_past.specs.declared.event.PastEvent.{PastEvent}
 use Rattle.vt_lp.proofs.ReachLemmas.{has-reached, is_reached, some_is_it}
 use Rattle.vt_lp.proofs.ReadyLemmas.{none-is}
 use Rattle.vt_lp.proofs.letters.has_executed.Goals as goal

@@ -8,7 +8,7 @@ use Rattle.vt_key.specs.Times.{TimeBefore}
 use Rattle.vt_key.specs.Queues.{has_rank}
 use Rattle.vt_model.specs.Settings.{end_of}
 use Rattle.vt_steps.specs.ProcessSteps.{accept_process}
-use Rattle.vt_lp.specs.declared.entry.PastEvent.{PastEvent}
+use Rattle.vt_past.specs.declared.event.PastEvent.{PastEvent}
 use Rattle.vt_lp.specs.Held.{HeldProcess, StandsFor, IsProcessInside}
 use Rattle.vt_lp.specs.Guards.{IsDone, holds_letter, would_lead, TellsSame}
 use Rattle.vt_lp.proofs.AcceptLemmas.{either, ok-is, err-is, accept-none, accepts-message, accepts-anti_message, inside-message, inside-anti_message, message-behind, anti_message-behind}

@@ -17,7 +17,7 @@ use Rattle.vt_steps.specs.ProcessSteps.{execute_process}
 use Rattle.vt_steps.proofs.steps.MemoryLemmas.{is_where}
 use Rattle.vt_lp.specs.Held.{HeldProcess, StandsFor, AllWithinRun, IsWithinRun, IsOwnLetter, process_memory}
 use Rattle.vt_lp.specs.Guards.{IsDone, IsExecuteRefusal}
-use Rattle.vt_lp.specs.Past.{past_event}
+use Rattle.vt_past.specs.Events.{past_event}
 use Rattle.vt_model.proofs.Sizes.{out_fits}
 use Rattle.vt_lp.proofs.Advancing.{place-back}
 use Rattle.vt_lp.proofs.Stamping.{length-letters}

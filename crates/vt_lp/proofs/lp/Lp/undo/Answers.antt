@@ -6,7 +6,7 @@ use Rattle.vt_key.specs.declared.letter.Letter.{Letter}
 use Rattle.vt_stream.specs.Words.{Stream}
 use Rattle.vt_model.specs.Process.{triple_at}
 use Rattle.vt_model.specs.Settings.{end_of}
-use Rattle.vt_lp.specs.declared.entry.PastEvent.{PastEvent}
+use Rattle.vt_past.specs.declared.event.PastEvent.{PastEvent}
 use Rattle.vt_lp.specs.Held.{HeldProcess, StandsFor, AllWithinRun, IsWithinRun, IsOwnEvent, IsNotPending}
 use Rattle.vt_lp.proofs.UndoLemmas.{undo-none, undoes, inside-less, All-front, ready-within, length-push, length-insert}
 use Rattle.vt_lp.proofs.ProcessView.{process_view}

@@ -1,9 +1,9 @@
 use Rattle.std.proofs.Common.{◌∙◌, ap, sym, Some}
 use Rattle.std.specs.Option.{option_copied}
 use Rattle.vt_key.specs.declared.letter.Letter.{Letter}
-use Rattle.vt_lp.specs.Guards.{rank_of_last}
-use Rattle.vt_lp.proofs.PastLemmas.{last-at}
-use Rattle.vt_lp.proofs.past.rank_of_last.Goals as goal
+use Rattle.vt_past.specs.Events.{rank_of_last}
+use Rattle.vt_past.proofs.LastLemmas.{last-at}
+use Rattle.vt_past.proofs.past.rank_of_last.Goals as goal
 
 pub returns-in-Some : goal.returns-in-Some
 returns-in-Some g c =

@@ -2,10 +2,9 @@
 
 ghost use Rattle.std.specs.Prelude.{◌≡◌, ◌≤◌, length};
 ghost use Rattle.vt_model.specs.declared.limits.TheConstants.{MAX_RECORDS};
-ghost use Rattle.vt_lp.specs.Past.{past_event};
+ghost use Rattle.vt_past.specs.Events.{past_event};
 
-use crate::entry::PastEvent;
-use crate::executing::Trail;
+use crate::event::{PastEvent, Trail};
 use crate::records::Records;
 use std::mem::replace;
 use vt_key::Letter;
@@ -14,11 +13,7 @@ use vt_model::Record;
 
 impl<P: Copy, K: Copy> PastEvent<P, K> {
     /// The past event of this letter, which left this trail and these records.
-    pub(crate) fn new(
-        letter: Parcel<Letter<P>>,
-        trail: Trail<P, K>,
-        records: &[Record],
-    ) -> PastEvent<P, K>
+    pub fn new(letter: Parcel<Letter<P>>, trail: Trail<P, K>, records: &[Record]) -> PastEvent<P, K>
         requires few { length records.now ≤ MAX_RECORDS }
         ensures { result ≡ past_event letter trail records.now }
     {
@@ -44,7 +39,7 @@ impl<P: Copy, K: Copy> PastEvent<P, K> {
     }
 
     /// Writes over this event the one that [`PastEvent::new`] gives, in place. Returns the letters of the old one.
-    pub(crate) fn renew(
+    pub fn renew(
         &mut self,
         letter: Parcel<Letter<P>>,
         trail: Trail<P, K>,

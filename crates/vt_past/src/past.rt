@@ -2,9 +2,9 @@
 
 ghost use Rattle.std.specs.Prelude.{◌≡◌, ◌-◌, ◌%◌, ◌^◌, [], ◌∷◌, ◌++◌, length, slice_get, MatchOption};
 ghost use Rattle.std.specs.Option.{option_copied};
-ghost use Rattle.vt_lp.specs.Guards.{last_rank};
+ghost use Rattle.vt_past.specs.Events.{last_rank};
 
-use crate::entry::PastEvent;
+use crate::event::PastEvent;
 use std::alloc::Global;
 use std::marker::Model;
 use vt_key::Rank;
@@ -14,15 +14,15 @@ use vt_list::{List, Parcel, Stack};
 ///
 /// The rank of the last one is kept beside the list. So deciding what may be executed next reads no past event.
 #[derive(Drop)]
-pub(crate) struct Past<P: Copy, K: Copy> {
+pub struct Past<P: Copy, K: Copy> {
     events: List<PastEvent<P, K>>,
     last: Option<Rank>,
 }
 
 impl<P: Copy, K: Copy> Model for Past<P, K> {
     ghost use Rattle.std.specs.Prelude.{List as Events, ◌≡◌};
-    ghost use Rattle.vt_lp.specs.declared.entry.PastEvent.{PastEvent};
-    ghost use Rattle.vt_lp.specs.Guards.{last_rank};
+    ghost use Rattle.vt_past.specs.declared.event.PastEvent.{PastEvent};
+    ghost use Rattle.vt_past.specs.Events.{last_rank};
 
     ghost Value = { Events (PastEvent P K) };
 
@@ -33,7 +33,7 @@ impl<P: Copy, K: Copy> Model for Past<P, K> {
 
 impl<P: Copy, K: Copy> Past<P, K> {
     /// No past events.
-    pub(crate) fn new(alloc: Global) -> Past<P, K>
+    pub fn new(alloc: Global) -> Past<P, K>
         ensures { result ≡ [] }
     {
         Past {
@@ -43,35 +43,35 @@ impl<P: Copy, K: Copy> Past<P, K> {
     }
 
     /// The number of events, modulo 2^64.
-    pub(crate) fn len(&self) -> usize
+    pub fn len(&self) -> usize
         ensures { result ≡ length self.now % 2 ^ 64 }
     {
         self.events.len()
     }
 
     /// The rank of the last event; None if there is none.
-    pub(crate) fn last_rank(&self) -> Option<Rank>
+    pub fn last_rank(&self) -> Option<Rank>
         ensures { result ≡ last_rank self.now }
     {
         self.last
     }
 
     /// The first event; None if there is none.
-    pub(crate) fn front(&self) -> Option<&PastEvent<P, K>>
+    pub fn front(&self) -> Option<&PastEvent<P, K>>
         ensures { option_copied result ≡ slice_get self.now 0 }
     {
         self.events.front()
     }
 
     /// The events.
-    pub(crate) fn events(&self) -> &List<PastEvent<P, K>>
+    pub fn events(&self) -> &List<PastEvent<P, K>>
         ensures { result.now ≡ self.now }
     {
         &self.events
     }
 
     /// Puts an event behind all others.
-    pub(crate) fn push_back(&mut self, event: Parcel<PastEvent<P, K>>)
+    pub fn push_back(&mut self, event: Parcel<PastEvent<P, K>>)
         ensures { self.new ≡ self.old ++ event ∷ [] }
     {
         self.last = Some(event.get().letter.get().event.rank);
@@ -79,7 +79,7 @@ impl<P: Copy, K: Copy> Past<P, K> {
     }
 
     /// Takes out the first event; None if there is none.
-    pub(crate) fn pop_front(&mut self) -> Option<Parcel<PastEvent<P, K>>>
+    pub fn pop_front(&mut self) -> Option<Parcel<PastEvent<P, K>>>
         ensures { MatchOption result ((self.old ≡ []) × (self.new ≡ [])) (λ p. self.old ≡ p ∷ self.new) }
     {
         let first = self.events.pop_front();
@@ -90,7 +90,7 @@ impl<P: Copy, K: Copy> Past<P, K> {
     }
 
     /// Puts all events on a stack, the first one on top. It writes only the node of the last one.
-    pub(crate) fn move_onto(&mut self, stack: &mut Stack<PastEvent<P, K>>)
+    pub fn move_onto(&mut self, stack: &mut Stack<PastEvent<P, K>>)
         ensures { (stack.new ≡ self.old ++ stack.old) × (self.new ≡ []) }
     {
         stack.push_all(&mut self.events);
@@ -98,7 +98,7 @@ impl<P: Copy, K: Copy> Past<P, K> {
     }
 
     /// Takes out the last event; None if there is none.
-    pub(crate) fn pop_back(&mut self) -> Option<Parcel<PastEvent<P, K>>>
+    pub fn pop_back(&mut self) -> Option<Parcel<PastEvent<P, K>>>
         ensures { MatchOption result ((self.old ≡ []) × (self.new ≡ [])) (λ p. self.old ≡ self.new ++ p ∷ []) }
     {
         let last = self.events.pop_back();

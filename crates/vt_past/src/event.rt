@@ -11,20 +11,35 @@ use vt_model::Bits;
 #[derive(Drop)]
 pub struct PastEvent<P: Copy, K: Copy> {
     /// The event's key. It stands in the message too, but a commit reads no other node with this copy at hand.
-    pub(crate) key: Key,
+    pub key: Key,
     /// The message that brought the event, in its own node: an undo moves it back.
-    pub(crate) letter: Parcel<Letter<P>>,
+    pub letter: Parcel<Letter<P>>,
     /// The anti-messages of what the event sent, in the order of the sends.
-    pub(crate) anti_messages: List<Letter<P>>,
+    pub anti_messages: List<Letter<P>>,
     /// What `forward` kept.
-    pub(crate) kept: K,
+    pub kept: K,
     /// The flags that `forward` set.
-    pub(crate) bits: Bits,
+    pub bits: Bits,
     /// How many random words the event drew.
-    pub(crate) drawn: u32,
+    pub drawn: u32,
     /// The send number before the event.
-    pub(crate) number: u64,
+    pub number: u64,
     /// The records that the event made. They stand last, since mostly only their first place is used.
-    pub(crate) records: Records,
+    pub records: Records,
     ghost keyed: { letter.event.rank.key ≡ key },
+}
+
+/// What an executed event leaves for its undo and its commit, beside its records.
+#[derive(Drop)]
+pub struct Trail<P: Copy, K: Copy> {
+    /// What `forward` kept.
+    pub kept: K,
+    /// The flags that `forward` set.
+    pub bits: Bits,
+    /// How many random words the event drew.
+    pub drawn: u32,
+    /// The send number before the event.
+    pub number: u64,
+    /// The anti-messages of what the event sent, in the order of the sends.
+    pub anti_messages: List<Letter<P>>,
 }

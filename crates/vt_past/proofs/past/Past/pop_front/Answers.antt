@@ -1,6 +1,6 @@
 use Rattle.std.proofs.Common.{◌≡◌, ◌∙◌, true, false, sym}
-use Rattle.vt_lp.proofs.ReadyLemmas.{last-popped}
-use Rattle.vt_lp.proofs.past.Past.pop_front.Goals as goal
+use Rattle.vt_past.proofs.LastLemmas.{last-popped}
+use Rattle.vt_past.proofs.past.Past.pop_front.Goals as goal
 
 pub invariant_of-self-else-is_empty : goal.invariant_of-self-else-is_empty
 invariant_of-self-else-is_empty g c =

@@ -1,5 +1,5 @@
 use Rattle.std.specs.Prelude.{◌≡◌, ◌+◌, length}
-use Rattle.vt_lp.proofs.spare.Spare.keep_letters.Given as goal
+use Rattle.vt_past.proofs.spare.Spare.keep_letters.Given as goal
 
 abbrev pub invariant-loop-letter : goal.invariant-loop-letter
 invariant-loop-letter g l = record {

@@ -3,11 +3,10 @@
 ghost use Rattle.std.specs.Prelude.{◌≡◌, ◌+◌, ◌-◌, ◌≤◌, [], length, IfOk, IfErr, IfSome, IfNone};
 ghost use Rattle.std.specs.List.{sum_by};
 ghost use Rattle.vt_model.specs.declared.limits.TheConstants.{MAX_RECORDS};
-ghost use Rattle.vt_lp.specs.Kept.{one_if_some, held_by};
-ghost use Rattle.vt_lp.specs.Past.{past_event};
+ghost use Rattle.vt_past.specs.Kept.{one_if_some, held_by};
+ghost use Rattle.vt_past.specs.Events.{past_event};
 
-use crate::entry::PastEvent;
-use crate::executing::Trail;
+use crate::event::{PastEvent, Trail};
 use crate::past::Past;
 use std::alloc::Global;
 use std::marker::Model;
@@ -40,7 +39,7 @@ pub struct Spare<P: Copy, K: Copy> {
 impl<P: Copy, K: Copy> Model for Spare<P, K> {
     ghost use Rattle.std.specs.Prelude.{◌+◌, length};
     ghost use Rattle.std.specs.List.{sum_by};
-    ghost use Rattle.vt_lp.specs.Kept.{KeptNodes, one_if_some, held_by, held_if_some};
+    ghost use Rattle.vt_past.specs.Kept.{KeptNodes, one_if_some, held_by, held_if_some};
 
     ghost Value = { KeptNodes };
 
@@ -68,7 +67,7 @@ impl<P: Copy, K: Copy> Spare<P, K> {
 
     /// Reads the nodes that will be written next. So their cache lines are fetched together, and not one after the
     /// other.
-    pub(crate) fn read_ahead(&mut self)
+    pub fn read_ahead(&mut self)
         ensures { self.new ≡ self.old }
     {
         self.seen = self.words_ahead();
@@ -110,7 +109,7 @@ impl<P: Copy, K: Copy> Spare<P, K> {
 
     /// Puts the past event of this letter, which left this trail and these records, into a kept node, or else into a new
     /// one. An error means that memory was refused; it hands the letter back.
-    pub(crate) fn event(
+    pub fn event(
         &mut self,
         alloc: Global,
         letter: Parcel<Letter<P>>,
@@ -134,7 +133,7 @@ impl<P: Copy, K: Copy> Spare<P, K> {
     }
 
     /// Keeps the node of a committed past event, with the nodes of its letters in it.
-    pub(crate) fn collect(&mut self, event: Parcel<PastEvent<P, K>>)
+    pub fn collect(&mut self, event: Parcel<PastEvent<P, K>>)
         ensures { self.new ≡ record { letters = self.old.letters; events = self.old.events + 1; held = self.old.held + held_by event } }
     {
         if self.event.is_none() {
@@ -145,7 +144,7 @@ impl<P: Copy, K: Copy> Spare<P, K> {
     }
 
     /// Keeps the nodes of committed past events, as [`Spare::collect`] does. It writes only the node of the last one.
-    pub(crate) fn collect_all(&mut self, past: &mut Past<P, K>)
+    pub fn collect_all(&mut self, past: &mut Past<P, K>)
         ensures kept { self.new ≡ record { letters = self.old.letters; events = self.old.events + length past.old; held = self.old.held + sum_by held_by past.old } }
         ensures none_left { past.new ≡ [] }
     {
@@ -207,7 +206,7 @@ impl<P: Copy, K: Copy> Spare<P, K> {
     }
 
     /// Keeps the node of a letter, where there is one.
-    pub(crate) fn keep_if_some(&mut self, letter: Option<Parcel<Letter<P>>>)
+    pub fn keep_if_some(&mut self, letter: Option<Parcel<Letter<P>>>)
         ensures { self.new ≡ record self.old { letters = self.old.letters + one_if_some letter } }
     {
         if let Some(letter) = letter {

@@ -1,6 +1,6 @@
 -- Memory that is kept, to be used again.
 use Rattle.std.specs.Prelude.{ℕ, Option, Some, None, length}
-use Rattle.vt_lp.specs.declared.entry.PastEvent.{PastEvent}
+use Rattle.vt_past.specs.declared.event.PastEvent.{PastEvent}
 
 -- how many nodes are kept: of letters at hand, of past events, and of the anti-messages that these still hold
 pub record KeptNodes : Type 0 where

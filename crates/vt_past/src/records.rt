@@ -10,7 +10,7 @@ use vt_model::{MAX_RECORDS, Record};
 ///
 /// They take the first places of an array. Records that are written over others touch no place behind them.
 #[derive(Drop)]
-pub(crate) struct Records {
+pub struct Records {
     count: usize,
     places: [Record; MAX_RECORDS],
 }
@@ -29,7 +29,7 @@ impl Model for Records {
 
 impl Records {
     /// No records.
-    pub(crate) fn new() -> Records
+    pub fn new() -> Records
         ensures { result ≡ [] }
     {
         Records {
@@ -39,7 +39,7 @@ impl Records {
     }
 
     /// Writes these records over the old ones.
-    pub(crate) fn set(&mut self, records: &[Record])
+    pub fn set(&mut self, records: &[Record])
         requires few { length records.now ≤ MOST }
         ensures { self.new ≡ records.now }
     {
@@ -52,7 +52,7 @@ impl Records {
     }
 
     /// The records, in the order in which they were made.
-    pub(crate) fn as_slice(&self) -> &[Record]
+    pub fn as_slice(&self) -> &[Record]
         ensures value { result.now ≡ self.now }
         ensures fits { length result.now ≤ MOST }
     {
@@ -60,7 +60,7 @@ impl Records {
     }
 
     /// A value of the first record; of an old one if there is none.
-    pub(crate) fn first_value(&self) -> u64 {
+    pub fn first_value(&self) -> u64 {
         self.places[0].value
     }
 }

@@ -1,9 +1,9 @@
 use Rattle.std.proofs.Common.{◌∙◌, Some, ap, sym}
 use Rattle.vt_key.specs.declared.letter.Letter.{Letter}
-use Rattle.vt_lp.specs.declared.entry.PastEvent.{PastEvent}
-use Rattle.vt_lp.specs.Guards.{last_rank}
-use Rattle.vt_lp.proofs.ReadyLemmas.{last-pushed}
-use Rattle.vt_lp.proofs.past.Past.push_back.Goals as goal
+use Rattle.vt_past.specs.declared.event.PastEvent.{PastEvent}
+use Rattle.vt_past.specs.Events.{last_rank}
+use Rattle.vt_past.proofs.LastLemmas.{last-pushed}
+use Rattle.vt_past.proofs.past.Past.push_back.Goals as goal
 
 pub invariant_of-self : goal.invariant_of-self
 invariant_of-self g c =

@@ -1,6 +1,6 @@
 use Rattle.std.proofs.Common.{◌≡◌, length, take}
 use Rattle.vt_model.specs.declared.limits.TheConstants.{MAX_RECORDS}
-use Rattle.vt_lp.proofs.records.Records.set.Given as goal
+use Rattle.vt_past.proofs.records.Records.set.Given as goal
 
 abbrev pub invariant-loop-record : goal.invariant-loop-record
 invariant-loop-record l = record {
