@@ -1,6 +1,5 @@
--- Past events: the last one, and ranks that differ.
-use Rattle.std.proofs.Common.{◌≡◌, ◌⊎◌, inl, inr, suc, Bool, true, false, ◌-◌, List, [], ◌∷◌, Some, None, slice_get, length, refl, sym, subst, ◌∙◌, ap, arith}
-use Rattle.std.specs.List.{last_or}
+-- Ranks that differ.
+use Rattle.std.proofs.Common.{◌≡◌, ◌⊎◌, inl, inr, Bool, true, false, refl, sym, subst}
 use Rattle.vt_key.specs.Order.{RankBefore, rank_same}
 use Rattle.vt_key.specs.declared.order.Rank.{Rank}
 use Rattle.vt_key.proofs.OrderLemmas.{rank-irreflexive, rank_same-true}

@@ -24,8 +24,8 @@ use crate::lp::Lp;
 use crate::making::{is_counted, letters};
 use std::alloc::Global;
 use vt_key::{Event, Fault, Letter, MAX_COUNT, Sign, When};
-use vt_list::{List, Parcel};
-use vt_model::{Bits, Config, MAX_DRAWS, Model as EventModel, Out, Process, Record, Sent, Undo};
+use vt_list::List;
+use vt_model::{Config, MAX_DRAWS, Model as EventModel, Out, Process, Record, Sent, Undo};
 use vt_past::{Past, Spare, Trail};
 use vt_pending::Pending;
 

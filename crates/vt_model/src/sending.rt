@@ -198,21 +198,6 @@ impl<P: Copy> Out<P> {
     {
         self.records.as_slice()
     }
-
-    /// The records, in the order in which they were made, to be kept. For simulators.
-    pub fn into_records(self) -> ArrayVec<Record, MAX_RECORDS>
-        ensures { result.items ≡ self.records }
-    {
-        self.records
-    }
-
-    /// Takes the records out, in the order in which they were made, to be kept. None is left. For simulators.
-    pub fn take_records(&mut self) -> ArrayVec<Record, MAX_RECORDS>
-        ensures taken { result.items ≡ self.old.records }
-        ensures left { self.new ≡ record self.old { records = [] } }
-    {
-        self.records.take()
-    }
 }
 
 /// Takes the sends away, and keeps the places in which they lie.
