@@ -1,5 +1,5 @@
 -- The past events before a floor: their rows, and the process that has committed them.
-use Rattle.std.proofs.Common.{◌≡◌, ◌++◌, ◌+◌, ◌∷◌, Bool, true, false, if◌then◌else◌, ℕ, suc, List, [], map, take, drop, length, refl, sym, subst, ◌∙◌, ap, arith, append_assoc, get_or, ◌<◌, ◌≤◌, slice_get, Some, None}
+use Rattle.std.proofs.Common.{◌≡◌, ◌++◌, ◌+◌, ◌∷◌, Bool, true, false, if◌then◌else◌, ℕ, suc, List, [], map, take, drop, length, refl, sym, subst, ◌∙◌, ap, arith, append_assoc, get_or, ◌<◌, ◌≤◌, slice_get, Option, Some, None}
 use Rattle.std.specs.Prelude.{All}
 use Rattle.std.specs.List.{enumerate_from, prefix_len}
 use Rattle.std.proofs.lemmas.List.{map-append, take_more, length-take-le}
@@ -25,7 +25,7 @@ use Rattle.vt_steps.proofs.steps.MemoryLemmas.{forgets}
 use Rattle.vt_past.specs.declared.event.PastEvent.{PastEvent}
 use Rattle.vt_lp.specs.Held.{HeldProcess, StandsFor, remembered, process_memory, IsNotPending, IsOwnEvent, IsRisingPast, IsProcessInside}
 use Rattle.vt_past.specs.Events.{last_rank}
-use Rattle.vt_lp.specs.Ripe.{is_ripe, unripe_events, rows_of_ripe}
+use Rattle.vt_lp.specs.Ripe.{is_ripe, begins_ripe, unripe_events, rows_of_ripe}
 
 -- the rows of records and one more
 pub rows_of_more : (key : Key) (records : List Record) (i : ℕ) (d : Record) → i < length records →
@@ -79,6 +79,11 @@ module _ {P K : Type 0} where
       let soon = until-last e (d ∷ ds) last rises at in
       let is : is_ripe floor e ≡ true = grind (arith, nat_tests) in
       ap (λ (b : Bool). if b then unripe_events floor (d ∷ ds) else e ∷ d ∷ ds) is ∙ all-ripe floor (d ∷ ds) last rises.1 at early
+
+  -- and the first one is before it
+  pub begins-early : (floor : Time) (es : List (PastEvent P K)) (last : Rank) → IsRisingPast es → last_rank es ≡ Some last → last.key.time < floor → begins_ripe floor es ≡ true
+  begins-early floor [] last rises at early = let nothing : Option Rank = None in absurd (let e : nothing ≡ Some last = at in cc)
+  begins-early floor (e ∷ es) last rises at early = let soon = until-last e es last rises at in grind (arith, nat_tests)
 
 module _ {P K : Type 0} (floor : Time) where
   -- the past events that go first, as many as are before the floor

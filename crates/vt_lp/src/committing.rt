@@ -1,12 +1,14 @@
 //! Past events that are committed: their rows, and how they are forgotten.
 
 ghost use Rattle.std.specs.Prelude.{◌≡◌, ◌+◌, ◌++◌, List, length, IsFalse, IfOk, IfErr};
+ghost use Rattle.std.specs.List.{sum_by};
 ghost use Rattle.vt_key.specs.declared.fault.Fault.TheVariants.{Memory};
 ghost use Rattle.vt_model.specs.declared.rows.Row.{Row};
 ghost use Rattle.vt_model.specs.Handler.{Handlers};
 ghost use Rattle.vt_model.specs.Simulation.{simulation_of, rows_of};
 ghost use Rattle.vt_steps.specs.World.{LogicalProcess};
 ghost use Rattle.vt_steps.specs.PartSteps.{ripe_rows, process_after_commit};
+ghost use Rattle.vt_past.specs.Kept.{held_by};
 ghost use Rattle.vt_lp.specs.Held.{StandsFor, IsRisingPast, executed_events};
 ghost use Rattle.vt_lp.specs.Ripe.{begins_ripe, unripe_events, rows_of_ripe};
 
@@ -76,8 +78,11 @@ impl<M: EventModel> Lp<M> {
         ensures committed { (handlers : Handlers _ _ _) (h : LogicalProcess _) → StandsFor handlers self.old h → StandsFor handlers self.new (process_after_commit floor h) }
         ensures same { (self.new.lp ≡ self.old.lp) × (self.new.config ≡ self.old.config) × (self.new.triple ≡ self.old.triple) × (self.new.pending ≡ self.old.pending) × (self.new.waiting ≡ self.old.waiting) }
         ensures past { self.new.past ≡ unripe_events floor self.old.past }
+        ensures forgot { result ≡ begins_ripe floor self.old.past }
         ensures unchanged { IsFalse result → self.new ≡ self.old }
         ensures kept { spare.new.events + length self.new.past ≡ spare.old.events + length self.old.past }
+        ensures held { spare.new.held + sum_by held_by self.new.past ≡ spare.old.held + sum_by held_by self.old.past }
+        ensures letters { spare.new.letters ≡ spare.old.letters }
     {
         drop_ripe(&mut self.past, spare, floor)
     }
@@ -88,8 +93,11 @@ impl<M: EventModel> Lp<M> {
 fn drop_ripe<P: Copy, K: Copy>(past: &mut Past<P, K>, spare: &mut Spare<P, K>, floor: When) -> bool
     requires rising { IsRisingPast past.old }
     ensures unripe { past.new ≡ unripe_events floor past.old }
+    ensures forgot { result ≡ begins_ripe floor past.old }
     ensures unchanged { IsFalse result → past.new ≡ past.old }
     ensures kept { spare.new.events + length past.new ≡ spare.old.events + length past.old }
+    ensures held { spare.new.held + sum_by held_by past.new ≡ spare.old.held + sum_by held_by past.old }
+    ensures letters { spare.new.letters ≡ spare.old.letters }
 {
     match past.last_rank() {
         Some(last) if last.key.when() < floor => {
@@ -103,8 +111,11 @@ fn drop_ripe<P: Copy, K: Copy>(past: &mut Past<P, K>, spare: &mut Spare<P, K>, f
 /// As [`drop_ripe`], one event after the other.
 fn drop_first<P: Copy, K: Copy>(past: &mut Past<P, K>, spare: &mut Spare<P, K>, floor: When) -> bool
     ensures unripe { past.new ≡ unripe_events floor past.old }
+    ensures forgot { result ≡ begins_ripe floor past.old }
     ensures unchanged { IsFalse result → past.new ≡ past.old }
     ensures kept { spare.new.events + length past.new ≡ spare.old.events + length past.old }
+    ensures held { spare.new.held + sum_by held_by past.new ≡ spare.old.held + sum_by held_by past.old }
+    ensures letters { spare.new.letters ≡ spare.old.letters }
 {
     let mut some = false;
     while let Some(first) = past.front() {
