@@ -1,4 +1,3 @@
-pub mod Empty
 pub mod RowCmp
 pub mod WaitingLemmas
 pub mod RowLists

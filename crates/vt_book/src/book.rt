@@ -1,20 +1,20 @@
 //! The book.
 
-ghost use Rattle.std.specs.Prelude.{◌≡◌, ◌≤◌, ◌<◌, ◌+◌, ◌^◌, ◌++◌, length, true, None, Ok, Err, IfOk, IfErr, IfSome, OnOk, MatchOption, MatchResult, vec_len, vec_capacity};
+ghost use Rattle.std.specs.Prelude.{◌≡◌, ◌≤◌, ◌<◌, ◌+◌, ◌^◌, ◌++◌, List, length, true, None, Ok, Err, IfOk, IfErr, IfSome, OnOk, MatchOption, MatchResult, vec_len, vec_capacity};
 ghost use Rattle.std.specs.List.{list_all};
 ghost use Rattle.vt_key.specs.declared.fault.Fault.TheVariants.{Memory};
 ghost use Rattle.vt_key.specs.declared.limits.TheConstants.{MAX_WORKERS};
+ghost use Rattle.vt_model.specs.declared.rows.Row.{Row as RowValue};
 ghost use Rattle.vt_steps.specs.World.{opening_book, book_floor, book_records, least_floor};
 ghost use Rattle.vt_steps.specs.BookSteps.{with_rows, closed_book};
 ghost use Rattle.vt_book.specs.Books.{may_hand, are_within, is_within, refusal_of_hand, refusal_of_close};
 
 use crate::batch::Batch;
 use crate::floors::Floors;
-use crate::history::History;
 use crate::waiting::{add, show_between};
 use std::alloc::Global;
 use std::marker::Model;
-use vt_key::{Fault, When};
+use vt_key::{Fault, Seen, When};
 use vt_model::{Record, Row};
 
 /// The rows that the workers of a run have handed in, and the floor up to which each has.
@@ -25,7 +25,8 @@ use vt_model::{Record, Row};
 pub struct Book {
     end: When,
     floors: Floors,
-    history: History,
+    // All rows, in the order in which they were handed in.
+    history: Seen<Row>,
     shown: Vec<Record>,
     waiting: Vec<Row>,
     closed: bool,
@@ -40,10 +41,10 @@ impl Model for Book {
 
     ghost view = { λ b. record {
       end = b.end;
-      book = record { rows = b.history.rows; floors = b.floors; is_closed = b.closed };
+      book = record { rows = b.history.items; floors = b.floors; is_closed = b.closed };
     } };
 
-    ghost invariant = { λ b. IsKept (least_floor b.end b.floors) b.history.rows b.shown.items b.waiting.items };
+    ghost invariant = { λ b. IsKept (least_floor b.end b.floors) b.history.items b.shown.items b.waiting.items };
 }
 
 impl Book {
@@ -56,7 +57,7 @@ impl Book {
         Book {
             end,
             floors: Floors::new(workers),
-            history: History::new(),
+            history: Seen::picked(),
             shown: Vec::new(alloc),
             waiting: Vec::new(alloc),
             closed: false,
@@ -104,20 +105,21 @@ impl Book {
         self.take(worker, batch, floor)
     }
 
-    /// Takes a lawful hand-in.
+    /// Takes a lawful hand-in. The caller picks the list of all rows after that.
     ///
     /// [`Fault::Memory`]: memory was refused, and the book is as it was.
     fn take(&mut self, worker: u32, batch: Batch, floor: When) -> Result<(), Fault>
-        requires { may_hand self.old worker batch floor ≡ true }
+        ghost rows: { List RowValue }
+        requires lawful { may_hand self.old worker batch floor ≡ true }
+        requires all { rows ≡ self.old.book.rows ++ batch }
         ensures taken { MatchResult result
             (λ _. self.new ≡ record self.old { book = with_rows worker batch floor self.old.book })
             (λ fault. fault ≡ Memory) }
         ensures unchanged { IfErr result (λ _. self.new ≡ self.old) }
     {
         make_room(&mut self.shown, self.waiting.len(), batch.len())?;
-        let history = self.history.with(batch.rows());
         add(&mut self.waiting, batch.into_rows())?;
-        self.history = history;
+        self.history = Seen::picked();
         let shown_to = self.floors.least(self.end);
         self.floors.set(worker, floor);
         let risen_to = self.floors.least(self.end);

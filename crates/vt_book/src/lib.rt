@@ -9,7 +9,6 @@ mod arrange;
 mod batch;
 mod book;
 mod floors;
-mod history;
 mod settle;
 mod waiting;
 

@@ -1,3 +1,2 @@
-mod Blank
 pub mod OutboxLemmas
 mod PartingLemmas

@@ -5,6 +5,5 @@
 #![tactic(auto)]
 
 mod outbox;
-mod seen;
 
 pub use outbox::Outbox;

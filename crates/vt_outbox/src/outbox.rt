@@ -9,12 +9,11 @@ ghost use Rattle.vt_key.specs.declared.letter.Letter.{Letter as LetterValue};
 ghost use Rattle.vt_steps.specs.Letters.{least_time};
 ghost use Rattle.vt_outbox.specs.Outbox.{is_for_worker};
 
-use crate::seen::Seen;
 use std::alloc::Global;
 use std::marker::Model;
 use std::mem;
 use std::snapshot::Snapshot;
-use vt_key::{Fault, Letter, When};
+use vt_key::{Fault, Letter, Seen, When};
 use vt_list::{List, Parcel};
 use vt_model::Config;
 

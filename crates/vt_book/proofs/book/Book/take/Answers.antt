@@ -12,27 +12,27 @@ use Rattle.vt_book.proofs.KeptLemmas.{lawful, kept-after, late-after}
 use Rattle.vt_book.proofs.book.Book.take.Goals as goal
 
 pub show_between-requires-clause-late : goal.show_between-requires-clause-late
-show_between-requires-clause-late c =
+show_between-requires-clause-late g c =
     let end = c.self.inside.end in
     let floors = c.self.inside.floors in
     let rows = c.args.batch in
     let waiting = c.self.inside.waiting.items in
-    let is = lawful end floors c.args.worker rows c.args.floor (subst (λ (b : RunBook). may_hand b c.args.worker rows c.args.floor ≡ true) (sym c.self.view_is) c.requires) in
+    let is = lawful end floors c.args.worker rows c.args.floor (subst (λ (b : RunBook). may_hand b c.args.worker rows c.args.floor ≡ true) (sym c.self.view_is) c.requires.0) in
     let added : c.add.new.waiting.items ≡ waiting ++ rows = c.in_ok-add.ensures.rows ∙ ap (λ (rs : List Row). waiting ++ rs) c.into_rows.ensures in
     let same : AreSameRows c.add.new.waiting.items (waiting ++ rows) = λ f. ap (sum_by f) added in
     subst (λ (t : Time). rows_before t c.add.new.waiting.items ≡ []) (sym c.least-shown_to.ensures)
-    (late-after (least_floor end floors) c.self.inside.history.rows rows c.self.inside.shown.items waiting c.add.new.waiting.items c.self.invariant is.late same)
+    (late-after (least_floor end floors) c.self.inside.history.items rows c.self.inside.shown.items waiting c.add.new.waiting.items c.self.invariant is.late same)
 
 pub invariant_of-self-2 : goal.invariant_of-self-2
-invariant_of-self-2 c =
+invariant_of-self-2 g c =
     let end = c.self.inside.end in
     let floors = c.self.inside.floors in
     let w = c.args.worker in
     let rows = c.args.batch in
     let floor = c.args.floor in
-    let history = c.self.inside.history.rows in
+    let history = c.self.inside.history.items in
     let waiting = c.self.inside.waiting.items in
-    let is = lawful end floors w rows floor (subst (λ (b : RunBook). may_hand b w rows floor ≡ true) (sym c.self.view_is) c.requires) in
+    let is = lawful end floors w rows floor (subst (λ (b : RunBook). may_hand b w rows floor ≡ true) (sym c.self.view_is) c.requires.0) in
     let after = subst (λ (fs : List Time). least_floor end floors ≤ least_floor end fs) (sym c.set.ensures) (not-falling end floors w is.handed_in floor is.at is.rising) in
     let rises = subst (λ (t : Time). least_floor end floors ≤ t) (sym c.least-risen_to.ensures) after in
     let kept : IsKept (least_floor end floors) history c.make_room.new.shown.items waiting = record {
@@ -43,16 +43,16 @@ invariant_of-self-2 c =
     let same : AreSameRows c.add.new.waiting.items (waiting ++ rows) = λ f. ap (sum_by f) added in
     let new = kept-after (least_floor end floors) c.least-risen_to.result history rows c.make_room.new.shown.items waiting c.add.new.waiting.items
     c.show_between.new.waiting.items rises kept is.late same c.show_between.new.shown.items c.show_between.ensures.shown c.show_between.ensures.waiting in
-    let handed : c.with-history.result.rows ≡ history ++ rows = c.with-history.ensures ∙ ap (λ (rs : List Row). history ++ rs) c.rows.ensures in
-    subst (λ (t : Time). IsKept t c.with-history.result.rows c.show_between.new.shown.items c.show_between.new.waiting.items) c.least-risen_to.ensures
+    let handed : c.picked.result.items ≡ history ++ rows = c.picked.ensures ∙ c.requires.1 ∙ ap (λ (b : RunBook). b.book.rows ++ rows) (sym c.self.view_is) in
+    subst (λ (t : Time). IsKept t c.picked.result.items c.show_between.new.shown.items c.show_between.new.waiting.items) c.least-risen_to.ensures
     (subst (λ (rs : List Row). IsKept c.least-risen_to.result rs c.show_between.new.shown.items c.show_between.new.waiting.items) (sym handed) new)
 
 pub returns-clause-taken : goal.returns-clause-taken
 unfolding with_rows
-returns-clause-taken c =
-    let history = c.self.inside.history.rows in
-    let rows : c.with-history.result.rows ≡ history ++ c.args.batch = c.with-history.ensures ∙ ap (λ (rs : List Row). history ++ rs) c.rows.ensures in
+returns-clause-taken g c =
+    let history = c.self.inside.history.items in
+    let rows : c.picked.result.items ≡ history ++ c.args.batch = c.picked.ensures ∙ c.requires.1 ∙ ap (λ (b : RunBook). b.book.rows ++ c.args.batch) (sym c.self.view_is) in
     let floors : c.set.new.self ≡ slice_set c.self.inside.floors c.args.worker c.args.floor = c.set.ensures in
-    let made : RunBook = record { end = c.self.inside.end; book = record { rows = c.with-history.result.rows; floors = c.set.new.self; is_closed = c.self.inside.closed } } in
+    let made : RunBook = record { end = c.self.inside.end; book = record { rows = c.picked.result.items; floors = c.set.new.self; is_closed = c.self.inside.closed } } in
     subst (λ (b : RunBook). made ≡ record b { book = with_rows c.args.worker c.args.batch c.args.floor b.book }) c.self.view_is
     (λ i. record { end = c.self.inside.end; book = record { rows = rows i; floors = floors i; is_closed = c.self.inside.closed } })

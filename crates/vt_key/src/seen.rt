@@ -5,15 +5,20 @@ ghost use base.Fml.{ftrue};
 
 use std::marker::{Model, PhantomData};
 
-/// A list that contracts alone see: a value takes no space. An invariant of its owner ties it to what is stored.
-pub(crate) struct Seen<T> {
+/// A list that contracts alone see: a value takes no space. An invariant of its owner ties it to what is stored. So the owner may
+/// keep the items in another order, and may drop some.
+pub struct Seen<T> {
     mark: PhantomData<*mut T>,
-    pub(crate) ghost items: { List T },
+    /// The items.
+    pub ghost items: { List T },
 }
 
 impl<T> Model for Seen<T> {
     ghost also_owns = { λ _. ftrue };
 }
+
+// It owns nothing, so it may go to another thread.
+unsafe impl<T> Send for Seen<T> {}
 
 impl<T> Drop for Seen<T> {
     fn drop(self) {
@@ -23,7 +28,7 @@ impl<T> Drop for Seen<T> {
 
 impl<T> Seen<T> {
     /// The list that the caller picks.
-    pub(crate) fn picked() -> Seen<T>
+    pub fn picked() -> Seen<T>
         ghost list: { List T }
         ensures { result.items ≡ list }
     {

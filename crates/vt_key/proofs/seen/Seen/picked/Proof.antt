@@ -15,11 +15,11 @@ use denote.Steps.{nothing}
 use denote.Param.{param, layouts}
 use denote.Triple.Walked.{Stays, walk_of}
 use Rattle.std.proofs.raw_atomic.Walks.{proved_at, leaves}
-use Rattle.vt_outbox.specs.contracts.seen.Seen as seen
-use Rattle.vt_outbox.specs.contracts.seen.Seen.picked as this
-use Rattle.vt_outbox.proofs.Blank.{no_bytes, Blank, blank}
-use Rattle.vt_outbox.proofs.seen.Seen.picked.Statement.{statement}
-use Rattle.vt_outbox.proofs.seen.Seen.picked.Code as code
+use Rattle.vt_key.specs.contracts.seen.Seen as seen
+use Rattle.vt_key.specs.contracts.seen.Seen.picked as this
+use Rattle.vt_key.proofs.Blank.{no_bytes, Blank, blank}
+use Rattle.vt_key.proofs.seen.Seen.picked.Statement.{statement}
+use Rattle.vt_key.proofs.seen.Seen.picked.Code as code
 
 pub picked_spec : {M : Type 1} → statement M
 picked_spec 𝓤 𝓛 𝓜 𝓡 wired N laws =

@@ -9,7 +9,7 @@ use denote.RattleType.{RattleType}
 use denote.Shadow.{makes_shadow}
 use denote.Struct.Struct.{Struct}
 use denote.Struct.Owning.{shape}
-use Rattle.vt_outbox.specs.contracts.seen.Seen as seen
+use Rattle.vt_key.specs.contracts.seen.Seen as seen
 
 -- no bytes
 abbrev pub no_bytes : Val

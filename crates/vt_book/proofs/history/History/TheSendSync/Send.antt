@@ -1,6 +1,0 @@
--- A value that owns nothing may go to another thread.
-use denote.Param.Send.{IsSend, owning_send}
-use Rattle.vt_book.specs.contracts.history.History.{the_row, the_type}
-
-pub send : IsSend the_row
-send = owning_send the_type tt (λ d. tt) (λ k x w. tt)
