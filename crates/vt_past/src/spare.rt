@@ -17,10 +17,11 @@ use vt_model::Record;
 /// Nodes of committed past events and of letters that are no longer needed, kept to be used again. Nothing depends on
 /// their old contents.
 ///
-/// An executed event needs a node for itself and one for each message and anti-message: as many as a committed event
-/// leaves. A letter from another worker needs a node, and a letter that was sent leaves one. So a worker that commits
-/// regularly takes little new memory, and writes to memory that it has written before. All nodes are freed when the
-/// value is dropped.
+/// An executed event needs a node for itself, and one for each message and anti-message that it sends. A committed event
+/// leaves its own node, that of its message and those of its anti-messages. In the long run these are as many, since each
+/// message is one event. A letter from another worker needs a node, and a letter that was sent leaves one. So a worker that
+/// commits regularly takes little new memory, and writes to memory that it has written before. All nodes are freed when
+/// the value is dropped.
 ///
 /// A past event keeps the nodes of its anti-messages until it is used again. So a commit reads and writes none of them.
 ///
@@ -151,7 +152,7 @@ impl<P: Copy, K: Copy> Spare<P, K> {
         past.move_onto(&mut self.events);
     }
 
-    // The old content of the node that the next letter gets.
+    // The old content of one of the nodes that the next two letters get. The other one is `anti_message`, if it is kept.
     fn next_letter(&self) -> Option<&Letter<P>> {
         match &self.message {
             Some(letter) => Some(letter.get()),
