@@ -7,3 +7,4 @@ pub mod Outcomes
 pub mod Programs
 pub mod Models
 pub mod OneModel
+pub mod Shares

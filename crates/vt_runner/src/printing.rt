@@ -1,9 +1,10 @@
 //! Records as text that several threads make.
 
-ghost use Rattle.std.specs.Prelude.{◌≡◌, OnOk, IfOk, IfErr, OnErr};
+ghost use Rattle.std.specs.Prelude.{◌≡◌, ◌*◌, take, drop, OnOk, IfErr, OnErr};
 ghost use Rattle.std.specs.Io.KnownBytes.{Appends};
 ghost use Rattle.vt_text.specs.Records.{record_lines, records_text};
 ghost use Rattle.vt_text.specs.Writing.{AppendsBeginning};
+ghost use Rattle.vt_runner.specs.Shares.{HasLines};
 
 use std::alloc::Global;
 use std::io::Write;
@@ -19,20 +20,7 @@ const SHARE: usize = 16_384;
 /// How many threads make lines at most.
 const MOST_THREADS: usize = 16;
 
-/// The lines of records.
-///
-/// [`Fault::Output`]: memory was refused.
-fn lines_of(alloc: Global, records: &[Record], version: Version) -> Result<Vec<u8>, Fault>
-    ensures { IfOk result (λ lines. lines.items ≡ record_lines version records.now) }
-{
-    let mut lines = Vec::new(alloc);
-    let mut text = TextBuffer::new();
-    put_lines(&mut text, &mut lines, records, version)?;
-    text.flush(&mut lines)?;
-    Ok(lines)
-}
-
-/// Writes the lines of records. It takes no memory.
+/// Writes the lines of records. By itself it takes no memory.
 fn print_lines<W: Write>(writer: &mut W, records: &[Record], version: Version) -> Result<(), Fault>
     ensures ok { OnOk result (Appends (W.contents writer.old) (W.contents writer.new) (record_lines version records.now)) }
     ensures err { OnErr result (AppendsBeginning (W.contents writer.old) (W.contents writer.new) (record_lines version records.now)) }
@@ -43,49 +31,100 @@ fn print_lines<W: Write>(writer: &mut W, records: &[Record], version: Version) -
     text.flush(writer)
 }
 
-/// Writes the lines of records, which were made already unless memory was refused.
-fn write_lines<W: Write>(
-    writer: &mut W,
-    records: &[Record],
-    version: Version,
-    made: &Result<Vec<u8>, Fault>,
-) -> Result<(), Fault>
-    requires made { IfOk made.now (λ lines. lines.items ≡ record_lines version records.now) }
-    ensures ok { OnOk result (Appends (W.contents writer.old) (W.contents writer.new) (record_lines version records.now)) }
-    ensures err { OnErr result (AppendsBeginning (W.contents writer.old) (W.contents writer.new) (record_lines version records.now)) }
-    ensures fault { IfErr result (λ fault. fault ≡ Fault.Output) }
-{
-    match made {
-        Ok(lines) => write_bytes(writer, lines.as_slice()),
-        Err(_) => print_lines(writer, records, version),
+/// A share of the records that are printed at a time, as lines that a thread makes. The lines of the next share take the
+/// memory of the last one's.
+#[derive(Drop)]
+struct Share {
+    lines: Vec<u8>,
+    // Whether the lines are those of all records. Where memory was refused, they aren't.
+    is_whole: bool,
+}
+
+impl Share {
+    fn new(alloc: Global) -> Share {
+        Share {
+            lines: Vec::new(alloc),
+            is_whole: false,
+        }
+    }
+
+    /// Makes the lines of these records.
+    fn make(&mut self, records: &[Record], version: Version)
+        ensures { HasLines version records.now self.new }
+    {
+        self.lines.clear();
+        self.is_whole = print_lines(&mut self.lines, records, version).is_ok();
+    }
+
+    /// Writes the lines of these records, which were made already unless memory was refused.
+    fn write<W: Write>(
+        &self,
+        writer: &mut W,
+        records: &[Record],
+        version: Version,
+    ) -> Result<(), Fault>
+        requires made { HasLines version records.now self.now }
+        ensures ok { OnOk result (Appends (W.contents writer.old) (W.contents writer.new) (record_lines version records.now)) }
+        ensures err { OnErr result (AppendsBeginning (W.contents writer.old) (W.contents writer.new) (record_lines version records.now)) }
+        ensures fault { IfErr result (λ fault. fault ≡ Fault.Output) }
+    {
+        if self.is_whole {
+            write_bytes(writer, self.lines.as_slice())
+        } else {
+            print_lines(writer, records, version)
+        }
     }
 }
 
-/// Writes the lines of records, which threads make, each of a share of them.
+/// As many shares, or fewer if memory was refused.
+fn make_shares(alloc: Global, count: usize) -> Vec<Share> {
+    let mut shares = Vec::new(alloc);
+    for _ in 0..count {
+        let Ok(()) = shares.push(Share::new(alloc)) else {
+            break;
+        };
+    }
+    shares
+}
+
+/// The records of share `k`, from 0.
+fn records_of(records: &[Record], k: usize) -> &[Record]
+    ensures { result.now ≡ take SHARE (drop (k * SHARE) records.now) }
+{
+    let (_, rest) = records.split_at(k.saturating_mul(SHARE).min(records.len()));
+    let (own, _) = rest.split_at(SHARE.min(rest.len()));
+    own
+}
+
+/// Writes the lines of records, which threads make, each of a share of them. What is left after the shares is written by this
+/// thread.
 fn print_group<R: Threads + Sync, W: Write>(
     rt: &R,
-    alloc: Global,
     writer: &mut W,
     records: &[Record],
     version: Version,
+    shares: &mut [Share],
 ) -> Result<(), Fault>
     ensures ok { OnOk result (Appends (W.contents writer.old) (W.contents writer.new) (record_lines version records.now)) }
     ensures err { OnErr result (AppendsBeginning (W.contents writer.old) (W.contents writer.new) (record_lines version records.now)) }
     ensures fault { IfErr result (λ fault. fault ≡ Fault.Output) }
 {
-    let make = |_: usize, share: &[Record]| -> Result<Vec<u8>, Fault>
-        ensures { IfOk result (λ lines. lines.items ≡ record_lines version share.now) }
-    { lines_of(alloc, share, version) };
-    let Ok(made) = thread::map_chunks(rt, alloc, records, SHARE, &make) else {
-        return print_lines(writer, records, version);
-    };
+    let threads = shares.len().max(1);
+    thread::for_each_mut(
+        rt,
+        shares,
+        threads,
+        &|k: usize, share: &mut Share|
+            ensures { HasLines version (take SHARE (drop (k * SHARE) records.entry.now)) share.exit.now }
+        { share.make(records_of(records, k), version) },
+    );
     let mut rest = records;
-    for lines in made.as_slice() {
-        let (share, more) = rest.split_at(SHARE.min(rest.len()));
-        write_lines(writer, share, version, lines)?;
+    for share in shares.iter() {
+        let (own, more) = rest.split_at(SHARE.min(rest.len()));
+        share.write(writer, own, version)?;
         rest = more;
     }
-    Ok(())
+    print_lines(writer, rest, version)
 }
 
 /// Writes the text of records in a version, as [`print_records`](vt_text::print_records) does. Up to `threads` threads make
@@ -106,9 +145,9 @@ pub(crate) fn print_in_threads<R: Threads + Sync, W: Write>(
     ensures fault { IfErr result (λ fault. fault ≡ Fault.Output) }
 {
     write_bytes(writer, version.first_line())?;
-    let size = SHARE * threads.clamp(1, MOST_THREADS);
-    for group in records.chunks(size) {
-        print_group(rt, alloc, writer, group, version)?;
+    let mut shares = make_shares(alloc, threads.clamp(1, MOST_THREADS));
+    for group in records.chunks(SHARE.saturating_mul(shares.len().max(1))) {
+        print_group(rt, writer, group, version, shares.as_mut_slice())?;
     }
     Ok(())
 }
