@@ -67,26 +67,21 @@ impl Config {
         ensures value { result ≡ p % self.now.workers }
         ensures known { result < self.now.workers }
     {
-        // By a power of two that stands in the code the compiler shifts. A division takes as long as many other instructions.
-        match self.workers {
-            1 => 0,
-            2 => p % 2,
-            4 => p % 4,
-            8 => p % 8,
-            workers => p % workers,
+        // By a power of two it is a mask. A division takes as long as many other instructions.
+        if 1 << self.workers.trailing_zeros() == self.workers {
+            return p & (self.workers - 1);
         }
+        p % self.workers
     }
 
     /// The index of logical process `p` among those of its worker, from 0: `p` divided by the number of workers.
     pub fn index(&self, p: u32) -> u32
         ensures { result ≡ p / self.now.workers }
     {
-        match self.workers {
-            1 => p,
-            2 => p / 2,
-            4 => p / 4,
-            8 => p / 8,
-            workers => p / workers,
+        let zeros = self.workers.trailing_zeros();
+        if 1 << zeros == self.workers {
+            return p >> zeros;
         }
+        p / self.workers
     }
 }
