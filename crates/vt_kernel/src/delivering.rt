@@ -36,7 +36,7 @@ impl<M: EventModel> Kernel<M> {
         let Some(letter) = self.outbox.pop_for(self.worker) else {
             return Err(Fault::NotLawful);
         };
-        let place = (letter.get().event.dest / self.config.workers) as usize;
+        let place = self.config.index(letter.get().event.dest) as usize;
         let process = &mut self.processes[place];
         let leads = process.would_lead(letter.get());
         if let Err((fault, letter)) = process.accept(letter) {
@@ -63,7 +63,7 @@ impl<M: EventModel> Kernel<M> {
             return Err(Fault::NotLawful);
         };
         let letter = mail.letter;
-        let place = (letter.event.dest / self.config.workers) as usize;
+        let place = self.config.index(letter.event.dest) as usize;
         let Ok(parcel) = self.spare.letter(alloc, letter) else {
             return Err(unmade(&self.processes[place], letter));
         };

@@ -1,4 +1,4 @@
-use Rattle.std.proofs.Common.{rules, ◌≡◌, ◌/◌, ◌∙◌, None, slice_set, List, [], sym, ap, subst, refl, false}
+use Rattle.std.proofs.Common.{rules, ◌≡◌, ◌∙◌, None, slice_set, List, [], sym, ap, subst, refl, false}
 use Rattle.std.specs.List.{find}
 use Rattle.vt_key.specs.Times.{TimeBefore}
 use Rattle.vt_key.specs.Queues.{without_first}
@@ -15,7 +15,7 @@ use Rattle.vt_kernel.specs.Held.{HeldWorker, IsWorkerInside, StandsFor}
 use Rattle.vt_kernel.specs.Local.{local_step}
 use Rattle.vt_kernel.specs.Guards.{IsDone}
 use Rattle.vt_contest.proofs.ContestLemmas.{contest-kept}
-use Rattle.vt_kernel.proofs.LocalLemmas.{worker_view, place-within, inside-changed, written-same}
+use Rattle.vt_kernel.proofs.LocalLemmas.{IsOwnPlace, worker_view, place-within, inside-changed, written-same}
 use Rattle.vt_kernel.proofs.DeliveryLemmas.{without-all, home-done, home-refused, home-nothing}
 use Rattle.vt_outbox.proofs.OutboxLemmas.{none-popped}
 use Rattle.vt_kernel.proofs.ReentryLemmas.{process-there, process-is, still-there, was-in-contest, first-own}
@@ -37,8 +37,9 @@ pub invariant_of-self-in-Err : goal.invariant_of-self-in-Err
 invariant_of-self-in-Err g c =
     let i = c.self.inside in
     let off = first-own c.self.invariant c.get.result.now c.in-Some.letter c.in-Some.ensures.letter c.get.ensures in
-    let place = c.get.result.now.event.dest / i.config.workers in
-    let at = process-there c.self.invariant _ _ off.place (sym c.index_mut-process.ensures.value) in
+    let own : IsOwnPlace c.self.inside.config c.self.inside.worker c.get.result.now.event.dest c.index-place.result = (c.index-place.ensures, off.place.1, off.place.2) in
+    let place = c.index-place.result in
+    let at = process-there c.self.invariant _ _ own (sym c.index_mut-process.ensures.value) in
     subst (λ (ps : List (HeldProcess _ _ _)). IsWorkerInside i.config i.worker ps c.put_back.new.self i.arrived.items i.sent i.got i.serial i.contest)
     (sym (written-same i.processes.items place c.index_mut-process.result.now c.accept.new.self at c.in-Err.ensures.kept.2))
     (subst (λ (o : HeldOutbox _). IsWorkerInside i.config i.worker i.processes.items o i.arrived.items i.sent i.got i.serial i.contest) (sym (c.put_back.ensures ∙ c.of-before.ensures)) c.self.invariant)
@@ -54,53 +55,60 @@ returns-in_default-clause-refused g c handlers part s =
 pub index_mut-process-requires : goal.index_mut-process-requires
 index_mut-process-requires g c =
     let off = first-own c.self.invariant c.get.result.now c.in-Some.letter c.in-Some.ensures.letter c.get.ensures in
+    let own : IsOwnPlace c.self.inside.config c.self.inside.worker c.get.result.now.event.dest c.index-place.result = (c.index-place.ensures, off.place.1, off.place.2) in
     let dest = c.get.result.now.event.dest in
-    let place = dest / c.self.inside.config.workers in
-    let less = place-within c.self.invariant _ _ off.place in
+    let place = c.index-place.result in
+    let less = place-within c.self.invariant _ _ own in
     search (rules, less)
 
 pub accept-requires-clause-dest : goal.accept-requires-clause-dest
 accept-requires-clause-dest g c κs within =
     let off = first-own c.self.invariant c.get.result.now c.in-Some.letter c.in-Some.ensures.letter c.get.ensures in
-    let at = process-there c.self.invariant _ _ off.place (sym c.index_mut-process.ensures.value) in
-    ap (λ (l : Letter _). l.event.dest) (sym c.get.ensures) ∙ (process-is c.self.invariant _ _ off.place at).0
+    let own : IsOwnPlace c.self.inside.config c.self.inside.worker c.get.result.now.event.dest c.index-place.result = (c.index-place.ensures, off.place.1, off.place.2) in
+    let at = process-there c.self.invariant _ _ own (sym c.index_mut-process.ensures.value) in
+    ap (λ (l : Letter _). l.event.dest) (sym c.get.ensures) ∙ (process-is c.self.invariant _ _ own at).0
 
 pub accept-requires-clause-soon : goal.accept-requires-clause-soon
 accept-requires-clause-soon g c κs within =
     let off = first-own c.self.invariant c.get.result.now c.in-Some.letter c.in-Some.ensures.letter c.get.ensures in
-    let at = process-there c.self.invariant _ _ off.place (sym c.index_mut-process.ensures.value) in
+    let own : IsOwnPlace c.self.inside.config c.self.inside.worker c.get.result.now.event.dest c.index-place.result = (c.index-place.ensures, off.place.1, off.place.2) in
+    let at = process-there c.self.invariant _ _ own (sym c.index_mut-process.ensures.value) in
     subst (λ (l : Letter _). TimeBefore l.event.rank.key.time (end_of c.index_mut-process.result.now.config)) c.get.ensures
-    (subst (λ (k : Config). TimeBefore c.get.result.now.event.rank.key.time (end_of k)) (sym (process-is c.self.invariant _ _ off.place at).1) off.soon)
+    (subst (λ (k : Config). TimeBefore c.get.result.now.event.rank.key.time (end_of k)) (sym (process-is c.self.invariant _ _ own at).1) off.soon)
 
 pub returns-in-Err-clause-refused : goal.returns-in-Err-clause-refused
 returns-in-Err-clause-refused g c handlers part s =
     let i = c.self.inside in
     let off = first-own c.self.invariant c.get.result.now c.in-Some.letter c.in-Some.ensures.letter c.get.ensures in
+    let own : IsOwnPlace c.self.inside.config c.self.inside.worker c.get.result.now.event.dest c.index-place.result = (c.index-place.ensures, off.place.1, off.place.2) in
     let dest = c.get.result.now.event.dest in
-    let place = dest / c.self.inside.config.workers in
-    let at = process-there c.self.invariant _ _ off.place (sym c.index_mut-process.ensures.value) in
+    let place = c.index-place.result in
+    let at = process-there c.self.invariant _ _ own (sym c.index_mut-process.ensures.value) in
     let held = worker_view i.worker i.config i.processes.items i.outbox.letters i.arrived.items i.colour i.sent i.got i.red_minimum i.floor i.serial in
     subst (λ (v : HeldWorker _ _ _). local_step (simulation_of handlers v.config) v.worker (step.Home v.worker) part ≡ None) c.self.view_is
-    (home-refused handlers held c.self.invariant.own_processes part (subst (λ (v : HeldWorker _ _ _). StandsFor handlers v part) (sym c.self.view_is) s) c.get.result.now place c.index_mut-process.result.now off.there refl off.place.1 at
+    (home-refused handlers held c.self.invariant.own_processes part (subst (λ (v : HeldWorker _ _ _). StandsFor handlers v part) (sym c.self.view_is) s) c.get.result.now place c.index_mut-process.result.now off.there own.0 own.1 at
     (λ process st. subst (λ (l : Letter _). accept_process l process ≡ None) (sym c.get.ensures) (c.in-Err.ensures.refused handlers process st)))
 
 pub enter_accepted-requires-clause-there : goal.enter_accepted-requires-clause-there
 enter_accepted-requires-clause-there g c κs within =
     let off = first-own c.self.invariant c.get.result.now c.in-Some.letter c.in-Some.ensures.letter c.get.ensures in
-    still-there c.self.invariant _ _ c.accept.new.self off.place (sym c.index_mut-process.ensures.value) c.deref.ensures.value
+    let own : IsOwnPlace c.self.inside.config c.self.inside.worker c.get.result.now.event.dest c.index-place.result = (c.index-place.ensures, off.place.1, off.place.2) in
+    still-there c.self.invariant _ _ c.accept.new.self own (sym c.index_mut-process.ensures.value) c.deref.ensures.value
 
 pub enter_accepted-requires-clause-was : goal.enter_accepted-requires-clause-was
 enter_accepted-requires-clause-was g c κs within =
     let off = first-own c.self.invariant c.get.result.now c.in-Some.letter c.in-Some.ensures.letter c.get.ensures in
-    was-in-contest c.self.invariant _ _ c.accept.new.self off.place (sym c.index_mut-process.ensures.value) c.deref.ensures.value
+    let own : IsOwnPlace c.self.inside.config c.self.inside.worker c.get.result.now.event.dest c.index-place.result = (c.index-place.ensures, off.place.1, off.place.2) in
+    was-in-contest c.self.invariant _ _ c.accept.new.self own (sym c.index_mut-process.ensures.value) c.deref.ensures.value
 
 pub enter_accepted-requires-clause-behind : goal.enter_accepted-requires-clause-behind
 enter_accepted-requires-clause-behind g c κs within later =
     let i = c.self.inside in
     let off = first-own c.self.invariant c.get.result.now c.in-Some.letter c.in-Some.ensures.letter c.get.ensures in
+    let own : IsOwnPlace c.self.inside.config c.self.inside.worker c.get.result.now.event.dest c.index-place.result = (c.index-place.ensures, off.place.1, off.place.2) in
     let dest = c.get.result.now.event.dest in
-    let place = dest / c.self.inside.config.workers in
-    let at = process-there c.self.invariant _ _ off.place (sym c.index_mut-process.ensures.value) in
+    let place = c.index-place.result in
+    let at = process-there c.self.invariant _ _ own (sym c.index_mut-process.ensures.value) in
     let old = c.index_mut-process.result.now in
     let same = c.in_default-accept.ensures.same in
     let behind = subst (λ (l : Letter _). would_lead old.pending old.waiting l.sign l ≡ false) c.get-2.ensures (sym c.would_lead-leads.ensures ∙ later) in
@@ -111,9 +119,10 @@ pub invariant_of-self-2 : goal.invariant_of-self-2
 invariant_of-self-2 g c =
     let i = c.self.inside in
     let off = first-own c.self.invariant c.get.result.now c.in-Some.letter c.in-Some.ensures.letter c.get.ensures in
+    let own : IsOwnPlace c.self.inside.config c.self.inside.worker c.get.result.now.event.dest c.index-place.result = (c.index-place.ensures, off.place.1, off.place.2) in
     let dest = c.get.result.now.event.dest in
-    let place = dest / c.self.inside.config.workers in
-    let at = process-there c.self.invariant _ _ off.place (sym c.index_mut-process.ensures.value) in
+    let place = c.index-place.result in
+    let at = process-there c.self.invariant _ _ own (sym c.index_mut-process.ensures.value) in
     let same = c.in_default-accept.ensures.same in
     let left : c.pop_for.new.self.letters ≡ without_first (is_for_worker i.config i.worker) i.outbox.letters =
     ap (λ (o : HeldOutbox _). o.letters) c.pop_for.ensures.left ∙ ap (λ (k : Config). without_first (is_for_worker k i.worker) i.outbox.letters) c.self.invariant.by_worker in
@@ -125,9 +134,10 @@ pub returns-clause-done : goal.returns-clause-done
 returns-clause-done g c handlers part s =
     let i = c.self.inside in
     let off = first-own c.self.invariant c.get.result.now c.in-Some.letter c.in-Some.ensures.letter c.get.ensures in
+    let own : IsOwnPlace c.self.inside.config c.self.inside.worker c.get.result.now.event.dest c.index-place.result = (c.index-place.ensures, off.place.1, off.place.2) in
     let dest = c.get.result.now.event.dest in
-    let place = dest / c.self.inside.config.workers in
-    let at = process-there c.self.invariant _ _ off.place (sym c.index_mut-process.ensures.value) in
+    let place = c.index-place.result in
+    let at = process-there c.self.invariant _ _ own (sym c.index_mut-process.ensures.value) in
     let held = worker_view i.worker i.config i.processes.items i.outbox.letters i.arrived.items i.colour i.sent i.got i.red_minimum i.floor i.serial in
     let new = c.accept.new.self in
     let same = c.in_default-accept.ensures.same in
@@ -136,6 +146,6 @@ returns-clause-done g c handlers part s =
     ap (λ (o : HeldOutbox _). o.letters) c.pop_for.ensures.left ∙ ap (λ (k : Config). without_first (is_for_worker k i.worker) i.outbox.letters) c.self.invariant.by_worker in
     subst (λ (v : HeldWorker _ _ _). IsDone handlers (view c.pop_for.new.self.letters) (local_step (simulation_of handlers v.config) v.worker (step.Home v.worker) part)) c.self.view_is
     (subst (λ (ls : List (Letter _)). IsDone handlers (view ls) (local_step (simulation_of handlers i.config) i.worker (step.Home i.worker) part)) (sym left)
-    (home-done handlers held c.self.invariant.own_processes part (subst (λ (v : HeldWorker _ _ _). StandsFor handlers v part) (sym c.self.view_is) s) c.get.result.now place c.index_mut-process.result.now new off.there refl off.place.1 at
+    (home-done handlers held c.self.invariant.own_processes part (subst (λ (v : HeldWorker _ _ _). StandsFor handlers v part) (sym c.self.view_is) s) c.get.result.now place c.index_mut-process.result.now new off.there own.0 own.1 at
     same.0 same.1
     (λ process st. subst (λ (l : Letter _). ProcessIsDone handlers new (accept_process l process) [] [] 0 0) (sym c.get.ensures) (c.in_default-accept.ensures.done handlers process st))))
