@@ -26,10 +26,11 @@ const MOST_SPINS: u32 = 32;
 /// How many pauses a worker makes before each such try.
 const PAUSES: u32 = 20;
 
-/// The most looks of a worker at its bell before it sleeps.
-const MOST_LOOKS: u32 = 2_000;
+/// The most looks of a worker at its bell before it sleeps. They take some 20 to 40 microseconds, in which another worker makes one
+/// or two turns. It mostly waits for no more than that.
+const MOST_LOOKS: u32 = 20_000;
 
-/// The fewest looks of a worker at its bell before it sleeps.
+/// The fewest looks of a worker at its bell before it sleeps. They are few, so that on a busy machine it sleeps nearly at once.
 const LEAST_LOOKS: u32 = 100;
 
 /// How many turns a worker makes after another one has left before the end of the run. They are enough to close a
