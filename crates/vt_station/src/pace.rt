@@ -2,14 +2,12 @@
 
 ghost use Rattle.std.specs.Prelude.{◌≤◌, ◌<◌};
 
-/// The most events that a worker executes in one turn. With fewer of them a post carries fewer letters. With more of them a round
-/// takes longer.
-const MOST_EXECUTIONS: u32 = 32;
+/// The most events that a worker executes in one turn.
+const MOST_EXECUTIONS: u32 = 16;
 
 /// The patience of all workers together while little is undone. A worker's share of it is the number of turns without a cut
-/// or a report in which it executes at full pace. With more of them, a worker keeps its processor longer from one that all wait
-/// for, if workers are more than processors. With fewer of them, workers wait more often.
-const LONG_PATIENCE: u32 = 64;
+/// or a report in which it executes at full pace.
+const LONG_PATIENCE: u32 = 128;
 
 /// The patience of all workers together while more is undone.
 const PATIENCE: u32 = 16;
