@@ -24,7 +24,7 @@ pub enum Fault {
     /// 5: a counter would pass 2^63.
     #[error("exhausted")]
     Exhausted,
-    /// 6: a worker used all its turns.
+    /// 6: a worker made all its turns before the end of the run.
     #[error("turns spent")]
     TurnsSpent,
     /// 7: a bad option, by its name without dashes; `command-line` for a bad command line, `input` for a bad input.

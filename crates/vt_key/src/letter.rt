@@ -32,7 +32,7 @@ pub enum Sign {
 pub struct Letter<P> {
     /// The event that is brought or taken back.
     pub event: Event<P>,
-    /// Which of the two.
+    /// Whether the letter brings the event or takes it back.
     pub sign: Sign,
 }
 

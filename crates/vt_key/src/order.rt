@@ -148,7 +148,7 @@ impl PartialOrd for Key {
     }
 }
 
-/// Identifies one making of an event: the worker that made it, and that worker's serial. Serials never go back, so no two
+/// The name of one making of an event: the worker that made it, and that worker's serial. Serials never go back, so no two
 /// events ever made have the same stamp.
 #[derive(Debug, Clone, Copy, PartialEq, Eq, PartialOrd, Ord, Hash)]
 pub struct Stamp {
@@ -168,7 +168,7 @@ impl Stamp {
     }
 }
 
-/// What queues are ordered by: the key, and for equal keys the stamp.
+/// The place of an event in a queue. Ranks compare by the key, and for equal keys by the stamp.
 #[derive(Debug, Clone, Copy, PartialEq, Eq, PartialOrd, Ord, Hash)]
 pub struct Rank {
     /// The event's name in virtual time.

@@ -10,7 +10,7 @@ ghost use Rattle.vt_key.specs.Times.{TimeBefore, at, ticks_of, priority_of, earl
 use std::cmp::Ordering;
 use std::marker::Model;
 
-/// A virtual time: a tick, and a priority within the tick. What a tick is, a model decides; delays are in ticks too.
+/// A virtual time: a tick, and a priority within the tick. Each model decides what a tick is. Delays are in ticks too.
 ///
 /// Times compare by the tick, and within a tick by the priority: 0 is the first. Processes start at tick 0. An event is
 /// executed at its receive time, whose tick is before the run's end. Ends go up to [`MAX_END`](crate::MAX_END) ticks.
@@ -113,7 +113,7 @@ impl When {
         self.priority
     }
 
-    /// The time of this priority in the tick that is `delay` ticks later.
+    /// The time of this priority in the tick that is `delay` ticks later. That tick has to be below 2^64.
     pub fn after(self, delay: u64, priority: u8) -> When
         requires { ticks_of self + delay < 2 ^ 64 }
         ensures { result ≡ at (ticks_of self + delay) priority }

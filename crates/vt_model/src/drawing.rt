@@ -20,7 +20,7 @@ pub struct Draws<'a> {
 }
 
 impl<'a> Draws<'a> {
-    /// Draws from this stream, with nothing drawn yet. For simulators.
+    /// The source of a handler's words from this stream: nothing is drawn yet. For simulators.
     pub fn new(stream: &'a mut LpStream) -> Draws<'a>
         ensures same_reference { DrawsFrom stream.entry result }
         ensures stream { stream_in result ≡ stream.old }

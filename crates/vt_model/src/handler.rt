@@ -38,8 +38,8 @@ pub trait Model {
     /// handler requires it.
     ghost IsState: { Self → Self.State → Type 0 };
 
-    /// Makes the state of process `lp` at time 0 and sends its first events, which are received after time 0 with priority 0. It makes
-    /// no records, and is never undone.
+    /// Makes the state of process `lp`, and sends its first events. A start is at tick 0 with priority 0, and each event is received
+    /// later than that. It makes no records, and is never undone.
     ///
     /// `draws` and `out` are as their `new` gives them, and `lp` is below `out.lps()`.
     fn start(&self, lp: u32, draws: &mut Draws<'_>, out: &mut Out<Self::Payload>) -> Self::State
@@ -51,9 +51,9 @@ pub trait Model {
         ensures stream { stream_in draws.new ≡ moved (stream_in draws.old) ((handlers self.now).start out.old.lps lp (word_of (stream_in draws.old))).drawn }
         ensures out { out.new ≡ with_requests out.old ((handlers self.now).start out.old.lps lp (word_of (stream_in draws.old))).send_requests [] };
 
-    /// Executes an event at process `lp` and time `now`, its receive time, which is before the end of the run: it changes the
-    /// state, may set bits, draw words, send events and make records, and returns what `reverse` will need and can't find in
-    /// these.
+    /// Executes an event at process `lp` and time `now`, its receive time, which is before the end of the run. It changes the
+    /// state, and may set bits, draw words, send events and make records. It returns what `reverse` needs and can't find in the
+    /// state, the bits and the payload.
     ///
     /// The events of a process come in the order of their keys: by time, then by sending process, then by send number. A send
     /// that would be received at the end of the run or later isn't sent, and the handler isn't told.
@@ -81,10 +81,12 @@ pub trait Model {
         ensures stream { stream_in draws.new ≡ moved (stream_in draws.old) ((handlers self.now).forward out.old.lps lp now payload state.old (word_of (stream_in draws.old))).drawn }
         ensures out { let gives = (handlers self.now).forward out.old.lps lp now payload state.old (word_of (stream_in draws.old)) in out.new ≡ with_requests out.old gives.send_requests gives.record_requests };
 
-    /// Undoes an event: from the state, the bits and what was kept, as its `forward` left them, and with the same `lp`, `now`
-    /// and `payload`, it restores the state. It draws nothing, sends nothing and makes no records: the kernel takes those back
-    /// by itself. Nothing is required here either: at other values it has to give what the definitions say, and only the law
-    /// `undoes` says that it restores the state.
+    /// Undoes an event: it restores the state from before its `forward`. It is handed the state, the bits and what was kept, as
+    /// `forward` left them, and the same `lp`, `now` and `payload`. It draws nothing, sends nothing and makes no records: the
+    /// kernel takes those back by itself.
+    ///
+    /// Nothing is required here either. At other values it has to give what the definitions say. That it restores the state is
+    /// the law `undoes`.
     fn reverse(
         &self,
         lp: u32,

@@ -22,7 +22,7 @@ pub struct Process<M: EventModel> {
     pub state: M::State,
 }
 
-/// What undoes an executed event, beside its send number before.
+/// What undoes an executed event, beside the send number that its process had before it.
 #[derive(Drop)]
 pub struct Undo<M: EventModel> {
     /// The flags that `forward` set.

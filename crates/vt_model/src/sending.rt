@@ -28,7 +28,7 @@ impl<P: Copy> MadeWith<Sent<P>> for Sent<P> {
     }
 }
 
-/// Collects what a handler sends and records: at most [`MAX_SENDS`] sends and [`MAX_RECORDS`] records.
+/// What a handler sends and records: at most [`MAX_SENDS`] sends and [`MAX_RECORDS`] records.
 ///
 /// Each send takes the next send number of its process. One that would be received at the end of the run or later takes its
 /// number and isn't sent, so the numbers of a process don't depend on the end. What an event sent and recorded is taken back

@@ -6,7 +6,7 @@ ghost use Rattle.vt_key.specs.declared.limits.TheConstants.{MAX_PROCESSES, MAX_W
 
 use vt_key::{Fault, MAX_END, MAX_PROCESSES, MAX_WORKERS, When};
 
-/// How many logical processes and workers there are, when the run ends, and the seed of its random words.
+/// The numbers of a run: how many logical processes and workers it has, when it ends, and the seed of its random words.
 #[derive(Debug, Clone, Copy, PartialEq, Eq)]
 pub struct Config {
     /// The number of logical processes, from 1 to 65,536. They are named from 0.

@@ -190,10 +190,12 @@ fn request_of(alloc: Global, matches: &ArgMatches, table: &ModelTable<'_>) -> Re
     }
 }
 
-/// What the command line of a program asks for. `table` are the program's models with their options; the first word is the
-/// program's name. In the order in which they are tested, the options of `run` are the one that names the model, `synch`,
-/// `workers`, `lps`, `end` and `seed`, those of all models, `turns` and `text`; those of `replay` are the one that names the
-/// model, `workers`, `lps`, `end` and `seed`, those of all models, `serial` and `text`.
+/// What the command line of a program asks for. `table` are the program's models with their options, each with a default in its
+/// range. The first word is the program's name.
+///
+/// Options are tested in this order. Of `run`: the one that names the model, `synch`, `workers`, `lps`, `end`, `seed`, those of all
+/// models, `turns`, `text`. Of `replay`: the one that names the model, `workers`, `lps`, `end`, `seed`, those of all models, `serial`,
+/// `text`.
 ///
 /// [`Fault::BadOption`] with an option's name: this is the first bad option in that order. Options of models that aren't
 /// chosen are tested too. [`Fault::BadOption`] with `command-line`: the words have no meaning. A word is unknown, an option has

@@ -76,8 +76,8 @@ fn table_takes(alloc: Global, table: &ModelTable<'_>, name: &str) -> Option<Stri
     takes_of(&EVERY_MODEL, name)?.to_string(alloc).ok()
 }
 
-/// A line for a terminal on the command line of a program of these models, where [`read_request`] refuses it: which word it was, and
-/// what is allowed. None where the line isn't refused, or memory was.
+/// A line for a terminal where [`read_request`] refuses a command line: which word it was, and what is allowed. None: the command line
+/// isn't refused, or memory was refused.
 pub fn hint<S: AsStr>(
     alloc: Global,
     texts: &ProgramTexts,

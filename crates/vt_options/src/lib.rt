@@ -2,8 +2,8 @@
 //! to its options.
 //!
 //! `clap` reads the words, and its definitions say which text a line gives to each option. [`read_request`] reads the
-//! numbers in these texts, by the options of every model and a [`ModelTable`] of the program's own. It tests them in the order of the table,
-//! those of all models, and names the first that is out of its range.
+//! numbers in these texts, by the options of every model and a [`ModelTable`] of the program's own. It tests the options of all models,
+//! in the order of the table, and names the first that is out of its range.
 #![tactic(auto)]
 
 mod asking;

@@ -17,9 +17,9 @@ pub struct ProgramTexts {
     pub name: &'static str,
     /// What it does, in a line.
     pub about: &'static str,
-    /// The usage line of the program.
+    /// The usage line of the program, for instance `twarp <COMMAND>`.
     pub usage: &'static str,
-    /// The end of the help.
+    /// What help ends with, for instance a first call.
     pub in_short: &'static str,
 }
 

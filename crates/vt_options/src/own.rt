@@ -14,7 +14,7 @@ use vt_key::Fault;
 /// An option of a model, which is a number of up to 32 bits.
 #[derive(Debug, Clone, Copy)]
 pub struct OwnOption {
-    /// The option's name, without its dashes.
+    /// The option's name, without its dashes. No other option of the program may have it.
     pub name: &'static str,
     /// The least number that it takes.
     pub least: u32,
@@ -40,7 +40,7 @@ pub struct ModelOptions<'a> {
 /// The models of a program.
 #[derive(Debug, Clone, Copy)]
 pub struct ModelTable<'a> {
-    /// The option that names the model which is meant; where it isn't given, the first is. None: the first is always meant.
+    /// The option that names the model. If it isn't given, the first model is meant. None: the first is always meant.
     pub naming: Option<OptionText>,
     /// The models, in the order in which their options are tested.
     pub models: &'a [ModelOptions<'a>],

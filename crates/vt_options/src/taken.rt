@@ -38,8 +38,8 @@ fn is_taken(name: &str) -> bool
     has_text(&EVERY_MODEL, name) || name == "help"
 }
 
-/// The name of the first option of a model that is also the name of an option of every model, of help, or of an option behind it.
-/// A command line would set both by one word.
+/// The first name of an option of a model that is taken: by an option of every model, by help, or by an option behind it. A command
+/// line would set both by one word. None: no name is taken.
 pub fn taken_name(own: &[OwnOption]) -> Option<&'static str>
     ensures { option_map (λ name. name.now) result ≡ taken_in (own_names own.now) }
 {

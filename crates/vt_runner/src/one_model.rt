@@ -38,7 +38,8 @@ pub struct Streams<R, O, E> {
 }
 
 /// A whole program of one model: does what the words ask for, and returns the exit status. The first word is the program's
-/// name, `own` are the model's options, and `make` makes the model of their values.
+/// name, `own` are the model's options, each with a default in its range, and `make` makes the model of their values. It has to work
+/// for all values in their ranges, as many as `own` has rows.
 ///
 /// The words are those of `./twarp`, with the model's options in the place of its models': `run`, `replay` or help, with
 /// `--workers`, `--lps`, `--end`, `--seed`, `--text` and the model's options, `--synch` and `--turns` for `run` alone, and

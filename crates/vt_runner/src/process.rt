@@ -24,7 +24,7 @@ use vt_model::Model as EventModel;
 use vt_options::{ModelOptions, ModelTable, OwnOption, ProgramTexts, hint, taken_name};
 use vt_station::Watch;
 
-/// The process's words. No contract says that they are these: the library's `env::args` has none.
+/// The words of the process, the program's name first. No contract says so: the library's `env::args` has none.
 ///
 /// [`Fault::Memory`]: memory was refused. [`Fault::BadOption`] with `command-line`: a word isn't text.
 pub fn words_of<H: Env + AllocGlobal>(rt: &H) -> Result<Vec<String>, Fault>
@@ -41,8 +41,9 @@ pub fn words_of<H: Env + AllocGlobal>(rt: &H) -> Result<Vec<String>, Fault>
 /// The whole program of a model: does what the words of the process ask for, as [`model_program`] says, and returns the exit
 /// status.
 ///
-/// `texts` is what help shows of the program, `own` are the model's options, `watch` is told how far a run is, and `make` makes the model of their values,
-/// which come in the order of `own`, each in its range. `None`: these values make no model, and the program refuses them.
+/// `texts` is what help shows of the program, `own` are the model's options, each with a default in its range, and `watch` is told
+/// how far a run is. `make` makes the model of the options' values, which come in the order of `own`, each in its range. It has to
+/// work for all such values. `None`: these values make no model, and the program refuses them.
 ///
 /// No contract says what the words of the process are: status 0 means that for some words all that they ask for was written.
 ///
@@ -98,7 +99,7 @@ where
 }
 
 /// A line for a terminal where [`run_program`] has refused the words of the process: which word it was, and what is allowed; or
-/// that an option's name is taken. None where nothing of it is refused, or memory was.
+/// that an option's name is taken. None: none of these was refused, or memory was refused.
 pub fn hint_of_process<H: Env + AllocGlobal>(
     rt: &H,
     texts: &ProgramTexts,

@@ -52,9 +52,10 @@ fn answer<
 /// A whole program of any models: does what the words ask for, and returns the exit status. The first word is the program's
 /// name.
 ///
-/// `texts` is what help shows of the program, `table` are its models with their options, and `carry_out` does a task with the
-/// model that the words choose, as [`carry_out`](crate::carry_out) does: it is handed the choice, the task, `reader` and `out`, and answers
-/// a `Result<(), Fault>`. It is called once where the words ask for a task, and else not.
+/// `texts` is what help shows of the program. `table` are its models with their options, each with a default in its range.
+/// `carry_out` does a task with the model that the words choose, as [`carry_out`](crate::carry_out) does. It is handed the choice,
+/// the task, `watch`, `reader` and `out`, and answers a `Result<(), Fault>`. It is called once if the words ask for a task, and
+/// otherwise not at all.
 ///
 /// Status 0: the help that the words ask for was written to `out`, or their task was answered with Ok. Any other status comes
 /// with one line `NAME: refused N TEXT` on `err`, or a beginning of it if `err` fails. The status depends on N alone: 2 for 7, 3

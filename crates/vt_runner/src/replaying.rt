@@ -105,7 +105,7 @@ fn print_replay<M: EventModel, O: Write>(
 }
 
 /// Reads a step text, replays its steps on a model, and writes each step's answer and what the world shows at the end.
-/// It reads the whole text before it runs anything.
+/// It reads the whole text before it runs anything. `options.serial` is at most 2^63.
 ///
 /// [`Fault::BadOption`] with `input`: a read failed, or the text is too long. [`Fault::BadStep`]: the text has a bad
 /// line, the first of which is named. [`Fault::Exhausted`]: the starts would make more events than serials are left.

@@ -89,8 +89,9 @@ where
 /// would pass 2^63. A beginning of the text was written, which may be nothing or all.
 ///
 /// In a run in threads, the committed records, which are those below some time, are written in that version before each
-/// of these faults: [`Fault::Memory`], [`Fault::Exhausted`], [`Fault::TurnsSpent`] if a worker made all its turns
-/// before the end of the run, and [`Fault::Busy`] if the records couldn't be read.
+/// of these faults: [`Fault::Memory`], also if a thread wasn't started; [`Fault::Exhausted`] if a counter would pass 2^63;
+/// [`Fault::TurnsSpent`] if a worker made all its turns before the end of the run; and [`Fault::Busy`] if the records couldn't
+/// be read.
 ///
 /// In both, [`Fault::Output`] means that the writer failed. A beginning of the text was written.
 ///

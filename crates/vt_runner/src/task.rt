@@ -13,7 +13,8 @@ use vt_model::Model as EventModel;
 use vt_options::Task;
 use vt_station::Watch;
 
-/// Runs a model as [`simulate`] does, or replays steps on it as [`replay`] does. A run reads nothing.
+/// Does a task with a model: runs it as [`simulate`] does, or replays steps on it as [`replay`] does. A run reads nothing. The first
+/// serial of a replay is at most 2^63. Each fault is one of that call, and leaves what is said there.
 pub fn carry_out<
     H: Threads + Wait + Sync,
     M: EventModel + Sync,

@@ -70,8 +70,7 @@ impl<'m, M: EventModel> Execution<'m, M> {
     }
 
     /// The position of the next random word in the stream of process `p`: how many words its start and its events have
-    /// drawn, modulo 2^64.
-    /// None where there is no such process.
+    /// drawn, modulo 2^64. None where there is no such process.
     pub fn place(&self, p: u32) -> Option<u64>
         ensures unknown { IfNone result (self.now.config.lps ≤ p) }
         ensures reached { IsOnWay (M.handlers self.now.model) self.now }
@@ -116,8 +115,8 @@ impl<'m, M: EventModel> Execution<'m, M> {
         self.step_reusing(records, &mut out)
     }
 
-    /// As [`Execution::step`], but uses an `out` that the caller lends, so that a loop over many steps makes one. Any `out`
-    /// serves, as `Out::new(config, 0, When::tick(0), 0)`. What is in it afterwards isn't said.
+    /// Executes the pending event of least key as [`Execution::step`] does, with an `out` that the caller lends. So a loop over many
+    /// steps makes one. Any `out` serves, for instance `Out::new(config, 0, When::tick(0), 0)`. What is in it afterwards isn't said.
     pub fn step_reusing(
         &mut self,
         records: &mut Vec<Record>,
@@ -145,7 +144,7 @@ impl<'m, M: EventModel> Execution<'m, M> {
     /// Executes events until none is pending, and puts their records behind `records`.
     ///
     /// [`Fault::Exhausted`]: the next step would let a send number pass 2^63. [`Fault::Memory`]: it would not, and memory was
-    /// refused. After either the steps made before stand, and the execution may be continued.
+    /// refused. After either the steps made before stand, with their records, and the execution may be continued.
     pub fn complete(&mut self, records: &mut Vec<Record>) -> Result<(), Fault>
         ensures model { self.new.model ≡ self.old.model }
         ensures config { self.new.config ≡ self.old.config }

@@ -15,7 +15,7 @@ use std::marker::Model;
 use vt_key::{Fault, When};
 use vt_model::{Config, Model as EventModel, Record};
 
-/// A sequential run of a model, from its first event to any later one: an [`Execution`] whose records are kept.
+/// A sequential run of a model with the records of the events executed so far: an [`Execution`] that keeps them.
 ///
 /// Contracts see it as its model and config, the pending events, where each process stands and the records so far, and say by
 /// `IsAfter sim n` that it is where the sequential run of the definitions is after `n` steps. The type keeps that it is there
@@ -63,8 +63,7 @@ impl<'m, M: EventModel> Sequential<'m, M> {
     }
 
     /// The position of the next random word in the stream of process `p`: how many words its start and its events have
-    /// drawn, modulo 2^64.
-    /// None where there is no such process.
+    /// drawn, modulo 2^64. None where there is no such process.
     pub fn place(&self, p: u32) -> Option<u64>
         ensures unknown { IfNone result (self.now.config.lps ≤ p) }
         ensures reached { IsReached (M.handlers self.now.model) self.now }

@@ -29,10 +29,12 @@ use vt_places::{NotMade, Place, Station, Worker};
 /// A run that stopped before its end: why, and the records that were committed, a beginning of all.
 #[derive(Drop)]
 pub struct Stopped {
-    /// [`Fault::Memory`] or [`Fault::Exhausted`] where a worker had it, of the least such worker; else [`Fault::TurnsSpent`]. A worker
-    /// that began and waited in vain for a thread that wasn't started has had [`Fault::Memory`].
+    /// Why the run stopped. [`Fault::Memory`]: memory was refused, or a thread wasn't started. [`Fault::Exhausted`]: a counter
+    /// would pass 2^63. If several workers had one of these, it is that of the least number among them. [`Fault::TurnsSpent`]:
+    /// none had one, and a worker made all its turns. [`Fault::Busy`]: the committed records couldn't be taken out of the book,
+    /// and `records` is empty.
     pub fault: Fault,
-    /// The records that the book showed in the end.
+    /// The records that the book showed in the end: those of the sequential run below some time, and perhaps none.
     pub records: Vec<Record>,
 }
 
@@ -468,8 +470,9 @@ where
 /// threads. A worker that can't go on sleeps until another one lets it. Once a worker has left before the end of the run,
 /// the others leave within a few turns. All threads are joined before the answer; nothing promises that there is one.
 ///
-/// [`Stopped`]: memory was refused, or the machine didn't start a thread for each worker; a count would pass 2^63; or a worker made all
-/// its turns before the end of the run. Its records are those below some time, a beginning of all.
+/// [`Stopped`]: memory was refused, or the machine didn't start a thread for each worker; a count would pass 2^63; a worker made all
+/// its turns before the end of the run; or the committed records couldn't be read. Its records are those below some time, a
+/// beginning of all.
 pub fn run_workers<R: Threads + Wait + Sync, M: EventModel + Sync, W: Watch + Sync>(
     rt: &R,
     alloc: Global,

@@ -15,8 +15,8 @@ pub struct Progress {
 ///
 /// No call can change a record of the run. None has to do anything.
 pub trait Watch {
-    /// Called before a run begins: `end` is the tick at which it ends, and `workers` how many workers it has, where it is run on
-    /// workers.
+    /// Called before a run begins: `end` is the tick at which it ends, and `workers` how many workers it has. None: it is a run in one
+    /// thread.
     fn begin(&self, _end: u64, _workers: Option<u32>) {}
 
     /// Called when worker `worker` is about to execute an event in its turn `turn`, counted from 1.
