@@ -20,7 +20,7 @@ use Rattle.vt_model.specs.Simulation.{Triple, words_at, fire_of, simulation_of, 
 use Rattle.vt_steps.specs.Letters.{unstamped, stamped, signed}
 use Rattle.vt_steps.specs.StandsFor.{IsRemembered}
 use Rattle.vt_steps.proofs.letters.Stamped.{unstamped-stamped}
-use Rattle.vt_past.specs.declared.event.Trail.{Trail}
+use Rattle.vt_past.specs.declared.event.UndoEntry.{UndoEntry}
 use Rattle.vt_lp.specs.Held.{remembered, way_back}
 use Rattle.vt_past.specs.Events.{past_event}
 
@@ -44,18 +44,18 @@ events-signed sign [] = refl
 events-signed {P} sign (x ∷ xs) = ap (λ (ys : List (Event P)). x ∷ ys) (events-signed sign xs)
 
 module _ {S P K : Type 0} (handlers : Handlers S P K) (config : Config) where
-  pub remembers : (p w serial : ℕ) (event : Event P) (before now : Triple S) (trail : Trail P K) (records : List Record) →
+  pub remembers : (p w serial : ℕ) (event : Event P) (before now : Triple S) (undo_entry : UndoEntry P K) (records : List Record) →
       now ≡ ((simulation_of handlers config).fire p before (unstamped event)).triple →
-      handlers.reverse p event.rank.key.time event.payload now.state trail.bits trail.kept ≡ before.state →
-      trail.number ≡ before.number → before.place < 2 ^ 64 → trail.drawn ≤ MAX_DRAWS → now.place ≡ (before.place + trail.drawn) % 2 ^ 64 →
-      trail.anti_messages ≡ map (signed Minus) (stamped w serial ((simulation_of handlers config).fire p before (unstamped event)).sends) →
+      handlers.reverse p event.rank.key.time event.payload now.state undo_entry.bits undo_entry.kept ≡ before.state →
+      undo_entry.number ≡ before.number → before.place < 2 ^ 64 → undo_entry.drawn ≤ MAX_DRAWS → now.place ≡ (before.place + undo_entry.drawn) % 2 ^ 64 →
+      undo_entry.anti_messages ≡ map (signed Minus) (stamped w serial ((simulation_of handlers config).fire p before (unstamped event)).sends) →
       rows_of event.rank.key records ≡ ((simulation_of handlers config).fire p before (unstamped event)).rows →
-      IsRemembered (simulation_of handlers config) p before (remembered handlers p (past_event (signed Plus event) trail records))
-  remembers p w serial event before now trail records triple state number small few place anti rows =
-      let place_is : (now.place + (2 ^ 64 - trail.drawn)) % 2 ^ 64 ≡ before.place =
-      ap (λ (n : ℕ). (n + (2 ^ 64 - trail.drawn)) % 2 ^ 64) place ∙ place-back before.place trail.drawn small few in
+      IsRemembered (simulation_of handlers config) p before (remembered handlers p (past_event (signed Plus event) undo_entry records))
+  remembers p w serial event before now undo_entry records triple state number small few place anti rows =
+      let place_is : (now.place + (2 ^ 64 - undo_entry.drawn)) % 2 ^ 64 ≡ before.place =
+      ap (λ (n : ℕ). (n + (2 ^ 64 - undo_entry.drawn)) % 2 ^ 64) place ∙ place-back before.place undo_entry.drawn small few in
       record {
-        back = ap (way_back handlers p (past_event (signed Plus event) trail records)) (sym triple)
+        back = ap (way_back handlers p (past_event (signed Plus event) undo_entry records)) (sym triple)
             ∙ (λ j. record { state = state j; number = number j; place = place_is j });
         sent = ap (λ ls. map unstamped (map (λ l. l.event) ls)) anti
             ∙ ap (map unstamped) (events-signed Minus (stamped w serial ((simulation_of handlers config).fire p before (unstamped event)).sends))

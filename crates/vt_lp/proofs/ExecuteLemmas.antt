@@ -29,7 +29,7 @@ use Rattle.vt_steps.specs.StandsFor.{entry_of, IsRemembered, LeadTo}
 use Rattle.vt_steps.proofs.steps.MemoryLemmas.{is_where, goes_on, after-append}
 use Rattle.vt_steps.proofs.letters.Stamped.{length-stamped}
 use Rattle.vt_past.specs.declared.event.PastEvent.{PastEvent}
-use Rattle.vt_past.specs.declared.event.Trail.{Trail}
+use Rattle.vt_past.specs.declared.event.UndoEntry.{UndoEntry}
 use Rattle.vt_lp.specs.Held.{HeldProcess, StandsFor, process_memory, remembered, way_back, IsOwnLetter, IsOwnEvent, IsReady, AllAfter, IsRisingPast, IsNotPending, IsProcessInside}
 use Rattle.vt_lp.specs.Guards.{IsDone, IsExecuteRefusal, may_come_after}
 use Rattle.vt_past.specs.Events.{past_event}
@@ -102,27 +102,27 @@ module _ {S P K : Type 0} (handlers : Handlers S P K) where
       (may-is held h l.event s ∙ ready-may l ls held.past e (ready ∙ ap (λ xs. ready_event xs held.past) is))
 
   -- a process that an event took on and back stands where it stood
-  pub came-back : (config : Config) (p : ℕ) (before now : Triple S) (event : Event P) (trail : Trail P K) (records : List Record) →
+  pub came-back : (config : Config) (p : ℕ) (before now : Triple S) (event : Event P) (undo_entry : UndoEntry P K) (records : List Record) →
       now ≡ ((simulation_of handlers config).fire p before (unstamped event)).triple →
-      IsRemembered (simulation_of handlers config) p before (remembered handlers p (past_event (signed Plus event) trail records)) →
-      way_back handlers p (past_event (signed Plus event) trail records) now ≡ before
-  came-back config p before now event trail records triple kept = ap (way_back handlers p (past_event (signed Plus event) trail records)) triple ∙ kept.back
+      IsRemembered (simulation_of handlers config) p before (remembered handlers p (past_event (signed Plus event) undo_entry records)) →
+      way_back handlers p (past_event (signed Plus event) undo_entry records) now ≡ before
+  came-back config p before now event undo_entry records triple kept = ap (way_back handlers p (past_event (signed Plus event) undo_entry records)) triple ∙ kept.back
 
   -- the step of each process that the value stands for
-  pub executes : (held : HeldProcess S P K) (w serial : ℕ) (h : LogicalProcess P) (l : Letter P) (ls : List (Letter P)) (q : ℕ) (event : Event P) (now : Triple S) (trail : Trail P K) (records : List Record)
+  pub executes : (held : HeldProcess S P K) (w serial : ℕ) (h : LogicalProcess P) (l : Letter P) (ls : List (Letter P)) (q : ℕ) (event : Event P) (now : Triple S) (undo_entry : UndoEntry P K) (records : List Record)
       (past : List (PastEvent P K)) (outbox new_outbox messages : List (Letter P)) (new_serial : ℕ) →
       StandsFor handlers held h → held.pending ≡ l ∷ ls → Some event ≡ ready_event held.pending held.past → l.sign ≡ Plus → q ≡ held.lp →
-      past ≡ held.past ++ past_event l trail records ∷ [] →
+      past ≡ held.past ++ past_event l undo_entry records ∷ [] →
       now ≡ ((simulation_of handlers held.config).fire q held.triple (unstamped event)).triple →
-      IsRemembered (simulation_of handlers held.config) q held.triple (remembered handlers q (past_event (signed Plus event) trail records)) →
-      trail.anti_messages ≡ map (signed Minus) (stamped w serial ((simulation_of handlers held.config).fire q held.triple (unstamped event)).sends) →
+      IsRemembered (simulation_of handlers held.config) q held.triple (remembered handlers q (past_event (signed Plus event) undo_entry records)) →
+      undo_entry.anti_messages ≡ map (signed Minus) (stamped w serial ((simulation_of handlers held.config).fire q held.triple (unstamped event)).sends) →
       messages ≡ map (signed Plus) (stamped w serial ((simulation_of handlers held.config).fire q held.triple (unstamped event)).sends) →
       new_outbox ≡ outbox ++ messages →
       new_serial ≡ serial + length ((simulation_of handlers held.config).fire q held.triple (unstamped event)).sends →
       IsDone handlers (record { lp = held.lp; config = held.config; triple = now; past = past; pending = ls; waiting = held.waiting })
       (execute_process (simulation_of handlers held.config) held.lp w serial h) outbox new_outbox serial new_serial
   unfolding effect_of_execute
-  executes held w serial h l ls q event now trail records past outbox new_outbox messages new_serial s is ready plus own longer triple kept anti mess box next =
+  executes held w serial h l ls q event now undo_entry records past outbox new_outbox messages new_serial s is ready plus own longer triple kept anti mess box next =
       let p : ℕ = held.lp in
       let sim : Simulation S P = simulation_of handlers held.config in
       let first : event ≡ l.event = ready-least l ls held.past event (ready ∙ ap (λ xs. ready_event xs held.past) is) in
@@ -130,13 +130,13 @@ module _ {S P K : Type 0} (handlers : Handlers S P K) where
       let fired : Fired S P = sim.fire p held.triple (unstamped l.event) in
       let same : sim.fire q held.triple (unstamped event) ≡ fired = λ j. sim.fire (own j) held.triple (unstamped (first j)) in
       let at : triple_after sim p (h.done ++ h.past) ≡ held.triple = is_where sim p (process_memory handlers held) h s in
-      let e : PastEvent P K = past_event l trail records in
+      let e : PastEvent P K = past_event l undo_entry records in
       let kept_own : IsRemembered sim p held.triple (remembered handlers p e) =
-      coe 0 1 (j. IsRemembered sim (own j) held.triple (remembered handlers (own j) (past_event (letter j) trail records))) kept in
+      coe 0 1 (j. IsRemembered sim (own j) held.triple (remembered handlers (own j) (past_event (letter j) undo_entry records))) kept in
       let gone = goes_on sim p (process_memory handlers held) h (remembered handlers p e) s kept_own in
       let grown : map (remembered handlers p) held.past ++ remembered handlers p e ∷ [] ≡ map (remembered handlers p) past =
       sym (map-append (remembered handlers p) held.past (e ∷ [])) ∙ ap (map (remembered handlers p)) (sym longer) in
-      let sent : map (λ x. x.event) trail.anti_messages ≡ stamped w serial fired.sends =
+      let sent : map (λ x. x.event) undo_entry.anti_messages ≡ stamped w serial fired.sends =
       ap (map (λ x. x.event)) (anti ∙ ap (λ (f : Fired S P). map (signed Minus) (stamped w serial f.sends)) same) ∙ events-signed Minus (stamped w serial fired.sends) in
       let there : fired ≡ sim.fire p (triple_after sim p (h.done ++ h.past)) (unstamped l.event) = ap (λ (t : Triple S). sim.fire p t (unstamped l.event)) (sym at) in
       let now_is : fired.triple ≡ now = ap (λ (f : Fired S P). f.triple) (sym same) ∙ sym triple in
@@ -242,12 +242,12 @@ module _ {P K : Type 0} where
 
   -- the least pending event became the last past one
   pub inside-more : (config : Config) (p number new_number : ℕ) (stream new_stream : Stream) (past : List (PastEvent P K)) (pending waiting : List (Letter P)) (event : Event P)
-      (l : Letter P) (ls : List (Letter P)) (trail : Trail P K) (records : List Record) (new_past : List (PastEvent P K)) →
+      (l : Letter P) (ls : List (Letter P)) (undo_entry : UndoEntry P K) (records : List Record) (new_past : List (PastEvent P K)) →
       IsProcessInside config p number stream past pending waiting → IsRising pending → pending ≡ l ∷ ls → Some event ≡ ready_event pending past → new_number ≤ MAX_COUNT →
-      IsProcessStream config.seed p new_stream → trail.drawn ≤ MAX_DRAWS → trail.number ≤ MAX_COUNT → All (IsReady config.lps (end_of config)) trail.anti_messages →
-      new_past ≡ past ++ past_event l trail records ∷ [] → IsProcessInside config p new_number new_stream new_past ls waiting
-  inside-more config p number new_number stream new_stream past pending waiting event l ls trail records new_past inside rises is ready few own few_words few_sends anti longer =
-      let e : PastEvent P K = past_event l trail records in
+      IsProcessStream config.seed p new_stream → undo_entry.drawn ≤ MAX_DRAWS → undo_entry.number ≤ MAX_COUNT → All (IsReady config.lps (end_of config)) undo_entry.anti_messages →
+      new_past ≡ past ++ past_event l undo_entry records ∷ [] → IsProcessInside config p new_number new_stream new_past ls waiting
+  inside-more config p number new_number stream new_stream past pending waiting event l ls undo_entry records new_past inside rises is ready few own few_words few_sends anti longer =
+      let e : PastEvent P K = past_event l undo_entry records in
       let mine : All (IsOwnLetter p (end_of config) Plus) (l ∷ ls) = subst (λ (xs : List (Letter P)). All (IsOwnLetter p (end_of config) Plus) xs) is inside.own_pending in
       let up : IsRising (l ∷ ls) = subst IsRising is rises in
       let apart : All (IsNotPending (l ∷ ls)) past = subst (λ (xs : List (Letter P)). All (IsNotPending xs) past) is inside.apart in

@@ -26,7 +26,7 @@ use std::alloc::Global;
 use vt_key::{Event, Fault, Letter, MAX_COUNT, Sign, When};
 use vt_list::List;
 use vt_model::{Config, MAX_DRAWS, Model as EventModel, Out, Process, Record, Sent, Undo};
-use vt_past::{Past, Spare, Trail};
+use vt_past::{Past, Spare, UndoEntry};
 use vt_pending::Pending;
 
 impl<M: EventModel> Lp<M> {
@@ -89,7 +89,7 @@ impl<M: EventModel> Lp<M> {
         let Some(event) = ready_event(&self.pending, &self.past) else {
             return Err(Fault::NotLawful);
         };
-        let (trail, mut messages) = match advance(
+        let (undo_entry, mut messages) = match advance(
             &mut self.process,
             alloc,
             spare,
@@ -102,16 +102,16 @@ impl<M: EventModel> Lp<M> {
             Ok(advanced) => advanced,
             Err(fault) => return Err(fault),
         };
-        let bits = trail.bits;
-        let kept = trail.kept;
-        let drawn = trail.drawn;
-        let number = trail.number;
+        let bits = undo_entry.bits;
+        let kept = undo_entry.kept;
+        let drawn = undo_entry.drawn;
+        let number = undo_entry.number;
         if let Err(fault) = keep(
             alloc,
             spare,
             &mut self.pending,
             &mut self.past,
-            trail,
+            undo_entry,
             out.records(),
         ) {
             let sent = Sent {
@@ -155,7 +155,7 @@ fn advance<M: EventModel>(
     config: Config,
     serial: u64,
     event: Event<M::Payload>,
-) -> Result<(Trail<M::Payload, M::Kept>, List<Letter<M::Payload>>), Fault>
+) -> Result<(UndoEntry<M::Payload, M::Kept>, List<Letter<M::Payload>>), Fault>
     requires known { event.dest < config.lps }
     requires early { TimeBefore event.rank.key.time (end_of config) }
     requires numbered { process.old.number ≤ MAX_COUNT }
@@ -200,14 +200,14 @@ fn advance<M: EventModel>(
             return Err(fault);
         }
     };
-    let trail = Trail {
+    let undo_entry = UndoEntry {
         kept,
         bits,
         drawn,
         number,
         anti_messages,
     };
-    Ok((trail, messages))
+    Ok((undo_entry, messages))
 }
 
 /// The messages of these sends, and the anti-messages that take them back.
@@ -236,7 +236,8 @@ fn both_letters<P: Copy, K: Copy>(
     Ok((messages, anti_messages))
 }
 
-/// Moves the least pending event, with the trail and the records that it left, behind the last past one. A refusal leaves both lists unchanged.
+/// Moves the least pending event, with the undo entry and the records that it left, behind the last past one. A refusal
+/// leaves both lists unchanged.
 ///
 /// [`Fault::Memory`]: memory was refused.
 fn keep<P: Copy, K: Copy>(
@@ -244,13 +245,13 @@ fn keep<P: Copy, K: Copy>(
     spare: &mut Spare<P, K>,
     pending: &mut Pending<P>,
     past: &mut Past<P, K>,
-    trail: Trail<P, K>,
+    undo_entry: UndoEntry<P, K>,
     records: &[Record],
 ) -> Result<(), Fault>
     requires few { length records.now ≤ MAX_RECORDS }
     requires some { 0 < length pending.old }
     requires rising { IsRising pending.old }
-    ensures kept { IfOk result (λ _. (letter : Letter _) × (pending.old ≡ letter ∷ pending.new) × (past.new ≡ past.old ++ past_event letter trail records.now ∷ [])) }
+    ensures kept { IfOk result (λ _. (letter : Letter _) × (pending.old ≡ letter ∷ pending.new) × (past.new ≡ past.old ++ past_event letter undo_entry records.now ∷ [])) }
     ensures rising { IsRising pending.new }
     ensures unchanged { IfErr result (λ fault. (pending.new ≡ pending.old) × (past.new ≡ past.old)) }
     ensures refused { IfErr result (λ fault. fault ≡ Memory) }
@@ -258,7 +259,7 @@ fn keep<P: Copy, K: Copy>(
     let Some(letter) = pending.take_least() else {
         return Err(Fault::NotLawful);
     };
-    match spare.event(alloc, letter, trail, records) {
+    match spare.event(alloc, letter, undo_entry, records) {
         Ok(event) => {
             past.push_back(event);
             Ok(())

@@ -5,20 +5,20 @@ use Rattle.vt_key.specs.declared.order.Rank.{Rank}
 use Rattle.vt_key.specs.declared.letter.Letter.{Letter}
 use Rattle.vt_model.specs.declared.rows.Record.{Record}
 use Rattle.vt_past.specs.declared.event.PastEvent.{PastEvent}
-use Rattle.vt_past.specs.declared.event.Trail.{Trail}
+use Rattle.vt_past.specs.declared.event.UndoEntry.{UndoEntry}
 
 module _ {P K : Type 0} where
-  -- the past event of this letter, which left this trail and these records
-  abbrev pub past_event : Letter P → Trail P K → List Record → PastEvent P K
-  past_event letter trail records = record {
+  -- the past event of this letter, which left this undo entry and these records
+  abbrev pub past_event : Letter P → UndoEntry P K → List Record → PastEvent P K
+  past_event letter undo_entry records = record {
     key = letter.event.rank.key;
     letter = letter;
-    kept = trail.kept;
-    bits = trail.bits;
-    drawn = trail.drawn;
-    number = trail.number;
+    kept = undo_entry.kept;
+    bits = undo_entry.bits;
+    drawn = undo_entry.drawn;
+    number = undo_entry.number;
     records = records;
-    anti_messages = trail.anti_messages;
+    anti_messages = undo_entry.anti_messages;
     keyed = refl;
   }
 

@@ -29,9 +29,9 @@ pub struct PastEvent<P: Copy, K: Copy> {
     ghost keyed: { letter.event.rank.key ≡ key },
 }
 
-/// What an executed event leaves for its undo and its commit, beside its records.
+/// What the undo and the commit of an executed event need, beside its records.
 #[derive(Drop)]
-pub struct Trail<P: Copy, K: Copy> {
+pub struct UndoEntry<P: Copy, K: Copy> {
     /// What `forward` kept.
     pub kept: K,
     /// The flags that `forward` set.

@@ -10,7 +10,7 @@ mod records;
 mod renewing;
 mod spare;
 
-pub use event::{PastEvent, Trail};
+pub use event::{PastEvent, UndoEntry};
 pub use past::Past;
 pub use records::Records;
 pub use spare::Spare;

@@ -1,6 +1,6 @@
 //! The records of a past event.
 
-ghost use Rattle.std.specs.Prelude.{◌≡◌, ◌≤◌, [], length};
+ghost use Rattle.std.specs.Prelude.{◌≡◌, ◌≤◌, [], length, slice_get, IfSome};
 ghost use Rattle.vt_model.specs.declared.limits.TheConstants.{MAX_RECORDS as MOST};
 
 use std::marker::Model;
@@ -59,8 +59,10 @@ impl Records {
         &self.places[..self.count]
     }
 
-    /// A value of the first record; of an old one if there is none.
-    pub fn first_value(&self) -> u64 {
+    /// The value of the first record. It is for reading ahead: if there is no record, it is any value.
+    pub fn first_value(&self) -> u64
+        ensures { IfSome (slice_get self.now 0) (λ first. result ≡ first.value) }
+    {
         self.places[0].value
     }
 }

@@ -4,7 +4,7 @@ ghost use Rattle.std.specs.Prelude.{◌≡◌, ◌≤◌, length};
 ghost use Rattle.vt_model.specs.declared.limits.TheConstants.{MAX_RECORDS};
 ghost use Rattle.vt_past.specs.Events.{past_event};
 
-use crate::event::{PastEvent, Trail};
+use crate::event::{PastEvent, UndoEntry};
 use crate::records::Records;
 use std::mem::replace;
 use vt_key::Letter;
@@ -12,18 +12,22 @@ use vt_list::{List, Parcel};
 use vt_model::Record;
 
 impl<P: Copy, K: Copy> PastEvent<P, K> {
-    /// The past event of this letter, which left this trail and these records.
-    pub fn new(letter: Parcel<Letter<P>>, trail: Trail<P, K>, records: &[Record]) -> PastEvent<P, K>
+    /// The past event of this letter, which left this undo entry and these records.
+    pub fn new(
+        letter: Parcel<Letter<P>>,
+        undo_entry: UndoEntry<P, K>,
+        records: &[Record],
+    ) -> PastEvent<P, K>
         requires few { length records.now ≤ MAX_RECORDS }
-        ensures { result ≡ past_event letter trail records.now }
+        ensures { result ≡ past_event letter undo_entry records.now }
     {
-        let Trail {
+        let UndoEntry {
             kept,
             bits,
             drawn,
             number,
             anti_messages,
-        } = trail;
+        } = undo_entry;
         let mut places = Records::new();
         places.set(records);
         PastEvent {
@@ -42,21 +46,21 @@ impl<P: Copy, K: Copy> PastEvent<P, K> {
     pub fn renew(
         &mut self,
         letter: Parcel<Letter<P>>,
-        trail: Trail<P, K>,
+        undo_entry: UndoEntry<P, K>,
         records: &[Record],
     ) -> (Parcel<Letter<P>>, List<Letter<P>>)
         requires few { length records.now ≤ MAX_RECORDS }
-        ensures renewed { self.new ≡ past_event letter trail records.now }
+        ensures renewed { self.new ≡ past_event letter undo_entry records.now }
         ensures letters { (result.0 ≡ self.old.letter) × (result.1 ≡ self.old.anti_messages) }
     {
         let event = self;
-        let Trail {
+        let UndoEntry {
             kept,
             bits,
             drawn,
             number,
             anti_messages,
-        } = trail;
+        } = undo_entry;
         event.records.set(records);
         event.key = letter.get().event.rank.key;
         event.kept = kept;

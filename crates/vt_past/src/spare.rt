@@ -6,7 +6,7 @@ ghost use Rattle.vt_model.specs.declared.limits.TheConstants.{MAX_RECORDS};
 ghost use Rattle.vt_past.specs.Kept.{one_if_some, held_by};
 ghost use Rattle.vt_past.specs.Events.{past_event};
 
-use crate::event::{PastEvent, Trail};
+use crate::event::{PastEvent, UndoEntry};
 use crate::past::Past;
 use std::alloc::Global;
 use std::marker::Model;
@@ -108,26 +108,26 @@ impl<P: Copy, K: Copy> Spare<P, K> {
         Ok(parcel)
     }
 
-    /// Puts the past event of this letter, which left this trail and these records, into a kept node, or else into a new
-    /// one. An error means that memory was refused; it hands the letter back.
+    /// Puts the past event of this letter, which left this undo entry and these records, into a kept node, or else into a
+    /// new one. An error means that memory was refused; it hands the letter back.
     pub fn event(
         &mut self,
         alloc: Global,
         letter: Parcel<Letter<P>>,
-        trail: Trail<P, K>,
+        undo_entry: UndoEntry<P, K>,
         records: &[Record],
     ) -> Result<Parcel<PastEvent<P, K>>, Parcel<Letter<P>>>
         requires few { length records.now ≤ MAX_RECORDS }
-        ensures made { IfOk result (λ parcel. parcel ≡ past_event letter trail records.now) }
+        ensures made { IfOk result (λ parcel. parcel ≡ past_event letter undo_entry records.now) }
         ensures letter_returned { IfErr result (λ refused. refused ≡ letter) }
         ensures taken { self.new.events ≡ self.old.events - 1 }
         ensures kept { self.new.letters + self.new.events + self.new.held ≡ self.old.letters + self.old.events + self.old.held }
         ensures none_left { IfErr result (λ _. self.old.events ≡ 0) }
     {
         let Some(mut parcel) = self.take_event() else {
-            return new_event(alloc, letter, trail, records);
+            return new_event(alloc, letter, undo_entry, records);
         };
-        let (old_letter, mut anti_messages) = parcel.get_mut().renew(letter, trail, records);
+        let (old_letter, mut anti_messages) = parcel.get_mut().renew(letter, undo_entry, records);
         self.keep_letter(old_letter);
         self.keep_letters(&mut anti_messages);
         Ok(parcel)
@@ -229,19 +229,19 @@ impl<P: Copy, K: Copy> Spare<P, K> {
     }
 }
 
-/// The past event of this letter, which left this trail and these records, in a new node. An error means that memory was
-/// refused; it hands the letter back.
+/// The past event of this letter, which left this undo entry and these records, in a new node. An error means that
+/// memory was refused; it hands the letter back.
 fn new_event<P: Copy, K: Copy>(
     alloc: Global,
     letter: Parcel<Letter<P>>,
-    trail: Trail<P, K>,
+    undo_entry: UndoEntry<P, K>,
     records: &[Record],
 ) -> Result<Parcel<PastEvent<P, K>>, Parcel<Letter<P>>>
     requires few { length records.now ≤ MAX_RECORDS }
-    ensures made { IfOk result (λ parcel. parcel ≡ past_event letter trail records.now) }
+    ensures made { IfOk result (λ parcel. parcel ≡ past_event letter undo_entry records.now) }
     ensures letter_returned { IfErr result (λ refused. refused ≡ letter) }
 {
-    match Parcel::new(alloc, PastEvent::new(letter, trail, records)) {
+    match Parcel::new(alloc, PastEvent::new(letter, undo_entry, records)) {
         Ok(event) => Ok(event),
         Err(event) => {
             let PastEvent {
