@@ -18,6 +18,8 @@ ghost use Rattle.vt_steps.specs.World.{LogicalProcess};
 ghost use Rattle.vt_lp.specs.Held.{StandsFor, AllWithinRun, IsReady, remembered};
 ghost use Rattle.vt_lp.specs.Guards.{IsDone, IsExecuteRefusal};
 ghost use Rattle.vt_past.specs.Events.{past_event};
+ghost use Rattle.vt_past.specs.Kept.{GaveEvent};
+ghost use Rattle.vt_lp.specs.Used.{sends_of, after_letters, IsLeft};
 ghost use Rattle.vt_lp.specs.Past.{ready_event, IsAdvanceRefusal};
 
 use crate::lp::Lp;
@@ -66,6 +68,10 @@ impl<M: EventModel> Lp<M> {
     /// As [`Lp::execute`], but uses the memory of committed events as long as there is some, and then new memory, and for the
     /// handler an `out` that the caller lends, so that many events have one. Any `out` serves, as
     /// `Out::new(config, 0, When::tick(0), 0)`. What is in it afterwards isn't said.
+    ///
+    /// Each message, each anti-message and the past event take a kept node, as long as there is one. The nodes of the letters
+    /// in a kept past event stay with `spare`. Where memory was refused, the nodes that the letters took are freed. After
+    /// another refusal `spare` is as it was.
     pub fn execute_reusing(
         &mut self,
         alloc: Global,
@@ -85,6 +91,8 @@ impl<M: EventModel> Lp<M> {
         ensures counted { IfOk result (λ _. (self.new.triple.number ≤ MAX_COUNT) × (serial.new ≤ MAX_COUNT)) }
         ensures within { AllWithinRun self.old.config outbox.old → AllWithinRun self.old.config outbox.new }
         ensures same { (self.new.lp ≡ self.old.lp) × (self.new.config ≡ self.old.config) }
+        ensures used { let sent = sends_of (simulation_of (M.handlers model.now) self.old.config) self.old in IfOk result (λ _. GaveEvent (after_letters sent spare.old) spare.new) }
+        ensures left { let sent = sends_of (simulation_of (M.handlers model.now) self.old.config) self.old in IfErr result (IsLeft sent spare.old spare.new) }
     {
         let Some(event) = ready_event(&self.pending, &self.past) else {
             return Err(Fault::NotLawful);
@@ -177,6 +185,8 @@ fn advance<M: EventModel>(
     ensures drew { IfOk result (λ a. (a.0.number ≡ process.old.number) × (process.new.stream ≡ moved process.old.stream a.0.drawn)) }
     ensures in_range { process.old.stream.place < 2 ^ 64 }
     ensures refused { let fired = (simulation_of (M.handlers model.now) config).fire event.dest (triple_at process.old.state process.old.number process.old.stream) (unstamped event) in IfErr result (λ fault. IsAdvanceRefusal fired serial fault) }
+    ensures used { let fired = (simulation_of (M.handlers model.now) config).fire event.dest (triple_at process.old.state process.old.number process.old.stream) (unstamped event) in IfOk result (λ a. spare.new ≡ after_letters (length fired.sends) spare.old) }
+    ensures left { let fired = (simulation_of (M.handlers model.now) config).fire event.dest (triple_at process.old.state process.old.number process.old.stream) (unstamped event) in IfErr result (IsLeft (length fired.sends) spare.old spare.new) }
 {
     spare.read_ahead();
     let event = &event;
@@ -224,6 +234,8 @@ fn both_letters<P: Copy, K: Copy>(
     ensures messages { IfOk result (λ made. made.0 ≡ map (signed Plus) (stamped worker serial sends.now)) }
     ensures anti_messages { IfOk result (λ made. made.1 ≡ map (signed Minus) (stamped worker serial sends.now)) }
     ensures refused { IfErr result (λ fault. fault ≡ Memory) }
+    ensures used { spare.new ≡ after_letters (length sends.now) spare.old }
+    ensures none_left { IfErr result (λ _. spare.new.letters ≡ 0) }
 {
     let messages = match letters(alloc, spare, Sign::Plus, worker, serial, sends) {
         Ok(messages) => messages,
@@ -255,6 +267,8 @@ fn keep<P: Copy, K: Copy>(
     ensures rising { IsRising pending.new }
     ensures unchanged { IfErr result (λ fault. (pending.new ≡ pending.old) × (past.new ≡ past.old)) }
     ensures refused { IfErr result (λ fault. fault ≡ Memory) }
+    ensures used { IfOk result (λ _. GaveEvent spare.old spare.new) }
+    ensures none_left { IfErr result (λ _. (spare.new ≡ spare.old) × (spare.old.events ≡ 0)) }
 {
     let Some(letter) = pending.take_least() else {
         return Err(Fault::NotLawful);

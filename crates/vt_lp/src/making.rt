@@ -1,6 +1,6 @@
 //! Letters for what an event sends.
 
-ghost use Rattle.std.specs.Prelude.{◌≡◌, ◌+◌, ◌≤◌, ◌↔◌, length, map, IsTrue, IfOk, IfErr};
+ghost use Rattle.std.specs.Prelude.{◌≡◌, ◌+◌, ◌-◌, ◌≤◌, ◌↔◌, length, map, IsTrue, IfOk, IfErr};
 ghost use Rattle.vt_key.specs.declared.fault.Fault.TheVariants.{Memory};
 ghost use Rattle.vt_steps.specs.Letters.{stamped, signed};
 
@@ -27,6 +27,8 @@ pub(crate) fn letters<P: Copy, K: Copy>(
     requires few { serial + length sends.now ≤ MAX_COUNT }
     ensures letters { IfOk result (λ letters. letters ≡ map (signed sign) (stamped worker serial sends.now)) }
     ensures refused { IfErr result (λ fault. fault ≡ Memory) }
+    ensures used { spare.new ≡ record spare.old { letters = spare.old.letters - length sends.now } }
+    ensures none_left { IfErr result (λ _. spare.new.letters ≡ 0) }
 {
     let mut letters = List::new(alloc);
     let mut serial = serial;

@@ -1,5 +1,5 @@
 -- Memory that is kept, to be used again.
-use Rattle.std.specs.Prelude.{ℕ, Option, Some, None, length}
+use Rattle.std.specs.Prelude.{◌≡◌, ℕ, ◌+◌, ◌-◌, ◌≤◌, Option, Some, None, length}
 use Rattle.vt_past.specs.declared.event.PastEvent.{PastEvent}
 
 -- how many nodes are kept: of letters at hand, of past events, and of the anti-messages that these still hold
@@ -7,6 +7,16 @@ pub record KeptNodes : Type 0 where
   pub letters : ℕ
   pub events : ℕ
   pub held : ℕ
+
+-- how many nodes are kept, of any kind
+abbrev pub all_nodes : KeptNodes → ℕ
+all_nodes kept = kept.letters + kept.events + kept.held
+
+-- a past event took the node of a kept one, if there was one; the nodes of the letters in that stay
+pub record GaveEvent (old new : KeptNodes) : Type 0 where
+  pub events : new.events ≡ old.events - 1
+  pub held : new.held ≤ old.held
+  pub all : all_nodes new ≡ all_nodes old
 
 -- how many anti-messages a past event holds
 abbrev pub held_by : {P K : Type 0} → PastEvent P K → ℕ

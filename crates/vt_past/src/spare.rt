@@ -3,7 +3,7 @@
 ghost use Rattle.std.specs.Prelude.{◌≡◌, ◌+◌, ◌-◌, ◌≤◌, [], length, IfOk, IfErr, IfSome, IfNone};
 ghost use Rattle.std.specs.List.{sum_by};
 ghost use Rattle.vt_model.specs.declared.limits.TheConstants.{MAX_RECORDS};
-ghost use Rattle.vt_past.specs.Kept.{one_if_some, held_by};
+ghost use Rattle.vt_past.specs.Kept.{GaveEvent, one_if_some, held_by};
 ghost use Rattle.vt_past.specs.Events.{past_event};
 
 use crate::event::{PastEvent, UndoEntry};
@@ -109,7 +109,7 @@ impl<P: Copy, K: Copy> Spare<P, K> {
     }
 
     /// Puts the past event of this letter, which left this undo entry and these records, into a kept node, or else into a
-    /// new one. An error means that memory was refused; it hands the letter back.
+    /// new one. An error means that memory was refused; it hands the letter back, and nothing changes.
     pub fn event(
         &mut self,
         alloc: Global,
@@ -120,9 +120,9 @@ impl<P: Copy, K: Copy> Spare<P, K> {
         requires few { length records.now ≤ MAX_RECORDS }
         ensures made { IfOk result (λ parcel. parcel ≡ past_event letter undo_entry records.now) }
         ensures letter_returned { IfErr result (λ refused. refused ≡ letter) }
-        ensures taken { self.new.events ≡ self.old.events - 1 }
-        ensures kept { self.new.letters + self.new.events + self.new.held ≡ self.old.letters + self.old.events + self.old.held }
+        ensures taken { GaveEvent self.old self.new }
         ensures none_left { IfErr result (λ _. self.old.events ≡ 0) }
+        ensures unchanged { IfErr result (λ _. self.new ≡ self.old) }
     {
         let Some(mut parcel) = self.take_event() else {
             return new_event(alloc, letter, undo_entry, records);

@@ -1,8 +1,8 @@
-use Rattle.std.proofs.Common.{◌≡◌, ◌∙◌, ◌<◌, ◌+◌, ◌-◌, ◌≤◌, ◌%◌, ◌^◌, ◌++◌, ◌∷◌, inr, List, [], map, length, sym, subst, refl, ap, arith}
+use Rattle.std.proofs.Common.{◌≡◌, ◌∙◌, ℕ, ◌<◌, ◌+◌, ◌-◌, ◌≤◌, ◌%◌, ◌^◌, ◌++◌, ◌∷◌, inl, inr, List, [], map, length, sym, subst, refl, ap, arith}
 use Rattle.std.specs.List.{All}
 use Rattle.std.proofs.lemmas.List.Elements.{All-head, All-append}
 use Rattle.vt_key.specs.declared.limits.TheConstants.{MAX_COUNT}
-use Rattle.vt_key.specs.declared.fault.Fault.TheVariants.{NotLawful}
+use Rattle.vt_key.specs.declared.fault.Fault.TheVariants.{NotLawful, Exhausted, Memory}
 use Rattle.vt_key.specs.declared.letter.Letter.{Letter}
 use Rattle.vt_key.specs.declared.letter.Sign.TheVariants.{Plus, Minus}
 use Rattle.vt_stream.specs.Words.{Stream}
@@ -18,10 +18,12 @@ use Rattle.vt_steps.proofs.steps.MemoryLemmas.{is_where}
 use Rattle.vt_lp.specs.Held.{HeldProcess, StandsFor, AllWithinRun, IsWithinRun, IsOwnLetter, process_memory}
 use Rattle.vt_lp.specs.Guards.{IsDone, IsExecuteRefusal}
 use Rattle.vt_past.specs.Events.{past_event}
+use Rattle.vt_past.specs.Kept.{KeptNodes, GaveEvent}
+use Rattle.vt_lp.specs.Used.{sends_of, after_letters, IsLeft}
 use Rattle.vt_model.proofs.Sizes.{out_fits}
 use Rattle.vt_lp.proofs.Advancing.{place-back}
 use Rattle.vt_lp.proofs.Stamping.{length-letters}
-use Rattle.vt_lp.proofs.ExecuteLemmas.{ready-some, ready-own, execute-none, executes, refuses, came-back, inside-at, inside-more}
+use Rattle.vt_lp.proofs.ExecuteLemmas.{sends-told, ready-some, ready-own, execute-none, executes, refuses, came-back, inside-at, inside-more}
 use Rattle.vt_lp.proofs.ProcessView.{process_view}
 use Rattle.vt_lp.proofs.lp.Lp.execute_reusing.Goals as goal
 
@@ -201,6 +203,12 @@ returns-in-Err-clause-restored g c is_state =
     let same = c.in-Err.ensures.unchanged ok in
     (λ j. process_view l.lp l.config (same j).state (same j).number (same j).stream l.past l.pending l.waiting) ∙ c.self.view_is
 
+pub returns-in-Err-clause-not_lawful : goal.returns-in-Err-clause-not_lawful
+returns-in-Err-clause-not_lawful g c is = elim c.in-Err.ensures.refused [
+  | inl w ↦ absurd (let h : Exhausted ≡ NotLawful = sym w.0 ∙ is in cc)
+  | inr w ↦ absurd (let h : Memory ≡ NotLawful = sym w.0 ∙ is in cc)
+]
+
 pub returns-in-Err-clause-but_state : goal.returns-in-Err-clause-but_state
 returns-in-Err-clause-but_state g c =
     let l = c.self.inside in
@@ -292,3 +300,56 @@ returns-clause-but_state g c = tt
 
 pub returns-clause-kept : goal.returns-clause-kept
 returns-clause-kept g c = tt
+
+pub returns-clause-used : goal.returns-clause-used
+returns-clause-used g c =
+    let handlers = g.M.Model.handlers c.args.model.now in
+    let l = c.self.inside in
+    let held = process_view l.lp l.config l.process.state l.process.number l.process.stream l.past l.pending l.waiting in
+    let kept = c.args.spare.now in
+    let own = ready-own l.lp (end_of l.config) l.pending l.past c.in-Some.event c.self.invariant.own_pending c.in-Some.ensures.event in
+    let left = c.in-Ok.ensures.used ∙ ap (λ (n : ℕ). after_letters n kept) (sends-told handlers held c.in-Some.event own.0 c.in-Some.ensures.event) in
+    subst (λ (v : HeldProcess _ _ _). GaveEvent (after_letters (sends_of (simulation_of handlers v.config) v) kept) c.keep.new.spare) c.self.view_is
+    (subst (λ (k : KeptNodes). GaveEvent k c.keep.new.spare) left c.in_default-keep.ensures.used)
+
+pub returns-in-Err-clause-left : goal.returns-in-Err-clause-left
+returns-in-Err-clause-left g c =
+    let handlers = g.M.Model.handlers c.args.model.now in
+    let l = c.self.inside in
+    let held = process_view l.lp l.config l.process.state l.process.number l.process.stream l.past l.pending l.waiting in
+    let own = ready-own l.lp (end_of l.config) l.pending l.past c.in-Some.event c.self.invariant.own_pending c.in-Some.ensures.event in
+    subst (λ (v : HeldProcess _ _ _). IsLeft (sends_of (simulation_of handlers v.config) v) c.args.spare.now c.advance.new.spare c.in-Err.fault) c.self.view_is
+    (subst (λ (n : ℕ). IsLeft n c.args.spare.now c.advance.new.spare c.in-Err.fault) (sends-told handlers held c.in-Some.event own.0 c.in-Some.ensures.event) c.in-Err.ensures.left)
+
+pub returns-in-Err-keep-clause-left : goal.returns-in-Err-keep-clause-left
+returns-in-Err-keep-clause-left g c =
+    let handlers = g.M.Model.handlers c.args.model.now in
+    let l = c.self.inside in
+    let held = process_view l.lp l.config l.process.state l.process.number l.process.stream l.past l.pending l.waiting in
+    let kept = c.args.spare.now in
+    let own = ready-own l.lp (end_of l.config) l.pending l.past c.in-Some.event c.self.invariant.own_pending c.in-Some.ensures.event in
+    let same = c.in-Err-keep.ensures.none_left.0 in
+    let left = same ∙ c.in-Ok.ensures.used ∙ ap (λ (n : ℕ). after_letters n kept) (sends-told handlers held c.in-Some.event own.0 c.in-Some.ensures.event) in
+    subst (λ (v : HeldProcess _ _ _). IsLeft (sends_of (simulation_of handlers v.config) v) kept c.keep.new.spare c.in-Err-keep.fault) c.self.view_is
+    (record {
+      memory = λ _. record { left = left; none = inr (ap (λ (k : KeptNodes). k.events) same ∙ c.in-Err-keep.ensures.none_left.1) };
+      others = λ other. absurd (other c.in-Err-keep.ensures.refused);
+    })
+
+pub returns-in_default-clause-left : goal.returns-in_default-clause-left
+returns-in_default-clause-left g c = record {
+  memory = λ is. absurd (let h : NotLawful ≡ Memory = is in cc);
+  others = λ _. refl;
+}
+
+pub returns-in_default-clause-used : goal.returns-in_default-clause-used
+returns-in_default-clause-used g c = tt
+
+pub returns-in-Err-clause-used : goal.returns-in-Err-clause-used
+returns-in-Err-clause-used g c = tt
+
+pub returns-in-Err-keep-clause-used : goal.returns-in-Err-keep-clause-used
+returns-in-Err-keep-clause-used g c = tt
+
+pub returns-clause-left : goal.returns-clause-left
+returns-clause-left g c = tt
