@@ -24,8 +24,8 @@ use Rattle.vt_outbox.specs.Outbox.{HeldOutbox}
 use Rattle.vt_kernel.specs.Held.{HeldWorker, StandsFor, AreProcesses, IsWorkerInside}
 use Rattle.vt_kernel.specs.Local.{local_step}
 use Rattle.vt_kernel.specs.Guards.{IsDone}
-use Rattle.vt_kernel.proofs.OwnSteps.{own, own-step, found, refused-at}
-use Rattle.vt_kernel.proofs.LocalLemmas.{at-found-done, plain-done}
+use Rattle.vt_kernel.proofs.OwnSteps.{at_own, own, own-step}
+use Rattle.vt_kernel.proofs.LocalLemmas.{IsOwnPlace, found-at, changed-done, changed-refused}
 
 -- what is found passes the test
 pub find-passes : {X : Type 0} (test : X → Bool) (xs : List X) (x : X) → find test xs ≡ Some x → test x ≡ true
@@ -63,47 +63,49 @@ same-worker : (w : ℕ) → nat_eq w w ≡ true
 same-worker w = elim (eqb_tells w w) [ inl e ↦ e.0 | inr e ↦ absurd (e.1 refl) ]
 
 module _ {S P K : Type 0} (handlers : Handlers S P K) (held : HeldWorker S P K) (are : AreProcesses held.config held.worker 0 held.processes) (part : Part P) (h : StandsFor handlers held part) where
+  -- the worker and its part without the first letter for one of its processes
+  abbrev letter-left : HeldWorker S P K
+  letter-left = record held { outbox = without_first (is_for (simulation_of handlers held.config) held.worker) held.outbox }
+
+  abbrev part-letter-left : Part P
+  part-letter-left = record part { outbox = without_first (is_for (simulation_of handlers held.config) held.worker) part.outbox }
+
+  letter-left-stands : StandsFor handlers letter-left part-letter-left
+  letter-left-stands = record {
+    processes = h.processes;
+    outbox = ap (without_first (is_for (simulation_of handlers held.config) held.worker)) h.outbox;
+    arrived = h.arrived;
+    colour = h.colour;
+    sent = h.sent;
+    got = h.got;
+    red_minimum = h.red_minimum;
+    floor = h.floor;
+    serial = h.serial;
+  }
+
   -- Home, where its letter was found
-  home-is : (letter : Letter P) → find (is_for (simulation_of handlers held.config) held.worker) held.outbox ≡ Some letter
+  home-is : {letter : Letter P} → find (is_for (simulation_of handlers held.config) held.worker) held.outbox ≡ Some letter → letter.event.dest % held.config.workers ≡ held.worker
       → local_step (simulation_of handlers held.config) held.worker (step.Home held.worker) part
-      ≡ at_process (accept_process letter) (letter.event.dest / held.config.workers) (record part { outbox = without_first (is_for (simulation_of handlers held.config) held.worker) part.outbox })
-  home-is letter there =
+      ≡ at_own (simulation_of handlers held.config) held.worker letter.event.dest (at_process (accept_process letter) (letter.event.dest / held.config.workers) part-letter-left)
+  home-is {letter} there own_letter =
       ap (λ (b : Bool). if b then home (simulation_of handlers held.config) held.worker part else None) (same-worker held.worker)
       ∙ ap (home_letter (simulation_of handlers held.config) held.worker part) (ap (find (is_for (simulation_of handlers held.config) held.worker)) h.outbox ∙ there)
+      ∙ sym (own (simulation_of handlers held.config) held.worker letter.event.dest (at_process (accept_process letter) (letter.event.dest / held.config.workers) part-letter-left) own_letter)
 
-  pub home-done : (letter : Letter P) (place : ℕ) (q new : HeldProcess S P K) → find (is_for (simulation_of handlers held.config) held.worker) held.outbox ≡ Some letter
-      → place ≡ letter.event.dest / held.config.workers → letter.event.dest % held.config.workers ≡ held.worker → slice_get held.processes place ≡ Some q → new.lp ≡ q.lp → new.config ≡ q.config
+  pub home-done : {letter : Letter P} {place : ℕ} {q : HeldProcess S P K} (new : HeldProcess S P K) → find (is_for (simulation_of handlers held.config) held.worker) held.outbox ≡ Some letter
+      → IsOwnPlace held.config held.worker letter.event.dest place → slice_get held.processes place ≡ Some q → (new.lp ≡ q.lp) × (new.config ≡ q.config)
       → ((process : LogicalProcess P) → ProcessStandsFor handlers q process → ProcessIsDone handlers new (accept_process letter process) [] [] 0 0)
-      → IsDone handlers (record held { processes = slice_set held.processes place new; outbox = without_first (is_for (simulation_of handlers held.config) held.worker) held.outbox })
-      (local_step (simulation_of handlers held.config) held.worker (step.Home held.worker) part)
-  home-done letter place q new there is own_letter at same_lp same_config done =
-      let sim = simulation_of handlers held.config in
-      let rest = without_first (is_for sim held.worker) held.outbox in
-      let mid = record part { outbox = without_first (is_for sim held.worker) part.outbox } in
-      let kept : without_first (is_for sim held.worker) part.outbox ≡ rest = ap (without_first (is_for sim held.worker)) h.outbox in
-      let less = record held { outbox = rest } in
-      let stands : StandsFor handlers less mid = record { processes = h.processes; outbox = kept; arrived = h.arrived; colour = h.colour; sent = h.sent; got = h.got; red_minimum = h.red_minimum; floor = h.floor; serial = h.serial } in
-      let f = found handlers less mid letter.event.dest q stands are own_letter (subst (λ k. slice_get held.processes k ≡ Some q) is at) in
-      let one = at-found-done handlers less are mid stands letter.event.dest place q new rest held.serial (accept_process letter) is own_letter f same_lp same_config
-      (plain-done handlers new (accept_process letter f.process) rest held.serial (done f.process f.stands)) in
-      subst (IsDone handlers (record held { processes = slice_set held.processes place new; outbox = rest }))
-      (own sim held.worker letter.event.dest (at_process (accept_process letter) (letter.event.dest / held.config.workers) mid) own_letter ∙ sym (home-is letter there)) one
+      → IsDone handlers (record letter-left { processes = slice_set held.processes place new }) (local_step (simulation_of handlers held.config) held.worker (step.Home held.worker) part)
+  home-done {letter} {place} new there own_place at same done =
+      subst (IsDone handlers (record letter-left { processes = slice_set held.processes place new })) (sym (home-is there own_place.1))
+      (changed-done handlers letter-left are part-letter-left letter-left-stands new (accept_process letter) own_place at same done)
 
-  pub home-refused : (letter : Letter P) (place : ℕ) (q : HeldProcess S P K) → find (is_for (simulation_of handlers held.config) held.worker) held.outbox ≡ Some letter
-      → place ≡ letter.event.dest / held.config.workers → letter.event.dest % held.config.workers ≡ held.worker → slice_get held.processes place ≡ Some q
+  pub home-refused : {letter : Letter P} {place : ℕ} {q : HeldProcess S P K} → find (is_for (simulation_of handlers held.config) held.worker) held.outbox ≡ Some letter
+      → IsOwnPlace held.config held.worker letter.event.dest place → slice_get held.processes place ≡ Some q
       → ((process : LogicalProcess P) → ProcessStandsFor handlers q process → accept_process letter process ≡ None)
       → local_step (simulation_of handlers held.config) held.worker (step.Home held.worker) part ≡ None
-  home-refused letter place q there is own_letter at none =
-      let sim = simulation_of handlers held.config in
-      let rest = without_first (is_for sim held.worker) held.outbox in
-      let mid = record part { outbox = without_first (is_for sim held.worker) part.outbox } in
-      let kept : without_first (is_for sim held.worker) part.outbox ≡ rest = ap (without_first (is_for sim held.worker)) h.outbox in
-      let less = record held { outbox = rest } in
-      let stands : StandsFor handlers less mid = record { processes = h.processes; outbox = kept; arrived = h.arrived; colour = h.colour; sent = h.sent; got = h.got; red_minimum = h.red_minimum; floor = h.floor; serial = h.serial } in
-      let f = found handlers less mid letter.event.dest q stands are own_letter (subst (λ k. slice_get held.processes k ≡ Some q) is at) in
-      home-is letter there
-      ∙ sym (own sim held.worker letter.event.dest (at_process (accept_process letter) (letter.event.dest / held.config.workers) mid) own_letter)
-      ∙ refused-at handlers less mid letter.event.dest q (accept_process letter) own_letter f (none f.process f.stands)
+  home-refused {letter} there own_place at none =
+      home-is there own_place.1 ∙ changed-refused handlers letter-left are part-letter-left letter-left-stands (accept_process letter) own_place at none
 
   pub home-nothing : find (is_for (simulation_of handlers held.config) held.worker) held.outbox ≡ None
       → local_step (simulation_of handlers held.config) held.worker (step.Home held.worker) part ≡ None
@@ -111,48 +113,70 @@ module _ {S P K : Type 0} (handlers : Handlers S P K) (held : HeldWorker S P K) 
       ap (λ (b : Bool). if b then home (simulation_of handlers held.config) held.worker part else None) (same-worker held.worker)
       ∙ ap (home_letter (simulation_of handlers held.config) held.worker part) (ap (find (is_for (simulation_of handlers held.config) held.worker)) h.outbox ∙ none)
 
-  -- Accept at place i
-  accept-is : (i : ℕ) (mail : Mail P) → slice_get held.arrived i ≡ Some mail
-      → local_step (simulation_of handlers held.config) held.worker (step.Accept held.worker i) part
-      ≡ at_process (accept_process mail.letter) (mail.letter.event.dest / held.config.workers) (record part { arrived = remove part.arrived i })
-  accept-is i mail there =
-      ap (λ (b : Bool). if b then accept (simulation_of handlers held.config) i part else None) (same-worker held.worker)
-      ∙ ap (accept_mail (simulation_of handlers held.config) i part) (ap (λ ms. slice_get ms i) h.arrived ∙ there)
+  -- ---- Accept at place i
 
-  pub accept-done : (i : ℕ) (mail : Mail P) (place : ℕ) (q new : HeldProcess S P K) → slice_get held.arrived i ≡ Some mail
-      → place ≡ mail.letter.event.dest / held.config.workers → mail.letter.event.dest % held.config.workers ≡ held.worker → slice_get held.processes place ≡ Some q → new.lp ≡ q.lp → new.config ≡ q.config
-      → ((process : LogicalProcess P) → ProcessStandsFor handlers q process → ProcessIsDone handlers new (accept_process mail.letter process) [] [] 0 0)
-      → IsDone handlers (record held { processes = slice_set held.processes place new; arrived = remove held.arrived i })
-      (local_step (simulation_of handlers held.config) held.worker (step.Accept held.worker i) part)
-  accept-done i mail place q new there is own_letter at same_lp same_config done =
-      let sim = simulation_of handlers held.config in
-      let mid = record part { arrived = remove part.arrived i } in
-      let less = record held { arrived = remove held.arrived i } in
-      let stands : StandsFor handlers less mid = record { processes = h.processes; outbox = h.outbox; arrived = ap (λ ms. remove ms i) h.arrived; colour = h.colour; sent = h.sent; got = h.got; red_minimum = h.red_minimum; floor = h.floor; serial = h.serial } in
-      let f = found handlers less mid mail.letter.event.dest q stands are own_letter (subst (λ k. slice_get held.processes k ≡ Some q) is at) in
-      let one = at-found-done handlers less are mid stands mail.letter.event.dest place q new held.outbox held.serial (accept_process mail.letter) is own_letter f same_lp same_config
-      (plain-done handlers new (accept_process mail.letter f.process) held.outbox held.serial (done f.process f.stands)) in
-      subst (IsDone handlers (record held { processes = slice_set held.processes place new; arrived = remove held.arrived i }))
-      (own sim held.worker mail.letter.event.dest (at_process (accept_process mail.letter) (mail.letter.event.dest / held.config.workers) mid) own_letter ∙ sym (accept-is i mail there)) one
+  module _ (i : ℕ) where
+    -- the worker and its part without the mail there
+    abbrev mail-left : HeldWorker S P K
+    mail-left = record held { arrived = remove held.arrived i }
 
-  pub accept-refused : (i : ℕ) (mail : Mail P) (place : ℕ) (q : HeldProcess S P K) → slice_get held.arrived i ≡ Some mail
-      → place ≡ mail.letter.event.dest / held.config.workers → mail.letter.event.dest % held.config.workers ≡ held.worker → slice_get held.processes place ≡ Some q
-      → ((process : LogicalProcess P) → ProcessStandsFor handlers q process → accept_process mail.letter process ≡ None)
-      → local_step (simulation_of handlers held.config) held.worker (step.Accept held.worker i) part ≡ None
-  accept-refused i mail place q there is own_letter at none =
-      let sim = simulation_of handlers held.config in
-      let mid = record part { arrived = remove part.arrived i } in
-      let less = record held { arrived = remove held.arrived i } in
-      let stands : StandsFor handlers less mid = record { processes = h.processes; outbox = h.outbox; arrived = ap (λ ms. remove ms i) h.arrived; colour = h.colour; sent = h.sent; got = h.got; red_minimum = h.red_minimum; floor = h.floor; serial = h.serial } in
-      let f = found handlers less mid mail.letter.event.dest q stands are own_letter (subst (λ k. slice_get held.processes k ≡ Some q) is at) in
-      accept-is i mail there
-      ∙ sym (own sim held.worker mail.letter.event.dest (at_process (accept_process mail.letter) (mail.letter.event.dest / held.config.workers) mid) own_letter)
-      ∙ refused-at handlers less mid mail.letter.event.dest q (accept_process mail.letter) own_letter f (none f.process f.stands)
+    abbrev part-mail-left : Part P
+    part-mail-left = record part { arrived = remove part.arrived i }
 
-  pub accept-nothing : (i : ℕ) → slice_get held.arrived i ≡ None → local_step (simulation_of handlers held.config) held.worker (step.Accept held.worker i) part ≡ None
-  accept-nothing i none =
-      ap (λ (b : Bool). if b then accept (simulation_of handlers held.config) i part else None) (same-worker held.worker)
-      ∙ ap (accept_mail (simulation_of handlers held.config) i part) (ap (λ ms. slice_get ms i) h.arrived ∙ none)
+    mail-left-stands : StandsFor handlers mail-left part-mail-left
+    mail-left-stands = record {
+      processes = h.processes;
+      outbox = h.outbox;
+      arrived = ap (λ ms. remove ms i) h.arrived;
+      colour = h.colour;
+      sent = h.sent;
+      got = h.got;
+      red_minimum = h.red_minimum;
+      floor = h.floor;
+      serial = h.serial;
+    }
+
+    -- Accept, where there is mail
+    accept-is : {mail : Mail P} → slice_get held.arrived i ≡ Some mail → mail.letter.event.dest % held.config.workers ≡ held.worker
+        → local_step (simulation_of handlers held.config) held.worker (step.Accept held.worker i) part
+        ≡ at_own (simulation_of handlers held.config) held.worker mail.letter.event.dest (at_process (accept_process mail.letter) (mail.letter.event.dest / held.config.workers) part-mail-left)
+    accept-is {mail} there own_letter =
+        ap (λ (b : Bool). if b then accept (simulation_of handlers held.config) i part else None) (same-worker held.worker)
+        ∙ ap (accept_mail (simulation_of handlers held.config) i part) (ap (λ ms. slice_get ms i) h.arrived ∙ there)
+        ∙ sym (own (simulation_of handlers held.config) held.worker mail.letter.event.dest (at_process (accept_process mail.letter) (mail.letter.event.dest / held.config.workers) part-mail-left) own_letter)
+
+    pub accept-done : {mail : Mail P} {place : ℕ} {q : HeldProcess S P K} (new : HeldProcess S P K) → slice_get held.arrived i ≡ Some mail
+        → IsOwnPlace held.config held.worker mail.letter.event.dest place → slice_get held.processes place ≡ Some q → (new.lp ≡ q.lp) × (new.config ≡ q.config)
+        → ((process : LogicalProcess P) → ProcessStandsFor handlers q process → ProcessIsDone handlers new (accept_process mail.letter process) [] [] 0 0)
+        → IsDone handlers (record mail-left { processes = slice_set held.processes place new }) (local_step (simulation_of handlers held.config) held.worker (step.Accept held.worker i) part)
+    accept-done {mail} {place} new there own_place at same done =
+        subst (IsDone handlers (record mail-left { processes = slice_set held.processes place new })) (sym (accept-is there own_place.1))
+        (changed-done handlers mail-left are part-mail-left mail-left-stands new (accept_process mail.letter) own_place at same done)
+
+    pub accept-refused : {mail : Mail P} {place : ℕ} {q : HeldProcess S P K} → slice_get held.arrived i ≡ Some mail
+        → IsOwnPlace held.config held.worker mail.letter.event.dest place → slice_get held.processes place ≡ Some q
+        → ((process : LogicalProcess P) → ProcessStandsFor handlers q process → accept_process mail.letter process ≡ None)
+        → local_step (simulation_of handlers held.config) held.worker (step.Accept held.worker i) part ≡ None
+    accept-refused {mail} there own_place at none =
+        accept-is there own_place.1 ∙ changed-refused handlers mail-left are part-mail-left mail-left-stands (accept_process mail.letter) own_place at none
+
+    -- of a letter that its process does not hold it is lawful
+    pub accept-lawful : {mail : Mail P} {place : ℕ} {q : HeldProcess S P K} → slice_get held.arrived i ≡ Some mail
+        → IsOwnPlace held.config held.worker mail.letter.event.dest place → slice_get held.processes place ≡ Some q
+        → holds_letter q.pending q.waiting q.past mail.letter.sign mail.letter.event.rank ≡ false
+        → (new : Part P) × (local_step (simulation_of handlers held.config) held.worker (step.Accept held.worker i) part ≡ Some new)
+    accept-lawful {mail} {place} {q} there own_place at new =
+        let f = found-at handlers mail-left are part-mail-left mail-left-stands own_place at in (
+          with_effect part-mail-left (mail.letter.event.dest / held.config.workers) (accepted handlers f.process mail.letter.sign mail.letter),
+          accept-is there own_place.1
+              ∙ own-step (simulation_of handlers held.config) held.worker mail.letter.event.dest (accept_process mail.letter) part-mail-left f.process own_place.1 f.there
+              ∙ ap (option_map (with_effect part-mail-left (mail.letter.event.dest / held.config.workers))) (accept-by handlers q f.process mail.letter false new f.stands),
+        )
+
+    pub accept-nothing : slice_get held.arrived i ≡ None → local_step (simulation_of handlers held.config) held.worker (step.Accept held.worker i) part ≡ None
+    accept-nothing none =
+        ap (λ (b : Bool). if b then accept (simulation_of handlers held.config) i part else None) (same-worker held.worker)
+        ∙ ap (accept_mail (simulation_of handlers held.config) i part) (ap (λ ms. slice_get ms i) h.arrived ∙ none)
 
 -- a letter that was found in the outbox is for one of the worker's processes, before the end of the run
 pub found-in : {S P K : Type 0} {config : Config} {w : ℕ} {processes : List (HeldProcess S P K)} {outbox : HeldOutbox P} {arrived : List (Mail P)} {sent got : Counts} {serial : ℕ} {contest : Contest}
@@ -162,25 +186,6 @@ found-in {config = config} {w = w} {outbox = outbox} h letter is = (
   for-worker config.workers w letter.event.dest (find-passes (λ l. nat_eq (l.event.dest % config.workers) w) outbox.letters letter is),
   find-all (IsWithinRun config.lps (end_of config)) (λ l. nat_eq (l.event.dest % config.workers) w) outbox.letters letter h.sendable is,
 )
-
--- Accept of a letter that its process does not hold is lawful
-pub accept-lawful : {S P K : Type 0} (handlers : Handlers S P K) (held : HeldWorker S P K) (are : AreProcesses held.config held.worker 0 held.processes) (part : Part P) (h : StandsFor handlers held part)
-    (i : ℕ) (mail : Mail P) (place : ℕ) (q : HeldProcess S P K) → slice_get held.arrived i ≡ Some mail
-    → place ≡ mail.letter.event.dest / held.config.workers → mail.letter.event.dest % held.config.workers ≡ held.worker → slice_get held.processes place ≡ Some q
-    → holds_letter q.pending q.waiting q.past mail.letter.sign mail.letter.event.rank ≡ false
-    → (new : Part P) × (local_step (simulation_of handlers held.config) held.worker (step.Accept held.worker i) part ≡ Some new)
-accept-lawful handlers held are part h i mail place q there is own_letter at new =
-    let sim = simulation_of handlers held.config in
-    let mid = record part { arrived = remove part.arrived i } in
-    let less = record held { arrived = remove held.arrived i } in
-    let stands : StandsFor handlers less mid = record { processes = h.processes; outbox = h.outbox; arrived = ap (λ ms. remove ms i) h.arrived; colour = h.colour; sent = h.sent; got = h.got; red_minimum = h.red_minimum; floor = h.floor; serial = h.serial } in
-    let f = found handlers less mid mail.letter.event.dest q stands are own_letter (subst (λ k. slice_get held.processes k ≡ Some q) is at) in (
-      with_effect mid (mail.letter.event.dest / held.config.workers) (accepted handlers f.process mail.letter.sign mail.letter),
-      accept-is handlers held are part h i mail there
-          ∙ sym (own sim held.worker mail.letter.event.dest (at_process (accept_process mail.letter) (mail.letter.event.dest / held.config.workers) mid) own_letter)
-          ∙ own-step sim held.worker mail.letter.event.dest (accept_process mail.letter) mid f.process own_letter f.there
-          ∙ ap (option_map (with_effect mid (mail.letter.event.dest / held.config.workers))) (accept-by handlers q f.process mail.letter false new f.stands),
-    )
 
 -- what all have, those have that are left when one is removed
 pub removed-all : {X : Type 0} (Q : X → Type 0) (xs : List X) (i : ℕ) → All Q xs → All Q (remove xs i)

@@ -1,5 +1,5 @@
 -- A local step at one process: what stays of how a worker's fields go together, and what the step does to the part.
-use Rattle.std.proofs.Common.{◌≡◌, ℕ, Bool, zero, suc, ◌+◌, ◌-◌, ◌/◌, ◌%◌, ◌<◌, ◌≤◌, inl, inr, List, [], ◌∷◌, ◌++◌, map, length, refl, sym, ◌∙◌, ap, subst, arith, Option, Some, None, Result, Ok, Err, IfOk, IfErr, if◌then◌else◌, slice_get, slice_set, slice_index_or}
+use Rattle.std.proofs.Common.{◌≡◌, ℕ, Bool, zero, suc, ◌+◌, ◌-◌, ◌/◌, ◌%◌, ◌<◌, ◌≤◌, inl, inr, List, [], ◌∷◌, ◌++◌, append-nil, map, length, refl, sym, ◌∙◌, ap, subst, arith, Option, Some, None, Result, Ok, Err, IfOk, IfErr, if◌then◌else◌, slice_get, slice_set, slice_index_or}
 use Rattle.std.proofs.Math.ListN.{length-set}
 use Rattle.std.proofs.lemmas.Bool.{eq-eqb}
 use Rattle.std.proofs.lemmas.Bool.Decides.{eqb_tells}
@@ -25,23 +25,24 @@ use Rattle.vt_contest.proofs.Written.{put-there}
 use Rattle.vt_outbox.specs.Outbox.{HeldOutbox}
 use Rattle.vt_kernel.specs.Held.{HeldWorker, IsWorkerInside, StandsFor, AreProcesses, process_of}
 use Rattle.vt_kernel.specs.Guards.{IsDone}
+use Rattle.vt_kernel.specs.declared.kernel.Kernel.TheInside.{Inside}
 use Rattle.vt_kernel.proofs.ProcessLemmas.{process-at, processes-changed, place-known, place-unknown, get-past}
 use Rattle.vt_kernel.proofs.OwnSteps.{at_own, not-own, no-process, found, done-at, refused-at, IsFound}
 
--- what a contract sees of a worker with these fields
-abbrev pub worker_view : {S P K : Type 0} → ℕ → Config → List (HeldProcess S P K) → List (Letter P) → List (Mail P) → Colour → Counts → Counts → Time → Time → ℕ → HeldWorker S P K
-worker_view worker config processes outbox arrived colour sent got red_minimum floor serial = record {
-  worker = worker;
-  config = config;
-  processes = processes;
-  outbox = outbox;
-  arrived = arrived;
-  colour = colour;
-  sent = sent;
-  got = got;
-  red_minimum = red_minimum;
-  floor = floor;
-  serial = serial;
+-- what a contract sees of a worker with this inside
+abbrev pub view_of : {M S P K : Type 0} → Inside M S P K → HeldWorker S P K
+view_of i = record {
+  worker = i.worker;
+  config = i.config;
+  processes = i.processes.items;
+  outbox = i.outbox.letters;
+  arrived = i.arrived.items;
+  colour = i.colour;
+  sent = i.sent;
+  got = i.got;
+  red_minimum = i.red_minimum;
+  floor = i.floor;
+  serial = i.serial;
 }
 
 -- what an index finds is there
@@ -57,8 +58,8 @@ IsOwnPlace config w p place = (place ≡ p / config.workers) × (p % config.work
 module _ {S P K : Type 0} {config : Config} {w : ℕ} {processes : List (HeldProcess S P K)} {outbox : HeldOutbox P} {arrived : List (Mail P)} {sent got : Counts} {serial : ℕ} {contest : Contest}
     (h : IsWorkerInside config w processes outbox arrived sent got serial contest) where
   -- the place of one of the worker's processes is within
-  pub place-within : (p place : ℕ) → IsOwnPlace config w p place → place < length processes
-  place-within p place own =
+  pub place-within : {p place : ℕ} → IsOwnPlace config w p place → place < length processes
+  place-within {p} own =
       let some : 1 ≤ config.workers = (let few = h.known in omega (arith, few)) in
       let known = place-known config.lps config.workers w p some own.2 own.1 in
       let all = h.all_there in
@@ -67,15 +68,15 @@ module _ {S P K : Type 0} {config : Config} {w : ℕ} {processes : List (HeldPro
 
   -- a process that has changed and has entered the contest again, with what was made by it
   pub inside-changed : (place : ℕ) {q : HeldProcess S P K} (new : HeldProcess S P K) {letters : HeldOutbox P} {next : ℕ} {now : List (HeldProcess S P K)} {new_contest : Contest}
-      → slice_get processes place ≡ Some q → new.lp ≡ q.lp → new.config ≡ q.config → now ≡ slice_set processes place new
+      → slice_get processes place ≡ Some q → (new.lp ≡ q.lp) × (new.config ≡ q.config) → now ≡ slice_set processes place new
       → IsContestOf now new_contest → AllWithinRun config letters.letters → letters.config ≡ config → next ≤ MAX_COUNT
       → IsWorkerInside config w (slice_set processes place new) letters arrived sent got next new_contest
-  inside-changed place {q} new {letters} {next} {now} {new_contest} at same_lp same_config is in_contest within by few =
+  inside-changed place {q} new {letters} {next} {now} {new_contest} at same is in_contest within by few =
       let who = process-at config w 0 place processes q h.own_processes at in
       record {
         known = h.known;
         all_there = length-set processes place new ∙ h.all_there;
-        own_processes = processes-changed config w 0 place processes new h.own_processes (same_lp ∙ who.0) (same_config ∙ who.1);
+        own_processes = processes-changed config w 0 place processes new h.own_processes (same.0 ∙ who.0) (same.1 ∙ who.1);
         sendable = within;
         by_worker = by;
         own_mail = h.own_mail;
@@ -93,20 +94,27 @@ stand-length sim w base [] (q ∷ qs) h = absurd h
 stand-length sim w base (m ∷ ms) [] h = absurd h
 stand-length sim w base (m ∷ ms) (q ∷ qs) h = (let rest = stand-length sim w (base + 1) ms qs h.1 in omega (arith, rest))
 
--- a step that sends nothing and takes no serial leaves the outbox and the serial
-pub plain-done : {S P K : Type 0} (handlers : Handlers S P K) (new : HeldProcess S P K) (step : Option (ProcessEffect P)) (outbox : List (Letter P)) (serial : ℕ)
-    → ProcessIsDone handlers new step [] [] 0 0 → ProcessIsDone handlers new step outbox outbox serial serial
-plain-done handlers new step outbox serial done = record {
+-- a step that takes no serial leaves any serial
+pub no-serial : {S P K : Type 0} (handlers : Handlers S P K) (new : HeldProcess S P K) (step : Option (ProcessEffect P)) (outbox new_outbox : List (Letter P)) (serial : ℕ)
+    → ProcessIsDone handlers new step outbox new_outbox 0 0 → ProcessIsDone handlers new step outbox new_outbox serial serial
+no-serial handlers new step outbox new_outbox serial done = record {
   effect = done.effect;
   lawful = done.lawful;
   stands = done.stands;
-  letters = sym (append-nothing outbox) ∙ ap (λ ls. outbox ++ ls) done.letters;
+  letters = done.letters;
   serials = (let none = done.serials in omega (arith, none));
 }
-  where
-    append-nothing : {X : Type 0} (xs : List X) → xs ++ [] ≡ xs
-    append-nothing [] = refl
-    append-nothing (x ∷ xs) = ap (λ ys. x ∷ ys) (append-nothing xs)
+
+-- a step that sends nothing and takes no serial leaves the outbox and the serial
+pub plain-done : {S P K : Type 0} (handlers : Handlers S P K) (new : HeldProcess S P K) (step : Option (ProcessEffect P)) (outbox : List (Letter P)) (serial : ℕ)
+    → ProcessIsDone handlers new step [] [] 0 0 → ProcessIsDone handlers new step outbox outbox serial serial
+plain-done handlers new step outbox serial done = no-serial handlers new step outbox outbox serial (record {
+  effect = done.effect;
+  lawful = done.lawful;
+  stands = done.stands;
+  letters = sym (append-nil outbox) ∙ ap (λ ls. outbox ++ ls) done.letters;
+  serials = done.serials;
+})
 
 module _ {S P K : Type 0} (handlers : Handlers S P K) (held : HeldWorker S P K) (are : AreProcesses held.config held.worker 0 held.processes) (part : Part P) (h : StandsFor handlers held part) where
   -- a step at a process that is none of the worker's is not lawful
@@ -123,25 +131,38 @@ module _ {S P K : Type 0} (handlers : Handlers S P K) (held : HeldWorker S P K) 
         | inr e ↦ not-own (simulation_of handlers held.config) held.worker p (at_process step (p / held.config.workers) part) e.1
       ]
 
-  -- what is done at a process is done at the worker
-  pub changed-done : (p place : ℕ) (q new : HeldProcess S P K) (outbox : List (Letter P)) (serial : ℕ) (step : LogicalProcess P → Option (ProcessEffect P))
-      → place ≡ p / held.config.workers → p % held.config.workers ≡ held.worker → slice_get held.processes place ≡ Some q → new.lp ≡ q.lp → new.config ≡ q.config
-      → ((process : LogicalProcess P) → ProcessStandsFor handlers q process → ProcessIsDone handlers new (step process) held.outbox outbox held.serial serial)
+  -- the process at its place, in memory and in the part
+  pub found-at : {p place : ℕ} {q : HeldProcess S P K} → IsOwnPlace held.config held.worker p place → slice_get held.processes place ≡ Some q → IsFound handlers held part p q
+  found-at {p} {place} {q} own at = found handlers held part p q h are own.1 (subst (λ k. slice_get held.processes k ≡ Some q) own.0 at)
+
+  -- what is done at the process that was found is done at the worker
+  pub at-found-done : {p place : ℕ} {q : HeldProcess S P K} (new : HeldProcess S P K) (outbox : List (Letter P)) (serial : ℕ) (step : LogicalProcess P → Option (ProcessEffect P))
+      → IsOwnPlace held.config held.worker p place → (f : IsFound handlers held part p q) → (new.lp ≡ q.lp) × (new.config ≡ q.config)
+      → ProcessIsDone handlers new (step f.process) held.outbox outbox held.serial serial
       → IsDone handlers (record held { processes = slice_set held.processes place new; outbox = outbox; serial = serial })
       (at_own (simulation_of handlers held.config) held.worker p (at_process step (p / held.config.workers) part))
-  changed-done p place q new outbox serial step is own at same_lp same_config done =
-      let f = found handlers held part p q h are own (subst (λ k. slice_get held.processes k ≡ Some q) is at) in
+  at-found-done {p} {place} {q} new outbox serial step own f same done =
       subst (λ k. IsDone handlers (record held { processes = slice_set held.processes k new; outbox = outbox; serial = serial }) (at_own (simulation_of handlers held.config) held.worker p (at_process step (p / held.config.workers) part)))
-      (sym is) (done-at handlers held part p q new outbox serial step h own f same_lp same_config (done f.process f.stands))
+      (sym own.0) (done-at handlers held part p q new outbox serial step h own.1 f same.0 same.1 done)
+
+  -- what is done at a process, with no serial and nothing sent, is done at the worker
+  pub changed-done : {p place : ℕ} {q : HeldProcess S P K} (new : HeldProcess S P K) (step : LogicalProcess P → Option (ProcessEffect P))
+      → IsOwnPlace held.config held.worker p place → slice_get held.processes place ≡ Some q → (new.lp ≡ q.lp) × (new.config ≡ q.config)
+      → ((process : LogicalProcess P) → ProcessStandsFor handlers q process → ProcessIsDone handlers new (step process) [] [] 0 0)
+      → IsDone handlers (record held { processes = slice_set held.processes place new })
+      (at_own (simulation_of handlers held.config) held.worker p (at_process step (p / held.config.workers) part))
+  changed-done new step own at same done =
+      let f = found-at own at in
+      at-found-done new held.outbox held.serial step own f same (plain-done handlers new (step f.process) held.outbox held.serial (done f.process f.stands))
 
   -- what is not lawful at a process is not at the worker
-  pub changed-refused : (p place : ℕ) (q : HeldProcess S P K) (step : LogicalProcess P → Option (ProcessEffect P))
-      → place ≡ p / held.config.workers → p % held.config.workers ≡ held.worker → slice_get held.processes place ≡ Some q
+  pub changed-refused : {p place : ℕ} {q : HeldProcess S P K} (step : LogicalProcess P → Option (ProcessEffect P))
+      → IsOwnPlace held.config held.worker p place → slice_get held.processes place ≡ Some q
       → ((process : LogicalProcess P) → ProcessStandsFor handlers q process → step process ≡ None)
       → at_own (simulation_of handlers held.config) held.worker p (at_process step (p / held.config.workers) part) ≡ None
-  changed-refused p place q step is own at none =
-      let f = found handlers held part p q h are own (subst (λ k. slice_get held.processes k ≡ Some q) is at) in
-      refused-at handlers held part p q step own f (none f.process f.stands)
+  changed-refused {p} {place} {q} step own at none =
+      let f = found-at own at in
+      refused-at handlers held part p q step own.1 f (none f.process f.stands)
 
 -- a process that was written as it was leaves them all
 pub written-same : {X : Type 0} (xs : List X) (i : ℕ) (old new : X) → slice_get xs i ≡ Some old → new ≡ old → slice_set xs i new ≡ xs
@@ -151,11 +172,10 @@ pub written-back : {X : Type 0} (xs : List X) (i : ℕ) {old new : X} → i < le
 written-back xs i {old} {new} within is same = written-same xs i old new (index-get xs i old within (sym is)) same
 
 -- the process that was found is that of its number
-pub own-process : {S P K : Type 0} (held : HeldWorker S P K) (p place : ℕ) (q : HeldProcess S P K)
-    → place ≡ p / held.config.workers → p % held.config.workers ≡ held.worker → slice_get held.processes place ≡ Some q → process_of held p ≡ Some q
-own-process held p place q is own there =
-    ap (λ (b : Bool). if b then slice_get held.processes (p / held.config.workers) else None) (eq-eqb (p % held.config.workers) held.worker own)
-    ∙ ap (λ k. slice_get held.processes k) (sym is) ∙ there
+pub own-process : {S P K : Type 0} (held : HeldWorker S P K) {p place : ℕ} {q : HeldProcess S P K} → IsOwnPlace held.config held.worker p place → slice_get held.processes place ≡ Some q → process_of held p ≡ Some q
+own-process held {p} own there =
+    ap (λ (b : Bool). if b then slice_get held.processes (p / held.config.workers) else None) (eq-eqb (p % held.config.workers) held.worker own.1)
+    ∙ ap (λ k. slice_get held.processes k) (sym own.0) ∙ there
 
 -- ---- results
 
@@ -163,28 +183,6 @@ own-process held p place q is own there =
 pub either-way : {A E : Type 0} {Q : A → Type 0} {R : E → Type 0} {T : Type 0} (result : Result A E) → ((a : A) → Q a → T) → ((e : E) → R e → T) → IfOk result Q → IfErr result R → T
 either-way (Ok a) done refused h k = done a h
 either-way (Err e) done refused h k = refused e k
-
--- what is done at the process that was found is done at the worker
-pub at-found-done : {S P K : Type 0} (handlers : Handlers S P K) (held : HeldWorker S P K) (are : AreProcesses held.config held.worker 0 held.processes) (part : Part P) (h : StandsFor handlers held part)
-    (p place : ℕ) (q new : HeldProcess S P K) (outbox : List (Letter P)) (serial : ℕ) (step : LogicalProcess P → Option (ProcessEffect P))
-    → place ≡ p / held.config.workers → p % held.config.workers ≡ held.worker → (f : IsFound handlers held part p q) → new.lp ≡ q.lp → new.config ≡ q.config
-    → ProcessIsDone handlers new (step f.process) held.outbox outbox held.serial serial
-    → IsDone handlers (record held { processes = slice_set held.processes place new; outbox = outbox; serial = serial })
-    (at_own (simulation_of handlers held.config) held.worker p (at_process step (p / held.config.workers) part))
-at-found-done handlers held are part h p place q new outbox serial step is own f same_lp same_config done =
-    subst (λ k. IsDone handlers (record held { processes = slice_set held.processes k new; outbox = outbox; serial = serial }) (at_own (simulation_of handlers held.config) held.worker p (at_process step (p / held.config.workers) part)))
-    (sym is) (done-at handlers held part p q new outbox serial step h own f same_lp same_config done)
-
--- a step that takes no serial leaves any serial
-pub no-serial : {S P K : Type 0} (handlers : Handlers S P K) (new : HeldProcess S P K) (step : Option (ProcessEffect P)) (outbox new_outbox : List (Letter P)) (serial : ℕ)
-    → ProcessIsDone handlers new step outbox new_outbox 0 0 → ProcessIsDone handlers new step outbox new_outbox serial serial
-no-serial handlers new step outbox new_outbox serial done = record {
-  effect = done.effect;
-  lawful = done.lawful;
-  stands = done.stands;
-  letters = done.letters;
-  serials = (let none = done.serials in omega (arith, none));
-}
 
 pub both-errors : {A E : Type 0} {Q R T : E → Type 0} (result : Result A E) → ((e : E) → Q e → R e → T e) → IfErr result Q → IfErr result R → IfErr result T
 both-errors (Ok a) more h k = h

@@ -1,5 +1,5 @@
 -- What a process sent, put behind all letters of the outbox.
-use Rattle.std.proofs.Common.{◌≡◌, ◌∙◌, ◌≤◌, ℕ, List, [], ◌++◌, append-nil, sym, ap, subst, Option, slice_set, slice_index_or}
+use Rattle.std.proofs.Common.{◌≡◌, ◌∙◌, ◌≤◌, ℕ, List, [], ◌++◌, append-nil, sym, ap, subst, Option, Some, slice_get, slice_set}
 use Rattle.std.proofs.lemmas.List.Elements.{All-append, All-nil}
 use Rattle.vt_key.specs.declared.limits.TheConstants.{MAX_COUNT}
 use Rattle.vt_key.specs.declared.letter.Letter.{Letter}
@@ -15,11 +15,10 @@ use Rattle.vt_lp.specs.Guards.{IsDone as ProcessIsDone}
 use Rattle.vt_contest.specs.declared.contest.Contest.{Contest}
 use Rattle.vt_contest.specs.Contest.{IsContestOf}
 use Rattle.vt_outbox.specs.Outbox.{HeldOutbox}
-use Rattle.vt_kernel.specs.Held.{IsWorkerInside}
+use Rattle.vt_kernel.specs.Held.{HeldWorker, IsWorkerInside}
 use Rattle.vt_kernel.specs.Settled.{IsSettledTo}
 use Rattle.vt_kernel.proofs.ProcessLemmas.{process-at}
-use Rattle.vt_kernel.proofs.LocalLemmas.{IsOwnPlace, inside-changed}
-use Rattle.vt_kernel.proofs.ReentryLemmas.{process-there}
+use Rattle.vt_kernel.proofs.LocalLemmas.{inside-changed, written-same}
 
 module _ {P : Type 0} (outbox : HeldOutbox P) {put : HeldOutbox P} (sent : List (Letter P)) {empty : List (Letter P)} (none : empty ≡ []) (is : put ≡ record outbox { letters = outbox.letters ++ sent }) where
   behind : put.letters ≡ outbox.letters ++ sent
@@ -31,6 +30,12 @@ module _ {P : Type 0} (outbox : HeldOutbox P) {put : HeldOutbox P} (sent : List 
 
   pub put-nothing : sent ≡ empty → put ≡ outbox
   put-nothing same = is ∙ (λ j. record outbox { letters = (sym behind ∙ put-kept same) j })
+
+  -- where the process was written as it was too, the worker is seen as before
+  pub put-seen : {S K : Type 0} (held : HeldWorker S P K) (place : ℕ) {old new : HeldProcess S P K} {serial : ℕ} → slice_get held.processes place ≡ Some old → held.outbox ≡ outbox.letters
+      → new ≡ old → sent ≡ empty → serial ≡ held.serial → record held { processes = slice_set held.processes place new; outbox = put.letters; serial = serial } ≡ held
+  put-seen held place {old} {new} at same_outbox same kept still =
+      λ j. record held { processes = written-same held.processes place old new at same j; outbox = (put-kept kept ∙ sym same_outbox) j; serial = still j }
 
   put-letters : (letters : List (Letter P)) → sent ≡ empty ++ letters → put.letters ≡ outbox.letters ++ letters
   put-letters letters made = behind ∙ ap (λ (ls : List (Letter P)). outbox.letters ++ ls) (made ∙ ap (λ (ls : List (Letter P)). ls ++ letters) none)
@@ -65,13 +70,12 @@ module _ {P : Type 0} (outbox : HeldOutbox P) {put : HeldOutbox P} (sent : List 
   -- how a worker's fields go together once one of its processes has changed and entered the contest again
   module _ {S K : Type 0} {config : Config} {w : ℕ} {processes : List (HeldProcess S P K)} {arrived : List (Mail P)} {out got : Counts} {serial : ℕ} {contest : Contest}
       (h : IsWorkerInside config w processes outbox arrived out got serial contest) where
-    pub inside-put : (p place : ℕ) {old : HeldProcess S P K} (new : HeldProcess S P K) {now : List (HeldProcess S P K)} {entered : Contest} {next : ℕ}
-        → IsOwnPlace config w p place → slice_index_or processes place old ≡ old → (new.lp ≡ old.lp) × (new.config ≡ old.config) → now ≡ slice_set processes place new → IsContestOf now entered
+    pub inside-put : (place : ℕ) {old : HeldProcess S P K} (new : HeldProcess S P K) {now : List (HeldProcess S P K)} {entered : Contest} {next : ℕ}
+        → slice_get processes place ≡ Some old → (new.lp ≡ old.lp) × (new.config ≡ old.config) → now ≡ slice_set processes place new → IsContestOf now entered
         → (AllWithinRun old.config empty → AllWithinRun old.config sent) → next ≤ MAX_COUNT → IsWorkerInside config w (slice_set processes place new) put arrived out got next entered
-    inside-put p place {old} new own found same now_is in_contest more few =
-        let at = process-there h p place own found in
+    inside-put place {old} new at same now_is in_contest more few =
         let each = IsWithinRun {P = P} config.lps (end_of config) in
         let within = subst (λ (k : Config). AllWithinRun k empty → AllWithinRun k sent) (process-at config w 0 place processes old h.own_processes at).1 more in
-        inside-changed h place new at same.0 same.1 now_is in_contest
+        inside-changed h place new at same now_is in_contest
         (subst (AllWithinRun config) (sym behind) (All-append each outbox.letters sent h.sendable (within (subst (AllWithinRun config) (sym none) (All-nil each)))))
         (ap (λ (o : HeldOutbox P). o.config) is ∙ h.by_worker) few

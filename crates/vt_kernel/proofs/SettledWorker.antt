@@ -13,9 +13,10 @@ use Rattle.vt_kernel.specs.Held.{HeldWorker, StandsFor, AreProcesses}
 use Rattle.vt_kernel.specs.Guards.{SettlesTo}
 use Rattle.vt_kernel.specs.Settled.{LedTo, IsSettledTo}
 use Rattle.vt_kernel.proofs.ProcessLemmas.{stands-after}
-use Rattle.vt_kernel.proofs.OwnSteps.{found, IsFound}
+use Rattle.vt_kernel.proofs.PartLemmas.{stands_along}
+use Rattle.vt_kernel.proofs.OwnSteps.{IsFound}
 use Rattle.vt_kernel.proofs.SettlingLemmas.{led-at, are-settling, settled-at}
-use Rattle.vt_kernel.proofs.LocalLemmas.{IsOwnPlace, unknown-refused}
+use Rattle.vt_kernel.proofs.LocalLemmas.{IsOwnPlace, found-at, unknown-refused}
 
 module _ {S P K : Type 0} (handlers : Handlers S P K) (held : HeldWorker S P K) (are : AreProcesses held.config held.worker 0 held.processes) (part : Part P) (h : StandsFor handlers held part) where
   -- at a process that is none of the worker's there is nothing to settle
@@ -59,24 +60,24 @@ module _ {S P K : Type 0} (handlers : Handlers S P K) (held : HeldWorker S P K) 
       )
 
   -- what settles the process at a place
-  pub settled-worker : (p place count : ℕ) (q new : HeldProcess S P K) (outbox : List (Letter P)) → place ≡ p / held.config.workers → p % held.config.workers ≡ held.worker
-      → slice_get held.processes place ≡ Some q → new.lp ≡ q.lp → new.config ≡ q.config
+  pub settled-worker : {p place : ℕ} (count : ℕ) {q : HeldProcess S P K} (new : HeldProcess S P K) (outbox : List (Letter P)) → IsOwnPlace held.config held.worker p place
+      → slice_get held.processes place ≡ Some q → (new.lp ≡ q.lp) × (new.config ≡ q.config)
       → ((process : LogicalProcess P) → ProcessStandsFor handlers q process → IsSettledTo handlers process new held.outbox outbox count)
       → (after : Part P) × SettlesTo (simulation_of handlers held.config) held.worker p part after count
       × StandsFor handlers (record held { processes = slice_set held.processes place new; outbox = outbox }) after
-  settled-worker p place count q new outbox is own at same_lp same_config settled =
-      let f = found handlers held part p q h are own (subst (λ k. slice_get held.processes k ≡ Some q) is at) in
+  settled-worker {p} {place} count {q} new outbox own at same settled =
+      let f = found-at handlers held are part h own at in
       subst (λ k. (after : Part P) × SettlesTo (simulation_of handlers held.config) held.worker p part after count
-      × StandsFor handlers (record held { processes = slice_set held.processes k new; outbox = outbox }) after) (sym is)
-      (found-settled p count q new outbox own f same_lp same_config (settled f.process f.stands))
+      × StandsFor handlers (record held { processes = slice_set held.processes k new; outbox = outbox }) after) (sym own.0)
+      (found-settled p count q new outbox own.1 f same.0 same.1 (settled f.process f.stands))
 
 -- the same of a worker as contracts see it
 pub settled-seen : {S P K : Type 0} (handlers : Handlers S P K) {held seen : HeldWorker S P K} → held ≡ seen → AreProcesses held.config held.worker 0 held.processes → (part : Part P) → StandsFor handlers seen part
-    → (p place count : ℕ) {q : HeldProcess S P K} (new : HeldProcess S P K) (outbox : List (Letter P)) → IsOwnPlace held.config held.worker p place → slice_get held.processes place ≡ Some q → (new.lp ≡ q.lp) × (new.config ≡ q.config)
+    → {p place : ℕ} (count : ℕ) {q : HeldProcess S P K} (new : HeldProcess S P K) (outbox : List (Letter P)) → IsOwnPlace held.config held.worker p place → slice_get held.processes place ≡ Some q → (new.lp ≡ q.lp) × (new.config ≡ q.config)
     → ((process : LogicalProcess P) → ProcessStandsFor handlers q process → IsSettledTo handlers process new held.outbox outbox count)
     → (after : Part P) × SettlesTo (simulation_of handlers seen.config) seen.worker p part after count
     × StandsFor handlers (record held { processes = slice_set held.processes place new; outbox = outbox }) after
-settled-seen {S} {P} {K} handlers {held} seen_is are part s p place count {q} new outbox own at same settled =
+settled-seen {S} {P} {K} handlers {held} seen_is are part s {p} {place} count new outbox own at same settled =
     subst (λ (v : HeldWorker S P K). (after : Part P) × SettlesTo (simulation_of handlers v.config) v.worker p part after count
     × StandsFor handlers (record held { processes = slice_set held.processes place new; outbox = outbox }) after) seen_is
-    (settled-worker handlers held are part (subst (λ (v : HeldWorker S P K). StandsFor handlers v part) (sym seen_is) s) p place count q new outbox own.0 own.1 at same.0 same.1 settled)
+    (settled-worker handlers held are part (stands_along seen_is handlers part s) count new outbox own at same settled)

@@ -5,14 +5,14 @@ use Rattle.vt_contest.specs.Contest.{IsContestOf, HasForgottenEvents}
 use Rattle.vt_contest.proofs.ContestLemmas.{contest-before}
 use Rattle.vt_kernel.proofs.CommitLemmas.{one-forgotten}
 use Rattle.vt_kernel.proofs.LocalLemmas.{index-get, written-back}
-use Rattle.vt_kernel.proofs.ReentryLemmas.{in-changed}
+use Rattle.vt_kernel.proofs.ReentryLemmas.{still-there}
 use Rattle.vt_kernel.proofs.committing.forget_at.Goals as goal
 
 pub enter_forgotten-requires-clause-there : goal.enter_forgotten-requires-clause-there
 enter_forgotten-requires-clause-there g c κs within =
     let old = c.args.processes.now.items in
     let at = index-get old c.args.place c.index_mut.result.now c.requires.there (sym c.index_mut.ensures.value) in
-    in-changed old c.deref.result.now c.args.place c.index_mut.result.now c.fossil_into.new.self at c.deref.ensures.value
+    still-there old c.fossil_into.new.self at c.deref.ensures.value
 
 pub enter_forgotten-requires-clause-was : goal.enter_forgotten-requires-clause-was
 enter_forgotten-requires-clause-was g c κs within =

@@ -1,70 +1,63 @@
-use Rattle.std.proofs.Common.{rules, ◌≡◌, None, slice_set, List, sym, subst}
+use Rattle.std.proofs.Common.{rules, ◌≡◌, None, Some, slice_get, slice_set, List, sym, subst}
 use Rattle.vt_model.specs.Simulation.{simulation_of}
 use Rattle.vt_steps.specs.ProcessSteps.{cancel_process}
 use Rattle.vt_steps.specs.declared.step.Step.TheVariants as step
 use Rattle.vt_lp.specs.Held.{HeldProcess}
-use Rattle.vt_kernel.specs.Held.{HeldWorker, IsWorkerInside, StandsFor}
+use Rattle.vt_kernel.specs.Held.{HeldWorker, IsWorkerInside}
 use Rattle.vt_kernel.specs.Local.{local_step}
 use Rattle.vt_kernel.specs.Guards.{IsDone}
-use Rattle.vt_kernel.proofs.LocalLemmas.{worker_view, place-within, inside-changed, unknown-refused, changed-done, changed-refused, plain-done, written-same}
+use Rattle.vt_kernel.proofs.PartLemmas.{stands_along}
+use Rattle.vt_kernel.proofs.LocalLemmas.{view_of, place-within, inside-changed, unknown-refused, changed-done, changed-refused, written-same}
 use Rattle.vt_kernel.proofs.ReentryLemmas.{process-there, still-there, was-in-contest}
+use Rattle.vt_kernel.proofs.kernel.Kernel.cancel.Given.{Over}
+use Rattle.vt_kernel.proofs.kernel.Kernel.cancel.Goals.{After-index_mut}
 use Rattle.vt_kernel.proofs.kernel.Kernel.cancel.Goals as goal
 
 pub returns-in_default-clause-refused : goal.returns-in_default-clause-refused
 returns-in_default-clause-refused g c handlers part s =
     let i = c.self.inside in
-    let held = worker_view i.worker i.config i.processes.items i.outbox.letters i.arrived.items i.colour i.sent i.got i.red_minimum i.floor i.serial in
     subst (λ (v : HeldWorker _ _ _). local_step (simulation_of handlers v.config) v.worker (step.Cancel c.args.lp c.args.stamp) part ≡ None) c.self.view_is
-    (unknown-refused handlers held c.self.invariant.own_processes part (subst (λ (v : HeldWorker _ _ _). StandsFor handlers v part) (sym c.self.view_is) s)
+    (unknown-refused handlers (view_of i) c.self.invariant.own_processes part (stands_along c.self.view_is handlers part s)
     c.args.lp (cancel_process c.args.stamp) i.config.some_worker c.self.invariant.all_there c.in_default.ensures.other)
 
 pub index_mut-requires : goal.index_mut-requires
 index_mut-requires g c =
-    let less = place-within c.self.invariant c.args.lp c.in-Some.place c.in-Some.ensures.own in
+    let less = place-within c.self.invariant c.in-Some.ensures.own in
     search (rules, less)
+
+-- the process is there
+there : (g : Over) (c : After-index_mut g) → slice_get c.self.inside.processes.items c.in-Some.place ≡ Some c.index_mut.result.now
+there g c = process-there c.self.invariant c.in-Some.ensures.own (sym c.index_mut.ensures.value)
 
 pub invariant_of-self : goal.invariant_of-self
 invariant_of-self g c =
     let i = c.self.inside in
-    let at = process-there c.self.invariant c.args.lp c.in-Some.place c.in-Some.ensures.own (sym c.index_mut.ensures.value) in
     subst (λ (ps : List (HeldProcess _ _ _)). IsWorkerInside i.config i.worker ps i.outbox i.arrived.items i.sent i.got i.serial i.contest)
-    (sym (written-same i.processes.items c.in-Some.place c.index_mut.result.now c.cancel_into.new.self at c.in-Err.ensures.kept.1)) c.self.invariant
+    (sym (written-same i.processes.items c.in-Some.place c.index_mut.result.now c.cancel_into.new.self (there g (goal.at.invariant_of-self g c).After-index_mut) c.in-Err.ensures.kept.1)) c.self.invariant
 
 pub returns-in-Err-clause-refused : goal.returns-in-Err-clause-refused
 returns-in-Err-clause-refused g c handlers part s =
-    let i = c.self.inside in
-    let held = worker_view i.worker i.config i.processes.items i.outbox.letters i.arrived.items i.colour i.sent i.got i.red_minimum i.floor i.serial in
-    let own = c.in-Some.ensures.own in
-    let at = process-there c.self.invariant c.args.lp c.in-Some.place c.in-Some.ensures.own (sym c.index_mut.ensures.value) in
     subst (λ (v : HeldWorker _ _ _). local_step (simulation_of handlers v.config) v.worker (step.Cancel c.args.lp c.args.stamp) part ≡ None) c.self.view_is
-    (changed-refused handlers held c.self.invariant.own_processes part (subst (λ (v : HeldWorker _ _ _). StandsFor handlers v part) (sym c.self.view_is) s)
-    c.args.lp c.in-Some.place c.index_mut.result.now (cancel_process c.args.stamp) own.0 own.1 at (λ process st. c.in-Err.ensures.refused handlers process st))
+    (changed-refused handlers (view_of c.self.inside) c.self.invariant.own_processes part (stands_along c.self.view_is handlers part s)
+    (cancel_process c.args.stamp) c.in-Some.ensures.own (there g (goal.at.returns-in-Err-clause-refused g c).After-index_mut) (λ process st. c.in-Err.ensures.refused handlers process st))
 
 pub enter-requires-clause-there : goal.enter-requires-clause-there
-enter-requires-clause-there g c κs within =
-    still-there c.self.invariant c.args.lp c.in-Some.place c.cancel_into.new.self c.in-Some.ensures.own (sym c.index_mut.ensures.value) c.deref.ensures.value
+enter-requires-clause-there g c κs within = still-there _ _ (there g (goal.at.enter-requires-clause-there g c).After-index_mut) c.deref.ensures.value
 
 pub enter-requires-clause-was : goal.enter-requires-clause-was
-enter-requires-clause-was g c κs within =
-    was-in-contest c.self.invariant c.args.lp c.in-Some.place c.cancel_into.new.self c.in-Some.ensures.own (sym c.index_mut.ensures.value) c.deref.ensures.value
+enter-requires-clause-was g c κs within = was-in-contest c.self.invariant _ (there g (goal.at.enter-requires-clause-was g c).After-index_mut) c.deref.ensures.value
 
 pub invariant_of-self-2 : goal.invariant_of-self-2
 invariant_of-self-2 g c =
-    let at = process-there c.self.invariant c.args.lp c.in-Some.place c.in-Some.ensures.own (sym c.index_mut.ensures.value) in
     let same = c.in_default-cancel_into.ensures.same in
-    inside-changed c.self.invariant c.in-Some.place c.cancel_into.new.self at same.0 same.1 c.deref.ensures.value c.enter.ensures c.self.invariant.sendable c.self.invariant.by_worker c.self.invariant.few_made
+    inside-changed c.self.invariant _ c.cancel_into.new.self (there g (goal.at.invariant_of-self-2 g c).After-index_mut) (same.0, same.1) c.deref.ensures.value c.enter.ensures
+    c.self.invariant.sendable c.self.invariant.by_worker c.self.invariant.few_made
 
 pub returns-clause-done : goal.returns-clause-done
 returns-clause-done g c handlers part s =
     let i = c.self.inside in
-    let held = worker_view i.worker i.config i.processes.items i.outbox.letters i.arrived.items i.colour i.sent i.got i.red_minimum i.floor i.serial in
-    let own = c.in-Some.ensures.own in
-    let old = c.index_mut.result.now in
     let new = c.cancel_into.new.self in
-    let at = process-there c.self.invariant c.args.lp c.in-Some.place c.in-Some.ensures.own (sym c.index_mut.ensures.value) in
     let same = c.in_default-cancel_into.ensures.same in
-    subst (λ (v : HeldWorker _ _ _). IsDone handlers (worker_view i.worker i.config (slice_set i.processes.items c.in-Some.place new) i.outbox.letters i.arrived.items i.colour i.sent i.got i.red_minimum i.floor i.serial)
-    (local_step (simulation_of handlers v.config) v.worker (step.Cancel c.args.lp c.args.stamp) part)) c.self.view_is
-    (changed-done handlers held c.self.invariant.own_processes part (subst (λ (v : HeldWorker _ _ _). StandsFor handlers v part) (sym c.self.view_is) s)
-    c.args.lp c.in-Some.place old new i.outbox.letters i.serial (cancel_process c.args.stamp) own.0 own.1 at same.0 same.1
-    (λ process st. plain-done handlers new (cancel_process c.args.stamp process) i.outbox.letters i.serial (c.in_default-cancel_into.ensures.done handlers process st)))
+    subst (λ (v : HeldWorker _ _ _). IsDone handlers (record (view_of i) { processes = slice_set i.processes.items c.in-Some.place new }) (local_step (simulation_of handlers v.config) v.worker (step.Cancel c.args.lp c.args.stamp) part)) c.self.view_is
+    (changed-done handlers (view_of i) c.self.invariant.own_processes part (stands_along c.self.view_is handlers part s)
+    new (cancel_process c.args.stamp) c.in-Some.ensures.own (there g (goal.at.returns-clause-done g c).After-index_mut) (same.0, same.1) (c.in_default-cancel_into.ensures.done handlers))

@@ -4,9 +4,10 @@ use Rattle.vt_steps.specs.World.{Part}
 use Rattle.vt_steps.specs.declared.step.Step.TheVariants as step
 use Rattle.vt_contest.specs.Entries.{entries_of, ready_of}
 use Rattle.vt_contest.proofs.WinnerLemmas.{nobody-there}
-use Rattle.vt_kernel.specs.Held.{HeldWorker, StandsFor}
+use Rattle.vt_kernel.specs.Held.{HeldWorker}
 use Rattle.vt_kernel.specs.Local.{local_step}
-use Rattle.vt_kernel.proofs.LocalLemmas.{worker_view}
+use Rattle.vt_kernel.proofs.PartLemmas.{stands_along}
+use Rattle.vt_kernel.proofs.LocalLemmas.{view_of}
 use Rattle.vt_kernel.proofs.ChoosingLemmas.{NextIs, next-is}
 use Rattle.vt_kernel.proofs.ReadyLemmas.{none-says, lawful-at, unlawful-at}
 use Rattle.vt_kernel.proofs.kernel.Kernel.next.Goals as goal
@@ -14,7 +15,7 @@ use Rattle.vt_kernel.proofs.kernel.Kernel.next.Goals as goal
 pub overflow_mul-result : goal.overflow_mul-result
 overflow_mul-result g c =
     let i = c.self.inside in
-    let held = worker_view i.worker i.config i.processes.items i.outbox.letters i.arrived.items i.colour i.sent i.got i.red_minimum i.floor i.serial in
+    let held = view_of i in
     let least = c.in_ok-place.ensures.least (entries_of ready_of i.processes.items) c.self.invariant.in_contest.ready in
     let is = next-is ready_of held c.in_ok-place.place c.self.invariant.known c.self.invariant.all_there least in
     omega (arith, is.0, i.config.few_processes)
@@ -22,7 +23,7 @@ overflow_mul-result g c =
 pub overflow_add-result : goal.overflow_add-result
 overflow_add-result g c =
     let i = c.self.inside in
-    let held = worker_view i.worker i.config i.processes.items i.outbox.letters i.arrived.items i.colour i.sent i.got i.red_minimum i.floor i.serial in
+    let held = view_of i in
     let least = c.in_ok-place.ensures.least (entries_of ready_of i.processes.items) c.self.invariant.in_contest.ready in
     let is = next-is ready_of held c.in_ok-place.place c.self.invariant.known c.self.invariant.all_there least in
     omega (arith, is.0, i.config.few_processes)
@@ -30,7 +31,7 @@ overflow_add-result g c =
 pub returns-clause-least : goal.returns-clause-least
 returns-clause-least g c =
     let i = c.self.inside in
-    let held = worker_view i.worker i.config i.processes.items i.outbox.letters i.arrived.items i.colour i.sent i.got i.red_minimum i.floor i.serial in
+    let held = view_of i in
     let least = c.in_ok-place.ensures.least (entries_of ready_of i.processes.items) c.self.invariant.in_contest.ready in
     subst (λ (v : HeldWorker _ _ _). NextIs ready_of v (c.in_ok-place.place * i.config.workers + i.worker)) c.self.view_is
     (next-is ready_of held c.in_ok-place.place c.self.invariant.known c.self.invariant.all_there least)
@@ -38,9 +39,9 @@ returns-clause-least g c =
 pub returns-clause-lawful : goal.returns-clause-lawful
 returns-clause-lawful g c handlers part s =
     let i = c.self.inside in
-    let held = worker_view i.worker i.config i.processes.items i.outbox.letters i.arrived.items i.colour i.sent i.got i.red_minimum i.floor i.serial in
+    let held = view_of i in
     let p = c.in_ok-place.place * i.config.workers + i.worker in
-    let h = subst (λ (v : HeldWorker _ _ _). StandsFor handlers v part) (sym c.self.view_is) s in
+    let h = stands_along c.self.view_is handlers part s in
     let least = c.in_ok-place.ensures.least (entries_of ready_of i.processes.items) c.self.invariant.in_contest.ready in
     let is = next-is ready_of held c.in_ok-place.place c.self.invariant.known c.self.invariant.all_there least in
     subst (λ (v : HeldWorker _ _ _). (after : Part _) × (local_step (simulation_of handlers v.config) v.worker (step.Execute p) part ≡ Some after)) c.self.view_is
@@ -49,8 +50,8 @@ returns-clause-lawful g c handlers part s =
 pub returns-in_err-place-clause-unlawful : goal.returns-in_err-place-clause-unlawful
 returns-in_err-place-clause-unlawful g c handlers part s =
     let i = c.self.inside in
-    let held = worker_view i.worker i.config i.processes.items i.outbox.letters i.arrived.items i.colour i.sent i.got i.red_minimum i.floor i.serial in
-    let h = subst (λ (v : HeldWorker _ _ _). StandsFor handlers v part) (sym c.self.view_is) s in
+    let held = view_of i in
+    let h = stands_along c.self.view_is handlers part s in
     let nobody = c.in_err-place.ensures.nobody (entries_of ready_of i.processes.items) c.self.invariant.in_contest.ready in
     none-says c.from_residual.result _
     (subst (λ (v : HeldWorker _ _ _). (p : ℕ) → local_step (simulation_of handlers v.config) v.worker (step.Execute p) part ≡ None) c.self.view_is
