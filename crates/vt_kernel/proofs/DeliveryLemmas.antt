@@ -63,6 +63,21 @@ same-worker : (w : ℕ) → nat_eq w w ≡ true
 same-worker w = elim (eqb_tells w w) [ inl e ↦ e.0 | inr e ↦ absurd (e.1 refl) ]
 
 module _ {S P K : Type 0} (handlers : Handlers S P K) (held : HeldWorker S P K) (are : AreProcesses held.config held.worker 0 held.processes) (part : Part P) (h : StandsFor handlers held part) where
+  -- the same was taken from the outbox, or from the mail, of both
+  left-stands : (letters : List (Letter P) → List (Letter P)) (mails : List (Mail P) → List (Mail P))
+      → StandsFor handlers (record held { outbox = letters held.outbox; arrived = mails held.arrived }) (record part { outbox = letters part.outbox; arrived = mails part.arrived })
+  left-stands letters mails = record {
+    processes = h.processes;
+    outbox = ap letters h.outbox;
+    arrived = ap mails h.arrived;
+    colour = h.colour;
+    sent = h.sent;
+    got = h.got;
+    red_minimum = h.red_minimum;
+    floor = h.floor;
+    serial = h.serial;
+  }
+
   -- the worker and its part without the first letter for one of its processes
   abbrev letter-left : HeldWorker S P K
   letter-left = record held { outbox = without_first (is_for (simulation_of handlers held.config) held.worker) held.outbox }
@@ -71,17 +86,7 @@ module _ {S P K : Type 0} (handlers : Handlers S P K) (held : HeldWorker S P K) 
   part-letter-left = record part { outbox = without_first (is_for (simulation_of handlers held.config) held.worker) part.outbox }
 
   letter-left-stands : StandsFor handlers letter-left part-letter-left
-  letter-left-stands = record {
-    processes = h.processes;
-    outbox = ap (without_first (is_for (simulation_of handlers held.config) held.worker)) h.outbox;
-    arrived = h.arrived;
-    colour = h.colour;
-    sent = h.sent;
-    got = h.got;
-    red_minimum = h.red_minimum;
-    floor = h.floor;
-    serial = h.serial;
-  }
+  letter-left-stands = left-stands (without_first (is_for (simulation_of handlers held.config) held.worker)) (λ ms. ms)
 
   -- Home, where its letter was found
   home-is : {letter : Letter P} → find (is_for (simulation_of handlers held.config) held.worker) held.outbox ≡ Some letter → letter.event.dest % held.config.workers ≡ held.worker
@@ -124,17 +129,7 @@ module _ {S P K : Type 0} (handlers : Handlers S P K) (held : HeldWorker S P K) 
     part-mail-left = record part { arrived = remove part.arrived i }
 
     mail-left-stands : StandsFor handlers mail-left part-mail-left
-    mail-left-stands = record {
-      processes = h.processes;
-      outbox = h.outbox;
-      arrived = ap (λ ms. remove ms i) h.arrived;
-      colour = h.colour;
-      sent = h.sent;
-      got = h.got;
-      red_minimum = h.red_minimum;
-      floor = h.floor;
-      serial = h.serial;
-    }
+    mail-left-stands = left-stands (λ ls. ls) (λ ms. remove ms i)
 
     -- Accept, where there is mail
     accept-is : {mail : Mail P} → slice_get held.arrived i ≡ Some mail → mail.letter.event.dest % held.config.workers ≡ held.worker

@@ -4,11 +4,9 @@ use Rattle.std.proofs.Math.ListN.{length-set}
 use Rattle.std.proofs.lemmas.Bool.{eq-eqb}
 use Rattle.std.proofs.lemmas.Bool.Decides.{eqb_tells}
 use Rattle.std.proofs.lemmas.List.{length-map}
-use Rattle.vt_key.specs.Times.{Time}
 use Rattle.vt_key.specs.declared.limits.TheConstants.{MAX_COUNT}
 use Rattle.vt_key.specs.declared.letter.Letter.{Letter}
 use Rattle.vt_key.specs.declared.letter.Mail.{Mail}
-use Rattle.vt_key.specs.declared.letter.Colour.{Colour}
 use Rattle.vt_model.specs.declared.settings.Config.{Config}
 use Rattle.vt_model.specs.Handler.{Handlers}
 use Rattle.vt_model.specs.Simulation.{Simulation, simulation_of}
@@ -87,7 +85,7 @@ module _ {S P K : Type 0} {config : Config} {w : ℕ} {processes : List (HeldPro
       }
 
 -- as many processes stand for as there are
-pub stand-length : {S P : Type 0} (sim : Simulation S P) (w base : ℕ) (memories : List (ProcessMemory S P)) (processes : List (LogicalProcess P)) → StandForProcesses sim w base memories processes
+stand-length : {S P : Type 0} (sim : Simulation S P) (w base : ℕ) (memories : List (ProcessMemory S P)) (processes : List (LogicalProcess P)) → StandForProcesses sim w base memories processes
     → length processes ≡ length memories
 stand-length sim w base [] [] h = refl
 stand-length sim w base [] (q ∷ qs) h = absurd h
@@ -117,17 +115,23 @@ plain-done handlers new step outbox serial done = no-serial handlers new step ou
 })
 
 module _ {S P K : Type 0} (handlers : Handlers S P K) (held : HeldWorker S P K) (are : AreProcesses held.config held.worker 0 held.processes) (part : Part P) (h : StandsFor handlers held part) where
-  -- a step at a process that is none of the worker's is not lawful
+  -- a step at a place past the worker's processes is not lawful
+  pub past-refused : (p : ℕ) (step : LogicalProcess P → Option (ProcessEffect P)) → length held.processes ≤ p / held.config.workers
+      → at_own (simulation_of handlers held.config) held.worker p (at_process step (p / held.config.workers) part) ≡ None
+  past-refused p step past =
+      let size : length part.processes ≡ length held.processes = stand-length (simulation_of handlers held.config) held.worker 0 (map (process_memory handlers) held.processes) part.processes h.processes ∙ length-map held.processes (process_memory handlers) in
+      no-process (simulation_of handlers held.config) held.worker p step part (get-past part.processes (p / held.config.workers) (omega (arith, size, past)))
+
+  -- nor is one at a process that is none of the worker's
   pub unknown-refused : (p : ℕ) (step : LogicalProcess P → Option (ProcessEffect P)) → 1 ≤ held.config.workers
       → length held.processes ≡ (held.config.lps + (held.config.workers - 1) - held.worker) / held.config.workers → (p % held.config.workers ≡ held.worker → held.config.lps ≤ p)
       → at_own (simulation_of handlers held.config) held.worker p (at_process step (p / held.config.workers) part) ≡ None
   unknown-refused p step some all past =
       elim (eqb_tells (p % held.config.workers) held.worker) [
         | inl e ↦
-            (let own : p % held.config.workers ≡ held.worker = e.1 in
-            let size : length part.processes ≡ length held.processes = stand-length (simulation_of handlers held.config) held.worker 0 (map (process_memory handlers) held.processes) part.processes h.processes ∙ length-map held.processes (process_memory handlers) in
-            let beyond : (p / held.config.workers < length part.processes → ⊥) = λ less. place-unknown held.config.lps held.config.workers held.worker p some (past own) own (subst (λ n. p / held.config.workers < n) (size ∙ all) less) in
-            no-process (simulation_of handlers held.config) held.worker p step part (get-past part.processes (p / held.config.workers) (omega (arith, beyond))))
+            (let beyond : (p / held.config.workers < length held.processes → ⊥) =
+            λ less. place-unknown held.config.lps held.config.workers held.worker p some (past e.1) e.1 (subst (λ n. p / held.config.workers < n) all less) in
+            past-refused p step (omega (arith, beyond)))
         | inr e ↦ not-own (simulation_of handlers held.config) held.worker p (at_process step (p / held.config.workers) part) e.1
       ]
 

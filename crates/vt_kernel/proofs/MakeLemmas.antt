@@ -9,9 +9,11 @@ use Rattle.vt_key.specs.declared.letter.Event.{Event}
 use Rattle.vt_model.specs.declared.limits.TheConstants.{MAX_SENDS}
 use Rattle.vt_model.specs.declared.sending.Sent.{Sent}
 use Rattle.vt_model.specs.declared.settings.Config.{Config}
-use Rattle.vt_model.specs.Handler.{Handlers, StartResult}
+use Rattle.vt_model.specs.Handler.{Handlers, StartResult, IsWithinLimits, AreWords}
 use Rattle.vt_model.specs.Histories.{AreNumbered}
-use Rattle.vt_model.specs.Simulation.{Simulation, simulation_of, start_of}
+use Rattle.vt_model.specs.Settings.{end_of}
+use Rattle.vt_model.specs.Simulation.{Simulation, simulation_of, start_of, words_at}
+use Rattle.vt_model.proofs.LawLemmas.{are_words, lawful_of}
 use Rattle.vt_steps.specs.Letters.{stamped}
 use Rattle.vt_steps.specs.World.{process_at, process_count, start_sends}
 use Rattle.vt_steps.specs.StandsFor.{StandsForProcess, StandForProcesses, entry_of}
@@ -70,7 +72,7 @@ module _ {S P : Type 0} (sim : Simulation S P) (w : ℕ) where
       omega (arith, rest, next, last)
 
   -- the starts of a worker send little
-  pub few-starts : (each : (p : ℕ) → p < sim.lps → length (sim.start p).sends ≤ MAX_SENDS) → w < sim.workers → length (start_sends sim w) ≤ MAX_SENDS * (sim.lps + sim.workers)
+  few-starts : (each : (p : ℕ) → p < sim.lps → length (sim.start p).sends ≤ MAX_SENDS) → w < sim.workers → length (start_sends sim w) ≤ MAX_SENDS * (sim.lps + sim.workers)
   few-starts each some =
       let pos : 0 < sim.workers = omega arith in
       let known : (place : ℕ) → place < process_count sim w → process_at sim w place < sim.lps = λ place less.
@@ -130,13 +132,29 @@ module _ {S P K : Type 0} where
 
 -- ---- few
 
-pub start-number : {S P : Type 0} (end p : ℕ) (started : StartResult S P) → (start_of end p started).triple.number ≡ length started.send_requests
+start-number : {S P : Type 0} (end p : ℕ) (started : StartResult S P) → (start_of end p started).triple.number ≡ length started.send_requests
 unfolding start_of
 start-number end p started = refl
 
-pub numbered-few : {P : Type 0} (p low high : ℕ) (es : List (Sent P)) → AreNumbered p low high es → length es + low ≤ high
+numbered-few : {P : Type 0} (p low high : ℕ) (es : List (Sent P)) → AreNumbered p low high es → length es + low ≤ high
 numbered-few p low high [] h = omega (arith, h)
 numbered-few p low high (e ∷ es) h = let rest = numbered-few p (suc e.key.number) high es h.2 in omega (arith, rest, h.1)
+
+-- by a model's laws, the starts of a worker's processes send few events
+pub few-sent : {S P K : Type 0} (handlers : Handlers S P K) (config : Config)
+    → ((lps lp : ℕ) (words : ℕ → ℕ) → lp < lps → AreWords words → IsWithinLimits lps 0 (handlers.start lps lp words).drawn (handlers.start lps lp words).send_requests [])
+    → ((lps lp now : ℕ) (p : P) (s : S) (words : ℕ → ℕ) → lp < lps → AreWords words
+    → IsWithinLimits lps now (handlers.forward lps lp now p s words).drawn (handlers.forward lps lp now p s words).send_requests (handlers.forward lps lp now p s words).record_requests)
+    → (w : ℕ) → w < config.workers → length (start_sends (simulation_of handlers config) w) ≤ MAX_SENDS * (config.lps + config.workers)
+few-sent handlers config start_within forward_within w known =
+    let sim = simulation_of handlers config in
+    let lawful = lawful_of handlers config start_within forward_within in
+    let each : (p : ℕ) → p < sim.lps → length (sim.start p).sends ≤ MAX_SENDS = λ p is.
+    let within = start_within config.lps p (words_at config.seed p 0) is (are_words config.seed p 0) in
+    let numbered = numbered-few p 0 (sim.start p).triple.number (sim.start p).sends (lawful.numbered_start p is) in
+    let number = start-number (end_of config) p (handlers.start config.lps p (words_at config.seed p 0)) in
+    omega (arith, numbered, number, within.few_sends) in
+    few-starts sim w each known
 
 -- ---- the opening
 

@@ -3,7 +3,6 @@ use Rattle.std.proofs.Common.{◌≡◌, ℕ, zero, suc, ◌+◌, ◌*◌, ◌/�
 use Rattle.std.specs.List.{last_or}
 use Rattle.std.specs.Option.{option_map}
 use Rattle.std.proofs.lemmas.Bool.Decides.{eqb_tells}
-use Rattle.std.proofs.lemmas.List.{length-map}
 use Rattle.vt_key.specs.declared.order.Rank.{Rank}
 use Rattle.vt_key.specs.declared.letter.Event.{Event}
 use Rattle.vt_key.specs.declared.letter.Letter.{Letter}
@@ -15,14 +14,13 @@ use Rattle.vt_steps.specs.ProcessSteps.{ProcessEffect, may_follow, effect_of_exe
 use Rattle.vt_steps.specs.PartSteps.{with_effect}
 use Rattle.vt_steps.specs.StandsFor.{entry_of}
 use Rattle.vt_past.specs.declared.event.PastEvent.{PastEvent}
-use Rattle.vt_lp.specs.Held.{HeldProcess, process_memory, remembered, StandsFor as ProcessStandsFor}
+use Rattle.vt_lp.specs.Held.{HeldProcess, remembered, StandsFor as ProcessStandsFor}
 use Rattle.vt_lp.specs.Guards.{may_come_after, ready_rank}
 use Rattle.vt_contest.specs.Entries.{ready_of}
 use Rattle.vt_kernel.specs.Held.{HeldWorker, StandsFor, AreProcesses}
 use Rattle.vt_kernel.specs.Local.{local_step}
-use Rattle.vt_kernel.proofs.ProcessLemmas.{get-past}
-use Rattle.vt_kernel.proofs.OwnSteps.{own-execute, not-own, no-process, own-step, found, refused-at}
-use Rattle.vt_kernel.proofs.LocalLemmas.{stand-length, execute-step}
+use Rattle.vt_kernel.proofs.OwnSteps.{own-execute, not-own, own-step, found, refused-at}
+use Rattle.vt_kernel.proofs.LocalLemmas.{past-refused, execute-step}
 
 -- ---- lists and options
 
@@ -122,10 +120,7 @@ module _ {S P K : Type 0} (handlers : Handlers S P K) where
           | inr e ↦ not-own sim held.worker p _ e.1
           | inl e ↦
               one-of (slice_get held.processes place)
-              (λ gone.
-              (let size = stand-length sim held.worker 0 (map (process_memory handlers) held.processes) part.processes h.processes ∙ length-map held.processes (process_memory handlers) in
-              let beyond = past-get held.processes place gone in
-              no-process sim held.worker p step part (get-past part.processes place (omega (arith, size, beyond)))))
+              (λ gone. past-refused handlers held are part h p step (past-get held.processes place gone))
               (λ q at.
               (let f = found handlers held part p q h are e.1 at in
               refused-at handlers held part p q step e.1 f

@@ -16,7 +16,7 @@ use Rattle.vt_kernel.specs.Guards.{IsDone, AreWithinLimits, IsExecuteRefusal}
 use Rattle.vt_model.proofs.Sizes.{out_fits}
 use Rattle.vt_kernel.proofs.PartLemmas.{stands_along}
 use Rattle.vt_kernel.proofs.ProcessLemmas.{process-at, processes-changed}
-use Rattle.vt_kernel.proofs.OwnSteps.{own-execute, found, IsFound, within-limits, same-execute, refusal-at, own-step}
+use Rattle.vt_kernel.proofs.OwnSteps.{own-execute, IsFound, within-limits, same-execute, refusal-at, own-step}
 use Rattle.vt_kernel.proofs.LocalLemmas.{view_of, place-within, unknown-refused, either-way, found-at, at-found-done, execute-step, both-errors, own-process}
 use Rattle.vt_kernel.proofs.PutLemmas.{put-done, put-kept, put-seen, inside-put}
 use Rattle.vt_kernel.proofs.ReentryLemmas.{process-there, still-there, was-in-contest}

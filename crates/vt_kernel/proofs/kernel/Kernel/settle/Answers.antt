@@ -1,8 +1,9 @@
-use Rattle.std.proofs.Common.{rules, ◌≡◌, Some, slice_get, List, sym, subst}
+use Rattle.std.proofs.Common.{rules, ◌≡◌, Some, slice_get, slice_set, List, sym, subst}
 use Rattle.vt_model.specs.Simulation.{simulation_of}
+use Rattle.vt_steps.specs.World.{Part}
 use Rattle.vt_lp.specs.Held.{HeldProcess}
 use Rattle.vt_outbox.specs.Outbox.{HeldOutbox}
-use Rattle.vt_kernel.specs.Held.{HeldWorker, IsWorkerInside}
+use Rattle.vt_kernel.specs.Held.{HeldWorker, IsWorkerInside, StandsFor}
 use Rattle.vt_kernel.specs.Guards.{SettlesTo}
 use Rattle.vt_kernel.proofs.PartLemmas.{stands_along}
 use Rattle.vt_kernel.proofs.LocalLemmas.{view_of, place-within, written-same}
@@ -10,7 +11,7 @@ use Rattle.vt_kernel.proofs.SettledWorker.{unknown-settled, settled-seen}
 use Rattle.vt_kernel.proofs.PutLemmas.{put-nothing, put-settled, inside-put}
 use Rattle.vt_kernel.proofs.ReentryLemmas.{process-there, still-there, was-in-contest}
 use Rattle.vt_kernel.proofs.kernel.Kernel.settle.Given.{Over}
-use Rattle.vt_kernel.proofs.kernel.Kernel.settle.Goals.{After-index_mut}
+use Rattle.vt_kernel.proofs.kernel.Kernel.settle.Goals.{After-index_mut, After-put}
 use Rattle.vt_kernel.proofs.kernel.Kernel.settle.Goals as goal
 
 pub index_mut-requires : goal.index_mut-requires
@@ -44,12 +45,18 @@ invariant_of-self g c =
     inside-put c.self.inside.outbox done.new.outbox c.new-sent.ensures c.put.ensures c.self.invariant _ done.new.process (there g (goal.at.invariant_of-self g c).After-index_mut) done.ensures.same c.deref.ensures.value c.enter.ensures
     done.ensures.within c.self.invariant.few_made
 
-pub returns-then-settling-clause-settles : goal.returns-then-settling-clause-settles
-returns-then-settling-clause-settles g c part s =
+-- what settles the process settles it at the worker
+settled : (g : Over) (c : After-put g) (part : Part _) → StandsFor (g.M.Model.handlers c.args.model.now) c.args.self.now part
+    → (after : Part _) × SettlesTo (simulation_of (g.M.Model.handlers c.args.model.now) c.args.self.now.config) c.args.self.now.worker c.args.lp part after c.settle_process-settling.result.undone
+    × StandsFor (g.M.Model.handlers c.args.model.now) (record (view_of c.self.inside) { processes = slice_set c.self.inside.processes.items c.in-Some.place c.settle_process-settling.new.process; outbox = c.put.new.self.letters }) after
+settled g c part s =
     let settling = c.settle_process-settling in
+    let at = process-there c.self.invariant c.in-Some.ensures.own (sym c.index_mut.ensures.value) in
     settled-seen (g.M.Model.handlers c.args.model.now) c.self.view_is c.self.invariant.own_processes part s settling.result.undone settling.new.process c.put.new.self.letters
-    c.in-Some.ensures.own (there g (goal.at.returns-then-settling-clause-settles g c).After-index_mut) settling.ensures.same
-    (λ process st. put-settled c.self.inside.outbox settling.new.outbox c.new-sent.ensures c.put.ensures (settling.ensures.settled process st))
+    c.in-Some.ensures.own at settling.ensures.same (λ process st. put-settled c.self.inside.outbox settling.new.outbox c.new-sent.ensures c.put.ensures (settling.ensures.settled process st))
+
+pub returns-then-settling-clause-settles : goal.returns-then-settling-clause-settles
+returns-then-settling-clause-settles g c part s = settled g (goal.at.returns-then-settling-clause-settles g c).After-put part s
 
 pub invariant_of-self-else-settling : goal.invariant_of-self-else-settling
 invariant_of-self-else-settling g c =
@@ -62,8 +69,4 @@ invariant_of-self-else-settling g c =
     (subst (λ (o : HeldOutbox _). IsWorkerInside i.config i.worker i.processes.items o i.arrived.items i.sent i.got i.serial i.contest) (sym still) c.self.invariant)
 
 pub returns-else-settling-clause-settles : goal.returns-else-settling-clause-settles
-returns-else-settling-clause-settles g c part s =
-    let settling = c.settle_process-settling in
-    settled-seen (g.M.Model.handlers c.args.model.now) c.self.view_is c.self.invariant.own_processes part s settling.result.undone settling.new.process c.put.new.self.letters
-    c.in-Some.ensures.own (there g (goal.at.returns-else-settling-clause-settles g c).After-index_mut) settling.ensures.same
-    (λ process st. put-settled c.self.inside.outbox settling.new.outbox c.new-sent.ensures c.put.ensures (settling.ensures.settled process st))
+returns-else-settling-clause-settles g c part s = settled g (goal.at.returns-else-settling-clause-settles g c).After-put part s

@@ -3,7 +3,7 @@ use Rattle.std.proofs.lemmas.Result.{IfErr-weaker, IfOk-weaker}
 use Rattle.vt_model.specs.Simulation.{simulation_of}
 use Rattle.vt_steps.specs.ProcessSteps.{undo_process}
 use Rattle.vt_steps.specs.declared.step.Step.TheVariants as step
-use Rattle.vt_kernel.specs.Held.{HeldWorker, StandsFor}
+use Rattle.vt_kernel.specs.Held.{HeldWorker}
 use Rattle.vt_kernel.specs.Local.{local_step}
 use Rattle.vt_kernel.specs.Guards.{IsDone}
 use Rattle.vt_kernel.proofs.PartLemmas.{stands_along}
