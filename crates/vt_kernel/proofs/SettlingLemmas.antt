@@ -8,8 +8,6 @@ use Rattle.std.proofs.Math.Nat.{mod-add-mod}
 use Rattle.std.specs.List.{filter}
 use Rattle.vt_key.specs.declared.order.Stamp.{Stamp}
 use Rattle.vt_key.specs.declared.letter.Letter.{Letter}
-use Rattle.vt_key.specs.declared.fault.Fault.{Fault}
-use Rattle.vt_key.specs.declared.fault.Fault.TheVariants.{NotLawful}
 use Rattle.vt_model.specs.Handler.{Handlers}
 use Rattle.vt_model.specs.Simulation.{Simulation}
 use Rattle.vt_steps.specs.declared.step.Step.{Step}
@@ -199,9 +197,3 @@ in-err (Err e) ok h = h
 pub cannot-err : {A E : Type 0} (result : Result A E) (test : Bool) → IfErr result (λ _. test ≡ false) → test ≡ true → is_ok result ≡ true
 cannot-err (Ok a) test h holds = refl
 cannot-err (Err e) test h holds = absurd (let k : test ≡ false = h in cc)
-
--- what a refusal leaves as it was
-pub kept-err : {A X Y : Type 0} (result : Result A Fault) (new old : X) (new_other old_other : Y) → is_ok result ≡ false
-    → IfErr result (λ fault. (fault ≡ NotLawful) × (new ≡ old) × (new_other ≡ old_other)) → (new ≡ old) × (new_other ≡ old_other)
-kept-err (Ok a) new old new_other old_other ok h = absurd (let k : true ≡ false = ok in cc)
-kept-err (Err e) new old new_other old_other ok h = (h.1, h.2)

@@ -1,8 +1,11 @@
 use Rattle.std.proofs.Common.{◌≡◌, ◌∙◌, true, false, refl, sym, subst}
+use Rattle.std.proofs.lemmas.Result.{IfErr-weaker}
 use Rattle.vt_model.specs.declared.settings.Config.{Config}
 use Rattle.vt_lp.specs.Held.{AllWithinRun}
 use Rattle.vt_lp.specs.Guards.{can_annihilate}
-use Rattle.vt_kernel.proofs.SettlingLemmas.{led-start, led-undone, led-cancelled, led-same, settled-now, in-ok, in-err, kept-err, cannot-err}
+use Rattle.vt_kernel.proofs.SettlingLemmas.{led-start, led-undone, led-cancelled, led-same, settled-now, in-ok, in-err, cannot-err}
+use Rattle.vt_kernel.proofs.settling.settle_process.Given.{Over}
+use Rattle.vt_kernel.proofs.settling.settle_process.Goals.{After-cancellable}
 use Rattle.vt_kernel.proofs.settling.settle_process.Goals as goal
 
 pub loop-changed-init : goal.loop-changed-init
@@ -31,19 +34,22 @@ loop-changed-preserved-then-is_ok g c =
       unchanged = λ still. absurd (let e : true ≡ false = still in cc);
     }
 
+-- the undo that was refused left the process and the outbox
+left : (g : Over) (c : After-cancellable g) → (c.undo.new.self ≡ c.loop-changed.process) × (c.undo.new.outbox ≡ c.loop-changed.outbox)
+left g c = in-err c.undo.result (sym c.is_ok.ensures.value ∙ c.if-is_ok.false) (IfErr-weaker c.undo.result _ _ (λ _ kept. (kept.1, kept.2)) c.undo.ensures.kept)
+
 pub returns-in_default-clause-settled : goal.returns-in_default-clause-settled
 returns-in_default-clause-settled g c h s =
     let handlers = g.M.Model.handlers c.args.model.now in
     let so_far = c.loop-changed.invariant.led h s in
     let err = sym c.is_ok.ensures.value ∙ c.if-is_ok.false in
-    let kept = kept-err c.undo.result c.undo.new.self c.loop-changed.process c.undo.new.outbox c.loop-changed.outbox err c.undo.ensures.kept in
+    let kept = left g (goal.at.returns-in_default-clause-settled g c).After-cancellable in
     settled-now handlers h c.loop-changed.process c.undo.new.self c.args.outbox.now c.loop-changed.outbox c.undo.new.outbox c.loop-changed.undone so_far kept.0 kept.1
     (in-err c.undo.result err (c.undo.ensures.refused so_far.effect.process so_far.stands)) c.in_default.ensures.none
 
 pub returns-in_default-clause-unchanged : goal.returns-in_default-clause-unchanged
 returns-in_default-clause-unchanged g c still =
-    let err = sym c.is_ok.ensures.value ∙ c.if-is_ok.false in
-    let kept = kept-err c.undo.result c.undo.new.self c.loop-changed.process c.undo.new.outbox c.loop-changed.outbox err c.undo.ensures.kept in
+    let kept = left g (goal.at.returns-in_default-clause-unchanged g c).After-cancellable in
     let before = c.loop-changed.invariant.unchanged still in
     (kept.0 ∙ before.0, kept.1 ∙ before.1)
 
@@ -51,8 +57,7 @@ pub loop-changed-preserved : goal.loop-changed-preserved
 loop-changed-preserved g c =
     let handlers = g.M.Model.handlers c.args.model.now in
     let inv = c.loop-changed.invariant in
-    let err = sym c.is_ok.ensures.value ∙ c.if-is_ok.false in
-    let kept = kept-err c.undo.result c.undo.new.self c.loop-changed.process c.undo.new.outbox c.loop-changed.outbox err c.undo.ensures.kept in
+    let kept = left g (goal.at.loop-changed-preserved g c).After-cancellable in
     let ok = cannot-err c.cancel_into.result (can_annihilate c.in-Some.stamp c.undo.new.self.pending c.undo.new.self.waiting) c.cancel_into.ensures.unlawful c.in-Some.ensures.lawful in
     let same = c.cancel_into.ensures.same in
     record {

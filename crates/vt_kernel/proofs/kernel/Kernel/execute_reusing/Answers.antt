@@ -67,7 +67,7 @@ executes : (g : Over) (c : After-index_mut g) (part : Part _) → StandsFor (g.M
 executes g c part s =
     let handlers = g.M.Model.handlers c.args.model.now in
     found-at handlers (view_of c.self.inside) c.self.invariant.own_processes part (stands_along c.self.view_is handlers part s) c.in-Some.ensures.own
-    (process-there c.self.invariant c.in-Some.ensures.own (sym c.index_mut.ensures.value))
+    (there g c)
 
 pub returns-clause-done : goal.returns-clause-done
 returns-clause-done g c part s =
