@@ -1,7 +1,7 @@
 //! The command line as `clap` reads it.
 
 ghost use Rattle.std.specs.Prelude.{◌≡◌, IfOk, IfErr, map, false, []};
-ghost use Rattle.clap.specs.Words.{app_of, new_app, rule_of, subcommand_of, subcommand_rows_of, fault_of, HasKind};
+ghost use Rattle.clap.specs.Words.{app_of, new_app, with_subcommand, rule_of, subcommand_of, subcommand_rows_of, fault_of, HasKind};
 ghost use Rattle.clap.specs.declared.builder.command.Command.TheViews.{out-Command};
 ghost use Rattle.vt_options.specs.Line.{option_rule, with_options, program_app, names_of};
 
@@ -58,6 +58,20 @@ fn command_of<'a>(
     Ok(command)
 }
 
+/// A program with one more subcommand, which has these options.
+fn with_command<'a>(
+    alloc: Global,
+    program: Command<'a>,
+    name: &'a str,
+    about: &'static str,
+    options: &[OptionText],
+) -> Result<Command<'a>, AllocError>
+    ensures { IfOk result (λ c. app_of c ≡ with_subcommand (app_of program.entry) (with_options (new_app name.entry.now) (names_of options.now)).top) }
+{
+    let command = command_of(alloc, name, about, options)?;
+    program.subcommand(command)
+}
+
 /// The parser of a program's command line: the subcommands `run` and `replay`, each with its options.
 ///
 /// An error means that memory was refused.
@@ -69,14 +83,12 @@ fn program_command<'a>(
 ) -> Result<Command<'a>, AllocError>
     ensures { IfOk result (λ c. app_of c ≡ program_app texts.now.name.now (names_of run.now) (names_of replay.now)) }
 {
-    let run = command_of(alloc, "run", RUN_ABOUT, run)?;
-    let replay = command_of(alloc, "replay", REPLAY_ABOUT, replay)?;
     let program = Command::new(alloc, texts.name)
         .about(texts.about)
         .override_usage(texts.usage)
-        .after_help(texts.in_short)
-        .subcommand(run)?;
-    Ok(program.subcommand(replay)?)
+        .after_help(texts.in_short);
+    let program = with_command(alloc, program, "run", RUN_ABOUT, run)?;
+    with_command(alloc, program, "replay", REPLAY_ABOUT, replay)
 }
 
 /// What the parser makes of a command line of a program with these options of `run` and `replay`. The first word is the
