@@ -32,9 +32,9 @@ impl<'m, M: EventModel> World<'m, M> {
         }
         let mut values = Vec::new(alloc);
         for lp in 0..self.config.lps {
-            values
-                .push(self.final_value(lp))
-                .map_err(|_| Fault::Memory)?;
+            let Ok(()) = values.push(self.final_value(lp)) else {
+                return Err(Fault::Memory);
+            };
         }
         Ok(values)
     }

@@ -2,6 +2,7 @@ use Rattle.std.proofs.Common.{◌≡◌, ◌∙◌, ◌+◌, List, [], ◌∷◌
 use Rattle.std.specs.List.{range_with_len}
 use Rattle.std.proofs.lemmas.List.{length_push}
 use Rattle.std.proofs.lemmas.List.FromFn.{map-range_with_len_more}
+use Rattle.vt_key.proofs.ResultLemmas.{if_refused}
 use Rattle.vt_model.specs.declared.settings.Config.{Config}
 use Rattle.vt_model.specs.Simulation.{simulation_of}
 use Rattle.vt_steps.specs.World.{Part, opening_part}
@@ -39,3 +40,12 @@ loop-w-preserved g c =
           (subst (λ (ps : List (Part _)). StandForParts sim 0 (map (part_memory handlers) (items ++ k ∷ [])) ps) (sym more)
           (stand-push handlers sim 0 items parts k (opening_part sim c.args.serial w) inv.opening stands));
     }
+
+pub returns-in_err-kernel-clause-count : goal.returns-in_err-kernel-clause-count
+returns-in_err-kernel-clause-count g c = if_refused _ _ c.from_residual.result c.from_residual.ensures.1
+
+pub returns-in_err-kernel-clause-workers : goal.returns-in_err-kernel-clause-workers
+returns-in_err-kernel-clause-workers g c = if_refused _ _ c.from_residual.result c.from_residual.ensures.1
+
+pub returns-in_err-kernel-clause-opening : goal.returns-in_err-kernel-clause-opening
+returns-in_err-kernel-clause-opening g c = if_refused _ _ c.from_residual.result c.from_residual.ensures.1
