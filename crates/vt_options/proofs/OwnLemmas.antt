@@ -1,6 +1,8 @@
 -- The options of a model, one after the other.
-use Rattle.std.proofs.Common.{◌≡◌, ◌<◌, ◌+◌, ◌++◌, ◌∙◌, ℕ, List, [], ◌∷◌, Option, Some, None, ap, ap₂, sym, refl, subst, inl, inr, codes, length, take, drop, get_or, map, true}
+use Rattle.std.proofs.Common.{◌≡◌, ◌<◌, ◌+◌, ◌++◌, ◌∙◌, ℕ, List, [], ◌∷◌, Option, Some, None, ap, ap₂, sym, refl, subst, inl, inr, codes, length, take, drop, get_or, map, Bool, true, false}
+use Rattle.std.specs.List.{list_all}
 use Rattle.std.proofs.lemmas.List.{take_more, drop_more, map-append, take-append-drop}
+use Rattle.std.proofs.lemmas.List.Folds.{list_all_at}
 use Rattle.std.proofs.lemmas.Slice.Zip.{all_zipped_more}
 use Rattle.clap.specs.Words.{Text}
 use Rattle.vt_key.specs.declared.fault.Fault.{Fault}
@@ -14,6 +16,14 @@ use Rattle.vt_options.specs.Requests.{Line, AreBy, IsRefusedByOf}
 use Rattle.vt_options.specs.Table.{Given, NumberOption, bad, bad_number, first_name, first_bad_of, value_in}
 use Rattle.vt_options.specs.Own.{AreInRange, AreWithin, GiveRun, GiveReplay, GiveValues, Models, NamesBad, number_option, number_table}
 use Rattle.vt_options.proofs.RequestLemmas as requests
+
+-- each element passes a test that all pass
+pub all_at : {X : Type 0} (p : X → Bool) (xs : List X) (i : ℕ) (d : X) → i < length xs → list_all p xs ≡ true → p (get_or xs i d) ≡ true
+all_at p xs i d h all =
+    elim (p (get_or xs i d)) as (λ b. p (get_or xs i d) ≡ b → b ≡ true) [
+      | true ↦ λ is. refl
+      | false ↦ λ is. let both : true ≡ false = sym all ∙ list_all_at p xs i d h is in absurd cc
+    ] refl
 
 -- a name alone is the first
 pub only : (o : Option Text) → first_name (o ∷ []) ≡ o

@@ -1,7 +1,10 @@
 use Rattle.std.proofs.Common.{◌≡◌, ◌≢◌, arith, rules}
+use Rattle.std.specs.List.{list_all}
 use Rattle.std.proofs.lemmas.Result.{err_from_is_err_and}
 use Rattle.clap.specs.Words.{first_value, found_of}
 use Rattle.vt_key.proofs.ResultLemmas.{if_refused}
+use Rattle.vt_options.specs.Own.{has_default}
+use Rattle.vt_options.proofs.OwnLemmas.{all_at}
 use Rattle.vt_options.proofs.ModelLemmas.{given_here, good_more, refused, within_here}
 use Rattle.vt_options.proofs.models.model_values.Goals.{then-index-wanted, else-index-wanted}
 use Rattle.vt_options.proofs.models.model_values.Goals as goal
@@ -49,3 +52,6 @@ returns-in_err-values-clause-good c = if_refused _ _ c.from_residual.result c.fr
 
 pub returns-clause-err : goal.returns-clause-err
 returns-clause-err c = tt
+
+pub own_options-requires : goal.own_options-requires
+own_options-requires c = all_at (λ m. list_all has_default m.options.now) c.args.models.now c.loop-index.index _ c.loop-index-test.true c.requires

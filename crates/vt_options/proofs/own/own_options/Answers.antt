@@ -1,9 +1,9 @@
 use Rattle.std.proofs.Common.{◌+◌, subst, sym, take}
 use Rattle.std.proofs.lemmas.Result.{err_from_is_err_and}
 use Rattle.clap.specs.Words.{first_value, found_of}
-use Rattle.vt_options.specs.Own.{AreWithin, GiveValues, number_table}
+use Rattle.vt_options.specs.Own.{AreWithin, GiveValues, has_default, number_table}
 use Rattle.vt_key.proofs.ResultLemmas.{if_refused}
-use Rattle.vt_options.proofs.OwnLemmas.{values_more, good_more, within_more, refused}
+use Rattle.vt_options.proofs.OwnLemmas.{all_at, values_more, good_more, within_more, refused}
 use Rattle.vt_options.proofs.own.own_options.Goals as goal
 
 pub returns-in_err-value-clause-err : goal.returns-in_err-value-clause-err
@@ -36,3 +36,6 @@ returns-in_err-value-clause-good c = if_refused _ _ c.from_residual.result c.fro
 
 pub returns-clause-err : goal.returns-clause-err
 returns-clause-err c = tt
+
+pub small_option-requires : goal.small_option-requires
+small_option-requires c = all_at has_default c.args.table.now c.loop-own.own-index _ c.loop-own-test.true c.requires
