@@ -7,10 +7,12 @@ use Rattle.vt_steps.specs.World.{book_floor}
 use Rattle.vt_steps.specs.Cells.{Acted, in_book, act}
 use Rattle.vt_book.specs.Books.{RunBook}
 use Rattle.vt_cells.specs.Calls.{IsClosingRefusal}
+use Rattle.vt_places.specs.Kept.{Rests}
 use Rattle.vt_places.proofs.CallLemmas.{closes-there}
 use Rattle.vt_places.proofs.BookAt.{book-ends, run-book, book-put, not-open, refused-once}
 use Rattle.vt_places.proofs.AloneLemmas.{close-alone}
 use Rattle.vt_places.proofs.RefusalLemmas as refusal
+use Rattle.vt_places.proofs.HeldLemmas.{known-at}
 use Rattle.vt_places.proofs.station.Station.close.Goals as goal
 
 pub release_close-requires-clause-held : goal.release_close-requires-clause-held
@@ -70,3 +72,35 @@ returns-in-Err-clause-alone g c =
     let key = c.args.self.now.table.shared.key in
     let v = c.args.place.now.seat.me.0 in
     close-alone (simulation_of (g.M.Model.handlers key.model.value) key.config) v (Err c.in-Err.fault) (end_of key.config) v (Unit {0}) tt (returns-in-Err-clause-refused g c)
+
+pub invariant_of-place : goal.invariant_of-place
+invariant_of-place g c =
+    let place = c.args.place.now in
+    let same = c.if-not-claim_book.ensures.same in
+    record {
+      rests = subst Rests (sym (c.if-not-claim_book.ensures.busy refl).0) place.rests;
+      own = same.2 ∙ place.own;
+      known = known-at same.0 place.known;
+    }
+
+pub invariant_of-place-in-Ok : goal.invariant_of-place-in-Ok
+invariant_of-place-in-Ok g c =
+    let place = c.args.place.now in
+    let same = c.if-not-claim_book.ensures.same in
+    let left = c.release_close.ensures.same in
+    record {
+      rests = left.2;
+      own = c.release_close.ensures.done.same.worker ∙ same.2 ∙ place.own;
+      known = known-at (left.0 ∙ same.0) place.known;
+    }
+
+pub invariant_of-place-in-Err : goal.invariant_of-place-in-Err
+invariant_of-place-in-Err g c =
+    let place = c.args.place.now in
+    let same = c.if-not-claim_book.ensures.same in
+    let left = c.release_unchanged.ensures.same in
+    record {
+      rests = left.2;
+      own = left.3 ∙ same.2 ∙ place.own;
+      known = known-at (left.0 ∙ same.0) place.known;
+    }

@@ -1,10 +1,12 @@
-use Rattle.std.proofs.Common.{◌+◌, [], ◌∷◌, refl, ap, ◌∙◌}
+use Rattle.std.proofs.Common.{◌+◌, [], ◌∷◌, refl, ap, ◌∙◌, subst, sym}
 use Rattle.atomic_table.specs.Table.{rest}
 use Rattle.vt_steps.specs.World.{book_floor, book_records}
 use Rattle.vt_book.specs.Books.{RunBook}
+use Rattle.vt_places.specs.Kept.{Rests}
 use Rattle.vt_places.proofs.CallLemmas.{unvisited-held}
 use Rattle.vt_places.proofs.BookAt.{run-book}
 use Rattle.vt_places.proofs.RefusalLemmas as refusal
+use Rattle.vt_places.proofs.HeldLemmas.{known-at}
 use Rattle.vt_places.proofs.station.Station.records.Goals as goal
 
 pub returns-in-Ok-clause-done : goal.returns-in-Ok-clause-done
@@ -17,3 +19,35 @@ returns-in-Ok-clause-done g c =
       refusal.records-shown t.known [] v.part refl t.lawful c.floor-floor.result c.in-Ok.records.items (c.floor-floor.ensures ∙ ap (λ (b : RunBook). book_floor b.end b.book) is) (c.in-Ok.ensures.records ∙ ap (λ (b : RunBook). book_records b.end b.book) is),
       unvisited-held v c.claim_book.new.seat.me.0 c.floor-floor.result c.release_unchanged.new.seat.me.0 t.place c.release_unchanged.ensures.stays,
     )
+
+pub invariant_of-place : goal.invariant_of-place
+invariant_of-place g c =
+    let place = c.args.place.now in
+    let same = c.if-not-claim_book.ensures.same in
+    record {
+      rests = subst Rests (sym (c.if-not-claim_book.ensures.busy refl).0) place.rests;
+      own = same.2 ∙ place.own;
+      known = known-at same.0 place.known;
+    }
+
+pub invariant_of-place-in-Ok : goal.invariant_of-place-in-Ok
+invariant_of-place-in-Ok g c =
+    let place = c.args.place.now in
+    let same = c.if-not-claim_book.ensures.same in
+    let left = c.release_unchanged.ensures.same in
+    record {
+      rests = left.2;
+      own = left.3 ∙ same.2 ∙ place.own;
+      known = known-at (left.0 ∙ same.0) place.known;
+    }
+
+pub invariant_of-place-in-Err : goal.invariant_of-place-in-Err
+invariant_of-place-in-Err g c =
+    let place = c.args.place.now in
+    let same = c.if-not-claim_book.ensures.same in
+    let left = c.release_unchanged-in-Err.ensures.same in
+    record {
+      rests = left.2;
+      own = left.3 ∙ same.2 ∙ place.own;
+      known = known-at (left.0 ∙ same.0) place.known;
+    }
