@@ -1,6 +1,7 @@
 use Rattle.std.proofs.Common.{rules, ◌≡◌, ℕ, List, replicate, length, get_or, refl, ap, ◌∙◌}
 use lib.ListN.{length-replicate}
 use Rattle.vt_model.specs.Simulation.{simulation_of}
+use Rattle.vt_key.proofs.ResultLemmas.{if_refused}
 use Rattle.vt_places.specs.Slots.{cell_count, word_at}
 use Rattle.vt_places.proofs.Seating.{starts}
 use Rattle.vt_places.proofs.Opening.{opening-inbox, slots-count, slots-full, blank-words}
@@ -17,3 +18,9 @@ new-requires g c =
     (λ k. ap (λ (ws : List ℕ). get_or ws k 0) words ∙ blank-words k count)
     (opening-inbox sim)
     (slots-full sim config c.in_ok-slots.slots.items refl refl slots)
+
+pub returns-in_err-slots : goal.returns-in_err-slots
+returns-in_err-slots g c = if_refused _ _ c.from_residual.result c.from_residual.ensures.1
+
+pub returns-in_err-words : goal.returns-in_err-words
+returns-in_err-words g c = if_refused _ _ c.from_residual-in_err-words.result c.from_residual-in_err-words.ensures.1

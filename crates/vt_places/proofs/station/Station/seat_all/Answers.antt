@@ -1,4 +1,5 @@
 use Rattle.std.proofs.Common.{arith, ◌≡◌, ◌+◌, [], ◌∷◌, ℕ, List, length, length-append, sym, ap, subst, ◌∙◌}
+use Rattle.vt_key.proofs.ResultLemmas.{if_refused}
 use Rattle.vt_model.specs.Simulation.{simulation_of}
 use Rattle.vt_places.specs.declared.place.Place.{Place}
 use Rattle.vt_places.specs.Kept.{Sat}
@@ -34,3 +35,6 @@ loop-worker-preserved g c =
       new = subst (λ (l : List (Place _)). AreNew sim table 1 l) (sym items)
           (new-more sim table 1 c.loop-worker.places.items c.place_of.result i.new (subst (λ (k : ℕ). IsNew sim table k c.place_of.result) (let z : w ≡ 1 + length c.loop-worker.places.items = omega arith in z) one));
     }
+
+pub returns-in_err-push : goal.returns-in_err-push
+returns-in_err-push g c = record { places = if_refused _ _ c.from_residual.result c.from_residual.ensures.1 }
