@@ -103,9 +103,13 @@ fn nodes_of_nobody(alloc: Global, count: u32) -> Result<Vec<Node>, Fault>
     ensures refused { IfErr result (λ fault. fault ≡ Memory) }
 {
     let places = 2 * inner_places(count as usize) + 1;
-    let mut nodes = Vec::with_capacity(alloc, places).map_err(|_| Fault::Memory)?;
+    let Ok(mut nodes) = Vec::with_capacity(alloc, places) else {
+        return Err(Fault::Memory);
+    };
     for _ in 0..places {
-        nodes.push(Node::new(0, &None)).map_err(|_| Fault::Memory)?;
+        let Ok(()) = nodes.push(Node::new(0, &None)) else {
+            return Err(Fault::Memory);
+        };
     }
     Ok(nodes)
 }
