@@ -25,15 +25,15 @@ pub fn read_input<R: Read>(alloc: Global, reader: &mut R) -> Result<Vec<u8>, Fau
     let mut input = Vec::new(alloc);
     let mut piece = [0u8; PIECE_LEN];
     'reads: while input.len() <= MAX_INPUT {
-        let count = reader
-            .read(&mut piece)
-            .map_err(|_| Fault::BadOption("input"))?;
+        let Ok(count) = reader.read(&mut piece) else {
+            return Err(Fault::BadOption("input"));
+        };
         if count == 0 {
             return Ok(input);
         }
-        input
-            .extend_from_slice(&piece[..count])
-            .map_err(|_| Fault::Memory)?;
+        let Ok(()) = input.extend_from_slice(&piece[..count]) else {
+            return Err(Fault::Memory);
+        };
     }
     Err(Fault::BadOption("input"))
 }

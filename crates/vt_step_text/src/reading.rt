@@ -50,7 +50,9 @@ pub fn read_steps(
                 return Err(Fault::BadStep(line));
             };
             let numbered = NumberedStep { line, step };
-            steps.push(numbered).map_err(|_| Fault::Memory)?;
+            let Ok(()) = steps.push(numbered) else {
+                return Err(Fault::Memory);
+            };
         }
         line += 1;
         rest = after;

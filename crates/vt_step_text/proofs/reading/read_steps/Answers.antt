@@ -2,7 +2,7 @@ use Rattle.std.proofs.Common.{true, [], ◌∷◌, ◌++◌, ◌≡◌, ◌∙�
 use Rattle.vt_step_text.specs.StepText.{is_passed_over, numbered}
 use Rattle.vt_step_text.proofs.StepTextLemmas.{passed, read, bad, ended, unended}
 use Rattle.vt_step_text.proofs.reading.read_steps.Goals as goal
-use Rattle.vt_step_text.proofs.reading.read_steps.Goals.{then-not-is_passed_over+in-Some-step_of_line+in_ok-map_err, else-not-is_passed_over}
+use Rattle.vt_step_text.proofs.reading.read_steps.Goals.{then-not-is_passed_over+in-Some-step_of_line+in-Ok, else-not-is_passed_over}
 
 pub returns-in_default-step_of_line-clause-err : goal.returns-in_default-step_of_line-clause-err
 returns-in_default-step_of_line-clause-err c =
@@ -18,7 +18,7 @@ lines-preserved c =
     let first = c.in-Some in record {
       counted = omega (arith, first.ensures.shorter);
       said = elim c.if-not-is_passed_over.branch [
-        | then-not-is_passed_over+in-Some-step_of_line+in_ok-map_err w ↦
+        | then-not-is_passed_over+in-Some-step_of_line+in-Ok w ↦
             let says : is_passed_over first.first.now ≡ false = search rules in
             let pushed : c.if-not-is_passed_over.steps.items ≡ l.steps.items ++ numbered l.line w.in-Some-step_of_line.step ∷ [] = search rules in
             rw pushed (read c.args.lps c.args.workers l.steps.items l.line l.rest.now first.first.now first.after.now w.in-Some-step_of_line.step first.ensures.parts says w.in-Some-step_of_line.ensures ∙ l.invariant.said)
