@@ -63,7 +63,7 @@ module _ {S P : Type 0} {sim : Simulation S P} {v : View P} {k : ℕ} {cell : Ce
   then-book = let h : ◌≡◌ {A = Option (Cell P)} (Some (in_book then_there.book)) (Some (in_book there.book)) = book-does.cell in let e : then_there.book ≡ there.book = cc in e
 
   pub refused-by : (step : Step) (fault : Fault) → IsStepRefusal sim step then_there fault → IsRefusedBy sim v step fault
-  refused-by step fault is = record { log = known.log; right = known.right; part = known.part; mine = known.mine; own = known.own; steps = steps; before = before; led = led; refused = is }
+  refused-by step fault is = record { log = known.log; right = known.right; part = known.part; mine = known.mine; grows = known.grows; own = known.own; steps = steps; before = before; led = led; refused = is }
 
   -- a step that is refused on the place's part and on what a cell held
   module _ (step : Step) (whose : IsAny (worker_of sim step) v.worker) {fault : Fault} where
@@ -165,6 +165,7 @@ module _ {S P : Type 0} {sim : Simulation S P} {v : View P} {k : ℕ} {cell : Ce
           log = known.log;
           right = known.right;
           mine = known.mine;
+          grows = known.grows;
           own = known.own;
           steps = steps;
           before = before;
@@ -183,6 +184,7 @@ module _ {S P : Type 0} {sim : Simulation S P} {v : View P} {k : ℕ} {cell : Ce
           log = known.log;
           right = known.right;
           mine = known.mine;
+          grows = known.grows;
           own = known.own;
           floor_is = floor_is;
           records_are = records_are ∙ right.records ∙ ap (seq_records sim) (sym floor_is);

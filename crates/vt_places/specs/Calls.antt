@@ -200,13 +200,15 @@ module _ {S P : Type 0} (sim : Simulation S P) where
 -- ---- refusals that are found in a claimed cell
 
 module _ {S P : Type 0} (sim : Simulation S P) where
-  -- a step is refused by a world that cells and places showed: there is a list of steps in which the place's are its own, and
-  -- after it and local steps of the place the step is refused so. Where there is one worker that list is the place's own steps
+  -- a step is refused by a world that cells and places showed: there is a list of steps in which the place's are its own, which has
+  -- grown at its end alone since the place left it, and after it and local steps of the place the step is refused so. Where there is
+  -- one worker that list is the place's own steps
   pub record IsRefusedBy (v : View P) (step : Step) (fault : Fault) : Type 0 where
     pub log : List Marked
     pub right : Each (IsMarkedRight sim) log
     pub part : slice_get (shown sim log).parts v.worker ≡ Some v.part
     pub mine : own_steps_of sim v.worker log ≡ map answered v.mine
+    pub grows : HasGrown v.worker v.log log
     pub own : sim.workers ≡ 1 → Each (λ m. m.worker ≡ v.worker) log
     pub steps : List Step
     pub before : Part P
@@ -252,12 +254,14 @@ module _ {S P : Type 0} (sim : Simulation S P) where
 -- ---- what the book shows
 
 module _ {S P : Type 0} (sim : Simulation S P) where
-  -- a floor that the book had after a step of the place: there is a list of steps in which the place's are its own, local steps of
-  -- the place, and then that step, which left this floor. The place was shown none above it
+  -- a floor that the book had after a step of the place: there is a list of steps in which the place's are its own, which has grown
+  -- at its end alone since the place left it, local steps of the place, and then that step, which left this floor. The place was
+  -- shown none above it
   pub record IsFloorLeft (v : View P) (step : Step) (floor : Time) : Type 0 where
     pub log : List Marked
     pub right : Each (IsMarkedRight sim) log
     pub mine : own_steps_of sim v.worker log ≡ map answered v.mine
+    pub grows : HasGrown v.worker v.log log
     pub own : sim.workers ≡ 1 → Each (λ m. m.worker ≡ v.worker) log
     pub steps : List Step
     pub before : Part P
@@ -266,11 +270,13 @@ module _ {S P : Type 0} (sim : Simulation S P) where
     pub rises : TimeAtMost v.seen floor
 
   -- records that a place is shown: the sequential run's before a floor of the book after some list of steps in which the place's
-  -- are its own. The place was shown none above it, and where it has closed the book it is the end of the run
+  -- are its own, which has grown at its end alone since the place left it. The place was shown none above it, and where it has
+  -- closed the book it is the end of the run
   pub record AreRecordsShown (v : View P) (floor : Time) (records : List Record) : Type 0 where
     pub log : List Marked
     pub right : Each (IsMarkedRight sim) log
     pub mine : own_steps_of sim v.worker log ≡ map answered v.mine
+    pub grows : HasGrown v.worker v.log log
     pub own : sim.workers ≡ 1 → Each (λ m. m.worker ≡ v.worker) log
     pub floor_is : floor ≡ book_floor sim.end (shown sim log).book
     pub records_are : records ≡ seq_records sim floor
