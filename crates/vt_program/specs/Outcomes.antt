@@ -3,7 +3,7 @@ use Rattle.std.specs.Prelude.{ℕ, List, Option, codes}
 use Rattle.clap.specs.Words.{Text}
 use Rattle.vt_key.specs.declared.fault.Fault.{Fault}
 use Rattle.vt_command.specs.Table.{twarp_models}
-use Rattle.vt_runner.specs.Outcomes.{Program, IsDoneBy, EndsWith, AskBadLine}
+use Rattle.vt_runner.specs.Outcomes.{Program, IsDoneBy, EndsWith, IsReadBy, AskBadLine}
 use Rattle.vt_runner.specs.Models.{program_of}
 use Rattle.vt_program.specs.Models.{meaning_of, IsMadeOf}
 
@@ -18,6 +18,10 @@ IsDone words remaining old new = IsDoneBy twarp words remaining old new
 -- what was done where it ended with a refusal
 abbrev pub EndsBy : Fault → List Text → Option (List ℕ) → Option (List ℕ) → Option (List ℕ) → Type 0
 EndsBy fault words remaining old new = EndsWith twarp words fault remaining old new
+
+-- the reader was kept, or the words ask for a replay
+abbrev pub IsRead : List Text → Option (List ℕ) → Option (List ℕ) → Type 0
+IsRead words remaining left = IsReadBy twarp words remaining left
 
 -- the words ask for a replay, and the reader tells bytes that are a step text with a bad line
 abbrev pub AskWithBadLine : List Text → Option (List ℕ) → Type 0

@@ -11,10 +11,10 @@ ghost use Rattle.std.specs.Prelude.{◌≡◌, ◌≢◌, map};
 ghost use Rattle.std.specs.Io.KnownBytes.{Keeps};
 ghost use Rattle.clap.specs.Words.{Text};
 ghost use Rattle.vt_key.specs.declared.fault.Fault.{Fault};
-ghost use Rattle.vt_command.specs.Requests.{AreOfReplay, AskHelp, IsRefusedAs};
+ghost use Rattle.vt_command.specs.Requests.{AskHelp, IsRefusedAs};
 ghost use Rattle.vt_program.specs.Refusals.{TellsRefusal, status_of};
 ghost use Rattle.vt_program.specs.Models.{IsChoice, IsMadeOf, meaning_of};
-ghost use Rattle.vt_program.specs.Outcomes.{AskWithBadLine, IsDone, EndsBy};
+ghost use Rattle.vt_program.specs.Outcomes.{AskWithBadLine, IsDone, IsRead, EndsBy};
 ghost use Rattle.vt_runner.specs.Models.{CarriesOut};
 ghost use Rattle.vt_runner.specs.Tasks.{IsCounted};
 
@@ -49,7 +49,8 @@ pub use vt_text::print_records;
 /// - N = 1: memory was refused. Nothing was written to `out`; or of a replay, the lines of all answers; or of a sequential
 ///   run, a beginning of the text; or of a run in threads, the committed records. If memory is refused to a step of a
 ///   replay, its answer says so, and the replay goes on.
-/// - N = 3: the committed records of a run in threads couldn't be read. Those below some time were written to `out`.
+/// - N = 3: the committed records of a run in threads couldn't be read. The text of no records was written to `out`.
+///   It is never so with one worker.
 /// - N = 5: a send number of a run would pass 2^63, or a serial of a run in threads or at the starts of a replay.
 ///   Nothing was written to `out`; or of a sequential run, a beginning of the text; or of a run in threads, the
 ///   committed records.
@@ -81,7 +82,7 @@ pub fn program<H: Threads + Wait + Sync, S: AsStr, R: Read, O: Write, E: Write, 
     ensures untouched { (name : Text) → IsRefusedAs (map S.text words.now) name → ¬ AskHelp (map S.text words.now)
         → (result ≢ 0) × Keeps (O.contents out.old) (O.contents out.new) }
     ensures unrun { AskWithBadLine (map S.text words.now) (R.remaining reader.old) → (result ≢ 0) × Keeps (O.contents out.old) (O.contents out.new) }
-    ensures unread { ¬ AreOfReplay (map S.text words.now) → Keeps (R.remaining reader.old) (R.remaining reader.new) }
+    ensures read { IsRead (map S.text words.now) (R.remaining reader.old) (R.remaining reader.new) }
 {
     let on_chosen = move |rt: &H, alloc: Global, chosen: &Chosen, task: &Task, watch: &W, input: &mut R, output: &mut O| -> Result<
         (),

@@ -1,5 +1,6 @@
 -- What a program of models does, by what its parts did.
-use Rattle.std.proofs.Common.{◌≡◌, ◌∙◌, ℕ, List, Option, Some, None, inl, inr, sym, ap, length, codes}
+use Rattle.std.proofs.Common.{◌≡◌, ◌∙◌, ℕ, List, Option, Some, None, Result, Ok, Err, inl, inr, sym, ap, length, codes}
+use Rattle.std.specs.Prelude.{⊤}
 use Rattle.std.specs.Io.KnownBytes.{Keeps}
 use Rattle.std.proofs.lemmas.List.{length-map}
 use Rattle.clap.specs.Words.{Text}
@@ -12,12 +13,12 @@ use Rattle.vt_options.specs.declared.own.Chosen.{Chosen}
 use Rattle.vt_options.specs.Asked.{AskTaskWith}
 use Rattle.vt_options.specs.Line.{given_by}
 use Rattle.vt_options.specs.Own.{Models, app_for, line_for, GiveModel, GiveValues}
-use Rattle.vt_options.specs.Requests.{AreBy, AskHelpOf, IsRefusedAsOf, IsRefusedByOf}
+use Rattle.vt_options.specs.Requests.{AskHelpOf, IsRefusedAsOf, IsRefusedByOf}
 use Rattle.vt_options.specs.Table.{Given, NumberOption, value_in}
-use Rattle.vt_runner.specs.Tasks.{IsCounted, KeepsInput, IsTaskDone, TaskEnds}
+use Rattle.vt_runner.specs.Tasks.{IsCounted, IsTaskDone, TaskEnds}
 use Rattle.vt_runner.specs.Outcomes.{IsAsked, EndsWith}
 use Rattle.vt_runner.specs.Programs.{IsTaskOf}
-use Rattle.vt_runner.specs.Models.{AnyHandlers, program_of, IsDoneFor, EndsFor, AskBadLineFor}
+use Rattle.vt_runner.specs.Models.{AnyHandlers, CarriesOut, program_of, IsDoneFor, EndsFor, IsReadFor, AskBadLineFor}
 use Rattle.vt_runner.proofs.OutcomeLemmas as outcomes
 
 -- as many values are given as there are options
@@ -40,11 +41,6 @@ module _ (name : Text) (models : Models) (words : List Text) where
   task_of task chosen asked =
       let given = task_given task _ _ asked in
       record { asked = asked; counted = task_counted task _ _ asked; complete = values_are (given_by (app_for name models) words) _ _ given.values; within = given.within }
-
-  -- words that aren't those of a replay let nothing be read
-  pub task_unread : (task : Task) (k : ℕ) (vs : List ℕ) (old new : Option (List ℕ)) → AskTaskWith name models words task k vs → KeepsInput task old new → ¬ AreBy (app_for name models) (codes "replay") words → Keeps old new
-  task_unread (Run s) k vs old new asked kept no_replay = kept
-  task_unread (Replay s) k vs old new asked kept no_replay = absurd (no_replay asked.replay)
 
 module _ {C : Type 0} (meaning : C → AnyHandlers) (Makes : Chosen → Option C → Type 0) (name : Text) (models : Models) where
   -- what the words ask for is what the command line says
@@ -72,6 +68,17 @@ module _ {C : Type 0} (meaning : C → AnyHandlers) (Makes : Chosen → Option C
   pub bad_nothing_written : (words : List Text) (input old new : Option (List ℕ)) (fault : Fault) → AskBadLineFor meaning Makes name models words input → EndsFor meaning Makes name models fault words input old new → Keeps old new
   bad_nothing_written words input old new fault bad (inl h) = outcomes.bad_nothing_written (program_of meaning Makes name models) is_asked words input bad old new fault h
   bad_nothing_written words input old new fault bad (inr h) = h.kept
+
+  -- a task is a run, which reads nothing, or a replay on a model; or it reads nothing, since there is no model
+  pub task_read : (words : List Text) (remaining left old new : Option (List ℕ)) (task : Task) (chosen : Chosen) (answer : Result ⊤ Fault) → AskTaskWith name models words task chosen.model chosen.values.items
+      → CarriesOut meaning Makes chosen task remaining left old new answer → IsReadFor meaning Makes name models words remaining left
+  task_read words remaining left old new (Run s) chosen answer asked h = inl h.unread
+  task_read words remaining left old new (Replay s) chosen (Ok done) asked h = inr (record { settings = s; chosen = chosen; model = h.ok.model }, record { asked = asked; made = h.ok.made })
+  task_read words remaining left old new (Replay s) chosen (Err fault) asked h =
+      elim h.err [
+        | inl stops ↦ inr (record { settings = s; chosen = chosen; model = stops.model }, record { asked = asked; made = stops.made })
+        | inr none ↦ inl none.unread
+      ]
 
   module _ (words : List Text) (input old new : Option (List ℕ)) where
     -- a task for a model that the choice makes was done

@@ -37,10 +37,10 @@ module _ (p : Program) (words : List Text) (r : p.Run) (input old new : Option (
   sequential_ends is Output h = inr (inl (record { options = r; asked = asked; begun = h }))
 
   -- and so does a run in threads
-  work_ends : p.synch_of r ≡ Optimistic → (fault : Fault) → StopsWork (p.text_below r) (p.text_of r) old new fault → EndsWith p words fault input old new
+  work_ends : p.synch_of r ≡ Optimistic → (fault : Fault) → StopsWork (p.workers_of r) (p.text_below r) (p.text_of r) old new fault → EndsWith p words fault input old new
   work_ends is Memory h = inr (inr (inl (record { options = r; asked = asked; optimistic = is; committed = h })))
   work_ends is NotLawful h = h
-  work_ends is Busy h = record { options = r; asked = asked; optimistic = is; committed = h }
+  work_ends is Busy h = record { options = r; asked = asked; optimistic = is; none = h }
   work_ends is Closed h = h
   work_ends is Exhausted h = inr (inl (record { options = r; asked = asked; optimistic = is; committed = h }))
   work_ends is TurnsSpent h = record { options = r; asked = asked; optimistic = is; committed = h }
@@ -48,12 +48,12 @@ module _ (p : Program) (words : List Text) (r : p.Run) (input old new : Option (
   work_ends is (BadStep line) h = absurd h
   work_ends is Output h = inr (inl (record { options = r; asked = asked; begun = h }))
 
-  by_synch : (fault : Fault) (synch : Synch) → p.synch_of r ≡ synch → StopsBy synch (p.Passes r) (p.text_below r) (p.text_of r) old new fault → EndsWith p words fault input old new
+  by_synch : (fault : Fault) (synch : Synch) → p.synch_of r ≡ synch → StopsBy synch (p.workers_of r) (p.Passes r) (p.text_below r) (p.text_of r) old new fault → EndsWith p words fault input old new
   by_synch fault Sequential is h = sequential_ends is fault h
   by_synch fault Optimistic is h = work_ends is fault h
 
   -- a run that was refused ends the program so
-  pub run_ends : (fault : Fault) → StopsBy (p.synch_of r) (p.Passes r) (p.text_below r) (p.text_of r) old new fault → EndsWith p words fault input old new
+  pub run_ends : (fault : Fault) → StopsBy (p.synch_of r) (p.workers_of r) (p.Passes r) (p.text_below r) (p.text_of r) old new fault → EndsWith p words fault input old new
   run_ends fault h = by_synch fault (p.synch_of r) refl h
 
 -- and so does a replay

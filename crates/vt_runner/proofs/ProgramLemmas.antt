@@ -1,5 +1,5 @@
 -- What a program of models does, by what the call that carries its tasks out does.
-use Rattle.std.proofs.Common.{◌≡◌, ◌≢◌, ℕ, List, Option, Result, Ok, Err, inl, inr, sym, subst, codes}
+use Rattle.std.proofs.Common.{◌≡◌, ◌≢◌, ℕ, List, Option, Result, Ok, Err, inl, inr, sym, subst}
 use Rattle.std.specs.Prelude.{⊤, OnOk, IfErr}
 use Rattle.std.specs.Fn.{Once}
 use Rattle.std.specs.Io.KnownBytes.{Keeps}
@@ -10,10 +10,10 @@ use Rattle.vt_key.specs.declared.fault.Fault.TheVariants.{Output}
 use Rattle.vt_options.specs.declared.choices.Task.{Task}
 use Rattle.vt_options.specs.declared.own.Chosen.{Chosen}
 use Rattle.vt_options.specs.Own.{Models, app_for, line_for}
-use Rattle.vt_options.specs.Requests.{AreBy, AskHelpOf, IsRefusedAsOf}
+use Rattle.vt_options.specs.Requests.{AskHelpOf, IsRefusedAsOf}
 use Rattle.vt_runner.specs.Outcomes.{BeginsHelp, EndsWith}
 use Rattle.vt_runner.specs.Programs.{CallAnswers, IsAnswered, IsDoneByCall, EndsByCall, IsReadByCall}
-use Rattle.vt_runner.specs.Models.{AnyHandlers, CarriesOut, program_of, IsDoneFor, EndsFor, AskBadLineFor}
+use Rattle.vt_runner.specs.Models.{AnyHandlers, CarriesOut, program_of, IsDoneFor, EndsFor, IsReadFor, AskBadLineFor}
 use Rattle.vt_runner.specs.Refusals.{status_of}
 use Rattle.vt_runner.proofs.ModelsLemmas as models
 
@@ -72,16 +72,16 @@ module _ {C : Type 0} (meaning : C → AnyHandlers) (Makes : Chosen → Option C
           | inr none ↦ models.values_refused meaning Makes name table words remaining old new none.kept h.task h.chosen fault h.asked none.refused none.named
         ]
 
-    -- words that aren't those of a replay let nothing be read
-    program_unread : IsReadByCall name table words Answers remaining left → Carry Answers → ¬ AreBy (app_for name table) (codes "replay") words → Keeps remaining left
-    program_unread (inl kept) carry no_replay = kept
-    program_unread (inr h) carry no_replay = models.task_unread name table words h.1.task _ _ remaining left h.1.asked (carry h.1.chosen h.1.task _ h.1.answered).unread no_replay
+    -- the reader was kept, or the words ask for a replay
+    program_read : IsReadByCall name table words Answers remaining left → Carry Answers → IsReadFor meaning Makes name table words remaining left
+    program_read (inl kept) carry = inl kept
+    program_read (inr h) carry = models.task_read meaning Makes name table words remaining left old new h.1.task h.1.chosen h.0 h.1.asked (carry h.1.chosen h.1.task _ h.1.answered)
 
   -- a program that returned this status did so, and told a refusal so
   pub record EndsAs (status : ℕ) (Tells : Fault → Type 0) : Type 0 where
     pub done : status ≡ 0 → IsDoneFor meaning Makes name table words remaining old new
     pub refused : status ≢ 0 → (fault : Fault) × (status ≡ status_of fault) × EndsFor meaning Makes name table fault words remaining old new × Tells fault
-    pub unread : ¬ AreBy (app_for name table) (codes "replay") words → Keeps remaining left
+    pub read : IsReadFor meaning Makes name table words remaining left
 
   -- one whose call carries tasks out did
   pub ends_as : (Answers : Chosen → Task → Result ⊤ Fault → Type 0) (status : ℕ) (Tells : Fault → Type 0) → (status ≡ 0 → IsDoneByCall name table words Answers old new)
@@ -89,7 +89,7 @@ module _ {C : Type 0} (meaning : C → AnyHandlers) (Makes : Chosen → Option C
   ends_as Answers status Tells done refused read carry = record {
     done = λ zero. program_done Answers (done zero) carry;
     refused = λ other. let told = refused other in (told.0, told.1, program_ends Answers told.0 told.2 carry, told.3);
-    unread = program_unread Answers read carry;
+    read = program_read Answers read carry;
   }
 
   module _ {status : ℕ} {Tells : Fault → Type 0} (h : EndsAs status Tells) where

@@ -18,11 +18,12 @@ use Rattle.vt_model.proofs.RowLemmas.{all_before}
 use Rattle.vt_model.proofs.RunLemmas.{known_sent, lists_of, reached}
 use Rattle.vt_steps.proofs.book.SequentialRows.{seq_records-begin}
 use Rattle.vt_station.specs.Crew.{IsStop}
+use Rattle.vt_station.proofs.CrewLemmas.{none-at-first}
 use Rattle.vt_text.specs.declared.version.Version.{Version}
 use Rattle.vt_text.specs.Records.{first_line, record_text, record_lines, records_text}
 use Rattle.vt_text.specs.Writing.{AppendsBeginning}
 use Rattle.vt_text.proofs.TextLemmas.{of_longer}
-use Rattle.vt_runner.specs.Runs.{text_below, run_text, WritesBelow, StopsWork}
+use Rattle.vt_runner.specs.Runs.{text_below, run_text, WritesBelow, WritesNone, StopsWork}
 
 pub either : (a b : ℕ) → (a < b) ⊎ (b ≤ a)
 either a b = elim (nat_lt a b) as (λ t. nat_lt a b ≡ t → (a < b) ⊎ (b ≤ a)) [ true ↦ λ e. inl (ltb-true a b e) | false ↦ λ e. inr (ltb-false a b e) ] refl
@@ -73,16 +74,23 @@ module _ (version : Version) {S P K : Type 0} (handlers : Handlers S P K) (confi
       begins = (text-begins is.0).1;
     }
 
+    -- or none were
+    none_written : stopped ≡ [] → 1 < config.workers → Appends old new (records_text version stopped) → WritesNone config.workers (text_below version handlers config) old new
+    none_written none many h = record {
+      others = many;
+      written = subst (λ (l : List Record). Appends old new (records_text version l)) (none ∙ none-at-first (simulation_of handlers config)) h;
+    }
+
     -- with any of the reasons for which a run stops
-    pub work_stops : (fault : Fault) → IsStop fault → Appends old new (records_text version stopped) → StopsWork (text_below version handlers config) (run_text version handlers config) old new fault
+    pub work_stops : (fault : Fault) → IsStop config fault stopped → Appends old new (records_text version stopped) → StopsWork config.workers (text_below version handlers config) (run_text version handlers config) old new fault
     work_stops fault stop h =
         let below = text_below version handlers config in
         let whole = run_text version handlers config in
         elim stop [
-          | inl (inl e) ↦ subst (StopsWork below whole old new) (sym e) (part_written h)
-          | inl (inr e) ↦ subst (StopsWork below whole old new) (sym e) (part_written h)
-          | inr (inl e) ↦ subst (StopsWork below whole old new) (sym e) (part_written h)
-          | inr (inr e) ↦ subst (StopsWork below whole old new) (sym e) (part_written h)
+          | inl (inl e) ↦ subst (StopsWork config.workers below whole old new) (sym e) (part_written h)
+          | inl (inr e) ↦ subst (StopsWork config.workers below whole old new) (sym e) (part_written h)
+          | inr (inl e) ↦ subst (StopsWork config.workers below whole old new) (sym e) (part_written h)
+          | inr (inr e) ↦ subst (StopsWork config.workers below whole old new) (sym e.0) (none_written e.2 e.1 h)
         ]
 
     -- a beginning of these records was written
@@ -93,5 +101,5 @@ module _ (version : Version) {S P K : Type 0} (handlers : Handlers S P K) (confi
         (of_longer old new (text_below version handlers config is.0) begins.0 (subst (λ (l : List Record). AppendsBeginning old new (records_text version l)) is.1 h))
 
 -- where the writer failed, a beginning of the text was written
-pub output_begun : (below : Time → List ℕ) (whole : List ℕ) (old new : Option (List ℕ)) (fault : Fault) → fault ≡ Output → AppendsBeginning old new whole → StopsWork below whole old new fault
-output_begun below whole old new fault is h = subst (StopsWork below whole old new) (sym is) h
+pub output_begun : (workers : ℕ) (below : Time → List ℕ) (whole : List ℕ) (old new : Option (List ℕ)) (fault : Fault) → fault ≡ Output → AppendsBeginning old new whole → StopsWork workers below whole old new fault
+output_begun workers below whole old new fault is h = subst (StopsWork workers below whole old new) (sym is) h

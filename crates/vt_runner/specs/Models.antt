@@ -15,7 +15,7 @@ use Rattle.vt_options.specs.Own.{Models, line_for, AskRunWith, AskReplayWith}
 use Rattle.vt_runner.specs.Runs.{run_text, text_below, PassesInRun}
 use Rattle.vt_runner.specs.Replays.{IsReplayOf, AreRepliesOf}
 use Rattle.vt_runner.specs.Tasks.{IsTaskDone, TaskEnds, KeepsInput}
-use Rattle.vt_runner.specs.Outcomes.{Program, IsDoneBy, EndsWith, AskBadLine}
+use Rattle.vt_runner.specs.Outcomes.{Program, IsDoneBy, EndsWith, IsReadBy, AskBadLine}
 
 -- the handlers of a model, with the types of its states, its payloads and what it keeps
 pub record AnyHandlers : Type 1 where
@@ -58,10 +58,11 @@ module _ {C : Type 0} (meaning : C → AnyHandlers) (Makes : Chosen → Option C
     pub made : Makes chosen (Some model)
     pub ends : TaskEnds (meaning model).handlers task remaining old new fault
 
-  -- the choice makes no model, which the fault says, and nothing was written
+  -- the choice makes no model, which the fault says, and nothing was read, and nothing was written
   pub record MakesNoModel (fault : Fault) : Type 0 where
     pub refused : Makes chosen None
     pub named : option_named fault ≡ Some (codes "values")
+    pub unread : Keeps remaining left
     pub kept : Keeps old new
 
   -- the task was carried out with this answer. A run reads nothing
@@ -91,6 +92,7 @@ module _ {C : Type 0} (meaning : C → AnyHandlers) (Makes : Chosen → Option C
     AskRun = AskRunOf;
     AskReplay = AskReplayOf;
     synch_of = λ r. r.settings.synch;
+    workers_of = λ r. r.settings.config.workers;
     text_of = λ r. run_text r.settings.text (meaning r.model).handlers r.settings.config;
     text_below = λ r time. text_below r.settings.text (meaning r.model).handlers r.settings.config time;
     Passes = λ r. PassesInRun (meaning r.model).handlers r.settings.config;
@@ -115,6 +117,10 @@ module _ {C : Type 0} (meaning : C → AnyHandlers) (Makes : Chosen → Option C
   -- what was done where it ended with a refusal
   abbrev pub EndsFor : Fault → List Text → Option (List ℕ) → Option (List ℕ) → Option (List ℕ) → Type 0
   EndsFor fault words remaining old new = EndsWith program_of words fault remaining old new ⊎ RefusesValues words fault old new
+
+  -- the reader was kept, or the words ask for a replay
+  abbrev pub IsReadFor : List Text → Option (List ℕ) → Option (List ℕ) → Type 0
+  IsReadFor words remaining left = IsReadBy program_of words remaining left
 
   -- the words ask for a replay, and the reader tells bytes that are a step text with a bad line
   abbrev pub AskBadLineFor : List Text → Option (List ℕ) → Type 0

@@ -1,12 +1,16 @@
 -- A program of one model: what its words ask for, and what it writes.
-use Rattle.std.specs.Prelude.{ℕ, List, Option}
+use Rattle.std.specs.Prelude.{◌≡◌, ◌⊎◌, ℕ, List, Option, Some, codes}
+use Rattle.std.specs.Io.KnownBytes.{Keeps}
 use Rattle.clap.specs.Words.{Text}
 use Rattle.vt_key.specs.declared.fault.Fault.{Fault}
+use Rattle.vt_key.specs.declared.fault.Fault.TheVariants.{Memory}
+use Rattle.vt_key.specs.Faults.{option_named}
 use Rattle.vt_model.specs.Handler.{Handlers}
 use Rattle.vt_options.specs.declared.own.Chosen.{Chosen}
 use Rattle.vt_options.specs.declared.own.OwnOption.{OwnOption}
 use Rattle.vt_options.specs.Own.{only}
-use Rattle.vt_runner.specs.Models.{AnyHandlers, any_handlers, IsDoneFor, EndsFor, AskBadLineFor}
+use Rattle.vt_options.specs.Taken.{own_names, taken_in}
+use Rattle.vt_runner.specs.Models.{AnyHandlers, any_handlers, IsDoneFor, EndsFor, IsReadFor, AskBadLineFor}
 
 -- a model with these handlers, which values of its options may make, or nothing, under a name and with a table of options
 module _ {M S P K : Type 0} (handlers : M → Handlers S P K) (Makes : List ℕ → Option M → Type 0) (name : Text) (own : List OwnOption) where
@@ -26,6 +30,17 @@ module _ {M S P K : Type 0} (handlers : M → Handlers S P K) (Makes : List ℕ 
   abbrev pub EndsOf : Fault → List Text → Option (List ℕ) → Option (List ℕ) → Option (List ℕ) → Type 0
   EndsOf fault words remaining old new = EndsFor meaning_of MakesOf name (only own) fault words remaining old new
 
+  -- the reader was kept, or the words ask for a replay
+  abbrev pub IsReadOf : List Text → Option (List ℕ) → Option (List ℕ) → Type 0
+  IsReadOf words remaining left = IsReadFor meaning_of MakesOf name (only own) words remaining left
+
   -- the words ask for a replay, and the reader tells bytes that are a step text with a bad line
   abbrev pub AskBadLineOf : List Text → Option (List ℕ) → Type 0
   AskBadLineOf words remaining = AskBadLineFor meaning_of MakesOf name (only own) words remaining
+
+-- a program with these options has refused so before it knew what its words ask for: memory was refused, they aren't text, or the
+-- name of an option is taken. Nothing was read, and nothing was written
+pub record IsRefusedUnasked (own : List OwnOption) (fault : Fault) (remaining left old new : Option (List ℕ)) : Type 0 where
+  pub why : (fault ≡ Memory) ⊎ (option_named fault ≡ Some (codes "command-line")) ⊎ ((taken : Text) × (taken_in (own_names own) ≡ Some taken) × (option_named fault ≡ Some taken))
+  pub unread : Keeps remaining left
+  pub kept : Keeps old new

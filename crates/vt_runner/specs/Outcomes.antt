@@ -12,7 +12,7 @@ use Rattle.vt_options.specs.declared.choices.Synch.TheVariants.{Sequential, Opti
 use Rattle.vt_options.specs.Line.{given_by}
 use Rattle.vt_options.specs.Settings.{GiveConfig}
 use Rattle.vt_options.specs.Requests.{Line, AreBy, AskHelpOf, IsRefusedAsOf}
-use Rattle.vt_runner.specs.Runs.{WritesBelow, WritesBeginning}
+use Rattle.vt_runner.specs.Runs.{WritesBelow, WritesNone, WritesBeginning}
 use Rattle.vt_step_text.specs.declared.reading.NumberedStep.{NumberedStep}
 use Rattle.vt_step_text.specs.StepText.{steps_of}
 use Rattle.vt_runner.specs.Replays.{ReplaysBy, BeginsReplayBy, WritesRepliesBy, StopsUnopenedBy, StopsAtBadLineBy}
@@ -25,6 +25,7 @@ pub record Program : Type 1 where
   pub AskRun : List Text → Run → Type 0
   pub AskReplay : List Text → Replay → Type 0
   pub synch_of : Run → Synch
+  pub workers_of : Run → ℕ
   pub text_of : Run → List ℕ
   pub text_below : Run → Time → List ℕ
   pub Passes : Run → Type 0
@@ -106,6 +107,13 @@ module _ (p : Program) (words : List Text) where
     pub optimistic : p.synch_of options ≡ Optimistic
     pub committed : WritesBelow (p.text_below options) (p.text_of options) old new
 
+  -- the words ask for a run in threads, of more than one worker, and its text without records was written
+  pub record StopsUnread (old new : Option (List ℕ)) : Type 0 where
+    pub options : p.Run
+    pub asked : p.AskRun words options
+    pub optimistic : p.synch_of options ≡ Optimistic
+    pub none : WritesNone (p.workers_of options) (p.text_below options) old new
+
   -- the words ask for a replay, whose world can't be made, and nothing was written
   pub record StopsReplayEarly (remaining old new : Option (List ℕ)) : Type 0 where
     pub options : p.Replay
@@ -138,13 +146,17 @@ module _ (p : Program) (words : List Text) where
   -- sequential run, or what a run in threads had committed, or the lines of all answers of a replay
   abbrev pub EndsWith : Fault → Option (List ℕ) → Option (List ℕ) → Option (List ℕ) → Type 0
   EndsWith Memory remaining old new = Keeps old new ⊎ StopsMidway old new ⊎ StopsPartWay old new ⊎ WritesLines remaining old new
-  EndsWith Busy remaining old new = StopsPartWay old new
+  EndsWith Busy remaining old new = StopsUnread old new
   EndsWith Exhausted remaining old new = StopsEarly old new ⊎ StopsPartWay old new ⊎ StopsReplayEarly remaining old new
   EndsWith TurnsSpent remaining old new = StopsPartWay old new
   EndsWith (BadOption name) remaining old new = RefusesWords name.now old new ⊎ RefusesInput name.now old new
   EndsWith (BadStep line) remaining old new = RefusesLine remaining line old new
   EndsWith Output remaining old new = BeginsHelp p.line.app words old new ⊎ BeginsRun old new ⊎ BeginsOutput remaining old new
   EndsWith _ remaining old new = ⊥
+
+  -- the reader was kept, or the words ask for a replay
+  abbrev pub IsReadBy : Option (List ℕ) → Option (List ℕ) → Type 0
+  IsReadBy remaining left = Keeps remaining left ⊎ ((r : p.Replay) × p.AskReplay words r)
 
   -- the words ask for a replay, and the reader tells bytes that are a step text with a bad line
   pub record AskBadLine (remaining : Option (List ℕ)) : Type 0 where

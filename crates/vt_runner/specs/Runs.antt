@@ -1,7 +1,7 @@
 -- The text of a run, and how much of it a run writes that is refused.
-use Rattle.std.specs.Prelude.{◌≡◌, ℕ, List, ◌++◌, Option}
+use Rattle.std.specs.Prelude.{◌≡◌, ◌<◌, ℕ, List, ◌++◌, Option}
 use Rattle.std.specs.Io.KnownBytes.{Appends}
-use Rattle.vt_key.specs.Times.{Time}
+use Rattle.vt_key.specs.Times.{Time, opening_time}
 use Rattle.vt_key.specs.declared.fault.Fault.{Fault}
 use Rattle.vt_key.specs.declared.fault.Fault.TheVariants.{Memory, Busy, Exhausted, TurnsSpent, Output}
 use Rattle.vt_model.specs.declared.settings.Config.{Config}
@@ -35,6 +35,11 @@ pub record WritesBelow (below : Time → List ℕ) (whole : List ℕ) (old new :
   pub rest : List ℕ
   pub begins : whole ≡ below time ++ rest
 
+-- the text without records was written: what comes before the opening. Another worker's place had claimed the book
+pub record WritesNone (workers : ℕ) (below : Time → List ℕ) (old new : Option (List ℕ)) : Type 0 where
+  pub others : 1 < workers
+  pub written : Appends old new (below opening_time)
+
 -- a beginning of the text was written, which may be nothing or all
 pub record WritesBeginning (whole : List ℕ) (old new : Option (List ℕ)) : Type 0 where
   pub beginning : List ℕ
@@ -50,16 +55,17 @@ StopsRun Passes old new text Exhausted = Passes × WritesBeginning text old new
 StopsRun Passes old new text Output = AppendsBeginning old new text
 StopsRun Passes old new text _ = ⊥
 
--- what a run in threads that was refused wrote of its text: what comes before some time, or where the writer failed a beginning
-abbrev pub StopsWork : (Time → List ℕ) → List ℕ → Option (List ℕ) → Option (List ℕ) → Fault → Type 0
-StopsWork below whole old new Memory = WritesBelow below whole old new
-StopsWork below whole old new Busy = WritesBelow below whole old new
-StopsWork below whole old new Exhausted = WritesBelow below whole old new
-StopsWork below whole old new TurnsSpent = WritesBelow below whole old new
-StopsWork below whole old new Output = AppendsBeginning old new whole
-StopsWork below whole old new _ = ⊥
+-- what a run in threads, of so many workers, that was refused wrote of its text: what comes before some time, or no record where the
+-- book was claimed, or where the writer failed a beginning
+abbrev pub StopsWork : ℕ → (Time → List ℕ) → List ℕ → Option (List ℕ) → Option (List ℕ) → Fault → Type 0
+StopsWork workers below whole old new Memory = WritesBelow below whole old new
+StopsWork workers below whole old new Busy = WritesNone workers below old new
+StopsWork workers below whole old new Exhausted = WritesBelow below whole old new
+StopsWork workers below whole old new TurnsSpent = WritesBelow below whole old new
+StopsWork workers below whole old new Output = AppendsBeginning old new whole
+StopsWork workers below whole old new _ = ⊥
 
 -- what a run that was refused wrote of its text, by the way in which it keeps the order of events
-abbrev pub StopsBy : Synch → Type 0 → (Time → List ℕ) → List ℕ → Option (List ℕ) → Option (List ℕ) → Fault → Type 0
-StopsBy Sequential Passes below whole old new fault = StopsRun Passes old new whole fault
-StopsBy Optimistic Passes below whole old new fault = StopsWork below whole old new fault
+abbrev pub StopsBy : Synch → ℕ → Type 0 → (Time → List ℕ) → List ℕ → Option (List ℕ) → Option (List ℕ) → Fault → Type 0
+StopsBy Sequential workers Passes below whole old new fault = StopsRun Passes old new whole fault
+StopsBy Optimistic workers Passes below whole old new fault = StopsWork workers below whole old new fault

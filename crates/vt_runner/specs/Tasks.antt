@@ -29,5 +29,5 @@ module _ {S P K : Type 0} (handlers : Handlers S P K) where
 
   -- what was done where it was refused
   abbrev pub TaskEnds : Task → Option (List ℕ) → Option (List ℕ) → Option (List ℕ) → Fault → Type 0
-  TaskEnds (Run s) remaining old new fault = StopsBy s.synch (PassesInRun handlers s.config) (text_below s.text handlers s.config) (run_text s.text handlers s.config) old new fault
+  TaskEnds (Run s) remaining old new fault = StopsBy s.synch s.config.workers (PassesInRun handlers s.config) (text_below s.text handlers s.config) (run_text s.text handlers s.config) old new fault
   TaskEnds (Replay s) remaining old new fault = EndsReplayBy s.config (λ steps. IsReplayOf s.text handlers s.config s.serial steps) (λ steps. AreRepliesOf handlers s.config s.serial steps) (PassesAtStart (simulation_of handlers s.config) s.serial) remaining old new fault

@@ -1,16 +1,16 @@
 //! A whole program of one model, as a function of its words, a reader and two writers.
 
-ghost use Rattle.std.specs.Prelude.{◌≡◌, ◌≢◌, List, length, map, codes};
+ghost use Rattle.std.specs.Prelude.{◌≡◌, ◌≢◌, List, length, map};
 ghost use Rattle.std.specs.Fn.{FnReturnsAt};
 ghost use Rattle.std.specs.Io.KnownBytes.{Keeps};
 ghost use Rattle.clap.specs.Words.{Text};
 ghost use Rattle.vt_key.specs.declared.fault.Fault.{Fault};
 ghost use Rattle.vt_options.specs.Own.{HaveDefaults, AreWithin, own_app, own_line};
-ghost use Rattle.vt_options.specs.Requests.{AreBy, AskHelpOf, IsRefusedAsOf};
+ghost use Rattle.vt_options.specs.Requests.{AskHelpOf, IsRefusedAsOf};
 ghost use Rattle.vt_runner.specs.Refusals.{TellsRefusalOf, status_of};
 ghost use Rattle.vt_runner.specs.Tasks.{IsCounted};
 ghost use Rattle.vt_runner.specs.Models.{any_handlers, CarriesOut};
-ghost use Rattle.vt_runner.specs.OneModel.{IsDoneOf, EndsOf, AskBadLineOf};
+ghost use Rattle.vt_runner.specs.OneModel.{IsDoneOf, EndsOf, IsReadOf, AskBadLineOf};
 
 use crate::{carry_out, models_program};
 use std::alloc::Global;
@@ -56,7 +56,8 @@ pub struct Streams<R, O, E> {
 ///
 /// - N = 1: memory was refused. Nothing was written; or of a sequential run, a beginning of the text; or of a replay, the
 ///   lines of all answers; or of a run in threads, the committed records.
-/// - N = 3: the committed records of a run in threads couldn't be read. Those below some time were written.
+/// - N = 3: the committed records of a run in threads couldn't be read. The text of no records was written. It is
+///   never so with one worker.
 /// - N = 5: a send number of a run would pass 2^63, or a serial of a run in threads or at the starts of a replay. Nothing
 ///   was written; or of a sequential run, a beginning of the text; or of a run in threads, the committed records.
 /// - N = 6: a worker of a run in threads made all its turns before the end of the run. The committed records were written.
@@ -98,7 +99,7 @@ where
     ensures untouched { (name : Text) → IsRefusedAsOf (own_line texts.now.name.now own.now) (map S.text words.now) name → ¬ AskHelpOf (own_app texts.now.name.now own.now) (map S.text words.now)
         → (result ≢ 0) × Keeps (O.contents streams.old.output) (O.contents streams.new.output) }
     ensures unrun { AskBadLineOf M.handlers (λ values made. FnReturnsAt F.Fn make values made) texts.now.name.now own.now (map S.text words.now) (R.remaining streams.old.input) → (result ≢ 0) × Keeps (O.contents streams.old.output) (O.contents streams.new.output) }
-    ensures unread { ¬ AreBy (own_app texts.now.name.now own.now) (codes "replay") (map S.text words.now) → Keeps (R.remaining streams.old.input) (R.remaining streams.new.input) }
+    ensures read { IsReadOf M.handlers (λ values made. FnReturnsAt F.Fn make values made) texts.now.name.now own.now (map S.text words.now) (R.remaining streams.old.input) (R.remaining streams.new.input) }
 {
     let models = [ModelOptions {
         name: "",

@@ -10,7 +10,7 @@ ghost use Rattle.vt_key.specs.declared.fault.Fault.TheVariants.{Memory};
 ghost use Rattle.vt_options.specs.Own.{HaveDefaults, AreWithin};
 ghost use Rattle.vt_options.specs.Taken.{own_names, taken_in};
 ghost use Rattle.vt_runner.specs.Refusals.{TellsRefusalOf, status_of};
-ghost use Rattle.vt_runner.specs.OneModel.{IsDoneOf, EndsOf};
+ghost use Rattle.vt_runner.specs.OneModel.{IsDoneOf, EndsOf, IsReadOf, IsRefusedUnasked};
 
 use crate::one_model::{OWN_HEADING, Streams, model_program};
 use crate::tell_refusal;
@@ -70,11 +70,13 @@ where
     M::Kept: Send,
     requires defaults { HaveDefaults own.now }
     requires callable { (values : _) → length values.now ≡ length own.now → AreWithin own.now values.now → F.pre make values }
-    ensures done { result ≡ 0 → (words : List Text) × IsDoneOf M.handlers (λ values made. FnReturnsAt F.Fn make values made) texts.now.name.now own.now words (R.remaining streams.old.input) (O.contents streams.old.output) (O.contents streams.new.output) }
+    ensures done { result ≡ 0 → (words : List Text) × IsDoneOf M.handlers (λ values made. FnReturnsAt F.Fn make values made) texts.now.name.now own.now words (R.remaining streams.old.input) (O.contents streams.old.output) (O.contents streams.new.output)
+        × IsReadOf M.handlers (λ values made. FnReturnsAt F.Fn make values made) texts.now.name.now own.now words (R.remaining streams.old.input) (R.remaining streams.new.input) }
     ensures silent { result ≡ 0 → Keeps (E.contents streams.old.errors) (E.contents streams.new.errors) }
     ensures refused { result ≢ 0 → (fault : Fault) × (result ≡ status_of fault)
-        × (((words : List Text) × EndsOf M.handlers (λ values made. FnReturnsAt F.Fn make values made) texts.now.name.now own.now fault words (R.remaining streams.old.input) (O.contents streams.old.output) (O.contents streams.new.output))
-        ⊎ Keeps (O.contents streams.old.output) (O.contents streams.new.output))
+        × (((words : List Text) × EndsOf M.handlers (λ values made. FnReturnsAt F.Fn make values made) texts.now.name.now own.now fault words (R.remaining streams.old.input) (O.contents streams.old.output) (O.contents streams.new.output)
+        × IsReadOf M.handlers (λ values made. FnReturnsAt F.Fn make values made) texts.now.name.now own.now words (R.remaining streams.old.input) (R.remaining streams.new.input))
+        ⊎ IsRefusedUnasked own.now fault (R.remaining streams.old.input) (R.remaining streams.new.input) (O.contents streams.old.output) (O.contents streams.new.output))
         × TellsRefusalOf texts.now.name.now fault (E.contents streams.old.errors) (E.contents streams.new.errors) }
     ensures taken { (name : Text) → taken_in (own_names own.now) ≡ Some name → (result ≡ 2)
         × Keeps (R.remaining streams.old.input) (R.remaining streams.new.input) × Keeps (O.contents streams.old.output) (O.contents streams.new.output)

@@ -64,7 +64,7 @@ where
     M::State: Send,
     M::Kept: Send,
     ensures ok { OnOk result (Appends (O.contents out.old) (O.contents out.new) (run_text options.now.text (M.handlers model.now) options.now.config)) }
-    ensures err { IfErr result (StopsWork (text_below options.now.text (M.handlers model.now) options.now.config) (run_text options.now.text (M.handlers model.now) options.now.config) (O.contents out.old) (O.contents out.new)) }
+    ensures err { IfErr result (StopsWork options.now.config.workers (text_below options.now.text (M.handlers model.now) options.now.config) (run_text options.now.text (M.handlers model.now) options.now.config) (O.contents out.old) (O.contents out.new)) }
 {
     match run_workers(rt, alloc, options.config, model, watch, options.turns) {
         Ok(records) => print_in_threads(
@@ -90,8 +90,8 @@ where
 ///
 /// In a run in threads, the committed records, which are those below some time, are written in that version before each
 /// of these faults: [`Fault::Memory`], also if a thread wasn't started; [`Fault::Exhausted`] if a counter would pass 2^63;
-/// [`Fault::TurnsSpent`] if a worker made all its turns before the end of the run; and [`Fault::Busy`] if the records couldn't
-/// be read.
+/// and [`Fault::TurnsSpent`] if a worker made all its turns before the end of the run. [`Fault::Busy`]: the records couldn't
+/// be read, and the text of none was written. One worker alone never has it.
 ///
 /// In both, [`Fault::Output`] means that the writer failed. A beginning of the text was written.
 ///
@@ -108,7 +108,7 @@ where
     M::State: Send,
     M::Kept: Send,
     ensures ok { OnOk result (Appends (O.contents out.old) (O.contents out.new) (run_text options.now.text (M.handlers model.now) options.now.config)) }
-    ensures err { IfErr result (StopsBy options.now.synch (PassesInRun (M.handlers model.now) options.now.config) (text_below options.now.text (M.handlers model.now) options.now.config) (run_text options.now.text (M.handlers model.now) options.now.config) (O.contents out.old) (O.contents out.new)) }
+    ensures err { IfErr result (StopsBy options.now.synch options.now.config.workers (PassesInRun (M.handlers model.now) options.now.config) (text_below options.now.text (M.handlers model.now) options.now.config) (run_text options.now.text (M.handlers model.now) options.now.config) (O.contents out.old) (O.contents out.new)) }
 {
     match options.synch {
         Synch::Sequential => print_run(alloc, model, options, watch, out),

@@ -1,7 +1,7 @@
 -- What the records of a place say of the run, once its worker's work has ended.
-use Rattle.std.proofs.Common.{◌≡◌, ℕ, List, [], ◌∷◌, map, Bool, true, false, cond, Option, Some, Result, Ok, Err, subst, ap, refl, sym, ◌∙◌, arith}
+use Rattle.std.proofs.Common.{ℕ, List, [], ◌∷◌, map, Bool, true, false, cond, Option, Some, Result, Ok, Err, inl, inr, subst, ap, refl, sym, ◌∙◌, arith}
 use Rattle.std.proofs.lemmas.Bool.{le-ltb}
-use Rattle.std.specs.Prelude.{IfOk, MatchResult}
+use Rattle.std.specs.Prelude.{◌≡◌, ◌<◌, ◌⊎◌, IfOk, IfErr, MatchResult}
 use Rattle.atomic_table.specs.Seated.{TableId}
 use Rattle.vt_key.specs.Times.{Time, opening_time, time_before}
 use Rattle.vt_key.specs.declared.fault.Fault.{Fault}
@@ -15,7 +15,10 @@ use Rattle.vt_places.specs.declared.place.Place.{Place}
 use Rattle.vt_station.specs.declared.driver.Outcome.{Outcome}
 use Rattle.vt_station.specs.declared.driver.Outcome.TheVariants.{Closed}
 use Rattle.vt_places.specs.Calls.{AreRecordsShown}
-use Rattle.vt_station.specs.Crew.{IsLeft}
+use Rattle.vt_key.specs.declared.fault.Fault.TheVariants.{Busy, TurnsSpent}
+use Rattle.vt_model.specs.declared.settings.Config.{Config}
+use Rattle.vt_station.specs.Crew.{IsLeft, IsStop}
+use Rattle.vt_station.specs.Turns.{IsLasting}
 
 module _ {S P : Type 0} (sim : Simulation S P) where
   -- the worker closed the book, and its place knows it
@@ -46,3 +49,10 @@ pub stop-records : {S P X : Type 0} (sim : Simulation S P) (items : X → List R
     → (t : Time) × (records ≡ seq_records sim t)
 stop-records sim items (Ok x) records Known A B shown stops = (shown.0, stops.1 ∙ shown.1)
 stop-records sim items (Err fault) records Known A B shown stops = (opening_time, stops.1 ∙ none-at-first sim)
+
+-- why it stops: for what ended the work, or since the book was claimed
+pub stop-fault : {X : Type 0} (config : Config) (items : X → List Record) (result : Result X Fault) (fault told : Fault) (records : List Record) → IsLasting fault ⊎ (fault ≡ TurnsSpent)
+    → IfErr result (λ refused. (refused ≡ Busy) × (1 < config.workers)) → MatchResult result (λ x. (told ≡ fault) × (records ≡ items x)) (λ refused. (told ≡ refused) × (records ≡ [])) → IsStop config told records
+stop-fault config items (Ok x) fault told records (inl lasting) busy stops = inl (subst IsLasting (sym stops.0) lasting)
+stop-fault config items (Ok x) fault told records (inr spent) busy stops = inr (inl (stops.0 ∙ spent))
+stop-fault config items (Err refused) fault told records ended busy stops = inr (inr (stops.0 ∙ busy.0, busy.1, stops.1))

@@ -86,7 +86,7 @@ pub record IsSameWork {M P : Type 0} (old new : List (AtJob M P)) : Type 0 where
   pub order : AreInOrder old → AreInOrder new
   pub told : (model : M) (config : Config) → AllAt model config old → AllAt model config new
 
--- why a run stops before its end: memory was refused, a count would pass its limit, or all turns were made; or the book was
--- claimed when its records were asked for
-abbrev pub IsStop : Fault → Type 0
-IsStop fault = IsLasting fault ⊎ (fault ≡ TurnsSpent) ⊎ (fault ≡ Busy)
+-- why a run stops before its end: memory was refused, a count would pass its limit, or all turns were made; or another worker's
+-- place had claimed the book when its records were asked for, and there are none
+abbrev pub IsStop : Config → Fault → List Record → Type 0
+IsStop config fault records = IsLasting fault ⊎ (fault ≡ TurnsSpent) ⊎ ((fault ≡ Busy) × (1 < config.workers) × (records ≡ []))

@@ -32,7 +32,7 @@ pub struct Stopped {
     /// Why the run stopped. [`Fault::Memory`]: memory was refused, or a thread wasn't started. [`Fault::Exhausted`]: a counter
     /// would pass 2^63. If several workers had one of these, it is that of the least number among them. [`Fault::TurnsSpent`]:
     /// none had one, and a worker made all its turns. [`Fault::Busy`]: the committed records couldn't be taken out of the book,
-    /// and `records` is empty.
+    /// and `records` is empty. One worker alone never has it.
     pub fault: Fault,
     /// The records that the book showed in the end: those of the sequential run below some time, and perhaps none.
     pub records: Vec<Record>,
@@ -162,7 +162,7 @@ impl<'a, M: EventModel> Job<'a, M> {
     /// The records that the worker's place shows, taken out of the book.
     fn into_records(self, alloc: Global) -> Result<Vec<Record>, Fault>
         ensures shown { IfOk result (λ v. (floor : TimeValue) × (v.items ≡ seq_records (simulation_of (M.handlers self.entry.model) self.entry.config) floor) × (self.entry.outcome ≡ Some Closed → floor ≡ (end_of self.entry.config))) }
-        ensures refused { IfErr result (λ fault. fault ≡ Busy) }
+        ensures refused { IfErr result (λ fault. (fault ≡ Busy) × (1 < self.entry.config.workers)) }
     {
         let Job { station, place, .. } = self;
         let Some(place) = place else { unreachable!() };
@@ -300,7 +300,7 @@ fn answer_of<M: EventModel>(
     ensures told { IfErr result (λ stopped. IsToldBy jobs.entry.items stopped.fault stopped.records.items) }
     ensures whole { IfOk result (λ v. v.items ≡ seq_records (simulation_of (M.handlers model.now) config) (end_of config)) }
     ensures begun { IfErr result (λ stopped. (t : TimeValue) × (stopped.records.items ≡ seq_records (simulation_of (M.handlers model.now) config) t)) }
-    ensures fault { IfErr result (λ stopped. IsStop stopped.fault) }
+    ensures fault { IfErr result (λ stopped. IsStop config stopped.fault stopped.records.items) }
 {
     let mut jobs = jobs;
     if let Some(closer) = closer_of(jobs.as_slice()) {
@@ -434,7 +434,7 @@ where
     ensures whole { IfOk result (λ v. v.records.items ≡ seq_records (simulation_of (M.handlers model.now) config) (end_of config)) }
     ensures finals { wanted ≡ Finals → IfOk result (λ v. v.finals.items ≡ seq_finals (simulation_of (M.handlers model.now) config)) }
     ensures begun { IfErr result (λ stopped. (t : TimeValue) × (stopped.records.items ≡ seq_records (simulation_of (M.handlers model.now) config) t)) }
-    ensures fault { IfErr result (λ stopped. IsStop stopped.fault) }
+    ensures fault { IfErr result (λ stopped. IsStop config stopped.fault stopped.records.items) }
 {
     watch.begin(config.end().ticks(), Some(config.workers));
     let (station, places) = match Station::new(alloc, model, config) {
@@ -486,7 +486,7 @@ where
     M::Kept: Send,
     ensures whole { IfOk result (λ v. v.items ≡ seq_records (simulation_of (M.handlers model.now) config) (end_of config)) }
     ensures begun { IfErr result (λ stopped. (t : TimeValue) × (stopped.records.items ≡ seq_records (simulation_of (M.handlers model.now) config) t)) }
-    ensures fault { IfErr result (λ stopped. IsStop stopped.fault) }
+    ensures fault { IfErr result (λ stopped. IsStop config stopped.fault stopped.records.items) }
 {
     match run_crew(rt, alloc, config, model, watch, max_turns, Wanted::Records) {
         Ok(finished) => Ok(finished.records),
@@ -512,7 +512,7 @@ where
     ensures whole { IfOk result (λ v. v.records.items ≡ seq_records (simulation_of (M.handlers model.now) config) (end_of config)) }
     ensures finals { IfOk result (λ v. v.finals.items ≡ seq_finals (simulation_of (M.handlers model.now) config)) }
     ensures begun { IfErr result (λ stopped. (t : TimeValue) × (stopped.records.items ≡ seq_records (simulation_of (M.handlers model.now) config) t)) }
-    ensures fault { IfErr result (λ stopped. IsStop stopped.fault) }
+    ensures fault { IfErr result (λ stopped. IsStop config stopped.fault stopped.records.items) }
 {
     run_crew(rt, alloc, config, model, watch, max_turns, Wanted::Finals)
 }

@@ -41,3 +41,6 @@ returns-clause-untouched g c = untouched _ _ _ _ _ _ _ _ _ (ended g c)
 
 pub returns-clause-unrun : goal.returns-clause-unrun
 returns-clause-unrun g c = unrun _ _ _ _ _ _ _ _ _ (ended g c)
+
+pub returns-clause-read : goal.returns-clause-read
+returns-clause-read g c = (ended g c).read

@@ -1,5 +1,6 @@
 use Rattle.std.proofs.Common.{◌≡◌, sym, ◌∙◌, subst, Some}
-use Rattle.std.specs.Prelude.{IfOk}
+use Rattle.std.specs.Prelude.{◌<◌, IfOk, IfErr}
+use Rattle.vt_key.specs.declared.fault.Fault.TheVariants.{Busy}
 use Rattle.vt_key.specs.Times.{Time}
 use Rattle.vt_model.specs.declared.settings.Config.{Config}
 use Rattle.vt_model.specs.Simulation.{simulation_of}
@@ -26,3 +27,8 @@ returns-clause-shown g c =
     let of-model = subst (λ (m : g.row.M.Denot). IfOk c.take_out.result (λ v. (floor : Time) × (v.items ≡ seq_records (simulation_of (H m) key.config) floor) × (i.outcome ≡ Some Closed → floor ≡ (end_of key.config)))) inv.model_is shown in
     let of-config = subst (λ (k : Config). IfOk c.take_out.result (λ v. (floor : Time) × (v.items ≡ seq_records (simulation_of (H i.model.now) k) floor) × (i.outcome ≡ Some Closed → floor ≡ (end_of k)))) inv.config_is of-model in
     subst (λ (j : AtJob g.row.M.Denot g.row.M-Payload.Denot). IfOk c.take_out.result (λ v. (floor : Time) × (v.items ≡ seq_records (simulation_of (H j.model) j.config) floor) × (j.outcome ≡ Some Closed → floor ≡ (end_of j.config)))) c.self.view_is of-config
+
+pub returns-clause-refused : goal.returns-clause-refused
+returns-clause-refused g c =
+    let of-config = subst (λ (k : Config). IfErr c.take_out.result (λ fault. (fault ≡ Busy) × (1 < k.workers))) c.self.invariant.config_is c.take_out.ensures.refused in
+    subst (λ (j : AtJob g.row.M.Denot g.row.M-Payload.Denot). IfErr c.take_out.result (λ fault. (fault ≡ Busy) × (1 < j.config.workers))) c.self.view_is of-config
