@@ -1,7 +1,6 @@
 -- What a seat holds before and after a write, and what a claimed cell is.
-use Rattle.std.proofs.Common.{◌≡◌, ℕ, ◌<◌, List, ◌∷◌, refl, sym, ◌∙◌, ap, subst, get_or, Vec, Global}
+use Rattle.std.proofs.Common.{◌≡◌, ℕ, List, ◌∷◌, refl, sym, ◌∙◌, ap, subst, get_or, Vec, Global}
 use Rattle.atomic_table.specs.Table.{rest}
-use Rattle.atomic_table.specs.Seated.{TableId}
 use Rattle.vt_key.specs.declared.letter.Mail.{Mail}
 use Rattle.vt_model.specs.declared.settings.Config.{Config}
 use Rattle.vt_steps.specs.World.{Book as BookValue}
@@ -46,7 +45,3 @@ module _ {P : Type 0} {config : Config} {m : Sat P} {k : ℕ} {found : Cell P} (
         now_is = is;
         right = right;
       })
-
--- a seat of the same table knows as many cells
-pub known-at : {n : ℕ} {t u : TableId} → u ≡ t → n < t.slots → n < u.slots
-known-at {n} is h = subst (λ (table : TableId). n < table.slots) (sym is) h

@@ -7,6 +7,7 @@ pub mod RuleTells
 pub mod Releases
 pub mod CommitRelease
 pub mod HeldLemmas
+pub mod PlaceLemmas
 pub mod ActLemmas
 pub mod CallLemmas
 pub mod AloneLemmas

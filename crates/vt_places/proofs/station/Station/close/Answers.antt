@@ -7,12 +7,11 @@ use Rattle.vt_steps.specs.World.{book_floor}
 use Rattle.vt_steps.specs.Cells.{Acted, in_book, act}
 use Rattle.vt_book.specs.Books.{RunBook}
 use Rattle.vt_cells.specs.Calls.{IsClosingRefusal}
-use Rattle.vt_places.specs.Kept.{Rests}
 use Rattle.vt_places.proofs.CallLemmas.{closes-there}
 use Rattle.vt_places.proofs.BookAt.{book-ends, run-book, book-put, not-open, refused-once}
 use Rattle.vt_places.proofs.AloneLemmas.{close-alone}
 use Rattle.vt_places.proofs.RefusalLemmas as refusal
-use Rattle.vt_places.proofs.HeldLemmas.{known-at}
+use Rattle.vt_places.proofs.PlaceLemmas.{refused, released}
 use Rattle.vt_places.proofs.station.Station.close.Goals as goal
 
 pub release_close-requires-clause-held : goal.release_close-requires-clause-held
@@ -74,33 +73,12 @@ returns-in-Err-clause-alone g c =
     close-alone (simulation_of (g.M.Model.handlers key.model.value) key.config) v (Err c.in-Err.fault) (end_of key.config) v (Unit {0}) tt (returns-in-Err-clause-refused g c)
 
 pub invariant_of-place : goal.invariant_of-place
-invariant_of-place g c =
-    let place = c.args.place.now in
-    let same = c.if-not-claim_book.ensures.same in
-    record {
-      rests = subst Rests (sym (c.if-not-claim_book.ensures.busy refl).0) place.rests;
-      own = same.2 ∙ place.own;
-      known = known-at same.0 place.known;
-    }
+invariant_of-place g c = refused c.args.place.now c.claim_book.new.seat c.if-not-claim_book.ensures.same (c.if-not-claim_book.ensures.busy refl).0
 
 pub invariant_of-place-in-Ok : goal.invariant_of-place-in-Ok
 invariant_of-place-in-Ok g c =
-    let place = c.args.place.now in
-    let same = c.if-not-claim_book.ensures.same in
-    let left = c.release_close.ensures.same in
-    record {
-      rests = left.2;
-      own = c.release_close.ensures.done.same.worker ∙ same.2 ∙ place.own;
-      known = known-at (left.0 ∙ same.0) place.known;
-    }
+    let left = c.release_close.ensures in
+    released c.args.place.now c.claim_book.new.seat c.release_close.new.seat c.if-not-claim_book.ensures.same (left.same.0, left.same.1, left.same.2, left.done.same.worker)
 
 pub invariant_of-place-in-Err : goal.invariant_of-place-in-Err
-invariant_of-place-in-Err g c =
-    let place = c.args.place.now in
-    let same = c.if-not-claim_book.ensures.same in
-    let left = c.release_unchanged.ensures.same in
-    record {
-      rests = left.2;
-      own = left.3 ∙ same.2 ∙ place.own;
-      known = known-at (left.0 ∙ same.0) place.known;
-    }
+invariant_of-place-in-Err g c = released c.args.place.now c.claim_book.new.seat c.release_unchanged.new.seat c.if-not-claim_book.ensures.same c.release_unchanged.ensures.same

@@ -10,14 +10,13 @@ use Rattle.vt_steps.specs.PartSteps.{part_after_commit}
 use Rattle.vt_steps.specs.Cells.{in_book, act}
 use Rattle.vt_kernel.specs.Held.{HeldWorker, StandsFor}
 use Rattle.vt_cells.specs.Calls.{IsCellRefusal, IsHandInRefusal, AreOfOneWorld, CommitsTo}
-use Rattle.vt_places.specs.Kept.{Rests}
 use Rattle.vt_places.specs.Calls.{Visited, ShowsFloor}
 use Rattle.vt_places.proofs.CommitRelease.{committed-visited}
 use Rattle.vt_places.proofs.BookAt.{book-is, book-ends, book-put, not-open, refused-once, one-world}
 use Rattle.vt_places.proofs.ReachLemmas.{reaches-visited}
 use Rattle.vt_places.proofs.AloneLemmas.{commit-alone}
 use Rattle.vt_places.proofs.RefusalLemmas as refusal
-use Rattle.vt_places.proofs.HeldLemmas.{known-at}
+use Rattle.vt_places.proofs.PlaceLemmas.{refused, released}
 use Rattle.vt_places.proofs.station.Station.commit.Goals as goal
 
 pub hand_in-requires-clause-reached : goal.hand_in-requires-clause-reached
@@ -124,33 +123,12 @@ returns-in-Err-clause-alone g c r =
     commit-alone (g.M.Model.handlers key.model.value) key.config c.args.place.now.seat.me.0 c.release_unchanged.new.seat.me.0 k k r (Unit {0}) c.args.place.now.own (Err c.in-Err.fault) t.lawful t.known.within tt (returns-in-Err-clause-refused g c)
 
 pub invariant_of-place : goal.invariant_of-place
-invariant_of-place g c =
-    let place = c.args.place.now in
-    let same = c.if-not-claim_book.ensures.same in
-    record {
-      rests = subst Rests (sym (c.if-not-claim_book.ensures.busy refl).0) place.rests;
-      own = same.2 ∙ place.own;
-      known = known-at same.0 place.known;
-    }
+invariant_of-place g c = refused c.args.place.now c.claim_book.new.seat c.if-not-claim_book.ensures.same (c.if-not-claim_book.ensures.busy refl).0
 
 pub invariant_of-place-in-Ok : goal.invariant_of-place-in-Ok
 invariant_of-place-in-Ok g c =
-    let place = c.args.place.now in
-    let same = c.if-not-claim_book.ensures.same in
-    let left = c.release_commit.ensures.same in
-    record {
-      rests = left.2;
-      own = c.release_commit.ensures.done.same.worker ∙ same.2 ∙ place.own;
-      known = known-at (left.0 ∙ same.0) place.known;
-    }
+    let left = c.release_commit.ensures in
+    released c.args.place.now c.claim_book.new.seat c.release_commit.new.seat c.if-not-claim_book.ensures.same (left.same.0, left.same.1, left.same.2, left.done.same.worker)
 
 pub invariant_of-place-in-Err : goal.invariant_of-place-in-Err
-invariant_of-place-in-Err g c =
-    let place = c.args.place.now in
-    let same = c.if-not-claim_book.ensures.same in
-    let left = c.release_unchanged.ensures.same in
-    record {
-      rests = left.2;
-      own = left.3 ∙ same.2 ∙ place.own;
-      known = known-at (left.0 ∙ same.0) place.known;
-    }
+invariant_of-place-in-Err g c = released c.args.place.now c.claim_book.new.seat c.release_unchanged.new.seat c.if-not-claim_book.ensures.same c.release_unchanged.ensures.same

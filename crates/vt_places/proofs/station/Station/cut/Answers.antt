@@ -9,10 +9,10 @@ use Rattle.vt_steps.specs.declared.step.Reply.TheVariants.{Done}
 use Rattle.vt_steps.specs.Cells.{Cell, on_board}
 use Rattle.vt_kernel.specs.Held.{HeldWorker}
 use Rattle.vt_cells.specs.Calls.{IsCellStepOf, IsCellRefusal}
-use Rattle.vt_places.specs.Kept.{Rests}
 use Rattle.vt_places.specs.declared.slot.Slot.TheVariants as slot
 use Rattle.vt_places.specs.Calls.{Stays, IsCutRefusal}
-use Rattle.vt_places.proofs.HeldLemmas.{found-is, found-right, puts, known-at}
+use Rattle.vt_places.proofs.HeldLemmas.{found-is, found-right, puts}
+use Rattle.vt_places.proofs.PlaceLemmas.{refused, released}
 use Rattle.vt_places.proofs.Releases.{home-not_empty}
 use Rattle.vt_places.proofs.CallLemmas.{tried-there, tried-refused}
 use Rattle.vt_places.proofs.RefusalLemmas.{cut-refused}
@@ -77,22 +77,7 @@ returns-clause-alone g c r =
     cut-alone (g.M.Model.handlers key.model.value) key.config v w k left r (Stays v w × (left ≡ k)) c.args.place.now.own c.outcome.result v.seen (returns-clause-done g c) (returns-clause-refused g c)
 
 pub invariant_of-place : goal.invariant_of-place
-invariant_of-place g c =
-    let place = c.args.place.now in
-    let same = c.if-not-claim_board.ensures.same in
-    record {
-      rests = subst Rests (sym (c.if-not-claim_board.ensures.busy refl).0) place.rests;
-      own = same.2 ∙ place.own;
-      known = known-at same.0 place.known;
-    }
+invariant_of-place g c = refused c.args.place.now c.claim_board.new.seat c.if-not-claim_board.ensures.same (c.if-not-claim_board.ensures.busy refl).0
 
 pub invariant_of-place-2 : goal.invariant_of-place-2
-invariant_of-place-2 g c =
-    let place = c.args.place.now in
-    let same = c.if-not-claim_board.ensures.same in
-    let left = c.release_visit.ensures.same in
-    record {
-      rests = left.2;
-      own = left.3 ∙ same.2 ∙ place.own;
-      known = known-at (left.0 ∙ same.0) place.known;
-    }
+invariant_of-place-2 g c = released c.args.place.now c.claim_board.new.seat c.release_visit.new.seat c.if-not-claim_board.ensures.same c.release_visit.ensures.same

@@ -10,10 +10,11 @@ use Rattle.vt_steps.specs.Letters.{Counts, is_empty}
 use Rattle.vt_kernel.specs.Held.{HeldWorker, AllOwnMail}
 use Rattle.vt_cells.specs.Calls.{IsCellStepOf, IsTooMuchMail}
 use Rattle.vt_places.specs.declared.slot.Slot.TheVariants.{Inbox}
-use Rattle.vt_places.specs.Kept.{Sat, Rests}
+use Rattle.vt_places.specs.Kept.{Sat}
 use Rattle.vt_places.specs.Calls.{Known, Took, IsFetchRefusal}
 use Rattle.vt_places.proofs.CallLemmas.{took-inbox, took-place, tried-there, tried-refused}
-use Rattle.vt_places.proofs.HeldLemmas.{found-is, found-right, puts, known-at}
+use Rattle.vt_places.proofs.HeldLemmas.{found-is, found-right, puts}
+use Rattle.vt_places.proofs.PlaceLemmas.{rested, refused, released, looked}
 use Rattle.vt_places.proofs.ReachLemmas.{reaches-visited}
 use Rattle.vt_places.proofs.station.Station.fetch.Goals as goal
 
@@ -102,33 +103,15 @@ returns-then-finds_nothing-clause-ready g c =
 
 pub invariant_of-place : goal.invariant_of-place
 invariant_of-place g c =
-    let place = c.args.place.now in
     let found = c.if-finds_nothing.ensures in
-    record {
-      rests = found.same.2;
-      own = (found.done refl).same.worker ∙ place.own;
-      known = known-at found.same.0 place.known;
-    }
+    rested c.args.place.now c.finds_nothing.new.seat (found.same.0, found.same.1, found.same.2, (found.done refl).same.worker)
 
 pub invariant_of-place-then-not-claim : goal.invariant_of-place-then-not-claim
 invariant_of-place-then-not-claim g c =
-    let place = c.args.place.now in
-    let looked = c.if-finds_nothing.ensures in
-    let same = c.if-not-claim.ensures.same in
-    record {
-      rests = subst Rests (sym ((c.if-not-claim.ensures.busy refl).0 ∙ looked.not refl)) place.rests;
-      own = same.2 ∙ ap (λ (m : Sat _). m.0.worker) (looked.not refl) ∙ place.own;
-      known = known-at (same.0 ∙ looked.same.0) place.known;
-    }
+    let look = c.if-finds_nothing.ensures in
+    refused (looked c.args.place.now c.finds_nothing.new.seat look.same (look.not refl)) c.claim.new.seat c.if-not-claim.ensures.same (c.if-not-claim.ensures.busy refl).0
 
 pub invariant_of-place-2 : goal.invariant_of-place-2
 invariant_of-place-2 g c =
-    let place = c.args.place.now in
-    let looked = c.if-finds_nothing.ensures in
-    let same = c.if-not-claim.ensures.same in
-    let left = c.release_visit.ensures.same in
-    record {
-      rests = left.2;
-      own = left.3 ∙ same.2 ∙ ap (λ (m : Sat _). m.0.worker) (looked.not refl) ∙ place.own;
-      known = known-at (left.0 ∙ same.0 ∙ looked.same.0) place.known;
-    }
+    let look = c.if-finds_nothing.ensures in
+    released (looked c.args.place.now c.finds_nothing.new.seat look.same (look.not refl)) c.claim.new.seat c.release_visit.new.seat c.if-not-claim.ensures.same c.release_visit.ensures.same

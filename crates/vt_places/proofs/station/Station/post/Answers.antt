@@ -7,10 +7,10 @@ use Rattle.vt_steps.specs.Cells.{in_inbox}
 use Rattle.vt_kernel.specs.Held.{HeldWorker, AllOwnMail}
 use Rattle.vt_cells.specs.Calls.{IsCellStepOf}
 use Rattle.vt_places.specs.declared.slot.Slot.TheVariants.{Inbox}
-use Rattle.vt_places.specs.Kept.{Rests}
 use Rattle.vt_places.proofs.ActLemmas.{sent-within}
 use Rattle.vt_places.proofs.CallLemmas.{took-inbox, took-place, tried-there}
-use Rattle.vt_places.proofs.HeldLemmas.{is-inbox, found-is, found-right, puts, known-at}
+use Rattle.vt_places.proofs.HeldLemmas.{is-inbox, found-is, found-right, puts}
+use Rattle.vt_places.proofs.PlaceLemmas.{refused, released}
 use Rattle.vt_places.proofs.Releases.{home-not_empty}
 use Rattle.vt_places.proofs.station.Station.post.Goals as goal
 
@@ -56,22 +56,7 @@ returns-clause-done g c =
     (λ _. Done) c.outcome.result c.outcome.ensures c.release_visit.ensures.done (c.send.ensures.step H).unchanged
 
 pub invariant_of-place : goal.invariant_of-place
-invariant_of-place g c =
-    let place = c.args.place.now in
-    let same = c.if-not-claim.ensures.same in
-    record {
-      rests = subst Rests (sym (c.if-not-claim.ensures.busy refl).0) place.rests;
-      own = same.2 ∙ place.own;
-      known = known-at same.0 place.known;
-    }
+invariant_of-place g c = refused c.args.place.now c.claim.new.seat c.if-not-claim.ensures.same (c.if-not-claim.ensures.busy refl).0
 
 pub invariant_of-place-2 : goal.invariant_of-place-2
-invariant_of-place-2 g c =
-    let place = c.args.place.now in
-    let same = c.if-not-claim.ensures.same in
-    let left = c.release_visit.ensures.same in
-    record {
-      rests = left.2;
-      own = left.3 ∙ same.2 ∙ place.own;
-      known = known-at (left.0 ∙ same.0) place.known;
-    }
+invariant_of-place-2 g c = released c.args.place.now c.claim.new.seat c.release_visit.new.seat c.if-not-claim.ensures.same c.release_visit.ensures.same

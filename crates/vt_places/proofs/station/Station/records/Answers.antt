@@ -1,12 +1,11 @@
-use Rattle.std.proofs.Common.{◌+◌, [], ◌∷◌, refl, ap, ◌∙◌, subst, sym}
+use Rattle.std.proofs.Common.{◌+◌, [], ◌∷◌, refl, ap, ◌∙◌}
 use Rattle.atomic_table.specs.Table.{rest}
 use Rattle.vt_steps.specs.World.{book_floor, book_records}
 use Rattle.vt_book.specs.Books.{RunBook}
-use Rattle.vt_places.specs.Kept.{Rests}
 use Rattle.vt_places.proofs.CallLemmas.{unvisited-held}
 use Rattle.vt_places.proofs.BookAt.{run-book}
 use Rattle.vt_places.proofs.RefusalLemmas as refusal
-use Rattle.vt_places.proofs.HeldLemmas.{known-at}
+use Rattle.vt_places.proofs.PlaceLemmas.{refused, released}
 use Rattle.vt_places.proofs.station.Station.records.Goals as goal
 
 pub returns-in-Ok-clause-done : goal.returns-in-Ok-clause-done
@@ -21,33 +20,10 @@ returns-in-Ok-clause-done g c =
     )
 
 pub invariant_of-place : goal.invariant_of-place
-invariant_of-place g c =
-    let place = c.args.place.now in
-    let same = c.if-not-claim_book.ensures.same in
-    record {
-      rests = subst Rests (sym (c.if-not-claim_book.ensures.busy refl).0) place.rests;
-      own = same.2 ∙ place.own;
-      known = known-at same.0 place.known;
-    }
+invariant_of-place g c = refused c.args.place.now c.claim_book.new.seat c.if-not-claim_book.ensures.same (c.if-not-claim_book.ensures.busy refl).0
 
 pub invariant_of-place-in-Ok : goal.invariant_of-place-in-Ok
-invariant_of-place-in-Ok g c =
-    let place = c.args.place.now in
-    let same = c.if-not-claim_book.ensures.same in
-    let left = c.release_unchanged.ensures.same in
-    record {
-      rests = left.2;
-      own = left.3 ∙ same.2 ∙ place.own;
-      known = known-at (left.0 ∙ same.0) place.known;
-    }
+invariant_of-place-in-Ok g c = released c.args.place.now c.claim_book.new.seat c.release_unchanged.new.seat c.if-not-claim_book.ensures.same c.release_unchanged.ensures.same
 
 pub invariant_of-place-in-Err : goal.invariant_of-place-in-Err
-invariant_of-place-in-Err g c =
-    let place = c.args.place.now in
-    let same = c.if-not-claim_book.ensures.same in
-    let left = c.release_unchanged-in-Err.ensures.same in
-    record {
-      rests = left.2;
-      own = left.3 ∙ same.2 ∙ place.own;
-      known = known-at (left.0 ∙ same.0) place.known;
-    }
+invariant_of-place-in-Err g c = released c.args.place.now c.claim_book.new.seat c.release_unchanged-in-Err.new.seat c.if-not-claim_book.ensures.same c.release_unchanged-in-Err.ensures.same
