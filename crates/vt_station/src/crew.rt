@@ -48,6 +48,14 @@ pub struct Finished {
     pub finals: Vec<u64>,
 }
 
+/// What is asked of all workers of a run, and what watches them.
+#[derive(Drop)]
+struct Task<'a, W> {
+    watch: &'a W,
+    max_turns: u64,
+    wanted: Wanted,
+}
+
 /// The work of one worker: what it begins with, and how it ended.
 #[derive(Drop)]
 pub(crate) struct Job<'a, M: EventModel> {
@@ -91,15 +99,7 @@ impl<'a, M: EventModel> Model for Job<'a, M> {
 
 impl<'a, M: EventModel> Job<'a, M> {
     /// Makes the kernel and all turns of the worker, and the final values if they are wanted.
-    fn work<R: Wait, W: Watch>(
-        &mut self,
-        rt: &R,
-        alloc: Global,
-        bells: &Bells,
-        watch: &W,
-        max_turns: u64,
-        wanted: Wanted,
-    )
+    fn work<R: Wait, W: Watch>(&mut self, rt: &R, alloc: Global, bells: &Bells, task: &Task<'_, W>)
         requires begins { self.old.outcome ≡ None }
         ensures same { IsSameJob self.old self.new }
     {
@@ -117,8 +117,8 @@ impl<'a, M: EventModel> Job<'a, M> {
         match made {
             Ok(worker) => {
                 let mut driver = Driver::new(alloc, worker, bells);
-                self.outcome = Some(driver.run(rt, watch, max_turns));
-                self.finals = driver.finals(wanted);
+                self.outcome = Some(driver.run(rt, task.watch, task.max_turns));
+                self.finals = driver.finals(task.wanted);
                 self.place = Some(driver.leave());
             }
             Err(NotMade { fault, place }) => {
@@ -131,22 +131,14 @@ impl<'a, M: EventModel> Job<'a, M> {
 
 impl<'a, M: EventModel> Job<'a, M> {
     /// All of the worker's work, once all workers have begun. It lets the others know how it ends.
-    fn run<R: Wait, W: Watch>(
-        &mut self,
-        rt: &R,
-        alloc: Global,
-        bells: &Bells,
-        watch: &W,
-        max_turns: u64,
-        wanted: Wanted,
-    )
+    fn run<R: Wait, W: Watch>(&mut self, rt: &R, alloc: Global, bells: &Bells, task: &Task<'_, W>)
         ensures same { IsSameJob self.old self.new }
     {
         if self.outcome.is_some() {
             return;
         }
         match bells.begin(rt) {
-            Start::Whole => self.work(rt, alloc, bells, watch, max_turns, wanted),
+            Start::Whole => self.work(rt, alloc, bells, task),
             Start::Short => self.outcome = Some(Outcome::Refused(Fault::Memory)),
             Start::Over => self.outcome = Some(Outcome::Spent),
         }
@@ -396,9 +388,7 @@ fn work_all<R: Threads + Wait + Sync, M: EventModel + Sync, W: Watch + Sync>(
     rt: &R,
     alloc: Global,
     bells: &Bells,
-    watch: &W,
-    max_turns: u64,
-    wanted: Wanted,
+    task: &Task<'_, W>,
     jobs: &mut [Job<'_, M>],
 )
 where
@@ -414,7 +404,7 @@ where
         threads,
         &|_, job: &mut Job<'_, M>|
             ensures { IsSameJob job.entry.now job.exit.now }
-        { job.run(rt, alloc, bells, watch, max_turns, wanted) },
+        { job.run(rt, alloc, bells, task) },
     );
 }
 
@@ -424,19 +414,17 @@ fn run_crew<R: Threads + Wait + Sync, M: EventModel + Sync, W: Watch + Sync>(
     alloc: Global,
     config: Config,
     model: &M,
-    watch: &W,
-    max_turns: u64,
-    wanted: Wanted,
+    task: &Task<'_, W>,
 ) -> Result<Finished, Stopped>
 where
     M::State: Send,
     M::Kept: Send,
     ensures whole { IfOk result (λ v. v.records.items ≡ seq_records (simulation_of (M.handlers model.now) config) (end_of config)) }
-    ensures finals { wanted ≡ Finals → IfOk result (λ v. v.finals.items ≡ seq_finals (simulation_of (M.handlers model.now) config)) }
+    ensures finals { task.now.wanted ≡ Finals → IfOk result (λ v. v.finals.items ≡ seq_finals (simulation_of (M.handlers model.now) config)) }
     ensures begun { IfErr result (λ stopped. (t : TimeValue) × (stopped.records.items ≡ seq_records (simulation_of (M.handlers model.now) config) t)) }
     ensures fault { IfErr result (λ stopped. IsStop config stopped.fault stopped.records.items) }
 {
-    watch.begin(config.end().ticks(), Some(config.workers));
+    task.watch.begin(config.end().ticks(), Some(config.workers));
     let (station, places) = match Station::new(alloc, model, config) {
         Ok(made) => made,
         Err(fault) => return Err(stop_with(alloc, fault, Err(fault))),
@@ -449,16 +437,8 @@ where
         Ok(bells) => bells,
         Err(fault) => return Err(stop_with(alloc, fault, Err(fault))),
     };
-    work_all(
-        rt,
-        alloc,
-        &bells,
-        watch,
-        max_turns,
-        wanted,
-        jobs.as_mut_slice(),
-    );
-    let finals = finals_of(alloc, model, config, jobs.as_slice(), wanted);
+    work_all(rt, alloc, &bells, task, jobs.as_mut_slice());
+    let finals = finals_of(alloc, model, config, jobs.as_slice(), task.wanted);
     finish_with(answer_of(alloc, model, config, jobs), finals)
 }
 
@@ -488,7 +468,12 @@ where
     ensures begun { IfErr result (λ stopped. (t : TimeValue) × (stopped.records.items ≡ seq_records (simulation_of (M.handlers model.now) config) t)) }
     ensures fault { IfErr result (λ stopped. IsStop config stopped.fault stopped.records.items) }
 {
-    match run_crew(rt, alloc, config, model, watch, max_turns, Wanted::Records) {
+    let task = Task {
+        watch,
+        max_turns,
+        wanted: Wanted::Records,
+    };
+    match run_crew(rt, alloc, config, model, &task) {
         Ok(finished) => Ok(finished.records),
         Err(stopped) => Err(stopped),
     }
@@ -514,5 +499,10 @@ where
     ensures begun { IfErr result (λ stopped. (t : TimeValue) × (stopped.records.items ≡ seq_records (simulation_of (M.handlers model.now) config) t)) }
     ensures fault { IfErr result (λ stopped. IsStop config stopped.fault stopped.records.items) }
 {
-    run_crew(rt, alloc, config, model, watch, max_turns, Wanted::Finals)
+    let task = Task {
+        watch,
+        max_turns,
+        wanted: Wanted::Finals,
+    };
+    run_crew(rt, alloc, config, model, &task)
 }
