@@ -16,6 +16,7 @@ use Rattle.vt_steps.proofs.marks.OwnCloses.{closed-known}
 use Rattle.vt_kernel.specs.Held.{HeldWorker}
 use Rattle.vt_book.specs.Books.{RunBook}
 use Rattle.vt_cells.specs.Calls.{AreOfOneWorld}
+use Rattle.vt_places.specs.declared.slot.Slot.{Slot}
 use Rattle.vt_places.specs.declared.slot.Slot.TheVariants as slot
 use Rattle.vt_places.specs.Kept.{Sat}
 use Rattle.vt_places.specs.Calls.{Holding, TookThere, Reaches}
@@ -23,21 +24,21 @@ use Rattle.vt_places.proofs.HeldLemmas.{same-book, found-is, found-right, puts}
 use Rattle.vt_places.proofs.RefusalLemmas.{marks, part-there, book-there}
 
 module _ {S P : Type 0} {sim : Simulation S P} {config : Config} {m after : Sat P} {k : ℕ} (t : TookThere sim config (λ world. in_book world.book) m k after)
-    {book : RunBook} (value : after.1 ≡ (k, slot.Book book) ∷ rest after.1) where
+    {held : Slot P} {book : RunBook} (value : after.1 ≡ (k, held) ∷ rest after.1) (is : held ≡ slot.Book book) where
   -- what the seat found is the book of the shown world
   pub book-is : (shown sim t.known.log).book ≡ book.book
-  book-is = same-book (shown sim t.known.log).book book.book (sym (found-is t.holds (slot.Book book) value))
+  book-is = same-book (shown sim t.known.log).book book.book (sym (found-is t.holds value is))
 
   -- and of this run
   pub book-ends : book.end ≡ end_of config
-  book-ends = found-right t.holds (slot.Book book) value
+  book-ends = found-right t.holds value is
 
   pub run-book : book ≡ record { end = end_of config; book = (shown sim t.known.log).book }
   run-book = λ i. record { end = book-ends i; book = sym book-is i }
 
   -- what the seat holds once that is another
   pub book-put : (new : RunBook) {left : Book} → new.book ≡ left → new.end ≡ book.end → Holding config (after.0, (k, slot.Book new) ∷ rest after.1) k (in_book book.book) (in_book left)
-  book-put new is same_end = puts t.holds (slot.Book book) value (slot.Book new) (ap in_book is) (same_end ∙ book-ends)
+  book-put new now same_end = puts t.holds value is (slot.Book new) (ap in_book now) (same_end ∙ book-ends)
 
   -- where the place has closed it, it is closed
   closed-is : has_closed (map answered m.0.mine) ≡ true → book.book.is_closed ≡ true

@@ -17,6 +17,7 @@ use Rattle.vt_steps.specs.Marked.{shown}
 use Rattle.vt_kernel.specs.Held.{HeldWorker}
 use Rattle.vt_places.specs.declared.slot.Slot.{Slot}
 use Rattle.vt_places.specs.declared.view.View.{View}
+use Rattle.vt_places.specs.declared.place.Place.{Place}
 use Rattle.vt_places.specs.Hands.{Hand, holding}
 use Rattle.vt_places.specs.Slots.{held_in}
 use Rattle.vt_places.specs.Kept.{Sat, Rests}
@@ -140,3 +141,16 @@ module _ {S P : Type 0} {sim : Simulation S P} {config : Config} {m after : Sat 
   took-book lawful more =
       let world = shown sim t.known.log in
       took-there lawful (λ n. in_book n.book) (book-holds world (held_in t.slot) (ap (content world) (sym (book-name sim.workers k more)) ∙ t.known.shows))
+
+-- a place that has claimed its worker's inbox
+pub record TookOwn {S P : Type 0} (sim : Simulation S P) (config : Config) (place : Place P) (after : Sat P) : Type 0 where
+  pub took : Took sim config place.seat.me place.worker after
+  pub mails : List (Mail P)
+  pub holds : Holding config after place.worker (in_inbox mails) (in_inbox mails)
+  pub found : held_in took.slot ≡ in_inbox mails
+
+pub took-own : {S P : Type 0} {sim : Simulation S P} {config : Config} (place : Place P) {looked after : Sat P} → looked ≡ place.seat.me → Took sim config looked place.worker after → TookOwn sim config place after
+took-own {sim = sim} {config = config} place {after = after} same claimed =
+    let t = subst (λ (m : Sat _). Took sim config m place.worker after) same claimed in
+    let box = took-inbox t place.rests (subst (λ w. w < sim.workers) place.own t.known.within) in
+    record { took = t; mails = box.0; holds = box.1; found = box.2 }

@@ -22,26 +22,26 @@ module _ {P : Type 0} where
   is-inbox (Board b) mails h none = let e : ◌≡◌ {A = Cell P} (on_board b.board) (in_inbox mails) = h in cc
   is-inbox (Book b) mails h none = let e : ◌≡◌ {A = Cell P} (in_book b.book) (in_inbox mails) = h in cc
 
-module _ {P : Type 0} {config : Config} {m : Sat P} {k : ℕ} {found : Cell P} (h : Holding config m k found found) (slot : Slot P) (value : m.1 ≡ (k, slot) ∷ rest m.1) where
+module _ {P : Type 0} {config : Config} {m : Sat P} {k : ℕ} {found : Cell P} (h : Holding config m k found found) {slot held : Slot P} (value : m.1 ≡ (k, slot) ∷ rest m.1) (is : slot ≡ held) where
   -- the slot that a seat has claimed
-  same-slot : h.slot ≡ slot
-  same-slot = ap (λ (l : List (ℕ × Slot P)). (get_or l 0 (0, slot)).1) (sym h.carried ∙ value)
+  same-slot : h.slot ≡ held
+  same-slot = ap (λ (l : List (ℕ × Slot P)). (get_or l 0 (0, slot)).1) (sym h.carried ∙ value) ∙ is
 
   -- it holds what was found there
-  pub found-is : held_in slot ≡ found
+  pub found-is : held_in held ≡ found
   found-is = ap held_in (sym same-slot) ∙ h.now_is
 
-  pub found-right : IsSlotOf config k slot
+  pub found-right : IsSlotOf config k held
   found-right = subst (IsSlotOf config k) same-slot h.right
 
   -- with another slot in its place, the seat holds that
-  pub puts : (new : Slot P) {left : Cell P} → held_in new ≡ left → IsSlotOf config k new → Holding config (m.0, (k, new) ∷ rest m.1) k (held_in slot) left
-  puts new {left} is right =
+  pub puts : (new : Slot P) {left : Cell P} → held_in new ≡ left → IsSlotOf config k new → Holding config (m.0, (k, new) ∷ rest m.1) k (held_in held) left
+  puts new {left} now right =
       subst (λ c. Holding config (m.0, (k, new) ∷ rest m.1) k c left) (sym found-is)
       (record {
         slot = new;
         hand = h.hand;
         carried = ap (λ (l : List (ℕ × Slot P)). (k, new) ∷ rest l) h.carried;
-        now_is = is;
+        now_is = now;
         right = right;
       })

@@ -1,5 +1,4 @@
-use Rattle.std.proofs.Common.{◌≡◌, ◌+◌, [], ◌∷◌, Ok, Err, refl, sym, ap, subst, ◌∙◌}
-use Rattle.atomic_table.specs.Table.{rest}
+use Rattle.std.proofs.Common.{◌≡◌, [], Ok, Err, refl, sym, ap, subst, ◌∙◌}
 use Rattle.vt_model.specs.Simulation.{simulation_of}
 use Rattle.vt_model.specs.Settings.{end_of}
 use Rattle.vt_steps.specs.declared.step.Step.TheVariants.{Close}
@@ -19,47 +18,44 @@ release_close-requires-clause-held g c κs within =
     let key = c.args.self.now.table.shared.key in
     let sim = simulation_of (g.M.Model.handlers key.model.value) key.config in
     let t = c.if-not-claim_book.ensures.claimed refl in
-    let value = c.slot_mut-held.ensures.value ∙ ap (λ s. (c.args.self.now.workers + 1, s) ∷ rest c.claim_book.new.seat.me.1) c.in-Book.is in
+    let ends = book-ends t c.slot_mut-held.ensures.value c.in-Book.is in
     let ok = c.in-Ok.ensures in
     let new = c.close.new.book in (
       in_book c.in-Book.book.book,
       in_book new.book,
-      book-put t value new refl ok.end,
-      (λ part. ok.step sim (sym (book-ends t value)) part ∙ ap (λ r. (let a : Acted _ = record { part = part; cell = in_book new.book; answer = Ok r } in a)) ok.reply),
-      c.floor-floor.ensures ∙ ap (λ e. book_floor e new.book) (ok.end ∙ book-ends t value),
+      book-put t c.slot_mut-held.ensures.value c.in-Book.is new refl ok.end,
+      (λ part. ok.step sim (sym ends) part ∙ ap (λ r. (let a : Acted _ = record { part = part; cell = in_book new.book; answer = Ok r } in a)) ok.reply),
+      c.floor-floor.ensures ∙ ap (λ e. book_floor e new.book) (ok.end ∙ ends),
     )
 
 pub returns-in-Ok-clause-closed : goal.returns-in-Ok-clause-closed
 returns-in-Ok-clause-closed g c =
-    let value = c.slot_mut-held.ensures.value ∙ ap (λ s. (c.args.self.now.workers + 1, s) ∷ rest c.claim_book.new.seat.me.1) c.in-Book.is in
-    λ h. not-open (c.if-not-claim_book.ensures.claimed refl) value c.in-Ok.ensures.why.0 h
+    λ h. not-open (c.if-not-claim_book.ensures.claimed refl) c.slot_mut-held.ensures.value c.in-Book.is c.in-Ok.ensures.why.0 h
 
 pub returns-in-Ok-clause-done : goal.returns-in-Ok-clause-done
 returns-in-Ok-clause-done g c =
     let key = c.args.self.now.table.shared.key in
     let sim = simulation_of (g.M.Model.handlers key.model.value) key.config in
     let t = c.if-not-claim_book.ensures.claimed refl in
-    let value = c.slot_mut-held.ensures.value ∙ ap (λ s. (c.args.self.now.workers + 1, s) ∷ rest c.claim_book.new.seat.me.1) c.in-Book.is in
     let ok = c.in-Ok.ensures in
     closes-there sim c.args.place.now.seat.me.0 c.claim_book.new.seat.me.0 c.floor-floor.result (end_of key.config) c.release_close.new.seat.me.0 t.place
-    (c.floor-floor.ensures ∙ ok.why.1 ∙ ok.end ∙ book-ends t value) c.release_close.ensures.done
+    (c.floor-floor.ensures ∙ ok.why.1 ∙ ok.end ∙ book-ends t c.slot_mut-held.ensures.value c.in-Book.is) c.release_close.ensures.done
 
 pub returns-in-Err-clause-refused : goal.returns-in-Err-clause-refused
 returns-in-Err-clause-refused g c =
     let key = c.args.self.now.table.shared.key in
     let sim = simulation_of (g.M.Model.handlers key.model.value) key.config in
     let t = c.if-not-claim_book.ensures.claimed refl in
-    let value = c.slot_mut-held.ensures.value ∙ ap (λ s. (c.args.self.now.workers + 1, s) ∷ rest c.claim_book.new.seat.me.1) c.in-Book.is in
-    let v = c.args.place.now.seat.me.0 in
+    let is = run-book t c.slot_mut-held.ensures.value c.in-Book.is in
+    let part = c.args.place.now.seat.me.0.part in
     let fault = c.in-Err.fault in
     let why = c.in-Err.ensures in
-    refusal.close-refused t.known [] v.part refl t.lawful fault (subst (λ (b : RunBook). IsClosingRefusal b fault) (run-book t value) why.why)
-    (subst (λ (b : RunBook). (act sim Close v.part (in_book b.book)).answer ≡ Err fault) (run-book t value) (ap (λ (x : Acted _). x.answer) (why.step sim (sym (book-ends t value)) v.part)))
+    refusal.close-refused t.known [] part refl t.lawful fault (subst (λ (b : RunBook). IsClosingRefusal b fault) is why.why)
+    (subst (λ (b : RunBook). (act sim Close part (in_book b.book)).answer ≡ Err fault) is (ap (λ (x : Acted _). x.answer) (why.step sim (ap (λ (b : RunBook). b.end) (sym is)) part)))
 
 pub returns-in-Err-clause-closed : goal.returns-in-Err-clause-closed
 returns-in-Err-clause-closed g c =
-    let value = c.slot_mut-held.ensures.value ∙ ap (λ s. (c.args.self.now.workers + 1, s) ∷ rest c.claim_book.new.seat.me.1) c.in-Book.is in
-    λ h. refused-once (c.if-not-claim_book.ensures.claimed refl) value (λ x. x.1) c.in-Err.ensures.why h
+    λ h. refused-once (c.if-not-claim_book.ensures.claimed refl) c.slot_mut-held.ensures.value c.in-Book.is (λ x. x.1) c.in-Err.ensures.why h
 
 pub returns-in-Ok-clause-alone : goal.returns-in-Ok-clause-alone
 returns-in-Ok-clause-alone g c =

@@ -1,5 +1,4 @@
-use Rattle.std.proofs.Common.{◌≡◌, ℕ, ◌+◌, ◌∷◌, Ok, Err, refl, sym, ap, subst, ◌∙◌}
-use Rattle.atomic_table.specs.Table.{rest}
+use Rattle.std.proofs.Common.{◌≡◌, ℕ, Ok, Err, refl, sym, ap, subst, ◌∙◌}
 use Rattle.vt_model.specs.declared.settings.Config.{Config}
 use Rattle.vt_model.specs.Simulation.{simulation_of}
 use Rattle.vt_model.specs.Settings.{end_of}
@@ -23,30 +22,27 @@ pub hand_in-requires-clause-reached : goal.hand_in-requires-clause-reached
 hand_in-requires-clause-reached g c κs within =
     let H = g.M.Model.handlers c.args.self.now.table.shared.key.model.value in
     let t = c.if-not-claim_book.ensures.claimed refl in
-    let value = c.slot_mut-held.ensures.value ∙ ap (λ s. (c.args.self.now.workers + 1, s) ∷ rest c.claim_book.new.seat.me.1) c.in-Book.is in
-    (H, subst (AreOfOneWorld H c.args.kernel.now) (book-is t value) (one-world t c.requires.kernel))
+    (H, subst (AreOfOneWorld H c.args.kernel.now) (book-is t c.slot_mut-held.ensures.value c.in-Book.is) (one-world t c.requires.kernel))
 
 pub release_commit-requires-clause-held : goal.release_commit-requires-clause-held
 release_commit-requires-clause-held g c κs within =
     let key = c.args.self.now.table.shared.key in
     let H = g.M.Model.handlers key.model.value in
     let t = c.if-not-claim_book.ensures.claimed refl in
-    let value = c.slot_mut-held.ensures.value ∙ ap (λ s. (c.args.self.now.workers + 1, s) ∷ rest c.claim_book.new.seat.me.1) c.in-Book.is in
     let old = c.in-Book.book in
     let new = c.hand_in.new.book in
     let ok = c.in-Ok.ensures in (
       in_book old.book,
       in_book new.book,
-      book-put t value new refl ok.end,
+      book-put t c.slot_mut-held.ensures.value c.in-Book.is new refl ok.end,
       subst (λ (x : Config × HeldWorker _ _ _). CommitsTo H x.0 c.args.place.now.worker x.1 (in_book old.book) (in_book new.book)) (λ i. (c.requires.kernel.config_is i, sym c.of.ensures i)) (ok.step H).done.1,
-      c.floor-seen.ensures ∙ ap (λ e. book_floor e new.book) (ok.end ∙ book-ends t value),
+      c.floor-seen.ensures ∙ ap (λ e. book_floor e new.book) (ok.end ∙ book-ends t c.slot_mut-held.ensures.value c.in-Book.is),
     )
 
 pub release_unchanged-requires-clause-held : goal.release_unchanged-requires-clause-held
 release_unchanged-requires-clause-held g c κs within =
     let H = g.M.Model.handlers c.args.self.now.table.shared.key.model.value in
-    let value = c.slot_mut-held.ensures.value ∙ ap (λ s. (c.args.self.now.workers + 1, s) ∷ rest c.claim_book.new.seat.me.1) c.in-Book.is in
-    (in_book c.in-Book.book.book, book-put (c.if-not-claim_book.ensures.claimed refl) value c.hand_in.new.book (c.in-Err.ensures.step H).unchanged c.in-Err.ensures.end, tt)
+    (in_book c.in-Book.book.book, book-put (c.if-not-claim_book.ensures.claimed refl) c.slot_mut-held.ensures.value c.in-Book.is c.hand_in.new.book (c.in-Err.ensures.step H).unchanged c.in-Err.ensures.end, tt)
 
 pub returns-in-Ok-clause-done : goal.returns-in-Ok-clause-done
 returns-in-Ok-clause-done g c =
@@ -56,7 +52,6 @@ returns-in-Ok-clause-done g c =
     let v = c.args.place.now.seat.me.0 in
     let w = c.args.place.now.worker in
     let t = c.if-not-claim_book.ensures.claimed refl in
-    let value = c.slot_mut-held.ensures.value ∙ ap (λ s. (c.args.self.now.workers + 1, s) ∷ rest c.claim_book.new.seat.me.1) c.in-Book.is in
     let r = c.requires.kernel in
     let k = c.args.kernel.now in
     let new = c.hand_in.new.book in
@@ -75,32 +70,29 @@ returns-in-Ok-clause-done g c =
       both.0,
       both.1,
       refusal.floor-left t.known r.steps r.part r.led t.lawful (Commit w) (sym c.args.place.now.own) refl
-          (subst (λ b. act sim (Commit w) r.part (in_book b) ≡ record { part = part_after_commit r.part; cell = in_book new.book; answer = Ok Done }) (sym (book-is t value)) does) seen
-          (c.floor-seen.ensures ∙ ap (λ e. book_floor e new.book) (ok.end ∙ book-ends t value)),
+          (subst (λ b. act sim (Commit w) r.part (in_book b) ≡ record { part = part_after_commit r.part; cell = in_book new.book; answer = Ok Done }) (sym (book-is t c.slot_mut-held.ensures.value c.in-Book.is)) does) seen
+          (c.floor-seen.ensures ∙ ap (λ e. book_floor e new.book) (ok.end ∙ book-ends t c.slot_mut-held.ensures.value c.in-Book.is)),
     )
 
 pub returns-in-Ok-clause-closed : goal.returns-in-Ok-clause-closed
 returns-in-Ok-clause-closed g c =
-    let value = c.slot_mut-held.ensures.value ∙ ap (λ s. (c.args.self.now.workers + 1, s) ∷ rest c.claim_book.new.seat.me.1) c.in-Book.is in
-    λ h. not-open (c.if-not-claim_book.ensures.claimed refl) value c.in-Ok.ensures.why h
+    λ h. not-open (c.if-not-claim_book.ensures.claimed refl) c.slot_mut-held.ensures.value c.in-Book.is c.in-Ok.ensures.why h
 
 pub returns-in-Err-clause-refused : goal.returns-in-Err-clause-refused
 returns-in-Err-clause-refused g c =
     let key = c.args.self.now.table.shared.key in
     let H = g.M.Model.handlers key.model.value in
     let t = c.if-not-claim_book.ensures.claimed refl in
-    let value = c.slot_mut-held.ensures.value ∙ ap (λ s. (c.args.self.now.workers + 1, s) ∷ rest c.claim_book.new.seat.me.1) c.in-Book.is in
     let r = c.requires.kernel in
     let fault = c.in-Err.fault in
     let why = c.in-Err.ensures in
-    let same = sym (book-is t value) in
+    let same = sym (book-is t c.slot_mut-held.ensures.value c.in-Book.is) in
     refusal.commit-refused t.known r.steps r.part r.led t.lawful fault (subst (λ b. IsHandInRefusal b fault) same why.why)
     (subst (λ (x : Config × ℕ × Book). IsCellRefusal (simulation_of H x.0) (Commit x.1) r.part (in_book x.2) fault) (λ i. (r.config_is i, sym c.args.place.now.own i, same i)) ((why.step H).refused r.part r.stands))
 
 pub returns-in-Err-clause-closed : goal.returns-in-Err-clause-closed
 returns-in-Err-clause-closed g c =
-    let value = c.slot_mut-held.ensures.value ∙ ap (λ s. (c.args.self.now.workers + 1, s) ∷ rest c.claim_book.new.seat.me.1) c.in-Book.is in
-    λ h. refused-once (c.if-not-claim_book.ensures.claimed refl) value (λ x. x.1) c.in-Err.ensures.why h
+    λ h. refused-once (c.if-not-claim_book.ensures.claimed refl) c.slot_mut-held.ensures.value c.in-Book.is (λ x. x.1) c.in-Err.ensures.why h
 
 pub returns-in-Ok-clause-ready : goal.returns-in-Ok-clause-ready
 returns-in-Ok-clause-ready g c =

@@ -1,6 +1,5 @@
-use Rattle.std.proofs.Common.{◌≡◌, ℕ, ◌∷◌, refl, sym, ap, subst, ◌∙◌}
+use Rattle.std.proofs.Common.{◌≡◌, ℕ, refl, sym, ap, subst, ◌∙◌}
 use Rattle.std.proofs.lemmas.Result.{IfErr-weaker}
-use Rattle.atomic_table.specs.Table.{rest}
 use Rattle.vt_model.specs.declared.settings.Config.{Config}
 use Rattle.vt_model.specs.Simulation.{simulation_of}
 use Rattle.vt_model.specs.Settings.{end_of}
@@ -21,22 +20,18 @@ use Rattle.vt_places.proofs.station.Station.cut.Goals as goal
 
 pub cut-requires-clause-end : goal.cut-requires-clause-end
 cut-requires-clause-end g c κs within =
-    let t = c.if-not-claim_board.ensures.claimed refl in
-    let value = c.slot_mut-held.ensures.value ∙ ap (λ s. (c.args.self.now.workers, s) ∷ rest c.claim_board.new.seat.me.1) c.in-Board.is in
-    found-right t.holds (slot.Board c.in-Board.board) value ∙ ap (λ (f : Config). end_of f) (sym c.requires.kernel.config_is)
+    found-right (c.if-not-claim_board.ensures.claimed refl).holds c.slot_mut-held.ensures.value c.in-Board.is ∙ ap (λ (f : Config). end_of f) (sym c.requires.kernel.config_is)
 
 pub release_visit-requires-clause-held : goal.release_visit-requires-clause-held
 release_visit-requires-clause-held g c κs within =
     let H = g.M.Model.handlers c.args.self.now.table.shared.key.model.value in
-    let t = c.if-not-claim_board.ensures.claimed refl in
-    let value = c.slot_mut-held.ensures.value ∙ ap (λ s. (c.args.self.now.workers, s) ∷ rest c.claim_board.new.seat.me.1) c.in-Board.is in
-    let old = c.in-Board.board in
+    let holds = (c.if-not-claim_board.ensures.claimed refl).holds in
     let new = c.cut.new.board in (
-      on_board old.board,
+      on_board c.in-Board.board.board,
       on_board new.board,
-      puts t.holds (slot.Board old) value (slot.Board new) refl (c.cut.ensures.end ∙ found-right t.holds (slot.Board old) value),
+      puts holds c.slot_mut-held.ensures.value c.in-Board.is (slot.Board new) refl (c.cut.ensures.end ∙ found-right holds c.slot_mut-held.ensures.value c.in-Board.is),
       (λ e. home-not_empty e),
-      subst (λ (x : Config × HeldWorker _ _ _ × HeldWorker _ _ _). IsCellStepOf H x.0 (Cut c.args.place.now.worker) x.1 x.2 (on_board old.board) (on_board new.board) c.cut.result)
+      subst (λ (x : Config × HeldWorker _ _ _ × HeldWorker _ _ _). IsCellStepOf H x.0 (Cut c.args.place.now.worker) x.1 x.2 (on_board c.in-Board.board.board) (on_board new.board) c.cut.result)
           (λ i. (c.requires.kernel.config_is i, sym c.of-before.ensures i, sym c.of.ensures i)) (c.cut.ensures.step H),
     )
 
@@ -44,13 +39,8 @@ pub returns-clause-done : goal.returns-clause-done
 returns-clause-done g c =
     let key = c.args.self.now.table.shared.key in
     let H = g.M.Model.handlers key.model.value in
-    let v = c.args.place.now.seat.me.0 in
-    let w = c.release_visit.new.seat.me.0 in
-    let k = c.args.kernel.now in
-    let left = c.cut.new.kernel in
-    let step = Cut c.args.place.now.worker in
-    tried-there H key.config v c.claim_board.new.seat.me.0 c.of-before.result.value c.of.result.value k left step w (c.if-not-claim_board.ensures.claimed refl).place c.of-before.ensures c.of.ensures _
-    (λ _. Done) c.outcome.result c.outcome.ensures c.release_visit.ensures.done (c.cut.ensures.step H).unchanged
+    tried-there H key.config c.args.place.now.seat.me.0 c.claim_board.new.seat.me.0 c.of-before.result.value c.of.result.value c.args.kernel.now c.cut.new.kernel (Cut c.args.place.now.worker) c.release_visit.new.seat.me.0
+    (c.if-not-claim_board.ensures.claimed refl).place c.of-before.ensures c.of.ensures _ (λ _. Done) c.outcome.result c.outcome.ensures c.release_visit.ensures.done (c.cut.ensures.step H).unchanged
 
 pub returns-clause-refused : goal.returns-clause-refused
 returns-clause-refused g c =
@@ -59,12 +49,11 @@ returns-clause-refused g c =
     let sim = simulation_of H key.config in
     let why = IsCutRefusal sim c.args.place.now.seat.me.0 in
     let t = c.if-not-claim_board.ensures.claimed refl in
-    let value = c.slot_mut-held.ensures.value ∙ ap (λ s. (c.args.self.now.workers, s) ∷ rest c.claim_board.new.seat.me.1) c.in-Board.is in
     let r = c.requires.kernel in
     tried-refused (λ _. Done) c.outcome.result why c.outcome.ensures
     (IfErr-weaker c.cut.result _ why
     (λ fault at. cut-refused t.known r.steps r.part r.led t.lawful fault
-    (subst (λ (x : Config × ℕ × Cell _). IsCellRefusal (simulation_of H x.0) (Cut x.1) r.part x.2 fault) (λ i. (r.config_is i, sym c.args.place.now.own i, found-is t.holds (slot.Board c.in-Board.board) value i)) at))
+    (subst (λ (x : Config × ℕ × Cell _). IsCellRefusal (simulation_of H x.0) (Cut x.1) r.part x.2 fault) (λ i. (r.config_is i, sym c.args.place.now.own i, found-is t.holds c.slot_mut-held.ensures.value c.in-Board.is i)) at))
     ((c.cut.ensures.step H).refused r.part r.stands))
 
 pub returns-clause-alone : goal.returns-clause-alone
@@ -72,9 +61,8 @@ returns-clause-alone g c r =
     let key = c.args.self.now.table.shared.key in
     let v = c.args.place.now.seat.me.0 in
     let w = c.release_visit.new.seat.me.0 in
-    let k = c.args.kernel.now in
     let left = c.cut.new.kernel in
-    cut-alone (g.M.Model.handlers key.model.value) key.config v w k left r (Stays v w × (left ≡ k)) c.args.place.now.own c.outcome.result v.seen (returns-clause-done g c) (returns-clause-refused g c)
+    cut-alone (g.M.Model.handlers key.model.value) key.config v w c.args.kernel.now left r (Stays v w × (left ≡ c.args.kernel.now)) c.args.place.now.own c.outcome.result v.seen (returns-clause-done g c) (returns-clause-refused g c)
 
 pub invariant_of-place : goal.invariant_of-place
 invariant_of-place g c = refused c.args.place.now c.claim_board.new.seat c.if-not-claim_board.ensures.same (c.if-not-claim_board.ensures.busy refl).0

@@ -1,6 +1,5 @@
-use Rattle.std.proofs.Common.{◌<◌, inl, inr, ℕ, ◌∷◌, refl, sym, ap, subst, ◌∙◌}
+use Rattle.std.proofs.Common.{inl, inr, ℕ, refl, sym, ap, subst, ◌∙◌}
 use Rattle.std.proofs.lemmas.Result.{IfErr-weaker}
-use Rattle.atomic_table.specs.Table.{rest}
 use Rattle.vt_model.specs.declared.settings.Config.{Config}
 use Rattle.vt_model.specs.Simulation.{simulation_of}
 use Rattle.vt_steps.specs.declared.step.Step.TheVariants.{Fetch}
@@ -10,9 +9,8 @@ use Rattle.vt_steps.specs.Letters.{Counts, is_empty}
 use Rattle.vt_kernel.specs.Held.{HeldWorker, AllOwnMail}
 use Rattle.vt_cells.specs.Calls.{IsCellStepOf, IsTooMuchMail}
 use Rattle.vt_places.specs.declared.slot.Slot.TheVariants.{Inbox}
-use Rattle.vt_places.specs.Kept.{Sat}
-use Rattle.vt_places.specs.Calls.{Known, Took, IsFetchRefusal}
-use Rattle.vt_places.proofs.CallLemmas.{took-inbox, took-place, tried-there, tried-refused}
+use Rattle.vt_places.specs.Calls.{Known, IsFetchRefusal}
+use Rattle.vt_places.proofs.CallLemmas.{took-own, took-place, tried-there, tried-refused}
 use Rattle.vt_places.proofs.HeldLemmas.{found-is, found-right, puts}
 use Rattle.vt_places.proofs.PlaceLemmas.{rested, refused, released, looked}
 use Rattle.vt_places.proofs.ReachLemmas.{reaches-visited}
@@ -20,62 +18,42 @@ use Rattle.vt_places.proofs.station.Station.fetch.Goals as goal
 
 pub fetch-requires-clause-own : goal.fetch-requires-clause-own
 fetch-requires-clause-own g c κs within =
-    let key = c.args.self.now.table.shared.key in
-    let H = g.M.Model.handlers key.model.value in
     let r = c.requires.kernel in
-    let w = c.args.place.now.worker in
-    let t = subst (λ (m : Sat _). Took (simulation_of H key.config) key.config m w c.claim.new.seat.me) (c.if-finds_nothing.ensures.not refl) (c.if-not-claim.ensures.claimed refl) in
-    let near : w < key.config.workers = subst (λ n. n < key.config.workers) c.args.place.now.own t.known.within in
-    let h = (took-inbox t c.args.place.now.rests near).1 in
-    let value = c.slot_mut-held.ensures.value ∙ ap (λ s. (w, s) ∷ rest c.claim.new.seat.me.1) c.in-Inbox.is in
-    subst (λ (x : ℕ × Config). AllOwnMail x.1 x.0 c.in-Inbox.mails.items) (λ i. (sym (r.worker ∙ c.args.place.now.own) i, sym r.config_is i)) (found-right h (Inbox c.in-Inbox.mails) value)
+    let box = took-own c.args.place.now (c.if-finds_nothing.ensures.not refl) (c.if-not-claim.ensures.claimed refl) in
+    subst (λ (x : ℕ × Config). AllOwnMail x.1 x.0 c.in-Inbox.mails.items) (λ i. (sym (r.worker ∙ c.args.place.now.own) i, sym r.config_is i)) (found-right box.holds c.slot_mut-held.ensures.value c.in-Inbox.is)
 
 pub release_visit-requires-clause-held : goal.release_visit-requires-clause-held
 release_visit-requires-clause-held g c κs within =
-    let key = c.args.self.now.table.shared.key in
-    let H = g.M.Model.handlers key.model.value in
+    let H = g.M.Model.handlers c.args.self.now.table.shared.key.model.value in
     let r = c.requires.kernel in
-    let w = c.args.place.now.worker in
-    let t = subst (λ (m : Sat _). Took (simulation_of H key.config) key.config m w c.claim.new.seat.me) (c.if-finds_nothing.ensures.not refl) (c.if-not-claim.ensures.claimed refl) in
-    let near : w < key.config.workers = subst (λ n. n < key.config.workers) c.args.place.now.own t.known.within in
-    let h = (took-inbox t c.args.place.now.rests near).1 in
-    let value = c.slot_mut-held.ensures.value ∙ ap (λ s. (w, s) ∷ rest c.claim.new.seat.me.1) c.in-Inbox.is in
+    let is = r.worker ∙ c.args.place.now.own in
+    let box = took-own c.args.place.now (c.if-finds_nothing.ensures.not refl) (c.if-not-claim.ensures.claimed refl) in
     let old = c.in-Inbox.mails in
     let new = c.fetch.new.inbox in (
       in_inbox old.items,
       in_inbox new.items,
-      puts h (Inbox old) value (Inbox new) refl (subst (λ (x : ℕ × Config). AllOwnMail x.1 x.0 new.items) (λ i. ((r.worker ∙ c.args.place.now.own) i, r.config_is i)) c.fetch.ensures.own),
+      puts box.holds c.slot_mut-held.ensures.value c.in-Inbox.is (Inbox new) refl (subst (λ (x : ℕ × Config). AllOwnMail x.1 x.0 new.items) (λ i. (is i, r.config_is i)) c.fetch.ensures.own),
       (λ e. ap in_inbox (c.word_of_inbox-word.ensures.empty e)),
       subst (λ (x : Config × ℕ × HeldWorker _ _ _ × HeldWorker _ _ _). IsCellStepOf H x.0 (Fetch x.1) x.2 x.3 (in_inbox old.items) (in_inbox new.items) c.fetch.result)
-          (λ i. (r.config_is i, (r.worker ∙ c.args.place.now.own) i, sym c.of-before.ensures i, sym c.of.ensures i)) (c.fetch.ensures.step H),
+          (λ i. (r.config_is i, is i, sym c.of-before.ensures i, sym c.of.ensures i)) (c.fetch.ensures.step H),
     )
 
 pub returns-clause-done : goal.returns-clause-done
 returns-clause-done g c =
     let key = c.args.self.now.table.shared.key in
     let H = g.M.Model.handlers key.model.value in
-    let v = c.args.place.now.seat.me.0 in
-    let w = c.release_visit.new.seat.me.0 in
-    let k = c.args.kernel.now in
-    let left = c.fetch.new.kernel in
-    let worker = c.args.place.now.worker in
-    let t = subst (λ (m : Sat _). Took (simulation_of H key.config) key.config m worker c.claim.new.seat.me) (c.if-finds_nothing.ensures.not refl) (c.if-not-claim.ensures.claimed refl) in
-    tried-there H key.config v c.claim.new.seat.me.0 c.of-before.result.value c.of.result.value k left (Fetch worker) w (took-place t c.args.place.now.rests) c.of-before.ensures c.of.ensures _
-    (λ _. Done) c.outcome.result c.outcome.ensures c.release_visit.ensures.done (c.fetch.ensures.step H).unchanged
+    let box = took-own c.args.place.now (c.if-finds_nothing.ensures.not refl) (c.if-not-claim.ensures.claimed refl) in
+    tried-there H key.config c.args.place.now.seat.me.0 c.claim.new.seat.me.0 c.of-before.result.value c.of.result.value c.args.kernel.now c.fetch.new.kernel (Fetch c.args.place.now.worker) c.release_visit.new.seat.me.0
+    (took-place box.took c.args.place.now.rests) c.of-before.ensures c.of.ensures _ (λ _. Done) c.outcome.result c.outcome.ensures c.release_visit.ensures.done (c.fetch.ensures.step H).unchanged
 
 pub returns-clause-refused : goal.returns-clause-refused
 returns-clause-refused g c part s =
     let key = c.args.self.now.table.shared.key in
-    let H = g.M.Model.handlers key.model.value in
-    let sim = simulation_of H key.config in
+    let sim = simulation_of (g.M.Model.handlers key.model.value) key.config in
     let v = c.args.place.now.seat.me.0 in
-    let w = c.args.place.now.worker in
     let why = IsFetchRefusal sim v part in
-    let t = subst (λ (m : Sat _). Took sim key.config m w c.claim.new.seat.me) (c.if-finds_nothing.ensures.not refl) (c.if-not-claim.ensures.claimed refl) in
-    let near : w < key.config.workers = subst (λ n. n < key.config.workers) c.args.place.now.own t.known.within in
-    let box = took-inbox t c.args.place.now.rests near in
-    let value = c.slot_mut-held.ensures.value ∙ ap (λ s. (w, s) ∷ rest c.claim.new.seat.me.1) c.in-Inbox.is in
-    let held = sym (found-is box.1 (Inbox c.in-Inbox.mails) value) in
+    let box = took-own c.args.place.now (c.if-finds_nothing.ensures.not refl) (c.if-not-claim.ensures.claimed refl) in
+    let held = sym (found-is box.holds c.slot_mut-held.ensures.value c.in-Inbox.is) in
     tried-refused (λ _. Done) c.outcome.result why c.outcome.ensures
     (IfErr-weaker c.fetch.result _ why
     (λ fault at. elim at [
@@ -86,7 +64,7 @@ returns-clause-refused g c part s =
           x.0,
           (
             c.in-Inbox.mails.items,
-            subst (λ (z : ℕ × Cell _). Known sim v z.0 z.1) (λ i. (sym c.args.place.now.own i, (box.2 ∙ held) i)) t.known,
+            subst (λ (z : ℕ × Cell _). Known sim v z.0 z.1) (λ i. (sym c.args.place.now.own i, (box.found ∙ held) i)) box.took.known,
             subst (λ (n : Counts). IsTooMuchMail n c.in-Inbox.mails.items) (sym s.got) x.2,
           ),
         ),

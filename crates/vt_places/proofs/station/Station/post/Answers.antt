@@ -1,5 +1,4 @@
-use Rattle.std.proofs.Common.{ℕ, ◌∷◌, refl, sym, ap, subst, ◌∙◌, arith}
-use Rattle.atomic_table.specs.Table.{rest}
+use Rattle.std.proofs.Common.{ℕ, refl, sym, subst, ◌∙◌, arith}
 use Rattle.vt_model.specs.declared.settings.Config.{Config}
 use Rattle.vt_steps.specs.declared.step.Step.TheVariants.{Send}
 use Rattle.vt_steps.specs.declared.step.Reply.TheVariants.{Done}
@@ -25,19 +24,18 @@ unreachable-requires g c =
     let H = g.M.Model.handlers c.args.self.now.table.shared.key.model.value in
     let r = c.requires.kernel in
     let box = took-inbox (c.if-not-claim.ensures.claimed refl) c.args.place.now.rests (sent-within r c.args.v (c.in_ok-may_send.ensures.lawful H r.part r.stands).0) in
-    is-inbox c.slot_mut-held.result.now box.0 (found-is box.1 c.slot_mut-held.result.now c.slot_mut-held.ensures.value) c.in_default.not-Inbox
+    is-inbox c.slot_mut-held.result.now box.0 (found-is box.1 c.slot_mut-held.ensures.value refl) c.in_default.not-Inbox
 
 pub release_visit-requires-clause-held : goal.release_visit-requires-clause-held
 release_visit-requires-clause-held g c κs within =
     let H = g.M.Model.handlers c.args.self.now.table.shared.key.model.value in
     let r = c.requires.kernel in
     let h = (took-inbox (c.if-not-claim.ensures.claimed refl) c.args.place.now.rests (sent-within r c.args.v (c.in_ok-may_send.ensures.lawful H r.part r.stands).0)).1 in
-    let value = c.slot_mut-held.ensures.value ∙ ap (λ s. (c.args.v, s) ∷ rest c.claim.new.seat.me.1) c.in-Inbox.is in
     let old = c.in-Inbox.mails in
     let new = c.send.new.inbox in (
       in_inbox old.items,
       in_inbox new.items,
-      puts h (Inbox old) value (Inbox new) refl (subst (λ (f : Config). AllOwnMail f c.args.v old.items → AllOwnMail f c.args.v new.items) r.config_is c.send.ensures.own (found-right h (Inbox old) value)),
+      puts h c.slot_mut-held.ensures.value c.in-Inbox.is (Inbox new) refl (subst (λ (f : Config). AllOwnMail f c.args.v old.items → AllOwnMail f c.args.v new.items) r.config_is c.send.ensures.own (found-right h c.slot_mut-held.ensures.value c.in-Inbox.is)),
       (λ e. home-not_empty e),
       subst (λ (x : Config × ℕ × HeldWorker _ _ _ × HeldWorker _ _ _). IsCellStepOf H x.0 (Send x.1 c.args.v) x.2 x.3 (in_inbox old.items) (in_inbox new.items) c.send.result)
           (λ i. (r.config_is i, (r.worker ∙ c.args.place.now.own) i, sym c.of-before.ensures i, sym c.of.ensures i)) (c.send.ensures.step H),
@@ -47,13 +45,8 @@ pub returns-clause-done : goal.returns-clause-done
 returns-clause-done g c =
     let key = c.args.self.now.table.shared.key in
     let H = g.M.Model.handlers key.model.value in
-    let v = c.args.place.now.seat.me.0 in
-    let w = c.release_visit.new.seat.me.0 in
-    let k = c.args.kernel.now in
-    let left = c.send.new.kernel in
-    let step = Send c.args.place.now.worker c.args.v in
-    tried-there H key.config v c.claim.new.seat.me.0 c.of-before.result.value c.of.result.value k left step w (took-place (c.if-not-claim.ensures.claimed refl) c.args.place.now.rests) c.of-before.ensures c.of.ensures _
-    (λ _. Done) c.outcome.result c.outcome.ensures c.release_visit.ensures.done (c.send.ensures.step H).unchanged
+    tried-there H key.config c.args.place.now.seat.me.0 c.claim.new.seat.me.0 c.of-before.result.value c.of.result.value c.args.kernel.now c.send.new.kernel (Send c.args.place.now.worker c.args.v) c.release_visit.new.seat.me.0
+    (took-place (c.if-not-claim.ensures.claimed refl) c.args.place.now.rests) c.of-before.ensures c.of.ensures _ (λ _. Done) c.outcome.result c.outcome.ensures c.release_visit.ensures.done (c.send.ensures.step H).unchanged
 
 pub invariant_of-place : goal.invariant_of-place
 invariant_of-place g c = refused c.args.place.now c.claim.new.seat c.if-not-claim.ensures.same (c.if-not-claim.ensures.busy refl).0

@@ -1,5 +1,4 @@
-use Rattle.std.proofs.Common.{◌+◌, [], ◌∷◌, refl, ap, ◌∙◌}
-use Rattle.atomic_table.specs.Table.{rest}
+use Rattle.std.proofs.Common.{[], refl, ap, ◌∙◌}
 use Rattle.vt_steps.specs.World.{book_floor, book_records}
 use Rattle.vt_book.specs.Books.{RunBook}
 use Rattle.vt_places.proofs.CallLemmas.{unvisited-held}
@@ -12,8 +11,7 @@ pub returns-in-Ok-clause-done : goal.returns-in-Ok-clause-done
 returns-in-Ok-clause-done g c =
     let t = c.if-not-claim_book.ensures.claimed refl in
     let v = c.args.place.now.seat.me.0 in
-    let value = c.slot_mut-held.ensures.value ∙ ap (λ s. (c.args.self.now.workers + 1, s) ∷ rest c.claim_book.new.seat.me.1) c.in-Book.is in
-    let is = run-book t value in (
+    let is = run-book t c.slot_mut-held.ensures.value c.in-Book.is in (
       c.floor-floor.result,
       refusal.records-shown t.known [] v.part refl t.lawful c.floor-floor.result c.in-Ok.records.items (c.floor-floor.ensures ∙ ap (λ (b : RunBook). book_floor b.end b.book) is) (c.in-Ok.ensures.records ∙ ap (λ (b : RunBook). book_records b.end b.book) is),
       unvisited-held v c.claim_book.new.seat.me.0 c.floor-floor.result c.release_unchanged.new.seat.me.0 t.place c.release_unchanged.ensures.stays,

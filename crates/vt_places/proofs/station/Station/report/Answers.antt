@@ -1,6 +1,5 @@
-use Rattle.std.proofs.Common.{◌≡◌, ℕ, ◌∷◌, refl, sym, ap, subst, ◌∙◌, Result}
+use Rattle.std.proofs.Common.{◌≡◌, ℕ, refl, sym, ap, subst, ◌∙◌, Result}
 use Rattle.std.proofs.lemmas.Result.{IfErr-weaker}
-use Rattle.atomic_table.specs.Table.{rest}
 use Rattle.vt_key.specs.declared.fault.Fault.{Fault}
 use Rattle.vt_model.specs.declared.settings.Config.{Config}
 use Rattle.vt_model.specs.Simulation.{simulation_of}
@@ -23,22 +22,18 @@ use Rattle.vt_places.proofs.station.Station.report.Goals as goal
 
 pub report-answer-requires-clause-end : goal.report-answer-requires-clause-end
 report-answer-requires-clause-end g c κs within =
-    let t = c.if-not-claim_board.ensures.claimed refl in
-    let value = c.slot_mut-held.ensures.value ∙ ap (λ s. (c.args.self.now.workers, s) ∷ rest c.claim_board.new.seat.me.1) c.in-Board.is in
-    found-right t.holds (slot.Board c.in-Board.board) value ∙ ap (λ (f : Config). end_of f) (sym c.requires.kernel.config_is)
+    found-right (c.if-not-claim_board.ensures.claimed refl).holds c.slot_mut-held.ensures.value c.in-Board.is ∙ ap (λ (f : Config). end_of f) (sym c.requires.kernel.config_is)
 
 pub release_visit-requires-clause-held : goal.release_visit-requires-clause-held
 release_visit-requires-clause-held g c κs within =
     let H = g.M.Model.handlers c.args.self.now.table.shared.key.model.value in
-    let t = c.if-not-claim_board.ensures.claimed refl in
-    let value = c.slot_mut-held.ensures.value ∙ ap (λ s. (c.args.self.now.workers, s) ∷ rest c.claim_board.new.seat.me.1) c.in-Board.is in
-    let old = c.in-Board.board in
+    let holds = (c.if-not-claim_board.ensures.claimed refl).holds in
     let new = c.report-answer.new.board in (
-      on_board old.board,
+      on_board c.in-Board.board.board,
       on_board new.board,
-      puts t.holds (slot.Board old) value (slot.Board new) refl (c.report-answer.ensures.end ∙ found-right t.holds (slot.Board old) value),
+      puts holds c.slot_mut-held.ensures.value c.in-Board.is (slot.Board new) refl (c.report-answer.ensures.end ∙ found-right holds c.slot_mut-held.ensures.value c.in-Board.is),
       (λ e. home-not_empty e),
-      subst (λ (x : Config × HeldWorker _ _ _ × HeldWorker _ _ _ × Result Reply Fault). IsCellStepOf H x.0 (Report c.args.place.now.worker) x.1 x.2 (on_board old.board) (on_board new.board) x.3)
+      subst (λ (x : Config × HeldWorker _ _ _ × HeldWorker _ _ _ × Result Reply Fault). IsCellStepOf H x.0 (Report c.args.place.now.worker) x.1 x.2 (on_board c.in-Board.board.board) (on_board new.board) x.3)
           (λ i. (c.requires.kernel.config_is i, sym c.of-before.ensures i, sym c.of.ensures i, sym c.answer_of.ensures.step i)) (c.report-answer.ensures.step H),
     )
 
@@ -46,15 +41,12 @@ pub returns-clause-done : goal.returns-clause-done
 returns-clause-done g c =
     let key = c.args.self.now.table.shared.key in
     let H = g.M.Model.handlers key.model.value in
-    let v = c.args.place.now.seat.me.0 in
-    let w = c.release_visit.new.seat.me.0 in
     let k = c.args.kernel.now in
     let left = c.report-answer.new.kernel in
     let step = Report c.args.place.now.worker in
     let tried = subst (λ (a : Result Reply Fault). IsCellStepOf H k.config step k left (on_board c.in-Board.board.board) (on_board c.report-answer.new.board.board) a) (sym c.answer_of.ensures.step) (c.report-answer.ensures.step H) in
-    tried-there H key.config v c.claim_board.new.seat.me.0 c.of-before.result.value c.of.result.value k left step w (c.if-not-claim_board.ensures.claimed refl).place c.of-before.ensures c.of.ensures _
-    reply_of c.report-answer.result c.answer_of.ensures.told c.release_visit.ensures.done
-    tried.unchanged
+    tried-there H key.config c.args.place.now.seat.me.0 c.claim_board.new.seat.me.0 c.of-before.result.value c.of.result.value k left step c.release_visit.new.seat.me.0
+    (c.if-not-claim_board.ensures.claimed refl).place c.of-before.ensures c.of.ensures _ reply_of c.report-answer.result c.answer_of.ensures.told c.release_visit.ensures.done tried.unchanged
 
 pub returns-clause-refused : goal.returns-clause-refused
 returns-clause-refused g c =
@@ -62,12 +54,11 @@ returns-clause-refused g c =
     let H = g.M.Model.handlers key.model.value in
     let why = IsReportRefusal (simulation_of H key.config) c.args.place.now.seat.me.0 in
     let t = c.if-not-claim_board.ensures.claimed refl in
-    let value = c.slot_mut-held.ensures.value ∙ ap (λ s. (c.args.self.now.workers, s) ∷ rest c.claim_board.new.seat.me.1) c.in-Board.is in
     let r = c.requires.kernel in
     tried-refused reply_of c.report-answer.result why (sym c.answer_of.ensures.step ∙ c.answer_of.ensures.told)
     (IfErr-weaker (answer_of c.report-answer.result) _ why
     (λ fault at. report-refused t.known r.steps r.part r.led fault
-    (subst (λ (x : Config × ℕ × Cell _). IsCellRefusal (simulation_of H x.0) (Report x.1) r.part x.2 fault) (λ i. (r.config_is i, sym c.args.place.now.own i, found-is t.holds (slot.Board c.in-Board.board) value i)) at))
+    (subst (λ (x : Config × ℕ × Cell _). IsCellRefusal (simulation_of H x.0) (Report x.1) r.part x.2 fault) (λ i. (r.config_is i, sym c.args.place.now.own i, found-is t.holds c.slot_mut-held.ensures.value c.in-Board.is i)) at))
     ((c.report-answer.ensures.step H).refused r.part r.stands))
 
 pub returns-clause-alone : goal.returns-clause-alone
@@ -75,9 +66,8 @@ returns-clause-alone g c r =
     let key = c.args.self.now.table.shared.key in
     let v = c.args.place.now.seat.me.0 in
     let w = c.release_visit.new.seat.me.0 in
-    let k = c.args.kernel.now in
     let left = c.report-answer.new.kernel in
-    report-alone (g.M.Model.handlers key.model.value) key.config v w k left r (Stays v w × (left ≡ k)) c.args.place.now.own c.report-answer.result v.seen reply_of (c.if-not-claim_board.ensures.claimed refl).lawful (returns-clause-done g c) (returns-clause-refused g c)
+    report-alone (g.M.Model.handlers key.model.value) key.config v w c.args.kernel.now left r (Stays v w × (left ≡ c.args.kernel.now)) c.args.place.now.own c.report-answer.result v.seen reply_of (c.if-not-claim_board.ensures.claimed refl).lawful (returns-clause-done g c) (returns-clause-refused g c)
 
 pub invariant_of-place : goal.invariant_of-place
 invariant_of-place g c = refused c.args.place.now c.claim_board.new.seat c.if-not-claim_board.ensures.same (c.if-not-claim_board.ensures.busy refl).0
