@@ -33,15 +33,15 @@ pub record AtJob (M P : Type 0) : Type 0 where
 
 -- what holds of it between calls: the station was told this model and this config, there is a place, and the final values, if there
 -- are any, are those of the worker's processes
-pub record IsJob {M S P K : Type 0} (handlers : M → Handlers S P K) (told : M) (known : Config) (j : AtJob M P) : Type 0 where
-  pub model_is : told ≡ j.model
-  pub config_is : known ≡ j.config
-  pub within : j.worker < j.config.workers
+pub record IsJob {M S P K : Type 0} (handlers : M → Handlers S P K) (told : M) (known : Config) (table : TableId) (model : M) (config : Config) (worker : ℕ) (place : Option (Place P)) (outcome : Option Outcome) (finals : Option (List ℕ)) : Type 0 where
+  pub model_is : told ≡ model
+  pub config_is : known ≡ config
+  pub within : worker < config.workers
   pub there : Place P
-  pub place_is : j.place ≡ Some there
-  pub table_is : place_table there ≡ j.table
-  pub left : IsLeft (simulation_of (handlers j.model) j.config) j.table j.worker j.outcome there
-  pub finals_are : IfSome j.finals (λ values. values ≡ worker_finals (simulation_of (handlers j.model) j.config) j.worker)
+  pub place_is : place ≡ Some there
+  pub table_is : place_table there ≡ table
+  pub left : IsLeft (simulation_of (handlers model) config) table worker outcome there
+  pub finals_are : IfSome finals (λ values. values ≡ worker_finals (simulation_of (handlers model) config) worker)
 
 -- the work of the same worker for the same model and config
 pub record IsSameJob {M P : Type 0} (i j : AtJob M P) : Type 0 where

@@ -86,15 +86,7 @@ impl<'a, M: EventModel> Model for Job<'a, M> {
       finals = option_map (λ v. v.items) j.finals;
     } };
 
-    ghost invariant = { λ j. IsJob M.handlers (station_model j.station.now) (station_config j.station.now) (record {
-      model = j.model.now;
-      config = j.config;
-      table = station_table j.station.now;
-      worker = j.worker;
-      place = j.place;
-      outcome = j.outcome;
-      finals = option_map (λ v. v.items) j.finals;
-    }) };
+    ghost invariant = { λ j. IsJob M.handlers (station_model j.station.now) (station_config j.station.now) (station_table j.station.now) j.model.now j.config j.worker j.place j.outcome (option_map (λ v. v.items) j.finals) };
 }
 
 impl<'a, M: EventModel> Job<'a, M> {
