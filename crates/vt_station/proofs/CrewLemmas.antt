@@ -17,7 +17,7 @@ use Rattle.vt_station.specs.declared.driver.Outcome.TheVariants.{Closed}
 use Rattle.vt_places.specs.Calls.{AreRecordsShown}
 use Rattle.vt_key.specs.declared.fault.Fault.TheVariants.{Busy, TurnsSpent}
 use Rattle.vt_model.specs.declared.settings.Config.{Config}
-use Rattle.vt_station.specs.Crew.{IsLeft, IsStop}
+use Rattle.vt_station.specs.Crew.{AtJob, IsLeft, IsStop, IsToldBy, NoneClosed, first_fault}
 use Rattle.vt_station.specs.Turns.{IsLasting}
 
 module _ {S P : Type 0} (sim : Simulation S P) where
@@ -56,3 +56,9 @@ pub stop-fault : {X : Type 0} (config : Config) (items : X → List Record) (res
 stop-fault config items (Ok x) fault told records (inl lasting) busy stops = inl (subst IsLasting (sym stops.0) lasting)
 stop-fault config items (Ok x) fault told records (inr spent) busy stops = inr (inl (stops.0 ∙ spent))
 stop-fault config items (Err refused) fault told records ended busy stops = inr (inr (stops.0 ∙ busy.0, busy.1, stops.1))
+
+-- and what it is told by: that fault, since no worker closed the book, or that the book was claimed
+pub stop-told : {M P X : Type 0} (config : Config) (jobs : List (AtJob M P)) (items : X → List Record) (result : Result X Fault) (fault told : Fault) (records : List Record) → NoneClosed jobs → fault ≡ first_fault jobs
+    → IfErr result (λ refused. (refused ≡ Busy) × (1 < config.workers)) → MatchResult result (λ x. (told ≡ fault) × (records ≡ items x)) (λ refused. (told ≡ refused) × (records ≡ [])) → IsToldBy jobs told records
+stop-told config jobs items (Ok x) fault told records none first busy stops = inl (none, stops.0 ∙ first)
+stop-told config jobs items (Err refused) fault told records none first busy stops = inr (stops.0 ∙ busy.0, stops.1)

@@ -1,1 +1,2 @@
 pub mod CrewLemmas
+mod JobLemmas
