@@ -1,5 +1,5 @@
 -- What the records of a place say of the run, once its worker's work has ended.
-use Rattle.std.proofs.Common.{ℕ, List, [], ◌∷◌, map, Bool, true, false, cond, Option, Some, Result, Ok, Err, inl, inr, subst, ap, refl, sym, ◌∙◌, arith}
+use Rattle.std.proofs.Common.{ℕ, List, [], ◌∷◌, map, Bool, true, false, cond, Option, Some, Result, Ok, Err, inl, inr, subst, ap, refl, sym, ◌∙◌, arith, Vec, Global}
 use Rattle.std.proofs.lemmas.Bool.{le-ltb}
 use Rattle.std.specs.Prelude.{◌≡◌, ◌<◌, ◌⊎◌, IfOk, IfErr, MatchResult}
 use Rattle.atomic_table.specs.Seated.{TableId}
@@ -12,6 +12,8 @@ use Rattle.vt_model.specs.Sequential.{rows_before, records_of, rows_after, whole
 use Rattle.vt_steps.specs.Marked.{answered, has_closed}
 use Rattle.vt_places.specs.declared.view.View.{View}
 use Rattle.vt_places.specs.declared.place.Place.{Place}
+use Rattle.vt_station.specs.declared.crew.Stopped.{Stopped}
+use Rattle.vt_station.specs.declared.crew.Finished.{Finished}
 use Rattle.vt_station.specs.declared.driver.Outcome.{Outcome}
 use Rattle.vt_station.specs.declared.driver.Outcome.TheVariants.{Closed}
 use Rattle.vt_places.specs.Calls.{AreRecordsShown}
@@ -62,3 +64,21 @@ pub stop-told : {M P X : Type 0} (config : Config) (jobs : List (AtJob M P)) (it
     → IfErr result (λ refused. (refused ≡ Busy) × (1 < config.workers)) → MatchResult result (λ x. (told ≡ fault) × (records ≡ items x)) (λ refused. (told ≡ refused) × (records ≡ [])) → IsToldBy jobs told records
 stop-told config jobs items (Ok x) fault told records none first busy stops = inl (none, stops.0 ∙ first)
 stop-told config jobs items (Err refused) fault told records none first busy stops = inr (stops.0 ∙ busy.0, stops.1)
+
+-- a run that went to its end, or was told as stopped since its final values were refused
+module _ (records : Result (Vec Record Global) Stopped) (finals : Result (Vec ℕ Global) Fault) (A : Vec Record Global → Type 0) where
+  pub finished-records : (result : Result Finished Stopped) → IfOk result (λ v. (records ≡ Ok v.records) × (finals ≡ Ok v.finals)) → IfOk records A → IfOk result (λ v. A v.records)
+  finished-records (Ok v) is all = subst (λ r. IfOk r A) is.0 all
+  finished-records (Err stopped) is all = tt
+
+  pub finished-finals : (F : Vec ℕ Global → Type 0) (result : Result Finished Stopped) → IfOk result (λ v. (records ≡ Ok v.records) × (finals ≡ Ok v.finals)) → IfOk finals F → IfOk result (λ v. F v.finals)
+  finished-finals F (Ok v) is all = subst (λ r. IfOk r F) is.1 all
+  finished-finals F (Err stopped) is all = tt
+
+  pub finish-stopped : (B : Fault → Type 0) (Told : Fault → List Record → Type 0) (result : Result Finished Stopped)
+      → IfErr result (λ stopped. (records ≡ Err stopped) ⊎ ((records ≡ Ok stopped.records) × (finals ≡ Err stopped.fault)))
+      → IfErr records (λ stopped. Told stopped.fault stopped.records.items) → IfOk records A → IfErr finals B → ((v : Vec Record Global) (fault : Fault) → A v → B fault → Told fault v.items)
+      → IfErr result (λ stopped. Told stopped.fault stopped.records.items)
+  finish-stopped B Told (Ok v) is told all refused then = tt
+  finish-stopped B Told (Err stopped) (inl is) told all refused then = subst (λ r. IfErr r (λ s. Told s.fault s.records.items)) is told
+  finish-stopped B Told (Err stopped) (inr is) told all refused then = then stopped.records stopped.fault (subst (λ r. IfOk r A) is.0 all) (subst (λ r. IfErr r B) is.1 refused)
