@@ -74,12 +74,17 @@ pub record IsNext {M S P K : Type 0} (lps end : ℕ) (pending : List (Sent P)) (
   pub there : length processes ≡ lps
   pub at : slice_index_or processes e.dest p ≡ p
 
+-- each pending event is one of the run, so the first is
+pub first_within : {P : Type 0} {lps end : ℕ} (pending : List (Sent P)) {e : Sent P} → Some e ≡ slice_get pending 0 → ((k : ℕ) (d : Sent P) → k < length pending → IsWithinRun lps end (slice_index_or pending k d)) → IsWithinRun lps end e
+first_within {lps} {end} pending {e} found within =
+    let f = first_there pending e found in at-among (IsWithinRun lps end) pending within e (subst (λ (d : Sent _). Among d pending) f.1 (among-at pending 0 e f.0))
+
 pub next_of : {M S P K : Type 0} {lps end : ℕ} {pending : List (Sent P)} {processes : List (Process M S P K)} {e : Sent P} {p : Process M S P K}
     → Some e ≡ slice_get pending 0 → p ≡ slice_index_or processes e.dest p
     → ((k : ℕ) (d : Sent P) → k < length pending → IsWithinRun lps end (slice_index_or pending k d)) → length processes ≡ lps → IsNext lps end pending processes e p
-next_of {lps} {end} {pending} {e} found at within there =
+next_of {pending} {e} found at within there =
     let f = first_there pending e found in
-    let w = at-among (IsWithinRun lps end) pending within e (subst (λ (d : Sent _). Among d pending) f.1 (among-at pending 0 e f.0)) in
+    let w = first_within pending found within in
     record { some = f.0; first = f.1; known = w.known; soon = w.soon; there = there; at = sym at }
 
 module _ {M S P K : Type 0} (sim : Simulation S P) where

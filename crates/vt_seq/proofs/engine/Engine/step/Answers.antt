@@ -13,7 +13,7 @@ use Rattle.vt_model.specs.Simulation.{simulation_of}
 use Rattle.vt_model.proofs.LawLemmas.{lawful_of}
 use Rattle.vt_model.proofs.Sizes.{out_fits}
 use Rattle.vt_seq.specs.Queue.{IsWithinRun}
-use Rattle.vt_seq.proofs.StepLemmas.{next_of, seated_state, stands_step, stays_at, refused_next, unmoved, numbers_below_next, taken_next, falls, none_there, either_way, set_same, set_all}
+use Rattle.vt_seq.proofs.StepLemmas.{first_within, next_of, seated_state, stands_step, stays_at, refused_next, unmoved, numbers_below_next, taken_next, falls, none_there, either_way, set_same, set_all}
 use Rattle.vt_seq.proofs.GivenLemmas.{adds_nothing, adds_step}
 use Rattle.vt_seq.proofs.engine.Engine.step.Given.{Over}
 use Rattle.vt_seq.proofs.engine.Engine.step.Goals as goal
@@ -21,6 +21,13 @@ use Rattle.vt_seq.proofs.engine.Engine.step.Goals as goal
 -- the model's laws make its simulation lawful
 lawful : (g : Over) (m : _) (config : Config) → IsLawful (simulation_of (g.M.Model.handlers m) config)
 lawful g m config = lawful_of (g.M.Model.handlers m) config (g.met.M.Model.start_within m) (g.met.M.Model.forward_within m)
+
+pub first-requires : goal.first-requires
+first-requires g c κs within a there = within a there
+
+pub index_mut-requires : goal.index_mut-requires
+index_mut-requires g c =
+    let s = c.args.self.now in subst (λ (k : ℕ). c.in-Some.event.dest < k) (sym s.all_there) (first_within s.pending c.in-Some.ensures s.within_run).known
 
 pub returns-in_default-clause-steps : goal.returns-in_default-clause-steps
 returns-in_default-clause-steps g c n st =
