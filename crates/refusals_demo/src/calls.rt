@@ -26,6 +26,15 @@ pub(crate) trait Subject {
     fn make(&mut self, alloc: Global, call: Self::Call) -> Result<(), Fault>;
 }
 
+/// Something that gives its records and its final values.
+pub(crate) trait Giving {
+    /// Its records so far.
+    fn records(&self, alloc: Global) -> Result<Vec<Record>, Fault>;
+
+    /// Its final values. [`Fault::NotLawful`]: there are none yet.
+    fn finals(&self, alloc: Global) -> Result<Vec<u64>, Fault>;
+}
+
 /// Whether a call was refused for memory. No other refusal is one that is tried again.
 pub(crate) fn is_refused<T>(answer: &Result<T, Fault>) -> bool {
     matches!(answer, Err(Fault::Memory))
@@ -127,6 +136,37 @@ pub(crate) fn sum_of_records(records: &[Record]) -> u64 {
 fn record_told(record: &Record) -> u64 {
     let sum = mixed(time_told(record.when()), u64::from(record.lp));
     mixed(sum, record.value)
+}
+
+fn records_told<G: Giving>(subject: &G, alloc: Global) -> Option<u64> {
+    match subject.records(alloc) {
+        Ok(records) => Some(sum_of_records(&records)),
+        Err(_) => None,
+    }
+}
+
+/// A number for the records of a subject, which are asked for once more where memory is refused.
+pub(crate) fn records_or_again<G: Giving>(subject: &G, alloc: Global) -> u64 {
+    match records_told(subject, alloc) {
+        Some(records) => records,
+        None => records_told(subject, alloc).unwrap_or(NONE),
+    }
+}
+
+fn finals_told<G: Giving>(subject: &G, alloc: Global) -> Option<u64> {
+    match subject.finals(alloc) {
+        Ok(finals) => Some(sum_of_numbers(&finals)),
+        Err(Fault::NotLawful) => Some(0),
+        Err(_) => None,
+    }
+}
+
+/// A number for the final values of a subject, 0 where there are none yet. They are asked for once more where memory is refused.
+pub(crate) fn finals_or_again<G: Giving>(subject: &G, alloc: Global) -> u64 {
+    match finals_told(subject, alloc) {
+        Some(finals) => finals,
+        None => finals_told(subject, alloc).unwrap_or(NONE),
+    }
 }
 
 /// A number for a list of events.

@@ -1,8 +1,8 @@
 //! The sequential simulator.
 
 use crate::calls::{
-    NONE, Subject, Told, answer_of, counted, is_refused, mixed, sum_of_numbers, sum_of_records,
-    tell_answer, tell_made, tell_refused, try_calls,
+    Giving, NONE, Subject, Told, answer_of, counted, finals_or_again, is_refused, mixed,
+    records_or_again, tell_answer, tell_made, tell_refused, try_calls,
 };
 use std::alloc::Global;
 use std::io;
@@ -48,43 +48,16 @@ impl<'m> Run<'m> {
         let number = self.run.number(p).unwrap_or(NONE);
         mixed(number, self.run.place(p).unwrap_or(NONE))
     }
+}
 
+impl<'m> Giving for Run<'m> {
     fn records(&self, alloc: Global) -> Result<Vec<Record>, Fault> {
         self.run.records_below(alloc, When::tick(10))
     }
 
+    // No process has an end while an event is pending.
     fn finals(&self, alloc: Global) -> Result<Vec<u64>, Fault> {
         self.run.finals(alloc)
-    }
-
-    fn records_told(&self, alloc: Global) -> Option<u64> {
-        match self.records(alloc) {
-            Ok(records) => Some(sum_of_records(&records)),
-            Err(_) => None,
-        }
-    }
-
-    fn records_or_again(&self, alloc: Global) -> u64 {
-        match self.records_told(alloc) {
-            Some(records) => records,
-            None => self.records_told(alloc).unwrap_or(NONE),
-        }
-    }
-
-    // No process has an end while an event is pending.
-    fn finals_told(&self, alloc: Global) -> Option<u64> {
-        match self.finals(alloc) {
-            Ok(finals) => Some(sum_of_numbers(&finals)),
-            Err(Fault::NotLawful) => Some(0),
-            Err(_) => None,
-        }
-    }
-
-    fn finals_or_again(&self, alloc: Global) -> u64 {
-        match self.finals_told(alloc) {
-            Some(finals) => finals,
-            None => self.finals_told(alloc).unwrap_or(NONE),
-        }
     }
 }
 
@@ -103,8 +76,8 @@ impl<'m> Subject for Run<'m> {
         [
             self.process_told(0),
             self.process_told(1),
-            self.records_or_again(alloc),
-            self.finals_or_again(alloc),
+            records_or_again(self, alloc),
+            finals_or_again(self, alloc),
             0,
         ]
     }

@@ -1,13 +1,13 @@
 //! A world of two processes on two workers.
 
 use crate::calls::{
-    NONE, Subject, Told, answer_of, is_refused, sum_of_events, sum_of_numbers, sum_of_records,
-    tell_answer, tell_made, tell_refused, time_told, try_calls,
+    Giving, NONE, Subject, Told, answer_of, finals_or_again, is_refused, records_or_again,
+    sum_of_events, sum_of_numbers, tell_answer, tell_made, tell_refused, time_told, try_calls,
 };
 use std::alloc::Global;
 use std::io;
 use vt_key::{Event, Fault, Stamp};
-use vt_model::Config;
+use vt_model::{Config, Record};
 use vt_models::{Hop, Token};
 use vt_steps::Step;
 use vt_world::{Stop, World};
@@ -57,10 +57,6 @@ impl<'m> Drive<'m> {
         self.world.past(alloc, lp)
     }
 
-    fn finals(&self, alloc: Global) -> Result<Vec<u64>, Fault> {
-        self.world.finals(alloc)
-    }
-
     fn past_told(&self, alloc: Global, lp: u32) -> Option<u64> {
         match self.past(alloc, lp) {
             Ok(past) => Some(sum_of_events(&past)),
@@ -74,35 +70,16 @@ impl<'m> Drive<'m> {
             None => self.past_told(alloc, lp).unwrap_or(NONE),
         }
     }
+}
 
-    fn records_told(&self, alloc: Global) -> Option<u64> {
-        match self.world.records(alloc) {
-            Ok(records) => Some(sum_of_records(&records)),
-            Err(_) => None,
-        }
-    }
-
-    fn records_or_again(&self, alloc: Global) -> u64 {
-        match self.records_told(alloc) {
-            Some(records) => records,
-            None => self.records_told(alloc).unwrap_or(NONE),
-        }
+impl<'m> Giving for Drive<'m> {
+    fn records(&self, alloc: Global) -> Result<Vec<Record>, Fault> {
+        self.world.records(alloc)
     }
 
     // No process has an end before the book is closed.
-    fn finals_told(&self, alloc: Global) -> Option<u64> {
-        match self.finals(alloc) {
-            Ok(finals) => Some(sum_of_numbers(&finals)),
-            Err(Fault::NotLawful) => Some(0),
-            Err(_) => None,
-        }
-    }
-
-    fn finals_or_again(&self, alloc: Global) -> u64 {
-        match self.finals_told(alloc) {
-            Some(finals) => finals,
-            None => self.finals_told(alloc).unwrap_or(NONE),
-        }
+    fn finals(&self, alloc: Global) -> Result<Vec<u64>, Fault> {
+        self.world.finals(alloc)
     }
 }
 
@@ -122,8 +99,8 @@ impl<'m> Subject for Drive<'m> {
             self.times_told(),
             self.past_or_again(alloc, 0),
             self.past_or_again(alloc, 1),
-            self.records_or_again(alloc),
-            self.finals_or_again(alloc),
+            records_or_again(self, alloc),
+            finals_or_again(self, alloc),
         ]
     }
 
