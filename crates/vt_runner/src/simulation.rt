@@ -1,7 +1,9 @@
 //! A run of a model, and its text.
 
-ghost use Rattle.std.specs.Prelude.{OnOk, IfErr};
+ghost use Rattle.std.specs.Prelude.{◌≡◌, OnOk, IfErr};
 ghost use Rattle.std.specs.Io.KnownBytes.{Appends};
+ghost use Rattle.vt_model.specs.Simulation.{simulation_of};
+ghost use Rattle.vt_seq.specs.Standing.{IsAt};
 ghost use Rattle.vt_runner.specs.Runs.{run_text, text_below, PassesInRun, StopsRun, StopsWork, StopsBy};
 
 use crate::counting::EventCount;
@@ -33,13 +35,29 @@ fn print_run<M: EventModel, W: Watch, O: Write>(
     ensures err { IfErr result (StopsRun (PassesInRun (M.handlers model.now) options.now.config) (O.contents out.old) (O.contents out.new) (run_text options.now.text (M.handlers model.now) options.now.config)) }
 {
     let mut execution = Execution::new(alloc, model, options.config)?;
+    print_events(alloc, &mut execution, options, watch, out)
+}
+
+/// Brings an execution from its beginning to its end, and writes the records of its events as [`print_run`] does.
+fn print_events<M: EventModel, W: Watch, O: Write>(
+    alloc: Global,
+    execution: &mut Execution<'_, M>,
+    options: &RunSettings,
+    watch: &W,
+    out: &mut O,
+) -> Result<(), Fault>
+    requires config { execution.old.config ≡ options.now.config }
+    requires opening { IsAt (simulation_of (M.handlers execution.old.model) options.now.config) 0 execution.old }
+    ensures ok { OnOk result (Appends (O.contents out.old) (O.contents out.new) (run_text options.now.text (M.handlers execution.old.model) options.now.config)) }
+    ensures err { IfErr result (StopsRun (PassesInRun (M.handlers execution.old.model) options.now.config) (O.contents out.old) (O.contents out.new) (run_text options.now.text (M.handlers execution.old.model) options.now.config)) }
+{
     let mut records = Vec::new(alloc);
     let mut text = TextBuffer::new();
     let mut handler_out = Out::new(options.config, 0, When::tick(0), 0);
     let mut count = EventCount::new(watch, options.config.end().ticks());
     text.put_bytes(out, options.text.first_line())?;
     while execution.step_reusing(&mut records, &mut handler_out)? {
-        count.add(&execution);
+        count.add(execution);
         if records.len() >= GROUP {
             put_lines(&mut text, out, records.as_slice(), options.text)?;
             records.clear();

@@ -1,4 +1,4 @@
-use Rattle.std.proofs.Common.{◌≡◌, ◌∙◌, sym, ap, subst, ◌*◌, ◌<◌, List, length, take, drop, arith}
+use Rattle.std.proofs.Common.{◌∙◌, sym, ap, subst, ◌*◌, ◌<◌, List, length, take, drop, arith}
 use Rattle.std.proofs.lemmas.Result.{on_err_weaker}
 use Rattle.vt_model.specs.declared.rows.Record.{Record}
 use Rattle.vt_text.proofs.TextLemmas.{on_err, flush_fails}

@@ -1,4 +1,4 @@
-use Rattle.std.proofs.Common.{rules, arith, ◌∙◌}
+use Rattle.std.proofs.Common.{rules, arith, refl, ◌∙◌}
 use Rattle.std.proofs.lemmas.Result.{on_ok_weaker}
 use Rattle.vt_model.proofs.Sizes.{out_fits, first_out}
 use Rattle.vt_key.proofs.ResultLemmas.{if_err}
@@ -7,8 +7,9 @@ use Rattle.vt_text.specs.Writing.{AppendsAllButHeld}
 use Rattle.vt_runner.specs.Runs.{run_text, StopsRun}
 use Rattle.vt_runner.proofs.PrintLemmas.{one_run, opened, first_stops, stepped, step_stops, emptied, put_stops, last_put, all_written, last_stops}
 use Rattle.vt_runner.proofs.ReplayLemmas.{both}
-use Rattle.vt_runner.proofs.simulation.print_run.Given.{Over}
-use Rattle.vt_runner.proofs.simulation.print_run.Goals as goal
+use Rattle.vt_runner.proofs.simulation.print_events.Given.{Over}
+use Rattle.vt_runner.proofs.simulation.print_events.Goals.{After-flush}
+use Rattle.vt_runner.proofs.simulation.print_events.Goals as goal
 
 pub new-handler_out-requires : goal.new-handler_out-requires
 new-handler_out-requires g c =
@@ -20,19 +21,18 @@ step_reusing-requires-after_bounds g c κs within = out_fits _ _ g.met.M.Model.p
 
 pub returns-in_err-put_bytes-clause-err : goal.returns-in_err-put_bytes-clause-err
 returns-in_err-put_bytes-clause-err g c =
-    let model = c.args.model.now in
+    let model = c.args.execution.now.model in
     let options = c.args.options.now in
     let e = c.in_err-put_bytes in
-    if_err (StopsRun _ _ _ _) _ e.field-0.0 c.from_residual-in_err-put_bytes.ensures.1
+    if_err (StopsRun _ _ _ _) _ e.field-0.0 c.from_residual.ensures.1
     (first_stops options.text (g.M.Model.handlers model) options.config c.new-text.ensures c.first_line.ensures e.ensures.fault e.ensures.err)
 
 pub loop-records-init : goal.loop-records-init
 loop-records-init g c =
-    let start = c.in_ok-execution.ensures in
     record {
-      model = start.model;
-      config = start.config;
-      printing = opened c.new-text.ensures c.first_line.ensures start.opening c.new-records.ensures.items c.in_ok-put_bytes.ensures.ok;
+      model = refl;
+      config = c.requires.config;
+      printing = opened c.new-text.ensures c.first_line.ensures c.requires.opening c.new-records.ensures.items c.in_ok-put_bytes.ensures.ok;
     }
 
 pub returns-in_err-step_reusing-clause-err : goal.returns-in_err-step_reusing-clause-err
@@ -78,8 +78,8 @@ returns-in_err-put_lines-2-clause-err g c =
     if_err (StopsRun _ _ _ _) _ e.field-0.0 c.from_residual-in_err-put_lines-2.ensures.1 (put_stops c.loop-records.invariant.printing is e.ensures.fault e.ensures.err)
 
 -- at the end the whole text was put, of which some is held
-all_put : (g : Over) (c : goal.After-drop-execution-inside-8 g)
-    → AppendsAllButHeld (g.O.Write.contents c.args.out.now) (g.O.Write.contents c.put_lines-2.new.writer) c.put_lines-2.new.text (run_text c.args.options.now.text (g.M.Model.handlers c.args.model.now) c.args.options.now.config)
+all_put : (g : Over) (c : After-flush g)
+    → AppendsAllButHeld (g.O.Write.contents c.args.out.now) (g.O.Write.contents c.put_lines-2.new.writer) c.put_lines-2.new.text (run_text c.args.options.now.text (g.M.Model.handlers c.args.execution.now.model) c.args.options.now.config)
 all_put g c =
     let l = c.loop-records.invariant in
     let step = c.in_ok-step_reusing.ensures in
@@ -88,7 +88,7 @@ all_put g c =
     last_put l.printing is (one_run g.M.Model.handlers l.model l.config) none step.whole c.in_ok-put_lines-2.ensures.ok
 
 pub returns-clause-ok : goal.returns-clause-ok
-returns-clause-ok g c = on_ok_weaker c.flush.result (all_written (all_put g c) _) c.flush.ensures.ok
+returns-clause-ok g c = on_ok_weaker c.flush.result (all_written (all_put g (goal.at.returns-clause-ok g c).After-flush) _) c.flush.ensures.ok
 
 pub returns-clause-err : goal.returns-clause-err
-returns-clause-err g c = both c.flush.result (last_stops (all_put g c) _) c.flush.ensures.fault c.flush.ensures.err
+returns-clause-err g c = both c.flush.result (last_stops (all_put g (goal.at.returns-clause-err g c).After-flush) _) c.flush.ensures.fault c.flush.ensures.err
