@@ -1,6 +1,6 @@
 //! A whole program of one model, over the words of its process.
 
-ghost use Rattle.std.specs.Prelude.{◌≡◌, ◌≢◌, ◌⊎◌, List, length, Some, codes, IfErr};
+ghost use Rattle.std.specs.Prelude.{◌≡◌, ◌≢◌, ◌⊎◌, ◌++◌, List, length, Some, codes, IfErr, IfSome, string_bytes};
 ghost use Rattle.std.specs.Fn.{FnReturnsAt};
 ghost use Rattle.std.specs.Io.KnownBytes.{Keeps};
 ghost use Rattle.clap.specs.Words.{Text};
@@ -14,6 +14,7 @@ ghost use Rattle.vt_runner.specs.OneModel.{IsDoneOf, EndsOf, IsReadOf, IsRefused
 
 use crate::one_model::{OWN_HEADING, Streams, model_program};
 use crate::tell_refusal;
+use std::alloc::Global;
 use std::env;
 use std::env::Env;
 use std::io::{ErrorKind, Read, Write};
@@ -100,6 +101,13 @@ where
     }
 }
 
+/// A line for a terminal on an option of a program that has the name of another. None: memory was refused.
+fn hint_on_taken(alloc: Global, program: &str, name: &str) -> Option<String>
+    ensures { IfSome result (λ line. string_bytes line ≡ program.now ++ (codes ": another option of it is named --" ++ (name.now ++ codes " too"))) }
+{
+    format!(in alloc; "{program}: another option of it is named --{name} too").ok()
+}
+
 /// A line for a terminal where [`run_program`] has refused the words of the process: which word it was, and what is allowed; or
 /// that an option's name is taken. None: none of these was refused, or memory was refused.
 pub fn hint_of_process<H: Env + AllocGlobal>(
@@ -108,10 +116,10 @@ pub fn hint_of_process<H: Env + AllocGlobal>(
     own: &[OwnOption],
 ) -> Option<String>
     requires defaults { HaveDefaults own.now }
+    ensures taken { (name : Text) → taken_in (own_names own.now) ≡ Some name → IfSome result (λ line. string_bytes line ≡ texts.now.name.now ++ (codes ": another option of it is named --" ++ (name ++ codes " too"))) }
 {
     if let Some(name) = taken_name(own) {
-        let program = texts.name;
-        return format!(in rt.alloc(); "{program}: another option of it is named --{name} too").ok();
+        return hint_on_taken(rt.alloc(), texts.name, name);
     }
     let Ok(words) = words_of(rt) else {
         return None;
