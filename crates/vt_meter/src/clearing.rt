@@ -3,7 +3,8 @@
 use crate::meter::Meter;
 use std::io::{self, Write};
 
-/// A writer that may write to the terminal on which a meter shows its line: before it does, the line is taken away.
+/// A writer that may write to the terminal on which a meter shows its line: before it does, the line is taken away. What was
+/// written to it is what its own writer took.
 #[derive(Drop)]
 pub struct Clearing<'m, W, E> {
     meter: &'m Meter,
@@ -24,6 +25,8 @@ impl<'m, W: Write, E: Write> Clearing<'m, W, E> {
 }
 
 impl<'m, W: Write, E: Write> Write for Clearing<'m, W, E> {
+    ghost contents = { λ c. W.contents c.writer };
+
     fn write(&mut self, buf: &[u8]) -> io::Result<usize> {
         if let Some(line) = &mut self.line {
             self.meter.hush(line);
