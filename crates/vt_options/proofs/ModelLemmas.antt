@@ -1,8 +1,9 @@
 -- The models of a table, one after the other.
-use Rattle.std.proofs.Common.{◌≡◌, ◌<◌, ◌+◌, ◌++◌, ◌∙◌, ℕ, List, [], ◌∷◌, Option, Some, None, ap, sym, refl, subst, inl, inr, length, take, drop, get_or, map, true, false, arith, append_assoc, append-nil}
+use Rattle.std.proofs.Common.{◌≡◌, ◌<◌, ◌≤◌, ◌+◌, ◌++◌, ◌∙◌, ℕ, List, [], ◌∷◌, Option, Some, None, ap, sym, refl, subst, inl, inr, length, take, drop, get_or, map, true, false, arith, append_assoc, append-nil}
 use Rattle.std.specs.Prelude.{if◌then◌else◌}
 use Rattle.std.specs.Str.{bytes_eq}
-use Rattle.std.proofs.lemmas.List.{take_more, drop_more, length-map, map-append, take-append-drop, length-take-le, get_or-map}
+use Rattle.std.proofs.lemmas.Bool.{cases_lt}
+use Rattle.std.proofs.lemmas.List.{get_or_past, take_more, drop_more, length-map, map-append, take-append-drop, length-take-le, get_or-map}
 use Rattle.clap.specs.Words.{Text}
 use Rattle.vt_key.specs.declared.fault.Fault.{Fault}
 use Rattle.vt_key.specs.declared.fault.Fault.TheVariants.{Memory, NotLawful, Busy, Closed, Exhausted, TurnsSpent, BadOption, BadStep, Output}
@@ -134,3 +135,17 @@ module _ (models : List ModelOptions) (i : ℕ) (d : ModelOptions) (h : i < leng
 
     pub within_here : (values : List ℕ) → AreInRange table values → AreInRange (get_or (tables_of models) k []) values
     within_here values = subst (λ (t : List NumberOption). AreInRange t values) table_is
+
+-- ---- once all models were read
+
+-- what holds of the wanted model's table, if there is one, and of none, holds of what stands at its index
+pub of_wanted : (Q : List NumberOption → List ℕ → Type 0) (models : List ModelOptions) (index wanted : ℕ) (values : List ℕ) → length models ≤ index → Q [] []
+    → (index ≤ wanted → values ≡ []) → (wanted < index → Q (get_or (tables_of models) wanted []) values) → Q (get_or (tables_of models) wanted []) values
+of_wanted Q models index wanted values all none before there =
+    elim (cases_lt wanted index) [
+      | inl less ↦ there less
+      | inr past ↦
+          let count : length (tables_of models) ≡ length models = length-map models (λ m. number_table m.options.now) in
+          let no_table : get_or (tables_of models) wanted [] ≡ [] = get_or_past (tables_of models) wanted [] (omega (arith, count, all, past)) in
+          subst (λ (table : List NumberOption). Q table values) (sym no_table) (subst (Q []) (sym (before past)) none)
+    ]

@@ -1,11 +1,13 @@
-use Rattle.std.proofs.Common.{◌≡◌, ◌≢◌, arith, rules}
+use Rattle.std.proofs.Common.{◌≡◌, ◌≢◌, List, None, subst, refl, arith, rules}
 use Rattle.std.specs.List.{list_all}
+use Rattle.std.proofs.lemmas.List.{take_all}
 use Rattle.std.proofs.lemmas.Result.{err_from_is_err_and}
 use Rattle.clap.specs.Words.{first_value, found_of}
 use Rattle.vt_key.proofs.ResultLemmas.{if_refused}
-use Rattle.vt_options.specs.Own.{has_default}
+use Rattle.vt_options.specs.declared.own.ModelOptions.{ModelOptions}
+use Rattle.vt_options.specs.Own.{AreInRange, GiveValues, first_bad_in, has_default, tables_of}
 use Rattle.vt_options.proofs.OwnLemmas.{all_at}
-use Rattle.vt_options.proofs.ModelLemmas.{given_here, good_more, refused, within_here}
+use Rattle.vt_options.proofs.ModelLemmas.{given_here, good_more, of_wanted, refused, within_here}
 use Rattle.vt_options.proofs.models.model_values.Goals.{then-index-wanted, else-index-wanted}
 use Rattle.vt_options.proofs.models.model_values.Goals as goal
 
@@ -55,3 +57,17 @@ returns-clause-err c = tt
 
 pub own_options-requires : goal.own_options-requires
 own_options-requires c = all_at (λ m. list_all has_default m.options.now) c.args.models.now c.loop-index.index _ c.loop-index-test.true c.requires
+
+pub returns-clause-ok : goal.returns-clause-ok
+returns-clause-ok c =
+    let l = c.loop-index in
+    of_wanted (GiveValues (first_value (found_of c.args.matches.now))) c.args.models.now l.index c.args.wanted l.wanted_values.items c.loop-index-test.false refl l.invariant.before l.invariant.given
+
+pub returns-clause-within : goal.returns-clause-within
+returns-clause-within c =
+    let l = c.loop-index in of_wanted AreInRange c.args.models.now l.index c.args.wanted l.wanted_values.items c.loop-index-test.false (search rules) l.invariant.before l.invariant.within
+
+pub returns-clause-good : goal.returns-clause-good
+returns-clause-good c =
+    let l = c.loop-index in
+    subst (λ (models : List ModelOptions). first_bad_in (first_value (found_of c.args.matches.now)) (tables_of models) ≡ None) (take_all l.index c.args.models.now c.loop-index-test.false) l.invariant.good

@@ -1,6 +1,9 @@
-use Rattle.std.proofs.Common.{◌+◌, subst, sym, take}
+use Rattle.std.proofs.Common.{◌≡◌, ◌+◌, List, None, subst, sym, take}
+use Rattle.std.proofs.lemmas.List.{take_all}
 use Rattle.std.proofs.lemmas.Result.{err_from_is_err_and}
 use Rattle.clap.specs.Words.{first_value, found_of}
+use Rattle.vt_options.specs.declared.own.OwnOption.{OwnOption}
+use Rattle.vt_options.specs.Table.{first_bad_of}
 use Rattle.vt_options.specs.Own.{AreWithin, GiveValues, has_default, number_table}
 use Rattle.vt_key.proofs.ResultLemmas.{if_refused}
 use Rattle.vt_options.proofs.OwnLemmas.{all_at, values_more, good_more, within_more, refused}
@@ -39,3 +42,20 @@ returns-clause-err c = tt
 
 pub small_option-requires : goal.small_option-requires
 small_option-requires c = all_at has_default c.args.table.now c.loop-own.own-index _ c.loop-own-test.true c.requires
+
+-- at the end the whole table was read
+all_read : (c : goal.After-loop-own) → take c.loop-own.own-index c.args.table.now ≡ c.args.table.now
+all_read c = take_all c.loop-own.own-index c.args.table.now c.loop-own-test.false
+
+pub returns-clause-ok : goal.returns-clause-ok
+returns-clause-ok c =
+    let given = first_value (found_of c.args.matches.now) in
+    subst (λ (own : List OwnOption). GiveValues given (number_table own) c.loop-own.values.items) (all_read c) c.loop-own.invariant.given
+
+pub returns-clause-within : goal.returns-clause-within
+returns-clause-within c = subst (λ (own : List OwnOption). AreWithin own c.loop-own.values.items) (all_read c) c.loop-own.invariant.within
+
+pub returns-clause-good : goal.returns-clause-good
+returns-clause-good c =
+    let given = first_value (found_of c.args.matches.now) in
+    subst (λ (own : List OwnOption). first_bad_of given (number_table own) ≡ None) (all_read c) c.loop-own.invariant.good
