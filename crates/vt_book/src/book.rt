@@ -118,7 +118,7 @@ impl Book {
         ensures unchanged { IfErr result (λ _. self.new ≡ self.old) }
     {
         make_room(&mut self.shown, self.waiting.len(), batch.len())?;
-        add(&mut self.waiting, batch.into_rows())?;
+        add(&mut self.waiting, batch.into_rows(), self.floors.is_one())?;
         self.history = Seen::picked();
         let shown_to = self.floors.least(self.end);
         self.floors.set(worker, floor);
