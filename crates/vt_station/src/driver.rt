@@ -421,8 +421,8 @@ impl<'a, M: EventModel> Driver<'a, M> {
         self.busy = false;
         let executed = self.work(watch, turn)?;
         let agreed = self.agree()?;
-        self.pace.count_turn(agreed, executed);
         let committed = self.commit_risen()?;
+        self.pace.count_turn(agreed, committed, executed);
         let goes_on = !self.pace.is_held() && (executed || self.worker.kernel().outbox_len() > 0);
         self.idle = !(agreed || committed || goes_on);
         if committed {

@@ -5,8 +5,8 @@ ghost use Rattle.std.specs.Prelude.{◌≤◌, ◌<◌};
 /// The most events that a worker executes in one turn.
 const MOST_EXECUTIONS: u32 = 16;
 
-/// The patience of all workers together while little is undone. A worker's share of it is the number of turns without a cut
-/// or a report in which it executes at full pace.
+/// The patience of all workers together while little is undone. A worker's share of it is the number of turns in which it executes
+/// at full pace since its floor has risen, or, in a calm run, since its last cut or report.
 const LONG_PATIENCE: u32 = 128;
 
 /// The patience of all workers together while more is undone.
@@ -19,10 +19,11 @@ const HIGH_BOUND: u32 = 8;
 const LEAST_PATIENCE: u32 = 4;
 
 /// If more than one in so many letters is taken back, a turn executes half as many events.
-const TOO_MANY: u64 = 4;
+const TOO_MANY: u64 = 16;
 
-/// If at most one in so many letters is taken back, a turn executes one event more.
-const FEW: u64 = 8;
+/// If at most one in so many letters is taken back, the run is calm: a turn executes one event more, and each cut or report makes
+/// the worker patient again.
+const FEW: u64 = 32;
 
 /// How far a worker executes ahead: the less, the more of what it has sent is taken back.
 #[derive(Drop)]
@@ -33,7 +34,9 @@ pub(crate) struct Pace {
     // How many letters events made, and how many were taken back, since the worker's last cut.
     made: u64,
     undone: u64,
-    // How many turns executed something since the last turn with a cut or a report.
+    // Whether the run was calm when the worker last adapted.
+    calm: bool,
+    // How many turns executed something since the worker was patient last.
     waited: u32,
     // Whether mail has come from another worker. Such mail may undo what was executed ahead.
     disturbed: bool,
@@ -47,6 +50,7 @@ impl Pace {
             most: MOST_EXECUTIONS,
             made: 0,
             undone: 0,
+            calm: true,
             waited: 0,
             disturbed: false,
         }
@@ -71,9 +75,10 @@ impl Pace {
     /// undo what it executed in the turn in which they were sent.
     pub(crate) fn adapt(&mut self) {
         if self.made > 0 || self.undone > 0 {
+            self.calm = self.undone.saturating_mul(FEW) <= self.made;
             if self.undone.saturating_mul(TOO_MANY) > self.made {
                 self.most = (self.most / 2).max(1);
-            } else if self.undone.saturating_mul(FEW) <= self.made {
+            } else if self.calm {
                 self.most = self.most.saturating_add(1).min(MOST_EXECUTIONS);
             }
         }
@@ -81,9 +86,10 @@ impl Pace {
         self.undone = 0;
     }
 
-    /// Counts a turn: `agreed` if a cut or a report was done, `executed` if an event was.
-    pub(crate) fn count_turn(&mut self, agreed: bool, executed: bool) {
-        if agreed {
+    /// Counts a turn: `agreed` if a cut or a report was done, `committed` if events were committed, since the floor has risen, and
+    /// `executed` if an event was executed.
+    pub(crate) fn count_turn(&mut self, agreed: bool, committed: bool, executed: bool) {
+        if committed || (agreed && self.calm) {
             self.waited = 0;
         } else if executed {
             self.waited = self.waited.saturating_add(1);
