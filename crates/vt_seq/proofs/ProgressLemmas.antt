@@ -1,10 +1,12 @@
 -- What the fields stand for is what a contract sees.
-use Rattle.std.proofs.Common.{◌≡◌, ℕ, zero, suc, ◌<◌, ◌≤◌, List, [], ◌∷◌, ◌++◌, Bool, true, false, ◌&&◌, map, length, Option, Some, slice_get, slice_index_or, Result, Ok, Err, IfOk, IfSome, Vec, Global, vec_len, refl, sym, ap, subst, ◌∙◌, arith}
+use Rattle.std.proofs.Common.{◌≡◌, ℕ, zero, suc, ◌+◌, ◌<◌, ◌≤◌, List, [], ◌∷◌, ◌++◌, Bool, true, false, ◌&&◌, map, length, Option, Some, slice_get, slice_index_or, Result, Ok, Err, IfOk, IfSome, Vec, Global, vec_len, inl, inr, refl, sym, ap, subst, ◌∙◌, arith, append_assoc, append-nil}
 use Rattle.std.proofs.Math.Logic.{∥∥₁_map, ∥∥₁_elim}
 use Rattle.std.proofs.Props.{props}
 use Rattle.std.specs.List.{list_all}
+use Rattle.std.specs.Option.{option_map}
 use Rattle.vt_key.specs.Keys.{Key}
-use Rattle.vt_key.specs.Order.{key_before}
+use Rattle.vt_key.specs.Order.{KeyBefore, key_before}
+use Rattle.vt_key.specs.Times.{ticks_of}
 use Rattle.vt_key.proofs.OrderLemmas.{key_before-true, before-key_before}
 use Rattle.vt_model.specs.declared.process.Process.{Process}
 use Rattle.vt_model.specs.declared.rows.Record.{Record}
@@ -12,11 +14,12 @@ use Rattle.vt_model.specs.declared.sending.Sent.{Sent}
 use Rattle.vt_model.specs.declared.settings.Config.{Config}
 use Rattle.vt_model.specs.Handler.{Handlers}
 use Rattle.vt_model.specs.Simulation.{Simulation, Triple, simulation_of, after}
-use Rattle.vt_model.specs.Sequential.{after_steps, events_of}
-use Rattle.vt_model.specs.Histories.{AllAfter, IsRising}
+use Rattle.vt_model.specs.Sequential.{after_steps, events_of, seq_records}
+use Rattle.vt_model.specs.Histories.{Among, AllAfter, IsRising}
+use Rattle.vt_model.proofs.HistoryLemmas.{after-among}
 use Rattle.vt_model.specs.Process.{triple_at}
 use Rattle.vt_seq.specs.Limits.{IsCountedWhole}
-use Rattle.vt_seq.specs.Given.{records_to, AddsStep}
+use Rattle.vt_seq.specs.Given.{records_to, AddsStep, AddsSteps, AddsRest}
 use Rattle.vt_seq.specs.Progress.{Progress, IsAfter}
 use Rattle.vt_seq.specs.Standing.{Standing, IsAt, IsOnWay, with_records}
 use Rattle.vt_seq.specs.StandsFor.{StandsAt}
@@ -54,6 +57,22 @@ module _ {P : Type 0} where
   tested-rising (e ∷ es) h =
       let r = both (list_all (λ (d : Sent P). key_before e.key d.key) es) (are_rising es) h in
       (tested-after e.key es r.0, tested-rising es r.1)
+
+-- the first of events in rising order has the least tick
+pub first_tick : {P : Type 0} (es : List (Sent P)) → IsRising es → (r : Option ℕ) → r ≡ option_map (λ (d : Sent P). ticks_of d.key.time) (slice_get es 0) → (e : Sent P) → Among e es → IfSome r (λ tick. tick ≤ ticks_of e.key.time)
+first_tick [] rises r is e m = absurd m
+first_tick (d ∷ es) rises r is e m =
+    subst (λ (x : Option ℕ). IfSome x (λ tick. tick ≤ ticks_of e.key.time)) (sym is) (elim m [
+      | inl same ↦ subst (λ (x : Sent _). ticks_of d.key.time ≤ ticks_of x.key.time) (sym same) (omega arith)
+      | inr later ↦ not_before (after-among d.key es e rises.0 later)
+    ]) where
+      not_before : KeyBefore d.key e.key → ticks_of d.key.time ≤ ticks_of e.key.time
+      not_before (inl soon) = omega (arith, soon)
+      not_before (inr same) = omega (arith, same.0)
+
+-- fields that stand for the run after some number of steps have their pending events in rising order
+pub rising_of : {M S P K : Type 0} {sim : Simulation S P} {pending : List (Sent P)} {processes : List (Process M S P K)} → ∥ ((n : ℕ) × StandsAt sim n pending processes) ∥₁ → IsRising pending
+rising_of {pending = pending} stands = tested-rising pending (∥∥₁_elim stands (Prim.hlevel props) (λ x. rising-tested pending x.1.rising))
 
 -- ---- processes by index
 
@@ -109,7 +128,7 @@ module _ {M S P K : Type 0} (sim : Simulation S P) (model : M) (config : Config)
   pub after-stands : (n : ℕ) (pending : List (Sent P)) (processes : List (Process M S P K)) → ∥ ((m : ℕ) × StandsAt sim m pending processes) ∥₁
       → IsAt sim n (seen pending processes) → StandsAt sim n pending processes
   after-stands n pending processes stands is = record {
-    rising = tested-rising pending (∥∥₁_elim stands (Prim.hlevel props) (λ x. rising-tested pending x.1.rising));
+    rising = rising_of stands;
     sent = is.sent;
     had = is.had;
     triples = λ p d known. indexed (λ (q : Process M S P K). triple_at q.state q.number q.stream) _ processes p d (is.triples p known);
@@ -132,6 +151,28 @@ module _ {M S P K : Type 0} (handlers : M → Handlers S P K) (model : M) (confi
       subst (λ (v : Standing M S P). (n : ℕ) → IsAt (simulation_of (handlers v.model) v.config) n v → IfSome r (λ x. (p < v.config.lps) × (x ≡ field (place_of (simulation_of (handlers v.model) v.config) p n))))
       is (λ n at. told n (after-stands (simulation_of (handlers model) config) model config n pending processes stands at))
 
+-- ---- records of several steps
+
+module _ {S P : Type 0} (sim : Simulation S P) (n : ℕ) where
+  -- no step was made
+  pub added_none : (records : List Record) → AddsSteps sim n 0 records records
+  added_none records =
+      let none : 0 + n ≡ n = omega arith in
+      record { fresh = []; added = sym (append-nil records); next = ap (records_to sim) none ∙ sym (append-nil (records_to sim n)) }
+
+  -- one more step was made
+  pub added_more : (k : ℕ) (old mid new : List Record) → AddsSteps sim n k old mid → AddsStep sim (k + n) mid new → AddsSteps sim n (suc k) old new
+  added_more k old mid new a b =
+      let one : suc k + n ≡ suc (k + n) = omega arith in record {
+        fresh = a.fresh ++ b.fresh;
+        added = b.added ∙ ap (λ (l : List Record). l ++ b.fresh) a.added ∙ append_assoc old a.fresh b.fresh;
+        next = ap (records_to sim) one ∙ b.next ∙ ap (λ (l : List Record). l ++ b.fresh) a.next ∙ append_assoc (records_to sim n) a.fresh b.fresh;
+      }
+
+  -- with the last of them all records of the run are there
+  pub added_rest : (k : ℕ) (old new : List Record) → AddsSteps sim n k old new → records_to sim (k + n) ≡ seq_records sim sim.end → AddsRest sim n old new
+  added_rest k old new adds all = record { fresh = adds.fresh; added = adds.added; rest = sym all ∙ adds.next }
+
 -- ---- an execution and the records that were kept of it
 
 module _ {M S P : Type 0} (sim : Simulation S P) (n : ℕ) where
@@ -140,6 +181,15 @@ module _ {M S P : Type 0} (sim : Simulation S P) (n : ℕ) where
 
   pub together : (now : Standing M S P) (records : List Record) → IsAt sim n now → records ≡ records_to sim n → IsAfter sim n (with_records now records)
   together now records is all = record { sent = is.sent; had = is.had; triples = is.triples; records = all }
+
+  -- some steps of the execution whose records are kept
+  pub kept_through : (k : ℕ) (now : Standing M S P) (old new : List Record) → old ≡ records_to sim n → IsAt sim (k + n) now → AddsSteps sim n k old new → IsAfter sim (k + n) (with_records now new)
+  kept_through k now old new all is adds = record {
+    sent = is.sent;
+    had = is.had;
+    triples = is.triples;
+    records = adds.added ∙ ap (λ (l : List Record). l ++ adds.fresh) all ∙ sym adds.next;
+  }
 
   -- a step of the execution whose records are kept
   pub kept_on : (now : Standing M S P) (old new : List Record) → old ≡ records_to sim n → IsAt sim (suc n) now → AddsStep sim n old new → IsAfter sim (suc n) (with_records now new)

@@ -1,5 +1,5 @@
 -- The records that a run gives, step by step.
-use Rattle.std.specs.Prelude.{◌≡◌, ℕ, suc, List, [], ◌++◌}
+use Rattle.std.specs.Prelude.{◌≡◌, ℕ, suc, ◌+◌, List, [], ◌++◌}
 use Rattle.vt_model.specs.declared.rows.Record.{Record}
 use Rattle.vt_model.specs.Simulation.{Simulation}
 use Rattle.vt_model.specs.Sequential.{after_steps, rows_after, records_of, seq_records}
@@ -21,3 +21,15 @@ module _ {S P : Type 0} (sim : Simulation S P) where
     pub added : new ≡ old ++ fresh
     pub next : records_to (suc n) ≡ records_to n ++ fresh
     pub begins : BeginRun (records_to (suc n))
+
+  -- the records of k more steps after n steps were put behind these
+  pub record AddsSteps (n k : ℕ) (old new : List Record) : Type 0 where
+    pub fresh : List Record
+    pub added : new ≡ old ++ fresh
+    pub next : records_to (k + n) ≡ records_to n ++ fresh
+
+  -- all records that the run still gives after n steps were put behind these
+  pub record AddsRest (n : ℕ) (old new : List Record) : Type 0 where
+    pub fresh : List Record
+    pub added : new ≡ old ++ fresh
+    pub rest : seq_records sim sim.end ≡ records_to n ++ fresh

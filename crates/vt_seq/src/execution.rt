@@ -4,13 +4,14 @@ ghost use Rattle.std.specs.Prelude.{◌≡◌, ℕ, suc, ◌+◌, ◌<◌, ◌�
 ghost use Rattle.std.specs.Option.{option_map};
 ghost use Rattle.vt_key.specs.Times.{ticks_of};
 ghost use Rattle.vt_key.specs.declared.fault.Fault.TheVariants.{Memory, NotLawful, Exhausted};
+ghost use Rattle.vt_model.specs.declared.sending.Sent.{Sent};
+ghost use Rattle.vt_model.specs.Histories.{Among};
 ghost use Rattle.vt_model.specs.Simulation.{simulation_of, after};
 ghost use Rattle.vt_model.specs.Sequential.{after_steps, events_of, seq_records, seq_finals, weight};
 ghost use Rattle.vt_model.specs.Settings.{end_of};
-ghost use Rattle.vt_seq.specs.Given.{records_to, AddsStep};
+ghost use Rattle.vt_seq.specs.Given.{records_to, AddsStep, AddsSteps, AddsRest};
 ghost use Rattle.vt_seq.specs.Limits.{IsCounted, IsCountedWhole, IsStepRefusal};
-ghost use Rattle.vt_seq.specs.Progress.{IsAfter};
-ghost use Rattle.vt_seq.specs.Standing.{IsAt, IsOnWay, with_records};
+ghost use Rattle.vt_seq.specs.Standing.{IsAt, IsOnWay};
 
 use crate::engine::Engine;
 use std::alloc::Global;
@@ -79,9 +80,10 @@ impl<'m, M: EventModel> Execution<'m, M> {
         self.engine.place(p)
     }
 
-    /// The tick of the pending event of least key. None where none is pending.
+    /// The tick of the pending event of least key, which is the least tick of all pending events. None where none is pending.
     pub fn next_tick(&self) -> Option<u64>
-        ensures { result ≡ option_map (λ event. ticks_of event.key.time) (slice_get self.now.pending 0) }
+        ensures tick { result ≡ option_map (λ event. ticks_of event.key.time) (slice_get self.now.pending 0) }
+        ensures least { (e : Sent _) → Among e self.now.pending → IfSome result (λ tick. tick ≤ ticks_of e.key.time) }
     {
         match self.engine.pending.first() {
             Some(event) => Some(event.key.when().ticks()),
@@ -141,7 +143,7 @@ impl<'m, M: EventModel> Execution<'m, M> {
         self.engine.step(records, out)
     }
 
-    /// Executes events until none is pending, and puts their records behind `records`.
+    /// Executes events until none is pending, and puts their records behind `records`, whatever is in it.
     ///
     /// [`Fault::Exhausted`]: the next step would let a send number pass 2^63. [`Fault::Memory`]: it would not, and memory was
     /// refused. After either the steps made before stand, with their records, and the execution may be continued.
@@ -149,10 +151,12 @@ impl<'m, M: EventModel> Execution<'m, M> {
         ensures model { self.new.model ≡ self.old.model }
         ensures config { self.new.config ≡ self.old.config }
         ensures nothing_left { IfOk result (λ _. self.new.pending ≡ []) }
-        ensures steps { let sim = simulation_of (M.handlers self.old.model) self.old.config in (n : ℕ) → IsAfter sim n (with_records self.old records.old.items) → (k : ℕ) × IsAfter sim (k + n) (with_records self.new records.new.items) }
-        ensures counted { let sim = simulation_of (M.handlers self.old.model) self.old.config in (n : ℕ) → IsAfter sim n (with_records self.old records.old.items) → IfOk result (λ _. IsCountedWhole sim) }
+        ensures steps { let sim = simulation_of (M.handlers self.old.model) self.old.config in (n : ℕ) → IsAt sim n self.old → (k : ℕ) × IsAt sim (k + n) self.new × AddsSteps sim n k records.old.items records.new.items }
+        ensures whole { let sim = simulation_of (M.handlers self.old.model) self.old.config in (n : ℕ) → IsAt sim n self.old → IfOk result (λ _. AddsRest sim n records.old.items records.new.items) }
+        ensures reached { IsOnWay (M.handlers self.old.model) self.old }
+        ensures counted { let sim = simulation_of (M.handlers self.old.model) self.old.config in (n : ℕ) → IsAt sim n self.old → IfOk result (λ _. IsCountedWhole sim) }
         ensures faults { IfErr result (λ fault. (fault ≡ Memory) ⊎ (fault ≡ Exhausted)) }
-        ensures refused { let sim = simulation_of (M.handlers self.old.model) self.old.config in (n : ℕ) → IsAfter sim n (with_records self.old records.old.items) → IfErr result (λ fault. (k : ℕ) × IsAfter sim (k + n) (with_records self.new records.new.items) × IsStepRefusal sim (k + n) fault) }
+        ensures refused { let sim = simulation_of (M.handlers self.old.model) self.old.config in (n : ℕ) → IsAt sim n self.old → IfErr result (λ fault. (k : ℕ) × IsAt sim (k + n) self.new × AddsSteps sim n k records.old.items records.new.items × IsStepRefusal sim (k + n) fault) }
     {
         let mut out = Out::new(self.engine.config, 0, When::tick(0), 0);
         while self.step_reusing(records, &mut out)? {}
