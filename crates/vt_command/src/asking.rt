@@ -1,9 +1,10 @@
 //! Requests: what a command line asks for.
 
-ghost use Rattle.std.specs.Prelude.{IfOk, IfErr, map, codes};
+ghost use Rattle.std.specs.Prelude.{IfOk, IfErr, IfSome, map, codes};
+ghost use Rattle.clap.specs.Words.{Text};
 ghost use Rattle.vt_options.specs.Asked.{IsAsked};
 ghost use Rattle.vt_command.specs.Table.{twarp_models};
-ghost use Rattle.vt_command.specs.Requests.{IsRefusedBy};
+ghost use Rattle.vt_command.specs.Requests.{IsRefusedAs, IsRefusedBy};
 
 use crate::table::{MODELS, TEXTS};
 use std::alloc::Global;
@@ -23,8 +24,10 @@ pub fn read_request<S: AsStr>(alloc: Global, words: &[S]) -> Result<Request, Fau
     vt_options::read_request(alloc, &TEXTS, &MODELS, words)
 }
 
-/// A line for a terminal on a command line that [`read_request`] refuses: which word it was, and what is allowed. None where the
-/// line isn't refused, or memory was.
-pub fn hint<S: AsStr>(alloc: Global, words: &[S]) -> Option<String> {
+/// A line for a terminal on a command line that [`read_request`] refuses: which word it was, and what is allowed. There is one only
+/// for words that have no meaning or a bad option. None: the command line isn't refused, or memory was.
+pub fn hint<S: AsStr>(alloc: Global, words: &[S]) -> Option<String>
+    ensures { IfSome result (λ line. (name : Text) × IsRefusedAs (map S.text words.now) name) }
+{
     vt_options::hint(alloc, &TEXTS, &MODELS, words)
 }

@@ -1,6 +1,9 @@
 //! What a terminal is told after a refusal: which word it was, and what is allowed.
 
-ghost use Rattle.vt_options.specs.Own.{AllHaveDefaults};
+ghost use Rattle.std.specs.Prelude.{IfSome, map};
+ghost use Rattle.clap.specs.Words.{Text};
+ghost use Rattle.vt_options.specs.Own.{AllHaveDefaults, line_for, models_of};
+ghost use Rattle.vt_options.specs.Requests.{IsRefusedAsOf};
 
 use crate::asking::{read_request, table_matches};
 use crate::line::ProgramTexts;
@@ -76,8 +79,8 @@ fn table_takes(alloc: Global, table: &ModelTable<'_>, name: &str) -> Option<Stri
     takes_of(&EVERY_MODEL, name)?.to_string(alloc).ok()
 }
 
-/// A line for a terminal where [`read_request`] refuses a command line: which word it was, and what is allowed. None: the command line
-/// isn't refused, or memory was refused.
+/// A line for a terminal where [`read_request`] refuses a command line: which word it was, and what is allowed. There is one only for
+/// words that have no meaning or a bad option. None: the command line isn't refused, or memory was refused.
 pub fn hint<S: AsStr>(
     alloc: Global,
     texts: &ProgramTexts,
@@ -85,6 +88,7 @@ pub fn hint<S: AsStr>(
     words: &[S],
 ) -> Option<String>
     requires { AllHaveDefaults table.now.models.now }
+    ensures { IfSome result (λ line. (name : Text) × IsRefusedAsOf (line_for texts.now.name.now (models_of table.now)) (map S.text words.now) name) }
 {
     let Err(Fault::BadOption(name)) = read_request(alloc, texts, table, words) else {
         return None;

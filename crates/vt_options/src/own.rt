@@ -60,7 +60,7 @@ pub struct Chosen {
 ///
 /// [`Fault::BadOption`] names the first option of the table that is no number in its range. [`Fault::Memory`]: memory was
 /// refused.
-pub fn own_options(
+pub(crate) fn own_options(
     alloc: Global,
     matches: &ArgMatches,
     table: &[OwnOption],
