@@ -2,7 +2,7 @@
 
 ghost use Rattle.std.specs.Prelude.{◌≡◌, ◌≤◌, ◌+◌, ◌*◌, ◌++◌, length, OnOk, OnErr, IfErr};
 ghost use Rattle.std.specs.Io.KnownBytes.{Appends};
-ghost use Rattle.vt_text.specs.Writing.{AppendsAllButHeld, AppendsBeginning};
+ghost use Rattle.vt_text.specs.Writing.{AppendsAllButHeld, AppendsBeginning, AppendsIntoHeld};
 ghost use Rattle.vt_text.specs.declared.buffer.TheConstants.{TEXT_ROOM};
 ghost use Rattle.vt_step_text.specs.Replies.{time_text, answer_text, reply_text, time_line, shown_text, state_text};
 
@@ -100,7 +100,7 @@ fn push_shown(text: &mut TextBuffer, announced: When, floor: When, least: When, 
 
 /// Adds the line of a reply to the buffer. If there is no room for the line, it writes the buffer first.
 ///
-/// [`Fault::Output`]: the writer failed. A beginning of the buffer was written.
+/// [`Fault::Output`]: the writer failed. A beginning of the buffer was written, and the buffer is as it was.
 pub fn put_reply<W: Write>(
     text: &mut TextBuffer,
     writer: &mut W,
@@ -108,7 +108,8 @@ pub fn put_reply<W: Write>(
     answer: &Result<Reply, Fault>,
 ) -> Result<(), Fault>
     ensures ok { OnOk result (AppendsAllButHeld (W.contents writer.old) (W.contents writer.new) text.new (text.old ++ reply_text line answer.now)) }
-    ensures err { OnErr result (AppendsBeginning (W.contents writer.old) (W.contents writer.new) (text.old ++ reply_text line answer.now)) }
+    ensures err { OnErr result (AppendsIntoHeld (W.contents writer.old) (W.contents writer.new) text.new (text.old ++ reply_text line answer.now)) }
+    ensures kept { OnErr result (text.new ≡ text.old) }
     ensures fault { IfErr result (λ fault. fault ≡ Fault.Output) }
 {
     text.make_room(writer, REPLY_LEN)?;
@@ -120,7 +121,8 @@ pub fn put_reply<W: Write>(
 /// These are the announced time, the floor of the book, the least time, the number of records that the book shows,
 /// and the text of these records in a version.
 ///
-/// [`Fault::Output`]: the writer failed. A beginning of the buffer and of these lines was written.
+/// [`Fault::Output`]: the writer failed. A beginning of the buffer and of these lines was written. It ends in the part of
+/// them that the buffer holds.
 pub fn put_state<W: Write>(
     text: &mut TextBuffer,
     writer: &mut W,
@@ -132,7 +134,7 @@ pub fn put_state<W: Write>(
 ) -> Result<(), Fault>
     ensures ok { OnOk result (AppendsAllButHeld (W.contents writer.old) (W.contents writer.new) text.new
         (text.old ++ state_text version announced floor least records.now)) }
-    ensures err { OnErr result (AppendsBeginning (W.contents writer.old) (W.contents writer.new)
+    ensures err { OnErr result (AppendsIntoHeld (W.contents writer.old) (W.contents writer.new) text.new
         (text.old ++ state_text version announced floor least records.now)) }
     ensures fault { IfErr result (λ fault. fault ≡ Fault.Output) }
 {

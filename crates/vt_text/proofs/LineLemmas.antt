@@ -5,7 +5,7 @@ use Rattle.std.proofs.lemmas.List.{take_more}
 use Rattle.vt_model.specs.declared.rows.Record.{Record}
 use Rattle.vt_text.specs.declared.version.Version.{Version}
 use Rattle.vt_text.specs.Records.{record_text, record_lines}
-use Rattle.vt_text.specs.Writing.{AppendsBeginning, AppendsAllButHeld}
+use Rattle.vt_text.specs.Writing.{AppendsBeginning, AppendsAllButHeld, AppendsIntoHeld}
 use Rattle.vt_text.proofs.TextLemmas.{made_room, pushed, stopped, lines_split}
 
 module _ (version : Version) where
@@ -28,10 +28,10 @@ module _ (version : Version) where
       (pushed old new held' (front ++ lines) line (made_room old now new held held' (front ++ lines) g h))
 
   -- the lines of the records stop after some of them
-  pub records_stop : (front : List ℕ) (records : List Record) (i : ℕ) (old now new : Option (List ℕ)) (held : List ℕ)
-      → AppendsAllButHeld old now held (front ++ record_lines version (take i records)) → AppendsBeginning now new held → AppendsBeginning old new (front ++ record_lines version records)
-  records_stop front records i old now new held g h =
+  pub records_stop : (front : List ℕ) (records : List Record) (i : ℕ) (old now new : Option (List ℕ)) (held left : List ℕ) → left ≡ held
+      → AppendsAllButHeld old now held (front ++ record_lines version (take i records)) → AppendsBeginning now new held → AppendsIntoHeld old new left (front ++ record_lines version records)
+  records_stop front records i old now new held left is g h =
       let first = record_lines version (take i records) in
       let rest = record_lines version (drop i records) in
-      subst (λ (l : List ℕ). AppendsBeginning old new l) (append_assoc front first rest ∙ ap (λ l. front ++ l) (sym (lines_split (record_text version) records i)))
-      (stopped old now new held (front ++ first) rest g h)
+      subst (λ (l : List ℕ). AppendsIntoHeld old new left l) (append_assoc front first rest ∙ ap (λ l. front ++ l) (sym (lines_split (record_text version) records i)))
+      (stopped old now new held left (front ++ first) rest is g h)

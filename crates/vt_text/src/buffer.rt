@@ -1,10 +1,10 @@
 //! Text that is gathered before it is written.
 
-ghost use Rattle.std.specs.Prelude.{◌≡◌, ◌+◌, ◌*◌, ◌≤◌, ◌<◌, ◌↔◌, [], ◌∷◌, ◌++◌, length, drop, IsTrue, OnOk, IfErr, OnErr};
+ghost use Rattle.std.specs.Prelude.{◌≡◌, ◌+◌, ◌*◌, ◌≤◌, ◌<◌, ◌↔◌, ◌⊎◌, [], ◌∷◌, ◌++◌, length, drop, IsTrue, OnOk, IfErr, OnErr};
 ghost use Rattle.std.specs.Fmt.{decimal};
 ghost use Rattle.std.specs.Io.KnownBytes.{Appends};
 ghost use Rattle.vt_text.specs.Records.{record_text, tail_text};
-ghost use Rattle.vt_text.specs.Writing.{AppendsBeginning, AppendsAllButHeld};
+ghost use Rattle.vt_text.specs.Writing.{AppendsBeginning, AppendsAllButHeld, AppendsIntoHeld};
 
 use crate::{NUMBER_LEN, PRIORITY_LEN, Version, write_bytes};
 use itoa::write_digits;
@@ -145,12 +145,13 @@ impl TextBuffer {
 
     /// Makes room for `count` bytes: where there is none, what the buffer holds is written, and it holds nothing.
     ///
-    /// [`Fault::Output`] where the writer failed: then a beginning of what the buffer held was written.
+    /// [`Fault::Output`] where the writer failed: then a beginning of what the buffer holds was written, and the buffer is as it was.
     pub fn make_room<W: Write>(&mut self, writer: &mut W, count: usize) -> Result<(), Fault>
         requires { count ≤ TEXT_ROOM }
         ensures room { OnOk result (length self.new + count ≤ TEXT_ROOM) }
         ensures ok { OnOk result (AppendsAllButHeld (W.contents writer.old) (W.contents writer.new) self.new self.old) }
         ensures err { OnErr result (AppendsBeginning (W.contents writer.old) (W.contents writer.new) self.old) }
+        ensures kept { OnErr result (self.new ≡ self.old) }
         ensures fault { IfErr result (λ fault. fault ≡ Fault.Output) }
     {
         if self.has_room(count) {
@@ -163,10 +164,12 @@ impl TextBuffer {
     /// Adds bytes at the end, however many: where there is no room for them, what the buffer holds and then the bytes are
     /// written, and the buffer holds nothing.
     ///
-    /// [`Fault::Output`] where the writer failed: then a beginning of what the buffer held and of the bytes was written.
+    /// [`Fault::Output`] where the writer failed: then a beginning of what the buffer held and of the bytes was written. The buffer
+    /// is as it was, or holds nothing.
     pub fn put_bytes<W: Write>(&mut self, writer: &mut W, bytes: &[u8]) -> Result<(), Fault>
         ensures ok { OnOk result (AppendsAllButHeld (W.contents writer.old) (W.contents writer.new) self.new (self.old ++ bytes.now)) }
-        ensures err { OnErr result (AppendsBeginning (W.contents writer.old) (W.contents writer.new) (self.old ++ bytes.now)) }
+        ensures err { OnErr result (AppendsIntoHeld (W.contents writer.old) (W.contents writer.new) self.new (self.old ++ bytes.now)) }
+        ensures kept { OnErr result ((self.new ≡ self.old) ⊎ (self.new ≡ [])) }
         ensures fault { IfErr result (λ fault. fault ≡ Fault.Output) }
     {
         if self.has_room(bytes.len()) {

@@ -3,7 +3,7 @@
 ghost use Rattle.std.specs.Prelude.{◌≡◌, ◌++◌, OnOk, IfErr, OnErr};
 ghost use Rattle.std.specs.Io.KnownBytes.{Appends};
 ghost use Rattle.vt_text.specs.Records.{record_lines, records_text};
-ghost use Rattle.vt_text.specs.Writing.{AppendsAllButHeld, AppendsBeginning};
+ghost use Rattle.vt_text.specs.Writing.{AppendsAllButHeld, AppendsBeginning, AppendsIntoHeld};
 
 use crate::{RECORD_LEN, TextBuffer, Version};
 use std::io::Write;
@@ -12,7 +12,8 @@ use vt_model::Record;
 
 /// Adds the lines of records, without a first line, to the buffer. It writes the buffer whenever there is no room for a line.
 ///
-/// [`Fault::Output`] where the writer failed: then a beginning of what the buffer held and of the lines was written.
+/// [`Fault::Output`] where the writer failed: then a beginning of what the buffer held and of the lines was written. It ends
+/// in the part of them that the buffer holds.
 pub fn put_lines<W: Write>(
     text: &mut TextBuffer,
     writer: &mut W,
@@ -20,7 +21,7 @@ pub fn put_lines<W: Write>(
     version: Version,
 ) -> Result<(), Fault>
     ensures ok { OnOk result (AppendsAllButHeld (W.contents writer.old) (W.contents writer.new) text.new (text.old ++ record_lines version records.now)) }
-    ensures err { OnErr result (AppendsBeginning (W.contents writer.old) (W.contents writer.new) (text.old ++ record_lines version records.now)) }
+    ensures err { OnErr result (AppendsIntoHeld (W.contents writer.old) (W.contents writer.new) text.new (text.old ++ record_lines version records.now)) }
     ensures fault { IfErr result (λ fault. fault ≡ Fault.Output) }
 {
     for row in records {
@@ -32,7 +33,8 @@ pub fn put_lines<W: Write>(
 
 /// Adds the text of records, as [`print_records`] has it, to the buffer. It writes the buffer whenever there is no room.
 ///
-/// [`Fault::Output`] where the writer failed: then a beginning of what the buffer held and of the text was written.
+/// [`Fault::Output`] where the writer failed: then a beginning of what the buffer held and of the text was written. It ends
+/// in the part of them that the buffer holds.
 pub fn put_records<W: Write>(
     text: &mut TextBuffer,
     writer: &mut W,
@@ -40,7 +42,7 @@ pub fn put_records<W: Write>(
     version: Version,
 ) -> Result<(), Fault>
     ensures ok { OnOk result (AppendsAllButHeld (W.contents writer.old) (W.contents writer.new) text.new (text.old ++ records_text version records.now)) }
-    ensures err { OnErr result (AppendsBeginning (W.contents writer.old) (W.contents writer.new) (text.old ++ records_text version records.now)) }
+    ensures err { OnErr result (AppendsIntoHeld (W.contents writer.old) (W.contents writer.new) text.new (text.old ++ records_text version records.now)) }
     ensures fault { IfErr result (λ fault. fault ≡ Fault.Output) }
 {
     text.put_bytes(writer, version.first_line())?;

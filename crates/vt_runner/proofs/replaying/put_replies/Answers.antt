@@ -1,5 +1,5 @@
 use Rattle.std.proofs.Common.{◌∙◌, refl}
-use Rattle.vt_text.proofs.TextLemmas.{on_err}
+use Rattle.vt_text.proofs.TextLemmas.{begun, on_err}
 use Rattle.vt_runner.proofs.ReplyLemmas.{puts_none, puts_more, puts_stop}
 use Rattle.vt_runner.proofs.replaying.put_replies.Goals as goal
 
@@ -15,7 +15,7 @@ returns-in_err-put_reply-clause-err g c = λ from h.
     let inv = c.loop-numbered.invariant in
     on_err c.from_residual.result
     (puts_stop g.M.Model.handlers c.args.steps.now c.loop-numbered.numbered-index _ c.loop-numbered-test.true c.step-answer.result c.args.world.now c.loop-numbered.world c.step-answer.new.self inv.model inv.config c.step-answer.ensures.step
-    from _ _ _ _ _ (inv.put from h) c.in_err-put_reply.ensures.err)
+    from _ _ _ _ _ (inv.put from h) (begun _ _ _ _ c.in_err-put_reply.ensures.err))
 
 pub loop-numbered-preserved : goal.loop-numbered-preserved
 loop-numbered-preserved g c =

@@ -3,7 +3,7 @@ use Rattle.std.proofs.lemmas.Result.{on_err_weaker}
 use Rattle.vt_key.specs.Times.{Time}
 use Rattle.vt_world.specs.Calls.{floor_held, least_held}
 use Rattle.vt_step_text.specs.Replies.{state_text}
-use Rattle.vt_text.proofs.TextLemmas.{on_err, of_longer}
+use Rattle.vt_text.proofs.TextLemmas.{begun, on_err, of_longer}
 use Rattle.vt_runner.specs.Replying.{shown_of}
 use Rattle.vt_runner.proofs.ReplayLemmas.{state_some, gathered_alone, shown_in_part, shown_flushed}
 use Rattle.vt_runner.proofs.replaying.show.Given.{Over}
@@ -33,7 +33,7 @@ pub returns-in_err-put_state-clause-err : goal.returns-in_err-put_state-clause-e
 returns-in_err-put_state-clause-err g c =
     let is = shown g (goal.at.returns-in_err-put_state-clause-err g c).After-put_state in
     on_err c.from_residual-in_err-put_state.result
-    (rw (← is) (shown_in_part _ _ _ c.args.text.now c.in_ok-flush.ensures.ok c.flush.new.self (state_text c.args.version c.announced.result c.floor.result c.least.result c.as_slice.result.now) c.in_ok-flush.ensures.empty c.in_err-put_state.ensures.err))
+    (rw (← is) (shown_in_part _ _ _ c.args.text.now c.in_ok-flush.ensures.ok c.flush.new.self (state_text c.args.version c.announced.result c.floor.result c.least.result c.as_slice.result.now) c.in_ok-flush.ensures.empty (begun _ _ _ _ c.in_err-put_state.ensures.err)))
 
 pub returns-clause-err : goal.returns-clause-err
 returns-clause-err g c =

@@ -4,6 +4,7 @@ use Rattle.vt_model.proofs.Sizes.{out_fits, first_out}
 use Rattle.vt_key.proofs.ResultLemmas.{if_err}
 use Rattle.vt_seq.proofs.StepLemmas.{nil_of}
 use Rattle.vt_text.specs.Writing.{AppendsAllButHeld}
+use Rattle.vt_text.proofs.TextLemmas.{begun}
 use Rattle.vt_runner.specs.Runs.{run_text, StopsRun}
 use Rattle.vt_runner.proofs.PrintLemmas.{one_run, opened, first_stops, stepped, step_stops, emptied, put_stops, last_put, all_written, last_stops}
 use Rattle.vt_runner.proofs.ReplayLemmas.{both}
@@ -25,7 +26,7 @@ returns-in_err-put_bytes-clause-err g c =
     let options = c.args.options.now in
     let e = c.in_err-put_bytes in
     if_err (StopsRun _ _ _ _) _ e.field-0.0 c.from_residual.ensures.1
-    (first_stops options.text (g.M.Model.handlers model) options.config c.new-text.ensures c.first_line.ensures e.ensures.fault e.ensures.err)
+    (first_stops options.text (g.M.Model.handlers model) options.config c.new-text.ensures c.first_line.ensures e.ensures.fault (begun _ _ _ _ e.ensures.err))
 
 pub loop-records-init : goal.loop-records-init
 loop-records-init g c =
@@ -48,7 +49,7 @@ returns-in_err-put_lines-clause-err g c =
     let step = c.in_ok-step_reusing.ensures in
     let printing = stepped l.printing (one_run g.M.Model.handlers l.model l.config) step.steps step.adds in
     let e = c.in_err-put_lines in
-    if_err (StopsRun _ _ _ _) _ e.field-0.0 c.from_residual-in_err-put_lines.ensures.1 (put_stops printing c.as_slice.ensures.value e.ensures.fault e.ensures.err)
+    if_err (StopsRun _ _ _ _) _ e.field-0.0 c.from_residual-in_err-put_lines.ensures.1 (put_stops printing c.as_slice.ensures.value e.ensures.fault (begun _ _ _ _ e.ensures.err))
 
 pub loop-records-preserved-then-len-ge-GROUP : goal.loop-records-preserved-then-len-ge-GROUP
 loop-records-preserved-then-len-ge-GROUP g c =
@@ -75,7 +76,7 @@ pub returns-in_err-put_lines-2-clause-err : goal.returns-in_err-put_lines-2-clau
 returns-in_err-put_lines-2-clause-err g c =
     let is = c.as_slice-2.ensures.value ∙ c.in_ok-step_reusing.ensures.none_added c.if-branch.false in
     let e = c.in_err-put_lines-2 in
-    if_err (StopsRun _ _ _ _) _ e.field-0.0 c.from_residual-in_err-put_lines-2.ensures.1 (put_stops c.loop-records.invariant.printing is e.ensures.fault e.ensures.err)
+    if_err (StopsRun _ _ _ _) _ e.field-0.0 c.from_residual-in_err-put_lines-2.ensures.1 (put_stops c.loop-records.invariant.printing is e.ensures.fault (begun _ _ _ _ e.ensures.err))
 
 -- at the end the whole text was put, of which some is held
 all_put : (g : Over) (c : After-flush g)

@@ -4,7 +4,9 @@ use Rattle.vt_text.proofs.printing.put_lines.Goals as goal
 
 pub returns-in_err-make_room-clause-err : goal.returns-in_err-make_room-clause-err
 returns-in_err-make_room-clause-err g c =
-    on_err c.from_residual.result (records_stop c.args.version c.args.text.now c.args.records.now c.loop-row.row-index _ _ _ _ c.loop-row.invariant c.in_err-make_room.ensures.err)
+    let a = c.args in
+    let e = c.in_err-make_room.ensures in
+    on_err c.from_residual.result (records_stop a.version a.text.now a.records.now c.loop-row.row-index _ _ _ _ _ e.kept c.loop-row.invariant e.err)
 
 pub loop-row-preserved : goal.loop-row-preserved
 loop-row-preserved g c =

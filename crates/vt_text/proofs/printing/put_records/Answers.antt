@@ -8,7 +8,7 @@ returns-in_err-put_bytes-clause-err g c =
     let a = c.args in
     let first = first_line a.version in
     let lines = record_lines a.version a.records.now in
-    on_err c.from_residual.result (first_stops _ _ a.text.now first lines (rw c.first_line.ensures at c.in_err-put_bytes.ensures.err))
+    on_err c.from_residual.result (first_stops _ _ c.put_bytes.new.self a.text.now first lines (rw c.first_line.ensures at c.in_err-put_bytes.ensures.err))
 
 pub returns-clause-ok : goal.returns-clause-ok
 returns-clause-ok g c =
@@ -22,4 +22,4 @@ returns-clause-err g c =
     let a = c.args in
     let first = first_line a.version in
     let lines = record_lines a.version a.records.now in
-    on_err_weaker c.put_lines.result (then_stops _ _ _ _ a.text.now first lines (rw c.first_line.ensures at c.in_ok-put_bytes.ensures.ok)) c.put_lines.ensures.err
+    on_err_weaker c.put_lines.result (then_stops _ _ _ _ _ a.text.now first lines (rw c.first_line.ensures at c.in_ok-put_bytes.ensures.ok)) c.put_lines.ensures.err
