@@ -1,5 +1,5 @@
 -- What the fields stand for is what a contract sees.
-use Rattle.std.proofs.Common.{◌≡◌, ℕ, zero, suc, ◌+◌, ◌<◌, ◌≤◌, List, [], ◌∷◌, ◌++◌, Bool, true, false, ◌&&◌, map, length, Option, Some, slice_get, slice_index_or, Result, Ok, Err, IfOk, IfSome, Vec, Global, vec_len, inl, inr, refl, sym, ap, subst, ◌∙◌, arith, append_assoc, append-nil}
+use Rattle.std.proofs.Common.{◌≡◌, ℕ, zero, suc, ◌+◌, ◌<◌, ◌≤◌, List, [], ◌∷◌, ◌++◌, Bool, true, false, ◌&&◌, map, length, Option, Some, slice_get, slice_index_or, Result, Ok, Err, IfOk, IfErr, IfSome, Vec, Global, vec_len, inl, inr, refl, sym, ap, subst, ◌∙◌, arith, append_assoc, append-nil}
 use Rattle.std.proofs.Math.Logic.{∥∥₁_map, ∥∥₁_elim}
 use Rattle.std.proofs.Props.{props}
 use Rattle.std.specs.List.{list_all}
@@ -97,6 +97,11 @@ pub if_ok-both : {V E : Type 0} (A B C : V → Type 0) (r : Result V E) → IfOk
 if_ok-both A B C (Ok v) a b f = f v a b
 if_ok-both A B C (Err e) a b f = tt
 
+-- a fact of each refusal, from two others
+pub if_err-both : {V E : Type 0} (A B C : E → Type 0) (r : Result V E) → IfErr r A → IfErr r B → ((e : E) → A e → B e → C e) → IfErr r C
+if_err-both A B C (Ok v) a b f = tt
+if_err-both A B C (Err e) a b f = f e a b
+
 -- the run of a model and config that stayed
 pub same-run : {M S P K : Type 0} (handlers : M → Handlers S P K) {m n : M} {c d : Config} → n ≡ m → d ≡ c → simulation_of (handlers m) c ≡ simulation_of (handlers n) d
 same-run handlers model config j = simulation_of (handlers (sym model j)) (sym config j)
@@ -133,6 +138,10 @@ module _ {M S P K : Type 0} (sim : Simulation S P) (model : M) (config : Config)
     had = is.had;
     triples = λ p d known. indexed (λ (q : Process M S P K). triple_at q.state q.number q.stream) _ processes p d (is.triples p known);
   }
+
+-- equal fields are seen alike
+pub seen_same : {M S P K : Type 0} (sim : Simulation S P) {m n : M} {c d : Config} {es fs : List (Sent P)} {ps qs : List (Process M S P K)} → m ≡ n → c ≡ d → es ≡ fs → ps ≡ qs → seen sim m c es ps ≡ seen sim n d fs qs
+seen_same sim model config pending processes j = seen sim (model j) (config j) (pending j) (processes j)
 
 module _ {M S P K : Type 0} (handlers : M → Handlers S P K) (model : M) (config : Config) (pending : List (Sent P)) where
   -- fields that stand for the run after some number of steps are seen on their way

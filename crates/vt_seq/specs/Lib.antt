@@ -6,3 +6,4 @@ pub mod Progress
 pub mod Queue
 pub mod Standing
 pub mod StandsFor
+pub mod Steps

@@ -1,17 +1,17 @@
 //! The execution of a model's events one after the other.
 
-ghost use Rattle.std.specs.Prelude.{◌≡◌, ℕ, suc, ◌+◌, ◌<◌, ◌≤◌, ◌↔◌, ◌⊎◌, [], length, IfOk, IfErr, IsTrue, IfSome, IfNone, Err, false, slice_get};
+ghost use Rattle.std.specs.Prelude.{◌≡◌, ℕ, ◌+◌, ◌<◌, ◌≤◌, ◌⊎◌, [], length, IfOk, IfErr, IfSome, IfNone, Err, slice_get};
 ghost use Rattle.std.specs.Option.{option_map};
 ghost use Rattle.vt_key.specs.Times.{ticks_of};
 ghost use Rattle.vt_key.specs.declared.fault.Fault.TheVariants.{Memory, NotLawful, Exhausted};
 ghost use Rattle.vt_model.specs.declared.sending.Sent.{Sent};
 ghost use Rattle.vt_model.specs.Histories.{Among};
 ghost use Rattle.vt_model.specs.Simulation.{simulation_of, after};
-ghost use Rattle.vt_model.specs.Sequential.{after_steps, events_of, seq_records, seq_finals, weight};
-ghost use Rattle.vt_model.specs.Settings.{end_of};
-ghost use Rattle.vt_seq.specs.Given.{records_to, AddsStep, AddsSteps, AddsRest};
-ghost use Rattle.vt_seq.specs.Limits.{IsCounted, IsCountedWhole, IsStepRefusal};
+ghost use Rattle.vt_model.specs.Sequential.{after_steps, events_of, seq_finals};
+ghost use Rattle.vt_seq.specs.Given.{AddsSteps, AddsRest};
+ghost use Rattle.vt_seq.specs.Limits.{IsCountedWhole, IsStepRefusal};
 ghost use Rattle.vt_seq.specs.Standing.{IsAt, IsOnWay};
+ghost use Rattle.vt_seq.specs.Steps.{IsStep};
 
 use crate::engine::Engine;
 use std::alloc::Global;
@@ -97,21 +97,7 @@ impl<'m, M: EventModel> Execution<'m, M> {
     /// [`Fault::Exhausted`]: the process's send number would pass 2^63. [`Fault::Memory`]: it would not, and memory was
     /// refused. After either all is as it was, and the step may be tried again.
     pub fn step(&mut self, records: &mut Vec<Record>) -> Result<bool, Fault>
-        ensures model { self.new.model ≡ self.old.model }
-        ensures config { self.new.config ≡ self.old.config }
-        ensures more { IfOk result (λ more. IsTrue more ↔ (0 < length self.old.pending)) }
-        ensures idle { IfOk result (λ more. more ≡ false → self.new ≡ self.old) }
-        ensures none_added { IfOk result (λ more. more ≡ false → records.new.items ≡ records.old.items) }
-        ensures steps { let sim = simulation_of (M.handlers self.old.model) self.old.config in (n : ℕ) → IsAt sim n self.old → IfOk result (λ more. IsAt sim (suc n) self.new) }
-        ensures adds { let sim = simulation_of (M.handlers self.old.model) self.old.config in (n : ℕ) → IsAt sim n self.old → IfOk result (λ more. AddsStep sim n records.old.items records.new.items) }
-        ensures whole { let sim = simulation_of (M.handlers self.old.model) self.old.config in (n : ℕ) → IsAt sim n self.old → self.old.pending ≡ [] → records_to sim n ≡ seq_records sim (end_of self.old.config) }
-        ensures falls { let sim = simulation_of (M.handlers self.old.model) self.old.config in IfOk result (λ more. IsTrue more → weight sim self.new.pending < weight sim self.old.pending) }
-        ensures kept { IfErr result (λ fault. self.new ≡ self.old) }
-        ensures records_kept { IfErr result (λ fault. records.new.items ≡ records.old.items) }
-        ensures faults { IfErr result (λ fault. (fault ≡ Memory) ⊎ (fault ≡ Exhausted)) }
-        ensures reached { IsOnWay (M.handlers self.old.model) self.old }
-        ensures counted { let sim = simulation_of (M.handlers self.old.model) self.old.config in (n : ℕ) → IsAt sim n self.old → IfOk result (λ more. IsCounted sim (suc n)) }
-        ensures refused { let sim = simulation_of (M.handlers self.old.model) self.old.config in (n : ℕ) → IsAt sim n self.old → IfErr result (IsStepRefusal sim n) }
+        ensures { IsStep M.handlers self.old self.new records.old.items records.new.items result }
     {
         let mut out = Out::new(self.engine.config, 0, When::tick(0), 0);
         self.step_reusing(records, &mut out)
@@ -124,21 +110,7 @@ impl<'m, M: EventModel> Execution<'m, M> {
         records: &mut Vec<Record>,
         out: &mut Out<M::Payload>,
     ) -> Result<bool, Fault>
-        ensures model { self.new.model ≡ self.old.model }
-        ensures config { self.new.config ≡ self.old.config }
-        ensures more { IfOk result (λ more. IsTrue more ↔ (0 < length self.old.pending)) }
-        ensures idle { IfOk result (λ more. more ≡ false → self.new ≡ self.old) }
-        ensures none_added { IfOk result (λ more. more ≡ false → records.new.items ≡ records.old.items) }
-        ensures steps { let sim = simulation_of (M.handlers self.old.model) self.old.config in (n : ℕ) → IsAt sim n self.old → IfOk result (λ more. IsAt sim (suc n) self.new) }
-        ensures adds { let sim = simulation_of (M.handlers self.old.model) self.old.config in (n : ℕ) → IsAt sim n self.old → IfOk result (λ more. AddsStep sim n records.old.items records.new.items) }
-        ensures whole { let sim = simulation_of (M.handlers self.old.model) self.old.config in (n : ℕ) → IsAt sim n self.old → self.old.pending ≡ [] → records_to sim n ≡ seq_records sim (end_of self.old.config) }
-        ensures falls { let sim = simulation_of (M.handlers self.old.model) self.old.config in IfOk result (λ more. IsTrue more → weight sim self.new.pending < weight sim self.old.pending) }
-        ensures kept { IfErr result (λ fault. self.new ≡ self.old) }
-        ensures records_kept { IfErr result (λ fault. records.new.items ≡ records.old.items) }
-        ensures faults { IfErr result (λ fault. (fault ≡ Memory) ⊎ (fault ≡ Exhausted)) }
-        ensures reached { IsOnWay (M.handlers self.old.model) self.old }
-        ensures counted { let sim = simulation_of (M.handlers self.old.model) self.old.config in (n : ℕ) → IsAt sim n self.old → IfOk result (λ more. IsCounted sim (suc n)) }
-        ensures refused { let sim = simulation_of (M.handlers self.old.model) self.old.config in (n : ℕ) → IsAt sim n self.old → IfErr result (IsStepRefusal sim n) }
+        ensures { IsStep M.handlers self.old self.new records.old.items records.new.items result }
     {
         self.engine.step(records, out)
     }

@@ -7,3 +7,6 @@ new-out-requires g c = first_out _ _ c.self.inside.engine.config g.met.M.Model.p
 
 pub step_reusing-requires-after_bounds : goal.step_reusing-requires-after_bounds
 step_reusing-requires-after_bounds g c κs within = out_fits _ _ g.met.M.Model.payload_align g.met.M.Model.payload_size
+
+pub returns : goal.returns
+returns g c = c.step_reusing.ensures
