@@ -1,8 +1,9 @@
 -- A send goes to a worker, and a fetch of nothing does nothing.
-use Rattle.std.proofs.Common.{◌≡◌, ℕ, ◌+◌, ◌%◌, ◌<◌, ◌≤◌, inl, inr, true, false, not, ◌||◌, List, [], ◌∷◌, refl, sym, ◌∙◌, ap, subst, arith, nat_eq}
+use Rattle.std.proofs.Common.{◌≡◌, ℕ, ◌+◌, ◌%◌, ◌<◌, ◌≤◌, ◌⊎◌, inl, inr, true, false, not, ◌||◌, List, [], ◌∷◌, refl, sym, ◌∙◌, ap, subst, arith, nat_eq}
 use Rattle.std.specs.List.{list_any}
 use Rattle.std.proofs.Math.Nat.{mod-lt}
 use Rattle.std.proofs.lemmas.Bool.Decides.{eqb_tells}
+use Rattle.vt_key.specs.declared.limits.TheConstants.{MAX_COUNT}
 use Rattle.vt_key.specs.declared.letter.Letter.{Letter}
 use Rattle.vt_key.specs.declared.letter.Mail.{Mail}
 use Rattle.vt_model.specs.declared.settings.Config.{Config}
@@ -10,7 +11,7 @@ use Rattle.vt_model.specs.Handler.{Handlers}
 use Rattle.vt_model.specs.Simulation.{Simulation, simulation_of}
 use Rattle.vt_steps.specs.declared.step.Step.TheVariants.{Fetch}
 use Rattle.vt_steps.specs.declared.step.Reply.TheVariants.{Done}
-use Rattle.vt_steps.specs.Letters.{is_empty}
+use Rattle.vt_steps.specs.Letters.{Counts, is_empty}
 use Rattle.vt_steps.specs.World.{Part}
 use Rattle.vt_steps.specs.PartSteps.{is_for, part_after_fetch}
 use Rattle.vt_steps.specs.CellSteps.{may_send}
@@ -18,7 +19,7 @@ use Rattle.vt_steps.specs.Cells.{in_inbox}
 use Rattle.vt_steps.proofs.lists.Tests.{both_pass}
 use Rattle.vt_kernel.specs.Held.{HeldWorker, StandsFor}
 use Rattle.vt_places.specs.declared.view.View.{View}
-use Rattle.vt_cells.specs.Calls.{Acts}
+use Rattle.vt_cells.specs.Calls.{Acts, PassesThere}
 use Rattle.vt_cells.proofs.ActLemmas.{act-fetch}
 use Rattle.vt_places.specs.Calls.{Reaches}
 
@@ -63,6 +64,11 @@ fetches-nothing handlers config w k empty = record {
   worker = refl;
   config_is = refl;
 }
+
+-- it takes no count past its limit
+pub nothing-passes : {S P K : Type 0} (handlers : Handlers S P K) (w : ℕ) (k : HeldWorker S P K) (part new : Part P) → StandsFor handlers k part → StandsFor handlers k new
+    → PassesThere (Fetch w) new (in_inbox []) → PassesThere (Fetch w) part (in_inbox [])
+nothing-passes handlers w k part new was is past = subst (λ (n : Counts). (MAX_COUNT < n.white) ⊎ (MAX_COUNT < n.red)) (is.got ∙ sym was.got) past
 
 module _ {S P K : Type 0} {handlers : Handlers S P K} {config : Config} {view : View P} {k : HeldWorker S P K} (r : Reaches handlers config view k) where
   -- the kernel of a place sends to a worker of the run

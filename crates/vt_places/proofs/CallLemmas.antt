@@ -78,6 +78,7 @@ module _ {S P K : Type 0} (handlers : Handlers S P K) (config : Config) (v w : V
           at = done-held (simulation_of handlers config) v h.0 z.steps z.part step reply after z.at;
           does = z.does;
           stands = z.stands;
+          within = z.within;
         };
         same = record { worker = x.same.worker; made = x.same.made; waiting = x.same.waiting };
         floor = x.floor;

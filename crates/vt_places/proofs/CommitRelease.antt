@@ -85,6 +85,7 @@ module _ {S P K : Type 0} (handlers : Handlers S P K) (config : Config) where
             at = done-held (simulation_of handlers config) v h.0 x.steps x.part (Commit worker) Done after x.at;
             does = commit-acts handlers config x.commits same_worker same_config forgets;
             stands = subst (StandsFor handlers left) (sym x.gone) (forgets x.part x.stood);
+            within = λ past. past;
           };
           same = record { worker = x.same.worker; made = x.same.made; waiting = x.same.waiting };
           floor = x.floor;

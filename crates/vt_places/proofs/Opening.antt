@@ -125,6 +125,7 @@ module _ {S P : Type 0} (sim : Simulation S P) where
     worker = ap (λ (x : Sat P). x.0.made) e;
     part = ap (λ (x : Sat P). first_or x.0.part x.0.waiting) e ∙ first-part i (sim.workers - i) (opening_part sim 0 0) (omega arith);
     mine = refl;
+    log = refl;
     seen = refl;
   }
 

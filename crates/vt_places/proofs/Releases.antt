@@ -21,13 +21,13 @@ use Rattle.vt_steps.specs.Laws.{IsAny}
 use Rattle.vt_steps.specs.Marked.{Made, marked, made_done, LeadsLocally, LeadLocally, Leads}
 use Rattle.vt_steps.proofs.steps.Changes.{chain_has}
 use Rattle.vt_steps.proofs.steps.LocalLeads.{leads, leads-nowhere}
-use Rattle.vt_kernel.specs.Held.{HeldWorker}
+use Rattle.vt_kernel.specs.Held.{HeldWorker, StandsFor}
 use Rattle.vt_kernel.specs.Local.{local_step, local_steps}
 use Rattle.vt_places.specs.declared.view.View.{View}
 use Rattle.vt_places.specs.Hands.{empty_hand}
 use Rattle.vt_places.specs.Slots.{cell_count, word_at, empty_word, claimed_word, home_word, cell_at, held_in}
 use Rattle.vt_places.specs.Kept.{Sat, HasGrown, Kept, Rests}
-use Rattle.vt_cells.specs.Calls.{Acts, IsCellStepOf}
+use Rattle.vt_cells.specs.Calls.{Acts, PassesThere, IsCellStepOf}
 use Rattle.vt_places.specs.Calls.{seen_or, Unvisited, Closes, Known, Reaches, Visited, Holding, ShowsFloor, MaySee}
 use Rattle.vt_places.proofs.Growth.{grown-not}
 use Rattle.vt_places.proofs.Keeps.{releases, Looked, looks}
@@ -112,16 +112,20 @@ module _ {S P K : Type 0} (handlers : Handlers S P K) (config : Config) (lawful 
         },
       ))
 
+  -- whatever parts a kernel stood for and stands for now, no counter is past its limit that wasn't so before
+  abbrev AreWithin : Step → HeldWorker S P K → Cell P → HeldWorker S P K → Cell P → Type 0
+  AreWithin step before found left now = (part new : Part P) → StandsFor handlers before part → StandsFor handlers left new → PassesThere step new now → PassesThere step part found
+
   -- what local steps and then one step at the cell leave of the view, where the cell had this in it
   visited-at : (k : ℕ) (v : View P) (found now : Cell P) (before left : HeldWorker S P K) (step : Step) (reply : Reply) → IsAny (cell_of step) (cell_at config.workers k)
-      → (does : Acts handlers config step reply before found left now) (way : Reaches handlers config v before) (known : Known (simulation_of handlers config) v k found)
+      → (does : Acts handlers config step reply before found left now) → AreWithin step before found left now → (way : Reaches handlers config v before) (known : Known (simulation_of handlers config) v k found)
       → Visited handlers config v before step reply left v.seen (record v {
         part = (does.acts way.part way.stands).0;
         mine = v.mine ++ (made_done way.steps ++ record { step = step; reply = reply } ∷ []);
         log = known.log ++ marked v.worker (way.steps ++ step ∷ []);
         hand = empty_hand;
       })
-  visited-at k v found now before left step reply at does way known =
+  visited-at k v found now before left step reply at does within way known =
       let a = does.acts way.part way.stands in
       record {
         visits = record {
@@ -133,6 +137,7 @@ module _ {S P K : Type 0} (handlers : Handlers S P K) (config : Config) (lawful 
           at = record { cell = k; about = at; found = found; now = now; known = known; gives = a.1; log = refl };
           does = does;
           stands = a.2;
+          within = within way.part a.0 way.stands a.2;
         };
         same = record { worker = refl; made = refl; waiting = refl };
         floor = refl;
@@ -143,9 +148,9 @@ module _ {S P K : Type 0} (handlers : Handlers S P K) (config : Config) (lawful 
   pub leaves-visited : (slots id k x : ℕ) (m : Sat P) (found now : Cell P) (before left : HeldWorker S P K) (step : Step) (reply : Reply) → k < cell_count config.workers
       → x ≢ claimed_word → (x ≡ empty_word → now ≡ in_inbox [])
       → IsAny (worker_of (simulation_of handlers config) step) m.0.worker → IsAny (cell_of step) (cell_at config.workers k)
-      → Holding config m k found now → Acts handlers config step reply before found left now → Reaches handlers config m.0 before
+      → Holding config m k found now → Acts handlers config step reply before found left now → AreWithin step before found left now → Reaches handlers config m.0 before
       → Allows (Kept (simulation_of handlers config) config) slots id m (word_at k) (λ _. x) (λ _. (λ (n : ℕ) (after : Sat P). GaveBack m after × Visited handlers config m.0 before step reply left m.0.seen after.0) x)
-  leaves-visited slots id k x m found now before left step reply near home empty whose at h does way =
+  leaves-visited slots id k x m found now before left step reply near home empty whose at h does within way =
       let sim = simulation_of handlers config in
       let a = does.acts way.part way.stands in
       let goes : Leads sim m.0.worker (cell_at sim.workers k) m.0.part found (way.steps ++ step ∷ []) a.0 now (made_done way.steps ++ record { step = step; reply = reply } ∷ []) =
@@ -154,7 +159,7 @@ module _ {S P K : Type 0} (handlers : Handlers S P K) (config : Config) (lawful 
       (λ (n : ℕ) (after : Sat P). GaveBack m after × Visited handlers config m.0 before step reply left m.0.seen after.0) near home (λ e _. h.now_is ∙ empty e) h.carried h.hand h.right
       (subst (λ (c : Cell P). Leads sim m.0.worker (cell_at sim.workers k) m.0.part found (way.steps ++ step ∷ []) a.0 c (made_done way.steps ++ record { step = step; reply = reply } ∷ [])) (sym h.now_is) goes)
       (λ log _. grown-not m.0.worker (log ++ marked m.0.worker (way.steps ++ step ∷ []))) (inl (le_refl m.0.seen))
-      (λ n known. (((refl, refl), refl), visited-at k m.0 found now before left step reply at does way known))
+      (λ n known. (((refl, refl), refl), visited-at k m.0 found now before left step reply at does within way known))
 
   -- after local steps and one step at the cell that was done or refused
   pub leaves-tried : (slots id k x : ℕ) (m : Sat P) (found now : Cell P) (before left : HeldWorker S P K) (step : Step) (answer : Result Reply Fault) → k < cell_count config.workers
@@ -163,7 +168,8 @@ module _ {S P K : Type 0} (handlers : Handlers S P K) (config : Config) (lawful 
       → Holding config m k found now → IsCellStepOf handlers config step before left found now answer → Reaches handlers config m.0 before
       → Allows (Kept (simulation_of handlers config) config) slots id m (word_at k) (λ _. x)
       (λ _. (λ (n : ℕ) (after : Sat P). GaveBack m after × MatchResult answer (λ reply. Visited handlers config m.0 before step reply left m.0.seen after.0) (λ _. Unvisited m.0 m.0.seen after.0)) x)
-  leaves-tried slots id k x m found now before left step (Ok reply) near home empty whose at h tried way = leaves-visited slots id k x m found now before left step reply near home empty whose at h tried.done way
+  leaves-tried slots id k x m found now before left step (Ok reply) near home empty whose at h tried way =
+      leaves-visited slots id k x m found now before left step reply near home empty whose at h tried.done (λ part new was is past. absurd (tried.within new is past)) way
   leaves-tried slots id k x m found now before left step (Err fault) near home empty whose at h tried way =
       let same = tried.unchanged.1 in
       leaves-unvisited slots id k x m None found near home (λ e. sym same ∙ empty e) (subst (λ c. Holding config m k found c) same h) tt
@@ -171,15 +177,15 @@ module _ {S P K : Type 0} (handlers : Handlers S P K) (config : Config) (lawful 
   -- at a load that finds an inbox empty, after local steps and one step that finds it so and leaves it so
   pub leaves-looked : (slots id k : ℕ) (m : Sat P) (before left : HeldWorker S P K) (step : Step) (reply : Reply) → k < config.workers → Rests m
       → IsAny (worker_of (simulation_of handlers config) step) m.0.worker → IsAny (cell_of step) (cell_at config.workers k)
-      → Acts handlers config step reply before (in_inbox []) left (in_inbox []) → Reaches handlers config m.0 before
+      → Acts handlers config step reply before (in_inbox []) left (in_inbox []) → AreWithin step before (in_inbox []) left (in_inbox []) → Reaches handlers config m.0 before
       → Allows (Kept (simulation_of handlers config) config) slots id m (word_at k) (λ n. n) (Looked m (λ after. (after.1 ≡ []) × Visited handlers config m.0 before step reply left m.0.seen after.0))
-  leaves-looked slots id k m before left step reply near rests whose at does way =
+  leaves-looked slots id k m before left step reply near rests whose at does within way =
       let sim = simulation_of handlers config in
       let a = does.acts way.part way.stands in
       looks sim config lawful slots id k m (way.steps ++ step ∷ []) a.0 (made_done way.steps ++ record { step = step; reply = reply } ∷ [])
       (λ after. (after.1 ≡ []) × Visited handlers config m.0 before step reply left m.0.seen after.0) near rests
       (leads sim m.0.worker (cell_at sim.workers k) way.steps step m.0.part way.part a.0 (in_inbox []) (in_inbox []) reply (steps-lead sim m.0.worker way.steps m.0.part way.part way.led) whose at a.1)
-      (λ known. (refl, visited-at k m.0 (in_inbox []) (in_inbox []) before left step reply at does way known))
+      (λ known. (refl, visited-at k m.0 (in_inbox []) (in_inbox []) before left step reply at does within way known))
 
   -- after a close
   pub leaves-closed : (slots id k : ℕ) (m : Sat P) (seen : Time) (found now : Cell P) → k < cell_count config.workers → cell_at config.workers k ≡ book_cell → Holding config m k found now

@@ -1,5 +1,5 @@
 -- A worker at its place is still at work after a local step, and after a call of its station.
-use Rattle.std.proofs.Common.{◌≡◌, refl, sym, ◌∙◌, subst, Result}
+use Rattle.std.proofs.Common.{◌≡◌, ℕ, refl, sym, ◌∙◌, subst, Result}
 use Rattle.std.specs.Prelude.{IfOk, IfErr}
 use Rattle.atomic_table.specs.Seated.{TableId}
 use Rattle.vt_key.specs.declared.fault.Fault.{Fault}
@@ -14,7 +14,7 @@ use Rattle.vt_kernel.specs.Local.{local_step}
 use Rattle.vt_kernel.specs.Guards.{IsDone}
 use Rattle.vt_places.specs.declared.view.View.{View}
 use Rattle.vt_places.specs.AtWork.{AtWork, IsAtWork}
-use Rattle.vt_places.specs.Calls.{Reaches}
+use Rattle.vt_places.specs.Calls.{Reaches, IsRefusedAlone}
 use Rattle.vt_places.proofs.ReachLemmas.{reaches-either, kept-of}
 
 module _ {M S P K : Type 0} {handlers : M → Handlers S P K} {told : M} {config : Config} {table : TableId} {w : AtWork M S P K} (i : IsAtWork handlers told config table w) where
@@ -29,6 +29,14 @@ module _ {M S P K : Type 0} {handlers : M → Handlers S P K} {told : M} {config
   -- after a call of the station that leaves the place and the kernel so
   pub called-at-work : {after : TableId} {view : View P} {kernel : HeldWorker S P K} → after ≡ table → Reaches (handlers told) w.config view kernel → IsAtWork handlers told config after (record w { view = view; kernel = kernel })
   called-at-work {after} {view} {kernel} same ready = stays-at-work same (subst (λ (m : M). Reaches (handlers m) w.config view kernel) i.model_is ready)
+
+  -- what a call of the station says of a worker that is alone, in the words of the worker
+  pub alone-at-work : {X : Type 0} (step : ℕ → Step) (result : Result X Fault) (number : ℕ) → w.view.worker ≡ number
+      → ((r : Reaches (handlers told) w.config w.view w.kernel) → IsRefusedAlone (simulation_of (handlers told) w.config) w.view r.steps (step number) result)
+      → (r : Reaches (handlers w.model) w.config w.view w.kernel) → IsRefusedAlone (simulation_of (handlers w.model) w.config) w.view r.steps (step w.kernel.worker) result
+  alone-at-work step result number own alone =
+      subst (λ (z : M × ℕ). (r : Reaches (handlers z.0) w.config w.view w.kernel) → IsRefusedAlone (simulation_of (handlers z.0) w.config) w.view r.steps (step z.1) result)
+      (λ j. (i.model_is j, (sym own ∙ sym i.reaches.worker) j)) alone
 
   -- after a local step, done or refused
   module _ {X : Type 0} {new : HeldWorker S P K} (step : Step) (result : Result X Fault) (same : (new.worker ≡ w.kernel.worker) × (new.config ≡ w.kernel.config))

@@ -23,12 +23,14 @@ pub record IsAtWork {M S P K : Type 0} (handlers : M → Handlers S P K) (told :
   pub model_is : told ≡ w.model
   pub reaches : Reaches (handlers w.model) w.config w.view w.kernel
 
--- it is the same worker at the same station as before, with the same model
+-- it is the same worker at the same station as before, with the same model, and its kernel is of that worker and config as before
 pub record IsAtSameStation {M S P K : Type 0} (v w : AtWork M S P K) : Type 0 where
   pub worker : w.view.worker ≡ v.view.worker
   pub model : w.model ≡ v.model
   pub config : w.config ≡ v.config
   pub table : w.table ≡ v.table
+  pub number : w.kernel.worker ≡ v.kernel.worker
+  pub known : w.kernel.config ≡ v.kernel.config
 
 -- the worker is at the same station as before, and its place knows the same
 pub record IsAtSamePlace {M S P K : Type 0} (v w : AtWork M S P K) : Type 0 where

@@ -28,7 +28,7 @@ use Rattle.vt_kernel.specs.Held.{HeldWorker, StandsFor}
 use Rattle.vt_kernel.specs.Local.{local_steps}
 use Rattle.vt_kernel.specs.Guards.{IsSendRefusal}
 use Rattle.vt_kernel.specs.Refusals.{IsStepRefusal}
-use Rattle.vt_cells.specs.Calls.{Acts, IsTooMuchMail}
+use Rattle.vt_cells.specs.Calls.{Acts, IsTooMuchMail, PassesThere}
 use Rattle.vt_places.specs.declared.slot.Slot.{Slot}
 use Rattle.vt_places.specs.declared.view.View.{View}
 use Rattle.vt_places.specs.Hands.{Hand, empty_hand, holding}
@@ -142,6 +142,8 @@ module _ {S P K : Type 0} (handlers : Handlers S P K) (config : Config) where
     pub at : IsDoneAt (simulation_of handlers config) v steps part step reply w
     pub does : Acts handlers config step reply before at.found left at.now
     pub stands : StandsFor handlers left w.part
+    -- the step takes no counter past its limit: one that is past it now was so before
+    pub within : PassesThere step w.part at.now → PassesThere step part at.found
 
   -- the same, and the place holds nothing and was shown this floor
   pub record Visited (v : View P) (before : HeldWorker S P K) (step : Step) (reply : Reply) (left : HeldWorker S P K) (seen : Time) (w : View P) : Type 0 where

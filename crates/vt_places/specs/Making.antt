@@ -32,12 +32,14 @@ pub record AreSlots {P : Type 0} (config : Config) (slots : List (Slot P)) : Typ
 abbrev pub IsMaker : {S P : Type 0} → Simulation S P → ℕ → Sat P → Type 0
 IsMaker sim i m = m ≡ (record (first_view sim) { made = i; waiting = map (opening_part sim 0) (range_with_len i (sim.workers - i)) }, [])
 
--- the seat of a place as it is made: it has the opening part of its worker, has made no step, and was shown nothing
+-- the seat of a place as it is made: it has the opening part of its worker, has made no step, knows of no other's, and was shown
+-- nothing
 pub record Opens {S P : Type 0} (sim : Simulation S P) (i : ℕ) (m : Sat P) : Type 0 where
   pub rests : Rests m
   pub worker : m.0.worker ≡ i
   pub part : m.0.part ≡ opening_part sim 0 i
   pub mine : m.0.mine ≡ []
+  pub log : m.0.log ≡ []
   pub seen : m.0.seen ≡ opening_time
 
 -- a place of the table, as it is made

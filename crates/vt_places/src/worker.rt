@@ -1,6 +1,6 @@
 //! A worker at its place: the station's calls and the kernel's local steps together.
 
-ghost use Rattle.std.specs.Prelude.{◌≡◌, ◌<◌, false, None, Err, IfOk, IfErr, MatchResult};
+ghost use Rattle.std.specs.Prelude.{◌≡◌, ◌<◌, [], false, None, Err, IfOk, IfErr, MatchResult};
 ghost use Rattle.vt_key.specs.Times.{Time, TimeAtMost, TimeBefore};
 ghost use Rattle.vt_key.specs.declared.fault.Fault.TheVariants.{Memory, NotLawful};
 ghost use Rattle.vt_model.specs.Simulation.{simulation_of};
@@ -14,10 +14,10 @@ ghost use Rattle.vt_steps.specs.declared.step.Reply.TheVariants as reply;
 ghost use Rattle.vt_board.specs.Calls.{reply_of};
 ghost use Rattle.vt_kernel.specs.Held.{StandsFor};
 ghost use Rattle.vt_kernel.specs.Local.{local_step};
-ghost use Rattle.vt_kernel.specs.Guards.{IsDone, IsExecuteRefusal, IsAcceptRefusal, SettlesTo};
+ghost use Rattle.vt_kernel.specs.Guards.{IsDone, AreWithinLimits, IsExecuteRefusal, IsAcceptRefusal, SettlesTo};
 ghost use Rattle.vt_places.specs.Told.{station_model, station_config, station_table, place_table, place_view};
 ghost use Rattle.vt_places.specs.Making.{IsNew};
-ghost use Rattle.vt_places.specs.Calls.{Visited, Closes, Unvisited, Stays, ShowsFloor, IsPostRefusal, IsFetchRefusal, IsCutRefusal, IsReportRefusal, IsCommitRefusal, IsCloseRefusal, IsRecordsRefusal, IsFloorLeft, AreRecordsShown, IsRefusedOnceClosed};
+ghost use Rattle.vt_places.specs.Calls.{Reaches, Visited, Closes, Unvisited, Stays, ShowsFloor, IsPostRefusal, IsFetchRefusal, IsCutRefusal, IsReportRefusal, IsCommitRefusal, IsCloseRefusal, IsRecordsRefusal, IsFloorLeft, AreRecordsShown, IsRefusedOnceClosed, IsRefusedAlone};
 ghost use Rattle.vt_places.specs.AtWork.{IsAtSamePlace, IsAtSameStation};
 
 use crate::place::Place;
@@ -90,7 +90,7 @@ impl<'a, M: EventModel> Worker<'a, M> {
         requires told { (station_model station.now ≡ model.now) × (station_config station.now ≡ config) }
         requires place { IsNew (simulation_of (M.handlers model.now) config) (station_table station.now) w place }
         ensures made { IfOk result (λ made. (made.model ≡ model.now) × (made.config ≡ config) × (made.table ≡ station_table station.now)
-            × (made.view ≡ place_view place) × (made.kernel.worker ≡ w) × StandsFor (M.handlers model.now) made.kernel (opening_part (simulation_of (M.handlers model.now) config) 0 w)) }
+            × (made.view ≡ place_view place) × (made.kernel.worker ≡ w) × (made.kernel.config ≡ config) × StandsFor (M.handlers model.now) made.kernel (opening_part (simulation_of (M.handlers model.now) config) 0 w)) }
         ensures refused { IfErr result (λ not. (not.fault ≡ Memory) × (not.place ≡ place)) }
     {
         match Kernel::new(alloc, model, config, w) {
@@ -112,6 +112,14 @@ impl<'a, M: EventModel> Worker<'a, M> {
         ensures view { place_view result ≡ self.entry.view }
     {
         self.place
+    }
+
+    /// What the type guarantees, for the proof of a caller: the kernel is what local steps make of the worker's part after the
+    /// place's last visit.
+    pub fn is_at_work(&self)
+        ensures { Reaches (M.handlers self.now.model) self.now.config self.now.view self.now.kernel }
+    {
+        let _ = &self.kernel;
     }
 
     /// The number of the worker.
@@ -136,6 +144,7 @@ impl<'a, M: EventModel> Worker<'a, M> {
     pub fn execute(&mut self, lp: u32) -> Result<(), Fault>
         ensures place { IsAtSamePlace self.old self.new }
         ensures done { (part : Part _) → StandsFor (M.handlers self.old.model) self.old.kernel part → IfOk result (λ done. IsDone (M.handlers self.old.model) self.new.kernel (local_step (simulation_of (M.handlers self.old.model) self.old.kernel.config) self.old.kernel.worker (step.Execute lp) part)) }
+        ensures counted { (part : Part _) → StandsFor (M.handlers self.old.model) self.new.kernel part → IfOk result (λ done. AreWithinLimits (simulation_of (M.handlers self.old.model) self.old.kernel.config) lp part) }
         ensures refused { (part : Part _) → StandsFor (M.handlers self.old.model) self.old.kernel part → IfErr result (λ fault. IsExecuteRefusal (simulation_of (M.handlers self.old.model) self.old.kernel.config) lp (local_step (simulation_of (M.handlers self.old.model) self.old.kernel.config) self.old.kernel.worker (step.Execute lp) part) fault) }
         ensures kept { (part : Part _) → StandsFor (M.handlers self.old.model) self.old.kernel part → IfErr result (λ _. self.new.kernel ≡ self.old.kernel) }
     {
@@ -147,6 +156,7 @@ impl<'a, M: EventModel> Worker<'a, M> {
     pub fn execute_reusing(&mut self, lp: u32, out: &mut Out<M::Payload>) -> Result<(), Fault>
         ensures place { IsAtSamePlace self.old self.new }
         ensures done { (part : Part _) → StandsFor (M.handlers self.old.model) self.old.kernel part → IfOk result (λ done. IsDone (M.handlers self.old.model) self.new.kernel (local_step (simulation_of (M.handlers self.old.model) self.old.kernel.config) self.old.kernel.worker (step.Execute lp) part)) }
+        ensures counted { (part : Part _) → StandsFor (M.handlers self.old.model) self.new.kernel part → IfOk result (λ done. AreWithinLimits (simulation_of (M.handlers self.old.model) self.old.kernel.config) lp part) }
         ensures refused { (part : Part _) → StandsFor (M.handlers self.old.model) self.old.kernel part → IfErr result (λ fault. IsExecuteRefusal (simulation_of (M.handlers self.old.model) self.old.kernel.config) lp (local_step (simulation_of (M.handlers self.old.model) self.old.kernel.config) self.old.kernel.worker (step.Execute lp) part) fault) }
         ensures kept { (part : Part _) → StandsFor (M.handlers self.old.model) self.old.kernel part → IfErr result (λ _. self.new.kernel ≡ self.old.kernel) }
     {
@@ -248,6 +258,7 @@ impl<'a, M: EventModel> Worker<'a, M> {
             (λ _. Visited (M.handlers self.old.model) self.old.config self.old.view self.old.kernel (step.Cut self.old.kernel.worker) reply.Done self.new.kernel self.old.view.seen self.new.view)
             (λ _. Stays self.old.view self.new.view × (self.new.kernel ≡ self.old.kernel)) }
         ensures refused { IfErr result (λ fault. IsCutRefusal (simulation_of (M.handlers self.old.model) self.old.config) self.old.view fault) }
+        ensures alone { (reaches : Reaches (M.handlers self.old.model) self.old.config self.old.view self.old.kernel) → IsRefusedAlone (simulation_of (M.handlers self.old.model) self.old.config) self.old.view reaches.steps (step.Cut self.old.kernel.worker) result }
     {
         self.station.cut(&mut self.place, &mut self.kernel)
     }
@@ -261,6 +272,7 @@ impl<'a, M: EventModel> Worker<'a, M> {
             (λ report. Visited (M.handlers self.old.model) self.old.config self.old.view self.old.kernel (step.Report self.old.kernel.worker) (reply_of report) self.new.kernel self.old.view.seen self.new.view)
             (λ _. Stays self.old.view self.new.view × (self.new.kernel ≡ self.old.kernel)) }
         ensures refused { IfErr result (λ fault. IsReportRefusal (simulation_of (M.handlers self.old.model) self.old.config) self.old.view fault) }
+        ensures alone { (reaches : Reaches (M.handlers self.old.model) self.old.config self.old.view self.old.kernel) → IsRefusedAlone (simulation_of (M.handlers self.old.model) self.old.config) self.old.view reaches.steps (step.Report self.old.kernel.worker) result }
     {
         self.station.report(&mut self.place, &mut self.kernel)
     }
@@ -276,6 +288,7 @@ impl<'a, M: EventModel> Worker<'a, M> {
             (λ _. Stays self.old.view self.new.view × (self.new.kernel ≡ self.old.kernel)) }
         ensures refused { IfErr result (λ fault. IsCommitRefusal (simulation_of (M.handlers self.old.model) self.old.config) self.old.view fault) }
         ensures closed { IsRefusedOnceClosed self.old.view result }
+        ensures alone { (reaches : Reaches (M.handlers self.old.model) self.old.config self.old.view self.old.kernel) → IsRefusedAlone (simulation_of (M.handlers self.old.model) self.old.config) self.old.view reaches.steps (step.Commit self.old.kernel.worker) result }
     {
         self.station
             .commit(self.alloc, &mut self.place, &mut self.kernel)
@@ -290,6 +303,7 @@ impl<'a, M: EventModel> Worker<'a, M> {
         ensures kernel { self.new.kernel ≡ self.old.kernel }
         ensures refused { IfErr result (λ fault. IsCloseRefusal (simulation_of (M.handlers self.old.model) self.old.config) self.old.view fault) }
         ensures closed { IsRefusedOnceClosed self.old.view result }
+        ensures alone { IsRefusedAlone (simulation_of (M.handlers self.old.model) self.old.config) self.old.view [] step.Close result }
     {
         self.station.close(&mut self.place)
     }

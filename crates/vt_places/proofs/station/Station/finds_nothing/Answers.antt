@@ -2,7 +2,7 @@ use Rattle.std.proofs.Common.{◌<◌, arith, sym}
 use Rattle.vt_steps.specs.declared.step.Step.TheVariants.{Fetch}
 use Rattle.vt_steps.specs.declared.step.Reply.TheVariants.{Done}
 use Rattle.vt_places.proofs.Cells.{inbox-name}
-use Rattle.vt_places.proofs.ActLemmas.{fetches-nothing}
+use Rattle.vt_places.proofs.ActLemmas.{fetches-nothing, nothing-passes}
 use Rattle.vt_places.proofs.Releases.{leaves-looked}
 use Rattle.vt_places.proofs.station.Station.finds_nothing.Goals as goal
 
@@ -15,4 +15,4 @@ load-requires-clause-allowed g c κs within lawful =
     let k = c.args.kernel.now in
     let counted = c.args.self.now.counted in
     let near : w < key.config.workers = (let n = c.requires.known in omega arith) in
-    leaves-looked H key.config lawful c.args.self.now.table.shared.table_id.slots c.args.seat.now.id w m k k (Fetch w) Done near c.requires.rests (sym c.requires.worker) (sym (inbox-name key.config.workers w near)) (fetches-nothing H key.config w k c.requires.accepted) c.requires.kernel
+    leaves-looked H key.config lawful c.args.self.now.table.shared.table_id.slots c.args.seat.now.id w m k k (Fetch w) Done near c.requires.rests (sym c.requires.worker) (sym (inbox-name key.config.workers w near)) (fetches-nothing H key.config w k c.requires.accepted) (nothing-passes H w k) c.requires.kernel
