@@ -146,7 +146,7 @@ impl<'a, M: EventModel> Worker<'a, M> {
         ensures done { (part : Part _) → StandsFor (M.handlers self.old.model) self.old.kernel part → IfOk result (λ done. IsDone (M.handlers self.old.model) self.new.kernel (local_step (simulation_of (M.handlers self.old.model) self.old.kernel.config) self.old.kernel.worker (step.Execute lp) part)) }
         ensures counted { (part : Part _) → StandsFor (M.handlers self.old.model) self.new.kernel part → IfOk result (λ done. AreWithinLimits (simulation_of (M.handlers self.old.model) self.old.kernel.config) lp part) }
         ensures refused { (part : Part _) → StandsFor (M.handlers self.old.model) self.old.kernel part → IfErr result (λ fault. IsExecuteRefusal (simulation_of (M.handlers self.old.model) self.old.kernel.config) lp (local_step (simulation_of (M.handlers self.old.model) self.old.kernel.config) self.old.kernel.worker (step.Execute lp) part) fault) }
-        ensures kept { (part : Part _) → StandsFor (M.handlers self.old.model) self.old.kernel part → IfErr result (λ _. self.new.kernel ≡ self.old.kernel) }
+        ensures kept { IfErr result (λ _. self.new.kernel ≡ self.old.kernel) }
     {
         let mut out = Out::new(self.config, 0, When::tick(0), 0);
         self.execute_reusing(lp, &mut out)
@@ -158,7 +158,7 @@ impl<'a, M: EventModel> Worker<'a, M> {
         ensures done { (part : Part _) → StandsFor (M.handlers self.old.model) self.old.kernel part → IfOk result (λ done. IsDone (M.handlers self.old.model) self.new.kernel (local_step (simulation_of (M.handlers self.old.model) self.old.kernel.config) self.old.kernel.worker (step.Execute lp) part)) }
         ensures counted { (part : Part _) → StandsFor (M.handlers self.old.model) self.new.kernel part → IfOk result (λ done. AreWithinLimits (simulation_of (M.handlers self.old.model) self.old.kernel.config) lp part) }
         ensures refused { (part : Part _) → StandsFor (M.handlers self.old.model) self.old.kernel part → IfErr result (λ fault. IsExecuteRefusal (simulation_of (M.handlers self.old.model) self.old.kernel.config) lp (local_step (simulation_of (M.handlers self.old.model) self.old.kernel.config) self.old.kernel.worker (step.Execute lp) part) fault) }
-        ensures kept { (part : Part _) → StandsFor (M.handlers self.old.model) self.old.kernel part → IfErr result (λ _. self.new.kernel ≡ self.old.kernel) }
+        ensures kept { IfErr result (λ _. self.new.kernel ≡ self.old.kernel) }
     {
         self.kernel.execute_reusing(self.alloc, self.model, lp, out)
     }

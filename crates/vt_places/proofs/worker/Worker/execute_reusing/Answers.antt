@@ -1,7 +1,5 @@
 use Rattle.std.proofs.Common.{◌≡◌, subst}
 use Rattle.std.specs.Prelude.{IfErr}
-use Rattle.vt_steps.specs.World.{Part}
-use Rattle.vt_kernel.specs.Held.{StandsFor}
 use Rattle.vt_places.specs.AtWork.{AtWork}
 use Rattle.vt_steps.specs.declared.step.Step.TheVariants.{Execute}
 use Rattle.vt_places.proofs.WorkLemmas.{stepped-at-work}
@@ -15,4 +13,5 @@ invariant_of-self g c = stepped-at-work c.self.invariant (Execute c.args.lp) c.e
 
 pub returns-clause-kept : goal.returns-clause-kept
 returns-clause-kept g c =
-    subst (λ (o : AtWork g.row.M.Denot g.row.M-State.Denot g.row.M-Payload.Denot g.row.M-Kept.Denot). (part : Part _) → StandsFor (g.M.Model.handlers o.model) o.kernel part → IfErr c.execute_reusing.result (λ _. c.execute_reusing.new.self ≡ o.kernel)) c.self.view_is c.execute_reusing.ensures.unchanged
+    let r = c.self.invariant.reaches in
+    subst (λ (o : AtWork g.row.M.Denot g.row.M-State.Denot g.row.M-Payload.Denot g.row.M-Kept.Denot). IfErr c.execute_reusing.result (λ _. c.execute_reusing.new.self ≡ o.kernel)) c.self.view_is (c.execute_reusing.ensures.unchanged r.part r.stands)
