@@ -1,5 +1,5 @@
 -- What is known of a world whose book is closed, and of a step that it is asked then.
-use Rattle.std.proofs.Common.{◌≡◌, ℕ, sym, ◌∙◌, ap, subst, inl, inr, [], ◌∷◌, Some, Ok, Err, Result}
+use Rattle.std.proofs.Common.{◌≡◌, ℕ, sym, ◌∙◌, ap, subst, inl, inr, [], ◌∷◌, Ok, Err, Result}
 use Rattle.std.specs.Prelude.{IsTrue}
 use Rattle.std.proofs.Math.Logic.{∥∥₁_elim}
 use Rattle.std.proofs.Props.{props}
@@ -15,13 +15,13 @@ use Rattle.vt_steps.specs.declared.step.Reply.{Reply}
 use Rattle.vt_steps.specs.World.{World, Book, book_floor}
 use Rattle.vt_steps.specs.Next.{next, run, reached}
 use Rattle.vt_steps.specs.Claims.{AreProcessesFinal, IsWhole}
-use Rattle.vt_steps.specs.Cells.{cell_of, book_cell}
+use Rattle.vt_steps.specs.Cells.{cell_of}
 use Rattle.vt_steps.specs.StandsFor.{GoesOn}
 use Rattle.vt_steps.proofs.book.ReachedBooks.{closed-finals, closed-stays, closed-whole}
 use Rattle.vt_steps.proofs.steps.Refusals.{refusals as refusal-laws}
 use Rattle.vt_kernel.specs.Refusals.{IsStepRefusal}
 use Rattle.vt_world.specs.Held.{HeldWorld, world_memory, StandsForWorld, IsReached, IsWorldInside}
-use Rattle.vt_world.specs.Calls.{floor_held}
+use Rattle.vt_world.specs.Calls.{IsOfBook, floor_held}
 
 module _ {M S P K : Type 0} (handlers : Handlers S P K) (held : HeldWorld M S P K) (shut : IsTrue held.book.is_closed) where
   -- each world that it stands for is closed
@@ -29,18 +29,18 @@ module _ {M S P K : Type 0} (handlers : Handlers S P K) (held : HeldWorld M S P 
   shut-there world h = ap (λ (b : Book). b.is_closed) h.book ∙ shut
 
   -- and refuses a commit and a close
-  closed-answer : (step : Step) (world : World P) → StandsForWorld handlers held world → cell_of step ≡ Some book_cell → (next (simulation_of handlers held.config) world step).answer ≡ Err Closed
-  closed-answer step world h = (refusal-laws (simulation_of handlers held.config) world step).closed (shut-there world h)
+  closed-answer : (step : Step) (world : World P) → StandsForWorld handlers held world → IsOfBook step → (next (simulation_of handlers held.config) world step).answer ≡ Err Closed
+  closed-answer step world h of = (refusal-laws (simulation_of handlers held.config) world step).closed (shut-there world h) (elim of [ inl e ↦ ap cell_of e | inr e ↦ ap cell_of e.1 ])
 
   -- where it stands for a reached world: what it answers to a commit or a close
   pub done-closed : (step : Step) (reply : Reply) (new : HeldWorld M S P K) → GoesOn (simulation_of handlers held.config) step (Ok reply) (world_memory handlers held) (world_memory handlers new)
-      → cell_of step ≡ Some book_cell → (x : (serial : ℕ) × IsReached handlers serial held) → Ok reply ≡ Err Closed
+      → IsOfBook step → (x : (serial : ℕ) × IsReached handlers serial held) → Ok reply ≡ Err Closed
   done-closed step reply new goes on_book x =
       let world = reached (simulation_of handlers held.config) x.0 x.1.0 in
       sym (goes world x.1.1).0 ∙ closed-answer step world x.1.1 on_book
 
   pub refused-closed : (step : Step) (fault : Fault) → ((world : World P) → StandsForWorld handlers held world → IsStepRefusal (simulation_of handlers held.config) step world fault)
-      → cell_of step ≡ Some book_cell → (x : (serial : ℕ) × IsReached handlers serial held) → ◌≡◌ {A = Result Reply Fault} (Err fault) (Err Closed)
+      → IsOfBook step → (x : (serial : ℕ) × IsReached handlers serial held) → ◌≡◌ {A = Result Reply Fault} (Err fault) (Err Closed)
   refused-closed step fault why on_book x =
       let world = reached (simulation_of handlers held.config) x.0 x.1.0 in
       let closed = closed-answer step world x.1.1 on_book in

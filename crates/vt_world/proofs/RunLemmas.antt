@@ -1,5 +1,7 @@
 -- Lists of steps, one step after the other.
-use Rattle.std.proofs.Common.{◌≡◌, ℕ, ◌+◌, ◌⊎◌, inl, inr, List, [], ◌∷◌, ◌++◌, take, refl, sym, ◌∙◌, ap, subst, arith, Result, Ok, Err, IfOk, IfErr}
+use Rattle.std.proofs.Common.{◌≡◌, ℕ, ◌+◌, ◌⊎◌, inl, inr, List, [], ◌∷◌, ◌++◌, take, refl, sym, ◌∙◌, ap, subst, arith, Result, Ok, Err, IfOk, IfErr, cond}
+use Rattle.std.proofs.lemmas.List.Sums.{sum_by-append}
+use Rattle.std.specs.Result.{is_err}
 use Rattle.vt_key.specs.declared.fault.Fault.{Fault}
 use Rattle.vt_key.specs.declared.fault.Fault.TheVariants.{Memory, NotLawful, Closed, Exhausted}
 use Rattle.vt_model.specs.Handler.{Handlers}
@@ -14,12 +16,6 @@ use Rattle.vt_steps.proofs.steps.Refusals.{refusals as refusal-laws}
 use Rattle.vt_kernel.specs.Refusals.{IsSpent}
 use Rattle.vt_world.specs.Held.{HeldWorld, world_memory, StandsForWorld}
 use Rattle.vt_world.specs.Calls.{IsStepOf, IsAnsweredBy, refusals}
-
--- one more answer
-refusals-more : (xs : List (Result Reply Fault)) (x : Result Reply Fault) → refusals (xs ++ x ∷ []) ≡ refusals xs + refusals (x ∷ [])
-refusals-more [] x = let z : refusals (x ∷ []) ≡ 0 + refusals (x ∷ []) = omega arith in z
-refusals-more (Ok reply ∷ xs) x = refusals-more xs x
-refusals-more (Err fault ∷ xs) x = let rest = refusals-more xs x in omega (arith, rest)
 
 module _ {S P : Type 0} (sim : Simulation S P) where
   answers-more : (world : World P) (steps : List Step) (step : Step) → answers sim world (steps ++ step ∷ []) ≡ answers sim world steps ++ (next sim (run sim world steps) step).answer ∷ []
@@ -45,7 +41,7 @@ module _ {S P : Type 0} (sim : Simulation S P) where
   pub counts-more : (steps : List Step) (step : Step) (answer : Result Reply Fault) (old mid new : WorldMemory S P) → RunsTo sim steps old mid → GoesOn sim step answer mid new → (world : World P) → StandsFor sim old world
       → refusals (answers sim world (steps ++ step ∷ [])) ≡ refusals (answers sim world steps) + refusals (answer ∷ [])
   counts-more steps step answer old mid new runs goes world h =
-      ap refusals (answers-more world steps step) ∙ refusals-more (answers sim world steps) (next sim (run sim world steps) step).answer
+      ap refusals (answers-more world steps step) ∙ sum_by-append (λ (a : Result Reply Fault). cond (is_err a) 1 0) (answers sim world steps) ((next sim (run sim world steps) step).answer ∷ [])
       ∙ ap (λ a. refusals (answers sim world steps) + refusals (a ∷ [])) (goes (run sim world steps) (runs world h)).0
 
 module _ {M S P K : Type 0} (handlers : Handlers S P K) (step : Step) (old new : HeldWorld M S P K) (fault : Fault) (is : IsStepOf handlers step old new (Err fault)) where

@@ -61,10 +61,8 @@ module _ {M S P K : Type 0} (meaning : M → Handlers S P K) {held seen : HeldWo
         same_config = same_config;
         announced = up.0;
         floor = up.1;
-        closed = λ shut. record {
-          refused = λ on_book. ∥∥₁_elim inside.is_reached (Prim.hlevel props) (done-closed (meaning held.model) held shut step reply new goes on_book);
-          stays = ∥∥₁_elim inside.is_reached (Prim.hlevel props) (book-stays (meaning held.model) held shut step reply new goes);
-        };
+        closed = λ shut on_book. ∥∥₁_elim inside.is_reached (Prim.hlevel props) (done-closed (meaning held.model) held shut step reply new goes on_book);
+        stays = λ shut. ∥∥₁_elim inside.is_reached (Prim.hlevel props) (book-stays (meaning held.model) held shut step reply new goes);
       })
 
   -- a step is refused, and why
@@ -84,10 +82,8 @@ module _ {M S P K : Type 0} (meaning : M → Handlers S P K) {held seen : HeldWo
         same_config = ap (λ (v : HeldWorld M S P K). v.config) same;
         announced = subst (λ (v : HeldWorld M S P K). TimeAtMost held.board.announced v.board.announced) (sym same) (le_refl _);
         floor = subst (λ (v : HeldWorld M S P K). TimeAtMost (floor_held held) (floor_held v)) (sym same) (le_refl _);
-        closed = λ shut. record {
-          refused = λ on_book. ap Err is ∙ ∥∥₁_elim inside.is_reached (Prim.hlevel props) (refused-closed (meaning held.model) held shut step fault why on_book);
-          stays = ap (λ (v : HeldWorld M S P K). v.book) same;
-        };
+        closed = λ shut on_book. ap Err is ∙ ∥∥₁_elim inside.is_reached (Prim.hlevel props) (refused-closed (meaning held.model) held shut step fault why on_book);
+        stays = λ shut. ap (λ (v : HeldWorld M S P K). v.book) same;
       })
 
   -- a step is refused as the definitions refuse it

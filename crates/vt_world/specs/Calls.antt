@@ -1,6 +1,7 @@
 -- What the calls of a world answer, by the steps of the definitions.
-use Rattle.std.specs.Prelude.{◌≡◌, ℕ, ◌+◌, ◌≤◌, IsTrue, List, [], ◌∷◌, ◌++◌, map, Some, Result, Ok, Err, IfOk, IfErr}
-use Rattle.std.specs.List.{flat_map}
+use Rattle.std.specs.Prelude.{◌≡◌, ℕ, ◌≤◌, ◌⊎◌, IsTrue, List, [], ◌∷◌, ◌++◌, map, Result, Ok, Err, IfOk, IfErr}
+use Rattle.std.specs.List.{flat_map, count_by}
+use Rattle.std.specs.Result.{is_err}
 use Rattle.vt_key.specs.Times.{Time, TimeAtMost}
 use Rattle.vt_key.specs.declared.fault.Fault.{Fault}
 use Rattle.vt_key.specs.declared.fault.Fault.TheVariants.{Closed}
@@ -8,11 +9,11 @@ use Rattle.vt_model.specs.Handler.{Handlers}
 use Rattle.vt_model.specs.Simulation.{simulation_of}
 use Rattle.vt_model.specs.Settings.{end_of}
 use Rattle.vt_steps.specs.declared.step.Step.{Step}
+use Rattle.vt_steps.specs.declared.step.Step.TheVariants.{Commit, Close}
 use Rattle.vt_steps.specs.declared.step.Reply.{Reply}
 use Rattle.vt_steps.specs.Letters.{least_time}
 use Rattle.vt_steps.specs.World.{World, book_floor}
 use Rattle.vt_steps.specs.Next.{next}
-use Rattle.vt_steps.specs.Cells.{cell_of, book_cell}
 use Rattle.vt_steps.specs.StandsFor.{GoesOn}
 use Rattle.vt_kernel.specs.Guards.{held_letters}
 use Rattle.vt_kernel.specs.Refusals.{PassesLimit, IsStepRefusal}
@@ -28,14 +29,14 @@ module _ {M S P K : Type 0} where
   abbrev pub floor_held : HeldWorld M S P K → Time
   floor_held held = book_floor (end_of held.config) held.book
 
--- a closed book and a step: a commit or a close is refused as closed, and whatever the step is, the book stays as it is
-pub record LeavesClosedBook {M S P K : Type 0} (step : Step) (old new : HeldWorld M S P K) (result : Result Reply Fault) : Type 0 where
-  pub refused : cell_of step ≡ Some book_cell → result ≡ Err Closed
-  pub stays : new.book ≡ old.book
+-- a commit or a close
+abbrev pub IsOfBook : Step → Type 0
+IsOfBook step = (step ≡ Close) ⊎ ((w : ℕ) × (step ≡ Commit w))
 
 -- what a call that does a step of a world answers and leaves: where it is done, it was lawful and answered so, the world goes
 -- on by it, and no counter that it raises is past its limit; where it is refused, it says why, and all is as it was. The model
--- and the config stay, neither the announced time nor the book's floor falls, and a closed book stays closed
+-- and the config stay, and neither the announced time nor the book's floor falls. A closed book stays as it is, and refuses a
+-- commit and a close as closed
 pub record IsStepOf {M S P K : Type 0} (handlers : Handlers S P K) (step : Step) (old new : HeldWorld M S P K) (result : Result Reply Fault) : Type 0 where
   pub done : IfOk result (λ reply. GoesOn (simulation_of handlers old.config) step (Ok reply) (world_memory handlers old) (world_memory handlers new))
   pub within : (world : World P) → StandsForWorld handlers old world
@@ -46,13 +47,12 @@ pub record IsStepOf {M S P K : Type 0} (handlers : Handlers S P K) (step : Step)
   pub same_config : new.config ≡ old.config
   pub announced : TimeAtMost old.board.announced new.board.announced
   pub floor : TimeAtMost (floor_held old) (floor_held new)
-  pub closed : IsTrue old.book.is_closed → LeavesClosedBook step old new result
+  pub closed : IsTrue old.book.is_closed → IsOfBook step → result ≡ Err Closed
+  pub stays : IsTrue old.book.is_closed → new.book ≡ old.book
 
 -- how many of these answers are refusals
 abbrev pub refusals : List (Result Reply Fault) → ℕ
-refusals [] = 0
-refusals (Ok reply ∷ answers) = refusals answers
-refusals (Err fault ∷ answers) = 1 + refusals answers
+refusals answers = count_by is_err answers
 
 -- a world goes on by a step, lawful or not, and its answer is so many refusals: none or one
 pub record IsAnsweredBy {M S P K : Type 0} (handlers : Handlers S P K) (step : Step) (old new : HeldWorld M S P K) (more : ℕ) : Type 0 where

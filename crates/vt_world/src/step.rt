@@ -4,12 +4,11 @@ ghost use Rattle.std.specs.Prelude.{◌≡◌, ◌⊎◌, IsTrue, Some, Err, tak
 ghost use Rattle.vt_key.specs.Times.{TimeAtMost};
 ghost use Rattle.vt_key.specs.declared.fault.Fault.TheVariants.{NotLawful, Closed};
 ghost use Rattle.vt_model.specs.Simulation.{simulation_of};
-ghost use Rattle.vt_steps.specs.Cells.{cell_of, book_cell};
 ghost use Rattle.vt_steps.specs.Next.{answers};
 ghost use Rattle.vt_steps.specs.StandsFor.{RunsTo};
 ghost use Rattle.vt_kernel.specs.Refusals.{IsSpent};
 ghost use Rattle.vt_world.specs.Held.{world_memory, StandsForWorld};
-ghost use Rattle.vt_world.specs.Calls.{IsStepOf, IsAnsweredBy, floor_held, refusals};
+ghost use Rattle.vt_world.specs.Calls.{IsStepOf, IsOfBook, IsAnsweredBy, floor_held, refusals};
 
 use crate::world::World;
 use std::alloc::Global;
@@ -37,7 +36,7 @@ impl<'m, M: EventModel> World<'m, M> {
         ensures step { IsStepOf (M.handlers self.old.model) step.now self.old self.new result }
         ensures announced { TimeAtMost self.old.board.announced self.new.board.announced }
         ensures floor { TimeAtMost (floor_held self.old) (floor_held self.new) }
-        ensures closed { IsTrue self.old.book.is_closed → cell_of step.now ≡ Some book_cell → result ≡ Err Closed }
+        ensures closed { IsTrue self.old.book.is_closed → IsOfBook step.now → result ≡ Err Closed }
         ensures stays { IsTrue self.old.book.is_closed → self.new.book ≡ self.old.book }
     {
         match *step {
