@@ -26,9 +26,9 @@ const MOST_SPINS: u32 = 32;
 /// How many pauses a worker makes before each such try.
 const PAUSES: u32 = 20;
 
-/// The most looks of a worker at its bell before it sleeps. They take some 20 to 40 microseconds, in which another worker makes one
-/// or two turns. It mostly waits for no more than that.
-const MOST_LOOKS: u32 = 20_000;
+/// The most looks of a worker at its bell before it sleeps. After each look the processor pauses, for 5 to 50 nanoseconds by its kind.
+/// So they take some 20 to 200 microseconds, in which another worker makes a turn or more. It mostly waits for no more than that.
+const MOST_LOOKS: u32 = 4_000;
 
 /// The fewest looks of a worker at its bell before it sleeps. They are few, so that on a busy machine it sleeps nearly at once.
 const LEAST_LOOKS: u32 = 100;
