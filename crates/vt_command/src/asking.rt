@@ -1,10 +1,10 @@
 //! Requests: what a command line asks for.
 
-ghost use Rattle.std.specs.Prelude.{IfOk, IfErr, IfSome, map, codes};
-ghost use Rattle.clap.specs.Words.{Text};
+ghost use Rattle.std.specs.Prelude.{IfOk, IfErr, IfSome, map, codes, string_bytes};
 ghost use Rattle.vt_options.specs.Asked.{IsAsked};
+ghost use Rattle.vt_options.specs.Hints.{IsHintOn};
 ghost use Rattle.vt_command.specs.Table.{twarp_models};
-ghost use Rattle.vt_command.specs.Requests.{IsRefusedAs, IsRefusedBy};
+ghost use Rattle.vt_command.specs.Requests.{IsRefusedBy, twarp_line};
 
 use crate::table::{MODELS, TEXTS};
 use std::alloc::Global;
@@ -27,7 +27,7 @@ pub fn read_request<S: AsStr>(alloc: Global, words: &[S]) -> Result<Request, Fau
 /// A line for a terminal on a command line that [`read_request`] refuses: which word it was, and what is allowed. There is one only
 /// for words that have no meaning or a bad option. None: the command line isn't refused, or memory was.
 pub fn hint<S: AsStr>(alloc: Global, words: &[S]) -> Option<String>
-    ensures { IfSome result (λ line. (name : Text) × IsRefusedAs (map S.text words.now) name) }
+    ensures { IfSome result (λ line. IsHintOn (codes "twarp") twarp_line (map S.text words.now) (string_bytes line)) }
 {
     vt_options::hint(alloc, &TEXTS, &MODELS, words)
 }

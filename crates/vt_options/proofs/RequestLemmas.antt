@@ -28,8 +28,9 @@ given_is app words m inner walked rows name =
     first_value-rows (found_of inner) name ∙ rows_there (subcommand_rows_of m) (rows_of (found_of inner)) name rows
     ∙ ap (option_and_then (λ (p : Text × List Row). first_of name p.1)) walked
 
-pub named : (app : App) (words : List Text) (m : ArgMatches) (name : Text) → subcommand_rows_of m ≡ subcommand_of app words → Some name ≡ subcommand_name_of m → subcommand_by app words ≡ Some name
-named app words m name walked e = ap (option_map (λ (s : Text × List Row). s.0)) (sym walked) ∙ name_of_rows m ∙ sym e
+-- the subcommand that a parse met, if it met one, is the one that the words name
+pub met : (app : App) (words : List Text) (m : ArgMatches) (found : Option Text) → subcommand_rows_of m ≡ subcommand_of app words → found ≡ subcommand_name_of m → subcommand_by app words ≡ found
+met app words m found walked e = ap (option_map (λ (s : Text × List Row). s.0)) (sym walked) ∙ name_of_rows m ∙ sym e
 
 -- a fault that names the first bad option refuses the words
 refused_by_name : (line : Line) (words : List Text) (fault : Fault) (bad : Option Text) → ((name : Text) → bad ≡ Some name → HasBadOptionOf line words name) → fault_number fault ≡ 7 → option_named fault ≡ bad → IsRefusedByOf line words fault

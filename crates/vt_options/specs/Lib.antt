@@ -5,3 +5,4 @@ pub mod Requests
 pub mod Own
 pub mod Asked
 pub mod Taken
+pub mod Hints

@@ -1,15 +1,16 @@
 //! What a terminal is told after a refusal: which word it was, and what is allowed.
 
-ghost use Rattle.std.specs.Prelude.{IfSome, map};
+ghost use Rattle.std.specs.Prelude.{◌≡◌, IfSome, map, string_bytes};
 ghost use Rattle.clap.specs.Words.{Text};
 ghost use Rattle.vt_options.specs.Own.{AllHaveDefaults, line_for, models_of};
-ghost use Rattle.vt_options.specs.Requests.{IsRefusedAsOf};
+ghost use Rattle.vt_options.specs.Hints.{IsHintOn, no_command, option_takes, parser_says};
 
 use crate::asking::{read_request, table_matches};
 use crate::line::ProgramTexts;
 use crate::own::{ModelTable, OwnOption};
 use crate::texts::{EVERY_MODEL, OptionText};
-use clap::{ArgMatches, Error};
+use clap::Error;
+use clap::error::ErrorKind;
 use std::alloc::Global;
 use std::convert::AsStr;
 use vt_key::Fault;
@@ -24,32 +25,41 @@ fn takes_of(options: &[OptionText], name: &str) -> Option<&'static str> {
     None
 }
 
-/// A line on an option that is refused: which word it was, and what it takes. Where there is no command, it says so. None where
-/// memory was refused, or the words give no such option a value.
+/// A line on an option that is refused: which word it was given, and what it takes. None: memory was refused.
 fn hint_on_option(
     alloc: Global,
     program: &str,
-    matches: &ArgMatches,
     name: &str,
-    takes: Option<&str>,
-) -> Option<String> {
-    let Some((_, inner)) = matches.subcommand() else {
-        return format!(in alloc;
-            "{program}: there is no command; {program} --help says what is allowed"
-        ).ok();
-    };
-    let word = inner.get_str(name)?;
-    let takes = takes?;
+    takes: &str,
+    word: &str,
+) -> Option<String>
+    ensures { IfSome result (λ line. string_bytes line ≡ option_takes program.now name.now takes.now word.now) }
+{
     format!(in alloc; "{program}: --{name} takes {takes}, not '{word}'").ok()
 }
 
-/// A line on words that have no meaning: what the parser says of them, and where to read what is allowed. None where memory
-/// was refused.
-fn hint_on_line(alloc: Global, program: &str, error: Error) -> Option<String> {
+/// A line on words without a command. None: memory was refused.
+fn hint_on_missing(alloc: Global, program: &str) -> Option<String>
+    ensures { IfSome result (λ line. string_bytes line ≡ no_command program.now) }
+{
+    format!(in alloc; "{program}: there is no command; {program} --help says what is allowed").ok()
+}
+
+/// A line on words that have no meaning: what the parser says of them, and where to read what is allowed. None: memory was refused.
+fn hint_on_words(alloc: Global, program: &str, said: &str) -> Option<String>
+    ensures { IfSome result (λ line. string_bytes line ≡ parser_says program.now said.now) }
+{
+    format!(in alloc; "{program}: {said}; {program} --help says what is allowed").ok()
+}
+
+/// The same, by the parser's error.
+fn hint_on_error(alloc: Global, program: &str, error: Error) -> Option<String>
+    ensures { IfSome result (λ line. (said : Text) × (string_bytes line ≡ parser_says program.now said)) }
+{
     let text = error.to_string(alloc).ok()?;
     let first = text.as_str().lines().next()?;
     let said = first.strip_prefix("error: ").unwrap_or(first);
-    format!(in alloc; "{program}: {said}; {program} --help says what is allowed").ok()
+    hint_on_words(alloc, program, said)
 }
 
 /// Which values an option of a model takes, where a table has it.
@@ -88,17 +98,24 @@ pub fn hint<S: AsStr>(
     words: &[S],
 ) -> Option<String>
     requires { AllHaveDefaults table.now.models.now }
-    ensures { IfSome result (λ line. (name : Text) × IsRefusedAsOf (line_for texts.now.name.now (models_of table.now)) (map S.text words.now) name) }
+    ensures { IfSome result (λ line. IsHintOn texts.now.name.now (line_for texts.now.name.now (models_of table.now)) (map S.text words.now) (string_bytes line)) }
 {
     let Err(Fault::BadOption(name)) = read_request(alloc, texts, table, words) else {
         return None;
     };
-    match table_matches(alloc, texts, table, words) {
-        Ok(matches) => {
-            let takes = table_takes(alloc, table, name);
-            let takes = takes.as_ref().map(|takes| takes.as_str());
-            hint_on_option(alloc, texts.name, &matches, name, takes)
+    let matches = match table_matches(alloc, texts, table, words) {
+        Ok(matches) => matches,
+        Err(error) => {
+            return match error.kind() {
+                ErrorKind::OutOfMemory => None,
+                _ => hint_on_error(alloc, texts.name, error),
+            };
         }
-        Err(error) => hint_on_line(alloc, texts.name, error),
-    }
+    };
+    let Some((_, inner)) = matches.subcommand() else {
+        return hint_on_missing(alloc, texts.name);
+    };
+    let word = inner.get_str(name)?;
+    let takes = table_takes(alloc, table, name)?;
+    hint_on_option(alloc, texts.name, name, takes.as_str(), word)
 }

@@ -2,7 +2,7 @@ use Rattle.std.proofs.Common.{◌≡◌, ◌≢◌, ◌∙◌, ap, sym, Some, co
 use Rattle.std.proofs.lemmas.Result.{err_from_is_err_and}
 use Rattle.vt_options.specs.Own.{app_for, line_for, models_of}
 use Rattle.vt_options.specs.Requests.{AreBy}
-use Rattle.vt_options.proofs.RequestLemmas.{given_is, named}
+use Rattle.vt_options.proofs.RequestLemmas.{given_is, met}
 use Rattle.vt_options.proofs.OwnLemmas.{run_given, replay_given, run_refused, replay_refused}
 use Rattle.vt_options.proofs.asking.request_of.Goals as goal
 
@@ -14,7 +14,7 @@ returns-in_ok-settings-clause-ok c = λ program words accepted walked.
     let name = c.in-Some.name.now in
     let same : name ≡ codes "run" = search rules in
     record {
-      run = record { accepted = accepted; subcommand = named app words m (codes "run") walked (ap Some (sym same) ∙ c.in-Some.ensures.name) };
+      run = record { accepted = accepted; subcommand = met app words m (Some (codes "run")) walked (ap Some (sym same) ∙ c.in-Some.ensures.name) };
       options = run_given models _ _ _ _ _ (given_is app words m c.in-Some.inner.now walked c.in-Some.ensures.rows) c.in_ok-settings.ensures.ok;
     }
 
@@ -25,7 +25,7 @@ returns-in_err-settings-clause-err c = λ program words accepted walked.
     let app = app_for program models in
     let name = c.in-Some.name.now in
     let same : name ≡ codes "run" = search rules in
-    let run : AreBy app (codes "run") words = record { accepted = accepted; subcommand = named app words m (codes "run") walked (ap Some (sym same) ∙ c.in-Some.ensures.name) } in
+    let run : AreBy app (codes "run") words = record { accepted = accepted; subcommand = met app words m (Some (codes "run")) walked (ap Some (sym same) ∙ c.in-Some.ensures.name) } in
     let p = err_from_is_err_and c.from_residual.result c.from_residual.ensures.1 in
     rw (p.1, p.2) (run_refused (line_for program models) words _ (given_is app words m c.in-Some.inner.now walked c.in-Some.ensures.rows) _ run c.in_err-settings.ensures.err)
 
@@ -37,7 +37,7 @@ returns-in_ok-settings-2-clause-ok c = λ program words accepted walked.
     let name = c.in-Some.name.now in
     let same : name ≡ codes "replay" = search rules in
     record {
-      replay = record { accepted = accepted; subcommand = named app words m (codes "replay") walked (ap Some (sym same) ∙ c.in-Some.ensures.name) };
+      replay = record { accepted = accepted; subcommand = met app words m (Some (codes "replay")) walked (ap Some (sym same) ∙ c.in-Some.ensures.name) };
       options = replay_given models _ _ _ _ _ (given_is app words m c.in-Some.inner.now walked c.in-Some.ensures.rows) c.in_ok-settings-2.ensures.ok;
     }
 
@@ -48,7 +48,7 @@ returns-in_err-settings-2-clause-err c = λ program words accepted walked.
     let app = app_for program models in
     let name = c.in-Some.name.now in
     let same : name ≡ codes "replay" = search rules in
-    let replay : AreBy app (codes "replay") words = record { accepted = accepted; subcommand = named app words m (codes "replay") walked (ap Some (sym same) ∙ c.in-Some.ensures.name) } in
+    let replay : AreBy app (codes "replay") words = record { accepted = accepted; subcommand = met app words m (Some (codes "replay")) walked (ap Some (sym same) ∙ c.in-Some.ensures.name) } in
     let p = err_from_is_err_and c.from_residual-in_err-settings-2.result c.from_residual-in_err-settings-2.ensures.1 in
     rw (p.1, p.2) (replay_refused (line_for program models) words _ (given_is app words m c.in-Some.inner.now walked c.in-Some.ensures.rows) _ replay c.in_err-settings-2.ensures.err)
 
@@ -57,7 +57,7 @@ returns-else-eq-2-clause-err c = λ program words accepted walked.
     let m = c.args.matches.now in
     let app = app_for program (models_of c.args.table.now) in
     let name = c.in-Some.name.now in
-    let is : _ = named app words m name walked c.in-Some.ensures.name in
+    let is : _ = met app words m (Some name) walked c.in-Some.ensures.name in
     let no_run : name ≢ codes "run" = search rules in
     let no_replay : name ≢ codes "replay" = search rules in
     inl (

@@ -1,17 +1,37 @@
-use Rattle.std.proofs.Common.{IfSome, Option, Some, None, map, subst}
+use Rattle.std.proofs.Common.{◌∙◌, ap, sym, inl, inr, None, map, option_map, subst}
+use Rattle.std.proofs.lemmas.Option.{IfSome_then}
 use Rattle.vt_key.specs.declared.fault.Fault.{Fault}
-use Rattle.vt_options.specs.Own.{line_for, models_of}
-use Rattle.vt_options.specs.Requests.{IsRefusedByOf}
+use Rattle.vt_options.specs.Own.{app_for, line_for, models_of}
+use Rattle.vt_options.specs.Requests.{IsRefusedByOf, IsRefusedAsOf}
+use Rattle.vt_options.proofs.RequestLemmas.{given_is, met}
+use Rattle.vt_options.proofs.hinting.hint.Given.{Over}
+use Rattle.vt_options.proofs.hinting.hint.Goals.{After-table_matches}
 use Rattle.vt_options.proofs.hinting.hint.Goals as goal
 
--- what holds of every value holds of the one that is there
-of_all : {V : Type 0} (P : V → Type 0) (r : Option V) → ((v : V) → P v) → IfSome r P
-of_all P (Some v) all = all v
-of_all P None all = tt
+-- the name under which the words are refused
+refused : (g : Over) (c : After-table_matches g) → IsRefusedAsOf (line_for c.args.texts.now.name.now (models_of c.args.table.now)) (map g.S.AsStr.text c.args.words.now) c.in-Err-BadOption.name.now
+refused g c =
+    let line = line_for c.args.texts.now.name.now (models_of c.args.table.now) in
+    subst (λ (fault : Fault). IsRefusedByOf line (map g.S.AsStr.text c.args.words.now) fault) c.in-Err-BadOption.field-0-is c.in-Err-BadOption.ensures.err
 
-pub returns-in-Ok : goal.returns-in-Ok
-returns-in-Ok g c =
-    let bad = c.in-Err-BadOption in
-    let a = c.args in
-    of_all _ c.hint_on_option.result
-    (λ line. (bad.name.now, subst (λ (fault : Fault). IsRefusedByOf (line_for a.texts.now.name.now (models_of a.table.now)) (map g.S.AsStr.text a.words.now) fault) bad.field-0-is bad.ensures.err))
+pub returns-in_default-subcommand : goal.returns-in_default-subcommand
+returns-in_default-subcommand g c =
+    let words = map g.S.AsStr.text c.args.words.now in
+    let app = app_for c.args.texts.now.name.now (models_of c.args.table.now) in
+    IfSome_then c.hint_on_missing.result c.hint_on_missing.ensures (λ line is. record {
+      name = c.in-Err-BadOption.name.now;
+      refused = refused g (goal.at.returns-in_default-subcommand g c).After-table_matches;
+      told = inr (inl (record { none = met app words c.in-Ok.matches None c.in-Ok.ensures.ok c.in_default-subcommand.ensures.name; text_is = is }));
+    })
+
+pub returns : goal.returns
+returns g c =
+    let words = map g.S.AsStr.text c.args.words.now in
+    let name = c.in-Err-BadOption.name.now in
+    let app = app_for c.args.texts.now.name.now (models_of c.args.table.now) in
+    let given = sym (given_is app words c.in-Ok.matches c.in-Some.inner.now c.in-Ok.ensures.ok c.in-Some.ensures.rows name) ∙ sym c.get_str.ensures ∙ ap (option_map (λ s. s.now)) c.in_ok-word.was in
+    IfSome_then c.hint_on_option.result c.hint_on_option.ensures (λ line is. record {
+      name = name;
+      refused = refused g (goal.at.returns g c).After-table_matches;
+      told = inl (record { takes = c.as_str.result.now; word = c.in_ok-word.word.now; given = given; text_is = is });
+    })

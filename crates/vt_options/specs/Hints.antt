@@ -1,0 +1,45 @@
+-- Lines for a terminal on a command line that is refused.
+use Rattle.std.specs.Prelude.{◌≡◌, ◌⊎◌, List, ◌++◌, Some, None, codes}
+use Rattle.clap.specs.Words.{Text}
+use Rattle.vt_options.specs.Line.{given_by, subcommand_by}
+use Rattle.vt_options.specs.Requests.{IsRefusedAsOf, IsUnreadableBy, Line}
+
+-- where to read what is allowed
+abbrev pub see_help : Text → Text
+see_help program = codes "; " ++ (program ++ codes " --help says what is allowed")
+
+-- there is no command
+abbrev pub no_command : Text → Text
+no_command program = program ++ (codes ": there is no command" ++ see_help program)
+
+-- what the parser says of words that it refuses
+abbrev pub parser_says : Text → Text → Text
+parser_says program said = program ++ (codes ": " ++ (said ++ see_help program))
+
+-- which values an option takes, and the word that it was given
+abbrev pub option_takes : Text → Text → Text → Text → Text
+option_takes program name takes word = program ++ (codes ": --" ++ (name ++ (codes " takes " ++ (takes ++ (codes ", not '" ++ (word ++ codes "'"))))))
+
+-- a line tells the option of this name, and the word that the words give it
+pub record TellsWord (program : Text) (line : Line) (words : List Text) (name text : Text) : Type 0 where
+  pub takes : Text
+  pub word : Text
+  pub given : given_by line.app words name ≡ Some word
+  pub text_is : text ≡ option_takes program name takes word
+
+-- a line tells that there is no command
+pub record TellsNoCommand (program : Text) (line : Line) (words : List Text) (text : Text) : Type 0 where
+  pub none : subcommand_by line.app words ≡ None
+  pub text_is : text ≡ no_command program
+
+-- a line tells what the parser says of words that it can't read
+pub record TellsUnreadable (program : Text) (line : Line) (words : List Text) (text : Text) : Type 0 where
+  pub unreadable : IsUnreadableBy line.app words
+  pub said : Text
+  pub text_is : text ≡ parser_says program said
+
+-- a line tells why the words are refused under a name
+pub record IsHintOn (program : Text) (line : Line) (words : List Text) (text : Text) : Type 0 where
+  pub name : Text
+  pub refused : IsRefusedAsOf line words name
+  pub told : TellsWord program line words name text ⊎ (TellsNoCommand program line words text ⊎ TellsUnreadable program line words text)
