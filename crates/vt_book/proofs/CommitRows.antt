@@ -12,11 +12,12 @@ use Rattle.vt_model.specs.Simulation.{Simulation, Triple}
 use Rattle.vt_steps.specs.declared.step.Step.{Step}
 use Rattle.vt_steps.specs.Rows.{rows_from}
 use Rattle.vt_steps.specs.World.{Entry, LogicalProcess, Part, entry_events, triple_after, process_at}
-use Rattle.vt_steps.specs.PartSteps.{is_below, ripe, ripe_rows, rows_of_processes, rows_of_commit}
+use Rattle.vt_steps.specs.PartSteps.{is_below, ripe, ripe_rows, rows_of_commit}
 use Rattle.vt_steps.specs.Next.{reached}
 use Rattle.vt_steps.proofs.lists.Lists.{Every, every-append, every-take, every-both, every-map}
 use Rattle.vt_steps.proofs.book.BookRows.{AreNotBefore}
 use Rattle.vt_steps.proofs.book.ReachedBooks.{reached-booked}
+use Rattle.vt_steps.proofs.steps.CommitRows.{rows_of_processes}
 
 -- a row's time is not before one time, and is before another
 abbrev pub IsBetween : Time → Time → Row → Type 0

@@ -11,11 +11,11 @@ use Rattle.vt_model.specs.declared.rows.Row.{Row}
 use Rattle.vt_model.specs.Sequential.{rows_before, records_of}
 use Rattle.vt_steps.specs.BookSteps.{may_commit}
 use Rattle.vt_steps.specs.Rows.{rows_in_order}
-use Rattle.vt_steps.specs.World.{least_floor}
+use Rattle.vt_steps.specs.Letters.{least_of}
 use Rattle.vt_steps.proofs.lists.Tests.{both_pass}
 use Rattle.vt_book.specs.Books.{is_within, are_within}
 use Rattle.vt_book.specs.Kept.{AreSameRows, AreNotBefore, IsKept}
-use Rattle.vt_book.proofs.FloorLemmas.{not-after}
+use Rattle.vt_steps.proofs.time.Floors.{floor-at}
 use Rattle.vt_book.proofs.RowLists.{same-before, same-none, one-order, first-in-order, every-not-before, every-before, late-rows, order-apart, before-twice}
 
 -- ---- rows that are taken out
@@ -62,7 +62,7 @@ pub record IsLawful (end : Time) (floors : List Time) (w : ℕ) (rows : List Row
   pub handed_in : Time
   pub at : slice_get floors w ≡ Some handed_in
   pub rising : handed_in ≤ floor
-  pub late : rows_before (least_floor end floors) rows ≡ []
+  pub late : rows_before (least_of end floors) rows ≡ []
 
 pub lawful : (end : Time) (floors : List Time) (w : ℕ) (rows : List Row) (floor : Time) → (may_commit (slice_get floors w) floor && (time_at_most floor end && are_within (slice_get floors w) floor rows)) ≡ true → IsLawful end floors w rows floor
 lawful end floors w rows floor h = known (slice_get floors w) refl h
@@ -76,7 +76,7 @@ lawful end floors w rows floor h = known (slice_get floors w) refl h
           handed_in = handed_in;
           at = is;
           rising = (let l : handed_in ≤ floor = grind (arith, nat_tests) in l);
-          late = late-within (least_floor end floors) handed_in floor rows (not-after end floors w handed_in is) (both_pass (time_at_most floor end) _ both.1).1;
+          late = late-within (least_of end floors) handed_in floor rows (floor-at end floors w handed_in is) (both_pass (time_at_most floor end) _ both.1).1;
         }
 
 -- ---- what is kept after it

@@ -5,7 +5,8 @@ ghost use Rattle.std.specs.List.{list_all};
 ghost use Rattle.vt_key.specs.declared.fault.Fault.TheVariants.{Memory};
 ghost use Rattle.vt_key.specs.declared.limits.TheConstants.{MAX_WORKERS};
 ghost use Rattle.vt_model.specs.declared.rows.Row.{Row as RowValue};
-ghost use Rattle.vt_steps.specs.World.{opening_book, book_floor, book_records, least_floor};
+ghost use Rattle.vt_steps.specs.World.{opening_book, book_floor, book_records};
+ghost use Rattle.vt_steps.specs.Letters.{least_of};
 ghost use Rattle.vt_steps.specs.BookSteps.{with_rows, closed_book};
 ghost use Rattle.vt_book.specs.Books.{may_hand, are_within, is_within, refusal_of_hand, refusal_of_close};
 
@@ -33,7 +34,7 @@ pub struct Book {
 }
 
 impl Model for Book {
-    ghost use Rattle.vt_steps.specs.World.{least_floor};
+    ghost use Rattle.vt_steps.specs.Letters.{least_of};
     ghost use Rattle.vt_book.specs.Books.{RunBook};
     ghost use Rattle.vt_book.specs.Kept.{IsKept};
 
@@ -44,7 +45,7 @@ impl Model for Book {
       book = record { rows = b.history.items; floors = b.floors; is_closed = b.closed };
     } };
 
-    ghost invariant = { λ b. IsKept (least_floor b.end b.floors) b.history.items b.shown.items b.waiting.items };
+    ghost invariant = { λ b. IsKept (least_of b.end b.floors) b.history.items b.shown.items b.waiting.items };
 }
 
 impl Book {

@@ -3,7 +3,7 @@
 ghost use Rattle.std.specs.Prelude.{◌≡◌, ◌<◌, ◌≤◌, length, replicate, slice_get, slice_set};
 ghost use Rattle.vt_key.specs.Times.{opening_time};
 ghost use Rattle.vt_key.specs.declared.limits.TheConstants.{MAX_WORKERS};
-ghost use Rattle.vt_steps.specs.World.{least_floor};
+ghost use Rattle.vt_steps.specs.Letters.{least_of};
 
 use std::marker::Model;
 use vt_key::{MAX_WORKERS, When};
@@ -63,7 +63,7 @@ impl Floors {
 
     /// The least floor, or the end of the run if there is no worker.
     pub(crate) fn least(&self, end: When) -> When
-        ensures { result ≡ least_floor end self.now }
+        ensures { result ≡ least_of end self.now }
     {
         least(&self.floors[..self.workers as usize], end)
     }
@@ -71,7 +71,7 @@ impl Floors {
 
 /// The least of these times and the end.
 fn least(times: &[When], end: When) -> When
-    ensures { result ≡ least_floor end times.now }
+    ensures { result ≡ least_of end times.now }
 {
     let mut least = end;
     for time in times {

@@ -14,7 +14,7 @@ use Rattle.vt_steps.specs.Laws.{IsAny}
 use Rattle.vt_steps.proofs.steps.CellLemmas.{next-acts_on_one_cell}
 use Rattle.vt_steps.proofs.steps.LocalLeads.{parts-put}
 use Rattle.vt_steps.proofs.lists.Places.{get-put_same}
-use Rattle.vt_kernel.specs.Refusals.{IsPart, PassesLimit, IsStepRefusal}
+use Rattle.vt_kernel.specs.Refusals.{PassesLimit, IsStepRefusal}
 use Rattle.vt_cells.specs.Calls.{PassesThere, IsCellRefusal}
 
 -- each of two follows from the other
@@ -24,7 +24,7 @@ Both A B = (A → B) × (B → A)
 module _ {S P : Type 0} (sim : Simulation S P) where
   -- what holds of the part after a step, and of the part of the world after it
   of-part : (world : World P) (v w : ℕ) (name : CellName) (part : Part P) (acted : Acted P) (Q : Part P → Type 0) → v ≡ w → slice_get world.parts w ≡ Some part
-      → Both (Q acted.part) ((q : Part P) × IsPart sim (put_back world w name acted).world v q × Q q)
+      → Both (Q acted.part) ((q : Part P) × (slice_get (put_back world w name acted).world.parts v ≡ Some q) × Q q)
   of-part world v w name part acted Q same there =
       let after = (put_back world w name acted).world in
       let at : slice_get after.parts v ≡ Some acted.part =

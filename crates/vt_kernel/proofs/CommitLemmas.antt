@@ -14,8 +14,9 @@ use Rattle.vt_model.specs.Handler.{Handlers}
 use Rattle.vt_model.specs.Simulation.{Simulation, simulation_of}
 use Rattle.vt_steps.specs.Letters.{Counts}
 use Rattle.vt_steps.specs.World.{LogicalProcess, Part, process_at}
-use Rattle.vt_steps.specs.PartSteps.{process_after_commit, part_after_commit, ripe_rows, rows_of_processes, is_below}
+use Rattle.vt_steps.specs.PartSteps.{process_after_commit, part_after_commit, ripe_rows, is_below}
 use Rattle.vt_steps.specs.StandsFor.{StandsForProcess, StandForProcesses, entry_of}
+use Rattle.vt_steps.proofs.steps.CommitRows.{rows_of_processes}
 use Rattle.vt_lp.specs.Held.{HeldProcess, process_memory, remembered, StandsFor as ProcessStandsFor}
 use Rattle.vt_contest.specs.declared.contest.Contest.{Contest}
 use Rattle.vt_contest.specs.Contest.{IsContestOf}

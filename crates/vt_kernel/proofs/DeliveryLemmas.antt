@@ -3,7 +3,7 @@ use Rattle.std.proofs.Common.{◌≡◌, ℕ, suc, ◌/◌, ◌%◌, inl, inr, B
 use Rattle.std.specs.List.{All, find, remove}
 use Rattle.vt_key.specs.Queues.{without_first}
 use Rattle.std.proofs.lemmas.List.Elements.{All-cons, All-head, All-tail, All-append, All-take, All-drop}
-use Rattle.std.specs.Option.{option_map}
+use Rattle.std.specs.Option.{option_map, option_and_then}
 use Rattle.std.proofs.lemmas.Bool.Decides.{eqb_tells}
 use Rattle.vt_key.specs.declared.letter.Letter.{Letter}
 use Rattle.vt_key.specs.declared.letter.Mail.{Mail}
@@ -15,7 +15,7 @@ use Rattle.vt_steps.specs.declared.step.Step.TheVariants as step
 use Rattle.vt_steps.specs.Letters.{Counts}
 use Rattle.vt_steps.specs.World.{LogicalProcess, Part}
 use Rattle.vt_steps.specs.ProcessSteps.{accept_process}
-use Rattle.vt_steps.specs.PartSteps.{at_process, with_effect, is_for, home, home_letter, accept, accept_mail}
+use Rattle.vt_steps.specs.PartSteps.{at_process, with_effect, is_for, home, accept, deliver}
 use Rattle.vt_lp.specs.Held.{HeldProcess, IsWithinRun, StandsFor as ProcessStandsFor}
 use Rattle.vt_lp.specs.Guards.{holds_letter, IsDone as ProcessIsDone}
 use Rattle.vt_lp.proofs.AcceptLemmas.{accepted, accept-by}
@@ -94,7 +94,7 @@ module _ {S P K : Type 0} (handlers : Handlers S P K) (held : HeldWorker S P K) 
       ≡ at_own (simulation_of handlers held.config) held.worker letter.event.dest (at_process (accept_process letter) (letter.event.dest / held.config.workers) part-letter-left)
   home-is {letter} there own_letter =
       ap (λ (b : Bool). if b then home (simulation_of handlers held.config) held.worker part else None) (same-worker held.worker)
-      ∙ ap (home_letter (simulation_of handlers held.config) held.worker part) (ap (find (is_for (simulation_of handlers held.config) held.worker)) h.outbox ∙ there)
+      ∙ ap (option_and_then (deliver (simulation_of handlers held.config) part-letter-left)) (ap (find (is_for (simulation_of handlers held.config) held.worker)) h.outbox ∙ there)
       ∙ sym (own (simulation_of handlers held.config) held.worker letter.event.dest (at_process (accept_process letter) (letter.event.dest / held.config.workers) part-letter-left) own_letter)
 
   pub home-done : {letter : Letter P} {place : ℕ} {q : HeldProcess S P K} (new : HeldProcess S P K) → find (is_for (simulation_of handlers held.config) held.worker) held.outbox ≡ Some letter
@@ -116,7 +116,7 @@ module _ {S P K : Type 0} (handlers : Handlers S P K) (held : HeldWorker S P K) 
       → local_step (simulation_of handlers held.config) held.worker (step.Home held.worker) part ≡ None
   home-nothing none =
       ap (λ (b : Bool). if b then home (simulation_of handlers held.config) held.worker part else None) (same-worker held.worker)
-      ∙ ap (home_letter (simulation_of handlers held.config) held.worker part) (ap (find (is_for (simulation_of handlers held.config) held.worker)) h.outbox ∙ none)
+      ∙ ap (option_and_then (deliver (simulation_of handlers held.config) part-letter-left)) (ap (find (is_for (simulation_of handlers held.config) held.worker)) h.outbox ∙ none)
 
   -- ---- Accept at place i
 
@@ -137,7 +137,7 @@ module _ {S P K : Type 0} (handlers : Handlers S P K) (held : HeldWorker S P K) 
         ≡ at_own (simulation_of handlers held.config) held.worker mail.letter.event.dest (at_process (accept_process mail.letter) (mail.letter.event.dest / held.config.workers) part-mail-left)
     accept-is {mail} there own_letter =
         ap (λ (b : Bool). if b then accept (simulation_of handlers held.config) i part else None) (same-worker held.worker)
-        ∙ ap (accept_mail (simulation_of handlers held.config) i part) (ap (λ ms. slice_get ms i) h.arrived ∙ there)
+        ∙ ap (option_and_then (λ (mail : Mail P). deliver (simulation_of handlers held.config) part-mail-left mail.letter)) (ap (λ ms. slice_get ms i) h.arrived ∙ there)
         ∙ sym (own (simulation_of handlers held.config) held.worker mail.letter.event.dest (at_process (accept_process mail.letter) (mail.letter.event.dest / held.config.workers) part-mail-left) own_letter)
 
     pub accept-done : {mail : Mail P} {place : ℕ} {q : HeldProcess S P K} (new : HeldProcess S P K) → slice_get held.arrived i ≡ Some mail
@@ -171,7 +171,7 @@ module _ {S P K : Type 0} (handlers : Handlers S P K) (held : HeldWorker S P K) 
     pub accept-nothing : slice_get held.arrived i ≡ None → local_step (simulation_of handlers held.config) held.worker (step.Accept held.worker i) part ≡ None
     accept-nothing none =
         ap (λ (b : Bool). if b then accept (simulation_of handlers held.config) i part else None) (same-worker held.worker)
-        ∙ ap (accept_mail (simulation_of handlers held.config) i part) (ap (λ ms. slice_get ms i) h.arrived ∙ none)
+        ∙ ap (option_and_then (λ (mail : Mail P). deliver (simulation_of handlers held.config) part-mail-left mail.letter)) (ap (λ ms. slice_get ms i) h.arrived ∙ none)
 
 -- a letter that was found in the outbox is for one of the worker's processes, before the end of the run
 pub found-in : {S P K : Type 0} {config : Config} {w : ℕ} {processes : List (HeldProcess S P K)} {outbox : HeldOutbox P} {arrived : List (Mail P)} {sent got : Counts} {serial : ℕ} {contest : Contest}

@@ -39,6 +39,13 @@ module _ {S P K : Type 0} {config : Config} {w : ℕ} {processes : List (HeldPro
   pub was-in-contest : {place : ℕ} {old : HeldProcess S P K} (new : HeldProcess S P K) {now : List (HeldProcess S P K)} → slice_get processes place ≡ Some old → now ≡ slice_set processes place new → WasContestOf place now contest
   was-in-contest {place} {old} new {now} at is = record { process = old; was = contest-before processes now place old new contest at is h.in_contest }
 
+  -- so once it has changed it may enter the contest again
+  pub may-enter : {p place : ℕ} {old : HeldProcess S P K} (new : HeldProcess S P K) {now : List (HeldProcess S P K)} → IsOwnPlace config w p place → slice_index_or processes place old ≡ old → now ≡ slice_set processes place new
+      → (place < length now) × WasContestOf place now contest
+  may-enter new own found is =
+      let at = process-there own found in
+      (still-there processes new at is, was-in-contest new at is)
+
   -- a letter for one of the worker's processes, before the end of the run, and the place of that process
   pub record IsOwnLetter (letter : Letter P) (place : ℕ) : Type 0 where
     pub own : IsOwnPlace config w letter.event.dest place

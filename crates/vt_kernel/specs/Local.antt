@@ -7,8 +7,7 @@ use Rattle.vt_model.specs.Simulation.{Simulation}
 use Rattle.vt_steps.specs.declared.step.Step.{Step}
 use Rattle.vt_steps.specs.declared.step.Step.TheVariants.{Undo, Cancel}
 use Rattle.vt_steps.specs.World.{Part}
-use Rattle.vt_steps.specs.PartSteps.{act_locally}
-use Rattle.vt_steps.specs.Cells.{worker_of}
+use Rattle.vt_steps.specs.Cells.{worker_of, act_locally}
 
 module _ {S P : Type 0} (sim : Simulation S P) (w : ℕ) where
   -- a step on the part of this worker, where that is w; no step of w is lawful at another's part

@@ -1,5 +1,5 @@
 -- Why a step of a world is refused: as the definitions refuse it, or since a counter or memory is spent.
-use Rattle.std.specs.Prelude.{◌≡◌, ℕ, ◌<◌, ◌⊎◌, ◌/◌, ◌%◌, Some, Ok, Err, slice_get}
+use Rattle.std.specs.Prelude.{◌≡◌, ◌<◌, ◌⊎◌, ◌/◌, ◌%◌, Some, Ok, Err, slice_get}
 use Rattle.vt_key.specs.declared.limits.TheConstants.{MAX_COUNT}
 use Rattle.vt_key.specs.declared.fault.Fault.{Fault}
 use Rattle.vt_key.specs.declared.fault.Fault.TheVariants.{Memory, Exhausted}
@@ -13,18 +13,14 @@ use Rattle.vt_steps.specs.Next.{next}
 use Rattle.vt_lp.specs.Guards.{number_of}
 
 module _ {S P : Type 0} (sim : Simulation S P) where
-  -- this is the part of worker w of a world
-  abbrev pub IsPart : World P → ℕ → Part P → Type 0
-  IsPart world w part = slice_get world.parts w ≡ Some part
-
   -- a counter that the step raises is past its limit in the world after it: the send number of the process that executed, or
   -- its worker's serial; how much mail of its colour the worker sent; how much of either colour it got; the number of rounds
   abbrev pub PassesLimit : Step → World P → Type 0
   PassesLimit (Execute p) after =
-      (part : Part P) × IsPart after (p % sim.workers) part
+      (part : Part P) × (slice_get after.parts (p % sim.workers) ≡ Some part)
       × ((MAX_COUNT < part.serial) ⊎ ((process : LogicalProcess P) × (slice_get part.processes (p / sim.workers) ≡ Some process) × (MAX_COUNT < number_of sim p process)))
-  PassesLimit (Send w v) after = (part : Part P) × IsPart after w part × (MAX_COUNT < count_of part.sent part.colour)
-  PassesLimit (Fetch w) after = (part : Part P) × IsPart after w part × ((MAX_COUNT < part.got.white) ⊎ (MAX_COUNT < part.got.red))
+  PassesLimit (Send w v) after = (part : Part P) × (slice_get after.parts w ≡ Some part) × (MAX_COUNT < count_of part.sent part.colour)
+  PassesLimit (Fetch w) after = (part : Part P) × (slice_get after.parts w ≡ Some part) × ((MAX_COUNT < part.got.white) ⊎ (MAX_COUNT < part.got.red))
   PassesLimit (Cut w) after = MAX_COUNT < after.board.rounds
   PassesLimit _ after = ⊥
 

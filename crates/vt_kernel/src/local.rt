@@ -90,7 +90,7 @@ impl<M: EventModel> Kernel<M> {
             return Err(Fault::NotLawful);
         };
         let mut sent = List::new(*self.arrived.allocator());
-        let result = self.processes[place].undo(model, &mut sent);
+        let result = self.processes[place].undo_into(model, &mut sent, &mut self.spare);
         self.outbox.put(sent);
         self.contest.enter(&self.processes, place);
         result

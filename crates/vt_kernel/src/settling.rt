@@ -64,7 +64,7 @@ fn settle_process<M: EventModel>(
     let mut changed = false;
     let mut undone = 0_u64;
     loop {
-        if process.undo(model, outbox).is_ok() {
+        if process.undo_into(model, outbox, spare).is_ok() {
             changed = true;
             undone = undone.wrapping_add(1);
             continue;

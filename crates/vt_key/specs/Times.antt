@@ -1,6 +1,6 @@
 -- Virtual times. A time is a pair of a tick and a priority, and stands here as one number. The order of the numbers is the order
 -- of the pairs: by the tick, then by the priority. Everything uses only this order, except a send and the proof that a run ends.
-use Rattle.std.specs.Prelude.{ℕ, ◌+◌, ◌-◌, ◌*◌, ◌/◌, ◌%◌, ◌<◌, ◌≤◌, Bool, nat_lt, nat_le, nat_eq, min}
+use Rattle.std.specs.Prelude.{ℕ, ◌+◌, ◌-◌, ◌*◌, ◌/◌, ◌%◌, ◌<◌, ◌≤◌, Bool, nat_lt, nat_le, min}
 
 -- a virtual time
 abbrev pub Time : Type 0
@@ -37,10 +37,6 @@ TimeAtMost a b = a ≤ b
 -- whether one time is before another, or the two are one
 abbrev pub time_at_most : Time → Time → Bool
 time_at_most a b = nat_le a b
-
--- whether two times are one
-abbrev pub time_same : Time → Time → Bool
-time_same a b = nat_eq a b
 
 -- the earlier of two times
 abbrev pub earlier : Time → Time → Time

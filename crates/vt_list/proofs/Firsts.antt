@@ -47,16 +47,19 @@ module _ {X : Type 0} where
     abbrev ranked_after : Rank → X → Bool
     ranked_after rank y = rank_before rank (rank_of y)
 
-    between : (ys : List X) → (before_first (ranked_after (rank_of x)) ys ++ x ∷ []) ++ from_first (ranked_after (rank_of x)) ys ≡ insert_ordered rank_of x ys
+    abbrev by_rank : X → X → Bool
+    by_rank a b = rank_before (rank_of a) (rank_of b)
+
+    between : (ys : List X) → (before_first (ranked_after (rank_of x)) ys ++ x ∷ []) ++ from_first (ranked_after (rank_of x)) ys ≡ insert_ordered by_rank x ys
     between [] = refl
     between (y ∷ ys) = let later : X → Bool = ranked_after (rank_of x) in
-        elim (later y) as (λ b. ((if b then [] else y ∷ before_first later ys) ++ x ∷ []) ++ (if b then y ∷ ys else from_first later ys) ≡ (if b then x ∷ y ∷ ys else y ∷ insert_ordered rank_of x ys)) [
+        elim (later y) as (λ b. ((if b then [] else y ∷ before_first later ys) ++ x ∷ []) ++ (if b then y ∷ ys else from_first later ys) ≡ (if b then x ∷ y ∷ ys else y ∷ insert_ordered by_rank x ys)) [
           | true ↦ refl
           | false ↦ ap (λ l. y ∷ l) (between ys)
         ]
 
     -- between those before the first of greater rank and the others
-    pub insert-between : (rank : Rank) (ys : List X) → rank ≡ rank_of x → (before_first (ranked_after rank) ys ++ x ∷ []) ++ from_first (ranked_after rank) ys ≡ insert_ordered rank_of x ys
+    pub insert-between : (rank : Rank) (ys : List X) → rank ≡ rank_of x → (before_first (ranked_after rank) ys ++ x ∷ []) ++ from_first (ranked_after rank) ys ≡ insert_ordered by_rank x ys
     insert-between rank ys e = ap (λ r. (before_first (ranked_after r) ys ++ x ∷ []) ++ from_first (ranked_after r) ys) e ∙ between ys
 
   -- ---- by an index

@@ -3,6 +3,7 @@
 ghost use Rattle.std.specs.Prelude.{◌≡◌, ◌-◌, ◌<◌, ◌%◌, ◌^◌, ◌↔◌, [], ◌∷◌, ◌++◌, length, slice_get, find, remove, reverse, MatchOption, IsTrue};
 ghost use Rattle.std.specs.Option.{option_copied};
 ghost use Rattle.std_heap.specs.declared.Global.{Global as GlobalHandle};
+ghost use Rattle.vt_key.specs.Order.{rank_before};
 ghost use Rattle.vt_key.specs.Queues.{without_first, insert_ordered};
 
 use crate::iter::{Iter, IterBack};
@@ -220,7 +221,7 @@ impl<T: Drop + Ranked> List<T> {
     /// Puts the item in front of the first one of greater rank, or behind all others if there is none. It walks there
     /// from the front.
     pub fn insert_ordered(&mut self, parcel: Parcel<T>)
-        ensures { self.new ≡ insert_ordered T.rank_of parcel self.old }
+        ensures { self.new ≡ insert_ordered (λ a b. rank_before (T.rank_of a) (T.rank_of b)) parcel self.old }
     {
         let later = RankedAfter(parcel.get().rank());
         let (before, after) = split_at_first(self.chain.take(), &later);

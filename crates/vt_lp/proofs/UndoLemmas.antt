@@ -1,6 +1,7 @@
 -- Undo: what the code does is the step of each process that it stands for.
 use Rattle.std.proofs.Common.{◌≡◌, ℕ, suc, ◌+◌, ◌-◌, ◌≤◌, List, [], ◌∷◌, ◌++◌, map, take, length, true, false, Option, Some, None, if◌then◌else◌, refl, sym, subst, ap, ◌∙◌, arith}
 use Rattle.std.specs.List.{All, last_or}
+use Rattle.std.specs.Option.{option_and_then}
 use Rattle.std.proofs.lemmas.List.{map-append}
 use Rattle.std.proofs.lemmas.List.Elements.{All-head, All-tail, All-cons, All-nil}
 use Rattle.vt_key.specs.Order.{rank_before, rank_same}
@@ -16,7 +17,7 @@ use Rattle.vt_model.specs.Simulation.{Simulation, Triple, simulation_of}
 use Rattle.vt_model.specs.Settings.{end_of}
 use Rattle.vt_steps.specs.Letters.{signed}
 use Rattle.vt_steps.specs.World.{Entry, LogicalProcess, triple_after}
-use Rattle.vt_steps.specs.ProcessSteps.{must_undo, effect_of_undo, undo_last, undo_process}
+use Rattle.vt_steps.specs.ProcessSteps.{must_undo, effect_of_undo, undo_process, ProcessEffect}
 use Rattle.vt_steps.specs.StandsFor.{entry_of, LeadTo}
 use Rattle.vt_steps.proofs.steps.MemoryLemmas.{goes_back}
 use Rattle.vt_past.specs.declared.event.PastEvent.{PastEvent}
@@ -76,10 +77,14 @@ ready-within lps end (l ∷ ls) all =
     All-cons (IsWithinRun lps end) l ls (All-head (IsReady lps end) l ls all).within (ready-within lps end ls (All-tail (IsReady lps end) l ls all))
 
 module _ {S P K : Type 0} (handlers : Handlers S P K) where
+  -- what Undo does at a process whose last past entry this is
+  abbrev undo_after : LogicalProcess P → Entry P → Option (ProcessEffect P)
+  undo_after h last = if must_undo h last.event then Some (effect_of_undo h last) else None
+
   -- what the value is asked is what the process is asked
   undo-last : (held : HeldProcess S P K) (h : LogicalProcess P) (o : Option (PastEvent P K)) (r : Option (Entry P)) (es : List (PastEvent P K)) →
-      h.pending ≡ held.pending → h.waiting ≡ held.waiting → (must_undo_last held.pending held.waiting o ≡ false → undo_last h r ≡ None) →
-      must_undo_last held.pending held.waiting (last_or o es) ≡ false → undo_last h (last_or r (map entry_of (map (remembered handlers held.lp) es))) ≡ None
+      h.pending ≡ held.pending → h.waiting ≡ held.waiting → (must_undo_last held.pending held.waiting o ≡ false → option_and_then (undo_after h) r ≡ None) →
+      must_undo_last held.pending held.waiting (last_or o es) ≡ false → option_and_then (undo_after h) (last_or r (map entry_of (map (remembered handlers held.lp) es))) ≡ None
   undo-last held h o r [] a b f none = f none
   undo-last held h o r (e ∷ es) a b f none =
       undo-last held h (Some e) (Some (entry_of (remembered handlers held.lp e))) es a b
@@ -87,7 +92,7 @@ module _ {S P K : Type 0} (handlers : Handlers S P K) where
 
   pub undo-none : (held : HeldProcess S P K) (h : LogicalProcess P) → must_undo_last held.pending held.waiting (last_or None held.past) ≡ false → StandsFor handlers held h →
       undo_process h ≡ None
-  undo-none held h none s = ap (λ (es : List (Entry P)). undo_last h (last_or None es)) s.past ∙ undo-last held h None None held.past s.pending s.waiting (λ e. refl) none
+  undo-none held h none s = ap (λ (es : List (Entry P)). option_and_then (undo_after h) (last_or None es)) s.past ∙ undo-last held h None None held.past s.pending s.waiting (λ e. refl) none
 
   -- the step of each process that the value stands for
   pub undoes : (held : HeldProcess S P K) (h : LogicalProcess P) (past : List (PastEvent P K)) (e : PastEvent P K) (q : ℕ) (now : Triple S) (pending outbox new_outbox : List (Letter P)) →
@@ -113,7 +118,7 @@ module _ {S P K : Type 0} (handlers : Handlers S P K) where
       let plus : signed Plus e.letter.event ≡ e.letter = λ j. record { event = e.letter.event; sign = sym mine.own.signed j } in
       record {
         effect = effect_of_undo h entry;
-        lawful = ap (undo_last h) last_is ∙ ap (λ t. if t then Some (effect_of_undo h entry) else None) must;
+        lawful = ap (option_and_then (undo_after h)) last_is ∙ ap (λ t. if t then Some (effect_of_undo h entry) else None) must;
         stands = record {
           past = front_is;
           pending = (λ j. insert_letter (plus j) (s.pending j)) ∙ sym put;

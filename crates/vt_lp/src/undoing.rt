@@ -4,6 +4,7 @@ ghost use Rattle.std.specs.Prelude.{◌≡◌, suc, true, not, None, length, IfO
 ghost use Rattle.std.specs.List.{last_or, list_any};
 ghost use Rattle.vt_key.specs.Order.{rank_before};
 ghost use Rattle.vt_key.specs.declared.fault.Fault.TheVariants.{NotLawful};
+ghost use Rattle.vt_past.specs.Kept.{TookEvent};
 ghost use Rattle.vt_pending.specs.Letters.{IsRising};
 ghost use Rattle.vt_steps.specs.ProcessSteps.{undo_process};
 ghost use Rattle.vt_steps.specs.World.{LogicalProcess};
@@ -15,7 +16,7 @@ use crate::lp::Lp;
 use vt_key::{Fault, Letter, Rank};
 use vt_list::List;
 use vt_model::{Model as EventModel, Sent};
-use vt_past::{Past, PastEvent};
+use vt_past::{Past, Spare, UndoEntry};
 use vt_pending::Pending;
 
 impl<M: EventModel> Lp<M> {
@@ -25,12 +26,34 @@ impl<M: EventModel> Lp<M> {
     ///
     /// [`Fault::NotLawful`]: there is no past event, or no letter forces the undo of the last one: no pending message
     /// is before it, and every waiting anti-message is after it. Nothing changes.
-    // Mostly nothing forces an undo, and one comparison tells it.
-    #[inline(always)]
     pub fn undo(&mut self, model: &M, outbox: &mut List<Letter<M::Payload>>) -> Result<(), Fault>
         ensures done { (h : LogicalProcess _) → StandsFor (M.handlers model.now) self.old h → IfOk result (λ _. IsDone (M.handlers model.now) self.new (undo_process h) outbox.old outbox.new 0 0) }
         ensures refused { (h : LogicalProcess _) → StandsFor (M.handlers model.now) self.old h → IfErr result (λ fault. undo_process h ≡ None) }
         ensures kept { IfErr result (λ fault. (fault ≡ NotLawful) × (self.new ≡ self.old) × (outbox.new ≡ outbox.old)) }
+        ensures within { AllWithinRun self.old.config outbox.old → AllWithinRun self.old.config outbox.new }
+        ensures same { (self.new.lp ≡ self.old.lp) × (self.new.config ≡ self.old.config) }
+        ensures shorter { IfOk result (λ _. (suc (length self.new.past) ≡ length self.old.past) × (length self.new.pending ≡ suc (length self.old.pending)) × (self.new.waiting ≡ self.old.waiting)) }
+    {
+        let mut spare = Spare::new(self.past.events().allocator());
+        self.undo_into(model, outbox, &mut spare)
+    }
+
+    /// Like [`Lp::undo`], and keeps the node of the past event for the next one, where that of a letter is kept: this one
+    /// stands in it then.
+    ///
+    /// [`Fault::NotLawful`]: as for [`Lp::undo`]. `spare` is as it was too.
+    // Mostly nothing forces an undo, and one comparison tells it.
+    #[inline(always)]
+    pub fn undo_into(
+        &mut self,
+        model: &M,
+        outbox: &mut List<Letter<M::Payload>>,
+        spare: &mut Spare<M::Payload, M::Kept>,
+    ) -> Result<(), Fault>
+        ensures done { (h : LogicalProcess _) → StandsFor (M.handlers model.now) self.old h → IfOk result (λ _. IsDone (M.handlers model.now) self.new (undo_process h) outbox.old outbox.new 0 0) }
+        ensures refused { (h : LogicalProcess _) → StandsFor (M.handlers model.now) self.old h → IfErr result (λ fault. undo_process h ≡ None) }
+        ensures kept { IfErr result (λ fault. (fault ≡ NotLawful) × (self.new ≡ self.old) × (outbox.new ≡ outbox.old) × (spare.new ≡ spare.old)) }
+        ensures freed { IfOk result (λ done. TookEvent spare.old spare.new) }
         ensures within { AllWithinRun self.old.config outbox.old → AllWithinRun self.old.config outbox.new }
         ensures same { (self.new.lp ≡ self.old.lp) × (self.new.config ≡ self.old.config) }
         ensures shorter { IfOk result (λ _. (suc (length self.new.past) ≡ length self.old.past) × (length self.new.pending ≡ suc (length self.old.pending)) × (self.new.waiting ≡ self.old.waiting)) }
@@ -41,16 +64,14 @@ impl<M: EventModel> Lp<M> {
         let Some(last) = self.past.pop_back() else {
             return Err(Fault::NotLawful);
         };
-        let PastEvent {
-            records: _,
-            key: _,
-            letter,
-            mut anti_messages,
+        let (letter, undo_entry) = spare.take_apart(last);
+        let UndoEntry {
             kept,
             bits,
             drawn,
             number,
-        } = last.into_value();
+            mut anti_messages,
+        } = undo_entry;
         let event = letter.get().event;
         let sent = Sent {
             key: event.rank.key,

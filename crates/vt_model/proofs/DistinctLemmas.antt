@@ -1,16 +1,16 @@
 -- No two pending events of a run have one key.
-use Rattle.std.proofs.Common.{◌≡◌, ℕ, zero, suc, ◌+◌, ◌<◌, ◌≤◌, inl, inr, List, [], ◌∷◌, ◌++◌, Bool, true, false, not, filter, flat_map, sum_by, Option, Some, None, refl, sym, subst, ap, ◌∙◌, arith, append-nil}
-use Rattle.std.proofs.lemmas.Grind.{flat_map-append}
+use Rattle.std.proofs.Common.{◌≡◌, ℕ, zero, suc, ◌+◌, ◌<◌, ◌≤◌, inl, inr, List, [], ◌∷◌, ◌++◌, Bool, true, false, not, filter, flat_map, sum_by, Option, Some, None, refl, sym, subst, ap, ◌∙◌, arith}
+use Rattle.std.specs.Option.{option_map_or}
 use Rattle.std.proofs.lemmas.List.Sums.{sum_by-cons}
 use Rattle.vt_key.specs.Keys.{Key}
 use Rattle.vt_key.specs.Order.{key_same}
 use Rattle.vt_key.proofs.OrderLemmas.{key_same-true, same-key_same}
 use Rattle.vt_model.specs.declared.sending.Sent.{Sent}
 use Rattle.vt_model.specs.Simulation.{Simulation, after}
-use Rattle.vt_model.specs.Sequential.{RunState, events_of, least_event, fired_after, with_event, next_state, step, after_steps, numbers_below}
+use Rattle.vt_model.specs.Sequential.{RunState, events_of, least_event, fired_after, with_event, step, after_steps, numbers_below}
 use Rattle.vt_model.specs.Histories.{Among, AreNumbered, sends_of, IsLawful}
 use Rattle.vt_model.proofs.HistoryLemmas.{among-append}
-use Rattle.vt_model.proofs.RunLemmas.{tested, filter-yes, filter-no, filter-among, numbered-among, numbered-all, known_sent, lists_of, least-found, IsReached, reached, among-below}
+use Rattle.vt_model.proofs.RunLemmas.{tested, filter-yes, filter-no, filter-among, numbered-among, numbered-all, known_sent, lists_of, least-found, IsReached, reached, among-below, flat-next}
 
 differs : (a b : Key) → (a ≡ b → ⊥) → key_same a b ≡ false
 differs a b never = elim (tested (key_same a b)) [ inl y ↦ absurd (never (key_same-true a b y)) | inr y ↦ y ]
@@ -64,9 +64,6 @@ module _ {P : Type 0} where
       rw (filter-yes (λ d. not (key_same d.key e.key)) x xs in_place)
       (omega (arith, sum_by-without f xs e h.1 m, sum_by-cons f x xs, sum_by-cons f x (filter (λ d. not (key_same d.key e.key)) xs)))
 
-  pub flat-next : (f : ℕ → List (Sent P)) (n : ℕ) → flat_map f (numbers_below (suc n)) ≡ flat_map f (numbers_below n) ++ f n
-  flat-next f n = flat_map-append f (numbers_below n) (n ∷ []) ∙ ap (λ (l : List (Sent P)). flat_map f (numbers_below n) ++ l) (append-nil (f n))
-
 module _ {S P : Type 0} (sim : Simulation S P) (lawful : IsLawful sim) where
   distinct_with : (x : RunState P) (e : Sent P) → IsReached sim lawful x → Among e x.pending → AreDistinct x.pending → AreDistinct (with_event sim x e).pending
   unfolding fired_after
@@ -105,7 +102,7 @@ module _ {S P : Type 0} (sim : Simulation S P) (lawful : IsLawful sim) where
 
   distinct_step : (x : RunState P) → IsReached sim lawful x → AreDistinct x.pending → AreDistinct (step sim x).pending
   distinct_step x r h = go (least_event x.pending) refl where
-    go : (o : Option (Sent P)) → least_event x.pending ≡ o → AreDistinct (next_state sim x o).pending
+    go : (o : Option (Sent P)) → least_event x.pending ≡ o → AreDistinct (option_map_or (with_event sim x) o x).pending
     go None none = h
     go (Some e) found = distinct_with x e r (least-found x.pending e found).0 h
 

@@ -1,6 +1,7 @@
 -- The sequential run ends, and what it leaves is the one history.
 use Rattle.std.proofs.Common.{◌≡◌, ℕ, zero, suc, ◌+◌, ◌*◌, ◌-◌, ◌^◌, ◌<◌, ◌≤◌, ◌⊎◌, inl, inr, List, [], ◌∷◌, ◌++◌, Bool, true, false, not, ◌&&◌, filter, Option, Some, None, nat_eq, length, refl, sym, subst, ap, ◌∙◌, arith}
 use Rattle.std.specs.List.{list_all, sum_by}
+use Rattle.std.specs.Option.{option_map_or}
 use Rattle.std.proofs.lemmas.Bool.{eqb-true, eq-eqb}
 use Rattle.std.proofs.lemmas.List.Sums.{sum_by-cons, sum_by-append}
 use Rattle.std.proofs.Math.Nat.{pow-suc, one-le-pow, pow-le-pow_right, mul-le-mul_right}
@@ -11,7 +12,7 @@ use Rattle.vt_key.specs.Times.{time_left}
 use Rattle.vt_model.specs.declared.limits.TheConstants.{MAX_SENDS}
 use Rattle.vt_model.specs.declared.sending.Sent.{Sent}
 use Rattle.vt_model.specs.Simulation.{Simulation, after}
-use Rattle.vt_model.specs.Sequential.{RunState, events_before, events_of, least_event, fired_after, opening, with_event, next_state, step, after_steps, weight, whole_run, rows_after, seq_events}
+use Rattle.vt_model.specs.Sequential.{RunState, events_before, events_of, least_event, fired_after, opening, with_event, step, after_steps, weight, whole_run, rows_after, seq_events}
 use Rattle.vt_model.specs.Histories.{Among, AllAfter, IsRising, IsHistory, IsLawful}
 use Rattle.vt_model.specs.Rows.{AreRowsRising}
 use Rattle.vt_model.proofs.HistoryLemmas.{one_history}
@@ -154,7 +155,7 @@ module _ {S P : Type 0} (sim : Simulation S P) (lawful : IsLawful sim) where
   ends-by zero = inr (omega arith)
   ends-by (suc n) = go (ends-by n) (least_event (after_steps sim n).pending) refl where
     go : ((after_steps sim n).pending ≡ []) ⊎ (weight sim (after_steps sim n).pending + n ≤ weight sim (opening sim).pending) → (o : Option (Sent P)) → least_event (after_steps sim n).pending ≡ o
-        → ((next_state sim (after_steps sim n) o).pending ≡ []) ⊎ (weight sim (next_state sim (after_steps sim n) o).pending + suc n ≤ weight sim (opening sim).pending)
+        → ((option_map_or (with_event sim (after_steps sim n)) o (after_steps sim n)).pending ≡ []) ⊎ (weight sim (option_map_or (with_event sim (after_steps sim n)) o (after_steps sim n)).pending + suc n ≤ weight sim (opening sim).pending)
     go before None h = inl (least-none (after_steps sim n).pending h)
     go before (Some e) h =
         let l = least-found (after_steps sim n).pending e h in
@@ -202,14 +203,14 @@ module _ {S P : Type 0} (sim : Simulation S P) (lawful : IsLawful sim) where
     | inl y ↦ ap (after_steps sim) (sym (eqb-true n (suc m) y))
     | inr y ↦
         let less : n ≤ m = elim (tested (nat_eq n (suc m))) [ inl z ↦ absurd (let w : true ≡ false = sym z ∙ y in cc) | inr z ↦ below n m l (λ at. let w : true ≡ false = sym (eq-eqb n (suc m) at) ∙ y in absurd (cc)) ] in
-        ap (step sim) (stays m n less h) ∙ ap (next_state sim (after_steps sim n)) (ap least_event h)
+        ap (step sim) (stays m n less h) ∙ ap (λ (o : Option (Sent P)). option_map_or (with_event sim (after_steps sim n)) o (after_steps sim n)) (ap least_event h)
   ] where
     below : (a b : ℕ) → a ≤ suc b → (a ≡ suc b → ⊥) → a ≤ b
     below a b k never = grind (arith, never)
 
   -- a step where nothing is pending changes nothing
   pub no_step : (n : ℕ) → (after_steps sim n).pending ≡ [] → after_steps sim (suc n) ≡ after_steps sim n
-  no_step n h = ap (next_state sim (after_steps sim n)) (ap least_event h)
+  no_step n h = ap (λ (o : Option (Sent P)). option_map_or (with_event sim (after_steps sim n)) o (after_steps sim n)) (ap least_event h)
 
   -- where nothing is pending the whole run is executed
   pub executed_all : (n : ℕ) → (after_steps sim n).pending ≡ [] → (after_steps sim n).executed ≡ whole_run sim
@@ -228,7 +229,7 @@ module _ {S P : Type 0} (sim : Simulation S P) (lawful : IsLawful sim) where
   -- while something is pending a step lowers the weight
   pub step-falls : (n : ℕ) → 0 < length (after_steps sim n).pending → weight sim (after_steps sim (suc n)).pending < weight sim (after_steps sim n).pending
   step-falls n some = go (least_event (after_steps sim n).pending) refl where
-    go : (o : Option (Sent P)) → least_event (after_steps sim n).pending ≡ o → weight sim (next_state sim (after_steps sim n) o).pending < weight sim (after_steps sim n).pending
+    go : (o : Option (Sent P)) → least_event (after_steps sim n).pending ≡ o → weight sim (option_map_or (with_event sim (after_steps sim n)) o (after_steps sim n)).pending < weight sim (after_steps sim n).pending
     go None h = absurd (let none : length (after_steps sim n).pending ≡ 0 = ap length (least-none (after_steps sim n).pending h) in omega (arith, some, none))
     go (Some e) h =
         let l = least-found (after_steps sim n).pending e h in

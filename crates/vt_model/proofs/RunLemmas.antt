@@ -1,7 +1,9 @@
 -- The sequential run makes the one history.
-use Rattle.std.proofs.Common.{◌≡◌, ℕ, zero, suc, ◌<◌, ◌≤◌, ◌⊎◌, inl, inr, List, [], ◌∷◌, ◌++◌, Bool, true, false, not, ◌&&◌, filter, find, Option, Some, None, nat_lt, nat_eq, flat_map, if◌then◌else◌, refl, sym, subst, ap, ◌∙◌, arith, append_assoc, append-nil}
+use Rattle.std.proofs.Common.{◌≡◌, ℕ, zero, suc, ◌<◌, ◌≤◌, ◌⊎◌, inl, inr, List, [], ◌∷◌, ◌++◌, Bool, true, false, not, ◌&&◌, filter, find, Option, Some, None, nat_lt, nat_eq, flat_map, if◌then◌else◌, refl, sym, subst, ap, ◌∙◌, arith, append_assoc, append-nil, ◌+◌, map}
 use Rattle.std.specs.List.{list_all}
+use Rattle.std.specs.Option.{option_map_or}
 use Rattle.std.proofs.lemmas.Bool.{ltb-true, ltb-false, eqb-true, eq-eqb}
+use Rattle.std.proofs.lemmas.List.{map-append}
 use Rattle.std.proofs.lemmas.List.Elements.{filter-append}
 use Rattle.std.proofs.lemmas.Grind.{flat_map-append}
 use Rattle.vt_key.specs.Keys.{Key}
@@ -9,9 +11,16 @@ use Rattle.vt_key.specs.Order.{KeyBefore, key_before, key_same}
 use Rattle.vt_key.proofs.OrderLemmas.{key-transitive, key-total, before-key_before, key_same-true, same-key_same}
 use Rattle.vt_model.specs.declared.sending.Sent.{Sent}
 use Rattle.vt_model.specs.Simulation.{Simulation, Triple, after, after_from}
-use Rattle.vt_model.specs.Sequential.{RunState, events_of, least_event, fired_after, opening, with_event, next_state, step, after_steps, numbers_below}
+use Rattle.vt_model.specs.Sequential.{RunState, events_of, least_event, fired_after, opening, with_event, step, after_steps, numbers_below}
 use Rattle.vt_model.specs.Histories.{Among, AllAfter, IsRising, AreNumbered, sends_from, sends_of, IsSent, IsLawful}
 use Rattle.vt_model.proofs.HistoryLemmas.{among-left, among-right, among-append}
+
+-- one number more
+pub map-next : {X : Type 0} (f : ℕ → X) (n : ℕ) → map f (numbers_below (n + 1)) ≡ map f (numbers_below n) ++ f n ∷ []
+map-next f n = let next : n + 1 ≡ suc n = omega arith in ap (λ k. map f (numbers_below k)) next ∙ map-append f (numbers_below n) (n ∷ [])
+
+pub flat-next : {X : Type 0} (f : ℕ → List X) (n : ℕ) → flat_map f (numbers_below (suc n)) ≡ flat_map f (numbers_below n) ++ f n
+flat-next {X} f n = flat_map-append f (numbers_below n) (n ∷ []) ∙ ap (λ (l : List X). flat_map f (numbers_below n) ++ l) (append-nil (f n))
 
 -- a test is true or false
 pub tested : (b : Bool) → (b ≡ true) ⊎ (b ≡ false)
@@ -290,9 +299,6 @@ module _ {S P : Type 0} (sim : Simulation S P) (lawful : IsLawful sim) where
       }
 
   -- the starts
-  flat-next : (f : ℕ → List (Sent P)) (n : ℕ) → flat_map f (numbers_below (suc n)) ≡ flat_map f (numbers_below n) ++ f n
-  flat-next f n = flat_map-append f (numbers_below n) (n ∷ []) ∙ ap (λ (l : List (Sent P)). flat_map f (numbers_below n) ++ l) (append-nil (f n))
-
   pub below-among : (f : ℕ → List (Sent P)) (n q : ℕ) (e : Sent P) → q < n → Among e (f q) → Among e (flat_map f (numbers_below n))
   below-among f zero q e l m = absurd (omega arith)
   below-among f (suc n) q e l m =
@@ -324,7 +330,7 @@ module _ {S P : Type 0} (sim : Simulation S P) (lawful : IsLawful sim) where
 
   pub reached_step : (x : RunState P) → IsReached x → IsReached (step sim x)
   reached_step x r = go (least_event x.pending) refl where
-    go : (o : Option (Sent P)) → least_event x.pending ≡ o → IsReached (next_state sim x o)
+    go : (o : Option (Sent P)) → least_event x.pending ≡ o → IsReached (option_map_or (with_event sim x) o x)
     go None h = r
     go (Some e) h = let l = least-found x.pending e h in reached_with x e r l.0 l.1
 

@@ -1,7 +1,8 @@
 -- The sequential run of a simulation: always the event of least key, of those that were sent and not yet executed. It
 -- knows no rollback, letter, colour or count.
-use Rattle.std.specs.Prelude.{ℕ, zero, suc, ◌+◌, ◌^◌, List, [], ◌∷◌, ◌++◌, Option, Some, None, not, nat_eq, filter, find, map, flat_map, sum_by}
+use Rattle.std.specs.Prelude.{ℕ, zero, suc, ◌+◌, ◌^◌, List, [], ◌∷◌, ◌++◌, Option, not, nat_eq, filter, find, map, flat_map, sum_by}
 use Rattle.std.specs.List.{list_all}
+use Rattle.std.specs.Option.{option_map_or}
 use Rattle.vt_key.specs.Times.{Time, time_before, time_left}
 use Rattle.vt_key.specs.Order.{key_before, key_same}
 use Rattle.vt_model.specs.declared.limits.TheConstants.{MAX_SENDS}
@@ -57,13 +58,9 @@ module _ {S P : Type 0} (sim : Simulation S P) where
     executed = x.executed ++ e ∷ [];
   }
 
-  abbrev pub next_state : RunState P → Option (Sent P) → RunState P
-  next_state x None = x
-  next_state x (Some e) = with_event x e
-
   -- one step executes the least event; where nothing is pending it changes nothing
   abbrev pub step : RunState P → RunState P
-  step x = next_state x (least_event x.pending)
+  step x = option_map_or (with_event x) (least_event x.pending) x
 
   -- the run after n steps
   abbrev pub after_steps : ℕ → RunState P

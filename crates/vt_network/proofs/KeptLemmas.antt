@@ -1,5 +1,6 @@
 -- The packets of a run are kept.
 use Rattle.std.proofs.Common.{◌≡◌, ℕ, zero, suc, ◌+◌, inl, List, [], ◌∷◌, ◌++◌, false, not, filter, flat_map, nat_eq, sum_by, if◌then◌else◌, Option, Some, None, refl, ap, ◌∙◌, arith, append-nil, append_assoc}
+use Rattle.std.specs.Option.{option_map_or}
 use Rattle.std.proofs.lemmas.List.{map-append}
 use Rattle.std.proofs.lemmas.List.Sums.{sum_by-append, sum_by_push}
 use Rattle.vt_key.specs.Order.{key_same}
@@ -8,13 +9,13 @@ use Rattle.vt_model.specs.declared.rows.Record.{Record}
 use Rattle.vt_model.specs.declared.sending.Sent.{Sent}
 use Rattle.vt_model.specs.declared.settings.Config.{Config}
 use Rattle.vt_model.specs.Simulation.{Triple, words_at, start_of, fire_of, after}
-use Rattle.vt_model.specs.Sequential.{RunState, events_of, least_event, fired_after, opening, with_event, next_state, step, after_steps, rows_after, records_of, numbers_below}
+use Rattle.vt_model.specs.Sequential.{RunState, events_of, least_event, fired_after, opening, with_event, step, after_steps, rows_after, records_of, numbers_below}
 use Rattle.vt_model.specs.Histories.{Among, IsLawful}
 use Rattle.vt_model.specs.Settings.{end_of}
 use Rattle.vt_model.proofs.LawLemmas.{lawful_of, after_state}
-use Rattle.vt_model.proofs.RunLemmas.{after-snoc, events_of-same, events_of-other, known_sent, lists_of, least-found, IsReached, reached}
+use Rattle.vt_model.proofs.RunLemmas.{after-snoc, events_of-same, events_of-other, known_sent, lists_of, least-found, IsReached, reached, flat-next}
 use Rattle.vt_parts.specs.Ring.{item_count}
-use Rattle.vt_model.proofs.DistinctLemmas.{flat-next, AreDistinct, sum_by-without, distinct_pending}
+use Rattle.vt_model.proofs.DistinctLemmas.{AreDistinct, sum_by-without, distinct_pending}
 use Rattle.vt_model.proofs.SumLemmas.{sum-next, sum_one}
 use Rattle.vt_model.proofs.SentLemmas.{sent_or_past}
 use Rattle.vt_network.specs.declared.network.Network.{Network}
@@ -155,7 +156,7 @@ module _ (m : Network) (c : Config) where
 
   kept_step : (x : RunState NetworkEvent) → IsReached (network m c) lawful x → AreDistinct x.pending → AreKept x → AreKept (step (network m c) x)
   kept_step x r distinct kept = go (least_event x.pending) refl where
-    go : (o : Option (Sent NetworkEvent)) → least_event x.pending ≡ o → AreKept (next_state (network m c) x o)
+    go : (o : Option (Sent NetworkEvent)) → least_event x.pending ≡ o → AreKept (option_map_or (with_event (network m c) x) o x)
     go None none = kept
     go (Some e) found = kept_with x e r distinct (least-found x.pending e found).0 kept
 

@@ -1,4 +1,4 @@
--- How an executed event becomes a past one, and the rank of the last one.
+-- How an executed event becomes a past one, what its undo needs of it, and the rank of the last one.
 use Rattle.std.specs.Prelude.{refl, List, Option, Some, None}
 use Rattle.std.specs.List.{last_or}
 use Rattle.vt_key.specs.declared.order.Rank.{Rank}
@@ -20,6 +20,16 @@ module _ {P K : Type 0} where
     records = records;
     anti_messages = undo_entry.anti_messages;
     keyed = refl;
+  }
+
+  -- what the undo of a past event needs, beside its letter
+  abbrev pub undo_entry_of : PastEvent P K → UndoEntry P K
+  undo_entry_of event = record {
+    kept = event.kept;
+    bits = event.bits;
+    drawn = event.drawn;
+    number = event.number;
+    anti_messages = event.anti_messages;
   }
 
   -- the rank of the last past event, if there is one

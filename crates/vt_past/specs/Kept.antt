@@ -18,6 +18,12 @@ pub record GaveEvent (old new : KeptNodes) : Type 0 where
   pub held : new.held ≤ old.held
   pub all : all_nodes new ≡ all_nodes old
 
+-- an undone event left its node, if a letter's node was kept: that one stands in it now, in place of its own letter
+pub record TookEvent (old new : KeptNodes) : Type 0 where
+  pub letters : new.letters ≡ old.letters - 1
+  pub held : new.held ≡ old.held
+  pub all : all_nodes new ≡ all_nodes old
+
 -- how many anti-messages a past event holds
 abbrev pub held_by : {P K : Type 0} → PastEvent P K → ℕ
 held_by e = length e.anti_messages

@@ -1,7 +1,7 @@
 //! The past events of a process, and the nodes that processes no longer need.
 //!
 //! A past event is an executed one that is not committed yet, with all that its undo and its commit need. The nodes of committed
-//! past events and of letters that are no longer needed are kept, to be used again.
+//! or undone past events and of letters that are no longer needed are kept, to be used again.
 #![tactic(auto)]
 
 mod event;

@@ -1,8 +1,8 @@
-//! How an executed event becomes a past one, in a node that an old one had.
+//! How an executed event becomes a past one, in a node that an old one had, and how an undone one is taken apart.
 
-ghost use Rattle.std.specs.Prelude.{◌≡◌, ◌≤◌, length};
+ghost use Rattle.std.specs.Prelude.{◌≡◌, ◌≤◌, [], length};
 ghost use Rattle.vt_model.specs.declared.limits.TheConstants.{MAX_RECORDS};
-ghost use Rattle.vt_past.specs.Events.{past_event};
+ghost use Rattle.vt_past.specs.Events.{past_event, undo_entry_of};
 
 use crate::event::{PastEvent, UndoEntry};
 use crate::records::Records;
@@ -70,5 +70,50 @@ impl<P: Copy, K: Copy> PastEvent<P, K> {
         let old_letter = replace(&mut event.letter, letter);
         let old_anti_messages = replace(&mut event.anti_messages, anti_messages);
         (old_letter, old_anti_messages)
+    }
+
+    /// The letter, and what else the undo of this event needs.
+    pub fn into_parts(self) -> (Parcel<Letter<P>>, UndoEntry<P, K>)
+        ensures { (result.0 ≡ self.letter) × (result.1 ≡ undo_entry_of self) }
+    {
+        let PastEvent {
+            records: _,
+            key: _,
+            letter,
+            anti_messages,
+            kept,
+            bits,
+            drawn,
+            number,
+        } = self;
+        (
+            letter,
+            UndoEntry {
+                kept,
+                bits,
+                drawn,
+                number,
+                anti_messages,
+            },
+        )
+    }
+
+    /// Takes out what [`PastEvent::into_parts`] gives. This letter stands in the event instead, and no anti-message.
+    pub fn take_parts(&mut self, letter: Parcel<Letter<P>>) -> (Parcel<Letter<P>>, UndoEntry<P, K>)
+        ensures parts { (result.0 ≡ self.old.letter) × (result.1 ≡ undo_entry_of self.old) }
+        ensures none_left { self.new.anti_messages ≡ [] }
+    {
+        let event = self;
+        event.key = letter.get().event.rank.key;
+        let old_letter = replace(&mut event.letter, letter);
+        let none = List::new(event.anti_messages.allocator());
+        let undo_entry = UndoEntry {
+            kept: event.kept,
+            bits: event.bits,
+            drawn: event.drawn,
+            number: event.number,
+            anti_messages: replace(&mut event.anti_messages, none),
+        };
+        (old_letter, undo_entry)
     }
 }

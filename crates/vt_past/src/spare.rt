@@ -3,8 +3,8 @@
 ghost use Rattle.std.specs.Prelude.{◌≡◌, ◌+◌, ◌-◌, ◌≤◌, [], length, IfOk, IfErr, IfSome, IfNone};
 ghost use Rattle.std.specs.List.{sum_by};
 ghost use Rattle.vt_model.specs.declared.limits.TheConstants.{MAX_RECORDS};
-ghost use Rattle.vt_past.specs.Kept.{GaveEvent, one_if_some, held_by};
-ghost use Rattle.vt_past.specs.Events.{past_event};
+ghost use Rattle.vt_past.specs.Kept.{GaveEvent, TookEvent, one_if_some, held_by};
+ghost use Rattle.vt_past.specs.Events.{past_event, undo_entry_of};
 
 use crate::event::{PastEvent, UndoEntry};
 use crate::past::Past;
@@ -14,8 +14,8 @@ use vt_key::Letter;
 use vt_list::{List, Parcel, Stack};
 use vt_model::Record;
 
-/// Nodes of committed past events and of letters that are no longer needed, kept to be used again. Nothing depends on
-/// their old contents.
+/// Nodes of committed or undone past events and of letters that are no longer needed, kept to be used again. Nothing
+/// depends on their old contents.
 ///
 /// An executed event needs a node for itself, and one for each message and anti-message that it sends. A committed event
 /// leaves its own node, that of its message and those of its anti-messages. In the long run these are as many, since each
@@ -24,6 +24,8 @@ use vt_model::Record;
 /// the value is dropped.
 ///
 /// A past event keeps the nodes of its anti-messages until it is used again. So a commit reads and writes none of them.
+/// An undone event's letter is pending again, and its anti-messages are sent. So it leaves its own node alone, and a letter
+/// that is kept stands in it.
 ///
 /// Contracts see how many nodes of letters and of past events are kept, and how many anti-messages these hold (`KeptNodes`).
 #[derive(Drop)]
@@ -152,6 +154,23 @@ impl<P: Copy, K: Copy> Spare<P, K> {
         past.move_onto(&mut self.events);
     }
 
+    /// Takes its letter, and what else its undo needs, out of an undone past event. Its node is kept where the node of a
+    /// letter is, which then stands in it. Otherwise it is freed.
+    pub fn take_apart(
+        &mut self,
+        mut event: Parcel<PastEvent<P, K>>,
+    ) -> (Parcel<Letter<P>>, UndoEntry<P, K>)
+        ensures parts { (result.0 ≡ event.letter) × (result.1 ≡ undo_entry_of event) }
+        ensures kept { TookEvent self.old self.new }
+    {
+        let Some(other) = self.take_letter() else {
+            return event.into_value().into_parts();
+        };
+        let parts = event.get_mut().take_parts(other);
+        self.collect(event);
+        parts
+    }
+
     // The old content of one of the nodes that the next two letters get. The other one is `anti_message`, if it is kept.
     fn next_letter(&self) -> Option<&Letter<P>> {
         match &self.message {
@@ -172,6 +191,7 @@ impl<P: Copy, K: Copy> Spare<P, K> {
     fn take_letter(&mut self) -> Option<Parcel<Letter<P>>>
         ensures taken { self.new ≡ record self.old { letters = self.old.letters - 1 } }
         ensures none_left { IfNone result (self.old.letters ≡ 0) }
+        ensures some_left { IfSome result (λ _. self.old.letters ≡ self.new.letters + 1) }
     {
         if let Some(parcel) = self.message.take() {
             return Some(parcel);
@@ -243,19 +263,7 @@ fn new_event<P: Copy, K: Copy>(
 {
     match Parcel::new(alloc, PastEvent::new(letter, undo_entry, records)) {
         Ok(event) => Ok(event),
-        Err(event) => {
-            let PastEvent {
-                records: _,
-                key: _,
-                letter,
-                anti_messages: _,
-                kept: _,
-                bits: _,
-                drawn: _,
-                number: _,
-            } = event;
-            Err(letter)
-        }
+        Err(event) => Err(event.into_parts().0),
     }
 }
 

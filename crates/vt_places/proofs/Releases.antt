@@ -15,8 +15,8 @@ use Rattle.vt_steps.specs.declared.step.Step.TheVariants.{Execute, Undo, Cancel,
 use Rattle.vt_steps.specs.declared.step.Reply.{Reply}
 use Rattle.vt_steps.specs.declared.step.Reply.TheVariants.{Done}
 use Rattle.vt_steps.specs.World.{Part}
-use Rattle.vt_steps.specs.PartSteps.{act_locally, home}
-use Rattle.vt_steps.specs.Cells.{book_cell, Cell, in_inbox, worker_of, cell_of, acted_locally, act}
+use Rattle.vt_steps.specs.PartSteps.{home}
+use Rattle.vt_steps.specs.Cells.{book_cell, Cell, in_inbox, worker_of, cell_of, acted_locally, act, act_locally}
 use Rattle.vt_steps.specs.Laws.{IsAny}
 use Rattle.vt_steps.specs.Marked.{Made, marked, made_done, LeadsLocally, LeadLocally, Leads}
 use Rattle.vt_steps.proofs.steps.Changes.{chain_has}

@@ -5,6 +5,9 @@ use Rattle.vt_model.specs.declared.settings.Config.{Config}
 use Rattle.vt_model.specs.Handler.{Handlers}
 use Rattle.vt_kernel.specs.Held.{HeldWorker}
 use Rattle.vt_places.specs.declared.view.View.{View}
+use Rattle.vt_places.specs.declared.place.Place.{Place}
+use Rattle.vt_places.specs.declared.station.Station.{Station}
+use Rattle.vt_places.specs.Told.{station_config, station_table, place_view}
 use Rattle.vt_places.specs.Calls.{Reaches}
 
 -- what a contract sees of a worker at its place: the station's model, config and table, what its place knows, and its kernel
@@ -14,6 +17,16 @@ pub record AtWork (M S P K : Type 0) : Type 0 where
   pub table : TableId
   pub view : View P
   pub kernel : HeldWorker S P K
+
+-- what is seen of one with this model and this kernel, at this place of this station
+abbrev pub at_work : {M S P K : Type 0} → Station M S P K → M → Place P → HeldWorker S P K → AtWork M S P K
+at_work station model place kernel = record {
+  model = model;
+  config = station_config station;
+  table = station_table station;
+  view = place_view place;
+  kernel = kernel;
+}
 
 -- what holds of it between calls: the place is one of this table, the station was told this model and this config, and local
 -- steps lead from what the place left to what the kernel stands for

@@ -1,7 +1,11 @@
 //! Looks at a cell, without a claim.
 
-ghost use Rattle.std.specs.Prelude.{◌≡◌, ◌<◌, true, false};
+ghost use Rattle.std.specs.Prelude.{◌≡◌, ◌<◌, true, false, Err, IfOk, IfErr};
+ghost use Rattle.vt_key.specs.Times.{TimeAtMost, TimeBefore};
+ghost use Rattle.vt_key.specs.declared.fault.Fault.TheVariants.{Memory, NotLawful};
 ghost use Rattle.vt_model.specs.Simulation.{simulation_of};
+ghost use Rattle.vt_model.specs.Settings.{end_of};
+ghost use Rattle.vt_steps.specs.Finals.{worker_finals};
 ghost use Rattle.vt_steps.specs.declared.step.Step.TheVariants as step;
 ghost use Rattle.vt_steps.specs.declared.step.Reply.TheVariants as reply;
 ghost use Rattle.vt_steps.specs.Letters.{is_empty};
@@ -11,9 +15,11 @@ ghost use Rattle.vt_places.specs.Calls.{IsShown, Reaches, Visited};
 
 use crate::place::Place;
 use crate::station::{EMPTY, Seat, Station};
+use std::alloc::Global;
 use std::marker::Brand;
 use vt_kernel::Kernel;
-use vt_model::Model as EventModel;
+use vt_key::Fault;
+use vt_model::{Config, Model as EventModel};
 
 impl<M: EventModel> Station<M> {
     /// Looks at a worker's inbox by one load, and answers whether it is empty. If it is, this look was the worker's fetch: its
@@ -41,5 +47,33 @@ impl<M: EventModel> Station<M> {
         ensures shown { IsShown (simulation_of (M.handlers (station_model self.now)) (station_config self.now)) (place_view place.old) }
     {
         let _ = self.load::<Brand, ()>(&mut place.seat, 0, &());
+    }
+
+    /// The final value of each process of the place's worker, in rising order of processes: what the model's `finish` makes of the
+    /// state after the whole sequential run. The book may be open still. The place is unchanged.
+    ///
+    /// [`Fault::NotLawful`]: the worker's floor isn't the end of the run. [`Fault::Memory`]: it is, and memory was refused.
+    pub fn finals(
+        &self,
+        alloc: Global,
+        model: &M,
+        config: Config,
+        place: &mut Place<M::Payload>,
+        kernel: &Kernel<M>,
+    ) -> Result<Vec<u64>, Fault>
+        requires told { (station_model self.now ≡ model.now) × (station_config self.now ≡ config) }
+        requires own { place_table place.old ≡ station_table self.now }
+        requires kernel { Reaches (M.handlers (station_model self.now)) (station_config self.now) (place_view place.old) kernel.now }
+        ensures same { (place_table place.new ≡ place_table place.old) × (place_worker place.new ≡ place_worker place.old) }
+        ensures unchanged { place_view place.new ≡ place_view place.old }
+        ensures values { IfOk result (λ v. v.items ≡ worker_finals (simulation_of (M.handlers model.now) config) (place_worker place.old)) }
+        ensures not_lawful { TimeBefore kernel.now.floor (end_of config) → result ≡ Err NotLawful }
+        ensures refused { TimeAtMost (end_of config) kernel.now.floor → IfErr result (λ fault. fault ≡ Memory) }
+    {
+        if kernel.floor() < config.end() {
+            return Err(Fault::NotLawful);
+        }
+        self.look(place);
+        kernel.finals(alloc, model)
     }
 }

@@ -1,4 +1,4 @@
-//! A worker at its place: the station's calls and the kernel's local steps together.
+//! A worker that is driven by hand: the station's calls and the kernel's local steps together.
 
 ghost use Rattle.std.specs.Prelude.{◌≡◌, ◌<◌, [], false, None, Err, IfOk, IfErr, MatchResult};
 ghost use Rattle.vt_key.specs.Times.{Time, TimeAtMost, TimeBefore};
@@ -29,9 +29,10 @@ use vt_kernel::Kernel;
 use vt_key::{Fault, Stamp, When};
 use vt_model::{Config, Model as EventModel, Out, Record};
 
-/// A worker: a kernel, and the place at a station by which it acts there.
+/// A worker that is driven by hand: a kernel, and the place at a station by which it acts there.
 ///
-/// The type guarantees that the kernel is what local steps make of the worker's part after the place's last visit.
+/// The type guarantees that the kernel is what local steps make of the worker's part after the place's last visit. So each of its
+/// calls may be made at any time, and none needs a proof. The running of workers calls the station and the kernel itself.
 #[derive(Drop)]
 pub struct Worker<'a, M: EventModel> {
     alloc: Global,
@@ -43,26 +44,14 @@ pub struct Worker<'a, M: EventModel> {
 }
 
 impl<'a, M: EventModel> Model for Worker<'a, M> {
-    ghost use Rattle.vt_places.specs.Told.{station_model, station_config, station_table, place_table, place_view};
-    ghost use Rattle.vt_places.specs.AtWork.{AtWork, IsAtWork};
+    ghost use Rattle.vt_places.specs.Told.{station_model, place_table};
+    ghost use Rattle.vt_places.specs.AtWork.{AtWork, IsAtWork, at_work};
 
     ghost Value = { AtWork M M.State M.Payload M.Kept };
 
-    ghost view = { λ w. record {
-      model = w.model.now;
-      config = station_config w.station.now;
-      table = station_table w.station.now;
-      view = place_view w.place;
-      kernel = w.kernel;
-    } };
+    ghost view = { λ w. at_work w.station.now w.model.now w.place w.kernel };
 
-    ghost invariant = { λ w. IsAtWork M.handlers (station_model w.station.now) w.config (place_table w.place) (record {
-      model = w.model.now;
-      config = station_config w.station.now;
-      table = station_table w.station.now;
-      view = place_view w.place;
-      kernel = w.kernel;
-    }) };
+    ghost invariant = { λ w. IsAtWork M.handlers (station_model w.station.now) w.config (place_table w.place) (at_work w.station.now w.model.now w.place w.kernel) };
 }
 
 /// Why a worker could not be made, and its place.
@@ -322,10 +311,9 @@ impl<'a, M: EventModel> Worker<'a, M> {
         self.station.records(self.alloc, &mut self.place)
     }
 
-    /// The final value of each process of this worker, in rising order of processes: what the model's `finish` makes of the
-    /// state after the whole sequential run. The book may be open still.
+    /// The final value of each process of this worker, in rising order of processes.
     ///
-    /// [`Fault::NotLawful`]: the worker's floor isn't the end of the run. [`Fault::Memory`]: it is, and memory was refused.
+    /// [`Fault`]: as [`Station::finals`] says; the worker is unchanged.
     pub fn finals(&mut self) -> Result<Vec<u64>, Fault>
         ensures place { IsAtSamePlace self.old self.new }
         ensures kernel { self.new.kernel ≡ self.old.kernel }
@@ -333,11 +321,13 @@ impl<'a, M: EventModel> Worker<'a, M> {
         ensures not_lawful { TimeBefore self.old.kernel.floor (end_of self.old.config) → result ≡ Err NotLawful }
         ensures refused { TimeAtMost (end_of self.old.config) self.old.kernel.floor → IfErr result (λ fault. fault ≡ Memory) }
     {
-        if self.kernel.floor() < self.config.end() {
-            return Err(Fault::NotLawful);
-        }
-        self.station.look(&mut self.place);
-        self.kernel.finals(self.alloc, self.model)
+        self.station.finals(
+            self.alloc,
+            self.model,
+            self.config,
+            &mut self.place,
+            &self.kernel,
+        )
     }
 
     /// The worker's kernel, to be read.

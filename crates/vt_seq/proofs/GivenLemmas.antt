@@ -1,5 +1,6 @@
 -- The records that the steps of a run give begin those of the whole run.
 use Rattle.std.proofs.Common.{◌≡◌, ℕ, zero, suc, ◌+◌, ◌<◌, ◌≤◌, inr, List, [], ◌∷◌, ◌++◌, Option, Some, None, filter, map, nat_lt, sym, subst, ap, ◌∙◌, arith, append_assoc, append-nil}
+use Rattle.std.specs.Option.{option_map_or}
 use Rattle.std.proofs.lemmas.List.{map-append}
 use Rattle.vt_key.specs.Times.{time_before}
 use Rattle.vt_key.specs.declared.limits.TheConstants.{MAX_COUNT}
@@ -11,7 +12,7 @@ use Rattle.vt_model.specs.Histories.{Among, IsLawful}
 use Rattle.vt_model.specs.Process.{triple_at}
 use Rattle.vt_model.specs.Rows.{record_time}
 use Rattle.vt_model.specs.Simulation.{Simulation, Fired, Triple, after}
-use Rattle.vt_model.specs.Sequential.{RunState, opening, events_of, least_event, fired_after, next_state, after_steps, weight, whole_run, rows_after, records_of, seq_records}
+use Rattle.vt_model.specs.Sequential.{RunState, opening, events_of, least_event, fired_after, with_event, after_steps, weight, whole_run, rows_after, records_of, seq_records}
 use Rattle.vt_model.proofs.EndLemmas.{ends, no_step, executed_all}
 use Rattle.vt_model.proofs.RowLemmas.{all_before, told_before}
 use Rattle.vt_model.proofs.RunLemmas.{known_sent, lists_of, reached}
@@ -38,7 +39,7 @@ module _ {S P : Type 0} (sim : Simulation S P) where
     x : RunState P
     x = after_steps sim n
 
-    go : (o : Option (Sent P)) → (fresh : List Record) × (records_of (rows_after sim [] (next_state sim x o).executed) ≡ records_of (rows_after sim [] x.executed) ++ fresh)
+    go : (o : Option (Sent P)) → (fresh : List Record) × (records_of (rows_after sim [] (option_map_or (with_event sim x) o x).executed) ≡ records_of (rows_after sim [] x.executed) ++ fresh)
     go None = ([], sym (append-nil _))
     go (Some e) = (records_of (fired_after sim x.executed e).rows, records-snoc x.executed e)
 

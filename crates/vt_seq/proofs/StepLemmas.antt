@@ -1,6 +1,7 @@
 -- One step of the code is one step of the definition.
 use Rattle.std.proofs.Common.{◌≡◌, ℕ, zero, suc, ◌+◌, ◌^◌, ◌<◌, ◌≤◌, inl, inr, List, [], ◌∷◌, ◌++◌, Bool, true, false, not, filter, drop, Option, Some, None, nat_eq, nat_lt, length, slice_get, slice_index_or, slice_set, Result, Ok, Err, IfOk, IfErr, refl, sym, subst, ap, ◌∙◌, arith}
 use Rattle.std.specs.List.{sum_by}
+use Rattle.std.specs.Option.{option_map_or}
 use Rattle.std.proofs.lemmas.List.{set-get_or, get_or-set_same, get_or-set_other}
 use Rattle.std.proofs.lemmas.List.Sums.{sum_by-cons}
 use Rattle.std.proofs.lemmas.Bool.{eqb-true, eq-eqb, ltb-true}
@@ -14,7 +15,7 @@ use Rattle.vt_model.specs.declared.limits.TheConstants.{MAX_SENDS}
 use Rattle.vt_model.specs.declared.rows.Record.{Record}
 use Rattle.vt_model.specs.declared.sending.Sent.{Sent}
 use Rattle.vt_model.specs.Simulation.{Simulation, Fired, Triple, after, simulation_of}
-use Rattle.vt_model.specs.Sequential.{RunState, events_of, least_event, fired_after, with_event, next_state, after_steps, weight}
+use Rattle.vt_model.specs.Sequential.{RunState, events_of, least_event, fired_after, with_event, after_steps, weight}
 use Rattle.vt_model.specs.Histories.{Among, IsRising, sends_of, IsLawful}
 use Rattle.vt_model.proofs.HistoryLemmas.{among-left, among-right, among-append, after-among}
 use Rattle.vt_model.proofs.RunLemmas.{tested, among-filter, filter-among, least-found, known_sent, lists_of, IsReached, reached, numbered-all, numbered-among, events_of-same, events_of-other, after-snoc}
@@ -187,7 +188,7 @@ module _ {M S P K : Type 0} (sim : Simulation S P) (lawful : IsLawful sim) where
       let x : RunState P = after_steps sim n in
       let rest : List (Sent P) = drop 1 pending in
       let st' : StandsFor sim x (e ∷ rest) processes = subst (λ (l : List (Sent P)). StandsFor sim x l processes) (opened pending e next.some next.first) st in
-      ap (next_state sim x) (head-least sim lawful x e rest st'.rising st'.sent st'.had)
+      ap (λ (o : Option (Sent P)). option_map_or (with_event sim x) o x) (head-least sim lawful x e rest st'.rising st'.sent st'.had)
 
   -- the code's step is the definition's
   pub stands_step : (n : ℕ) {pending after_pending : List (Sent P)} {processes : List (Process M S P K)} {records after_records : List Record} {e : Sent P} {p : Process M S P K} (q : Process M S P K)

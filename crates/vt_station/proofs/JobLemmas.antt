@@ -7,10 +7,12 @@ use Rattle.std.proofs.lemmas.List.Elements.{All-push}
 use Rattle.std.specs.List.{remove}
 use Rattle.atomic_table.specs.Seated.{TableId}
 use Rattle.vt_model.specs.declared.settings.Config.{Config}
-use Rattle.vt_model.specs.Simulation.{Simulation}
+use Rattle.vt_model.specs.Handler.{Handlers}
+use Rattle.vt_model.specs.Simulation.{Simulation, simulation_of}
 use Rattle.vt_places.specs.declared.place.Place.{Place}
 use Rattle.vt_places.specs.Making.{IsNew, AreNew}
-use Rattle.vt_station.specs.Crew.{AtJob, IsSameJob, AllAt, AreInOrder}
+use Rattle.vt_station.specs.declared.driver.Outcome.{Outcome}
+use Rattle.vt_station.specs.Crew.{AtJob, IsLeft, IsJob, IsSameJob, AllAt, AreInOrder}
 
 -- the first of some places, and the places behind it
 pub next-new : {S P : Type 0} {sim : Simulation S P} {table : TableId} {i : ℕ} (places : List (Place P)) (place : Place P) → 0 < length places → place ≡ slice_index_or places 0 place → AreNew sim table i places
@@ -31,6 +33,14 @@ more-in-order {M} {P} jobs job order worker w d below =
 -- and of the same model and config
 pub more-at : {M P : Type 0} (model : M) (config : Config) (jobs : List (AtJob M P)) (job : AtJob M P) → AllAt model config jobs → (job.model ≡ model) × (job.config ≡ config) → AllAt model config (jobs ++ job ∷ [])
 more-at {M} {P} model config jobs job all told = All-push (λ (j : AtJob M P). (j.model ≡ model) × (j.config ≡ config)) jobs job all told
+
+-- the place that is taken before the work has begun is as it was made
+pub place-new : {M S P K : Type 0} {handlers : M → Handlers S P K} {told model : M} {known config : Config} {table : TableId} {worker : ℕ} {place taken : Option (Place P)} {outcome : Option Outcome} {finals : Option (List ℕ)} {there : Place P}
+    → IsJob handlers told known table model config worker place outcome finals → outcome ≡ None → taken ≡ place → taken ≡ Some there → IsNew (simulation_of (handlers model) config) table worker there
+place-new {handlers = handlers} {model = model} {config = config} {table} {worker} {there = there} job begins value is =
+    let sim = simulation_of (handlers model) config in
+    let same : job.there ≡ there = (let h : Some job.there ≡ Some there = sym job.place_is ∙ sym value ∙ is in cc) in
+    subst (IsNew sim table worker) same (subst (λ (o : Option Outcome). IsLeft sim table worker o job.there) begins job.left)
 
 -- what is there isn't found missing
 pub none-taken : {X : Type 0} {Y : Type 0} {there : X} {place taken : Option X} → place ≡ Some there → taken ≡ place → taken ≡ None → Y

@@ -22,9 +22,10 @@ use std::marker::Model;
 use std::sync::Wait;
 use std::thread;
 use std::thread::Threads;
+use vt_kernel::Kernel;
 use vt_key::Fault;
 use vt_model::{Config, Model as EventModel, Record};
-use vt_places::{NotMade, Place, Station, Worker};
+use vt_places::{Place, Station};
 
 /// A run that stopped before its end: why, and the records that were committed, a beginning of all.
 #[derive(Drop)]
@@ -98,22 +99,24 @@ impl<'a, M: EventModel> Job<'a, M> {
         let Some(place) = self.place.take() else {
             return;
         };
-        let made = Worker::new(
-            alloc,
-            self.station,
-            self.model,
-            self.config,
-            self.worker,
-            place,
-        );
-        match made {
-            Ok(worker) => {
-                let mut driver = Driver::new(alloc, worker, bells);
+        match Kernel::new(alloc, self.model, self.config, self.worker) {
+            Ok(kernel) => {
+                let mut driver = Driver::new(
+                    alloc,
+                    self.station,
+                    self.model,
+                    self.config,
+                    self.worker,
+                    place,
+                    kernel,
+                    bells,
+                );
                 self.outcome = Some(driver.run(rt, task.watch, task.max_turns));
+                driver.tell(task.watch);
                 self.finals = driver.finals(task.wanted);
                 self.place = Some(driver.leave());
             }
-            Err(NotMade { fault, place }) => {
+            Err(fault) => {
                 self.outcome = Some(Outcome::Refused(fault));
                 self.place = Some(place);
             }

@@ -1,23 +1,25 @@
 //! The turns of a worker.
 
-ghost use Rattle.std.specs.Prelude.{◌≡◌, ◌<◌, ◌≤◌, ◌⊎◌, suc, IsTrue, IsFalse, IfErr, IfSome};
+ghost use Rattle.std.specs.Prelude.{◌≡◌, IfErr, IfSome};
 ghost use Rattle.vt_model.specs.Simulation.{simulation_of};
 ghost use Rattle.vt_steps.specs.Finals.{worker_finals};
-ghost use Rattle.vt_places.specs.Told.{place_table, place_view};
-ghost use Rattle.vt_places.specs.AtWork.{IsAtSamePlace, IsAtSameStation};
-ghost use Rattle.vt_station.specs.Turns.{IsLasting, IsPassedOver, HasEnded};
+ghost use Rattle.vt_places.specs.Told.{station_model, place_table, place_view};
+ghost use Rattle.vt_places.specs.AtWork.{IsAtWork, IsAtSamePlace, IsAtSameStation, at_work};
+ghost use Rattle.vt_station.specs.Turns.{IsLasting, IsPassedOver, IsPartOfTurn, HasEnded};
 
 use crate::bell::Bells;
 use crate::pace::Pace;
 use crate::watch::{Progress, Watch};
 use std::alloc::Global;
 use std::hint::spin_loop;
+use std::marker::Model;
 use std::sync::Wait;
 use std::thread::yield_now;
 use vt_board::Report;
+use vt_kernel::Kernel;
 use vt_key::{Fault, When};
-use vt_model::{Model as EventModel, Out};
-use vt_places::{Place, Worker};
+use vt_model::{Config, Model as EventModel, Out};
+use vt_places::{Place, Station};
 
 /// How often in a row a worker tries again at once after it found a cell claimed by another place. Then it yields its
 /// processor.
@@ -32,10 +34,6 @@ const MOST_LOOKS: u32 = 4_000;
 
 /// The fewest looks of a worker at its bell before it sleeps. They are few, so that on a busy machine it sleeps nearly at once.
 const LEAST_LOOKS: u32 = 100;
-
-/// How many turns a worker makes after another one has left before the end of the run. They are enough to close a
-/// book to which all have handed in.
-const LAST_TURNS: u32 = 8;
 
 /// How the work of a worker ended.
 #[derive(Clone, Copy)]
@@ -59,10 +57,19 @@ pub(crate) enum Wanted {
     Finals,
 }
 
-/// A worker and what it needs to make its turns.
+/// A worker: its kernel, its place at the station, and what it needs to make its turns.
+///
+/// The type guarantees that the kernel is what local steps make of the worker's part after the place's last visit.
 #[derive(Drop)]
 pub(crate) struct Driver<'a, M: EventModel> {
-    worker: Worker<'a, M>,
+    config: Config,
+    // The number of the worker.
+    number: u32,
+    place: Place<M::Payload>,
+    kernel: Kernel<M>,
+    station: &'a Station<M>,
+    model: &'a M,
+    alloc: Global,
     // The processes that have to be settled, since letters have reached them.
     touched: Vec<u32>,
     // The worker's floor at its last hand-in.
@@ -85,24 +92,48 @@ pub(crate) struct Driver<'a, M: EventModel> {
     spins: u32,
     // How often the worker looks at its bell before it sleeps: halved after each sleep, doubled after each wait without one.
     looks: u32,
-    // How many turns were made since another worker left before the end of the run.
-    last_turns: u32,
     // How many events were executed, and how many undone, since the worker last told of it.
     executed: u64,
     undone: u64,
 }
 
+impl<'a, M: EventModel> Model for Driver<'a, M> {
+    ghost use Rattle.vt_places.specs.Told.{station_model, place_table};
+    ghost use Rattle.vt_places.specs.AtWork.{AtWork, IsAtWork, at_work};
+
+    ghost Value = { AtWork M M.State M.Payload M.Kept };
+
+    ghost view = { λ d. at_work d.station.now d.model.now d.place d.kernel };
+
+    ghost invariant = { λ d. IsAtWork M.handlers (station_model d.station.now) d.config (place_table d.place) (at_work d.station.now d.model.now d.place d.kernel) };
+}
+
 impl<'a, M: EventModel> Driver<'a, M> {
-    /// A worker before its first turn.
-    pub(crate) fn new(alloc: Global, worker: Worker<'a, M>, bells: &'a Bells) -> Driver<'a, M>
-        ensures { result.worker ≡ worker.entry }
+    /// Worker `number` before its first turn, with its place and its kernel.
+    pub(crate) fn new(
+        alloc: Global,
+        station: &'a Station<M>,
+        model: &'a M,
+        config: Config,
+        number: u32,
+        place: Place<M::Payload>,
+        kernel: Kernel<M>,
+        bells: &'a Bells,
+    ) -> Driver<'a, M>
+        requires ready { IsAtWork M.handlers (station_model station.now) config (place_table place) (at_work station.now model.now place kernel) }
+        ensures made { result ≡ at_work station.now model.now place kernel }
     {
-        let pace = Pace::new(worker.config().workers);
         Driver {
-            worker,
+            alloc,
+            station,
+            model,
+            config,
+            number,
+            place,
+            kernel,
             touched: Vec::new(alloc),
             handed: When::tick(0),
-            pace,
+            pace: Pace::new(config.workers),
             bells,
             heard: 0,
             fetched: 0,
@@ -112,7 +143,6 @@ impl<'a, M: EventModel> Driver<'a, M> {
             idle: false,
             spins: 0,
             looks: MOST_LOOKS,
-            last_turns: 0,
             executed: 0,
             undone: 0,
         }
@@ -121,29 +151,32 @@ impl<'a, M: EventModel> Driver<'a, M> {
     /// The final values of the worker's processes, if they are wanted. None too if the worker's floor isn't the end of the run,
     /// or memory was refused.
     pub(crate) fn finals(&mut self, wanted: Wanted) -> Option<Vec<u64>>
-        ensures same { IsAtSamePlace self.old.worker self.new.worker }
-        ensures values { IfSome result (λ v. v.items ≡ worker_finals (simulation_of (M.handlers self.old.worker.model) self.old.worker.config) self.old.worker.view.worker) }
+        ensures same { IsAtSamePlace self.old self.new }
+        ensures values { IfSome result (λ v. v.items ≡ worker_finals (simulation_of (M.handlers self.old.model) self.old.config) self.old.view.worker) }
     {
-        match wanted {
-            Wanted::Records => None,
-            Wanted::Finals => self.worker.finals().ok(),
-        }
+        let Wanted::Finals = wanted else {
+            return None;
+        };
+        let place = &mut self.place;
+        self.station
+            .finals(self.alloc, self.model, self.config, place, &self.kernel)
+            .ok()
     }
 
     /// Gives up the worker, and returns its place.
     pub(crate) fn leave(self) -> Place<M::Payload>
-        ensures table { place_table result ≡ self.entry.worker.table }
-        ensures view { place_view result ≡ self.entry.worker.view }
+        ensures table { place_table result ≡ self.entry.table }
+        ensures view { place_view result ≡ self.entry.view }
     {
-        self.worker.leave()
+        self.place
     }
 
     /// Notes that a letter has reached process `lp`, if it may have to be settled.
     fn touch(&mut self, lp: u32) -> Result<(), Fault>
-        ensures same { self.new.worker ≡ self.old.worker }
+        ensures same { self.new ≡ self.old }
         ensures lasting { IfErr result IsLasting }
     {
-        if !self.worker.kernel().is_unsettled(lp) {
+        if !self.kernel.is_unsettled(lp) {
             return Ok(());
         }
         let Ok(()) = self.touched.push(lp) else {
@@ -154,30 +187,39 @@ impl<'a, M: EventModel> Driver<'a, M> {
 
     /// Undoes and cancels at each process that letters have reached, and counts the letters that this takes back.
     fn settle_touched(&mut self)
-        ensures same { IsAtSameStation self.old.worker self.new.worker }
+        ensures same { IsAtSameStation self.old self.new }
     {
-        let before = self.worker.kernel().outbox_len();
+        let before = self.kernel.outbox_len();
         for i in 0..self.touched.len() {
-            if let Some(lp) = self.touched.get(i) {
-                self.undone = self.undone.saturating_add(self.worker.settle(*lp));
-            }
+            self.settle(i);
         }
         self.touched.clear();
-        let after = self.worker.kernel().outbox_len();
+        let after = self.kernel.outbox_len();
         self.pace.undo(after.saturating_sub(before));
+    }
+
+    /// Undoes and cancels at one of the processes that letters have reached, by its index among them.
+    fn settle(&mut self, i: usize)
+        ensures same { IsAtSameStation self.old self.new }
+    {
+        let Some(lp) = self.touched.get(i) else {
+            return;
+        };
+        let undone = self.kernel.settle(self.model, *lp);
+        self.undone = self.undone.saturating_add(undone);
     }
 
     /// Accepts all mail that has arrived, the last letter first.
     fn accept_all(&mut self) -> Result<(), Fault>
-        ensures same { IsAtSameStation self.old.worker self.new.worker }
-        ensures lasting { IfErr result IsLasting }
+        ensures part { IsPartOfTurn self.old self.new result }
     {
-        for i in (0..self.worker.kernel().arrived_len()).rev() {
+        for i in (0..self.kernel.arrived_len()).rev() {
             let i = i as u64;
-            let Some(lp) = self.worker.kernel().arrived_for(i) else {
+            let Some(lp) = self.kernel.arrived_for(i) else {
                 continue;
             };
-            pass_over(self.worker.accept(i))?;
+            let answer = self.kernel.accept(self.alloc, i);
+            self.is_done(answer)?;
             self.touch(lp)?;
         }
         Ok(())
@@ -185,45 +227,36 @@ impl<'a, M: EventModel> Driver<'a, M> {
 
     /// Takes all letters of the outbox that are for processes of this worker home.
     fn home_all(&mut self) -> Result<(), Fault>
-        ensures same { IsAtSameStation self.old.worker self.new.worker }
-        ensures lasting { IfErr result IsLasting }
+        ensures part { IsPartOfTurn self.old self.new result }
     {
-        for _ in 0..self.worker.kernel().outbox_len() {
-            let Some(lp) = self.worker.kernel().home_for() else {
+        for _ in 0..self.kernel.outbox_len() {
+            let Some(lp) = self.kernel.home_for() else {
                 break;
             };
-            let Ok(()) = self.worker.home() else {
+            let answer = self.kernel.home();
+            if !self.is_done(answer)? {
                 break;
-            };
+            }
             self.touch(lp)?;
         }
         Ok(())
     }
 
-    /// How many events this turn may execute: none once another worker has left before the end of the run.
-    fn allowed(&self) -> u32
-        ensures { 0 < self.now.last_turns → result ≡ 0 }
-    {
-        if self.last_turns > 0 {
-            0
-        } else {
-            self.pace.allowed()
-        }
-    }
-
     /// Executes events, each time the one of least rank, and returns how many.
     fn execute_some<W: Watch>(&mut self, watch: &W, turn: u64) -> Result<u32, Fault>
-        ensures same { IsAtSameStation self.old.worker self.new.worker }
-        ensures lasting { IfErr result IsLasting }
+        ensures part { IsPartOfTurn self.old self.new result }
     {
-        let most = self.allowed();
-        let mut out = Out::new(self.worker.config(), 0, When::tick(0), 0);
+        let most = self.pace.allowed();
+        let mut out = Out::new(self.config, 0, When::tick(0), 0);
         for done in 0..most {
-            let Some(lp) = self.worker.kernel().next() else {
+            let Some(lp) = self.kernel.next() else {
                 return Ok(done);
             };
-            watch.before_execute(self.worker.number(), turn);
-            if !pass_over(self.worker.execute_reusing(lp, &mut out))? {
+            watch.before_execute(self.number, turn);
+            let answer = self
+                .kernel
+                .execute_reusing(self.alloc, self.model, lp, &mut out);
+            if !self.is_done(answer)? {
                 return Ok(done);
             }
         }
@@ -233,15 +266,14 @@ impl<'a, M: EventModel> Driver<'a, M> {
     /// Sends to each worker that there are letters for, until all are sent or another place has claimed an inbox. It begins
     /// with the worker behind this one, so that the workers don't all begin at one inbox.
     fn post_all(&mut self) -> Result<(), Fault>
-        ensures same { IsAtSameStation self.old.worker self.new.worker }
-        ensures lasting { IfErr result IsLasting }
+        ensures part { IsPartOfTurn self.old self.new result }
     {
-        let mut from = self.worker.number().saturating_add(1);
-        for _ in 0..self.worker.config().workers {
+        let mut from = self.number.saturating_add(1);
+        for _ in 0..self.config.workers {
             let Some(v) = self.receiver_from(from) else {
                 break;
             };
-            let answer = self.worker.post(v);
+            let answer = self.station.post(&mut self.place, &mut self.kernel, v);
             if !self.is_done(answer)? {
                 break;
             }
@@ -253,41 +285,39 @@ impl<'a, M: EventModel> Driver<'a, M> {
 
     /// The first worker that there are letters for, of those from this number on and then of all.
     fn receiver_from(&self, from: u32) -> Option<u32> {
-        let kernel = self.worker.kernel();
-        match kernel.receiver_from(from) {
-            None => kernel.receiver_from(0),
+        match self.kernel.receiver_from(from) {
+            None => self.kernel.receiver_from(0),
             found => found,
         }
     }
 
-    /// Whether a call was done. Notes if another place had claimed the cell. An error is a fault that no later turn
-    /// mends.
+    /// Whether a call was done. Notes if another place had claimed the cell. An error is a fault that no later turn mends.
     fn is_done(&mut self, answer: Result<(), Fault>) -> Result<bool, Fault>
-        ensures same { self.new.worker ≡ self.old.worker }
+        ensures same { self.new ≡ self.old }
         ensures passed { IsPassedOver answer result }
         ensures lasting { IfErr result IsLasting }
     {
-        if let Err(Fault::Busy) = answer {
-            self.busy = true;
+        match answer {
+            Ok(()) => Ok(true),
+            Err(Fault::Memory) => Err(Fault::Memory),
+            Err(Fault::Exhausted) => Err(Fault::Exhausted),
+            Err(fault) => {
+                self.busy = self.busy || fault == Fault::Busy;
+                Ok(false)
+            }
         }
-        pass_over(answer)
     }
 
     /// Takes part in the round of global virtual time by one cut or one report, and returns whether one was done.
     /// After that it doesn't ask again until the round has moved on, unless another place had claimed the board.
     fn agree(&mut self) -> Result<bool, Fault>
-        ensures same { IsAtSameStation self.old.worker self.new.worker }
-        ensures lasting { IfErr result IsLasting }
+        ensures part { IsPartOfTurn self.old self.new result }
     {
         let moves = self.bells.moves();
         if self.asked == Some(moves) {
             return Ok(false);
         }
-        let answer = if self.has_cut {
-            self.report()
-        } else {
-            self.cut()
-        };
+        let answer = self.cut_or_report();
         if answer != Err(Fault::Busy) {
             self.asked = Some(moves);
         }
@@ -295,14 +325,17 @@ impl<'a, M: EventModel> Driver<'a, M> {
     }
 
     /// One cut; if the worker has cut in this round already, one report.
-    fn cut(&mut self) -> Result<(), Fault>
-        ensures same { IsAtSameStation self.old.worker self.new.worker }
+    fn cut_or_report(&mut self) -> Result<(), Fault>
+        ensures same { IsAtSameStation self.old self.new }
     {
-        match self.worker.cut() {
+        if self.has_cut {
+            return self.report();
+        }
+        match self.station.cut(&mut self.place, &mut self.kernel) {
             Ok(()) => {
                 self.has_cut = true;
                 self.pace.adapt();
-                self.bells.cut(self.worker.number());
+                self.bells.cut(self.number);
                 Ok(())
             }
             Err(Fault::NotLawful) => self.report(),
@@ -312,28 +345,28 @@ impl<'a, M: EventModel> Driver<'a, M> {
 
     /// One report.
     fn report(&mut self) -> Result<(), Fault>
-        ensures same { IsAtSameStation self.old.worker self.new.worker }
+        ensures same { IsAtSameStation self.old self.new }
     {
-        match self.worker.report() {
+        match self.station.report(&mut self.place, &mut self.kernel) {
             Ok(Report::Waiting) => {}
-            Ok(Report::Again | Report::Announced(_)) => self.bells.move_on(self.worker.number()),
+            Ok(Report::Again | Report::Announced(_)) => self.bells.move_on(self.number),
             Err(fault) => return Err(fault),
         }
         self.has_cut = false;
         Ok(())
     }
 
-    /// Hands in if the floor has risen since the last hand-in; otherwise the book has all that there is. Returns
-    /// whether it was done.
+    /// Hands in if the floor has risen since the last hand-in; else the book has all that there is. Returns whether it was done.
     fn commit_risen(&mut self) -> Result<bool, Fault>
-        ensures same { IsAtSameStation self.old.worker self.new.worker }
-        ensures lasting { IfErr result IsLasting }
+        ensures part { IsPartOfTurn self.old self.new result }
     {
-        let floor = self.worker.kernel().floor();
+        let floor = self.kernel.floor();
         if floor == self.handed {
             return Ok(false);
         }
-        let answer = self.worker.commit();
+        let answer = self
+            .station
+            .commit(self.alloc, &mut self.place, &mut self.kernel);
         let done = self.is_done(answer)?;
         if done {
             self.handed = floor;
@@ -344,13 +377,13 @@ impl<'a, M: EventModel> Driver<'a, M> {
     /// Closes the book if the worker knows that the end of the run was announced; before that, closing isn't lawful.
     /// Returns how the work ended, if it has.
     fn close(&mut self) -> Option<Outcome>
-        ensures same { IsAtSameStation self.old.worker self.new.worker }
-        ensures ended { IfSome result (HasEnded self.new.worker.view) }
+        ensures same { IsAtSameStation self.old self.new }
+        ensures ended { IfSome result (HasEnded self.new.view) }
     {
-        if self.worker.kernel().floor() < self.worker.config().end() {
+        if self.kernel.floor() < self.config.end() {
             return None;
         }
-        match self.worker.close() {
+        match self.station.close(&mut self.place) {
             Ok(()) => Some(Outcome::Closed),
             Err(Fault::Closed) => Some(Outcome::Ended),
             Err(fault) => {
@@ -361,34 +394,19 @@ impl<'a, M: EventModel> Driver<'a, M> {
     }
 }
 
-/// Whether a call was done. An error is a fault that no later turn mends.
-fn pass_over(answer: Result<(), Fault>) -> Result<bool, Fault>
-    ensures passed { IsPassedOver answer result }
-    ensures lasting { IfErr result IsLasting }
-{
-    match answer {
-        Ok(()) => Ok(true),
-        Err(Fault::Memory) => Err(Fault::Memory),
-        Err(Fault::Exhausted) => Err(Fault::Exhausted),
-        Err(_) => Ok(false),
-    }
-}
-
 impl<'a, M: EventModel> Driver<'a, M> {
-    /// A turn up to its cut: fetches and accepts mail, executes events, and sends mail. Returns whether an event was
-    /// executed.
+    /// A turn up to its cut: fetches and accepts mail, executes events, sends mail. Returns whether an event was executed.
     fn work<W: Watch>(&mut self, watch: &W, turn: u64) -> Result<bool, Fault>
-        ensures same { IsAtSameStation self.old.worker self.new.worker }
-        ensures lasting { IfErr result IsLasting }
+        ensures part { IsPartOfTurn self.old self.new result }
     {
         self.fetch()?;
         self.accept_all()?;
         self.settle_touched();
         self.home_all()?;
         self.settle_touched();
-        let before = self.worker.kernel().outbox_len();
+        let before = self.kernel.outbox_len();
         let executed = self.execute_some(watch, turn)?;
-        let after = self.worker.kernel().outbox_len();
+        let after = self.kernel.outbox_len();
         self.pace.make(after.saturating_sub(before));
         self.executed = self.executed.saturating_add(u64::from(executed));
         self.post_all()?;
@@ -397,14 +415,13 @@ impl<'a, M: EventModel> Driver<'a, M> {
 
     /// Fetches the mail of the worker's inbox, if any was put there since the last fetch.
     fn fetch(&mut self) -> Result<(), Fault>
-        ensures same { IsAtSameStation self.old.worker self.new.worker }
-        ensures lasting { IfErr result IsLasting }
+        ensures part { IsPartOfTurn self.old self.new result }
     {
-        let mail = self.bells.mail(self.worker.number());
-        if mail == self.fetched || self.worker.kernel().arrived_len() > 0 {
+        let mail = self.bells.mail(self.number);
+        if mail == self.fetched || self.kernel.arrived_len() > 0 {
             return Ok(());
         }
-        let answer = self.worker.fetch();
+        let answer = self.station.fetch(&mut self.place, &mut self.kernel);
         if self.is_done(answer)? {
             self.fetched = mail;
             self.pace.disturb();
@@ -414,64 +431,55 @@ impl<'a, M: EventModel> Driver<'a, M> {
 
     /// One turn, all but the close of the book.
     fn turn<W: Watch>(&mut self, watch: &W, turn: u64) -> Result<(), Fault>
-        ensures same { IsAtSameStation self.old.worker self.new.worker }
-        ensures lasting { IfErr result IsLasting }
+        ensures part { IsPartOfTurn self.old self.new result }
     {
-        self.heard = self.bells.heard(self.worker.number());
-        self.busy = false;
         let executed = self.work(watch, turn)?;
         let agreed = self.agree()?;
         let committed = self.commit_risen()?;
-        self.pace.count_turn(agreed, committed, executed);
-        let goes_on = !self.pace.is_held() && (executed || self.worker.kernel().outbox_len() > 0);
-        self.idle = !(agreed || committed || goes_on);
         if committed {
             self.tell(watch);
         }
+        self.pace.count_turn(agreed, committed, executed);
+        let goes_on = !self.pace.is_held() && (executed || self.kernel.outbox_len() > 0);
+        self.idle = !(agreed || committed || goes_on);
         Ok(())
     }
 
     /// Tells what watches the run what was done since it was last told.
-    fn tell<W: Watch>(&mut self, watch: &W)
-        ensures same { self.new.worker ≡ self.old.worker }
+    pub(crate) fn tell<W: Watch>(&mut self, watch: &W)
+        ensures same { self.new ≡ self.old }
     {
         let progress = Progress {
-            tick: self.worker.kernel().floor().ticks(),
+            tick: self.kernel.floor().ticks(),
             executed: self.executed,
             undone: self.undone,
         };
-        watch.tell(self.worker.number(), progress);
+        watch.tell(self.number, progress);
         self.executed = 0;
         self.undone = 0;
     }
 
     /// Rests if the turn left nothing to go on with: it spins or yields if another try may soon do, else waits for
-    /// the bell.
+    /// the bell. A ring since the turn began counts.
     fn rest<R: Wait>(&mut self, rt: &R)
-        ensures same { self.new.worker ≡ self.old.worker }
+        ensures same { self.new ≡ self.old }
     {
-        if !self.idle {
-            self.spins = 0;
-        } else if self.busy && self.spins < MOST_SPINS {
+        if self.idle && self.busy && self.spins < MOST_SPINS {
             self.spins += 1;
             for _ in 0..PAUSES {
                 spin_loop();
             }
-        } else if self.busy || self.worker.kernel().arrived_len() > 0 || self.bells.is_stopped() {
-            self.spins = 0;
-            yield_now();
-        } else {
-            self.spins = 0;
-            self.wait(rt);
+            return;
         }
-    }
-
-    /// Waits until the bell is rung. A ring since the turn began counts.
-    fn wait<R: Wait>(&mut self, rt: &R)
-        ensures same { self.new.worker ≡ self.old.worker }
-    {
-        let number = self.worker.number();
-        let slept = self.bells.wait(rt, number, self.heard, self.looks);
+        self.spins = 0;
+        if !self.idle {
+            return;
+        }
+        if self.busy || self.kernel.arrived_len() > 0 || self.bells.is_stopped() {
+            yield_now();
+            return;
+        }
+        let slept = self.bells.wait(rt, self.number, self.heard, self.looks);
         self.looks = if slept {
             (self.looks / 2).max(LEAST_LOOKS)
         } else {
@@ -479,38 +487,22 @@ impl<'a, M: EventModel> Driver<'a, M> {
         };
     }
 
-    /// Whether another turn may do something. After another worker has left before the end of the run, only a few
-    /// may.
-    fn goes_on(&mut self) -> bool
-        ensures same { self.new.worker ≡ self.old.worker }
-        ensures more { IsTrue result → (self.new.last_turns ≡ self.old.last_turns) ⊎ ((self.new.last_turns ≡ suc self.old.last_turns) × (self.new.last_turns ≤ LAST_TURNS)) }
-        ensures enough { IsFalse result → LAST_TURNS ≤ self.old.last_turns }
+    /// Begins a turn, if another one may do something.
+    fn begins(&mut self) -> bool
+        ensures same { self.new ≡ self.old }
     {
-        if !self.bells.is_stopped() {
-            return true;
-        }
-        self.last_turns = self.last_turns.saturating_add(1);
-        self.last_turns <= LAST_TURNS
-    }
-
-    /// Makes turn after turn, until the book is closed, a call is refused for good, or all turns are made. Then it tells what
-    /// watches the run what was done.
-    pub(crate) fn run<R: Wait, W: Watch>(&mut self, rt: &R, watch: &W, max_turns: u64) -> Outcome
-        ensures same { IsAtSameStation self.old.worker self.new.worker }
-        ensures ended { HasEnded self.new.worker.view result }
-    {
-        let outcome = self.make_turns(rt, watch, max_turns);
-        self.tell(watch);
-        outcome
+        self.heard = self.bells.heard(self.number);
+        self.busy = false;
+        self.pace.goes_on(self.bells.is_stopped())
     }
 
     /// Makes turn after turn, until the book is closed, a call is refused for good, or all turns are made.
-    fn make_turns<R: Wait, W: Watch>(&mut self, rt: &R, watch: &W, max_turns: u64) -> Outcome
-        ensures same { IsAtSameStation self.old.worker self.new.worker }
-        ensures ended { HasEnded self.new.worker.view result }
+    pub(crate) fn run<R: Wait, W: Watch>(&mut self, rt: &R, watch: &W, max_turns: u64) -> Outcome
+        ensures same { IsAtSameStation self.old self.new }
+        ensures ended { HasEnded self.new.view result }
     {
         for turn in 0..max_turns {
-            if !self.goes_on() {
+            if !self.begins() {
                 break;
             }
             if let Err(fault) = self.turn(watch, turn + 1) {

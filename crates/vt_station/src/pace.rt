@@ -1,6 +1,6 @@
-//! How far a worker executes ahead of the others.
+//! How far a worker executes ahead of the others, and for how many turns once another one has left.
 
-ghost use Rattle.std.specs.Prelude.{◌≤◌, ◌<◌};
+ghost use Rattle.std.specs.Prelude.{◌≡◌, ◌<◌, ◌≤◌, ◌⊎◌, suc, IsTrue, IsFalse};
 
 /// The most events that a worker executes in one turn.
 const MOST_EXECUTIONS: u32 = 16;
@@ -25,6 +25,10 @@ const TOO_MANY: u64 = 16;
 /// the worker patient again.
 const FEW: u64 = 32;
 
+/// How many turns a worker makes after another one has left before the end of the run. They are enough to close a
+/// book to which all have handed in.
+const LAST_TURNS: u32 = 8;
+
 /// How far a worker executes ahead: the less, the more of what it has sent is taken back.
 #[derive(Drop)]
 pub(crate) struct Pace {
@@ -40,6 +44,8 @@ pub(crate) struct Pace {
     waited: u32,
     // Whether mail has come from another worker. Such mail may undo what was executed ahead.
     disturbed: bool,
+    // How many turns were made since another worker left before the end of the run.
+    last_turns: u32,
 }
 
 impl Pace {
@@ -53,6 +59,7 @@ impl Pace {
             calm: true,
             waited: 0,
             disturbed: false,
+            last_turns: 0,
         }
     }
 
@@ -110,8 +117,28 @@ impl Pace {
         self.disturbed && (self.most == 1 || self.waited >= self.patience())
     }
 
-    /// How many events a turn may execute.
-    pub(crate) fn allowed(&self) -> u32 {
-        if self.is_held() { 1 } else { self.most }
+    /// How many events a turn may execute: none once another worker has left before the end of the run.
+    pub(crate) fn allowed(&self) -> u32
+        ensures { 0 < self.now.last_turns → result ≡ 0 }
+    {
+        if self.last_turns > 0 {
+            0
+        } else if self.is_held() {
+            1
+        } else {
+            self.most
+        }
+    }
+
+    /// Whether another turn may do something. After another worker has left before the end of the run, only a few may.
+    pub(crate) fn goes_on(&mut self, is_stopped: bool) -> bool
+        ensures more { IsTrue result → (self.new.last_turns ≡ self.old.last_turns) ⊎ ((self.new.last_turns ≡ suc self.old.last_turns) × (self.new.last_turns ≤ LAST_TURNS)) }
+        ensures enough { IsFalse result → LAST_TURNS ≤ self.old.last_turns }
+    {
+        if !is_stopped {
+            return true;
+        }
+        self.last_turns = self.last_turns.saturating_add(1);
+        self.last_turns <= LAST_TURNS
     }
 }

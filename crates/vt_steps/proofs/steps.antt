@@ -1,6 +1,7 @@
 pub mod Outcomes
 pub mod Changes
 pub mod CellSteps
+pub mod CommitRows
 pub mod Shape
 pub mod Everywhere
 pub mod CellLemmas

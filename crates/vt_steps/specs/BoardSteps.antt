@@ -1,6 +1,7 @@
 -- What Cut and Report do on the board.
 use Rattle.std.specs.Prelude.{ℕ, ◌+◌, Bool, true, false, not, nat_eq, ◌&&◌, List, length, replicate, slice_get, slice_set, if◌then◌else◌, Option, Some, None}
 use Rattle.std.specs.List.{list_all}
+use Rattle.std.specs.Option.{option_map_or}
 use Rattle.vt_key.specs.Times.{Time, time_at_most, earlier}
 use Rattle.vt_steps.specs.declared.step.Reply.{Reply}
 use Rattle.vt_steps.specs.declared.step.Reply.TheVariants.{Waiting, Again, Announced}
@@ -12,8 +13,7 @@ all_set flags = list_all (λ flag. flag) flags
 
 -- the worker exists, and its flag is not set
 abbrev pub is_clear : Option Bool → Bool
-is_clear None = false
-is_clear (Some flag) = not flag
+is_clear flag = option_map_or not flag false
 
 -- the board with a round open: the one that is, or a new one, in which nobody has cut or reported
 unfoldable pub with_open_round : Time → Board → Board

@@ -1,15 +1,15 @@
 -- What Commit and Close do on the book.
-use Rattle.std.specs.Prelude.{ℕ, Bool, true, false, List, ◌++◌, slice_set, if◌then◌else◌, Option, Some, None}
+use Rattle.std.specs.Prelude.{ℕ, Bool, true, false, List, ◌++◌, slice_set, if◌then◌else◌, Option, nat_eq}
+use Rattle.std.specs.Option.{option_map_or}
 use Rattle.vt_key.specs.declared.fault.Fault.{Fault}
 use Rattle.vt_key.specs.declared.fault.Fault.TheVariants.{Closed}
-use Rattle.vt_key.specs.Times.{Time, time_at_most, time_same}
+use Rattle.vt_key.specs.Times.{Time, time_at_most}
 use Rattle.vt_model.specs.declared.rows.Row.{Row}
 use Rattle.vt_steps.specs.World.{Book, book_floor}
 
 -- a worker with this hand-in floor, if it is one, may hand in up to a floor that is not below it
 abbrev pub may_commit : Option Time → Time → Bool
-may_commit None floor = false
-may_commit (Some handed_in) floor = time_at_most handed_in floor
+may_commit handed_in floor = option_map_or (λ old. time_at_most old floor) handed_in false
 
 -- the book with a worker's rows, which has now handed in up to this floor
 unfoldable pub with_rows : ℕ → List Row → Time → Book → Book
@@ -17,7 +17,7 @@ with_rows w rows floor book = record book { rows = book.rows ++ rows; floors = s
 
 -- the book may be closed: its floor is the end of the run
 abbrev pub may_close : Time → Book → Bool
-may_close end book = time_same (book_floor end book) end
+may_close end book = nat_eq (book_floor end book) end
 
 -- the closed book
 abbrev pub closed_book : Book → Book

@@ -1,6 +1,6 @@
 -- What each step reads and changes: the part of one worker, and the content of at most one cell, which is an inbox, the
 -- board or the book. `act` is a step on these two alone.
-use Rattle.std.specs.Prelude.{ℕ, ◌%◌, Bool, List, slice_get, Option, Some, None, Result, Ok, Err}
+use Rattle.std.specs.Prelude.{ℕ, ◌%◌, Bool, List, slice_get, Option, Some, None, Result, Ok, Err, ◌/◌}
 use Rattle.std.specs.Option.{option_map, is_none}
 use Rattle.vt_key.specs.declared.letter.Mail.{Mail}
 use Rattle.vt_key.specs.declared.fault.Fault.{Fault}
@@ -11,10 +11,10 @@ use Rattle.vt_steps.specs.declared.step.Step.TheVariants.{Execute, Undo, Cancel,
 use Rattle.vt_steps.specs.declared.step.Reply.{Reply}
 use Rattle.vt_steps.specs.declared.step.Reply.TheVariants.{Done}
 use Rattle.vt_steps.specs.World.{Part, Board, Book, World}
-use Rattle.vt_steps.specs.PartSteps.{act_locally}
 use Rattle.vt_steps.specs.BookSteps.{unless_closed}
 use Rattle.vt_steps.specs.CellSteps.{CellEffect, send, fetch, cut, report, commit, close}
 use Rattle.vt_steps.specs.Next.{Outcome, with_part, with_inbox, with_board, with_book}
+use Rattle.vt_steps.specs.PartSteps.{execute, undo, cancel, home, accept}
 
 -- the name of a cell
 pub data CellName : Type 0 where
@@ -84,6 +84,15 @@ module _ {P : Type 0} where
   -- a refused step leaves the part and the cell
   abbrev pub left_alone : Part P → Cell P → Fault → Acted P
   left_alone part cell fault = record { part = part; cell = cell; answer = Err fault }
+
+  -- a local step on the part of its worker; no other step is on a part alone
+  abbrev pub act_locally : {S : Type 0} → Simulation S P → Step → Part P → Option (Part P)
+  act_locally sim (Execute p) part = execute sim (p % sim.workers) (p / sim.workers) part
+  act_locally sim (Undo p) part = undo (p / sim.workers) part
+  act_locally sim (Cancel p stamp) part = cancel (p / sim.workers) stamp part
+  act_locally sim (Home w) part = home sim w part
+  act_locally sim (Accept w i) part = accept sim i part
+  act_locally sim _ part = None
 
   -- a local step leaves the cell
   abbrev pub acted_locally : Part P → Cell P → Option (Part P) → Acted P

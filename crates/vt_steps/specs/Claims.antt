@@ -1,14 +1,13 @@
 -- What is claimed of every run.
-use Rattle.std.specs.Prelude.{◌≡◌, ℕ, ◌/◌, ◌%◌, ◌<◌, ◌⊎◌, IsTrue, List, ◌++◌, slice_get, false, Some, Ok}
+use Rattle.std.specs.Prelude.{◌≡◌, ℕ, ◌/◌, ◌%◌, ◌<◌, ◌⊎◌, IsTrue, List, ◌++◌, slice_get, false, Some, Ok, true}
 use Rattle.std.specs.List.{AllPairs, find}
 use Rattle.vt_key.specs.Times.{Time, TimeAtMost}
-use Rattle.vt_key.specs.Order.{RankBefore}
 use Rattle.vt_key.specs.declared.order.Stamp.{Stamp}
 use Rattle.vt_key.specs.declared.letter.Letter.{Letter}
 use Rattle.vt_key.specs.declared.letter.Mail.{Mail}
 use Rattle.vt_key.specs.declared.fault.Fault.TheVariants.{Closed}
+use Rattle.vt_key.specs.Order.{rank_before}
 use Rattle.vt_model.specs.declared.rows.Record.{Record}
-use Rattle.vt_model.specs.declared.sending.Sent.{Sent}
 use Rattle.vt_model.specs.Simulation.{Simulation, after}
 use Rattle.vt_model.specs.Sequential.{events_before, seq_events, seq_rows, seq_records}
 use Rattle.vt_model.specs.Rows.{AreRowsRising}
@@ -24,11 +23,7 @@ use Rattle.vt_steps.specs.Copies.{plus, minus, IsLive, IsMade}
 
 -- the ranks of what a process executed, committed or not, rise strictly
 abbrev pub DoRanksRise : {P : Type 0} → LogicalProcess P → Type 0
-DoRanksRise process = AllPairs (λ (a b : Entry _). RankBefore a.event.rank b.event.rank) (process.done ++ process.past)
-
--- what a process executed before a time, as the model knows it
-abbrev pub history_before : {P : Type 0} → Time → LogicalProcess P → List (Sent P)
-history_before t process = events_before t (entry_events (process.done ++ process.past))
+DoRanksRise process = AllPairs (λ (a b : Entry _). rank_before a.event.rank b.event.rank ≡ true) (process.done ++ process.past)
 
 module _ {S P : Type 0} (sim : Simulation S P) where
   -- this is process p of a world
@@ -48,7 +43,7 @@ module _ {S P : Type 0} (sim : Simulation S P) where
   abbrev pub AreHistoriesRight : World P → Type 0
   AreHistoriesRight world =
       (t : Time) (p : ℕ) (process : LogicalProcess P) → p < sim.lps → TimeAtMost t (least sim.end world) →
-      IsProcess world p process → history_before t process ≡ seq_events sim p t
+      IsProcess world p process → events_before t (entry_events (process.done ++ process.past)) ≡ seq_events sim p t
 
   -- a step is done, whatever it replies
   abbrev pub IsTaken : World P → Step → Type 0

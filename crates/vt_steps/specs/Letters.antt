@@ -1,5 +1,5 @@
 -- Letters: their stamps, times and colours.
-use Rattle.std.specs.Prelude.{ℕ, ◌+◌, Bool, true, false, List, [], ◌∷◌}
+use Rattle.std.specs.Prelude.{ℕ, ◌+◌, Bool, true, false, List, [], ◌∷◌, map}
 use Rattle.std.specs.List.{count_by}
 use Rattle.vt_key.specs.Times.{Time, earlier}
 use Rattle.vt_key.specs.declared.letter.Event.{Event}
@@ -9,6 +9,11 @@ use Rattle.vt_key.specs.declared.letter.Sign.{Sign}
 use Rattle.vt_key.specs.declared.letter.Colour.{Colour}
 use Rattle.vt_key.specs.declared.letter.Colour.TheVariants.{White, Red}
 use Rattle.vt_model.specs.declared.sending.Sent.{Sent}
+
+-- the least of these times; of none it is the end of the run
+abbrev pub least_of : Time → List Time → Time
+least_of end [] = end
+least_of end (time ∷ times) = earlier time (least_of end times)
 
 module _ {P : Type 0} where
   -- an event as the model knows it: without its stamp
@@ -35,8 +40,7 @@ module _ {P : Type 0} where
 
   -- the least time of these letters; of none it is the end of the run
   abbrev pub least_time : Time → List (Letter P) → Time
-  least_time end [] = end
-  least_time end (letter ∷ letters) = earlier (letter_time letter) (least_time end letters)
+  least_time end letters = least_of end (map letter_time letters)
 
 -- the list is empty
 abbrev pub is_empty : {X : Type 0} → List X → Bool

@@ -1,6 +1,7 @@
 -- The eleven steps of a world, and lists of them.
-use Rattle.std.specs.Prelude.{ℕ, ◌%◌, List, [], ◌∷◌, slice_get, slice_set, Option, Some, None, Result, Ok, Err}
+use Rattle.std.specs.Prelude.{ℕ, ◌%◌, List, [], ◌∷◌, slice_get, slice_set, Option, Some, None, Result, Ok, Err, ◌/◌}
 use Rattle.std.specs.Option.{option_and_then, option_map}
+use Rattle.std.specs.List.{scan}
 use Rattle.vt_key.specs.declared.letter.Mail.{Mail}
 use Rattle.vt_key.specs.declared.fault.Fault.{Fault}
 use Rattle.vt_key.specs.declared.fault.Fault.TheVariants.{NotLawful}
@@ -10,9 +11,9 @@ use Rattle.vt_steps.specs.declared.step.Step.TheVariants.{Execute, Undo, Cancel,
 use Rattle.vt_steps.specs.declared.step.Reply.{Reply}
 use Rattle.vt_steps.specs.declared.step.Reply.TheVariants.{Done}
 use Rattle.vt_steps.specs.World.{Part, Board, Book, World, opening_world}
-use Rattle.vt_steps.specs.PartSteps.{act_locally}
 use Rattle.vt_steps.specs.BookSteps.{unless_closed}
 use Rattle.vt_steps.specs.CellSteps.{CellEffect, send, fetch, cut, report, commit, close}
+use Rattle.vt_steps.specs.PartSteps.{execute, undo, cancel, home, accept}
 
 -- the world after a step, and what the step was answered
 pub record Outcome (P : Type 0) : Type 0 where
@@ -65,11 +66,11 @@ module _ {P : Type 0} where
 module _ {S P : Type 0} (sim : Simulation S P) where
   -- one step of a world
   unfoldable pub next : World P → Step → Outcome P
-  next world (Execute p) = locally world (p % sim.workers) (act_locally sim (Execute p))
-  next world (Undo p) = locally world (p % sim.workers) (act_locally sim (Undo p))
-  next world (Cancel p stamp) = locally world (p % sim.workers) (act_locally sim (Cancel p stamp))
-  next world (Home w) = locally world w (act_locally sim (Home w))
-  next world (Accept w i) = locally world w (act_locally sim (Accept w i))
+  next world (Execute p) = locally world (p % sim.workers) (execute sim (p % sim.workers) (p / sim.workers))
+  next world (Undo p) = locally world (p % sim.workers) (undo (p / sim.workers))
+  next world (Cancel p stamp) = locally world (p % sim.workers) (cancel (p / sim.workers) stamp)
+  next world (Home w) = locally world w (home sim w)
+  next world (Accept w i) = locally world w (accept sim i)
   next world (Send w v) = at_cell world w (with_inbox v) (send sim w v) (slice_get world.inboxes v)
   next world (Fetch w) = at_cell world w (with_inbox w) fetch (slice_get world.inboxes w)
   next world (Cut w) = at_cell world w with_board (cut sim w) (Some world.board)
@@ -84,10 +85,7 @@ module _ {S P : Type 0} (sim : Simulation S P) where
 
   -- what the steps of a list are answered, one after the other
   unfoldable pub answers : World P → List Step → List (Result Reply Fault)
-  answers world [] = []
-  answers world (step ∷ steps) =
-      let outcome = next world step in
-      outcome.answer ∷ answers outcome.world steps
+  answers world steps = scan (λ now step. (next now step).world) (λ now step. (next now step).answer) world steps
 
   -- a reached world: that after a list of steps from the opening world
   abbrev pub reached : ℕ → List Step → World P

@@ -1,6 +1,6 @@
 -- Steps at the part of one worker: the five local steps whole, and what the other steps do to the part.
-use Rattle.std.specs.Prelude.{ℕ, ◌+◌, ◌/◌, ◌%◌, Bool, not, nat_eq, List, [], ◌∷◌, ◌++◌, map, length, take, drop, slice_get, slice_set, Option, Some, None}
-use Rattle.std.specs.List.{filter, find, prefix_len, remove}
+use Rattle.std.specs.Prelude.{ℕ, ◌+◌, ◌/◌, ◌%◌, Bool, not, nat_eq, List, ◌++◌, map, length, take, drop, slice_get, slice_set, Option}
+use Rattle.std.specs.List.{filter, find, prefix_len, remove, flat_map, enumerate_from}
 use Rattle.std.specs.Option.{option_and_then, option_map}
 use Rattle.vt_key.specs.Times.{Time, time_before, earlier}
 use Rattle.vt_key.specs.Letters.{other_colour}
@@ -11,8 +11,6 @@ use Rattle.vt_key.specs.declared.letter.Mail.{Mail}
 use Rattle.vt_key.specs.declared.letter.Colour.TheVariants.{White, Red}
 use Rattle.vt_model.specs.declared.rows.Row.{Row}
 use Rattle.vt_model.specs.Simulation.{Simulation}
-use Rattle.vt_steps.specs.declared.step.Step.{Step}
-use Rattle.vt_steps.specs.declared.step.Step.TheVariants.{Execute, Undo, Cancel, Home, Accept}
 use Rattle.vt_steps.specs.Letters.{least_time, count_of, raised, count_colour}
 use Rattle.vt_steps.specs.Rows.{rows_from}
 use Rattle.vt_steps.specs.World.{Entry, LogicalProcess, Part, letters_in, entry_events, triple_after, process_at}
@@ -57,34 +55,13 @@ module _ {S P : Type 0} (sim : Simulation S P) where
   abbrev pub deliver : Part P → Letter P → Option (Part P)
   deliver part letter = at_process (accept_process letter) (letter.event.dest / sim.workers) part
 
-  -- this letter, found as the outbox's first one for a process of w, leaves the outbox for its process
-  abbrev pub home_letter : ℕ → Part P → Option (Letter P) → Option (Part P)
-  home_letter w part None = None
-  home_letter w part (Some letter) = deliver (record part { outbox = without_first (is_for w) part.outbox }) letter
-
-  -- Home of worker w
+  -- Home of worker w: the outbox's first letter for a process of w leaves it for its process
   abbrev pub home : ℕ → Part P → Option (Part P)
-  home w part = home_letter w part (find (is_for w) part.outbox)
+  home w part = option_and_then (deliver (record part { outbox = without_first (is_for w) part.outbox })) (find (is_for w) part.outbox)
 
-  -- this mail, found at index i of what has arrived, goes to its process; the mail behind it moves up
-  abbrev pub accept_mail : ℕ → Part P → Option (Mail P) → Option (Part P)
-  accept_mail i part None = None
-  accept_mail i part (Some mail) = deliver (record part { arrived = remove part.arrived i }) mail.letter
-
-  -- Accept of the mail at index i
+  -- Accept of the mail at index i of what has arrived: it goes to its process, and the mail behind it moves up
   abbrev pub accept : ℕ → Part P → Option (Part P)
-  accept i part = accept_mail i part (slice_get part.arrived i)
-
-  -- ---- the five together
-
-  -- a local step on the part of its worker; no other step is on a part alone
-  abbrev pub act_locally : Step → Part P → Option (Part P)
-  act_locally (Execute p) part = execute sim (p % sim.workers) (p / sim.workers) part
-  act_locally (Undo p) part = undo (p / sim.workers) part
-  act_locally (Cancel p stamp) part = cancel (p / sim.workers) stamp part
-  act_locally (Home w) part = home w part
-  act_locally (Accept w i) part = accept i part
-  act_locally _ part = None
+  accept i part = option_and_then (λ mail. deliver (record part { arrived = remove part.arrived i }) mail.letter) (slice_get part.arrived i)
 
   -- ---- Send
 
@@ -159,12 +136,7 @@ module _ {P : Type 0} where
   abbrev pub ripe_rows : {S : Type 0} → Simulation S P → ℕ → Time → LogicalProcess P → List Row
   ripe_rows sim p floor process = rows_from sim p (triple_after sim p process.done) (entry_events (ripe floor process))
 
-  -- the rows that the processes of w commit, from the process of this index on
-  abbrev pub rows_of_processes : {S : Type 0} → Simulation S P → ℕ → Time → ℕ → List (LogicalProcess P) → List Row
-  rows_of_processes sim w floor place [] = []
-  rows_of_processes sim w floor place (process ∷ processes) =
-      ripe_rows sim (process_at sim w place) floor process ++ rows_of_processes sim w floor (place + 1) processes
-
-  -- the rows that worker w hands in when it commits
+  -- the rows that worker w hands in when it commits: those of each of its processes, by index
   unfoldable pub rows_of_commit : {S : Type 0} → Simulation S P → ℕ → Part P → List Row
-  rows_of_commit sim w part = rows_of_processes sim w part.floor 0 part.processes
+  rows_of_commit sim w part =
+      flat_map (λ indexed. ripe_rows sim (process_at sim w indexed.0) part.floor indexed.1) (enumerate_from 0 part.processes)

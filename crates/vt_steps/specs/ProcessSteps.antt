@@ -2,6 +2,7 @@
 -- of its step fails.
 use Rattle.std.specs.Prelude.{ℕ, ◌-◌, Bool, true, false, not, ◌||◌, List, [], ◌∷◌, ◌++◌, map, length, take, if◌then◌else◌, Option, Some, None}
 use Rattle.std.specs.List.{find, list_any, last_or}
+use Rattle.std.specs.Option.{option_map_or, option_and_then}
 use Rattle.vt_key.specs.Order.{rank_before, rank_same, key_same}
 use Rattle.vt_key.specs.Queues.{has_stamp, has_rank, insert_letter, without_first}
 use Rattle.vt_key.specs.declared.order.Rank.{Rank}
@@ -26,8 +27,7 @@ module _ {P : Type 0} where
 
   -- an event may follow an entry, or no entry at all, if its rank is greater
   abbrev pub may_follow : Option (Entry P) → Event P → Bool
-  may_follow None event = true
-  may_follow (Some last) event = rank_before last.event.rank event.rank
+  may_follow last event = option_map_or (λ entry. rank_before entry.event.rank event.rank) last true
 
   -- the least pending event becomes the last past entry; what it sends takes the next serials
   unfoldable pub effect_of_execute : {S : Type 0} → Simulation S P → ℕ → ℕ → ℕ → LogicalProcess P → Letter P → List (Letter P) → ProcessEffect P
@@ -71,14 +71,9 @@ module _ {P : Type 0} where
         serials = 0;
       }
 
-  -- the guard: there is a last past entry, and its event has to be undone
-  abbrev pub undo_last : LogicalProcess P → Option (Entry P) → Option (ProcessEffect P)
-  undo_last process None = None
-  undo_last process (Some last) = if must_undo process last.event then Some (effect_of_undo process last) else None
-
-  -- Undo at a process
+  -- Undo at a process. The guard: there is a last past entry, and its event has to be undone
   abbrev pub undo_process : LogicalProcess P → Option (ProcessEffect P)
-  undo_process process = undo_last process (last_or None process.past)
+  undo_process process = option_and_then (λ last. if must_undo process last.event then Some (effect_of_undo process last) else None) (last_or None process.past)
 
   -- ---- Cancel
 

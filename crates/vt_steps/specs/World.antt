@@ -1,8 +1,8 @@
 -- A world of a Time Warp run: what each worker has, what travels between workers, the board on which global virtual time
 -- is agreed, and the book of committed rows. No state of a model stands in it.
-use Rattle.std.specs.Prelude.{ℕ, ◌+◌, ◌-◌, ◌*◌, ◌/◌, Bool, false, List, [], ◌∷◌, ◌++◌, map, length, replicate}
+use Rattle.std.specs.Prelude.{ℕ, ◌+◌, ◌-◌, ◌*◌, ◌/◌, Bool, false, List, [], ◌++◌, map, length, replicate}
 use Rattle.std.specs.List.{flat_map, range_with_len, sum_by}
-use Rattle.vt_key.specs.Times.{Time, earlier, opening_time}
+use Rattle.vt_key.specs.Times.{Time, opening_time}
 use Rattle.vt_key.specs.declared.letter.Event.{Event}
 use Rattle.vt_key.specs.declared.letter.Letter.{Letter}
 use Rattle.vt_key.specs.declared.letter.Mail.{Mail}
@@ -14,7 +14,7 @@ use Rattle.vt_model.specs.declared.rows.Record.{Record}
 use Rattle.vt_model.specs.declared.sending.Sent.{Sent}
 use Rattle.vt_model.specs.Simulation.{Simulation, Triple, after}
 use Rattle.vt_model.specs.Sequential.{rows_before, records_of}
-use Rattle.vt_steps.specs.Letters.{unstamped, stamped, signed, least_time, Counts, count_colour}
+use Rattle.vt_steps.specs.Letters.{unstamped, stamped, signed, least_time, Counts, count_colour, least_of}
 use Rattle.vt_steps.specs.Rows.{rows_in_order}
 
 -- an executed event, and the events that it sent below the end of the run
@@ -105,14 +105,9 @@ module _ {P : Type 0} where
 
 -- ---- the book
 
--- the least of these floors
-abbrev pub least_floor : Time → List Time → Time
-least_floor end [] = end
-least_floor end (floor ∷ floors) = earlier floor (least_floor end floors)
-
 -- the floor of a book: the least floor up to which a worker has handed in
 abbrev pub book_floor : Time → Book → Time
-book_floor end book = least_floor end book.floors
+book_floor end book = least_of end book.floors
 
 -- the rows that a book shows: those before its floor, in order
 abbrev pub book_rows : Time → Book → List Row

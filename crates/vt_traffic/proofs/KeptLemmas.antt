@@ -1,15 +1,16 @@
 -- The number of cars is kept by a run.
 use Rattle.std.proofs.Common.{◌≡◌, ℕ, zero, suc, ◌+◌, ◌*◌, ◌^◌, ◌<◌, ◌≤◌, inl, List, [], ◌∷◌, ◌++◌, false, not, filter, flat_map, nat_eq, sum_by, Option, Some, None, refl, sym, ap, arith}
+use Rattle.std.specs.Option.{option_map_or}
 use Rattle.std.proofs.Math.Nat.{mul-le-mul}
 use Rattle.std.proofs.lemmas.List.Sums.{sum_by-append}
 use Rattle.vt_key.specs.Order.{key_same}
 use Rattle.vt_model.specs.declared.sending.Sent.{Sent}
 use Rattle.vt_model.specs.declared.settings.Config.{Config}
 use Rattle.vt_model.specs.Simulation.{Triple, words_at, start_of, fire_of, after, after_from}
-use Rattle.vt_model.specs.Sequential.{RunState, events_of, least_event, fired_after, opening, with_event, next_state, step, after_steps, numbers_below}
+use Rattle.vt_model.specs.Sequential.{RunState, events_of, least_event, fired_after, opening, with_event, step, after_steps, numbers_below}
 use Rattle.vt_model.specs.Histories.{Among, IsLawful}
 use Rattle.vt_model.proofs.LawLemmas.{lawful_of}
-use Rattle.vt_model.proofs.RunLemmas.{after-snoc, events_of-same, events_of-other, known_sent, lists_of, least-found, IsReached, reached}
+use Rattle.vt_model.proofs.RunLemmas.{after-snoc, events_of-same, events_of-other, known_sent, lists_of, least-found, IsReached, reached, flat-next}
 use Rattle.vt_model.specs.Settings.{end_of}
 use Rattle.vt_traffic.specs.declared.grid.Traffic.{Traffic}
 use Rattle.vt_traffic.specs.declared.junction.Junction.{Junction}
@@ -18,7 +19,7 @@ use Rattle.vt_traffic.specs.Traffic.{traffic_start, traffic_forward, traffic_han
 use Rattle.vt_traffic.specs.TrafficLaws.{start_within, forward_within}
 use Rattle.vt_traffic.specs.Cars.{cars_at, cars_brought, cars_sent_past, cars_coming, grid, sent_past_from, cars_on_grid, cars_on_roads, cars_past_end}
 use Rattle.vt_traffic.proofs.CarLemmas.{start-cars, start-sent, forward-cars}
-use Rattle.vt_model.proofs.DistinctLemmas.{flat-next, AreDistinct, sum_by-without, distinct_pending}
+use Rattle.vt_model.proofs.DistinctLemmas.{AreDistinct, sum_by-without, distinct_pending}
 use Rattle.vt_model.proofs.SumLemmas.{sum_by-both, sum-next, sum_one, part-le}
 use Rattle.vt_model.proofs.SentLemmas.{sent_or_past}
 
@@ -113,7 +114,7 @@ module _ (m : Traffic) (c : Config) where
 
   kept_step : (x : RunState JunctionEvent) → IsReached (grid m c) lawful x → AreDistinct x.pending → IsKept x → IsKept (step (grid m c) x)
   kept_step x r distinct kept = go (least_event x.pending) refl where
-    go : (o : Option (Sent JunctionEvent)) → least_event x.pending ≡ o → IsKept (next_state (grid m c) x o)
+    go : (o : Option (Sent JunctionEvent)) → least_event x.pending ≡ o → IsKept (option_map_or (with_event (grid m c) x) o x)
     go None none = kept
     go (Some e) found = kept_with x e r distinct (least-found x.pending e found).0 kept
 

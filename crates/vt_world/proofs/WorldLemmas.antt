@@ -11,9 +11,9 @@ use Rattle.vt_steps.specs.declared.step.Step.{Step}
 use Rattle.vt_steps.specs.declared.step.Step.TheVariants.{Execute, Undo, Cancel, Home, Send, Fetch, Accept, Cut, Report, Commit, Close}
 use Rattle.vt_steps.specs.declared.step.Reply.TheVariants.{Done}
 use Rattle.vt_steps.specs.World.{Part, World}
-use Rattle.vt_steps.specs.PartSteps.{act_locally}
 use Rattle.vt_steps.specs.Next.{Outcome, next, with_part, done_or_refused, locally}
 use Rattle.vt_steps.specs.StandsFor.{PartMemory, StandsForPart, StandForParts, GoesOn}
+use Rattle.vt_steps.specs.Cells.{act_locally}
 use Rattle.vt_kernel.specs.Held.{HeldWorker, part_memory, StandsFor as WorkerStandsFor}
 use Rattle.vt_kernel.specs.Guards.{IsDone}
 use Rattle.vt_kernel.specs.Local.{if_own, local_step}

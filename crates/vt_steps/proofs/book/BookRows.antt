@@ -15,7 +15,7 @@ use Rattle.vt_model.specs.Simulation.{Simulation, Triple, after_from}
 use Rattle.vt_steps.specs.Copies.{process_sum}
 use Rattle.vt_steps.specs.BookSteps.{with_rows}
 use Rattle.vt_steps.specs.Letters.{stamped, unstamped}
-use Rattle.vt_steps.specs.PartSteps.{is_below, ripe, ripe_rows, rows_of_commit, rows_of_processes, process_after_commit, part_after_send, part_after_fetch, part_after_cut, part_after_commit}
+use Rattle.vt_steps.specs.PartSteps.{is_below, ripe, ripe_rows, rows_of_commit, process_after_commit, part_after_send, part_after_fetch, part_after_cut, part_after_commit}
 use Rattle.vt_steps.specs.ProcessSteps.{ProcessEffect, effect_of_execute, effect_of_undo, with_letter}
 use Rattle.vt_steps.specs.Rows.{rows_from}
 use Rattle.vt_steps.specs.World.{Entry, LogicalProcess, Part, World, entry_events, triple_after, process_at, process_count, opening_part, opening_world}
@@ -29,6 +29,7 @@ use Rattle.vt_steps.proofs.lists.Places.{all-put, get-map, get-put_same, get-put
 use Rattle.vt_steps.proofs.letters.ProcessSums.{sum_by_place, sum_by_place-put}
 use Rattle.vt_steps.proofs.letters.RankTimes.{rank-order-time}
 use Rattle.vt_steps.proofs.lists.Sums.{sum-at}
+use Rattle.vt_steps.proofs.steps.CommitRows.{rows_of_processes}
 
 -- no entry is before a time
 abbrev pub AreNotBefore : {P : Type 0} → Time → List (Entry P) → Type 0

@@ -1,7 +1,7 @@
 -- Each key and index stands once among the book's rows, those that it doesn't show yet too: all committed events are before the
 -- announced time, and below that each process has the sequential run's, whose rows rise strictly.
 use Rattle.std.proofs.Common.{◌≡◌, inl, inr, ℕ, ◌≤◌, true, false, ◌&&◌, List, [], ◌∷◌, ◌++◌, nat_eq, refl, sym, subst, ◌∙◌, ap, arith, Some, slice_get}
-use Rattle.std.specs.List.{sum_by, range_with_len}
+use Rattle.std.specs.List.{sum_by, range_with_len, AllByRecursion}
 use Rattle.std.proofs.lemmas.Bool.{cases_order, eq-eqb, eqb-true}
 use Rattle.std.proofs.lemmas.List.{map-append}
 use Rattle.std.proofs.lemmas.List.Elements.{filter-append}
@@ -13,7 +13,7 @@ use Rattle.vt_key.proofs.OrderLemmas.{key-irreflexive, key-total, key_same-true,
 use Rattle.vt_model.specs.declared.rows.Row.{Row}
 use Rattle.vt_model.specs.declared.sending.Sent.{Sent}
 use Rattle.vt_model.specs.Histories.{IsLawful}
-use Rattle.vt_model.specs.Rows.{RowBefore, AllRowsAfter, AreRowsRising}
+use Rattle.vt_model.specs.Rows.{RowBefore, AreRowsRising}
 use Rattle.vt_model.specs.Sequential.{events_before, rows_after, seq_events, seq_rows, whole_run}
 use Rattle.vt_model.specs.Simulation.{Simulation, after_from}
 use Rattle.vt_model.proofs.RunLemmas.{tested}
@@ -54,7 +54,7 @@ not-again a b h = elim (tested (key_same b.key a.key && nat_eq b.index a.index))
 ]
 
 -- among rows after a row its key and index don't stand
-none-again : (row : Row) (rows : List Row) → AllRowsAfter row rows → sum_by (is_row row.key row.index) rows ≡ 0
+none-again : (row : Row) (rows : List Row) → AllByRecursion (RowBefore row) rows → sum_by (is_row row.key row.index) rows ≡ 0
 none-again row [] h = refl
 none-again row (r ∷ rs) h =
     let a = sum_by-cons (is_row row.key row.index) r rs in
@@ -111,7 +111,7 @@ once-rising (r ∷ rs) h once = (after rs h.0 none, once-rising rs h.1 fewer)
     fewer : (key : Key) (index : ℕ) → sum_by (is_row key index) rs ≤ 1
     fewer key index = let a = sum_by-cons (is_row key index) r rs in let b = once key index in omega arith
 
-    after : (qs : List Row) → NoneBefore r qs → sum_by (is_row r.key r.index) qs ≡ 0 → AllRowsAfter r qs
+    after : (qs : List Row) → NoneBefore r qs → sum_by (is_row r.key r.index) qs ≡ 0 → AllByRecursion (RowBefore r) qs
     after [] n k = tt
     after (q ∷ qs) n k = let a = sum_by-cons (is_row r.key r.index) q qs in (row-after r q n.0 (omega arith), after qs n.1 (omega arith))
 

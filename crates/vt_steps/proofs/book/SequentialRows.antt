@@ -1,7 +1,7 @@
 -- The rows of the sequential run: they rise, those before a time come first, and what a process's rows before a time weigh, its
 -- events before that time decide.
 use Rattle.std.proofs.Common.{◌≡◌, ℕ, suc, inl, inr, true, false, cond, List, [], ◌∷◌, ◌++◌, refl, sym, ◌∙◌, ap, arith}
-use Rattle.std.specs.List.{sum_by}
+use Rattle.std.specs.List.{sum_by, AllByRecursion}
 use Rattle.std.proofs.lemmas.Bool.Decides.{nat_tests}
 use Rattle.std.proofs.lemmas.List.{map-append}
 use Rattle.std.proofs.lemmas.List.Sums.{sum_by-cons, sum_by-append}
@@ -10,7 +10,7 @@ use Rattle.vt_key.specs.Keys.{Key}
 use Rattle.vt_model.specs.declared.rows.Row.{Row}
 use Rattle.vt_model.specs.declared.rows.Record.{Record}
 use Rattle.vt_model.specs.declared.sending.Sent.{Sent}
-use Rattle.vt_model.specs.Rows.{RowBefore, AllRowsAfter, AreRowsRising, AreRowsOf}
+use Rattle.vt_model.specs.Rows.{RowBefore, AreRowsRising, AreRowsOf}
 use Rattle.vt_model.specs.Simulation.{Simulation, Triple}
 use Rattle.vt_model.specs.Sequential.{rows_before, records_of, events_before, whole_run, rows_after, seq_rows, seq_records}
 use Rattle.vt_model.specs.Histories.{IsLawful}
@@ -33,7 +33,7 @@ AreLate t [] = Unit {0}
 AreLate t (r ∷ rs) = TimeAtMost t r.key.time × AreLate t rs
 
 -- the rows after a late row are late
-late-after : (t : Time) (a : Row) (rows : List Row) → TimeAtMost t a.key.time → AllRowsAfter a rows → AreLate t rows
+late-after : (t : Time) (a : Row) (rows : List Row) → TimeAtMost t a.key.time → AllByRecursion (RowBefore a) rows → AreLate t rows
 late-after t a [] h k = tt
 late-after t a (r ∷ rs) h k = (let b = row-time a r k.0 in omega arith, late-after t a rs h k.1)
 

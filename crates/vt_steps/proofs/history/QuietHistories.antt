@@ -18,7 +18,7 @@ use Rattle.vt_model.specs.declared.sending.Sent.{Sent}
 use Rattle.vt_model.proofs.EndLemmas.{history_is_sequential}
 use Rattle.vt_model.proofs.RunLemmas.{filter-no, filter-yes, tested}
 use Rattle.vt_steps.specs.declared.step.Step.{Step}
-use Rattle.vt_steps.specs.Claims.{AreHistoriesRight, IsProcess, history_before}
+use Rattle.vt_steps.specs.Claims.{AreHistoriesRight, IsProcess}
 use Rattle.vt_steps.specs.Copies.{entry_sum, is_copy, is_event_of, letter_sum, live_count, minus, plus}
 use Rattle.vt_steps.specs.Letters.{least_time, letter_time, unstamped}
 use Rattle.vt_steps.specs.Next.{reached}
@@ -280,7 +280,7 @@ module _ {S P : Type 0} (sim : Simulation S P) (lawful : IsLawful sim) (serial :
       }
 
       -- so they are those of the sequential run
-      pub quiet_is_sequential : (p : ℕ) (process : LogicalProcess P) → p < sim.lps → IsProcess sim world p process → history_before t process ≡ seq_events sim p t
+      pub quiet_is_sequential : (p : ℕ) (process : LogicalProcess P) → p < sim.lps → IsProcess sim world p process → events_before t (entry_events (process.done ++ process.past)) ≡ seq_events sim p t
       quiet_is_sequential p process less is =
           ap (λ es. events_before t (entry_events es)) (sym (entries-of_process sim world p process is))
           ∙ sym (before-twice t (history p))

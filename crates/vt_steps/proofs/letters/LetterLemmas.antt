@@ -1,6 +1,6 @@
 -- Which steps make letters and which take them away: what each step does to a sum over all letters, whatever the weight.
-use Rattle.std.proofs.Common.{◌≡◌, ℕ, ◌+◌, ◌/◌, ◌%◌, true, false, List, [], ◌∷◌, ◌++◌, map, refl, sym, ◌∙◌, ap, subst, arith, Option, Some, None, Ok, Err, slice_get}
-use Rattle.std.specs.List.{find, last_or, sum_by, filter}
+use Rattle.std.proofs.Common.{◌≡◌, ℕ, ◌+◌, ◌/◌, ◌%◌, true, false, List, [], ◌∷◌, ◌++◌, map, refl, sym, ◌∙◌, ap, subst, arith, Option, Some, None, Ok, Err, slice_get, cond}
+use Rattle.std.specs.List.{find, last_or, sum_by, filter, remove}
 use Rattle.std.specs.Option.{option_map, option_and_then}
 use Rattle.std.proofs.lemmas.List.Sums.{sum_by-cons, sum_by-append}
 use Rattle.vt_key.specs.declared.order.Stamp.{Stamp}
@@ -16,8 +16,8 @@ use Rattle.vt_steps.specs.declared.step.Step.TheVariants.{Execute, Undo, Cancel,
 use Rattle.vt_steps.specs.declared.step.Reply.TheVariants.{Done}
 use Rattle.vt_steps.specs.Letters.{signed, stamped, unstamped, is_empty}
 use Rattle.vt_steps.specs.World.{Entry, LogicalProcess, Part, Board, Book, World, process_at, triple_after}
-use Rattle.vt_steps.specs.ProcessSteps.{ProcessEffect, may_follow, must_undo, are_opposite, holds, effect_of_execute, effect_of_undo, execute_least, execute_process, undo_last, undo_process, cancel_process, accept_process}
-use Rattle.vt_steps.specs.PartSteps.{execute, undo, cancel, with_effect, at_process, is_for, deliver, home, home_letter, accept, accept_mail, part_after_send, mail_of_send, part_after_fetch, part_after_cut, report_least}
+use Rattle.vt_steps.specs.ProcessSteps.{ProcessEffect, may_follow, must_undo, are_opposite, holds, effect_of_execute, effect_of_undo, execute_least, execute_process, undo_process, cancel_process, accept_process}
+use Rattle.vt_steps.specs.PartSteps.{execute, undo, cancel, with_effect, at_process, is_for, deliver, home, accept, part_after_send, mail_of_send, part_after_fetch, part_after_cut, report_least}
 use Rattle.vt_steps.specs.CellSteps.{CellEffect, may_send, send, fetch, cut, report, commit, close}
 use Rattle.vt_steps.specs.Next.{refused, done_or_refused, with_part, with_inbox, with_board, with_book, locally, at_cell, next}
 use Rattle.vt_steps.specs.BoardSteps.{cut_board, may_report}
@@ -25,7 +25,7 @@ use Rattle.vt_steps.specs.BookSteps.{may_commit}
 use Rattle.vt_steps.specs.Copies.{letter_weight, mail_weight, part_sum, letter_sum}
 use Rattle.vt_steps.specs.Laws.{IsMessageExecuted, IsEventUndone, AreBothGone, AreLettersKept, AreLettersRight}
 use Rattle.vt_key.specs.Order.{key_same}
-use Rattle.vt_key.specs.Queues.{has_stamp}
+use Rattle.vt_key.specs.Queues.{has_stamp, without_first}
 use Rattle.vt_key.proofs.OrderLemmas.{key_same-true, stamp_same-true}
 use Rattle.vt_steps.proofs.lists.Lists.{find-passes}
 use Rattle.vt_steps.proofs.steps.Changes.{Leaves, homes, arrives, map_has, chain_has, if_has, unless_has, empty_is}
@@ -111,12 +111,11 @@ record Undone {P : Type 0} (process : LogicalProcess P) (effect : ProcessEffect 
   is : last_or None process.past ≡ Some last
   does : effect ≡ effect_of_undo process last
 
-undo-done : {P : Type 0} (process : LogicalProcess P) (effect : ProcessEffect P) (last : Option (Entry P)) →
-    last_or None process.past ≡ last → undo_last process last ≡ Some effect → Undone process effect
-undo-done process effect None is e = absurd (let h : None ≡ Some effect = e in cc)
-undo-done process effect (Some last) is e =
-    let has = if_has (must_undo process last.event) _ effect e in
-    record { last = last; is = is; does = has.1 }
+undo-done : {P : Type 0} (process : LogicalProcess P) (effect : ProcessEffect P) → undo_process process ≡ Some effect → Undone process effect
+undo-done {P = P} process effect e =
+    let at = chain_has (λ (last : Entry P). cond (must_undo process last.event) (Some (effect_of_undo process last)) None) (last_or None process.past) effect e in
+    let has = if_has (must_undo process at.0.event) _ effect at.2 in
+    record { last = at.0; is = at.1; does = has.1 }
 
 record Opposite {P : Type 0} (m p : Option (Letter P)) : Type 0 where
   minus : Letter P
@@ -168,7 +167,7 @@ undo-letters {P = P} sim world p done =
     let place : ℕ = p / sim.workers in
     let d = locally-done world w (undo place) done in
     let a = at_process-done undo_process place d.part d.new d.takes in
-    let x = undo-done a.process a.effect (last_or None a.process.past) refl a.takes in
+    let x = undo-done a.process a.effect a.takes in
     let gone : List (Letter P) = [] in
     let more : List (Entry P) = [] in
     let balance : ProcessBalance a.process a.effect.process (signed Plus x.last.event ∷ []) gone more (x.last ∷ []) =
@@ -236,15 +235,17 @@ deliver-balance {P = P} sim w old part new letter leaves e =
     subst (λ n. PartBalance old n [] [] [] []) (sym (a.gives ∙ ap (with_effect part place) free.1))
     (takes-balance sim w place old part letter a.process leaves a.at)
 
-home-balance : {S P : Type 0} (sim : Simulation S P) (w : ℕ) (part new : Part P) (found : Option (Letter P)) → find (is_for sim w) part.outbox ≡ found →
-    home_letter sim w part found ≡ Some new → PartBalance part new [] [] [] []
-home-balance sim w part new None is e = absurd (let h : None ≡ Some new = e in cc)
-home-balance sim w part new (Some letter) is e = deliver-balance sim w part _ new letter (homes is refl) e
+home-balance : {S P : Type 0} (sim : Simulation S P) (w : ℕ) (part new : Part P) → home sim w part ≡ Some new → PartBalance part new [] [] [] []
+home-balance {P = P} sim w part new e =
+    let left : Part P = record part { outbox = without_first (is_for sim w) part.outbox } in
+    let at = chain_has (deliver sim left) (find (is_for sim w) part.outbox) new e in
+    deliver-balance sim w part left new at.0 (homes at.1 refl) at.2
 
-accept-balance : {S P : Type 0} (sim : Simulation S P) (w i : ℕ) (part new : Part P) (found : Option (Mail P)) → slice_get part.arrived i ≡ found →
-    accept_mail sim i part found ≡ Some new → PartBalance part new [] [] [] []
-accept-balance sim w i part new None is e = absurd (let h : None ≡ Some new = e in cc)
-accept-balance sim w i part new (Some mail) is e = deliver-balance sim w part _ new mail.letter (arrives i mail is refl refl) e
+accept-balance : {S P : Type 0} (sim : Simulation S P) (w i : ℕ) (part new : Part P) → accept sim i part ≡ Some new → PartBalance part new [] [] [] []
+accept-balance {P = P} sim w i part new e =
+    let left : Part P = record part { arrived = remove part.arrived i } in
+    let at = chain_has (λ (mail : Mail P). deliver sim left mail.letter) (slice_get part.arrived i) new e in
+    deliver-balance sim w part left new at.0.letter (arrives i at.0 at.1 refl refl) at.2
 
 -- whatever is done at a cell, the letters are kept
 cell-kept : {P C : Type 0} (world : World P) (w : ℕ) (put : World P → C → World P) (step : Part P → C → Option (CellEffect P C)) (cell : Option C) →
@@ -328,8 +329,8 @@ unfolding next
 moves-kept sim world (Execute p) x u c = absurd (x p refl)
 moves-kept sim world (Undo p) x u c = absurd (u p refl)
 moves-kept sim world (Cancel p stamp) x u c = absurd (c p stamp refl)
-moves-kept sim world (Home w) x u c = locally-kept world w (home sim w) (λ part new e. home-balance sim w part new (find (is_for sim w) part.outbox) refl e)
-moves-kept sim world (Accept w i) x u c = locally-kept world w (accept sim i) (λ part new e. accept-balance sim w i part new (slice_get part.arrived i) refl e)
+moves-kept sim world (Home w) x u c = locally-kept world w (home sim w) (home-balance sim w)
+moves-kept sim world (Accept w i) x u c = locally-kept world w (accept sim i) (accept-balance sim w i)
 moves-kept sim world (Send w v) x u c = send-kept sim world w v
 moves-kept sim world (Fetch w) x u c = fetch-kept world w
 moves-kept sim world (Cut w) x u c = cut-kept sim world w

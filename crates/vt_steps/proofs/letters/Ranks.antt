@@ -1,16 +1,15 @@
 -- The ranks of what each process has executed rise strictly, committed or not. Execute compares with the last past entry;
 -- where all are committed, it is the announced time that keeps them before what comes: no committed event is at or after a
 -- worker's floor, no floor is after the announced time, and no letter is before it.
-use Rattle.std.proofs.Common.{◌≡◌, inl, inr, ℕ, zero, suc, ◌+◌, ◌-◌, ◌/◌, ◌%◌, ◌<◌, true, false, cond, ◌&&◌, List, [], ◌∷◌, ◌++◌, length, take, refl, sym, ◌∙◌, ap, subst, arith, append_assoc, append-nil, Option, Some, None, slice_get, slice_set}
+use Rattle.std.proofs.Common.{◌≡◌, inl, inr, ℕ, zero, suc, ◌+◌, ◌-◌, ◌/◌, ◌%◌, ◌<◌, true, false, cond, List, [], ◌∷◌, ◌++◌, length, take, refl, sym, ◌∙◌, ap, subst, arith, append_assoc, append-nil, Option, Some, None, slice_get, slice_set}
 use Rattle.std.specs.List.{AllPairs, flat_map, last_or, prefix_len, range_with_len, slice_index_or}
 use Rattle.std.proofs.lemmas.Bool.{ltb-true}
-use Rattle.vt_key.specs.Order.{RankBefore, key_before, key_same, rank_before, stamp_before}
+use Rattle.vt_key.specs.Order.{RankBefore, rank_before}
 use Rattle.vt_key.specs.Times.{Time, TimeAtMost, TimeBefore, opening_time}
-use Rattle.vt_key.proofs.OrderLemmas.{key_before-true, key_same-true, rank-transitive, stamp_before-true}
+use Rattle.vt_key.proofs.OrderLemmas.{rank-transitive, rank_before-true, before-rank_before}
 use Rattle.vt_key.specs.declared.letter.Letter.{Letter}
 use Rattle.vt_key.specs.declared.letter.Sign.{Sign}
 use Rattle.vt_key.specs.declared.letter.Sign.TheVariants.{Plus, Minus}
-use Rattle.vt_key.specs.declared.order.Rank.{Rank}
 use Rattle.vt_model.specs.Histories.{Among, IsLawful}
 use Rattle.vt_model.specs.Simulation.{Simulation}
 use Rattle.vt_steps.specs.declared.step.Step.{Step}
@@ -25,20 +24,10 @@ use Rattle.vt_steps.proofs.lists.Places.{all-put, get-map, get-replicate}
 use Rattle.vt_steps.proofs.steps.Changes.{Act, executes, undoes, cancels, Leaves, homes, arrives, Local, acts, takes, Change, stays, local, sends, fetches, cuts, reports, commits, closes, run_keeps}
 use Rattle.vt_steps.proofs.history.OwnHistories.{history-before_last, history-commit}
 use Rattle.vt_steps.proofs.history.QuietHistories.{DoAllRanksRise, least-at_most}
-use Rattle.vt_steps.proofs.lists.Tests.{both_pass, either_passes}
 use Rattle.vt_steps.proofs.time.Announced.{announced-least}
 use Rattle.vt_steps.proofs.time.Floors.{AreTimesSound, floors-kept, opening-times, times-kept}
 
 -- ---- ranks of entries
-
--- the test of two ranks decides them
-rank_before-true : (a b : Rank) → rank_before a b ≡ true → RankBefore a b
-unfolding rank_before
-rank_before-true a b h =
-    elim (either_passes (key_before a.key b.key) (key_same a.key b.key && stamp_before a.stamp b.stamp) h) [
-      | inl t ↦ inl (key_before-true a.key b.key t)
-      | inr t ↦ (let both = both_pass (key_same a.key b.key) (stamp_before a.stamp b.stamp) t in inr (key_same-true a.key b.key both.0, stamp_before-true a.stamp b.stamp both.1))
-    ]
 
 -- one entry's rank is before another's
 abbrev pub IsEntryBefore : {P : Type 0} → Entry P → Entry P → Type 0
@@ -237,11 +226,12 @@ among-at [] j d h = absurd (omega arith)
 among-at (x ∷ xs) zero d h = inl refl
 among-at (x ∷ xs) (suc j) d h = inr (among-at xs j d (omega arith))
 
--- a rising list, by its places
-rising-pairs : {P : Type 0} (xs : List (Entry P)) → Rising IsEntryBefore xs → AllPairs (λ (a b : Entry P). RankBefore a.event.rank b.event.rank) xs
+-- a rising list, by its places and the test of ranks
+rising-pairs : {P : Type 0} (xs : List (Entry P)) → Rising IsEntryBefore xs → AllPairs (λ (a b : Entry P). rank_before a.event.rank b.event.rank ≡ true) xs
 rising-pairs [] h i j d less within = absurd (omega arith)
 rising-pairs (x ∷ xs) h i zero d less within = absurd (omega arith)
-rising-pairs (x ∷ xs) h zero (suc j) d less within = every-among (IsEntryBefore x) xs (slice_index_or xs j d) h.0 (among-at xs j d (omega arith))
+rising-pairs (x ∷ xs) h zero (suc j) d less within =
+    before-rank_before x.event.rank (slice_index_or xs j d).event.rank (every-among (IsEntryBefore x) xs (slice_index_or xs j d) h.0 (among-at xs j d (omega arith)))
 rising-pairs (x ∷ xs) h (suc i) (suc j) d less within = rising-pairs xs h.1 i j d (omega arith) (omega arith)
 
 -- the ranks of each reached world rise

@@ -5,7 +5,7 @@ use Rattle.std.specs.Option.{option_map}
 use Rattle.std.proofs.lemmas.List.Folds.{list_any-append}
 use Rattle.std.proofs.lemmas.Bool.Decides.{nat_tests}
 use Rattle.std.proofs.lemmas.Option.{slice_get_within}
-use Rattle.vt_key.specs.Times.{TimeAtMost, TimeBefore, time_same}
+use Rattle.vt_key.specs.Times.{TimeAtMost, TimeBefore}
 use Rattle.vt_model.specs.Histories.{IsLawful}
 use Rattle.vt_model.specs.Simulation.{Simulation}
 use Rattle.vt_steps.specs.declared.step.Step.{Step}
@@ -105,5 +105,5 @@ module _ {S P : Type 0} (sim : Simulation S P) where
   unclosable-floor lawful marks not_yet =
       let most = floor-ends lawful marks in
       let floor = book_floor sim.end (shown sim marks).book in
-      let test : time_same floor sim.end ≡ false = not_yet in
+      let test : nat_eq floor sim.end ≡ false = not_yet in
       grind (arith, nat_tests)

@@ -9,11 +9,10 @@ use Rattle.vt_steps.specs.declared.step.Step.{Step}
 use Rattle.vt_steps.specs.declared.step.Step.TheVariants.{Execute, Undo, Cancel, Home, Send, Fetch, Accept, Cut, Report, Commit, Close}
 use Rattle.vt_steps.specs.declared.step.Reply.TheVariants.{Done}
 use Rattle.vt_steps.specs.World.{Part, Board, Book, World}
-use Rattle.vt_steps.specs.PartSteps.{act_locally}
 use Rattle.vt_steps.specs.BookSteps.{unless_closed}
 use Rattle.vt_steps.specs.CellSteps.{CellEffect, send, fetch, cut, report, commit, close}
 use Rattle.vt_steps.specs.Next.{Outcome, refused, replied, done_or_refused, with_part, with_inbox, with_board, with_book, locally, effect_in, at_cell, next}
-use Rattle.vt_steps.specs.Cells.{CellName, inbox_of, board_cell, book_cell, Cell, in_inbox, on_board, in_book, content, with_content, worker_of, cell_of, is_local, Acted, left_alone, acted_locally, acted_at, acted_close, act, put_back}
+use Rattle.vt_steps.specs.Cells.{CellName, inbox_of, board_cell, book_cell, Cell, in_inbox, on_board, in_book, content, with_content, worker_of, cell_of, is_local, Acted, left_alone, acted_locally, acted_at, acted_close, act, put_back, act_locally}
 use Rattle.vt_steps.specs.Laws.{IsAny, IsRefused, ActsOnOneCell, LeavesCells}
 use Rattle.vt_steps.proofs.steps.Changes.{map_has}
 use Rattle.vt_steps.proofs.steps.CellSteps.{next-send_nobody, next-send_nowhere, next-fetch_nobody, next-fetch_nowhere, next-cut_nobody, next-report_nobody, next-commit_nobody, next-commit_closed}

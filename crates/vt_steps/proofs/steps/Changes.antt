@@ -13,8 +13,8 @@ use Rattle.vt_steps.specs.BookSteps.{may_commit, may_close, with_rows}
 use Rattle.vt_steps.specs.Letters.{is_empty}
 use Rattle.vt_steps.specs.CellSteps.{CellEffect, close, commit, cut, fetch, may_send, report, reported, send}
 use Rattle.vt_steps.specs.Next.{at_cell, done_or_refused, locally, next, refused, run, with_board, with_book, with_inbox, with_part}
-use Rattle.vt_steps.specs.PartSteps.{accept_mail, at_process, deliver, home_letter, is_for, mail_of_send, part_after_commit, part_after_cut, part_after_fetch, part_after_send, report_got, report_least, report_sent, rows_of_commit, with_effect}
-use Rattle.vt_steps.specs.ProcessSteps.{ProcessEffect, accept_process, are_opposite, cancel_process, effect_of_execute, effect_of_undo, execute_least, holds, may_follow, must_undo, undo_last, with_letter}
+use Rattle.vt_steps.specs.PartSteps.{at_process, deliver, is_for, mail_of_send, part_after_commit, part_after_cut, part_after_fetch, part_after_send, report_got, report_least, report_sent, rows_of_commit, with_effect, accept, home}
+use Rattle.vt_steps.specs.ProcessSteps.{ProcessEffect, accept_process, are_opposite, cancel_process, effect_of_execute, effect_of_undo, execute_least, holds, may_follow, must_undo, with_letter, undo_process}
 use Rattle.vt_steps.specs.World.{Board, Book, Entry, LogicalProcess, Part, World, process_at}
 use Rattle.vt_steps.specs.declared.step.Step.{Step}
 use Rattle.vt_steps.specs.declared.step.Step.TheVariants.{Accept, Cancel, Close, Commit, Cut, Execute, Fetch, Home, Report, Send, Undo}
@@ -101,12 +101,11 @@ execute_acts sim p w serial old (least ∷ rest) new is e =
     executes least rest is has.0 has.1
 
 -- Undo
-pub undo_acts : {S P : Type 0} (sim : Simulation S P) (p w serial : ℕ) (old : LogicalProcess P) (last : Option (Entry P)) (new : ProcessEffect P) →
-    last_or None old.past ≡ last → undo_last old last ≡ Some new → Act sim p w serial old new
-undo_acts sim p w serial old None new is e = absurd (let h : None ≡ Some new = e in cc)
-undo_acts sim p w serial old (Some last) new is e =
-    let has = if_has (must_undo old last.event) (effect_of_undo old last) new e in
-    undoes last is has.0 has.1
+pub undo_acts : {S P : Type 0} (sim : Simulation S P) (p w serial : ℕ) (old : LogicalProcess P) (new : ProcessEffect P) → undo_process old ≡ Some new → Act sim p w serial old new
+undo_acts {P = P} sim p w serial old new e =
+    let at = chain_has (λ (last : Entry P). cond (must_undo old last.event) (Some (effect_of_undo old last)) None) (last_or None old.past) new e in
+    let has = if_has (must_undo old at.0.event) (effect_of_undo old at.0) new at.2 in
+    undoes at.0 at.1 has.0 has.1
 
 -- two letters that annihilate each other are there
 opposite_are : {P : Type 0} (m p : Option (Letter P)) → are_opposite m p ≡ true → (minus : Letter P) × (plus : Letter P) × (m ≡ Some minus) × (p ≡ Some plus) × (key_same minus.event.rank.key plus.event.rank.key ≡ true)
@@ -146,16 +145,18 @@ deliver_takes sim w old part new letter leaves e =
     takes part letter place at.0 leaves at.1 refl free.0 (has.2 ∙ ap (with_effect part place) free.1)
 
 -- Home
-home_takes : {S P : Type 0} (sim : Simulation S P) (w : ℕ) (old new : Part P) (found : Option (Letter P)) →
-    find (is_for sim w) old.outbox ≡ found → home_letter sim w old found ≡ Some new → Local sim w old new
-home_takes sim w old new None is e = absurd (let h : None ≡ Some new = e in cc)
-home_takes sim w old new (Some letter) is e = deliver_takes sim w old _ new letter (homes is refl) e
+home_takes : {S P : Type 0} (sim : Simulation S P) (w : ℕ) (old new : Part P) → home sim w old ≡ Some new → Local sim w old new
+home_takes {P = P} sim w old new e =
+    let part : Part P = record old { outbox = without_first (is_for sim w) old.outbox } in
+    let at = chain_has (deliver sim part) (find (is_for sim w) old.outbox) new e in
+    deliver_takes sim w old part new at.0 (homes at.1 refl) at.2
 
 -- Accept
-accept_takes : {S P : Type 0} (sim : Simulation S P) (w i : ℕ) (old new : Part P) (found : Option (Mail P)) →
-    slice_get old.arrived i ≡ found → accept_mail sim i old found ≡ Some new → Local sim w old new
-accept_takes sim w i old new None is e = absurd (let h : None ≡ Some new = e in cc)
-accept_takes sim w i old new (Some mail) is e = deliver_takes sim w old _ new mail.letter (arrives i mail is refl refl) e
+accept_takes : {S P : Type 0} (sim : Simulation S P) (w i : ℕ) (old new : Part P) → accept sim i old ≡ Some new → Local sim w old new
+accept_takes {P = P} sim w i old new e =
+    let part : Part P = record old { arrived = remove old.arrived i } in
+    let at = chain_has (λ (mail : Mail P). deliver sim part mail.letter) (slice_get old.arrived i) new e in
+    deliver_takes sim w old part new at.0.letter (arrives i at.0 at.1 refl refl) at.2
 
 -- ---- at a world
 
@@ -233,10 +234,10 @@ close_changes sim old open_is =
 pub next_changes : {S P : Type 0} (sim : Simulation S P) (old : World P) (step : Step) → Change sim old (next sim old step).world
 unfolding next
 next_changes sim old (Execute p) = locally_changes sim old (p % sim.workers) _ (λ part after. at_process_acts sim (p % sim.workers) _ (p / sim.workers) part after (λ process acted. execute_acts sim _ _ _ process process.pending acted refl))
-next_changes sim old (Undo p) = locally_changes sim old (p % sim.workers) _ (λ part after. at_process_acts sim (p % sim.workers) _ (p / sim.workers) part after (λ process acted. undo_acts sim _ _ _ process (last_or None process.past) acted refl))
+next_changes sim old (Undo p) = locally_changes sim old (p % sim.workers) _ (λ part after. at_process_acts sim (p % sim.workers) _ (p / sim.workers) part after (undo_acts sim _ _ _))
 next_changes sim old (Cancel p stamp) = locally_changes sim old (p % sim.workers) _ (λ part after. at_process_acts sim (p % sim.workers) _ (p / sim.workers) part after (λ process acted. cancel_acts sim _ _ _ process stamp acted))
-next_changes sim old (Home w) = locally_changes sim old w _ (λ part after. home_takes sim w part after (find (is_for sim w) part.outbox) refl)
-next_changes sim old (Accept w i) = locally_changes sim old w _ (λ part after. accept_takes sim w i part after (slice_get part.arrived i) refl)
+next_changes sim old (Home w) = locally_changes sim old w _ (λ part after. home_takes sim w part after)
+next_changes sim old (Accept w i) = locally_changes sim old w _ (λ part after. accept_takes sim w i part after)
 next_changes sim old (Send w v) = send_changes sim old w v
 next_changes sim old (Fetch w) = fetch_changes sim old w
 next_changes sim old (Cut w) = cut_changes sim old w

@@ -21,7 +21,7 @@ use Rattle.vt_steps.specs.declared.step.Step.{Step}
 use Rattle.vt_steps.specs.declared.step.Step.TheVariants.{Home, Accept}
 use Rattle.vt_steps.specs.Copies.{as_count, entry_sum, is_copy, is_event_of, letter_sum, letter_weight, mail_weight, minus, part_entries, part_sum, plus, process_entries, process_sum}
 use Rattle.vt_steps.specs.Next.{done_or_refused, next, reached, with_part}
-use Rattle.vt_steps.specs.PartSteps.{accept, accept_mail, deliver, home, home_letter, is_for, with_effect}
+use Rattle.vt_steps.specs.PartSteps.{accept, deliver, home, is_for, with_effect}
 use Rattle.vt_steps.specs.ProcessSteps.{accept_process, holds, with_letter}
 use Rattle.vt_steps.specs.World.{Entry, LogicalProcess, Part, World}
 use Rattle.vt_steps.proofs.lists.Lists.{every-among, every-get, find-among, find-passes, get-among}
@@ -152,8 +152,9 @@ module _ {S P : Type 0} (sim : Simulation S P) where
         let counted = sum-among (letter_weight (is_copy letter.sign stamp)) part.outbox letter member in
         let one : letter_weight (is_copy letter.sign stamp) letter ≡ 1 = own-copy letter.sign letter.event in
         let free = not-held sim serial world w (letter.event.dest / sim.workers) part process.0 letter.sign letter.event.rank (stamp-facts sim serial stamp steps) at process.1 (omega arith) in
-        let after = delivered (record part { outbox = without_first (is_for sim w) part.outbox }) letter process.0 process.1 free in
-        let goes : home sim w part ≡ Some after.0 = ap (home_letter sim w part) found ∙ after.1 in
+        let left : Part P = record part { outbox = without_first (is_for sim w) part.outbox } in
+        let after = delivered left letter process.0 process.1 free in
+        let goes : home sim w part ≡ Some after.0 = ap (option_and_then (deliver sim left)) found ∙ after.1 in
         local-done world w part after.0 (home sim w) at goes
 
     -- a letter that is accepted is not held there
@@ -169,6 +170,7 @@ module _ {S P : Type 0} (sim : Simulation S P) where
         let counted = sum-among (mail_weight (is_copy letter.sign stamp)) part.arrived mail (get-among part.arrived i mail there) in
         let one : mail_weight (is_copy letter.sign stamp) mail ≡ 1 = own-copy letter.sign letter.event in
         let free = not-held sim serial world w (letter.event.dest / sim.workers) part process.0 letter.sign letter.event.rank (stamp-facts sim serial stamp steps) at process.1 (omega arith) in
-        let after = delivered (record part { arrived = remove part.arrived i }) letter process.0 process.1 free in
-        let goes : accept sim i part ≡ Some after.0 = ap (accept_mail sim i part) there ∙ after.1 in
+        let left : Part P = record part { arrived = remove part.arrived i } in
+        let after = delivered left letter process.0 process.1 free in
+        let goes : accept sim i part ≡ Some after.0 = ap (option_and_then (λ (m : Mail P). deliver sim left m.letter)) there ∙ after.1 in
         local-done world w part after.0 (accept sim i) at goes

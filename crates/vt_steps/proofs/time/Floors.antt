@@ -16,7 +16,8 @@ use Rattle.vt_steps.specs.BoardSteps.{all_set, is_clear, with_open_round, with_r
 use Rattle.vt_steps.specs.BookSteps.{may_commit, with_rows}
 use Rattle.vt_steps.specs.Next.{next, run, reached}
 use Rattle.vt_steps.specs.PartSteps.{part_after_send, part_after_fetch, part_after_cut, part_after_commit, report_sent, report_got, report_least}
-use Rattle.vt_steps.specs.World.{Part, Board, Book, World, opening_part, opening_world, least_floor, book_floor}
+use Rattle.vt_steps.specs.World.{Part, Board, Book, World, opening_part, opening_world, book_floor}
+use Rattle.vt_steps.specs.Letters.{least_of}
 use Rattle.vt_steps.proofs.time.Announced.{IsTimeSound, time-kept, opening-time-sound}
 use Rattle.vt_steps.proofs.steps.Changes.{homes, arrives, Local, acts, takes, Change, stays, local, sends, fetches, cuts, reports, commits, closes, next_changes, run_keeps, if_has}
 use Rattle.vt_steps.proofs.lists.Places.{all-put, get-map, get-replicate, get-within}
@@ -26,17 +27,17 @@ use Rattle.vt_steps.proofs.lists.Tests.{both_pass}
 -- ---- the least of a list of floors
 
 -- it is at most each
-pub floor-at : (end : Time) (floors : List Time) (w : ℕ) (floor : Time) → slice_get floors w ≡ Some floor → TimeAtMost (least_floor end floors) floor
+pub floor-at : (end : Time) (floors : List Time) (w : ℕ) (floor : Time) → slice_get floors w ≡ Some floor → TimeAtMost (least_of end floors) floor
 floor-at end [] w floor e = absurd (let h : None ≡ Some floor = e in cc)
 floor-at end (f ∷ fs) zero floor e = let same : f ≡ floor = cc in omega arith
 floor-at end (f ∷ fs) (suc w) floor e = let ih = floor-at end fs w floor e in omega arith
 
 -- where one rises, it doesn't fall
-least_floor-rises : (end : Time) (floors : List Time) (w : ℕ) (floor higher : Time) → slice_get floors w ≡ Some floor → TimeAtMost floor higher →
-    TimeAtMost (least_floor end floors) (least_floor end (slice_set floors w higher))
-least_floor-rises end [] w floor higher e h = omega arith
-least_floor-rises end (f ∷ fs) zero floor higher e h = let same : f ≡ floor = cc in omega arith
-least_floor-rises end (f ∷ fs) (suc w) floor higher e h = let ih = least_floor-rises end fs w floor higher e h in omega arith
+pub floor-rises : (end : Time) (floors : List Time) (w : ℕ) (floor higher : Time) → slice_get floors w ≡ Some floor → TimeAtMost floor higher →
+    TimeAtMost (least_of end floors) (least_of end (slice_set floors w higher))
+floor-rises end [] w floor higher e h = omega arith
+floor-rises end (f ∷ fs) zero floor higher e h = let same : f ≡ floor = cc in omega arith
+floor-rises end (f ∷ fs) (suc w) floor higher e h = let ih = floor-rises end fs w floor higher e h in omega arith
 
 -- ---- what holds of floors
 
@@ -225,7 +226,7 @@ module _ {S P : Type 0} (sim : Simulation S P) (old new : World P) (least_end : 
           closed = λ shut. absurd (let h : true ≡ false = sym shut ∙ open_is in cc);
         };
         announced = le_refl _;
-        floor = least_floor-rises sim.end old.book.floors w has.0 part.floor has.1 has.2;
+        floor = floor-rises sim.end old.book.floors w has.0 part.floor has.1 has.2;
       })
   floors-kept (closes open_is at_end e) =
       subst (FloorsKept sim.end old) (sym e)

@@ -4,10 +4,10 @@ use Rattle.vt_key.specs.Times.{Time}
 use Rattle.vt_model.specs.declared.rows.Row.{Row}
 use Rattle.vt_model.specs.Sequential.{rows_before}
 use Rattle.vt_steps.specs.BookSteps.{with_rows}
-use Rattle.vt_steps.specs.World.{least_floor}
+use Rattle.vt_steps.specs.Letters.{least_of}
 use Rattle.vt_book.specs.Books.{RunBook, may_hand}
 use Rattle.vt_book.specs.Kept.{AreSameRows, IsKept}
-use Rattle.vt_book.proofs.FloorLemmas.{not-falling}
+use Rattle.vt_steps.proofs.time.Floors.{floor-rises}
 use Rattle.vt_book.proofs.KeptLemmas.{lawful, kept-after, late-after}
 use Rattle.vt_book.proofs.book.Book.take.Goals as goal
 
@@ -21,7 +21,7 @@ show_between-requires-clause-late g c =
     let added : c.add.new.waiting.items ≡ waiting ++ rows = c.in_ok-add.ensures.rows ∙ ap (λ (rs : List Row). waiting ++ rs) c.into_rows.ensures in
     let same : AreSameRows c.add.new.waiting.items (waiting ++ rows) = λ f. ap (sum_by f) added in
     subst (λ (t : Time). rows_before t c.add.new.waiting.items ≡ []) (sym c.least-shown_to.ensures)
-    (late-after (least_floor end floors) c.self.inside.history.items rows c.self.inside.shown.items waiting c.add.new.waiting.items c.self.invariant is.late same)
+    (late-after (least_of end floors) c.self.inside.history.items rows c.self.inside.shown.items waiting c.add.new.waiting.items c.self.invariant is.late same)
 
 pub invariant_of-self-2 : goal.invariant_of-self-2
 invariant_of-self-2 g c =
@@ -33,15 +33,15 @@ invariant_of-self-2 g c =
     let history = c.self.inside.history.items in
     let waiting = c.self.inside.waiting.items in
     let is = lawful end floors w rows floor (subst (λ (b : RunBook). may_hand b w rows floor ≡ true) (sym c.self.view_is) c.requires.0) in
-    let after = subst (λ (fs : List Time). least_floor end floors ≤ least_floor end fs) (sym c.set.ensures) (not-falling end floors w is.handed_in floor is.at is.rising) in
-    let rises = subst (λ (t : Time). least_floor end floors ≤ t) (sym c.least-risen_to.ensures) after in
-    let kept : IsKept (least_floor end floors) history c.make_room.new.shown.items waiting = record {
+    let after = subst (λ (fs : List Time). least_of end floors ≤ least_of end fs) (sym c.set.ensures) (floor-rises end floors w is.handed_in floor is.at is.rising) in
+    let rises = subst (λ (t : Time). least_of end floors ≤ t) (sym c.least-risen_to.ensures) after in
+    let kept : IsKept (least_of end floors) history c.make_room.new.shown.items waiting = record {
       in_order = c.in_ok-make_room.ensures.shown ∙ c.self.invariant.in_order;
       all_there = c.self.invariant.all_there;
     } in
     let added : c.add.new.waiting.items ≡ waiting ++ rows = c.in_ok-add.ensures.rows ∙ ap (λ (rs : List Row). waiting ++ rs) c.into_rows.ensures in
     let same : AreSameRows c.add.new.waiting.items (waiting ++ rows) = λ f. ap (sum_by f) added in
-    let new = kept-after (least_floor end floors) c.least-risen_to.result history rows c.make_room.new.shown.items waiting c.add.new.waiting.items
+    let new = kept-after (least_of end floors) c.least-risen_to.result history rows c.make_room.new.shown.items waiting c.add.new.waiting.items
     c.show_between.new.waiting.items rises kept is.late same c.show_between.new.shown.items c.show_between.ensures.shown c.show_between.ensures.waiting in
     let handed : c.picked.result.items ≡ history ++ rows = c.picked.ensures ∙ c.requires.1 ∙ ap (λ (b : RunBook). b.book.rows ++ rows) (sym c.self.view_is) in
     subst (λ (t : Time). IsKept t c.picked.result.items c.show_between.new.shown.items c.show_between.new.waiting.items) c.least-risen_to.ensures

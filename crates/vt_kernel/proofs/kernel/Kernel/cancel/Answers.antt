@@ -8,7 +8,7 @@ use Rattle.vt_kernel.specs.Local.{local_step}
 use Rattle.vt_kernel.specs.Guards.{IsDone}
 use Rattle.vt_kernel.proofs.PartLemmas.{stands_along}
 use Rattle.vt_kernel.proofs.LocalLemmas.{view_of, place-within, inside-changed, unknown-refused, changed-done, changed-refused, written-same}
-use Rattle.vt_kernel.proofs.ReentryLemmas.{process-there, still-there, was-in-contest}
+use Rattle.vt_kernel.proofs.ReentryLemmas.{process-there, may-enter}
 use Rattle.vt_kernel.proofs.kernel.Kernel.cancel.Given.{Over}
 use Rattle.vt_kernel.proofs.kernel.Kernel.cancel.Goals.{After-index_mut}
 use Rattle.vt_kernel.proofs.kernel.Kernel.cancel.Goals as goal
@@ -21,9 +21,7 @@ returns-in_default-clause-refused g c handlers part s =
     c.args.lp (cancel_process c.args.stamp) i.config.some_worker c.self.invariant.all_there c.in_default.ensures.other)
 
 pub index_mut-requires : goal.index_mut-requires
-index_mut-requires g c =
-    let less = place-within c.self.invariant c.in-Some.ensures.own in
-    search (rules, less)
+index_mut-requires g c = search (rules, place-within c.self.invariant c.in-Some.ensures.own)
 
 -- the process is there
 there : (g : Over) (c : After-index_mut g) → slice_get c.self.inside.processes.items c.in-Some.place ≡ Some c.index_mut.result.now
@@ -41,11 +39,9 @@ returns-in-Err-clause-refused g c handlers part s =
     (changed-refused handlers (view_of c.self.inside) c.self.invariant.own_processes part (stands_along c.self.view_is handlers part s)
     (cancel_process c.args.stamp) c.in-Some.ensures.own (there g (goal.at.returns-in-Err-clause-refused g c).After-index_mut) (λ process st. c.in-Err.ensures.refused handlers process st))
 
-pub enter-requires-clause-there : goal.enter-requires-clause-there
-enter-requires-clause-there g c κs within = still-there _ _ (there g (goal.at.enter-requires-clause-there g c).After-index_mut) c.deref.ensures.value
-
-pub enter-requires-clause-was : goal.enter-requires-clause-was
-enter-requires-clause-was g c κs within = was-in-contest c.self.invariant _ (there g (goal.at.enter-requires-clause-was g c).After-index_mut) c.deref.ensures.value
+pub enter-requires : goal.enter-requires
+enter-requires g c =
+    (record { owned = c.type_bounds.send-M-Payload.owned; leaving = c.type_bounds.send-M-Payload.leaving }, may-enter c.self.invariant _ c.in-Some.ensures.own (sym c.index_mut.ensures.value) c.deref.ensures.value)
 
 pub invariant_of-self-2 : goal.invariant_of-self-2
 invariant_of-self-2 g c =

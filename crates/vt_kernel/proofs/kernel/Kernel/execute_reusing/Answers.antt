@@ -19,15 +19,13 @@ use Rattle.vt_kernel.proofs.ProcessLemmas.{process-at, processes-changed}
 use Rattle.vt_kernel.proofs.OwnSteps.{own-execute, IsFound, within-limits, same-execute, refusal-at, own-step}
 use Rattle.vt_kernel.proofs.LocalLemmas.{view_of, place-within, unknown-refused, either-way, found-at, at-found-done, execute-step, both-errors, own-process}
 use Rattle.vt_kernel.proofs.PutLemmas.{put-done, put-kept, put-seen, inside-put}
-use Rattle.vt_kernel.proofs.ReentryLemmas.{process-there, still-there, was-in-contest}
+use Rattle.vt_kernel.proofs.ReentryLemmas.{process-there, may-enter}
 use Rattle.vt_kernel.proofs.kernel.Kernel.execute_reusing.Given.{Over}
 use Rattle.vt_kernel.proofs.kernel.Kernel.execute_reusing.Goals.{After-index_mut, After-put}
 use Rattle.vt_kernel.proofs.kernel.Kernel.execute_reusing.Goals as goal
 
 pub index_mut-requires : goal.index_mut-requires
-index_mut-requires g c =
-    let less = place-within c.self.invariant c.in-Some.ensures.own in
-    search (rules, less)
+index_mut-requires g c = search (rules, place-within c.self.invariant c.in-Some.ensures.own)
 
 -- the process is there
 there : (g : Over) (c : After-index_mut g) → slice_get c.self.inside.processes.items c.in-Some.place ≡ Some c.index_mut.result.now
@@ -39,11 +37,9 @@ execute_reusing-result-requires-send-M-Payload g c = λ _ _. c.type_bounds.send-
 pub execute_reusing-result-requires-after_bounds : goal.execute_reusing-result-requires-after_bounds
 execute_reusing-result-requires-after_bounds g c κs within = out_fits _ _ g.met.M.Model.payload_align g.met.M.Model.payload_size
 
-pub enter-requires-clause-there : goal.enter-requires-clause-there
-enter-requires-clause-there g c κs within = still-there _ _ (there g (goal.at.enter-requires-clause-there g c).After-index_mut) c.deref.ensures.value
-
-pub enter-requires-clause-was : goal.enter-requires-clause-was
-enter-requires-clause-was g c κs within = was-in-contest c.self.invariant _ (there g (goal.at.enter-requires-clause-was g c).After-index_mut) c.deref.ensures.value
+pub enter-requires : goal.enter-requires
+enter-requires g c =
+    (record { owned = c.type_bounds.send-M-Payload.owned; leaving = c.type_bounds.send-M-Payload.leaving }, may-enter c.self.invariant _ c.in-Some.ensures.own (sym c.index_mut.ensures.value) c.deref.ensures.value)
 
 pub returns-in_default-clause-refused : goal.returns-in_default-clause-refused
 returns-in_default-clause-refused g c part s =

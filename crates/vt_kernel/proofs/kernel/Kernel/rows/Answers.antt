@@ -1,7 +1,8 @@
 use Rattle.std.proofs.Common.{rules, ◌≡◌, ◌∙◌, ◌++◌, Some, length, slice_get, sym, ap, subst, arith}
 use Rattle.std.proofs.lemmas.List.{take_all}
 use Rattle.vt_model.specs.Simulation.{simulation_of}
-use Rattle.vt_steps.specs.PartSteps.{ripe_rows, rows_of_processes, rows_of_commit}
+use Rattle.vt_steps.specs.PartSteps.{ripe_rows, rows_of_commit}
+use Rattle.vt_steps.proofs.steps.CommitRows.{rows_of_processes}
 use Rattle.vt_lp.specs.Held.{HeldProcess}
 use Rattle.vt_contest.specs.Contest.{IsContestOf}
 use Rattle.vt_contest.proofs.ContestLemmas.{marked-within, unmarked-past}

@@ -9,25 +9,17 @@ use Rattle.vt_kernel.proofs.PartLemmas.{stands_along}
 use Rattle.vt_kernel.proofs.LocalLemmas.{view_of, place-within, written-same}
 use Rattle.vt_kernel.proofs.SettledWorker.{unknown-settled, settled-seen}
 use Rattle.vt_kernel.proofs.PutLemmas.{put-nothing, put-settled, inside-put}
-use Rattle.vt_kernel.proofs.ReentryLemmas.{process-there, still-there, was-in-contest}
+use Rattle.vt_kernel.proofs.ReentryLemmas.{process-there, may-enter}
 use Rattle.vt_kernel.proofs.kernel.Kernel.settle.Given.{Over}
 use Rattle.vt_kernel.proofs.kernel.Kernel.settle.Goals.{After-index_mut, After-put}
 use Rattle.vt_kernel.proofs.kernel.Kernel.settle.Goals as goal
-
-pub index_mut-requires : goal.index_mut-requires
-index_mut-requires g c =
-    let less = place-within c.self.invariant c.in-Some.ensures.own in
-    search (rules, less)
 
 -- the process is there
 there : (g : Over) (c : After-index_mut g) → slice_get c.self.inside.processes.items c.in-Some.place ≡ Some c.index_mut.result.now
 there g c = process-there c.self.invariant c.in-Some.ensures.own (sym c.index_mut.ensures.value)
 
-pub enter-requires-clause-there : goal.enter-requires-clause-there
-enter-requires-clause-there g c κs within = still-there _ _ (there g (goal.at.enter-requires-clause-there g c).After-index_mut) c.deref.ensures.value
-
-pub enter-requires-clause-was : goal.enter-requires-clause-was
-enter-requires-clause-was g c κs within = was-in-contest c.self.invariant _ (there g (goal.at.enter-requires-clause-was g c).After-index_mut) c.deref.ensures.value
+pub index_mut-requires : goal.index_mut-requires
+index_mut-requires g c = search (rules, place-within c.self.invariant c.in-Some.ensures.own)
 
 pub returns-in_default-clause-settles : goal.returns-in_default-clause-settles
 returns-in_default-clause-settles g c part s =
@@ -38,6 +30,10 @@ returns-in_default-clause-settles g c part s =
           (unknown-settled handlers (view_of i) c.self.invariant.own_processes part (stands_along c.self.view_is handlers part s) c.args.lp i.config.some_worker c.self.invariant.all_there c.in_default.ensures.other),
       s,
     )
+
+pub enter-requires : goal.enter-requires
+enter-requires g c =
+    (record { owned = c.type_bounds.send-M-Payload.owned; leaving = c.type_bounds.send-M-Payload.leaving }, may-enter c.self.invariant _ c.in-Some.ensures.own (sym c.index_mut.ensures.value) c.deref.ensures.value)
 
 pub invariant_of-self : goal.invariant_of-self
 invariant_of-self g c =

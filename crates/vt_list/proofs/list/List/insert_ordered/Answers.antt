@@ -1,5 +1,6 @@
 use Rattle.std.proofs.Common.{◌++◌, [], ◌∷◌, ap, ◌∙◌}
 use Rattle.vt_key.specs.Queues.{insert_ordered}
+use Rattle.vt_key.specs.Order.{rank_before}
 use Rattle.vt_list.proofs.Firsts.{insert-between}
 use Rattle.vt_list.proofs.list.List.insert_ordered.Goals as goal
 
@@ -9,4 +10,4 @@ returns g c =
     c.put.ensures ∙ c.join-2.ensures
     ∙ (λ i. (c.join.ensures ∙ (λ j. parts.ensures.before j ++ (c.of.ensures ∙ ap (λ x. x ∷ []) c.into_node.ensures) j)) i ++ parts.ensures.from i)
     ∙ insert-between g.T.Ranked.rank_of c.args.parcel c.rank.result c.take.result (c.rank.ensures ∙ ap g.T.Ranked.rank_of c.get.ensures)
-    ∙ ap (insert_ordered g.T.Ranked.rank_of c.args.parcel) (c.take.ensures.0 ∙ c.self.view_is)
+    ∙ ap (insert_ordered (λ a b. rank_before (g.T.Ranked.rank_of a) (g.T.Ranked.rank_of b)) c.args.parcel) (c.take.ensures.0 ∙ c.self.view_is)

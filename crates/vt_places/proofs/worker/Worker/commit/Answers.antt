@@ -5,7 +5,7 @@ use Rattle.vt_model.specs.Settings.{end_of}
 use Rattle.vt_steps.specs.declared.step.Step.TheVariants.{Commit}
 use Rattle.vt_steps.specs.declared.step.Reply.TheVariants.{Done}
 use Rattle.vt_places.specs.AtWork.{AtWork}
-use Rattle.vt_places.specs.Calls.{Reaches, Visited, Stays, ShowsFloor, IsFloorLeft, IsRefusedAlone}
+use Rattle.vt_places.specs.Calls.{Reaches, Visited, Stays, ShowsFloor, IsFloorLeft}
 use Rattle.vt_places.proofs.WorkLemmas.{kernel-ready, called-at-work, alone-at-work}
 use Rattle.vt_places.proofs.worker.Worker.commit.Goals as goal
 
@@ -32,7 +32,4 @@ returns-clause-done g c =
     (λ _. Stays o.view w × (left ≡ o.kernel))) c.self.view_is there
 
 pub returns-clause-alone : goal.returns-clause-alone
-returns-clause-alone g c =
-    let place = c.self.inside.place in
-    subst (λ (o : AtWork g.row.M.Denot g.row.M-State.Denot g.row.M-Payload.Denot g.row.M-Kept.Denot). (r : Reaches (g.M.Model.handlers o.model) o.config o.view o.kernel) → IsRefusedAlone (simulation_of (g.M.Model.handlers o.model) o.config) o.view r.steps (Commit o.kernel.worker) c.commit.result)
-    c.self.view_is (alone-at-work c.self.invariant (λ w. Commit w) c.commit.result place.worker place.own c.commit.ensures.alone)
+returns-clause-alone g c = alone-at-work c.self.invariant (λ w. Commit w) c.commit.result c.self.view_is c.self.inside.place.worker c.self.inside.place.own c.commit.ensures.alone

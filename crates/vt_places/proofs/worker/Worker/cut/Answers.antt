@@ -1,8 +1,4 @@
-use Rattle.std.proofs.Common.{subst}
-use Rattle.vt_model.specs.Simulation.{simulation_of}
 use Rattle.vt_steps.specs.declared.step.Step.TheVariants.{Cut}
-use Rattle.vt_places.specs.AtWork.{AtWork}
-use Rattle.vt_places.specs.Calls.{Reaches, IsRefusedAlone}
 use Rattle.vt_places.proofs.WorkLemmas.{kernel-ready, called-at-work, alone-at-work}
 use Rattle.vt_places.proofs.worker.Worker.cut.Goals as goal
 
@@ -13,7 +9,4 @@ pub cut-requires-clause-kernel : goal.cut-requires-clause-kernel
 cut-requires-clause-kernel g c κs within = kernel-ready c.self.invariant
 
 pub returns-clause-alone : goal.returns-clause-alone
-returns-clause-alone g c =
-    let place = c.self.inside.place in
-    subst (λ (o : AtWork g.row.M.Denot g.row.M-State.Denot g.row.M-Payload.Denot g.row.M-Kept.Denot). (r : Reaches (g.M.Model.handlers o.model) o.config o.view o.kernel) → IsRefusedAlone (simulation_of (g.M.Model.handlers o.model) o.config) o.view r.steps (Cut o.kernel.worker) c.cut.result)
-    c.self.view_is (alone-at-work c.self.invariant (λ w. Cut w) c.cut.result place.worker place.own c.cut.ensures.alone)
+returns-clause-alone g c = alone-at-work c.self.invariant (λ w. Cut w) c.cut.result c.self.view_is c.self.inside.place.worker c.self.inside.place.own c.cut.ensures.alone

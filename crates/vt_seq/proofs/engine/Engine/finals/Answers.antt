@@ -1,5 +1,4 @@
-use Rattle.std.proofs.Common.{rules, ◌≡◌, ℕ, suc, ◌+◌, ◌∙◌, List, [], ◌∷◌, ◌++◌, map, sym, ap, subst, refl, ◌<◌, arith}
-use Rattle.std.proofs.lemmas.List.{map-append}
+use Rattle.std.proofs.Common.{rules, ◌≡◌, ℕ, ◌+◌, ◌∙◌, List, [], ◌∷◌, ◌++◌, map, sym, ap, subst, refl, ◌<◌, arith}
 use Rattle.std.proofs.Math.Logic.{∥∥₁_elim}
 use Rattle.std.proofs.Props.{props}
 use Rattle.vt_model.specs.Process.{triple_at}
@@ -9,6 +8,7 @@ use Rattle.vt_model.specs.Sequential.{after_steps, events_of, whole_run, numbers
 use Rattle.vt_model.proofs.LawLemmas.{lawful_of}
 use Rattle.vt_seq.proofs.StepLemmas.{none_pending, none_there, none_first, not_both}
 use Rattle.vt_model.proofs.EndLemmas.{executed_all}
+use Rattle.vt_model.proofs.RunLemmas.{map-next}
 use Rattle.vt_seq.proofs.engine.Engine.finals.Goals as goal
 
 pub returns-clause-values : goal.returns-clause-values
@@ -41,9 +41,8 @@ loop-p-preserved g c n st =
     let at : triple_at q.state q.number q.stream ≡ after sim p (events_of p (after_steps sim n).executed) = ap (λ (o : Process _ _ _ _). triple_at o.state o.number o.stream) c.index.ensures ∙ st.triples p q c.loop-p-test.true in
     let value : c.finish-value.result ≡ final p = c.finish-value.ensures ∙ ap (λ (t : Triple _). (g.M.Model.handlers m).finish p t.state) at in
     let pushed : c.push.new.self.items ≡ c.loop-p.values.items ++ c.finish-value.result ∷ [] = search rules in
-    let next : suc p ≡ p + 1 = omega arith in
     pushed ∙ ap (λ (l : List ℕ). l ++ c.finish-value.result ∷ []) (c.loop-p.invariant n st) ∙ ap (λ v. map final (numbers_below p) ++ v ∷ []) value
-    ∙ sym (map-append final (numbers_below p) (p ∷ [])) ∙ ap (λ k. map final (numbers_below k)) next
+    ∙ sym (map-next final p)
 
 pub returns-clause-not_lawful : goal.returns-clause-not_lawful
 returns-clause-not_lawful g c some = absurd (not_both c.args.self.now.pending (none_there c.args.self.now.pending c.in-None.ensures) some)

@@ -2,4 +2,4 @@ use Rattle.vt_places.specs.AtWork.{IsAtSameStation}
 use Rattle.vt_station.proofs.driver.Driver.post_all.Given as goal
 
 abbrev pub invariant-loop : goal.invariant-loop
-invariant-loop g l = IsAtSameStation l.initial.self.worker l.self.worker
+invariant-loop g l = IsAtSameStation l.initial.self l.self

@@ -2,4 +2,4 @@ use Rattle.vt_places.specs.AtWork.{IsAtSameStation}
 use Rattle.vt_station.proofs.driver.Driver.settle_touched.Given as goal
 
 abbrev pub invariant-loop-i : goal.invariant-loop-i
-invariant-loop-i g l = IsAtSameStation l.initial.self.worker l.self.worker
+invariant-loop-i g l = IsAtSameStation l.initial.self l.self

@@ -1,7 +1,7 @@
-use Rattle.std.proofs.Common.{◌≡◌, ◌+◌, ℕ, suc, [], ◌∷◌, ◌++◌, map, sym, ap, ◌∙◌, arith}
-use Rattle.std.proofs.lemmas.List.{map-append}
+use Rattle.std.proofs.Common.{◌+◌, ℕ, [], ◌∷◌, ◌++◌, sym, ◌∙◌}
 use Rattle.vt_model.specs.Simulation.{simulation_of, after}
-use Rattle.vt_model.specs.Sequential.{events_of, whole_run, numbers_below}
+use Rattle.vt_model.specs.Sequential.{events_of, whole_run}
+use Rattle.vt_model.proofs.RunLemmas.{map-next}
 use Rattle.vt_world.proofs.world.World.finals.Goals as goal
 
 pub loop-lp-preserved : goal.loop-lp-preserved
@@ -10,6 +10,5 @@ loop-lp-preserved g c =
     let sim = simulation_of H c.args.self.now.config in
     let p = c.loop-lp.lp in
     let final : ℕ → ℕ = λ q. H.finish q (after sim q (events_of q (whole_run sim))).state in
-    let next : suc p ≡ p + 1 = omega arith in
     c.in-Ok.ensures.items ∙ (λ j. c.loop-lp.invariant j ++ c.final_value.ensures j ∷ [])
-    ∙ sym (map-append final (numbers_below p) (p ∷ [])) ∙ ap (λ k. map final (numbers_below k)) next
+    ∙ sym (map-next final p)

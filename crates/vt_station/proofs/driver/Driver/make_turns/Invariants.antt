@@ -1,5 +1,0 @@
-use Rattle.vt_places.specs.AtWork.{IsAtSameStation}
-use Rattle.vt_station.proofs.driver.Driver.make_turns.Given as goal
-
-abbrev pub invariant-loop-turn : goal.invariant-loop-turn
-invariant-loop-turn g l = IsAtSameStation l.initial.self.worker l.self.worker

@@ -1,0 +1,8 @@
+use Rattle.vt_places.proofs.WorkLemmas.{kernel-ready, called-at-work}
+use Rattle.vt_station.proofs.driver.Driver.post_all.Goals as goal
+
+pub post-answer-requires-clause-kernel : goal.post-answer-requires-clause-kernel
+post-answer-requires-clause-kernel g c κs within = kernel-ready c.self-in-loop.invariant
+
+pub invariant_of-self : goal.invariant_of-self
+invariant_of-self g c = called-at-work c.self-in-loop.invariant c.post-answer.ensures.same.0 c.post-answer.ensures.ready
