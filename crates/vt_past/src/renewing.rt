@@ -1,8 +1,8 @@
 //! How an executed event becomes a past one, in a node that an old one had, and how an undone one is taken apart.
 
-ghost use Rattle.std.specs.Prelude.{◌≡◌, ◌≤◌, [], length};
+ghost use Rattle.std.specs.Prelude.{◌≡◌, ◌≤◌, length};
 ghost use Rattle.vt_model.specs.declared.limits.TheConstants.{MAX_RECORDS};
-ghost use Rattle.vt_past.specs.Events.{past_event, undo_entry_of};
+ghost use Rattle.vt_past.specs.Events.{past_event, undo_entry_of, left_event};
 
 use crate::event::{PastEvent, UndoEntry};
 use crate::records::Records;
@@ -98,10 +98,11 @@ impl<P: Copy, K: Copy> PastEvent<P, K> {
         )
     }
 
-    /// Takes out what [`PastEvent::into_parts`] gives. This letter stands in the event instead, and no anti-message.
+    /// Takes out what [`PastEvent::into_parts`] gives. This letter stands in the event instead, and no anti-message. All else
+    /// stays.
     pub fn take_parts(&mut self, letter: Parcel<Letter<P>>) -> (Parcel<Letter<P>>, UndoEntry<P, K>)
         ensures parts { (result.0 ≡ self.old.letter) × (result.1 ≡ undo_entry_of self.old) }
-        ensures none_left { self.new.anti_messages ≡ [] }
+        ensures left { self.new ≡ left_event self.old letter }
     {
         let event = self;
         event.key = letter.get().event.rank.key;
