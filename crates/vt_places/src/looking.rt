@@ -1,4 +1,4 @@
-//! Looks at a cell, without a claim.
+//! Looks at a place, and at a cell without a claim.
 
 ghost use Rattle.std.specs.Prelude.{◌≡◌, ◌<◌, true, false, Err, IfOk, IfErr};
 ghost use Rattle.vt_key.specs.Times.{TimeAtMost, TimeBefore};
@@ -20,6 +20,15 @@ use std::marker::Brand;
 use vt_kernel::Kernel;
 use vt_key::Fault;
 use vt_model::{Config, Model as EventModel};
+
+impl<P> Place<P> {
+    /// The number of the worker whose place it is.
+    pub fn worker(&self) -> u32
+        ensures { result ≡ place_worker self.now }
+    {
+        self.worker
+    }
+}
 
 impl<M: EventModel> Station<M> {
     /// Looks at a worker's inbox by one load, and answers whether it is empty. If it is, this look was the worker's fetch: its

@@ -106,7 +106,6 @@ impl<'a, M: EventModel> Job<'a, M> {
                     self.station,
                     self.model,
                     self.config,
-                    self.worker,
                     place,
                     kernel,
                     bells,

@@ -109,13 +109,12 @@ impl<'a, M: EventModel> Model for Driver<'a, M> {
 }
 
 impl<'a, M: EventModel> Driver<'a, M> {
-    /// Worker `number` before its first turn, with its place and its kernel.
+    /// The worker of a place before its first turn, with its kernel.
     pub(crate) fn new(
         alloc: Global,
         station: &'a Station<M>,
         model: &'a M,
         config: Config,
-        number: u32,
         place: Place<M::Payload>,
         kernel: Kernel<M>,
         bells: &'a Bells,
@@ -128,7 +127,7 @@ impl<'a, M: EventModel> Driver<'a, M> {
             station,
             model,
             config,
-            number,
+            number: place.worker(),
             place,
             kernel,
             touched: Vec::new(alloc),
