@@ -6,22 +6,15 @@ use Rattle.std.proofs.KnownBytes.{Keeps-refl, Appends-trans}
 use Rattle.vt_key.specs.Times.{Time}
 use Rattle.vt_key.specs.declared.fault.Fault.{Fault}
 use Rattle.vt_key.specs.declared.fault.Fault.TheVariants.{Memory, Output}
-use Rattle.vt_model.specs.declared.settings.Config.{Config}
 use Rattle.vt_model.specs.declared.rows.Record.{Record}
-use Rattle.vt_model.specs.Handler.{Handlers}
 use Rattle.vt_model.specs.Histories.{IsLawful}
 use Rattle.vt_model.specs.Sequential.{seq_records}
-use Rattle.vt_model.specs.Simulation.{Simulation, simulation_of}
-use Rattle.vt_model.specs.Settings.{end_of}
-use Rattle.vt_steps.specs.World.{World, Board, Book, opening_world, least, book_floor, book_records}
+use Rattle.vt_model.specs.Simulation.{Simulation}
+use Rattle.vt_steps.specs.World.{World, opening_world, least, book_floor, book_records}
 use Rattle.vt_steps.specs.Next.{reached}
-use Rattle.vt_steps.specs.StandsFor.{StandsFor}
 use Rattle.vt_steps.proofs.book.ReachedBooks.{reached-accounted}
 use Rattle.vt_steps.proofs.book.Records.{records-right}
-use Rattle.vt_world.specs.Held.{HeldWorld, world_memory, StandsForWorld}
-use Rattle.vt_world.specs.Calls.{floor_held, least_held}
 use Rattle.vt_world.specs.Answers.{PassesAtStart, IsOpeningRefusal}
-use Rattle.vt_world.proofs.ReachedLemmas.{least-same}
 use Rattle.vt_text.specs.declared.version.Version.{Version}
 use Rattle.vt_text.specs.Records.{records_text}
 use Rattle.vt_text.specs.Writing.{AppendsAllButHeld, AppendsBeginning}
@@ -86,14 +79,9 @@ are_sequential sim lawful serial steps replies end h =
     subst (λ (w : World _). AreSequential sim w) (sym (rightly_answered sim (opening_world sim serial) end steps replies h.answered).taken)
     (records-right sim lawful (reached sim serial taken) (reached-accounted sim lawful serial taken)).records
 
-shown_is : (version : Version) {M S P K : Type 0} (handlers : Handlers S P K) (held : HeldWorld M S P K) (end : World P) → StandsForWorld handlers held end → AreSequential (simulation_of handlers held.config) end → shown_of version handlers held ≡ state_of version (end_of held.config) end
-shown_is version handlers held end stands records =
-    let e = end_of held.config in
-    let seq : Time → List Record = λ t. seq_records (simulation_of handlers held.config) t in
-    ap (λ (b : Board). state_text version b.announced (floor_held held) (least_held held) (seq (floor_held held))) (sym stands.board)
-    ∙ ap (λ (k : Book). state_text version end.board.announced (book_floor e k) (least_held held) (seq (book_floor e k))) (sym stands.book)
-    ∙ ap (λ (t : Time). state_text version end.board.announced (book_floor e end.book) t (seq (book_floor e end.book))) (sym (least-same handlers held end stands))
-    ∙ ap (λ (rs : List Record). state_text version end.board.announced (book_floor e end.book) (least e end) rs) (sym records)
+-- what the calls of a reached world tell is what the definition says
+shown_is : (version : Version) {S P : Type 0} (sim : Simulation S P) (world : World P) → AreSequential sim world → shown_of sim version world ≡ state_of version sim.end world
+shown_is version sim world records = ap (λ (rs : List Record). state_text version world.board.announced (book_floor sim.end world.book) (least sim.end world) rs) (sym records)
 
 -- ---- a whole replay
 
@@ -127,60 +115,38 @@ module _ (version : Version) {S P : Type 0} (sim : Simulation S P) (serial : ℕ
       subst (λ (f : Fault). StopsReplay (IsReplayText sim version serial steps) (IsRepliesText sim serial steps) (PassesAtStart sim serial) old new f) (sym h.0) (inr (lines h.1))
   show_stops old now new held fault (inr e) begun lines = output_stops old new fault e begun
 
-module _ (version : Version) {M S P K : Type 0} (meaning : M → Handlers S P K) (m : M) (config : Config) (serial : ℕ) (steps : List NumberedStep) (first : HeldWorld M S P K) (model : first.model ≡ m) (same : first.config ≡ config) where
-  abbrev own : Simulation S P
-  own = simulation_of (meaning first.model) first.config
-
-  -- the world that was made stands for the opening world of its own model and config
-  pub opened : StandsForWorld (meaning m) first (opening_world (simulation_of (meaning m) config) serial) → StandsForWorld (meaning first.model) first (opening_world own serial)
-  opened h =
-      subst (λ (x : M). StandsForWorld (meaning x) first (opening_world (simulation_of (meaning x) first.config) serial)) (sym model)
-      (subst (λ (c : Config). StandsForWorld (meaning m) first (opening_world (simulation_of (meaning m) c) serial)) (sym same) h)
-
-  -- what holds of that model and config holds of the given ones
-  pub of_given : (Claim : Simulation S P → Type 0) → Claim own → Claim (simulation_of (meaning m) config)
-  of_given Claim h = subst (λ (c : Config). Claim (simulation_of (meaning m) c)) same (subst (λ (x : M). Claim (simulation_of (meaning x) first.config)) model h)
-
-  module _ (lawful : IsLawful own) (final : HeldWorld M S P K) (model' : final.model ≡ first.model) (same' : final.config ≡ first.config) (old now : Option (List ℕ)) (none held : List ℕ) (empty : none ≡ [])
-      (put : PutsReplies (meaning first.model) first.config (opening_world own serial) steps final old now none held) where
-    shown_at_end : shown_of version (meaning final.model) final ≡ state_of version (end_of first.config) put.end
-    shown_at_end =
-        let stands : StandsForWorld (meaning final.model) final put.end =
-        subst (λ (x : M). StandsFor (simulation_of (meaning x) final.config) (world_memory (meaning x) final) put.end) (sym model')
-        (subst (λ (c : Config). StandsFor (simulation_of (meaning first.model) c) (world_memory (meaning first.model) final) put.end) (sym same') put.stands) in
-        let sequential : AreSequential (simulation_of (meaning final.model) final.config) put.end =
-        subst (λ (x : M). AreSequential (simulation_of (meaning x) final.config) put.end) (sym model')
-        (subst (λ (c : Config). AreSequential (simulation_of (meaning first.model) c) put.end) (sym same') (are_sequential own lawful serial steps put.replies put.end put.are)) in
-        shown_is version (meaning final.model) final put.end stands sequential ∙ ap (λ (c : Config). state_of version (end_of c) put.end) same'
+  module _ (lawful : IsLawful sim) (end : World P) (old now : Option (List ℕ)) (none held : List ℕ) (empty : none ≡ []) (put : PutsReplies sim (opening_world sim serial) steps end old now none held) where
+    shown_at_end : shown_of sim version end ≡ state_of version sim.end end
+    shown_at_end = shown_is version sim end (are_sequential sim lawful serial steps put.replies end put.are)
 
     lines : AppendsAllButHeld old now held (replies_text put.replies)
     lines = subst (λ (x : List ℕ). AppendsAllButHeld old now held (x ++ replies_text put.replies)) empty put.put
 
     abbrev shown : List ℕ
-    shown = state_of version (end_of first.config) put.end
+    shown = state_of version sim.end end
 
     abbrev whole : List ℕ
     whole = replies_text put.replies ++ shown
 
-    is_right : IsReplayText own version serial steps whole
-    is_right = right version own serial steps put.replies put.end put.are
+    is_right : IsReplayText sim version serial steps whole
+    is_right = right put.replies end put.are
 
     all_put : AppendsAllButHeld old now (held ++ shown) whole
     all_put = pushed old now held (replies_text put.replies) shown lines
 
     -- the whole output was written
-    pub replay_written : (new : Option (List ℕ)) → Appends now new (held ++ shown_of version (meaning final.model) final) → Writes (IsReplayText own version serial steps) old new
+    pub replay_written : (new : Option (List ℕ)) → Appends now new (held ++ shown_of sim version end) → Writes (IsReplayText sim version serial steps) old new
     replay_written new h = record { text = whole; right = is_right; written = written old now new (held ++ shown) whole all_put (subst (λ (x : List ℕ). Appends now new (held ++ x)) shown_at_end h) }
 
     -- a beginning of it was written
-    pub replay_begun : (new : Option (List ℕ)) → AppendsBeginning now new (held ++ shown_of version (meaning final.model) final) → Begins (IsReplayText own version serial steps) old new
+    pub replay_begun : (new : Option (List ℕ)) → AppendsBeginning now new (held ++ shown_of sim version end) → Begins (IsReplayText sim version serial steps) old new
     replay_begun new h = record { text = whole; right = is_right; begun = flush_fails old now new (held ++ shown) whole all_put (subst (λ (x : List ℕ). AppendsBeginning now new (held ++ x)) shown_at_end h) }
 
     -- the lines of the answers were written, and nothing else
-    pub lines_written : (new : Option (List ℕ)) → Appends now new held → Writes (IsRepliesText own serial steps) old new
+    pub lines_written : (new : Option (List ℕ)) → Appends now new held → Writes (IsRepliesText sim serial steps) old new
     lines_written new h = record {
       text = replies_text put.replies;
-      right = record { replies = put.replies; end = put.end; are = put.are; lines = refl };
+      right = record { replies = put.replies; end = end; are = put.are; lines = refl };
       written = written old now new held (replies_text put.replies) lines h;
     }
 

@@ -6,7 +6,6 @@ use Rattle.std.proofs.lemmas.Grind.{flat_map-append}
 use Rattle.vt_key.specs.declared.fault.Fault.{Fault}
 use Rattle.vt_key.specs.declared.fault.Fault.TheVariants.{Exhausted}
 use Rattle.vt_key.specs.declared.limits.TheConstants.{MAX_COUNT}
-use Rattle.vt_model.specs.declared.settings.Config.{Config}
 use Rattle.vt_model.specs.Handler.{Handlers}
 use Rattle.vt_model.specs.Simulation.{Simulation, simulation_of}
 use Rattle.vt_steps.specs.declared.step.Step.{Step}
@@ -17,11 +16,9 @@ use Rattle.vt_kernel.specs.Refusals.{IsSpent, PassesLimit}
 use Rattle.vt_runner.proofs.RunLemmas.{either}
 use Rattle.vt_steps.specs.declared.step.Reply.{Reply}
 use Rattle.vt_steps.specs.World.{World}
-use Rattle.vt_steps.specs.Next.{next}
-use Rattle.vt_steps.specs.StandsFor.{StandsFor}
+use Rattle.vt_steps.specs.Next.{Outcome, next}
 use Rattle.vt_steps.proofs.steps.Refusals.{refusals}
-use Rattle.vt_world.specs.Held.{HeldWorld, world_memory, StandsForWorld}
-use Rattle.vt_world.specs.Calls.{IsStepOf}
+use Rattle.vt_world.specs.Calls.{RunWorld, IsStepOf}
 use Rattle.vt_step_text.specs.declared.reading.NumberedStep.{NumberedStep}
 use Rattle.vt_step_text.specs.Replies.{Answered, reply_text, replies_text}
 use Rattle.vt_step_text.specs.Replays.{is_no_step, world_after, AreAnswered}
@@ -155,36 +152,30 @@ module _ {S P : Type 0} (sim : Simulation S P) where
         | inr b ↦ subst (λ (x : Fault). IsTrue (is_no_step (Err x))) (sym b.0) refl
       ]
 
--- what a world in memory does at a step is a reply of the step, in each world that it stands for
-pub record RepliesIn {M S P K : Type 0} (handlers : Handlers S P K) (config : Config) (step : NumberedStep) (answer : Result Reply Fault) (new : HeldWorld M S P K) (world : World P) : Type 0 where
-  pub are : AreReplies (simulation_of handlers config) world (step ∷ []) (answered step.line answer ∷ []) (world_after (simulation_of handlers config) world step.step answer)
-  pub stands : StandsFor (simulation_of handlers config) (world_memory handlers new) (world_after (simulation_of handlers config) world step.step answer)
-
-abbrev pub Replies : {M S P K : Type 0} → Handlers S P K → Config → NumberedStep → Result Reply Fault → HeldWorld M S P K → HeldWorld M S P K → Type 0
-Replies handlers config step answer old new = (world : World _) → StandsFor (simulation_of handlers config) (world_memory handlers old) world → RepliesIn handlers config step answer new world
-
-module _ {M S P K : Type 0} (handlers : Handlers S P K) (step : NumberedStep) (old new : HeldWorld M S P K) where
-  pub replies : (answer : Result Reply Fault) → IsStepOf handlers step.step old new answer → Replies handlers old.config step answer old new
-  replies (Ok reply) is world h =
-      let goes = is.done world h in
-      record {
-        are = record { answered = (record { line = refl; answer = inr (sym goes.0) }, refl); exact = (is.within world h, tt) };
-        stands = goes.1;
-      }
-  replies (Err fault) is world h =
-      let sim = simulation_of handlers old.config in
-      let after = (next sim world step.step).world in
-      let kept : StandsFor sim (world_memory handlers new) world = subst (λ (v : HeldWorld M S P K). StandsFor sim (world_memory handlers v) world) (sym is.unchanged) h in
-      elim (is.refused world h) [
+  -- what a world does at a step is a reply of the step
+  one_reply : (step : NumberedStep) (old new : World P) (answer : Result Reply Fault) → IsStepOf sim step.step old new answer → AreReplies sim old (step ∷ []) (answered step.line answer ∷ []) new
+  one_reply step old new (Ok reply) is = record {
+    answered = (record { line = refl; answer = inr (ap (λ (o : Outcome P). o.answer) (sym is.0)) }, ap (λ (o : Outcome P). o.world) (sym is.0));
+    exact = (subst (λ (o : Outcome P). PassesLimit sim step.step o.world → ⊥) (sym is.0) is.1, tt);
+  }
+  one_reply step old new (Err fault) is =
+      let after = (next sim old step.step).world in
+      elim is.1 [
         | inl e ↦ record {
-          are = record { answered = (record { line = refl; answer = inr (sym e) }, refl); exact = (lawless sim world step.step fault e, tt) };
-          stands = subst (λ (w : World P). StandsFor sim (world_memory handlers new) w) (sym (after_refused sim (is_no_step (Err fault)) world after ((refusals sim world step.step).keeps fault e))) kept;
+          answered = (record { line = refl; answer = inr (sym e) }, is.0 ∙ sym (after_refused (is_no_step (Err fault)) old after ((refusals sim old step.step).keeps fault e)));
+          exact = (lawless old step.step fault e, tt);
         }
         | inr spent ↦ record {
-          are = record { answered = (record { line = refl; answer = inl (is_spent sim world step.step fault spent) }, refl); exact = ((λ _. spent), tt) };
-          stands = subst (λ (w : World P). StandsFor sim (world_memory handlers new) w) (sym (after_no_step sim (is_no_step (Err fault)) world after (is_spent sim world step.step fault spent))) kept;
+          answered = (record { line = refl; answer = inl (is_spent old step.step fault spent) }, is.0 ∙ sym (after_no_step (is_no_step (Err fault)) old after (is_spent old step.step fault spent)));
+          exact = ((λ _. spent), tt);
         }
       ]
+
+-- a step of a world is one by the model and the config that it had at first
+pub step_there : {M S P K : Type 0} (meaning : M → Handlers S P K) (step : Step) (answer : Result Reply Fault) (first old new : RunWorld M P) → old.model ≡ first.model → old.config ≡ first.config
+    → IsStepOf (simulation_of (meaning old.model) old.config) step old.world new.world answer → IsStepOf (simulation_of (meaning first.model) first.config) step old.world new.world answer
+step_there meaning step answer first old new model config is =
+    subst (λ (s : Simulation _ _). IsStepOf s step old.world new.world answer) (λ i. simulation_of (meaning (model i)) (config i)) is
 
 -- the lines of one answer more
 pub one_more_line : (replies : List Answered) (line : ℕ) (answer : Result Reply Fault) → replies_text (replies ++ answered line answer ∷ []) ≡ replies_text replies ++ reply_text line answer
@@ -193,70 +184,51 @@ one_more_line replies line answer =
 
 -- ---- the lines of answers, as they are put
 
--- no line
-pub puts_none : {M S P K : Type 0} (handlers : Handlers S P K) (from : World P) (world : HeldWorld M S P K) (out : Option (List ℕ)) (held : List ℕ) → StandsForWorld handlers world from → PutsReplies handlers world.config from [] world out out held held
-puts_none handlers from world out held h = record {
-  replies = [];
-  end = from;
-  are = no_replies (simulation_of handlers world.config) from;
-  stands = h;
-  put = record { sent = []; whole = append-nil held; appends = Appends-nil out };
-}
+module _ {S P : Type 0} (sim : Simulation S P) where
+  -- no line
+  pub puts_none : (world : World P) (out : Option (List ℕ)) (held : List ℕ) → PutsReplies sim world [] world out out held held
+  puts_none world out held = record {
+    replies = [];
+    are = no_replies sim world;
+    put = record { sent = []; whole = append-nil held; appends = Appends-nil out };
+  }
 
-module _ {M S P K : Type 0} (meaning : M → Handlers S P K) (steps : List NumberedStep) (i : ℕ) (d : NumberedStep) (within : i < length steps) (answer : Result Reply Fault) (first old new : HeldWorld M S P K)
-    (model : old.model ≡ first.model) (config : old.config ≡ first.config) (is : IsStepOf (meaning old.model) (get_or steps i d).step old new answer) where
-  step_there : Replies (meaning first.model) first.config (get_or steps i d) answer old new
-  step_there =
-      let step = get_or steps i d in
-      subst (λ (m : M). Replies (meaning m) first.config step answer old new) model
-      (subst (λ (c : Config). Replies (meaning old.model) c step answer old new) config (replies (meaning old.model) step old new answer is))
+  module _ (steps : List NumberedStep) (i : ℕ) (d : NumberedStep) (within : i < length steps) (answer : Result Reply Fault) (from old new : World P) (is : IsStepOf sim (get_or steps i d).step old new answer) where
+    abbrev more_lines : List Answered → List Answered
+    more_lines rs = rs ++ answered (get_or steps i d).line answer ∷ []
 
-  abbrev more_lines : List Answered → List Answered
-  more_lines rs = rs ++ answered (get_or steps i d).line answer ∷ []
+    abbrev line : List ℕ
+    line = reply_text (get_or steps i d).line answer
 
-  abbrev line : List ℕ
-  line = reply_text (get_or steps i d).line answer
+    lines_on : (held : List ℕ) (rs : List Answered) → (held ++ replies_text rs) ++ line ≡ held ++ replies_text (more_lines rs)
+    lines_on held rs = append_assoc held (replies_text rs) line ∙ ap (λ l. held ++ l) (sym (one_more_line rs (get_or steps i d).line answer))
 
-  lines_on : (held : List ℕ) (rs : List Answered) → (held ++ replies_text rs) ++ line ≡ held ++ replies_text (more_lines rs)
-  lines_on held rs = append_assoc held (replies_text rs) line ∙ ap (λ l. held ++ l) (sym (one_more_line rs (get_or steps i d).line answer))
+    more_are : (rs : List Answered) → AreReplies sim from (take i steps) rs old → AreReplies sim from (take (i + 1) steps) (more_lines rs) new
+    more_are rs are =
+        let step = get_or steps i d in
+        subst (λ (xs : List NumberedStep). AreReplies sim from xs (more_lines rs) new) (sym (take_more steps i d within))
+        (more_replies sim from old new (take i steps) (step ∷ []) rs (answered step.line answer ∷ []) are (one_reply sim step old new answer is))
 
-  -- one line more
-  pub puts_more : (from : World P) (before now after : Option (List ℕ)) (held held1 held2 : List ℕ) → PutsReplies (meaning first.model) first.config from (take i steps) old before now held held1
-      → AppendsAllButHeld now after held2 (held1 ++ line)
-      → PutsReplies (meaning first.model) first.config from (take (i + 1) steps) new before after held held2
-  puts_more from before now after held held1 held2 h k =
-      let sim = simulation_of (meaning first.model) first.config in
-      let step = get_or steps i d in
-      let there = step_there h.end h.stands in
-      let end = world_after sim h.end step.step answer in
-      record {
+    module _ (before now after : Option (List ℕ)) (held held1 : List ℕ) (h : PutsReplies sim from (take i steps) old before now held held1) where
+      -- one line more
+      pub puts_more : (held2 : List ℕ) → AppendsAllButHeld now after held2 (held1 ++ line) → PutsReplies sim from (take (i + 1) steps) new before after held held2
+      puts_more held2 k = record {
         replies = more_lines h.replies;
-        end = end;
-        are = subst (λ (xs : List NumberedStep). AreReplies sim from xs (more_lines h.replies) end) (sym (take_more steps i d within))
-            (more_replies sim from h.end end (take i steps) (step ∷ []) h.replies (answered step.line answer ∷ []) h.are there.are);
-        stands = there.stands;
+        are = more_are h.replies h.are;
         put = subst (λ (l : List ℕ). AppendsAllButHeld before after held2 l) (lines_on held h.replies) (put_on before now after held1 held2 (held ++ replies_text h.replies) line h.put k);
       }
 
-  -- the lines stop there
-  pub puts_stop : (from : World P) (before now after : Option (List ℕ)) (held held1 : List ℕ) → PutsReplies (meaning first.model) first.config from (take i steps) old before now held held1
-      → AppendsBeginning now after (held1 ++ line)
-      → StopsReplies (simulation_of (meaning first.model) first.config) from steps before after held
-  puts_stop from before now after held held1 h k =
-      let sim = simulation_of (meaning first.model) first.config in
-      let step = get_or steps i d in
-      let there = step_there h.end h.stands in
-      let mid = world_after sim h.end step.step answer in
-      let so_far = more_lines h.replies in
-      let rest = have_replies sim mid (drop (i + 1) steps) in
-      let first_are = subst (λ (xs : List NumberedStep). AreReplies sim from xs so_far mid) (sym (take_more steps i d within))
-      (more_replies sim from h.end mid (take i steps) (step ∷ []) h.replies (answered step.line answer ∷ []) h.are there.are) in
-      record {
-        replies = so_far ++ rest.replies;
-        end = rest.end;
-        are = subst (λ (xs : List NumberedStep). AreReplies sim from xs (so_far ++ rest.replies) rest.end) (take-append-drop (i + 1) steps)
-            (more_replies sim from mid rest.end (take (i + 1) steps) (drop (i + 1) steps) so_far rest.replies first_are rest.are);
-        begun = subst (λ (l : List ℕ). AppendsBeginning before after l)
-            (ap (λ l. l ++ replies_text rest.replies) (lines_on held h.replies) ∙ append_assoc held (replies_text so_far) (replies_text rest.replies) ∙ ap (λ l. held ++ l) (sym (flat_map-append (λ (r : Answered). reply_text r.line r.answer) so_far rest.replies)))
-            (of_longer before after ((held ++ replies_text h.replies) ++ line) (replies_text rest.replies) (put_fails before now after held1 (held ++ replies_text h.replies) line h.put k));
-      }
+      -- the lines stop there
+      pub puts_stop : AppendsBeginning now after (held1 ++ line) → StopsReplies sim from steps before after held
+      puts_stop k =
+          let so_far = more_lines h.replies in
+          let rest = have_replies sim new (drop (i + 1) steps) in
+          record {
+            replies = so_far ++ rest.replies;
+            end = rest.end;
+            are = subst (λ (xs : List NumberedStep). AreReplies sim from xs (so_far ++ rest.replies) rest.end) (take-append-drop (i + 1) steps)
+                (more_replies sim from new rest.end (take (i + 1) steps) (drop (i + 1) steps) so_far rest.replies (more_are h.replies h.are) rest.are);
+            begun = subst (λ (l : List ℕ). AppendsBeginning before after l)
+                (ap (λ l. l ++ replies_text rest.replies) (lines_on held h.replies) ∙ append_assoc held (replies_text so_far) (replies_text rest.replies) ∙ ap (λ l. held ++ l) (sym (flat_map-append (λ (r : Answered). reply_text r.line r.answer) so_far rest.replies)))
+                (of_longer before after ((held ++ replies_text h.replies) ++ line) (replies_text rest.replies) (put_fails before now after held1 (held ++ replies_text h.replies) line h.put k));
+          }

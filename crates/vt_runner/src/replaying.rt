@@ -6,7 +6,6 @@ ghost use Rattle.vt_key.specs.declared.limits.TheConstants.{MAX_COUNT};
 ghost use Rattle.vt_key.specs.declared.fault.Fault.{Fault};
 ghost use Rattle.vt_model.specs.Simulation.{simulation_of};
 ghost use Rattle.vt_text.specs.Writing.{AppendsBeginning};
-ghost use Rattle.vt_world.specs.Held.{StandsForWorld};
 ghost use Rattle.vt_world.specs.Answers.{PassesAtStart};
 ghost use Rattle.vt_runner.specs.Replays.{GivesSteps, RefusesInput, IsReplayOf, AreRepliesOf, Writes, StopsReplay, ReplaysBy, EndsReplayBy};
 ghost use Rattle.vt_runner.specs.Replying.{PutsReplies, StopsReplies, shown_of};
@@ -42,10 +41,10 @@ fn put_replies<M: EventModel, O: Write>(
     text: &mut TextBuffer,
     out: &mut O,
 ) -> Result<(), Fault>
-    ensures ok { (from : _) → StandsForWorld (M.handlers world.old.model) world.old from
-        → OnOk result (PutsReplies (M.handlers world.old.model) world.old.config from steps.now world.new (O.contents out.old) (O.contents out.new) text.old text.new) }
-    ensures err { (from : _) → StandsForWorld (M.handlers world.old.model) world.old from
-        → OnErr result (StopsReplies (simulation_of (M.handlers world.old.model) world.old.config) from steps.now (O.contents out.old) (O.contents out.new) text.old) }
+    ensures ok { let sim = simulation_of (M.handlers world.old.model) world.old.config in
+        OnOk result (PutsReplies sim world.old.world steps.now world.new.world (O.contents out.old) (O.contents out.new) text.old text.new) }
+    ensures err { let sim = simulation_of (M.handlers world.old.model) world.old.config in
+        OnErr result (StopsReplies sim world.old.world steps.now (O.contents out.old) (O.contents out.new) text.old) }
     ensures same { (world.new.model ≡ world.old.model) × (world.new.config ≡ world.old.config) }
     ensures fault { IfErr result (λ fault. fault ≡ Fault.Output) }
 {
@@ -67,8 +66,8 @@ fn show<M: EventModel, O: Write>(
     text: &mut TextBuffer,
     out: &mut O,
 ) -> Result<(), Fault>
-    ensures ok { OnOk result (Appends (O.contents out.old) (O.contents out.new) (text.old ++ shown_of version (M.handlers world.now.model) world.now)) }
-    ensures err { OnErr result (AppendsBeginning (O.contents out.old) (O.contents out.new) (text.old ++ shown_of version (M.handlers world.now.model) world.now)) }
+    ensures ok { OnOk result (Appends (O.contents out.old) (O.contents out.new) (text.old ++ shown_of (simulation_of (M.handlers world.now.model) world.now.config) version world.now.world)) }
+    ensures err { OnErr result (AppendsBeginning (O.contents out.old) (O.contents out.new) (text.old ++ shown_of (simulation_of (M.handlers world.now.model) world.now.config) version world.now.world)) }
     ensures fault { IfErr result (λ fault. ((fault ≡ Fault.Memory) × Appends (O.contents out.old) (O.contents out.new) text.old) ⊎ (fault ≡ Fault.Output)) }
 {
     text.flush(out)?;

@@ -24,9 +24,8 @@ use Rattle.vt_kernel.proofs.SettlingLemmas.{put-there}
 use Rattle.vt_cells.specs.Calls.{IsCellStepOf, PassesThere, AreOfOneWorld}
 use Rattle.vt_cells.proofs.BookSteps.{close-step}
 use Rattle.vt_cells.proofs.WorldLemmas.{next-put_back, limit-there, refused-there}
-use Rattle.vt_world.specs.Held.{HeldWorld, world_memory, StandsForWorld, AreInboxes, IsWorldInside}
-use Rattle.vt_world.specs.Calls.{IsStepOf}
-use Rattle.vt_world.proofs.ReachedLemmas.{inside_view}
+use Rattle.vt_world.specs.Held.{HeldWorld, world_memory, StandsForWorld, IsHeldStepOf, AreInboxes, IsWorldInside}
+use Rattle.vt_world.proofs.HeldLemmas.{inside_view}
 use Rattle.vt_world.proofs.WorldLemmas.{found, part-changed}
 use Rattle.vt_world.proofs.WorldSteps.{who, goes}
 use Rattle.vt_world.proofs.StepLemmas.{step-done, step-refused, inside-stepped, inside-same}
@@ -112,10 +111,10 @@ module _ {M S P K : Type 0} (meaning : M → Handlers S P K) {held : HeldWorld M
       let f = found (meaning held.model) held world w k inside.own_workers h at in
       refused-there sim world (step_of w) w whose named f.there (p.holds world h) (s.refused f.part f.stands)
 
-  step-there : {seen : HeldWorld M S P K} → held ≡ seen → IsLawful sim → (result : Result Reply Fault) → IsCellStepOf (meaning held.model) held.config (step_of w) k new cell left result
-      → IsStepOf (meaning seen.model) (step_of w) seen after result
-  step-there seen_is lawful (Ok reply) s = step-done meaning seen_is inside lawful after (step_of w) reply (done-there reply s) refl refl (few-there reply s)
-  step-there seen_is lawful (Err fault) s = step-refused meaning seen_is inside after (step_of w) fault (Err fault) refl (p.back s.unchanged.0 s.unchanged.1) (why-there fault s)
+  step-there : {seen : HeldWorld M S P K} → held ≡ seen → (result : Result Reply Fault) → IsCellStepOf (meaning held.model) held.config (step_of w) k new cell left result
+      → IsHeldStepOf (meaning seen.model) (step_of w) seen after result
+  step-there seen_is (Ok reply) s = step-done meaning seen_is after (step_of w) reply (done-there reply s) refl refl (few-there reply s)
+  step-there seen_is (Err fault) s = step-refused meaning seen_is after (step_of w) fault (Err fault) refl (p.back s.unchanged.0 s.unchanged.1) (why-there fault s)
 
   inside-there : {new_board_end new_book_end : Time} → new_board_end ≡ board_end → new_book_end ≡ book_end → (result : Result Reply Fault) → IsCellStepOf (meaning held.model) held.config (step_of w) k new cell left result
       → IsWorldInside (meaning held.model) after new_board_end new_book_end
@@ -132,12 +131,12 @@ module _ {M S P K : Type 0} (meaning : M → Handlers S P K) {held : HeldWorld M
         subst (λ (x : ℕ × Config). IsCellStepOf (meaning held.model) x.1 (step_of x.0) k new cell left result) (λ i. (is.0 i, is.1 i)) s
 
     -- the call does the step of the world
-    pub cell-step : {seen : HeldWorld M S P K} → held ≡ seen → IsLawful sim → IsStepOf (meaning seen.model) (step_of w) seen after result
-    cell-step seen_is lawful = step-there seen_is lawful result own-step
+    pub cell-step : {seen : HeldWorld M S P K} → held ≡ seen → IsHeldStepOf (meaning seen.model) (step_of w) seen after result
+    cell-step seen_is = step-there seen_is result own-step
 
     -- with another word for what it answers
-    pub cell-answers : {seen : HeldWorld M S P K} → held ≡ seen → IsLawful sim → {answer : Result Reply Fault} → result ≡ answer → IsStepOf (meaning seen.model) (step_of w) seen after answer
-    cell-answers {seen} seen_is lawful is = subst (IsStepOf (meaning seen.model) (step_of w) seen after) is (cell-step seen_is lawful)
+    pub cell-answers : {seen : HeldWorld M S P K} → held ≡ seen → {answer : Result Reply Fault} → result ≡ answer → IsHeldStepOf (meaning seen.model) (step_of w) seen after answer
+    cell-answers {seen} seen_is is = subst (IsHeldStepOf (meaning seen.model) (step_of w) seen after) is (cell-step seen_is)
 
     -- and the world keeps to itself
     pub cell-inside : {new_board_end new_book_end : Time} → new_board_end ≡ board_end → new_book_end ≡ book_end → IsWorldInside (meaning held.model) after new_board_end new_book_end
@@ -145,11 +144,10 @@ module _ {M S P K : Type 0} (meaning : M → Handlers S P K) {held : HeldWorld M
 
 -- ---- the book
 
-module _ {M S P K : Type 0} (meaning : M → Handlers S P K) {held : HeldWorld M S P K} {board_end book_end : Time} (inside : IsWorldInside (meaning held.model) held board_end book_end)
-    (lawful : IsLawful (simulation_of (meaning held.model) held.config)) where
+module _ {M S P K : Type 0} (meaning : M → Handlers S P K) {held : HeldWorld M S P K} {board_end book_end : Time} (inside : IsWorldInside (meaning held.model) held board_end book_end) where
   -- a worker and the book are of one world
-  pub one-world : (w : ℕ) {k : HeldWorker S P K} → slice_get held.workers w ≡ Some k → AreOfOneWorld (meaning held.model) k held.book
-  one-world w {k} at =
+  pub one-world : IsLawful (simulation_of (meaning held.model) held.config) → (w : ℕ) {k : HeldWorker S P K} → slice_get held.workers w ≡ Some k → AreOfOneWorld (meaning held.model) k held.book
+  one-world lawful w {k} at =
       let handlers = meaning held.model in
       let is = who inside at in (
         subst (λ (c : Config). IsLawful (simulation_of handlers c)) (sym is.1) lawful,
@@ -182,8 +180,8 @@ module _ {M S P K : Type 0} (meaning : M → Handlers S P K) {held : HeldWorld M
         subst (λ (c : Config). IsCellStepOf (meaning held.model) c Close first.0 first.0 (in_book held.book) (in_book book) result) (sym (who inside first.1).1)
         (close-step (meaning held.model) held.config first.0 result acts same)
 
-    pub closes : {seen : HeldWorld M S P K} → held ≡ seen → IsStepOf (meaning seen.model) Close seen (record held { book = book }) result
-    closes {seen} seen_is = subst (λ (x : HeldWorld M S P K). IsStepOf (meaning seen.model) Close seen x result) back (cell-step meaning inside (λ u. Close) tt refl first.1 put its-step seen_is lawful)
+    pub closes : {seen : HeldWorld M S P K} → held ≡ seen → IsHeldStepOf (meaning seen.model) Close seen (record held { book = book }) result
+    closes {seen} seen_is = subst (λ (x : HeldWorld M S P K). IsHeldStepOf (meaning seen.model) Close seen x result) back (cell-step meaning inside (λ u. Close) tt refl first.1 put its-step seen_is)
 
     pub closes-inside : {new_book_end : Time} → new_book_end ≡ book_end → IsWorldInside (meaning held.model) (record held { book = book }) board_end new_book_end
     closes-inside {new_book_end} same_end =

@@ -13,8 +13,9 @@ use Rattle.vt_model.specs.Histories.{IsLawful}
 use Rattle.vt_model.specs.Simulation.{Triple, simulation_of, after}
 use Rattle.vt_model.specs.Sequential.{events_of, whole_run}
 use Rattle.vt_steps.specs.Next.{reached}
-use Rattle.vt_steps.specs.World.{process_at}
+use Rattle.vt_steps.specs.World.{Book, process_at}
 use Rattle.vt_steps.specs.StandsFor.{StandsForProcess}
+use Rattle.vt_steps.proofs.book.ReachedBooks.{closed-finals}
 use Rattle.vt_steps.proofs.history.FinalValues.{events-end}
 use Rattle.vt_steps.proofs.steps.MemoryLemmas.{is_where}
 use Rattle.vt_lp.specs.Held.{HeldProcess, process_memory}
@@ -22,7 +23,6 @@ use Rattle.vt_kernel.specs.Held.{HeldWorker, part_memory, process_of}
 use Rattle.vt_kernel.proofs.ProcessLemmas.{get-map_of, stands-at as process-stands-at}
 use Rattle.vt_world.specs.Held.{HeldWorld, IsReached, IsWorldInside}
 use Rattle.vt_world.proofs.WorldLemmas.{stands-at, worker-at}
-use Rattle.vt_world.proofs.ClosedLemmas.{finals}
 
 -- what is some comes of something
 pub of-some : {X Y : Type 0} (f : X → Y) (o : Option X) (y : Y) → Some y ≡ option_map f o → (x : X) × (o ≡ Some x) × (y ≡ f x)
@@ -57,7 +57,7 @@ module _ {M S P K : Type 0} {handlers : Handlers S P K} {held : HeldWorld M S P 
       let number : process_at sim (0 + w) (0 + place) ≡ p = (let a : 0 + place ≡ place = omega arith in ap (λ n. n * held.config.workers + (0 + w)) a ∙ ap (λ n. place * held.config.workers + n) plain ∙ div-add-mod' p held.config.workers) in
       let stands : StandsForProcess sim p (process_memory handlers q) process.0 = subst (λ n. StandsForProcess sim n (process_memory handlers q) process.0) number process.2 in
       sym (is_where sim p (process_memory handlers q) process.0 stands)
-      ∙ finals inside shut lawful x p process.0 less (part.0, part.1, process.1)
+      ∙ closed-finals sim lawful x.0 x.1.0 (ap (λ (b : Book). b.is_closed) x.1.1.book ∙ shut) p process.0 less (part.0, part.1, process.1)
       ∙ ap (after sim p) (events-end sim lawful p less)
 
   pub final-value : (p : ℕ) {k : HeldWorker S P K} {q : HeldProcess S P K} → p < held.config.lps → slice_get held.workers (p % held.config.workers) ≡ Some k → process_of k p ≡ Some q

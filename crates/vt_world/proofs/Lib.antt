@@ -1,13 +1,13 @@
 pub mod WorldLemmas
 pub mod WorldSteps
-pub mod ReachedLemmas
-pub mod ClosedLemmas
+pub mod HeldLemmas
 pub mod FinalLemmas
 pub mod StepLemmas
 pub mod Places
 pub mod CellLemmas
 pub mod LocalLemmas
 pub mod LimitLemmas
+pub mod TakenLemmas
 pub mod RunLemmas
 pub mod MakingLemmas
 pub mod LeastLemmas

@@ -1,5 +1,5 @@
 -- The opening world, made worker by worker.
-use Rattle.std.proofs.Common.{◌≡◌, ℕ, zero, suc, ◌+◌, List, [], ◌∷◌, ◌++◌, map, length, replicate, sym, ◌∙◌, subst, arith}
+use Rattle.std.proofs.Common.{◌≡◌, ℕ, zero, suc, ◌+◌, List, [], ◌∷◌, ◌++◌, map, length, replicate, sym, ◌∙◌, ap, subst, arith}
 use Rattle.std.specs.List.{range_with_len}
 use Rattle.std.proofs.lemmas.List.Elements.{All-nil}
 use Rattle.vt_key.specs.declared.letter.Mail.{Mail}
@@ -8,11 +8,12 @@ use Rattle.vt_model.specs.Handler.{Handlers}
 use Rattle.vt_model.specs.Simulation.{Simulation, simulation_of}
 use Rattle.vt_model.specs.Settings.{end_of}
 use Rattle.vt_steps.specs.World.{Part, Board, Book, opening_part, opening_board, opening_book, opening_world}
-use Rattle.vt_steps.specs.Next.{run}
+use Rattle.vt_steps.specs.declared.step.Step.{Step}
+use Rattle.vt_steps.specs.Next.{run, reached}
 use Rattle.vt_steps.specs.StandsFor.{StandsForPart, StandForParts}
 use Rattle.vt_kernel.specs.Held.{HeldWorker, part_memory, IsOwnMail}
 use Rattle.vt_world.specs.Held.{StandsForWorld, IsReached, AreWorkers, AreInboxes}
-use Rattle.vt_world.proofs.ReachedLemmas.{inside_view}
+use Rattle.vt_world.proofs.HeldLemmas.{inside_view}
 
 module _ {S P K : Type 0} where
   -- one more worker
@@ -40,6 +41,11 @@ module _ {S P K : Type 0} where
 pub inboxes-empty : (P : Type 0) (config : Config) (base n : ℕ) → AreInboxes config base (let none : List (Mail P) = [] in replicate n none)
 inboxes-empty P config base zero = tt
 inboxes-empty P config base (suc n) = (All-nil (IsOwnMail config base), inboxes-empty P config (base + 1) n)
+
+-- no step was done
+pub reached-none : {S P : Type 0} (sim : Simulation S P) (serial : ℕ) (steps : List Step) → steps ≡ [] → reached sim serial steps ≡ opening_world sim serial
+unfolding run
+reached-none sim serial steps none = ap (reached sim serial) none
 
 module _ {M S P K : Type 0} (handlers : Handlers S P K) (model : M) (config : Config) (serial : ℕ) (workers : List (HeldWorker S P K)) (inboxes : List (List (Mail P))) (board : Board) (book : Book)
     (parts : StandForParts (simulation_of handlers config) 0 (map (part_memory handlers) workers) (map (opening_part (simulation_of handlers config) serial) (range_with_len 0 config.workers)))

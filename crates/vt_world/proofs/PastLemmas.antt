@@ -1,7 +1,6 @@
 -- The past events of a process, in memory and in the worlds that memory stands for.
 use Rattle.std.proofs.Common.{◌≡◌, ℕ, ◌/◌, ◌%◌, ◌<◌, ◌≤◌, Bool, true, false, nat_eq, List, [], ◌∷◌, ◌++◌, map, refl, sym, ◌∙◌, ap, subst, arith, Option, Some, None, Result, Ok, Err, IfOk, IfErr, OnOk, slice_get, if◌then◌else◌}
 use Rattle.std.specs.Option.{option_map}
-use Rattle.std.proofs.Math.Logic.{∥∥₁_map}
 use Rattle.std.proofs.lemmas.List.{map-append}
 use Rattle.std.proofs.lemmas.List.Elements.{filter-append}
 use Rattle.vt_key.specs.Times.{Time, TimeAtMost, time_before}
@@ -11,21 +10,19 @@ use Rattle.vt_model.specs.declared.settings.Config.{Config}
 use Rattle.vt_model.specs.Handler.{Handlers}
 use Rattle.vt_model.specs.Histories.{IsLawful}
 use Rattle.vt_model.specs.Sequential.{events_before}
-use Rattle.vt_model.specs.Simulation.{simulation_of}
-use Rattle.vt_model.specs.Settings.{end_of}
+use Rattle.vt_model.specs.Simulation.{Simulation, simulation_of}
+use Rattle.vt_steps.specs.declared.step.Step.{Step}
 use Rattle.vt_steps.specs.Letters.{unstamped}
 use Rattle.vt_steps.specs.World.{Entry, World, entry_events, least}
 use Rattle.vt_steps.specs.Next.{reached}
 use Rattle.vt_steps.specs.StandsFor.{entry_of}
-use Rattle.vt_steps.proofs.history.HistoriesTheorem.{histories}
+use Rattle.vt_steps.proofs.book.ReachedBooks.{reached-accounted}
 use Rattle.vt_lp.specs.Held.{HeldProcess, executed_events, process_memory, remembered}
 use Rattle.vt_past.specs.declared.event.PastEvent.{PastEvent}
 use Rattle.vt_kernel.specs.Held.{HeldWorker, IsProcessOf, process_of}
 use Rattle.vt_kernel.proofs.ProcessLemmas.{get-map_of, stands-at}
-use Rattle.vt_world.specs.Held.{HeldWorld, StandsForWorld, IsReached, IsWorldInside}
-use Rattle.vt_world.specs.Calls.{least_held}
+use Rattle.vt_world.specs.Held.{HeldWorld, StandsForWorld, IsWorldInside}
 use Rattle.vt_world.specs.Answers.{IsPastIn, EndsSequential}
-use Rattle.vt_world.proofs.ReachedLemmas.{least-same}
 use Rattle.vt_world.proofs.WorldLemmas.{found}
 use Rattle.vt_world.proofs.WorldSteps.{who}
 use Rattle.vt_world.proofs.Places.{is-own}
@@ -80,27 +77,18 @@ module _ {M S P K : Type 0} {handlers : Handlers S P K} {held : HeldWorld M S P 
       let q = passed (nat_eq (p % k.config.workers) k.worker) (slice_get k.processes (p / k.config.workers)) (λ (process : HeldProcess _ _ _). executed_events process.past) events is in
       let s = stands-at (simulation_of handlers k.config) k.worker 0 (p / k.config.workers) (map (process_memory handlers) k.processes) f.part.processes (process_memory handlers q.0) f.stands.processes
       (get-map_of (process_memory handlers) k.processes (p / k.config.workers) q.0 q.1) in
-      let past : map event s.0.past ≡ events = ap (map event) s.2.past ∙ remembered-events handlers q.0.lp q.0.past ∙ q.2 in
-      record {
-        process = s.0;
-        there = (f.part, f.there, subst (λ (c : Config). slice_get f.part.processes (p / c.workers) ≡ Some s.0) (who inside at).1 s.1);
-        past = past;
-        last = map-append event s.0.done s.0.past ∙ ap (λ es. map event s.0.done ++ es) past;
-      }
+      (s.0, (f.part, f.there, subst (λ (c : Config). slice_get f.part.processes (p / c.workers) ≡ Some s.0) (who inside at).1 s.1), ap (map event) s.2.past ∙ remembered-events handlers q.0.lp q.0.past ∙ q.2)
 
-  -- and the last ones of the sequential run's, wherever nothing is before a time
-  pub past-sequential : IsLawful (simulation_of handlers held.config) → (events : List (Event P)) → option_map (λ (process : HeldProcess _ _ _). executed_events process.past) (process_of k p) ≡ Some events
-      → p < held.config.lps → (t : Time) → TimeAtMost t (least_held held) → EndsSequential (simulation_of handlers held.config) p t events
-  past-sequential lawful events is known t quiet = ∥∥₁_map inside.is_reached (λ (x : (serial : ℕ) × IsReached handlers serial held).
-      let sim = simulation_of handlers held.config in
-      let world = reached sim x.0 x.1.0 in
-      let here = past-in events is world x.1.1 in
-      let first : List (Sent P) = entry_events here.process.done in
-      let low : TimeAtMost t (least (end_of held.config) world) = subst (TimeAtMost t) (sym (least-same handlers held world x.1.1)) quiet in
-      let right = (histories sim lawful x.0 x.1.0).histories t p here.process known low here.there in (
-        events_before t first,
-        sym right
-            ∙ ap (events_before t) (map-append (λ (entry : Entry P). unstamped entry.event) here.process.done here.process.past)
-            ∙ filter-append (λ (e : Sent P). time_before e.key.time t) first (entry_events here.process.past)
-            ∙ ap (λ es. events_before t first ++ events_before t es) (entries-known here.process.past ∙ ap (map unstamped) here.past),
-      ))
+-- they are the last ones of the sequential run's, wherever nothing is before a time
+pub past-sequential : {S P : Type 0} (sim : Simulation S P) → IsLawful sim → (serial : ℕ) (steps : List Step) (p : ℕ) (events : List (Event P)) → IsPastIn sim (reached sim serial steps) p events
+    → p < sim.lps → (t : Time) → TimeAtMost t (least sim.end (reached sim serial steps)) → EndsSequential sim p t events
+past-sequential sim lawful serial steps p events here known t quiet =
+    let process = here.0 in
+    let first = entry_events process.done in
+    ∣ (
+      events_before t first,
+      sym ((reached-accounted sim lawful serial steps).histories t p process known quiet here.1)
+          ∙ ap (events_before t) (map-append (λ (entry : Entry _). unstamped entry.event) process.done process.past)
+          ∙ filter-append (λ (e : Sent _). time_before e.key.time t) first (entry_events process.past)
+          ∙ ap (λ es. events_before t first ++ events_before t es) (entries-known process.past ∙ ap (map unstamped) here.2),
+    ) ∣₁

@@ -14,7 +14,7 @@ use Rattle.vt_steps.specs.StandsFor.{GoesOn}
 use Rattle.vt_kernel.specs.Held.{HeldWorker, AllOwnMail, IsProcessOf}
 use Rattle.vt_kernel.proofs.SettlingLemmas.{put-there}
 use Rattle.vt_world.specs.Held.{HeldWorld, world_memory, AreWorkers, AreInboxes, IsWorldInside}
-use Rattle.vt_world.proofs.ReachedLemmas.{inside_view}
+use Rattle.vt_world.proofs.HeldLemmas.{inside_view}
 use Rattle.vt_world.proofs.WorldLemmas.{IsSame, worker-at, workers-changed}
 use Rattle.vt_world.proofs.WorldSteps.{who}
 use Rattle.vt_world.proofs.StepLemmas.{inside-stepped}

@@ -1,16 +1,24 @@
 -- What a world keeps in memory, and which worlds of the definitions it stands for.
-use Rattle.std.specs.Prelude.{◌≡◌, ℕ, ◌+◌, List, [], ◌∷◌, map, length}
+use Rattle.std.specs.Prelude.{◌≡◌, ℕ, ◌+◌, List, [], ◌∷◌, ◌++◌, map, length, Result, Ok, IfOk, IfErr}
+use Rattle.std.specs.List.{flat_map}
 use Rattle.vt_key.specs.Times.{Time}
 use Rattle.vt_key.specs.declared.letter.Mail.{Mail}
+use Rattle.vt_key.specs.declared.fault.Fault.{Fault}
 use Rattle.vt_model.specs.declared.settings.Config.{Config}
 use Rattle.vt_model.specs.Handler.{Handlers}
 use Rattle.vt_model.specs.Simulation.{simulation_of}
 use Rattle.vt_model.specs.Settings.{end_of}
+use Rattle.vt_steps.specs.declared.step.Step.{Step}
+use Rattle.vt_steps.specs.declared.step.Reply.{Reply}
+use Rattle.vt_steps.specs.Letters.{least_time}
 use Rattle.vt_steps.specs.World.{Board, Book, World}
-use Rattle.vt_steps.specs.StandsFor.{WorldMemory, StandsFor, StandsForReached}
+use Rattle.vt_steps.specs.Next.{next}
+use Rattle.vt_steps.specs.StandsFor.{WorldMemory, StandsFor, StandsForReached, GoesOn}
 use Rattle.vt_kernel.specs.Held.{HeldWorker, part_memory, AllOwnMail}
+use Rattle.vt_kernel.specs.Guards.{held_letters}
+use Rattle.vt_kernel.specs.Refusals.{PassesLimit, IsStepRefusal}
 
--- what a contract sees of a world: its model and config, its workers, the inboxes, the board and the book
+-- what a contract sees of a world in memory: its model and config, its workers, the inboxes, the board and the book
 pub record HeldWorld (M S P K : Type 0) : Type 0 where
   pub model : M
   pub config : Config
@@ -20,7 +28,7 @@ pub record HeldWorld (M S P K : Type 0) : Type 0 where
   pub book : Book
 
 module _ {M S P K : Type 0} (handlers : Handlers S P K) where
-  -- what a world is as memory of a world of the definitions
+  -- what it is as memory of a world of the definitions
   abbrev pub world_memory : HeldWorld M S P K → WorldMemory S P
   world_memory held = record {
     parts = map (part_memory handlers) held.workers;
@@ -37,7 +45,24 @@ module _ {M S P K : Type 0} (handlers : Handlers S P K) where
   abbrev pub IsReached : ℕ → HeldWorld M S P K → Type 0
   IsReached serial held = StandsForReached (simulation_of handlers held.config) serial (world_memory held)
 
--- ---- what a world keeps to
+-- the least time of all that is unprocessed or travelling: in outboxes, arrived, pending, waiting and in inboxes
+abbrev pub least_held : {M S P K : Type 0} → HeldWorld M S P K → Time
+least_held held =
+    least_time (end_of held.config) (flat_map held_letters held.workers ++ map (λ mail. mail.letter) (flat_map (λ inbox. inbox) held.inboxes))
+
+-- what a call that does a step answers and leaves, whatever world the value stands for: where it is done, it was lawful and
+-- answered so, the value stands for the world after it, and no counter that it raises is past its limit; where it is refused, it
+-- says why, and the value is as it was. The model and the config stay
+pub record IsHeldStepOf {M S P K : Type 0} (handlers : Handlers S P K) (step : Step) (old new : HeldWorld M S P K) (result : Result Reply Fault) : Type 0 where
+  pub done : IfOk result (λ reply. GoesOn (simulation_of handlers old.config) step (Ok reply) (world_memory handlers old) (world_memory handlers new))
+  pub within : (world : World P) → StandsForWorld handlers old world
+      → IfOk result (λ reply. PassesLimit (simulation_of handlers old.config) step (next (simulation_of handlers old.config) world step).world → ⊥)
+  pub refused : (world : World P) → StandsForWorld handlers old world → IfErr result (λ fault. IsStepRefusal (simulation_of handlers old.config) step world fault)
+  pub unchanged : IfErr result (λ fault. new ≡ old)
+  pub same_model : new.model ≡ old.model
+  pub same_config : new.config ≡ old.config
+
+-- ---- what a world in memory keeps to
 
 module _ {S P K : Type 0} where
   -- the workers from this one on

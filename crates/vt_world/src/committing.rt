@@ -1,18 +1,18 @@
 //! The steps Commit and Close.
 
 ghost use Rattle.vt_steps.specs.declared.step.Step.TheVariants as step;
-ghost use Rattle.vt_world.specs.Calls.{IsStepOf};
+ghost use Rattle.vt_world.specs.Held.{IsHeldStepOf};
 
-use crate::world::World;
+use crate::in_memory::InMemory;
 use std::alloc::Global;
 use vt_key::Fault;
 use vt_model::Model as EventModel;
 use vt_steps::Reply;
 
-impl<'m, M: EventModel> World<'m, M> {
+impl<'m, M: EventModel> InMemory<'m, M> {
     /// Worker `w` hands the rows of its events below its floor in to the book, and forgets these events.
     pub(crate) fn commit(&mut self, alloc: Global, w: u32) -> Result<Reply, Fault>
-        ensures { IsStepOf (M.handlers self.old.model) (step.Commit w) self.old self.new result }
+        ensures { IsHeldStepOf (M.handlers self.old.model) (step.Commit w) self.old self.new result }
     {
         if self.book.is_closed() {
             return Err(Fault::Closed);
@@ -25,7 +25,7 @@ impl<'m, M: EventModel> World<'m, M> {
 
     /// Closes the book, whose floor must be the end of the run.
     pub(crate) fn close(&mut self) -> Result<Reply, Fault>
-        ensures { IsStepOf (M.handlers self.old.model) step.Close self.old self.new result }
+        ensures { IsHeldStepOf (M.handlers self.old.model) step.Close self.old self.new result }
     {
         vt_cells::close::<M>(&mut self.book)
     }

@@ -1,18 +1,18 @@
 //! The steps Cut and Report.
 
 ghost use Rattle.vt_steps.specs.declared.step.Step.TheVariants as step;
-ghost use Rattle.vt_world.specs.Calls.{IsStepOf};
+ghost use Rattle.vt_world.specs.Held.{IsHeldStepOf};
 
-use crate::world::World;
+use crate::in_memory::InMemory;
 use vt_cells::reply_of;
 use vt_key::Fault;
 use vt_model::Model as EventModel;
 use vt_steps::Reply;
 
-impl<'m, M: EventModel> World<'m, M> {
+impl<'m, M: EventModel> InMemory<'m, M> {
     /// Worker `w` joins the open round; if none is open, it opens one.
     pub(crate) fn cut(&mut self, w: u32) -> Result<Reply, Fault>
-        ensures { IsStepOf (M.handlers self.old.model) (step.Cut w) self.old self.new result }
+        ensures { IsHeldStepOf (M.handlers self.old.model) (step.Cut w) self.old self.new result }
     {
         if w >= self.config.workers {
             return Err(Fault::NotLawful);
@@ -22,7 +22,7 @@ impl<'m, M: EventModel> World<'m, M> {
 
     /// Worker `w` reports its counts and its least time to the board, and learns the announced time.
     pub(crate) fn report(&mut self, w: u32) -> Result<Reply, Fault>
-        ensures { IsStepOf (M.handlers self.old.model) (step.Report w) self.old self.new result }
+        ensures { IsHeldStepOf (M.handlers self.old.model) (step.Report w) self.old self.new result }
     {
         if w >= self.config.workers {
             return Err(Fault::NotLawful);

@@ -5,6 +5,7 @@
 mod committing;
 mod cutting;
 mod finals;
+mod in_memory;
 mod inbox;
 mod local;
 mod making;

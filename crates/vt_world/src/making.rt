@@ -11,13 +11,14 @@ ghost use Rattle.vt_kernel.specs.Held.{part_memory};
 ghost use Rattle.vt_world.specs.Held.{AreWorkers, StandsForWorld};
 ghost use Rattle.vt_world.specs.Answers.{DoStartsFit, PassesAtStart, IsOpeningRefusal};
 
+use crate::in_memory::InMemory;
 use crate::inbox::Inbox;
 use crate::world::World;
 use std::alloc::Global;
 use vt_board::Board;
 use vt_book::Book;
 use vt_kernel::{Kernel, starts_fit};
-use vt_key::Fault;
+use vt_key::{Fault, Seen};
 use vt_model::{Config, Model as EventModel};
 
 impl<'m, M: EventModel> World<'m, M> {
@@ -26,7 +27,7 @@ impl<'m, M: EventModel> World<'m, M> {
     ///
     /// [`Fault::Memory`]: memory was refused.
     pub fn new(alloc: Global, model: &'m M, config: Config) -> Result<World<'m, M>, Fault>
-        ensures opening { IfOk result (λ world. StandsForWorld (M.handlers model.now) world (opening_world (simulation_of (M.handlers model.now) config) 0)) }
+        ensures opening { IfOk result (λ made. made.world ≡ opening_world (simulation_of (M.handlers model.now) config) 0) }
         ensures made { IfOk result (λ world. (world.model ≡ model.now) × (world.config ≡ config)) }
         ensures refused { IfErr result (λ fault. fault ≡ Memory) }
     {
@@ -44,7 +45,7 @@ impl<'m, M: EventModel> World<'m, M> {
         serial: u64,
     ) -> Result<World<'m, M>, Fault>
         requires counted { serial ≤ MAX_COUNT }
-        ensures opening { IfOk result (λ world. StandsForWorld (M.handlers model.now) world (opening_world (simulation_of (M.handlers model.now) config) serial)) }
+        ensures opening { IfOk result (λ made. made.world ≡ opening_world (simulation_of (M.handlers model.now) config) serial) }
         ensures made { IfOk result (λ world. (world.model ≡ model.now) × (world.config ≡ config)) }
         ensures fits { OnOk result (DoStartsFit (simulation_of (M.handlers model.now) config) serial) }
         ensures refused { IfErr result (λ fault. IsOpeningRefusal (simulation_of (M.handlers model.now) config) serial fault) }
@@ -78,13 +79,33 @@ fn open<'m, M: EventModel>(
     serial: u64,
 ) -> Result<World<'m, M>, Fault>
     requires fits { DoStartsFit (simulation_of (M.handlers model.now) config) serial }
-    ensures opening { IfOk result (λ world. StandsForWorld (M.handlers model.now) world (opening_world (simulation_of (M.handlers model.now) config) serial)) }
+    ensures opening { IfOk result (λ made. made.world ≡ opening_world (simulation_of (M.handlers model.now) config) serial) }
     ensures made { IfOk result (λ world. (world.model ≡ model.now) × (world.config ≡ config)) }
+    ensures refused { IfErr result (λ fault. fault ≡ Memory) }
+{
+    let memory = open_memory(alloc, model, config, serial)?;
+    Ok(World {
+        memory,
+        serial,
+        steps: Seen::picked(),
+    })
+}
+
+/// The opening world in memory.
+fn open_memory<'m, M: EventModel>(
+    alloc: Global,
+    model: &'m M,
+    config: Config,
+    serial: u64,
+) -> Result<InMemory<'m, M>, Fault>
+    requires fits { DoStartsFit (simulation_of (M.handlers model.now) config) serial }
+    ensures opening { IfOk result (λ memory. StandsForWorld (M.handlers memory.model) memory (opening_world (simulation_of (M.handlers memory.model) memory.config) serial)) }
+    ensures made { IfOk result (λ memory. (memory.model ≡ model.now) × (memory.config ≡ config)) }
     ensures refused { IfErr result (λ fault. fault ≡ Memory) }
 {
     let kernels = open_workers(alloc, model, config, serial)?;
     let inboxes = open_inboxes(alloc, config.workers)?;
-    Ok(World {
+    Ok(InMemory {
         model,
         config,
         kernels,

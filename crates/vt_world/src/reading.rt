@@ -10,12 +10,11 @@ ghost use Rattle.vt_steps.specs.declared.step.Step.{Step};
 ghost use Rattle.vt_steps.specs.Letters.{least_time};
 ghost use Rattle.vt_steps.specs.World.{least};
 ghost use Rattle.vt_steps.specs.Next.{reached};
-ghost use Rattle.vt_steps.specs.Claims.{Histories};
 ghost use Rattle.vt_kernel.specs.Guards.{held_letters};
-ghost use Rattle.vt_world.specs.Held.{StandsForWorld, IsReached};
-ghost use Rattle.vt_world.specs.Calls.{least_held};
-ghost use Rattle.vt_world.specs.Answers.{past_of, IsPastIn, EndsSequential};
+ghost use Rattle.vt_world.specs.Held.{StandsForWorld, least_held};
+ghost use Rattle.vt_world.specs.Answers.{IsPastIn, EndsSequential};
 
+use crate::in_memory::InMemory;
 use crate::inbox::Inbox;
 use crate::world::World;
 use std::alloc::Global;
@@ -27,14 +26,10 @@ impl<'m, M: EventModel> World<'m, M> {
     /// The least time of all events and anti-messages that are unprocessed or travelling: in outboxes and
     /// inboxes, fetched, pending and waiting. The end of the run if there are none. It takes no memory.
     pub fn least(&self) -> When
-        ensures value { result ≡ least_held self.now }
-        ensures least { (world : _) → StandsForWorld (M.handlers self.now.model) self.now world → result ≡ least (end_of self.now.config) world }
-        ensures announced { TimeAtMost self.now.board.announced result }
+        ensures value { result ≡ least (end_of self.now.config) self.now.world }
+        ensures announced { TimeAtMost self.now.world.board.announced result }
     {
-        let end = self.config.end();
-        let held = least_of_workers(&self.kernels, end);
-        let travelling = least_of_inboxes(&self.inboxes, end);
-        held.earlier(travelling)
+        self.memory.least()
     }
 
     /// The past events of process `lp`, which are executed and not committed, in the order of their execution. They are the
@@ -45,11 +40,30 @@ impl<'m, M: EventModel> World<'m, M> {
     ///
     /// [`Fault::NotLawful`]: there is no such process. [`Fault::Memory`]: there is, and memory was refused.
     pub fn past(&self, alloc: Global, lp: u32) -> Result<Vec<Event<M::Payload>>, Fault>
-        ensures events { IfOk result (λ v. past_of self.now lp ≡ Some v.items) }
+        ensures past { IfOk result (λ v. IsPastIn (simulation_of (M.handlers self.now.model) self.now.config) self.now.world lp v.items) }
+        ensures reached { ∥ ((serial : ℕ) × (steps : List Step) × (self.now.world ≡ reached (simulation_of (M.handlers self.now.model) self.now.config) serial steps)) ∥₁ }
+        ensures sequential { (t : Time) → TimeAtMost t (least (end_of self.now.config) self.now.world) → IfOk result (λ v. EndsSequential (simulation_of (M.handlers self.now.model) self.now.config) lp t v.items) }
+        ensures known { OnOk result (lp < self.now.config.lps) }
+        ensures refused { IfErr result (λ fault. ((fault ≡ NotLawful) × (self.now.config.lps ≤ lp)) ⊎ ((fault ≡ Memory) × (lp < self.now.config.lps))) }
+    {
+        self.memory.past(alloc, lp)
+    }
+}
+
+impl<'m, M: EventModel> InMemory<'m, M> {
+    /// The least time of all that is unprocessed or travelling.
+    pub(crate) fn least(&self) -> When
+        ensures { result ≡ least_held self.now }
+    {
+        let end = self.config.end();
+        let held = least_of_workers(&self.kernels, end);
+        let travelling = least_of_inboxes(&self.inboxes, end);
+        held.earlier(travelling)
+    }
+
+    /// The past events of process `lp`.
+    pub(crate) fn past(&self, alloc: Global, lp: u32) -> Result<Vec<Event<M::Payload>>, Fault>
         ensures past { (world : _) → StandsForWorld (M.handlers self.now.model) self.now world → IfOk result (λ v. IsPastIn (simulation_of (M.handlers self.now.model) self.now.config) world lp v.items) }
-        ensures histories { let sim = simulation_of (M.handlers self.now.model) self.now.config in (serial : ℕ) (steps : List Step) → StandsForWorld (M.handlers self.now.model) self.now (reached sim serial steps) → Histories sim serial (reached sim serial steps) }
-        ensures reached { ∥ ((serial : ℕ) × IsReached (M.handlers self.now.model) serial self.now) ∥₁ }
-        ensures sequential { (t : Time) → TimeAtMost t (least_held self.now) → IfOk result (λ v. EndsSequential (simulation_of (M.handlers self.now.model) self.now.config) lp t v.items) }
         ensures known { OnOk result (lp < self.now.config.lps) }
         ensures refused { IfErr result (λ fault. ((fault ≡ NotLawful) × (self.now.config.lps ≤ lp)) ⊎ ((fault ≡ Memory) × (lp < self.now.config.lps))) }
     {

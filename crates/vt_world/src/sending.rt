@@ -1,17 +1,17 @@
 //! The steps Send and Fetch.
 
 ghost use Rattle.vt_steps.specs.declared.step.Step.TheVariants.{Send, Fetch};
-ghost use Rattle.vt_world.specs.Calls.{IsStepOf};
+ghost use Rattle.vt_world.specs.Held.{IsHeldStepOf};
 
-use crate::world::World;
+use crate::in_memory::InMemory;
 use vt_key::Fault;
 use vt_model::Model as EventModel;
 use vt_steps::Reply;
 
-impl<'m, M: EventModel> World<'m, M> {
+impl<'m, M: EventModel> InMemory<'m, M> {
     /// All letters of worker `w`'s outbox for processes of worker `v` go into the inbox of `v`.
     pub(crate) fn send(&mut self, w: u32, v: u32) -> Result<Reply, Fault>
-        ensures { IsStepOf (M.handlers self.old.model) (Send w v) self.old self.new result }
+        ensures { IsHeldStepOf (M.handlers self.old.model) (Send w v) self.old self.new result }
     {
         if w >= self.config.workers || v >= self.config.workers {
             return Err(Fault::NotLawful);
@@ -25,7 +25,7 @@ impl<'m, M: EventModel> World<'m, M> {
 
     /// Worker `w` empties its inbox.
     pub(crate) fn fetch(&mut self, w: u32) -> Result<Reply, Fault>
-        ensures { IsStepOf (M.handlers self.old.model) (Fetch w) self.old self.new result }
+        ensures { IsHeldStepOf (M.handlers self.old.model) (Fetch w) self.old self.new result }
     {
         if w >= self.config.workers {
             return Err(Fault::NotLawful);

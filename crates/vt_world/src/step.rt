@@ -1,16 +1,16 @@
 //! The eleven steps of a world, and lists of them.
 
-ghost use Rattle.std.specs.Prelude.{◌≡◌, ◌⊎◌, IsTrue, Some, Err, take, slice_get, IfOk, IfErr, MatchOption};
+ghost use Rattle.std.specs.Prelude.{◌≡◌, ◌≤◌, ◌⊎◌, IsTrue, [], ◌∷◌, Err, take, slice_get, IfOk, IfErr, MatchOption};
 ghost use Rattle.vt_key.specs.Times.{TimeAtMost};
 ghost use Rattle.vt_key.specs.declared.fault.Fault.TheVariants.{NotLawful, Closed};
 ghost use Rattle.vt_model.specs.Simulation.{simulation_of};
-ghost use Rattle.vt_steps.specs.Next.{answers};
-ghost use Rattle.vt_steps.specs.StandsFor.{RunsTo};
+ghost use Rattle.vt_model.specs.Settings.{end_of};
+ghost use Rattle.vt_steps.specs.World.{book_floor};
+ghost use Rattle.vt_steps.specs.Next.{run, answers};
 ghost use Rattle.vt_kernel.specs.Refusals.{IsSpent};
-ghost use Rattle.vt_world.specs.Held.{world_memory, StandsForWorld};
-ghost use Rattle.vt_world.specs.Calls.{IsStepOf, IsOfBook, IsAnsweredBy, floor_held, refusals};
+ghost use Rattle.vt_world.specs.Calls.{IsStepOf, IsOfBook, IsAnsweredBy, refusals};
 
-use crate::world::World;
+use crate::world::{World, add_step};
 use std::alloc::Global;
 use vt_key::Fault;
 use vt_model::Model as EventModel;
@@ -33,24 +33,19 @@ impl<'m, M: EventModel> World<'m, M> {
     /// the book is closed. [`Fault::Exhausted`]: it is lawful, and a counter would pass 2^63. [`Fault::Memory`]: none
     /// of these, and memory was refused. After each the world is unchanged.
     pub fn step(&mut self, alloc: Global, step: &Step) -> Result<Reply, Fault>
-        ensures step { IsStepOf (M.handlers self.old.model) step.now self.old self.new result }
-        ensures announced { TimeAtMost self.old.board.announced self.new.board.announced }
-        ensures floor { TimeAtMost (floor_held self.old) (floor_held self.new) }
-        ensures closed { IsTrue self.old.book.is_closed → IsOfBook step.now → result ≡ Err Closed }
-        ensures stays { IsTrue self.old.book.is_closed → self.new.book ≡ self.old.book }
+        ensures step { IsStepOf (simulation_of (M.handlers self.old.model) self.old.config) step.now self.old.world self.new.world result }
+        ensures same { (self.new.model ≡ self.old.model) × (self.new.config ≡ self.old.config) }
+        ensures announced { TimeAtMost self.old.world.board.announced self.new.world.board.announced }
+        ensures floor { TimeAtMost (book_floor (end_of self.old.config) self.old.world.book) (book_floor (end_of self.new.config) self.new.world.book) }
+        ensures closed { IsTrue self.old.world.book.is_closed → IsOfBook step.now → result ≡ Err Closed }
+        ensures stays { IsTrue self.old.world.book.is_closed → self.new.world.book ≡ self.old.world.book }
     {
-        match *step {
-            Step::Execute(lp) => self.execute(alloc, lp),
-            Step::Undo(lp) => self.undo(lp),
-            Step::Cancel(lp, stamp) => self.cancel(lp, stamp),
-            Step::Home(w) => self.home(w),
-            Step::Send(w, v) => self.send(w, v),
-            Step::Fetch(w) => self.fetch(w),
-            Step::Accept(w, i) => self.accept(alloc, w, i),
-            Step::Cut(w) => self.cut(w),
-            Step::Report(w) => self.report(w),
-            Step::Commit(w) => self.commit(alloc, w),
-            Step::Close => self.close(),
+        match self.memory.step(alloc, step) {
+            Ok(reply) => {
+                add_step(&mut self.steps, step);
+                Ok(reply)
+            }
+            Err(fault) => Err(fault),
         }
     }
 
@@ -61,14 +56,14 @@ impl<'m, M: EventModel> World<'m, M> {
     /// [`Stop`]: a lawful step couldn't be done, since memory was refused or a counter would pass 2^63. The world is
     /// the one after the steps before it.
     pub fn run(&mut self, alloc: Global, steps: &[Step]) -> Result<u64, Stop>
-        ensures whole { let sim = simulation_of (M.handlers self.old.model) self.old.config in IfOk result (λ n. RunsTo sim steps.now (world_memory (M.handlers self.old.model) self.old) (world_memory (M.handlers self.old.model) self.new)) }
-        ensures count { let sim = simulation_of (M.handlers self.old.model) self.old.config in (world : _) → StandsForWorld (M.handlers self.old.model) self.old world → IfOk result (λ n. n ≡ refusals (answers sim world steps.now)) }
-        ensures before { let sim = simulation_of (M.handlers self.old.model) self.old.config in IfErr result (λ stop. RunsTo sim (take stop.at steps.now) (world_memory (M.handlers self.old.model) self.old) (world_memory (M.handlers self.old.model) self.new)) }
-        ensures stopped { let sim = simulation_of (M.handlers self.old.model) self.old.config in (world : _) → StandsForWorld (M.handlers self.old.model) self.new world → IfErr result (λ stop. MatchOption (slice_get steps.now stop.at) ⊥ (λ step. IsSpent sim step world stop.fault)) }
+        ensures whole { let sim = simulation_of (M.handlers self.old.model) self.old.config in IfOk result (λ n. self.new.world ≡ run sim self.old.world steps.now) }
+        ensures count { let sim = simulation_of (M.handlers self.old.model) self.old.config in IfOk result (λ n. n ≡ refusals (answers sim self.old.world steps.now)) }
+        ensures before { let sim = simulation_of (M.handlers self.old.model) self.old.config in IfErr result (λ stop. self.new.world ≡ run sim self.old.world (take stop.at steps.now)) }
+        ensures stopped { let sim = simulation_of (M.handlers self.old.model) self.old.config in IfErr result (λ stop. MatchOption (slice_get steps.now stop.at) ⊥ (λ step. IsSpent sim step self.new.world stop.fault)) }
         ensures same { (self.new.model ≡ self.old.model) × (self.new.config ≡ self.old.config) }
-        ensures announced { TimeAtMost self.old.board.announced self.new.board.announced }
-        ensures floor { TimeAtMost (floor_held self.old) (floor_held self.new) }
-        ensures stays { IsTrue self.old.book.is_closed → self.new.book ≡ self.old.book }
+        ensures announced { TimeAtMost self.old.world.board.announced self.new.world.board.announced }
+        ensures floor { TimeAtMost (book_floor (end_of self.old.config) self.old.world.book) (book_floor (end_of self.new.config) self.new.world.book) }
+        ensures stays { IsTrue self.old.world.book.is_closed → self.new.world.book ≡ self.old.world.book }
     {
         let mut refused = 0;
         for at in 0..steps.len() {
@@ -83,13 +78,13 @@ impl<'m, M: EventModel> World<'m, M> {
     /// Does one step of a list, and returns how many refusals it adds: one if it isn't lawful or the closed book
     /// refuses it, else none.
     fn advance(&mut self, alloc: Global, step: &Step) -> Result<u64, Fault>
-        ensures goes { IfOk result (λ more. IsAnsweredBy (M.handlers self.old.model) step.now self.old self.new more) }
-        ensures spent { (world : _) → StandsForWorld (M.handlers self.old.model) self.old world → IfErr result (λ fault. IsSpent (simulation_of (M.handlers self.old.model) self.old.config) step.now world fault) }
-        ensures unchanged { IfErr result (λ fault. self.new ≡ self.old) }
+        ensures goes { let sim = simulation_of (M.handlers self.old.model) self.old.config in IfOk result (λ more. IsAnsweredBy sim step.now self.old.world self.new.world more) }
+        ensures spent { let sim = simulation_of (M.handlers self.old.model) self.old.config in IfErr result (λ fault. IsSpent sim step.now self.old.world fault) }
+        ensures unchanged { IfErr result (λ fault. self.new.world ≡ self.old.world) }
         ensures same { (self.new.model ≡ self.old.model) × (self.new.config ≡ self.old.config) }
-        ensures announced { TimeAtMost self.old.board.announced self.new.board.announced }
-        ensures floor { TimeAtMost (floor_held self.old) (floor_held self.new) }
-        ensures stays { IsTrue self.old.book.is_closed → self.new.book ≡ self.old.book }
+        ensures announced { TimeAtMost self.old.world.board.announced self.new.world.board.announced }
+        ensures floor { TimeAtMost (book_floor (end_of self.old.config) self.old.world.book) (book_floor (end_of self.new.config) self.new.world.book) }
+        ensures stays { IsTrue self.old.world.book.is_closed → self.new.world.book ≡ self.old.world.book }
     {
         match self.step(alloc, step) {
             Ok(_) => Ok(0),

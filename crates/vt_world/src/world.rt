@@ -1,78 +1,67 @@
 //! The world.
 
-ghost use Rattle.std.specs.Prelude.{◌≡◌, IsTrue, IfOk, IfErr};
+ghost use Rattle.std.specs.Prelude.{◌≡◌, ◌++◌, IsTrue, [], ◌∷◌, List, IfOk, IfErr};
 ghost use Rattle.vt_key.specs.Times.{TimeAtMost};
 ghost use Rattle.vt_key.specs.declared.fault.Fault.TheVariants.{Memory};
 ghost use Rattle.vt_model.specs.Simulation.{simulation_of};
 ghost use Rattle.vt_model.specs.Sequential.{seq_records};
 ghost use Rattle.vt_model.specs.Settings.{end_of};
-ghost use Rattle.vt_world.specs.Calls.{least_held, floor_held};
+ghost use Rattle.vt_steps.specs.World.{least, book_floor};
 
-use crate::inbox::Inbox;
+use crate::in_memory::InMemory;
 use std::alloc::Global;
 use std::marker::Model;
-use vt_board::Board;
-use vt_book::Book;
-use vt_kernel::Kernel;
-use vt_key::{Fault, When};
-use vt_model::{Config, Model as EventModel, Record};
+use vt_key::{Fault, Seen, When};
+use vt_model::{Model as EventModel, Record};
+use vt_steps::Step;
 
-/// A Time Warp world in memory: the workers, the inboxes between them, the board and the book.
+/// A Time Warp world: the workers, the inboxes between them, the board and the book.
 ///
-/// Contracts see these (`HeldWorld`). The value keeps no committed events. So a contract speaks of every world of the
-/// definitions that the value stands for (`StandsForWorld`). The type guarantees that it stands for one that some
-/// list of steps makes of the opening world.
+/// Contracts see the model, the config and the world of the definitions (`RunWorld`). The type guarantees that some list of
+/// steps makes it of the opening world.
 #[derive(Drop)]
 pub struct World<'m, M: EventModel> {
-    pub(crate) model: &'m M,
-    pub(crate) config: Config,
-    pub(crate) kernels: Vec<Kernel<M>>,
-    pub(crate) inboxes: Vec<Inbox<M::Payload>>,
-    pub(crate) board: Board,
-    pub(crate) book: Book,
+    pub(crate) memory: InMemory<'m, M>,
+    // Each worker's serials began with this one.
+    pub(crate) serial: u64,
+    // The steps that were done since. Contracts alone see them.
+    pub(crate) steps: Seen<Step>,
 }
 
 impl<'m, M: EventModel> Model for World<'m, M> {
-    ghost use Rattle.vt_world.specs.Held.{HeldWorld, IsWorldInside};
+    ghost use Rattle.vt_model.specs.Simulation.{simulation_of};
+    ghost use Rattle.vt_steps.specs.Next.{reached};
+    ghost use Rattle.vt_world.specs.Held.{StandsForWorld};
+    ghost use Rattle.vt_world.specs.Calls.{RunWorld};
 
-    ghost Value = { HeldWorld M M.State M.Payload M.Kept };
+    ghost Value = { RunWorld M M.Payload };
 
     ghost view = { λ w. record {
-      model = w.model.now;
-      config = w.config;
-      workers = w.kernels.items;
-      inboxes = w.inboxes.items;
-      board = w.board.board;
-      book = w.book.book;
+      model = w.memory.model;
+      config = w.memory.config;
+      world = reached (simulation_of (M.handlers w.memory.model) w.memory.config) w.serial w.steps.items;
     } };
 
-    ghost invariant = { λ w. IsWorldInside (M.handlers w.model.now) (record {
-      model = w.model.now;
-      config = w.config;
-      workers = w.kernels.items;
-      inboxes = w.inboxes.items;
-      board = w.board.board;
-      book = w.book.book;
-    }) w.board.end w.book.end };
+    ghost invariant = { λ w. StandsForWorld (M.handlers w.memory.model) w.memory (reached (simulation_of (M.handlers w.memory.model) w.memory.config) w.serial w.steps.items) };
 }
 
 impl<'m, M: EventModel> World<'m, M> {
     /// The announced time. No event or anti-message before it is unprocessed or travelling, now or later.
     pub fn announced(&self) -> When
-        ensures value { result ≡ self.now.board.announced }
-        ensures least { TimeAtMost result (least_held self.now) }
+        ensures value { result ≡ self.now.world.board.announced }
+        ensures least { TimeAtMost result (least (end_of self.now.config) self.now.world) }
     {
-        self.board.announced()
+        self.memory.announced()
     }
 
     /// The floor of the book: the book shows the records below it. It is at most the announced time. Once
     /// the book is closed, it is the end of the run.
     pub fn floor(&self) -> When
-        ensures value { result ≡ floor_held self.now }
-        ensures announced { TimeAtMost result self.now.board.announced }
-        ensures closed { IsTrue self.now.book.is_closed → result ≡ end_of self.now.config }
+        ensures value { result ≡ book_floor (end_of self.now.config) self.now.world.book }
+        ensures announced { TimeAtMost result self.now.world.board.announced }
+        ensures closed { IsTrue self.now.world.book.is_closed → result ≡ end_of self.now.config }
     {
-        self.book.floor()
+        self.memory.floor()
     }
 
     /// The records that the book shows: exactly the sequential run's records below the floor, in that run's order,
@@ -80,10 +69,19 @@ impl<'m, M: EventModel> World<'m, M> {
     ///
     /// [`Fault::Memory`]: memory was refused.
     pub fn records(&self, alloc: Global) -> Result<Vec<Record>, Fault>
-        ensures records { IfOk result (λ v. v.items ≡ seq_records (simulation_of (M.handlers self.now.model) self.now.config) (floor_held self.now)) }
-        ensures closed { IsTrue self.now.book.is_closed → IfOk result (λ v. v.items ≡ seq_records (simulation_of (M.handlers self.now.model) self.now.config) (end_of self.now.config)) }
+        ensures records { IfOk result (λ v. v.items ≡ seq_records (simulation_of (M.handlers self.now.model) self.now.config) (book_floor (end_of self.now.config) self.now.world.book)) }
+        ensures closed { IsTrue self.now.world.book.is_closed → IfOk result (λ v. v.items ≡ seq_records (simulation_of (M.handlers self.now.model) self.now.config) (end_of self.now.config)) }
         ensures refused { IfErr result (λ fault. fault ≡ Memory) }
     {
-        self.book.records(alloc)
+        self.memory.records(alloc)
     }
+}
+
+/// Adds a step to the list of those done.
+pub(crate) fn add_step(steps: &mut Seen<Step>, step: &Step)
+    ghost all: { List Step }
+    requires { all ≡ steps.old.items ++ step.now ∷ [] }
+    ensures { steps.new.items ≡ all }
+{
+    *steps = Seen::picked();
 }

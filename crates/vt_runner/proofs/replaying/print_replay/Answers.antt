@@ -1,10 +1,15 @@
+use Rattle.std.proofs.Common.{◌∙◌, ◌++◌, List, ℕ, ap, subst}
 use Rattle.std.proofs.lemmas.Result.{on_ok_weaker}
+use Rattle.std.specs.Io.KnownBytes.{Appends}
 use Rattle.vt_model.proofs.LawLemmas.{lawful_of}
-use Rattle.vt_model.specs.Simulation.{simulation_of}
+use Rattle.vt_model.specs.Simulation.{Simulation, simulation_of}
+use Rattle.vt_steps.specs.World.{World}
 use Rattle.vt_key.proofs.ResultLemmas.{if_err}
+use Rattle.vt_text.specs.Writing.{AppendsBeginning}
 use Rattle.vt_world.specs.Answers.{PassesAtStart}
-use Rattle.vt_runner.specs.Replays.{IsReplayText, IsRepliesText, Writes, Begins, StopsReplay}
-use Rattle.vt_runner.proofs.ReplayLemmas.{both, of_given, opened, output_stops, lines_written, replay_begun, replay_written, replies_begun, show_stops}
+use Rattle.vt_runner.specs.Replays.{IsReplayText, IsRepliesText, StopsReplay}
+use Rattle.vt_runner.specs.Replying.{PutsReplies, StopsReplies, shown_of}
+use Rattle.vt_runner.proofs.ReplayLemmas.{both, output_stops, lines_written, replay_begun, replay_written, replies_begun, show_stops}
 use Rattle.vt_runner.proofs.replaying.print_replay.Goals as goal
 
 pub returns-in_err-put_replies-clause-err : goal.returns-in_err-put_replies-clause-err
@@ -12,38 +17,34 @@ returns-in_err-put_replies-clause-err g c =
     let H = g.M.Model.handlers in
     let a = c.args in
     let o = a.options.now in
-    let first = c.in_ok-world.world in
     let made = c.in_ok-world.ensures.made in
     let sim = simulation_of (H a.model.now) o.config in
-    let own = simulation_of (H first.model) first.config in
-    let from = opened o.text H a.model.now o.config o.serial a.steps.now first made.0 made.1 c.in_ok-world.ensures.opening in
-    let begun = replies_begun o.text own o.serial a.steps.now _ _ c.new-text.result c.new-text.ensures (c.in_err-put_replies.ensures.err _ from) in
+    let stops = subst (λ (x : Simulation _ _ × World _). StopsReplies x.0 x.1 a.steps.now (g.O.Write.contents a.out.now) (g.O.Write.contents c.put_replies.new.out) c.new-text.result)
+    (λ i. (simulation_of (H (made.0 i)) (made.1 i), c.in_ok-world.ensures.opening i)) c.in_err-put_replies.ensures.err in
     if_err (StopsReplay (IsReplayText sim o.text o.serial a.steps.now) (IsRepliesText sim o.serial a.steps.now) (PassesAtStart sim o.serial) _ _) c.from_residual-in_err-put_replies.result c.in_err-put_replies.field-0.0 c.from_residual-in_err-put_replies.ensures.1
-    (output_stops o.text sim o.serial a.steps.now _ _ c.in_err-put_replies.field-0.0 c.in_err-put_replies.ensures.fault
-    (of_given o.text H a.model.now o.config o.serial a.steps.now first made.0 made.1 (λ s. Begins (IsReplayText s o.text o.serial a.steps.now) (g.O.Write.contents a.out.now) (g.O.Write.contents c.put_replies.new.out)) begun))
+    (output_stops o.text sim o.serial a.steps.now _ _ c.in_err-put_replies.field-0.0 c.in_err-put_replies.ensures.fault (replies_begun o.text sim o.serial a.steps.now _ _ c.new-text.result c.new-text.ensures stops))
 
 pub returns : goal.returns
 returns g c =
     let H = g.M.Model.handlers in
     let a = c.args in
     let o = a.options.now in
-    let first = c.in_ok-world.world in
     let made = c.in_ok-world.ensures.made in
     let same = c.in_ok-put_replies.ensures.same in
+    let end = c.put_replies.new.world.world in
+    let out = g.O.Write.contents c.put_replies.new.out in
+    let new = g.O.Write.contents c.show.new.out in
+    let held = c.put_replies.new.text in
     let sim = simulation_of (H a.model.now) o.config in
-    let from = opened o.text H a.model.now o.config o.serial a.steps.now first made.0 made.1 c.in_ok-world.ensures.opening in
-    let put = c.in_ok-put_replies.ensures.ok _ from in
-    let lawful = lawful_of (H first.model) first.config (g.met.M.Model.start_within first.model) (g.met.M.Model.forward_within first.model) in
+    let lawful = lawful_of (H a.model.now) o.config (g.met.M.Model.start_within a.model.now) (g.met.M.Model.forward_within a.model.now) in
+    let put = subst (λ (x : Simulation _ _ × World _). PutsReplies x.0 x.1 a.steps.now end (g.O.Write.contents a.out.now) out c.new-text.result held)
+    (λ i. (simulation_of (H (made.0 i)) (made.1 i), c.in_ok-world.ensures.opening i)) c.in_ok-put_replies.ensures.ok in
+    let its = ap (λ (s : Simulation _ _). held ++ shown_of s o.text end) (λ i. simulation_of (H ((same.0 ∙ made.0) i)) ((same.1 ∙ made.1) i)) in
     record {
-      ok = on_ok_weaker c.show.result
-          (λ h. of_given o.text H a.model.now o.config o.serial a.steps.now first made.0 made.1 (λ s. Writes (IsReplayText s o.text o.serial a.steps.now) (g.O.Write.contents a.out.now) (g.O.Write.contents c.show.new.out))
-          (replay_written o.text H a.model.now o.config o.serial a.steps.now first made.0 made.1 lawful c.put_replies.new.world same.0 same.1 _ _ c.new-text.result c.put_replies.new.text c.new-text.ensures put _ h))
-          c.show.ensures.ok;
+      ok = on_ok_weaker c.show.result (λ h. replay_written o.text sim o.serial a.steps.now lawful end _ _ c.new-text.result held c.new-text.ensures put new (subst (λ (x : List ℕ). Appends out new x) its h)) c.show.ensures.ok;
       err = both c.show.result
           (λ fault is h. show_stops o.text sim o.serial a.steps.now _ _ _ _ fault is
-          (of_given o.text H a.model.now o.config o.serial a.steps.now first made.0 made.1 (λ s. Begins (IsReplayText s o.text o.serial a.steps.now) (g.O.Write.contents a.out.now) (g.O.Write.contents c.show.new.out))
-          (replay_begun o.text H a.model.now o.config o.serial a.steps.now first made.0 made.1 lawful c.put_replies.new.world same.0 same.1 _ _ c.new-text.result c.put_replies.new.text c.new-text.ensures put _ h))
-          (λ all. of_given o.text H a.model.now o.config o.serial a.steps.now first made.0 made.1 (λ s. Writes (IsRepliesText s o.serial a.steps.now) (g.O.Write.contents a.out.now) (g.O.Write.contents c.show.new.out))
-          (lines_written o.text H a.model.now o.config o.serial a.steps.now first made.0 made.1 lawful c.put_replies.new.world same.0 same.1 _ _ c.new-text.result c.put_replies.new.text c.new-text.ensures put _ all)))
+          (replay_begun o.text sim o.serial a.steps.now lawful end _ _ c.new-text.result held c.new-text.ensures put new (subst (λ (x : List ℕ). AppendsBeginning out new x) its h))
+          (lines_written o.text sim o.serial a.steps.now lawful end _ _ c.new-text.result held c.new-text.ensures put new))
           c.show.ensures.fault c.show.ensures.err;
     }

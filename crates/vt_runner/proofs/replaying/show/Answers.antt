@@ -1,7 +1,9 @@
 use Rattle.std.proofs.Common.{◌≡◌, ◌∙◌, ap}
 use Rattle.std.proofs.lemmas.Result.{on_err_weaker}
 use Rattle.vt_key.specs.Times.{Time}
-use Rattle.vt_world.specs.Calls.{floor_held, least_held}
+use Rattle.vt_model.specs.Settings.{end_of}
+use Rattle.vt_model.specs.Simulation.{simulation_of}
+use Rattle.vt_steps.specs.World.{book_floor, least}
 use Rattle.vt_step_text.specs.Replies.{state_text}
 use Rattle.vt_text.proofs.TextLemmas.{begun, on_err, of_longer}
 use Rattle.vt_runner.specs.Replying.{shown_of}
@@ -12,22 +14,23 @@ use Rattle.vt_runner.proofs.replaying.show.Goals as goal
 
 pub returns-in_err-flush-clause-err : goal.returns-in_err-flush-clause-err
 returns-in_err-flush-clause-err g c =
-    on_err c.from_residual.result (of_longer _ _ c.args.text.now (shown_of c.args.version (g.M.Model.handlers c.args.world.now.model) c.args.world.now) c.in_err-flush.ensures.err)
+    on_err c.from_residual.result (of_longer _ _ c.args.text.now (shown_of (simulation_of (g.M.Model.handlers c.args.world.now.model) c.args.world.now.config) c.args.version c.args.world.now.world) c.in_err-flush.ensures.err)
 
 pub returns-in_err-records-clause-err : goal.returns-in_err-records-clause-err
 returns-in_err-records-clause-err g c =
     on_err c.from_residual-in_err-records.result
-    (gathered_alone _ _ c.args.text.now (shown_of c.args.version (g.M.Model.handlers c.args.world.now.model) c.args.world.now) c.in_ok-flush.ensures.ok (state_some _ _ _ _ _))
+    (gathered_alone _ _ c.args.text.now (shown_of (simulation_of (g.M.Model.handlers c.args.world.now.model) c.args.world.now.config) c.args.version c.args.world.now.world) c.in_ok-flush.ensures.ok (state_some _ _ _ _ _))
 
 -- what is put is what the world shows
-shown : (g : Over) (c : After-put_state g) → state_text c.args.version c.announced.result c.floor.result c.least.result c.as_slice.result.now ≡ shown_of c.args.version (g.M.Model.handlers c.args.world.now.model) c.args.world.now
+shown : (g : Over) (c : After-put_state g) → state_text c.args.version c.announced.result c.floor.result c.least.result c.as_slice.result.now ≡ shown_of (simulation_of (g.M.Model.handlers c.args.world.now.model) c.args.world.now.config) c.args.version c.args.world.now.world
 shown g c =
-    let world = c.args.world.now in
+    let now = c.args.world.now in
+    let floor = book_floor (end_of now.config) now.world.book in
     let items = c.as_slice.result.now in
     ap (λ (t : Time). state_text c.args.version t c.floor.result c.least.result items) c.announced.ensures.value
-    ∙ ap (λ (t : Time). state_text c.args.version world.board.announced t c.least.result items) c.floor.ensures.value
-    ∙ ap (λ (t : Time). state_text c.args.version world.board.announced (floor_held world) t items) c.least.ensures.value
-    ∙ ap (λ (rs : _). state_text c.args.version world.board.announced (floor_held world) (least_held world) rs) (c.as_slice.ensures.value ∙ c.in_ok-records.ensures.records)
+    ∙ ap (λ (t : Time). state_text c.args.version now.world.board.announced t c.least.result items) c.floor.ensures.value
+    ∙ ap (λ (t : Time). state_text c.args.version now.world.board.announced floor t items) c.least.ensures.value
+    ∙ ap (λ (rs : _). state_text c.args.version now.world.board.announced floor (least (end_of now.config) now.world) rs) (c.as_slice.ensures.value ∙ c.in_ok-records.ensures.records)
 
 pub returns-in_err-put_state-clause-err : goal.returns-in_err-put_state-clause-err
 returns-in_err-put_state-clause-err g c =

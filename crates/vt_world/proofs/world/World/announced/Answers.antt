@@ -1,15 +1,24 @@
-use Rattle.std.proofs.Common.{◌∙◌, ap, sym, subst}
+use Rattle.std.proofs.Common.{◌≡◌, ◌∙◌, ap, sym, subst}
 use Rattle.vt_key.specs.Times.{TimeAtMost}
 use Rattle.vt_model.proofs.LawLemmas.{lawful_of}
-use Rattle.vt_world.specs.Calls.{least_held}
-use Rattle.vt_world.specs.Held.{HeldWorld}
-use Rattle.vt_world.proofs.ReachedLemmas.{announced-least}
+use Rattle.vt_model.specs.Settings.{end_of}
+use Rattle.vt_model.specs.Simulation.{simulation_of}
+use Rattle.vt_steps.specs.World.{Board, least}
+use Rattle.vt_steps.specs.Next.{reached}
+use Rattle.vt_steps.proofs.book.HeadlineTheorem.{headline}
+use Rattle.vt_world.specs.Calls.{RunWorld}
 use Rattle.vt_world.proofs.world.World.announced.Goals as goal
 
-pub returns-clause-least : goal.returns-clause-least
-returns-clause-least g c =
+pub returns : goal.returns
+returns g c =
     let i = c.self.inside in
-    let m = i.model.now in
-    let below = announced-least c.self.invariant (lawful_of (g.M.Model.handlers m) i.config (g.met.M.Model.start_within m) (g.met.M.Model.forward_within m)) in
-    subst (λ t. TimeAtMost t (least_held c.args.self.now)) (sym (c.announced.ensures.announced ∙ ap (λ (v : HeldWorld _ _ _ _). v.board.announced) c.self.view_is))
-    (subst (λ (v : HeldWorld _ _ _ _). TimeAtMost v.board.announced (least_held v)) c.self.view_is below)
+    let m = i.memory in
+    let H = g.M.Model.handlers m.model in
+    let lawful = lawful_of H m.config (g.met.M.Model.start_within m.model) (g.met.M.Model.forward_within m.model) in
+    let world = reached (simulation_of H m.config) i.serial i.steps.items in
+    let value = c.announced.ensures ∙ ap (λ (b : Board). b.announced) (sym c.self.invariant.board) in
+    let right = (headline (simulation_of H m.config) lawful i.serial i.steps.items).floors in
+    record {
+      value = subst (λ (v : RunWorld _ _). c.announced.result ≡ v.world.board.announced) c.self.view_is value;
+      least = subst (λ (v : RunWorld _ _). TimeAtMost c.announced.result (least (end_of v.config) v.world)) c.self.view_is (subst (λ t. TimeAtMost t (least (end_of m.config) world)) (sym value) right.announced);
+    }

@@ -1,47 +1,23 @@
-use Rattle.std.proofs.Common.{◌≡◌, ℕ, ◌∙◌, map, sym, ap, subst}
-use Rattle.std.specs.List.{All, flat_map}
-use Rattle.vt_key.specs.Times.{TimeAtMost, earlier}
-use Rattle.vt_key.specs.declared.letter.Mail.{Mail}
+use Rattle.std.proofs.Common.{◌≡◌, ◌∙◌, sym, subst}
+use Rattle.vt_key.specs.Times.{TimeAtMost}
 use Rattle.vt_model.proofs.LawLemmas.{lawful_of}
 use Rattle.vt_model.specs.Settings.{end_of}
-use Rattle.vt_steps.specs.Letters.{least_time}
-use Rattle.vt_kernel.specs.Guards.{held_letters}
-use Rattle.vt_kernel.specs.Held.{HeldWorker}
-use Rattle.vt_kernel.proofs.TimeLemmas.{least_time-append}
-use Rattle.vt_world.specs.Calls.{least_held}
-use Rattle.vt_world.specs.Held.{HeldWorld}
-use Rattle.vt_world.proofs.LeastLemmas.{workers-end}
-use Rattle.vt_world.proofs.ReachedLemmas.{announced-least, least-same}
+use Rattle.vt_model.specs.Simulation.{simulation_of}
+use Rattle.vt_steps.specs.World.{least}
+use Rattle.vt_steps.proofs.book.HeadlineTheorem.{headline}
+use Rattle.vt_world.specs.Calls.{RunWorld}
+use Rattle.vt_world.proofs.HeldLemmas.{least-same}
 use Rattle.vt_world.proofs.world.World.least.Goals as goal
 
-pub least_of_workers-held-requires-clause-same_end : goal.least_of_workers-held-requires-clause-same_end
-least_of_workers-held-requires-clause-same_end g c κs within =
+pub returns : goal.returns
+returns g c =
     let i = c.self.inside in
-    subst (λ (t : ℕ). All (λ (k : HeldWorker _ _ _). end_of k.config ≡ t) c.deref.result.now) (sym c.end-end.ensures)
-    (subst (All (λ (k : HeldWorker _ _ _). end_of k.config ≡ end_of i.config)) (sym c.deref.ensures.value) (workers-end i.config 0 i.kernels.items c.self.invariant.own_workers))
-
-pub returns-clause-value : goal.returns-clause-value
-returns-clause-value g c =
-    let i = c.self.inside in
-    let end = end_of i.config in
-    let at_workers : c.least_of_workers-held.result ≡ least_time end (flat_map held_letters i.kernels.items) =
-    c.least_of_workers-held.ensures ∙ (λ j. least_time (c.end-end.ensures j) (flat_map held_letters (c.deref.ensures.value j))) in
-    let travelling : c.least_of_inboxes-travelling.result ≡ least_time end (map (λ (mail : Mail _). mail.letter) (flat_map (λ inbox. inbox) i.inboxes.items)) =
-    c.least_of_inboxes-travelling.ensures ∙ (λ j. least_time (c.end-end.ensures j) (map (λ (mail : Mail _). mail.letter) (flat_map (λ inbox. inbox) (c.deref-2.ensures.value j)))) in
-    c.earlier.ensures
-    ∙ (λ j. earlier (at_workers j) (travelling j))
-    ∙ sym (least_time-append end (flat_map held_letters i.kernels.items) (map (λ (mail : Mail _). mail.letter) (flat_map (λ inbox. inbox) i.inboxes.items)))
-    ∙ ap (λ (v : HeldWorld _ _ _ _). least_held v) c.self.view_is
-
-pub returns-clause-least : goal.returns-clause-least
-returns-clause-least g c world h =
-    let now = c.args.self.now in
-    returns-clause-value g c ∙ sym (least-same (g.M.Model.handlers now.model) now world h)
-
-pub returns-clause-announced : goal.returns-clause-announced
-returns-clause-announced g c =
-    let i = c.self.inside in
-    let m = i.model.now in
-    let below = announced-least c.self.invariant (lawful_of (g.M.Model.handlers m) i.config (g.met.M.Model.start_within m) (g.met.M.Model.forward_within m)) in
-    subst (TimeAtMost c.args.self.now.board.announced) (sym (returns-clause-value g c))
-    (subst (λ (v : HeldWorld _ _ _ _). TimeAtMost v.board.announced (least_held v)) c.self.view_is below)
+    let m = i.memory in
+    let H = g.M.Model.handlers m.model in
+    let lawful = lawful_of H m.config (g.met.M.Model.start_within m.model) (g.met.M.Model.forward_within m.model) in
+    let value = c.least.ensures ∙ sym (least-same H m _ c.self.invariant) in
+    let right = (headline (simulation_of H m.config) lawful i.serial i.steps.items).floors in
+    record {
+      value = subst (λ (v : RunWorld _ _). c.least.result ≡ least (end_of v.config) v.world) c.self.view_is value;
+      announced = subst (λ (v : RunWorld _ _). TimeAtMost v.world.board.announced c.least.result) c.self.view_is (subst (TimeAtMost _) (sym value) right.announced);
+    }

@@ -1,56 +1,29 @@
-use Rattle.std.proofs.Common.{◌≡◌, ℕ, ◌<◌, ◌≤◌, ◌⊎◌, inl, inr, subst, IfOk, IfErr, OnOk}
-use Rattle.std.proofs.lemmas.Result.{IfOk-weaker}
+use Rattle.std.proofs.Common.{◌≡◌, ℕ, List, refl, subst, IfOk}
 use Rattle.vt_key.specs.Times.{Time, TimeAtMost}
-use Rattle.vt_key.specs.declared.fault.Fault.TheVariants.{Memory, NotLawful}
 use Rattle.vt_model.proofs.LawLemmas.{lawful_of}
+use Rattle.vt_model.specs.Settings.{end_of}
 use Rattle.vt_model.specs.Simulation.{simulation_of}
-use Rattle.vt_steps.specs.World.{World}
-use Rattle.vt_steps.proofs.history.HistoriesTheorem.{histories}
-use Rattle.vt_world.specs.Held.{HeldWorld, StandsForWorld, IsReached}
-use Rattle.vt_world.specs.Calls.{least_held}
+use Rattle.vt_steps.specs.declared.step.Step.{Step}
+use Rattle.vt_steps.specs.World.{least}
+use Rattle.vt_steps.specs.Next.{reached}
+use Rattle.vt_world.specs.Calls.{RunWorld}
 use Rattle.vt_world.specs.Answers.{IsPastIn, EndsSequential}
-use Rattle.vt_world.proofs.Places.{owner-there}
-use Rattle.vt_world.proofs.PastLemmas.{ok-both, on_ok-more, err-more, own-process, no-process, past-in, past-sequential}
+use Rattle.vt_world.proofs.PastLemmas.{ok-both, past-sequential}
 use Rattle.vt_world.proofs.world.World.past.Goals as goal
 
 pub returns-clause-past : goal.returns-clause-past
 returns-clause-past g c =
-    let at = owner-there c.self.invariant _ c.owner-owner.ensures.value c.owner-owner.ensures.known c.index.ensures in
-    subst (λ (v : HeldWorld _ _ _ _). (world : World _) → StandsForWorld (g.M.Model.handlers v.model) v world → IfOk c.past_events.result (λ es. IsPastIn (simulation_of (g.M.Model.handlers v.model) v.config) world c.args.lp es.items)) c.self.view_is
-    (λ world h. IfOk-weaker c.past_events.result _ _ (λ es is. past-in c.self.invariant _ at es.items is world h) c.past_events.ensures.events)
-
-pub returns-clause-histories : goal.returns-clause-histories
-returns-clause-histories g c serial steps h =
-    let now = c.args.self.now in
-    let H = g.M.Model.handlers now.model in
-    histories (simulation_of H now.config) (lawful_of H now.config (g.met.M.Model.start_within now.model) (g.met.M.Model.forward_within now.model)) serial steps
+    subst (λ (v : RunWorld _ _). IfOk c.past.result (λ es. IsPastIn (simulation_of (g.M.Model.handlers v.model) v.config) v.world c.args.lp es.items)) c.self.view_is (c.past.ensures.past _ c.self.invariant)
 
 pub returns-clause-reached : goal.returns-clause-reached
 returns-clause-reached g c =
-    subst (λ (v : HeldWorld _ _ _ _). ∥ ((serial : ℕ) × IsReached (g.M.Model.handlers v.model) serial v) ∥₁) c.self.view_is c.self.invariant.is_reached
+    subst (λ (v : RunWorld _ _). ∥ ((serial : ℕ) × (steps : List Step) × (v.world ≡ reached (simulation_of (g.M.Model.handlers v.model) v.config) serial steps)) ∥₁) c.self.view_is
+    ∣ (c.self.inside.serial, c.self.inside.steps.items, refl) ∣₁
 
 pub returns-clause-sequential : goal.returns-clause-sequential
 returns-clause-sequential g c =
     let i = c.self.inside in
-    let m = i.model.now in
-    let lawful = lawful_of (g.M.Model.handlers m) i.config (g.met.M.Model.start_within m) (g.met.M.Model.forward_within m) in
-    let at = owner-there c.self.invariant _ c.owner-owner.ensures.value c.owner-owner.ensures.known c.index.ensures in
-    subst (λ (v : HeldWorld _ _ _ _). (t : Time) → TimeAtMost t (least_held v) → IfOk c.past_events.result (λ es. EndsSequential (simulation_of (g.M.Model.handlers v.model) v.config) c.args.lp t es.items)) c.self.view_is
-    (λ t quiet. ok-both c.past_events.result (λ es is own. past-sequential c.self.invariant _ at lawful es.items is (own-process c.self.invariant _ at own) t quiet)
-    c.past_events.ensures.events c.past_events.ensures.known)
-
-pub returns-clause-known : goal.returns-clause-known
-returns-clause-known g c =
-    let at = owner-there c.self.invariant _ c.owner-owner.ensures.value c.owner-owner.ensures.known c.index.ensures in
-    subst (λ (v : HeldWorld _ _ _ _). OnOk c.past_events.result (c.args.lp < v.config.lps)) c.self.view_is
-    (on_ok-more c.past_events.result (own-process c.self.invariant _ at) c.past_events.ensures.known)
-
-pub returns-clause-refused : goal.returns-clause-refused
-returns-clause-refused g c =
-    let lp = c.args.lp in
-    let at = owner-there c.self.invariant _ c.owner-owner.ensures.value c.owner-owner.ensures.known c.index.ensures in
-    subst (λ (v : HeldWorld _ _ _ _). IfErr c.past_events.result (λ fault. ((fault ≡ NotLawful) × (v.config.lps ≤ lp)) ⊎ ((fault ≡ Memory) × (lp < v.config.lps)))) c.self.view_is
-    (err-more c.past_events.result (λ fault why. elim why [
-      | inl none ↦ inl (none.0, no-process c.self.invariant _ at none.1)
-      | inr own ↦ inr (own.0, own-process c.self.invariant _ at own.1)
-    ]) c.past_events.ensures.refused)
+    let m = i.memory in
+    let lawful = lawful_of (g.M.Model.handlers m.model) m.config (g.met.M.Model.start_within m.model) (g.met.M.Model.forward_within m.model) in
+    subst (λ (v : RunWorld _ _). (t : Time) → TimeAtMost t (least (end_of v.config) v.world) → IfOk c.past.result (λ es. EndsSequential (simulation_of (g.M.Model.handlers v.model) v.config) c.args.lp t es.items)) c.self.view_is
+    (λ t quiet. ok-both c.past.result (λ es is known. past-sequential (simulation_of (g.M.Model.handlers m.model) m.config) lawful i.serial i.steps.items c.args.lp es.items is known t quiet) (c.past.ensures.past _ c.self.invariant) c.past.ensures.known)

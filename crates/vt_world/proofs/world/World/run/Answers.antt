@@ -1,21 +1,21 @@
-use Rattle.std.proofs.Common.{◌∙◌, ap, refl, sym, slice_index_or, arith}
+use Rattle.std.proofs.Common.{◌∙◌, ap, refl, slice_index_or, subst, arith}
 use Rattle.std.proofs.lemmas.List.{take_more}
-use Rattle.vt_steps.specs.declared.step.Step.TheVariants.{Execute}
 use Rattle.std.proofs.Math.Nat.{le_refl}
 use Rattle.vt_model.specs.Simulation.{simulation_of}
-use Rattle.vt_world.specs.Held.{world_memory}
-use Rattle.vt_world.proofs.RunLemmas.{runs-none, answers-none, run-on, count-on}
+use Rattle.vt_steps.specs.declared.step.Step.TheVariants.{Execute}
+use Rattle.vt_world.specs.Calls.{IsAnsweredBy}
+use Rattle.vt_world.proofs.RunLemmas.{run-none, answers-none, run-on, count-on}
 use Rattle.vt_world.proofs.world.World.run.Goals as goal
 
 pub loop-at-init : goal.loop-at-init
 loop-at-init g c =
     let first = c.args.self.now in
-    let H = g.M.Model.handlers first.model in
+    let sim = simulation_of (g.M.Model.handlers first.model) first.config in
     record {
       model = refl;
       config = refl;
-      runs = runs-none (simulation_of H first.config) (world_memory H first);
-      count = λ world h. sym (answers-none (simulation_of H first.config) world);
+      ran = run-none sim first.world;
+      count = answers-none sim first.world;
       few = le_refl _;
       announced = le_refl _;
       floor = le_refl _;
@@ -32,12 +32,15 @@ loop-at-preserved g c =
     let i = c.loop-at.at in
     let step = slice_index_or steps i (Execute 0) in
     let here = take_more steps i (Execute 0) c.loop-at-test.true in
-    let is = c.in-Ok.ensures.goes in
+    let more = c.in-Ok.more in
+    let sim = simulation_of (g.M.Model.handlers first.model) first.config in
+    let is : IsAnsweredBy sim step old.world new.world more =
+    subst (λ (s : _). IsAnsweredBy s step old.world new.world more) (λ j. simulation_of (g.M.Model.handlers (inv.model j)) (inv.config j)) c.in-Ok.ensures.goes in
     record {
       model = c.advance.ensures.same.0 ∙ inv.model;
       config = c.advance.ensures.same.1 ∙ inv.config;
-      runs = run-on g.M.Model.handlers steps i step here first old new inv.model inv.config c.in-Ok.more is inv.runs;
-      count = λ world h. count-on g.M.Model.handlers steps i step here first old new inv.model inv.config c.in-Ok.more c.loop-at.refused is inv.runs world h (inv.count world h);
+      ran = run-on sim first.world old.world new.world steps i step more here inv.ran is;
+      count = count-on sim first.world old.world new.world steps i step more here inv.ran is c.loop-at.refused inv.count;
       few = (let one = is.one in let few = inv.few in omega (arith, one, few));
       announced = (let a = inv.announced in let b = c.advance.ensures.announced in omega (arith, a, b));
       floor = (let a = inv.floor in let b = c.advance.ensures.floor in omega (arith, a, b));

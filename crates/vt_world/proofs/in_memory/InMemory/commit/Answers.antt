@@ -1,0 +1,44 @@
+use Rattle.std.proofs.Common.{◌∙◌, ap, sym, refl}
+use Rattle.vt_key.specs.declared.fault.Fault.TheVariants.{NotLawful, Closed}
+use Rattle.vt_model.specs.declared.settings.Config.{Config}
+use Rattle.vt_model.specs.Settings.{end_of}
+use Rattle.vt_model.proofs.LawLemmas.{lawful_of}
+use Rattle.vt_steps.specs.declared.step.Step.TheVariants.{Commit}
+use Rattle.vt_world.proofs.StepLemmas.{step-left}
+use Rattle.vt_world.proofs.Places.{worker-there}
+use Rattle.vt_world.proofs.CellLemmas.{book-put, cell-step, cell-inside, one-world}
+use Rattle.vt_world.proofs.WorldSteps.{who, commit-nobody, commit-closed}
+use Rattle.vt_world.proofs.in_memory.InMemory.commit.Goals as goal
+
+pub returns-then-is_closed : goal.returns-then-is_closed
+returns-then-is_closed g c =
+    step-left g.M.Model.handlers c.self.view_is (Commit c.args.w) Closed (commit-closed c.self.invariant c.args.w (sym c.is_closed.ensures ∙ c.if-is_closed.true))
+
+pub returns-then-w-self : goal.returns-then-w-self
+returns-then-w-self g c =
+    step-left g.M.Model.handlers c.self.view_is (Commit c.args.w) NotLawful (commit-nobody c.self.invariant c.if-w-self.true (sym c.is_closed.ensures ∙ c.if-is_closed.false))
+
+pub commit-requires-clause-worker : goal.commit-requires-clause-worker
+commit-requires-clause-worker g c κs within = (who c.self.invariant (worker-there c.self.invariant c.if-w-self.false c.index_mut.ensures.value)).0
+
+pub commit-requires-clause-end : goal.commit-requires-clause-end
+commit-requires-clause-end g c κs within =
+    let is = who c.self.invariant (worker-there c.self.invariant c.if-w-self.false c.index_mut.ensures.value) in
+    c.self.invariant.same_book_end ∙ ap (λ (f : Config). end_of f) (sym is.1)
+
+pub commit-requires-clause-reached : goal.commit-requires-clause-reached
+commit-requires-clause-reached g c κs within =
+    let m = c.self.inside.model.now in
+    let lawful = lawful_of (g.M.Model.handlers m) c.self.inside.config (g.met.M.Model.start_within m) (g.met.M.Model.forward_within m) in
+    (g.M.Model.handlers m, one-world g.M.Model.handlers c.self.invariant lawful c.args.w (worker-there c.self.invariant c.if-w-self.false c.index_mut.ensures.value))
+
+pub invariant_of-self : goal.invariant_of-self
+invariant_of-self g c =
+    let at = worker-there c.self.invariant c.if-w-self.false c.index_mut.ensures.value in
+    cell-inside g.M.Model.handlers c.self.invariant (λ u. Commit c.args.w) refl refl at (book-put c.self.invariant at c.commit.new.kernel c.commit.new.book.book) (c.commit.ensures.step (g.M.Model.handlers c.self.inside.model.now)) refl c.commit.ensures.end
+
+pub returns : goal.returns
+returns g c =
+    let m = c.self.inside.model.now in
+    let at = worker-there c.self.invariant c.if-w-self.false c.index_mut.ensures.value in
+    cell-step g.M.Model.handlers c.self.invariant (λ u. Commit c.args.w) refl refl at (book-put c.self.invariant at c.commit.new.kernel c.commit.new.book.book) (c.commit.ensures.step (g.M.Model.handlers m)) c.self.view_is
