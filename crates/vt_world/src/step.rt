@@ -1,6 +1,6 @@
 //! The eleven steps of a world, and lists of them.
 
-ghost use Rattle.std.specs.Prelude.{◌≡◌, ◌≤◌, ◌⊎◌, IsTrue, [], ◌∷◌, Err, take, slice_get, IfOk, IfErr, MatchOption};
+ghost use Rattle.std.specs.Prelude.{◌≡◌, ◌⊎◌, IsTrue, Err, take, slice_get, IfOk, IfErr, MatchOption};
 ghost use Rattle.vt_key.specs.Times.{TimeAtMost};
 ghost use Rattle.vt_key.specs.declared.fault.Fault.TheVariants.{NotLawful, Closed};
 ghost use Rattle.vt_model.specs.Simulation.{simulation_of};
