@@ -15,10 +15,9 @@ returns g c =
     let i = c.self.inside in
     let m = i.memory in
     let H = g.M.Model.handlers m.model in
-    let lawful = lawful_of H m.config (g.met.M.Model.start_within m.model) (g.met.M.Model.forward_within m.model) in
-    let world = reached (simulation_of H m.config) i.serial i.steps.items in
     let value = c.floor.ensures ∙ ap (book_floor (end_of m.config)) (sym c.self.invariant.book) in
-    let right = headline (simulation_of H m.config) lawful i.serial i.steps.items in
+    let world = reached (simulation_of H m.config) i.serial i.steps.items in
+    let right = headline (simulation_of H m.config) (lawful_of H m.config (g.met.M.Model.start_within m.model) (g.met.M.Model.forward_within m.model)) i.serial i.steps.items in
     record {
       value = subst (λ (v : RunWorld _ _). c.floor.result ≡ book_floor (end_of v.config) v.world.book) c.self.view_is value;
       announced = subst (λ (v : RunWorld _ _). TimeAtMost c.floor.result v.world.board.announced) c.self.view_is (subst (λ t. TimeAtMost t world.board.announced) (sym value) right.floors.floor);

@@ -14,9 +14,8 @@ returns g c =
     let i = c.self.inside in
     let m = i.memory in
     let H = g.M.Model.handlers m.model in
-    let lawful = lawful_of H m.config (g.met.M.Model.start_within m.model) (g.met.M.Model.forward_within m.model) in
     let value = c.least.ensures ∙ sym (least-same H m _ c.self.invariant) in
-    let right = (headline (simulation_of H m.config) lawful i.serial i.steps.items).floors in
+    let right = (headline (simulation_of H m.config) (lawful_of H m.config (g.met.M.Model.start_within m.model) (g.met.M.Model.forward_within m.model)) i.serial i.steps.items).floors in
     record {
       value = subst (λ (v : RunWorld _ _). c.least.result ≡ least (end_of v.config) v.world) c.self.view_is value;
       announced = subst (λ (v : RunWorld _ _). TimeAtMost v.world.board.announced c.least.result) c.self.view_is (subst (TimeAtMost _) (sym value) right.announced);

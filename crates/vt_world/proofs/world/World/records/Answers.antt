@@ -15,8 +15,7 @@ returns g c =
     let i = c.self.inside in
     let m = i.memory in
     let H = g.M.Model.handlers m.model in
-    let lawful = lawful_of H m.config (g.met.M.Model.start_within m.model) (g.met.M.Model.forward_within m.model) in
-    let right = headline (simulation_of H m.config) lawful i.serial i.steps.items in
+    let right = headline (simulation_of H m.config) (lawful_of H m.config (g.met.M.Model.start_within m.model) (g.met.M.Model.forward_within m.model)) i.serial i.steps.items in
     let there = ap (book_records (end_of m.config)) (sym c.self.invariant.book) in
     record {
       records = subst (λ (v : RunWorld _ _). IfOk c.records.result (λ r. r.items ≡ seq_records (simulation_of (g.M.Model.handlers v.model) v.config) (book_floor (end_of v.config) v.world.book))) c.self.view_is
