@@ -1,6 +1,6 @@
 //! How far a worker executes ahead of the others, and for how many turns once another one has left.
 
-ghost use Rattle.std.specs.Prelude.{◌≡◌, ◌<◌, ◌≤◌, ◌⊎◌, suc, IsTrue, IsFalse};
+ghost use Rattle.std.specs.Prelude.{◌≡◌, ◌<◌, ◌≤◌, suc, IsTrue, IsFalse};
 
 /// The most events that a worker executes in one turn.
 const MOST_EXECUTIONS: u32 = 16;
@@ -132,7 +132,8 @@ impl Pace {
 
     /// Whether another turn may do something. After another worker has left before the end of the run, only a few may.
     pub(crate) fn goes_on(&mut self, is_stopped: bool) -> bool
-        ensures more { IsTrue result → (self.new.last_turns ≡ self.old.last_turns) ⊎ ((self.new.last_turns ≡ suc self.old.last_turns) × (self.new.last_turns ≤ LAST_TURNS)) }
+        ensures running { IsFalse is_stopped → IsTrue result × (self.new ≡ self.old) }
+        ensures more { IsTrue is_stopped → IsTrue result → (self.new.last_turns ≡ suc self.old.last_turns) × (self.new.last_turns ≤ LAST_TURNS) }
         ensures enough { IsFalse result → LAST_TURNS ≤ self.old.last_turns }
     {
         if !is_stopped {
