@@ -146,7 +146,9 @@ impl<M: EventModel> Station<M> {
 }
 
 impl<M: EventModel> Station<M> {
-    /// The records that the book shows, taken out of it. The book stays claimed: no place gets at it any more.
+    /// The records that the book shows, taken out of it. The book stays claimed: no place gets at it any more. It takes no memory.
+    ///
+    /// [`Fault::Busy`]: another place had claimed the book.
     pub fn take_out(&self, alloc: Global, place: Place<M::Payload>) -> Result<Vec<Record>, Fault>
         requires own { place_table place ≡ station_table self.now }
         ensures shown { let sim = simulation_of (M.handlers (station_model self.now)) (station_config self.now) in IfOk result (λ v. (floor : TimeValue) × AreRecordsShown sim (place_view place) floor v.items) }

@@ -244,7 +244,7 @@ fn has_closed_book(outcome: Option<Outcome>) -> bool
     }
 }
 
-/// The first job whose worker closed the book.
+/// A job whose worker closed the book, if there is one.
 fn closer_of<M: EventModel>(jobs: &[Job<'_, M>]) -> Option<usize>
     ensures some { IfSome result (IsClosedAt jobs.now) }
     ensures none { IfNone result (NoneClosed jobs.now) }
