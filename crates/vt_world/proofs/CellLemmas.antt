@@ -24,8 +24,7 @@ use Rattle.vt_kernel.proofs.SettlingLemmas.{put-there}
 use Rattle.vt_cells.specs.Calls.{IsCellStepOf, PassesThere, AreOfOneWorld}
 use Rattle.vt_cells.proofs.BookSteps.{close-step}
 use Rattle.vt_cells.proofs.WorldLemmas.{next-put_back, limit-there, refused-there}
-use Rattle.vt_world.specs.Held.{HeldWorld, world_memory, StandsForWorld, IsHeldStepOf, AreInboxes, IsWorldInside}
-use Rattle.vt_world.proofs.HeldLemmas.{inside_view}
+use Rattle.vt_world.specs.Held.{HeldWorld, held_world, world_memory, StandsForWorld, IsHeldStepOf, AreInboxes, IsWorldInside}
 use Rattle.vt_world.proofs.WorldLemmas.{found, part-changed}
 use Rattle.vt_world.proofs.WorldSteps.{who, goes}
 use Rattle.vt_world.proofs.StepLemmas.{step-done, step-refused, inside-stepped, inside-same}
@@ -34,7 +33,7 @@ use Rattle.vt_world.proofs.Places.{some-at, are-workers, inboxes-changed, put-ba
 module _ {M S P K : Type 0} (handlers : Handlers S P K) (held : HeldWorld M S P K) (w : ℕ) (k new : HeldWorker S P K) where
   -- the world with a new worker w, and with what the cells hold then
   abbrev pub after_step : List (List (Mail P)) → Board → Book → HeldWorld M S P K
-  after_step inboxes board book = inside_view held.model held.config (slice_set held.workers w new) inboxes board book
+  after_step inboxes board book = held_world held.model held.config (slice_set held.workers w new) inboxes board book
 
   -- the cell of this name held one thing, and holds another in the world after the step
   pub record Puts (name : CellName) (cell left : Cell P) (inboxes : List (List (Mail P))) (board : Board) (book : Book) : Type 0 where
@@ -173,7 +172,7 @@ module _ {M S P K : Type 0} (meaning : M → Handlers S P K) {held : HeldWorld M
     put = book-put inside first.1 first.0 book
 
     back : after_step (meaning held.model) held 0 first.0 first.0 held.inboxes held.board book ≡ record held { book = book }
-    back = ap (λ ks. inside_view held.model held.config ks held.inboxes held.board book) (put-there held.workers 0 first.0 first.1)
+    back = ap (λ ks. held_world held.model held.config ks held.inboxes held.board book) (put-there held.workers 0 first.0 first.1)
 
     its-step : IsCellStepOf (meaning held.model) first.0.config Close first.0 first.0 (in_book held.book) (in_book book) result
     its-step =

@@ -1,13 +1,12 @@
--- The letters of a world in memory, and what a contract sees of one.
+-- The letters of a world in memory.
 use Rattle.std.proofs.Common.{◌≡◌, ℕ, ◌+◌, List, [], ◌∷◌, ◌++◌, map, refl, ◌∙◌, ap}
 use Rattle.std.specs.List.{flat_map}
 use Rattle.vt_key.specs.declared.letter.Mail.{Mail}
-use Rattle.vt_model.specs.declared.settings.Config.{Config}
 use Rattle.vt_model.specs.Handler.{Handlers}
 use Rattle.vt_model.specs.Simulation.{Simulation, simulation_of}
 use Rattle.vt_model.specs.Settings.{end_of}
 use Rattle.vt_steps.specs.Letters.{least_time}
-use Rattle.vt_steps.specs.World.{LogicalProcess, Part, World, Board, Book, letters_in, least}
+use Rattle.vt_steps.specs.World.{LogicalProcess, Part, World, letters_in, least}
 use Rattle.vt_steps.specs.StandsFor.{StandForProcesses, StandForParts}
 use Rattle.vt_lp.specs.Held.{HeldProcess, process_memory}
 use Rattle.vt_kernel.specs.Held.{HeldWorker, part_memory}
@@ -45,7 +44,3 @@ module _ {M S P K : Type 0} (handlers : Handlers S P K) (held : HeldWorld M S P 
   least-same world h =
       ap (λ ls. least_time (end_of held.config) (ls ++ map (λ (mail : Mail P). mail.letter) (flat_map (λ inbox. inbox) world.inboxes))) (part-letters handlers (simulation_of handlers held.config) 0 held.workers world.parts h.parts)
       ∙ ap (λ is. least_time (end_of held.config) (flat_map held_letters held.workers ++ map (λ (mail : Mail P). mail.letter) (flat_map (λ inbox. inbox) is))) h.inboxes
-
--- what a contract sees of a world with these fields
-abbrev pub inside_view : {M S P K : Type 0} → M → Config → List (HeldWorker S P K) → List (List (Mail P)) → Board → Book → HeldWorld M S P K
-inside_view model config workers inboxes board book = record { model = model; config = config; workers = workers; inboxes = inboxes; board = board; book = book }

@@ -1,5 +1,5 @@
 -- The local steps of a worker as steps of the world.
-use Rattle.std.proofs.Common.{◌≡◌, ℕ, ◌/◌, ◌%◌, ◌<◌, inl, inr, refl, sym, ◌∙◌, ap, subst, arith, Option, Some, None, Err, slice_get, slice_set}
+use Rattle.std.proofs.Common.{◌≡◌, ℕ, ◌/◌, ◌%◌, ◌<◌, inl, inr, refl, sym, ◌∙◌, ap, subst, arith, Option, Some, None, Result, Ok, Err, IsErrAnd, slice_get, slice_set}
 use Rattle.std.proofs.Math.Logic.{∥∥₁_map}
 use Rattle.std.specs.Option.{option_map}
 use Rattle.vt_key.specs.Times.{Time}
@@ -11,6 +11,7 @@ use Rattle.vt_model.specs.Handler.{Handlers}
 use Rattle.vt_model.specs.Simulation.{Simulation, simulation_of}
 use Rattle.vt_steps.specs.declared.step.Step.{Step}
 use Rattle.vt_steps.specs.declared.step.Step.TheVariants.{Execute, Accept}
+use Rattle.vt_steps.specs.declared.step.Reply.{Reply}
 use Rattle.vt_steps.specs.declared.step.Reply.TheVariants.{Done}
 use Rattle.vt_steps.specs.World.{LogicalProcess, Part, World}
 use Rattle.vt_steps.specs.Next.{Outcome, next, reached, replied, with_part, done_or_refused}
@@ -21,24 +22,13 @@ use Rattle.vt_kernel.specs.Local.{local_step}
 use Rattle.vt_kernel.specs.Guards.{IsDone, IsExecuteRefusal, IsAcceptRefusal}
 use Rattle.vt_kernel.specs.Refusals.{IsStepRefusal, PassesLimit}
 use Rattle.vt_steps.proofs.lists.Places.{get-put_same}
-use Rattle.vt_world.specs.Held.{HeldWorld, world_memory, StandsForWorld, IsReached, IsWorldInside}
+use Rattle.vt_world.specs.Held.{HeldWorld, world_memory, StandsForWorld, IsReached, IsHeldStepOf, IsWorldInside}
 use Rattle.vt_world.proofs.WorldLemmas.{IsSame, IsLocalAt, IsFound, found, next-locally, local-done, local-refused}
 use Rattle.vt_world.proofs.WorldSteps.{who}
-use Rattle.vt_world.proofs.Places.{inside-worker}
+use Rattle.vt_world.proofs.StepLemmas.{step-done, step-unlawful, inside-same}
+use Rattle.vt_world.proofs.Places.{inside-worker, put-back}
 
 module _ {M S P K : Type 0} {handlers : Handlers S P K} {held : HeldWorld M S P K} {board_end book_end : Time} (inside : IsWorldInside handlers held board_end book_end) where
-  -- a step that isn't lawful, answered so
-  pub answered-fault : (step : Step) (fault : Fault) → fault ≡ NotLawful
-      → GoesOn (simulation_of handlers held.config) step (Err NotLawful) (world_memory handlers held) (world_memory handlers held)
-      → GoesOn (simulation_of handlers held.config) step (Err fault) (world_memory handlers held) (world_memory handlers held)
-  answered-fault step fault is goes = subst (λ f. GoesOn (simulation_of handlers held.config) step (Err f) (world_memory handlers held) (world_memory handlers held)) (sym is) goes
-
-  -- a step that isn't lawful for its worker, answered so
-  pub local-unlawful : (w : ℕ) {k : HeldWorker S P K} → slice_get held.workers w ≡ Some k → (step : Step) → IsLocalAt (simulation_of handlers held.config) w step
-      → (fault : Fault) → fault ≡ NotLawful → ((part : Part P) → WorkerStandsFor handlers k part → local_step (simulation_of handlers k.config) k.worker step part ≡ None)
-      → GoesOn (simulation_of handlers held.config) step (Err fault) (world_memory handlers held) (world_memory handlers held)
-  local-unlawful w at step is fault not_lawful none = answered-fault step fault not_lawful (local-refused inside w at step is none)
-
   -- what a local step of a worker comes to in a world
   locally-is : (world : World P) (w : ℕ) (step : Step) (part : Part P) (after : Option (Part P)) → IsLocalAt (simulation_of handlers held.config) w step → slice_get world.parts w ≡ Some part
       → local_step (simulation_of handlers held.config) w step part ≡ after → next (simulation_of handlers held.config) world step ≡ done_or_refused world (option_map (with_part world w) after)
@@ -142,6 +132,10 @@ module _ {M S P K : Type 0} {handlers : Handlers S P K} {held : HeldWorld M S P 
       → IsWorldInside handlers (record held { workers = slice_set held.workers w new }) board_end book_end
   inside-local step is new same done = inside-worker inside w at new same step Done held.board held.book refl refl (local-done inside w at step is new same done)
 
+  -- what it keeps to after a worker was left as it was
+  pub inside-kept : {new : HeldWorker S P K} → new ≡ k → IsWorldInside handlers (record held { workers = slice_set held.workers w new }) board_end book_end
+  inside-kept same = inside-same inside (put-back inside w at same refl) refl refl
+
   -- a worker stands for some part
   pub some-part : ∥ ((part : Part P) × WorkerStandsFor handlers k part) ∥₁
   some-part = ∥∥₁_map inside.is_reached (λ (x : (serial : ℕ) × IsReached handlers serial held).
@@ -152,3 +146,23 @@ module _ {M S P K : Type 0} {handlers : Handlers S P K} {held : HeldWorld M S P 
   pub at-place : (step : ℕ → Step) (Said : Option (Part P) → Type 0) → ((part : Part P) → WorkerStandsFor handlers k part → Said (local_step (simulation_of handlers k.config) k.worker (step k.worker) part))
       → (part : Part P) → WorkerStandsFor handlers k part → Said (local_step (simulation_of handlers k.config) k.worker (step w) part)
   at-place step Said said part stands = subst (λ v. Said (local_step (simulation_of handlers k.config) k.worker (step v) part)) (who inside at).0 (said part stands)
+
+-- what a call owes that does a local step at a worker
+module _ {M S P K : Type 0} (meaning : M → Handlers S P K) {held seen : HeldWorld M S P K} (seen_is : held ≡ seen) {board_end book_end : Time} (inside : IsWorldInside (meaning held.model) held board_end book_end)
+    (w : ℕ) {k : HeldWorker S P K} (at : slice_get held.workers w ≡ Some k) (step : Step) (is : IsLocalAt (simulation_of (meaning held.model) held.config) w step) (new : HeldWorker S P K) where
+  -- the worker has done it, and no counter is past its limit
+  pub does-locally : IsSame new k
+      → ((part : Part P) → WorkerStandsFor (meaning held.model) k part → IsDone (meaning held.model) new (local_step (simulation_of (meaning held.model) k.config) k.worker step part))
+      → ((after : World P) → StandsForWorld (meaning held.model) (record held { workers = slice_set held.workers w new }) after → PassesLimit (simulation_of (meaning held.model) held.config) step after → ⊥)
+      → IsHeldStepOf (meaning seen.model) step seen (record held { workers = slice_set held.workers w new }) (Ok Done)
+  does-locally same done few =
+      let goes = local-done inside w at step is new same done in
+      step-done meaning seen_is (record held { workers = slice_set held.workers w new }) step Done goes refl refl (λ world h. few (next (simulation_of (meaning held.model) held.config) world step).world (goes world h).1)
+
+  -- it isn't lawful for the worker
+  pub refuses-locally : (fault : Fault) (result : Result Reply Fault) → IsErrAnd result (λ e. e ≡ fault) → (fault ≡ NotLawful) × (new ≡ k)
+      → ((part : Part P) → WorkerStandsFor (meaning held.model) k part → local_step (simulation_of (meaning held.model) k.config) k.worker step part ≡ None)
+      → IsHeldStepOf (meaning seen.model) step seen (record held { workers = slice_set held.workers w new }) result
+  refuses-locally fault result err kept none =
+      step-unlawful meaning seen_is (record held { workers = slice_set held.workers w new }) step fault result err (put-back inside w at kept.1 refl)
+      (subst (λ f. GoesOn (simulation_of (meaning held.model) held.config) step (Err f) (world_memory (meaning held.model) held) (world_memory (meaning held.model) held)) (sym kept.0) (local-refused inside w at step is none))

@@ -12,8 +12,7 @@ use Rattle.vt_steps.specs.declared.step.Step.{Step}
 use Rattle.vt_steps.specs.Next.{run, reached}
 use Rattle.vt_steps.specs.StandsFor.{StandsForPart, StandForParts}
 use Rattle.vt_kernel.specs.Held.{HeldWorker, part_memory, IsOwnMail}
-use Rattle.vt_world.specs.Held.{StandsForWorld, IsReached, AreWorkers, AreInboxes}
-use Rattle.vt_world.proofs.HeldLemmas.{inside_view}
+use Rattle.vt_world.specs.Held.{held_world, StandsForWorld, IsReached, AreWorkers, AreInboxes}
 
 module _ {S P K : Type 0} where
   -- one more worker
@@ -51,11 +50,11 @@ module _ {M S P K : Type 0} (handlers : Handlers S P K) (model : M) (config : Co
     (parts : StandForParts (simulation_of handlers config) 0 (map (part_memory handlers) workers) (map (opening_part (simulation_of handlers config) serial) (range_with_len 0 config.workers)))
     (boxes : inboxes ≡ replicate config.workers []) (board_is : board ≡ opening_board config.workers (end_of config)) (book_is : book ≡ opening_book config.workers) where
   -- these stand for the opening world
-  pub stands-opening : StandsForWorld handlers (inside_view model config workers inboxes board book) (opening_world (simulation_of handlers config) serial)
+  pub stands-opening : StandsForWorld handlers (held_world model config workers inboxes board book) (opening_world (simulation_of handlers config) serial)
   unfolding opening_world
   stands-opening = record { parts = parts; inboxes = sym boxes; board = sym board_is; book = sym book_is }
 
   -- which is reached by no step
-  pub reached-opening : ∥ ((first : ℕ) × IsReached handlers first (inside_view model config workers inboxes board book)) ∥₁
+  pub reached-opening : ∥ ((first : ℕ) × IsReached handlers first (held_world model config workers inboxes board book)) ∥₁
   unfolding run
   reached-opening = ∣ (serial, ([], stands-opening)) ∣₁

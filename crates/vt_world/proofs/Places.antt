@@ -13,8 +13,7 @@ use Rattle.vt_steps.specs.World.{Board, Book}
 use Rattle.vt_steps.specs.StandsFor.{GoesOn}
 use Rattle.vt_kernel.specs.Held.{HeldWorker, AllOwnMail, IsProcessOf}
 use Rattle.vt_kernel.proofs.SettlingLemmas.{put-there}
-use Rattle.vt_world.specs.Held.{HeldWorld, world_memory, AreWorkers, AreInboxes, IsWorldInside}
-use Rattle.vt_world.proofs.HeldLemmas.{inside_view}
+use Rattle.vt_world.specs.Held.{HeldWorld, held_world, world_memory, AreWorkers, AreInboxes, IsWorldInside}
 use Rattle.vt_world.proofs.WorldLemmas.{IsSame, worker-at, workers-changed}
 use Rattle.vt_world.proofs.WorldSteps.{who}
 use Rattle.vt_world.proofs.StepLemmas.{inside-stepped}
@@ -94,8 +93,8 @@ module _ {M S P K : Type 0} {handlers : Handlers S P K} {held : HeldWorld M S P 
 
   -- a step changes a worker
   pub inside-worker : (step : Step) (reply : Reply) (board : Board) (book : Book) {new_board_end new_book_end : Time} → new_board_end ≡ board_end → new_book_end ≡ book_end
-      → GoesOn (simulation_of handlers held.config) step (Ok reply) (world_memory handlers held) (world_memory handlers (inside_view held.model held.config (slice_set held.workers w new) held.inboxes board book))
-      → IsWorldInside handlers (inside_view held.model held.config (slice_set held.workers w new) held.inboxes board book) new_board_end new_book_end
+      → GoesOn (simulation_of handlers held.config) step (Ok reply) (world_memory handlers held) (world_memory handlers (held_world held.model held.config (slice_set held.workers w new) held.inboxes board book))
+      → IsWorldInside handlers (held_world held.model held.config (slice_set held.workers w new) held.inboxes board book) new_board_end new_book_end
   inside-worker step reply board book same_board same_book goes =
       inside-stepped inside step reply (slice_set held.workers w new) held.inboxes board book (length-set held.workers w new) are-workers
       refl inside.own_inboxes same_board same_book goes

@@ -81,12 +81,8 @@ module _ {S P : Type 0} (sim : Simulation S P) where
         ]
 
     -- what a fault comes to in a list of steps
-    pub passed-goes : (fault : Fault) (result : Result ℕ Fault) → IsStepOf sim step old new (Err fault)
-        → IfOk result (λ more. (more ≡ 1) × ((fault ≡ NotLawful) ⊎ (fault ≡ Closed))) → IfOk result (IsAnsweredBy sim step old new)
-    passed-goes fault (Ok more) is h = subst (IsAnsweredBy sim step old new) (sym h.0) (answered-err fault is h.1)
-    passed-goes fault (Err why) is h = tt
-
-    pub passed-spent : (fault : Fault) (result : Result ℕ Fault) → IsStepOf sim step old new (Err fault)
-        → IfErr result (λ why. (why ≡ fault) × (fault ≡ NotLawful → ⊥) × (fault ≡ Closed → ⊥)) → IfErr result (IsSpent sim step old)
-    passed-spent fault (Ok more) is h = tt
-    passed-spent fault (Err why) is h = subst (IsSpent sim step old) (sym h.0) (spent-err fault is.1 h.1 h.2)
+    pub passed : (fault : Fault) (result : Result ℕ Fault) → IsStepOf sim step old new (Err fault)
+        → IfOk result (λ more. (more ≡ 1) × ((fault ≡ NotLawful) ⊎ (fault ≡ Closed))) → IfErr result (λ why. (why ≡ fault) × (fault ≡ NotLawful → ⊥) × (fault ≡ Closed → ⊥))
+        → IfOk result (IsAnsweredBy sim step old new) × IfErr result (λ why. IsSpent sim step old why × (new ≡ old))
+    passed fault (Ok more) is over stops = (subst (IsAnsweredBy sim step old new) (sym over.0) (answered-err fault is over.1), tt)
+    passed fault (Err why) is over stops = (tt, (subst (IsSpent sim step old) (sym stops.0) (spent-err fault is.1 stops.1 stops.2), is.0))

@@ -14,8 +14,7 @@ use Rattle.vt_steps.specs.StandsFor.{GoesOn}
 use Rattle.vt_steps.proofs.steps.MemoryLemmas.{still_reached}
 use Rattle.vt_kernel.specs.Held.{HeldWorker}
 use Rattle.vt_kernel.specs.Refusals.{PassesLimit, IsStepRefusal}
-use Rattle.vt_world.specs.Held.{HeldWorld, world_memory, StandsForWorld, IsHeldStepOf, AreWorkers, AreInboxes, IsWorldInside}
-use Rattle.vt_world.proofs.HeldLemmas.{inside_view}
+use Rattle.vt_world.specs.Held.{HeldWorld, held_world, world_memory, StandsForWorld, IsHeldStepOf, AreWorkers, AreInboxes, IsWorldInside}
 
 module _ {M S P K : Type 0} (meaning : M → Handlers S P K) {held seen : HeldWorld M S P K} (seen_is : held ≡ seen) where
   -- a step is done
@@ -69,8 +68,8 @@ module _ {M S P K : Type 0} {handlers : Handlers S P K} {held : HeldWorld M S P 
   pub inside-stepped : (step : Step) (reply : Reply) (workers : List (HeldWorker S P K)) (inboxes : List (List (Mail P))) (board : Board) (book : Book) {new_board_end new_book_end : Time}
       → length workers ≡ length held.workers → AreWorkers held.config 0 workers → length inboxes ≡ length held.inboxes → AreInboxes held.config 0 inboxes
       → new_board_end ≡ board_end → new_book_end ≡ book_end
-      → GoesOn (simulation_of handlers held.config) step (Ok reply) (world_memory handlers held) (world_memory handlers (inside_view held.model held.config workers inboxes board book))
-      → IsWorldInside handlers (inside_view held.model held.config workers inboxes board book) new_board_end new_book_end
+      → GoesOn (simulation_of handlers held.config) step (Ok reply) (world_memory handlers held) (world_memory handlers (held_world held.model held.config workers inboxes board book))
+      → IsWorldInside handlers (held_world held.model held.config workers inboxes board book) new_board_end new_book_end
   inside-stepped step reply workers inboxes board book many are boxes own same_board same_book goes = record {
     all_workers = many ∙ inside.all_workers;
     own_workers = are;
@@ -81,7 +80,7 @@ module _ {M S P K : Type 0} {handlers : Handlers S P K} {held : HeldWorld M S P 
     is_reached = ∥∥₁_map inside.is_reached (λ x. (
       x.0,
       still_reached (simulation_of handlers held.config) x.0 step (Ok reply) (world_memory handlers held)
-          (world_memory handlers (inside_view held.model held.config workers inboxes board book)) goes x.1,
+          (world_memory handlers (held_world held.model held.config workers inboxes board book)) goes x.1,
     ));
   }
 

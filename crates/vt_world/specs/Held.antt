@@ -27,6 +27,10 @@ pub record HeldWorld (M S P K : Type 0) : Type 0 where
   pub board : Board
   pub book : Book
 
+-- one with these fields
+abbrev pub held_world : {M S P K : Type 0} → M → Config → List (HeldWorker S P K) → List (List (Mail P)) → Board → Book → HeldWorld M S P K
+held_world model config workers inboxes board book = record { model = model; config = config; workers = workers; inboxes = inboxes; board = board; book = book }
+
 module _ {M S P K : Type 0} (handlers : Handlers S P K) where
   -- what it is as memory of a world of the definitions
   abbrev pub world_memory : HeldWorld M S P K → WorldMemory S P

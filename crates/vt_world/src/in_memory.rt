@@ -32,27 +32,13 @@ pub(crate) struct InMemory<'m, M: EventModel> {
 }
 
 impl<'m, M: EventModel> Model for InMemory<'m, M> {
-    ghost use Rattle.vt_world.specs.Held.{HeldWorld, IsWorldInside};
+    ghost use Rattle.vt_world.specs.Held.{HeldWorld, held_world, IsWorldInside};
 
     ghost Value = { HeldWorld M M.State M.Payload M.Kept };
 
-    ghost view = { λ w. record {
-      model = w.model.now;
-      config = w.config;
-      workers = w.kernels.items;
-      inboxes = w.inboxes.items;
-      board = w.board.board;
-      book = w.book.book;
-    } };
+    ghost view = { λ w. held_world w.model.now w.config w.kernels.items w.inboxes.items w.board.board w.book.book };
 
-    ghost invariant = { λ w. IsWorldInside (M.handlers w.model.now) (record {
-      model = w.model.now;
-      config = w.config;
-      workers = w.kernels.items;
-      inboxes = w.inboxes.items;
-      board = w.board.board;
-      book = w.book.book;
-    }) w.board.end w.book.end };
+    ghost invariant = { λ w. IsWorldInside (M.handlers w.model.now) (held_world w.model.now w.config w.kernels.items w.inboxes.items w.board.board w.book.book) w.board.end w.book.end };
 }
 
 impl<'m, M: EventModel> InMemory<'m, M> {

@@ -8,7 +8,7 @@ ghost use Rattle.vt_model.specs.Simulation.{simulation_of};
 ghost use Rattle.vt_steps.specs.World.{opening_part, opening_world};
 ghost use Rattle.vt_steps.specs.StandsFor.{StandForParts};
 ghost use Rattle.vt_kernel.specs.Held.{part_memory};
-ghost use Rattle.vt_world.specs.Held.{AreWorkers, StandsForWorld};
+ghost use Rattle.vt_world.specs.Held.{AreWorkers};
 ghost use Rattle.vt_world.specs.Answers.{DoStartsFit, PassesAtStart, IsOpeningRefusal};
 
 use crate::in_memory::InMemory;
@@ -83,35 +83,20 @@ fn open<'m, M: EventModel>(
     ensures made { IfOk result (λ world. (world.model ≡ model.now) × (world.config ≡ config)) }
     ensures refused { IfErr result (λ fault. fault ≡ Memory) }
 {
-    let memory = open_memory(alloc, model, config, serial)?;
-    Ok(World {
-        memory,
-        serial,
-        steps: Seen::picked(),
-    })
-}
-
-/// The opening world in memory.
-fn open_memory<'m, M: EventModel>(
-    alloc: Global,
-    model: &'m M,
-    config: Config,
-    serial: u64,
-) -> Result<InMemory<'m, M>, Fault>
-    requires fits { DoStartsFit (simulation_of (M.handlers model.now) config) serial }
-    ensures opening { IfOk result (λ memory. StandsForWorld (M.handlers memory.model) memory (opening_world (simulation_of (M.handlers memory.model) memory.config) serial)) }
-    ensures made { IfOk result (λ memory. (memory.model ≡ model.now) × (memory.config ≡ config)) }
-    ensures refused { IfErr result (λ fault. fault ≡ Memory) }
-{
     let kernels = open_workers(alloc, model, config, serial)?;
     let inboxes = open_inboxes(alloc, config.workers)?;
-    Ok(InMemory {
+    let memory = InMemory {
         model,
         config,
         kernels,
         inboxes,
         board: Board::new(config.workers, config.end()),
         book: Book::new(alloc, config.workers, config.end()),
+    };
+    Ok(World {
+        memory,
+        serial,
+        steps: Seen::picked(),
     })
 }
 

@@ -1,12 +1,10 @@
 use Rattle.std.proofs.Common.{rules, refl}
 use Rattle.vt_key.specs.declared.fault.Fault.TheVariants.{NotLawful}
 use Rattle.vt_steps.specs.declared.step.Step.TheVariants.{Accept}
-use Rattle.vt_steps.specs.declared.step.Reply.TheVariants.{Done}
 use Rattle.vt_kernel.specs.Guards.{IsDone}
-use Rattle.vt_world.proofs.StepLemmas.{step-done, step-refused, step-left, inside-same}
+use Rattle.vt_world.proofs.StepLemmas.{step-refused, step-left}
 use Rattle.vt_world.proofs.Places.{worker-there, put-back}
-use Rattle.vt_world.proofs.WorldLemmas.{local-done}
-use Rattle.vt_world.proofs.LocalLemmas.{accept-why, inside-local, at-place}
+use Rattle.vt_world.proofs.LocalLemmas.{accept-why, does-locally, inside-local, inside-kept, at-place}
 use Rattle.vt_world.proofs.WorldSteps.{accept-nobody}
 use Rattle.vt_world.proofs.in_memory.InMemory.accept.Goals as goal
 
@@ -16,7 +14,7 @@ returns-then-w-self g c = step-left g.M.Model.handlers c.self.view_is (Accept c.
 pub invariant_of-self : goal.invariant_of-self
 invariant_of-self g c =
     let at = worker-there c.self.invariant c.if-w-self.false c.index_mut.ensures.value in
-    inside-same c.self.invariant (put-back c.self.invariant _ at c.in_err-accept.ensures.kept refl) refl refl
+    inside-kept c.self.invariant _ at c.in_err-accept.ensures.kept
 
 pub returns-in_err-accept : goal.returns-in_err-accept
 returns-in_err-accept g c =
@@ -33,9 +31,7 @@ invariant_of-self-2 g c =
 
 pub returns : goal.returns
 returns g c =
-    let i = c.self.inside in
-    let m = i.model.now in
-    let H = g.M.Model.handlers m in
+    let H = g.M.Model.handlers c.self.inside.model.now in
     let at = worker-there c.self.invariant c.if-w-self.false c.index_mut.ensures.value in
-    step-done g.M.Model.handlers c.self.view_is _ (Accept c.args.w c.args.i) Done
-    (local-done c.self.invariant _ at (Accept c.args.w c.args.i) refl c.accept.new.self c.accept.ensures.same (at-place c.self.invariant _ at (λ v. Accept v c.args.i) (IsDone H c.accept.new.self) (c.in_ok-accept.ensures.done H))) refl refl (λ world h past. past)
+    does-locally g.M.Model.handlers c.self.view_is c.self.invariant _ at (Accept c.args.w c.args.i) refl c.accept.new.self c.accept.ensures.same
+    (at-place c.self.invariant _ at (λ v. Accept v c.args.i) (IsDone H c.accept.new.self) (c.in_ok-accept.ensures.done H)) (λ after h past. past)

@@ -2,14 +2,10 @@ use Rattle.std.proofs.Common.{rules, ◌≡◌, sym, refl}
 use Rattle.std.proofs.Math.Logic.{∥∥₁_elim}
 use Rattle.std.proofs.Props.{props}
 use base.Stored.{Coded-set}
-use Rattle.vt_model.specs.Simulation.{simulation_of}
 use Rattle.vt_steps.specs.declared.step.Step.TheVariants.{Execute}
-use Rattle.vt_steps.specs.declared.step.Reply.TheVariants.{Done}
-use Rattle.vt_steps.specs.Next.{next}
-use Rattle.vt_world.proofs.StepLemmas.{step-done, step-refused, inside-same}
+use Rattle.vt_world.proofs.StepLemmas.{step-refused}
 use Rattle.vt_world.proofs.Places.{worker-there, put-back}
-use Rattle.vt_world.proofs.WorldLemmas.{local-done}
-use Rattle.vt_world.proofs.LocalLemmas.{execute-why, inside-local, some-part}
+use Rattle.vt_world.proofs.LocalLemmas.{execute-why, does-locally, inside-local, inside-kept, some-part}
 use Rattle.vt_world.proofs.LimitLemmas.{execute-within}
 use Rattle.vt_world.proofs.in_memory.InMemory.execute.Goals as goal
 
@@ -18,7 +14,7 @@ invariant_of-self g c =
     let at = worker-there c.self.invariant c.owner-owner.ensures.known c.index_mut.ensures.value in
     let kept : c.execute.new.self ≡ c.index_mut.result.now =
     ∥∥₁_elim (some-part c.self.invariant _ at) (Prim.hlevel (props, Coded-set g.row.M-State.coded, Coded-set g.row.M-Payload.coded, Coded-set g.row.M-Kept.coded)) (λ f. c.in_err-execute.ensures.unchanged f.0 f.1) in
-    inside-same c.self.invariant (put-back c.self.invariant _ at kept refl) refl refl
+    inside-kept c.self.invariant _ at kept
 
 pub returns-in_err-execute : goal.returns-in_err-execute
 returns-in_err-execute g c =
@@ -35,12 +31,9 @@ invariant_of-self-2 g c =
 
 pub returns : goal.returns
 returns g c =
-    let i = c.self.inside in
-    let m = i.model.now in
     let new = c.execute.new.self in
     let same = c.execute.ensures.same in
     let own = sym c.owner-owner.ensures.value in
     let at = worker-there c.self.invariant c.owner-owner.ensures.known c.index_mut.ensures.value in
-    let done = local-done c.self.invariant _ at (Execute c.args.lp) own new same c.in_ok-execute.ensures.done in
-    step-done g.M.Model.handlers c.self.view_is _ (Execute c.args.lp) Done
-    done refl refl (λ world h. execute-within c.self.invariant _ at new same i.inboxes.items c.args.lp own c.in_ok-execute.ensures.counted (next (simulation_of (g.M.Model.handlers m) i.config) world (Execute c.args.lp)).world (done world h).1)
+    does-locally g.M.Model.handlers c.self.view_is c.self.invariant _ at (Execute c.args.lp) own new same c.in_ok-execute.ensures.done
+    (execute-within c.self.invariant _ at new same c.self.inside.inboxes.items c.args.lp own c.in_ok-execute.ensures.counted)

@@ -1,12 +1,10 @@
 use Rattle.std.proofs.Common.{rules, refl, ◌≡◌, None}
 use Rattle.vt_key.specs.declared.fault.Fault.TheVariants.{NotLawful}
 use Rattle.vt_steps.specs.declared.step.Step.TheVariants.{Home}
-use Rattle.vt_steps.specs.declared.step.Reply.TheVariants.{Done}
 use Rattle.vt_kernel.specs.Guards.{IsDone}
-use Rattle.vt_world.proofs.StepLemmas.{step-done, step-unlawful, step-left, inside-same}
-use Rattle.vt_world.proofs.Places.{worker-there, put-back}
-use Rattle.vt_world.proofs.WorldLemmas.{local-done}
-use Rattle.vt_world.proofs.LocalLemmas.{local-unlawful, inside-local, at-place}
+use Rattle.vt_world.proofs.StepLemmas.{step-left}
+use Rattle.vt_world.proofs.Places.{worker-there}
+use Rattle.vt_world.proofs.LocalLemmas.{does-locally, refuses-locally, inside-local, inside-kept, at-place}
 use Rattle.vt_world.proofs.WorldSteps.{home-nobody}
 use Rattle.vt_world.proofs.in_memory.InMemory.home.Goals as goal
 
@@ -16,15 +14,15 @@ returns-then-w-self g c = step-left g.M.Model.handlers c.self.view_is (Home c.ar
 pub invariant_of-self : goal.invariant_of-self
 invariant_of-self g c =
     let at = worker-there c.self.invariant c.if-w-self.false c.index_mut.ensures.value in
-    inside-same c.self.invariant (put-back c.self.invariant _ at c.in_err-home.ensures.kept.1 refl) refl refl
+    inside-kept c.self.invariant _ at c.in_err-home.ensures.kept.1
 
 pub returns-in_err-home : goal.returns-in_err-home
 returns-in_err-home g c =
     let H = g.M.Model.handlers c.self.inside.model.now in
     let at = worker-there c.self.invariant c.if-w-self.false c.index_mut.ensures.value in
     let why = c.in_err-home.ensures in
-    step-unlawful g.M.Model.handlers c.self.view_is _ (Home c.args.w) c.in_err-home.field-0.0 _ (search rules) (put-back c.self.invariant _ at why.kept.1 refl)
-    (local-unlawful c.self.invariant _ at (Home c.args.w) refl c.in_err-home.field-0.0 why.kept.0 (at-place c.self.invariant _ at Home (λ after. after ≡ None) (why.refused H)))
+    refuses-locally g.M.Model.handlers c.self.view_is c.self.invariant _ at (Home c.args.w) refl c.home.new.self c.in_err-home.field-0.0 _ (search rules) why.kept
+    (at-place c.self.invariant _ at Home (λ after. after ≡ None) (why.refused H))
 
 pub invariant_of-self-2 : goal.invariant_of-self-2
 invariant_of-self-2 g c =
@@ -34,9 +32,7 @@ invariant_of-self-2 g c =
 
 pub returns : goal.returns
 returns g c =
-    let i = c.self.inside in
-    let m = i.model.now in
-    let H = g.M.Model.handlers m in
+    let H = g.M.Model.handlers c.self.inside.model.now in
     let at = worker-there c.self.invariant c.if-w-self.false c.index_mut.ensures.value in
-    step-done g.M.Model.handlers c.self.view_is _ (Home c.args.w) Done
-    (local-done c.self.invariant _ at (Home c.args.w) refl c.home.new.self c.home.ensures.same (at-place c.self.invariant _ at Home (IsDone H c.home.new.self) (c.in_ok-home.ensures.done H))) refl refl (λ world h past. past)
+    does-locally g.M.Model.handlers c.self.view_is c.self.invariant _ at (Home c.args.w) refl c.home.new.self c.home.ensures.same
+    (at-place c.self.invariant _ at Home (IsDone H c.home.new.self) (c.in_ok-home.ensures.done H)) (λ after h past. past)
