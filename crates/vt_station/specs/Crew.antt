@@ -58,6 +58,10 @@ IsClosedAt {M} {P} jobs i = (job : AtJob M P) × (slice_get jobs i ≡ Some job)
 abbrev pub NoneClosed : {M P : Type 0} → List (AtJob M P) → Type 0
 NoneClosed jobs = All (λ j. j.outcome ≡ Some Closed → ⊥) jobs
 
+-- no worker before that of job i closed the book
+abbrev pub NoneClosedBefore : {M P : Type 0} → List (AtJob M P) → ℕ → Type 0
+NoneClosedBefore {M} {P} jobs i = (k : ℕ) (d : AtJob M P) → k < i → (slice_index_or jobs k d).outcome ≡ Some Closed → ⊥
+
 -- the fault that ended the work of one, or this one
 abbrev pub fault_or : Option Outcome → Fault → Fault
 fault_or (Some (Refused fault)) other = fault

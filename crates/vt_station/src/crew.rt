@@ -1,6 +1,6 @@
 //! A thread for each worker, and what comes of their work.
 
-ghost use Rattle.std.specs.Prelude.{◌≡◌, ◌<◌, ◌⊎◌, [], true, false, length, None, Some, IfOk, IfErr, IfSome, IfNone, MatchResult, Ok, Err, ◌*◌, ◌+◌};
+ghost use Rattle.std.specs.Prelude.{◌≡◌, ◌<◌, ◌⊎◌, [], true, false, length, None, Some, IfOk, IfErr, IfSome, IfNone, IsOkAnd, MatchResult, Ok, Err, ◌*◌, ◌+◌};
 ghost use Rattle.vt_key.specs.Times.{Time as TimeValue};
 ghost use Rattle.vt_model.specs.Simulation.{simulation_of};
 ghost use Rattle.vt_model.specs.Sequential.{seq_records, seq_finals};
@@ -8,11 +8,11 @@ ghost use Rattle.vt_model.specs.Settings.{end_of};
 ghost use Rattle.vt_key.specs.declared.fault.Fault.TheVariants.{Memory, Busy, TurnsSpent};
 ghost use Rattle.vt_steps.specs.Finals.{final_value};
 ghost use Rattle.vt_station.specs.declared.driver.Outcome.TheVariants.{Closed};
-ghost use Rattle.vt_station.specs.declared.driver.Wanted.TheVariants.{Finals};
+ghost use Rattle.vt_station.specs.declared.driver.Wanted.TheVariants.{Finals, Records};
 ghost use Rattle.vt_places.specs.Told.{station_model, station_config, station_table};
 ghost use Rattle.vt_places.specs.Making.{IsNew, AreNew};
 ghost use Rattle.vt_station.specs.Turns.{IsLasting};
-ghost use Rattle.vt_station.specs.Crew.{IsSameJob, IsSameWork, AllAt, AreInOrder, IsClosedAt, NoneClosed, first_fault, IsToldBy, IsStop};
+ghost use Rattle.vt_station.specs.Crew.{IsSameJob, IsSameWork, AllAt, AreInOrder, IsClosedAt, NoneClosed, NoneClosedBefore, first_fault, IsToldBy, IsStop};
 
 use crate::bell::{Bells, Start};
 use crate::driver::{Driver, Outcome, Wanted};
@@ -244,9 +244,10 @@ fn has_closed_book(outcome: Option<Outcome>) -> bool
     }
 }
 
-/// A job whose worker closed the book, if there is one.
+/// The first job whose worker closed the book, if there is one.
 fn closer_of<M: EventModel>(jobs: &[Job<'_, M>]) -> Option<usize>
     ensures some { IfSome result (IsClosedAt jobs.now) }
+    ensures first { IfSome result (NoneClosedBefore jobs.now) }
     ensures none { IfNone result (NoneClosed jobs.now) }
 {
     for i in 0..jobs.len() {
@@ -351,6 +352,7 @@ fn finals_of<M: EventModel>(
     requires told { AllAt model.now config jobs.now }
     requires order { AreInOrder jobs.now }
     ensures finals { wanted ≡ Finals → IfOk result (λ v. v.items ≡ seq_finals (simulation_of (M.handlers model.now) config)) }
+    ensures none { wanted ≡ Records → IsOkAnd result (λ v. v.items ≡ []) }
     ensures refused { IfErr result (λ fault. fault ≡ Memory) }
 {
     match wanted {

@@ -14,6 +14,9 @@ returns-then-has_closed_book-clause-some g c =
       ap (λ (j : AtJob g.row.M.Denot g.row.M-Payload.Denot). j.outcome) (sym c.job.view_is) ∙ c.has_closed_book.ensures.closed c.if-has_closed_book.true,
     )
 
+pub returns-then-has_closed_book-clause-first : goal.returns-then-has_closed_book-clause-first
+returns-then-has_closed_book-clause-first g c = c.loop-i.invariant
+
 pub loop-i-preserved : goal.loop-i-preserved
 loop-i-preserved g c = λ k d below closed.
     let lookup = c.in-Some.ensures.lookup in
