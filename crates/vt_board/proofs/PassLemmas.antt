@@ -8,32 +8,19 @@ use Rattle.std.proofs.lemmas.List.Sums.{sum_by-append, sum_by-cons}
 use Rattle.vt_key.specs.Times.{Time, TimeAtMost, time_at_most, earlier}
 use Rattle.vt_steps.specs.declared.step.Reply.TheVariants.{Waiting, Again, Announced}
 use Rattle.vt_steps.specs.World.{Board}
-use Rattle.vt_steps.specs.BoardSteps.{all_set, is_clear, with_report, after_pass, board_after_report, report_reply}
+use Rattle.vt_steps.specs.BoardSteps.{all_set, is_clear, with_new_pass, with_announcement, with_report, BoardEffect, after_report}
+use Rattle.vt_steps.proofs.steps.Outcomes.{after_report-either}
 use Rattle.vt_steps.proofs.time.Flags.{set-at}
 use Rattle.vt_steps.proofs.lists.Places.{get-put_same, get-put_other, get-within}
-use Rattle.vt_board.specs.BoardOfRun.{with_new_pass}
-use Rattle.vt_board.specs.Passes.{WorkerReport, with_one_more, reply_to, board_after, board_after_all, AreAwaited, least_reported, times_reported, all_sent, all_got, ArePassesClosedBySums}
+use Rattle.vt_board.specs.Passes.{WorkerReport, with_one_more, heard, board_after_all, AreAwaited, least_reported, times_reported, all_sent, all_got, ArePassesClosedBySums}
 
 -- ---- one report
 
--- others are awaited where some flag is clear
-awaits : (all equal : Bool) (time : Time) → (if all then (if equal then Announced time else Again) else Waiting) ≡ Waiting → all ≡ false
-awaits true true time e = absurd (let h : Announced time ≡ Waiting = e in cc)
-awaits true false time e = absurd (let h : Again ≡ Waiting = e in cc)
-awaits false equal time e = refl
-
--- then the pass goes on
-goes_on : (end : Time) (board : Board) (report : WorkerReport) → reply_to board report ≡ Waiting → board_after end board report ≡ with_one_more board report
-unfolding report_reply board_after_report
-goes_on end board report e =
-    let new = with_one_more board report in
-    let unset : all_set new.has_reported ≡ false = awaits (all_set new.has_reported) (nat_eq new.sent new.got) new.least e in
-    ap (λ (all : Bool). if all then after_pass end new else new) unset
-
--- else all have reported
-closes : (all equal : Bool) (time : Time) → ((if all then (if equal then Announced time else Again) else Waiting) ≡ Waiting → ⊥) → all ≡ true
-closes true equal time closing = refl
-closes false equal time closing = absurd (closing refl)
+-- where others are awaited the pass goes on
+goes_on : (end : Time) (board : Board) (report : WorkerReport) → (heard end board report).reply ≡ Waiting → (heard end board report).board ≡ with_one_more board report
+goes_on end board report =
+    after_report-either end (with_one_more board report) (λ effect. effect.reply ≡ Waiting → effect.board ≡ with_one_more board report)
+    (λ some e. refl) (λ all same e. absurd (let h : Announced _ ≡ Waiting = e in cc)) (λ all apart e. absurd (let h : Again ≡ Waiting = e in cc))
 
 -- a report that is taken is its worker's first one in the pass
 first : (is_open all : Bool) (flag : Option Bool) (late : Bool) → (is_open && (all && (is_clear flag && late))) ≡ true → flag ≡ Some false
@@ -126,9 +113,9 @@ along end board [] in_time awaited =
 along end board (report ∷ reports) in_time awaited =
     let clear = first board.is_open (all_set board.has_cut) (slice_get board.has_reported report.worker) (time_at_most board.announced report.least) awaited.0 in
     let same = goes_on end board report awaited.1 in
-    along-cons end board report reports (board_after_all end (board_after end board report) reports) clear
-    (subst (λ (next : Board). IsAlong end next reports (board_after_all end (board_after end board report) reports)) same
-    (along end (board_after end board report) reports (subst (λ (next : Board). TimeAtMost next.least end) (sym same) (later end board report in_time)) awaited.2))
+    along-cons end board report reports (board_after_all end (heard end board report).board reports) clear
+    (subst (λ (next : Board). IsAlong end next reports (board_after_all end (heard end board report).board reports)) same
+    (along end (heard end board report).board reports (subst (λ (next : Board). TimeAtMost next.least end) (sym same) (later end board report in_time)) awaited.2))
 
 -- ---- the last report
 
@@ -164,27 +151,17 @@ along-last end board reports last after clear before =
 
 -- where all have reported, equal sums announce the least value and end the round
 announces : (end : Time) (board : Board) → all_set board.has_reported ≡ true → board.sent ≡ board.got →
-    (report_reply board ≡ Announced board.least) × (board_after_report end board ≡ record board { announced = board.least; is_open = false })
-unfolding report_reply board_after_report after_pass
-announces end board full same =
-    let equal : nat_eq board.sent board.got ≡ true = eq-eqb board.sent board.got same in (
-      ap (λ (all : Bool). if all then (if nat_eq board.sent board.got then Announced board.least else Again) else Waiting) full
-          ∙ ap (λ (sums : Bool). if sums then Announced board.least else Again) equal,
-      ap (λ (all : Bool). if all then after_pass end board else board) full
-          ∙ ap (λ (sums : Bool). if sums then record board { announced = board.least; is_open = false } else with_new_pass end board) equal,
-    )
+    after_report end board ≡ record { board = with_announcement board; reply = Announced board.least }
+announces end board full equal =
+    after_report-either end board (λ effect. effect ≡ record { board = with_announcement board; reply = Announced board.least })
+    (λ some. absurd (let h : true ≡ false = sym full ∙ some in cc)) (λ all same. refl) (λ all apart. absurd (apart equal))
 
 -- and others begin a new pass
-begins_again : (end : Time) (board : Board) → all_set board.has_reported ≡ true → (board.sent ≡ board.got → ⊥) →
-    (report_reply board ≡ Again) × (board_after_report end board ≡ with_new_pass end board)
-unfolding report_reply board_after_report after_pass
-begins_again end board full apart =
-    let unequal : nat_eq board.sent board.got ≡ false = elim (eqb_tells board.sent board.got) [ inl e ↦ absurd (apart e.1) | inr e ↦ e.0 ] in (
-      ap (λ (all : Bool). if all then (if nat_eq board.sent board.got then Announced board.least else Again) else Waiting) full
-          ∙ ap (λ (sums : Bool). if sums then Announced board.least else Again) unequal,
-      ap (λ (all : Bool). if all then after_pass end board else board) full
-          ∙ ap (λ (sums : Bool). if sums then record board { announced = board.least; is_open = false } else with_new_pass end board) unequal,
-    )
+begins_again : (end : Time) (board : Board) → all_set board.has_reported ≡ true → ¬ (board.sent ≡ board.got) →
+    after_report end board ≡ record { board = with_new_pass end board; reply = Again }
+begins_again end board full unequal =
+    after_report-either end board (λ effect. effect ≡ record { board = with_new_pass end board; reply = Again })
+    (λ some. absurd (let h : true ≡ false = sym full ∙ some in cc)) (λ all same. absurd (unequal same)) (λ all apart. refl)
 
 -- boards that differ in a pass alone have the same new pass
 same-new_pass : (end : Time) (a b : Board) → a.announced ≡ b.announced → a.is_open ≡ b.is_open → a.has_cut ≡ b.has_cut → length a.has_reported ≡ length b.has_reported → a.rounds ≡ b.rounds →
@@ -213,11 +190,10 @@ counted-full flags w full within =
     ap counted there.1 ∙ ap weight (set-at flags w there.0 full there.1)
 
 -- a report after which none is awaited is the last one
-full-by : (end : Time) (board : Board) (report : WorkerReport) → (reply_to board report ≡ Waiting → ⊥) → all_set (with_one_more board report).has_reported ≡ true
-unfolding report_reply
-full-by end board report closing =
-    let new = with_one_more board report in
-    closes (all_set new.has_reported) (nat_eq new.sent new.got) new.least closing
+full-by : (end : Time) (board : Board) (report : WorkerReport) → ¬ ((heard end board report).reply ≡ Waiting) → all_set (with_one_more board report).has_reported ≡ true
+full-by end board report =
+    after_report-either end (with_one_more board report) (λ effect. ¬ (effect.reply ≡ Waiting) → all_set (with_one_more board report).has_reported ≡ true)
+    (λ some closing. absurd (closing refl)) (λ all same closing. all) (λ all apart closing. all)
 
 -- the least reported time is at most the end
 least-most : (end : Time) (reports : List WorkerReport) → TimeAtMost (least_reported end reports) end
@@ -245,8 +221,8 @@ closed_by_sums end board reports last pass =
           omega (arith, none, one, whole.flags w));
       equal = λ same.
           (let done = announces end after full (omega (arith, same, whole.sent, whole.got, sent, got)) in
-          (done.0 ∙ ap Announced time, ap (λ (b : Board). b.announced) done.1 ∙ time, ap (λ (b : Board). b.is_open) done.1));
+          (ap (λ (e : BoardEffect). e.reply) done ∙ ap Announced time, ap (λ (e : BoardEffect). e.board.announced) done ∙ time, ap (λ (e : BoardEffect). e.board.is_open) done));
       unequal = λ apart.
           (let done = begins_again end after full (λ (same : after.sent ≡ after.got). apart (omega (arith, same, whole.sent, whole.got, sent, got))) in
-          (done.0, done.1 ∙ same-new_pass end after board whole.announced whole.is_open whole.has_cut whole.size whole.rounds ∙ sym pass.begun));
+          (ap (λ (e : BoardEffect). e.reply) done, ap (λ (e : BoardEffect). e.board) done ∙ same-new_pass end after board whole.announced whole.is_open whole.has_cut whole.size whole.rounds ∙ sym pass.begun));
     }

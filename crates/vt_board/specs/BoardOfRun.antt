@@ -1,5 +1,5 @@
 -- What contracts see of a board, and what holds of every one.
-use Rattle.std.specs.Prelude.{◌≡◌, ℕ, ◌-◌, ◌*◌, ◌^◌, ◌≤◌, Bool, false, List, length, replicate}
+use Rattle.std.specs.Prelude.{◌≡◌, ℕ, ◌-◌, ◌*◌, ◌^◌, ◌≤◌, Bool, List, length}
 use Rattle.std.specs.List.{count_by}
 use Rattle.vt_key.specs.Times.{Time, TimeAtMost}
 use Rattle.vt_key.specs.declared.limits.TheConstants.{MAX_COUNT, MAX_WORKERS}
@@ -21,11 +21,6 @@ opening_run workers end = record { end = end; board = opening_board workers end 
 -- the same run, with so many rounds behind it
 abbrev pub after_rounds : ℕ → BoardOfRun → BoardOfRun
 after_rounds rounds run = record run { board = record run.board { rounds = rounds } }
-
--- a board with a new pass begun: nobody has reported in it
-abbrev pub with_new_pass : Time → Board → Board
-with_new_pass end board =
-    record board { has_reported = replicate (length board.has_reported) false; sent = 0; got = 0; least = end }
 
 -- the most that the counts of these reporters can sum to: each is below 2^64
 abbrev pub most_summed : List Bool → ℕ

@@ -4,8 +4,8 @@ ghost use Rattle.std.specs.Prelude.{◌≡◌, ◌<◌, ◌≤◌, true, false, 
 ghost use Rattle.vt_key.specs.Times.{TimeAtMost, at};
 ghost use Rattle.vt_key.specs.declared.fault.Fault.TheVariants.{NotLawful};
 ghost use Rattle.vt_key.specs.declared.limits.TheConstants.{MAX_COUNT, MAX_END, MAX_WORKERS};
-ghost use Rattle.vt_steps.specs.BoardSteps.{all_set, is_clear, with_open_round, with_report, after_pass, board_after_report, report_reply};
-ghost use Rattle.vt_board.specs.BoardOfRun.{with_board, opening_run, after_rounds, with_new_pass};
+ghost use Rattle.vt_steps.specs.BoardSteps.{all_set, is_clear, with_new_pass, with_open_round, with_report, after_report};
+ghost use Rattle.vt_board.specs.BoardOfRun.{with_board, opening_run, after_rounds};
 ghost use Rattle.vt_board.specs.Calls.{cut_outcome, takes_report, reply_of};
 
 use crate::worker_set::WorkerSet;
@@ -137,7 +137,7 @@ impl Board {
         self.announced
     }
 
-    #[tactic(auto, unfolding(vt_steps::specs::BoardSteps::with_report, vt_steps::specs::BoardSteps::board_after_report, vt_steps::specs::BoardSteps::report_reply))]
+    #[tactic(auto, unfolding(vt_steps::specs::BoardSteps::with_report, vt_steps::specs::BoardSteps::after_report))]
     /// Worker `w` reports how much mail of the old colour it has ever sent and got, and a least time. That
     /// is the least of all that it has and of all that it sent since its cut. The last report closes the pass.
     ///
@@ -146,8 +146,8 @@ impl Board {
     /// nothing.
     pub fn report(&mut self, w: u32, sent: u64, got: u64, least: When) -> Result<Report, Fault>
         ensures lawful { is_ok result ≡ takes_report self.old.end w least self.old.board }
-        ensures reported { OnOk result (self.new ≡ with_board self.old (board_after_report self.old.end (with_report w sent got least self.old.board))) }
-        ensures answer { IfOk result (λ report. reply_of report ≡ report_reply (with_report w sent got least self.old.board)) }
+        ensures reported { OnOk result (self.new ≡ with_board self.old (after_report self.old.end (with_report w sent got least self.old.board)).board) }
+        ensures answer { IfOk result (λ report. reply_of report ≡ (after_report self.old.end (with_report w sent got least self.old.board)).reply) }
         ensures never_falls { TimeAtMost self.old.board.announced self.new.board.announced }
         ensures refused { IfErr result (λ fault. fault ≡ NotLawful) }
         ensures kept { OnErr result (self.new ≡ self.old) }
@@ -210,12 +210,12 @@ impl Board {
         self.least = self.least.earlier(least);
     }
 
-    #[tactic(auto, unfolding(vt_steps::specs::BoardSteps::after_pass, vt_steps::specs::BoardSteps::report_reply))]
+    #[tactic(auto, unfolding(vt_steps::specs::BoardSteps::after_report))]
     /// Closes a pass in which all have reported.
     fn close_pass(&mut self) -> Report
         requires all { all_set self.old.board.has_reported ≡ true }
-        ensures closed { self.new ≡ with_board self.old (after_pass self.old.end self.old.board) }
-        ensures answer { reply_of result ≡ report_reply self.old.board }
+        ensures closed { self.new ≡ with_board self.old (after_report self.old.end self.old.board).board }
+        ensures answer { reply_of result ≡ (after_report self.old.end self.old.board).reply }
         ensures never_falls { TimeAtMost self.old.board.announced self.new.board.announced }
     {
         if self.sent != self.got {

@@ -15,7 +15,7 @@ use Rattle.vt_steps.specs.declared.step.Reply.TheVariants.{Done}
 use Rattle.vt_steps.specs.Letters.{count_of, least_time}
 use Rattle.vt_steps.specs.World.{Part, Board}
 use Rattle.vt_steps.specs.PartSteps.{part_after_cut, report_sent, report_got, report_least}
-use Rattle.vt_steps.specs.BoardSteps.{cut_board, may_report, with_report, board_after_report, report_reply}
+use Rattle.vt_steps.specs.BoardSteps.{cut_board, may_report, with_report, after_report}
 use Rattle.vt_steps.specs.Cells.{on_board, Acted}
 use Rattle.vt_steps.proofs.lists.Tests.{both_pass}
 use Rattle.vt_board.specs.Calls.{counted, cut_outcome, takes_report}
@@ -102,15 +102,16 @@ module _ {S P K : Type 0} (handlers : Handlers S P K) (w : ℕ) (old new : HeldW
   module _ {sent got : ℕ} {least : Time} (sent_is : sent ≡ count_of old.sent (other_colour old.colour)) (got_is : got ≡ count_of old.got (other_colour old.colour))
       (least_is : least ≡ earlier old.red_minimum (least_time (end_of old.config) (held_letters old))) where
     -- a report that the board takes
-    pub report-done : takes_report end w least board ≡ true → left ≡ board_after_report end (with_report w sent got least board)
-        → {reply : Reply} → reply ≡ report_reply (with_report w sent got least board) → {announced : Time} → announced ≡ left.announced → new.worker ≡ old.worker → new.config ≡ old.config
+    pub report-done : takes_report end w least board ≡ true → left ≡ (after_report end (with_report w sent got least board)).board
+        → {reply : Reply} → reply ≡ (after_report end (with_report w sent got least board)).reply → {announced : Time} → announced ≡ left.announced → new.worker ≡ old.worker → new.config ≡ old.config
         → ((part : Part P) → StandsFor handlers old part → StandsFor handlers new (record part { floor = announced }))
         → IsCellStepOf handlers old.config (Report w) old new (on_board board) (on_board left) (Ok reply)
     report-done takes board_is {reply} reply_is said same_worker same_config stands =
         let sim = simulation_of handlers old.config in
         let with_its = with_report w sent got least board in
         let may : may_report w least board ≡ true = (both_pass (may_report w least board) (time_at_most least end) takes).0 in
-        let left_is : left ≡ board_after_report (end_of old.config) with_its = board_is ∙ ap (λ t. board_after_report t with_its) same_end in
+        let left_is : left ≡ (after_report (end_of old.config) with_its).board = board_is ∙ ap (λ t. (after_report t with_its).board) same_end in
+        let replied : reply ≡ (after_report (end_of old.config) with_its).reply = reply_is ∙ ap (λ t. (after_report t with_its).reply) same_end in
         record {
           done = record {
             acts = λ part s.
@@ -121,7 +122,7 @@ module _ {S P K : Type 0} (handlers : Handlers S P K) (w : ℕ) (old new : HeldW
                   record part { floor = left.announced },
                   act-report sim w part board (ap (λ t. may_report w t board) (sym value) ∙ may)
                       ∙ ap (act_report sim part) same
-                      ∙ (λ i. (let a : Acted P = record { part = record part { floor = (sym left_is i).announced }; cell = on_board (sym left_is i); answer = Ok (sym reply_is i) } in a)),
+                      ∙ (λ i. (let a : Acted P = record { part = record part { floor = (sym left_is i).announced }; cell = on_board (sym left_is i); answer = Ok (sym replied i) } in a)),
                   subst (λ t. StandsFor handlers new (record part { floor = t })) said (stands part s),
                 ));
             worker = same_worker;

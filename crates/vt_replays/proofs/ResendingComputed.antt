@@ -3,7 +3,7 @@ use Rattle.std.proofs.Common.{refl}
 use Rattle.vt_steps.specs.World.{opening_world}
 use Rattle.vt_steps.specs.ProcessSteps.{effect_of_execute, effect_of_undo, cancel_process, accept_process}
 use Rattle.vt_steps.specs.PartSteps.{part_after_send, mail_of_send, part_after_fetch, part_after_cut, part_after_commit, rows_of_commit}
-use Rattle.vt_steps.specs.BoardSteps.{with_open_round, with_report, after_pass, board_after_report, report_reply}
+use Rattle.vt_steps.specs.BoardSteps.{with_open_round, with_report, after_report}
 use Rattle.vt_steps.specs.BookSteps.{with_rows}
 use Rattle.vt_steps.specs.CellSteps.{send, fetch, cut, report, commit, close}
 use Rattle.vt_steps.specs.Next.{next, run, answers}
@@ -13,5 +13,5 @@ use Rattle.vt_replays.specs.Resending.{resending, waiting_least, waiting_least_s
 
 -- it is answered as listed
 pub waiting : Replays resending waiting_least waiting_least_shown
-unfolding opening_world effect_of_execute effect_of_undo cancel_process accept_process part_after_send mail_of_send part_after_fetch part_after_cut part_after_commit rows_of_commit with_open_round with_report after_pass board_after_report report_reply with_rows send fetch cut report commit close next run answers key_before key_same stamp_before stamp_same rank_before rank_same
+unfolding opening_world effect_of_execute effect_of_undo cancel_process accept_process part_after_send mail_of_send part_after_fetch part_after_cut part_after_commit rows_of_commit with_open_round with_report after_report with_rows send fetch cut report commit close next run answers key_before key_same stamp_before stamp_same rank_before rank_same
 waiting = record { answered = refl; shows = refl }

@@ -15,19 +15,23 @@ all_set flags = list_all (λ flag. flag) flags
 abbrev pub is_clear : Option Bool → Bool
 is_clear flag = option_map_or not flag false
 
--- the board with a round open: the one that is, or a new one, in which nobody has cut or reported
+-- the board with a new pass, in which nobody has reported
+abbrev pub with_new_pass : Time → Board → Board
+with_new_pass end board =
+    record board { has_reported = replicate (length board.has_reported) false; sent = 0; got = 0; least = end }
+
+-- the board with a new round, in which nobody has cut, and with the round's first pass
+abbrev pub with_new_round : Time → Board → Board
+with_new_round end board =
+    with_new_pass end (record board { is_open = true; has_cut = replicate (length board.has_cut) false; rounds = board.rounds + 1 })
+
+-- the board with the least so far announced, which ends the round
+abbrev pub with_announcement : Board → Board
+with_announcement board = record board { announced = board.least; is_open = false }
+
+-- the board with a round open: the one that is, or a new one
 unfoldable pub with_open_round : Time → Board → Board
-with_open_round end board =
-    if board.is_open then board
-    else record board {
-      is_open = true;
-      has_cut = replicate (length board.has_cut) false;
-      has_reported = replicate (length board.has_cut) false;
-      sent = 0;
-      got = 0;
-      least = end;
-      rounds = board.rounds + 1;
-    }
+with_open_round end board = if board.is_open then board else with_new_round end board
 
 -- Cut of worker w on the board: it must not have cut in the round
 abbrev pub cut_board : Time → ℕ → Board → Option Board
@@ -54,23 +58,15 @@ with_report w sent got value board =
       least = earlier board.least value;
     }
 
--- a pass closes: equal sums announce the least so far and end the round, unequal ones begin a new pass
-unfoldable pub after_pass : Time → Board → Board
-after_pass end board =
-    if nat_eq board.sent board.got then record board { announced = board.least; is_open = false }
-    else record board {
-      has_reported = replicate (length board.has_reported) false;
-      sent = 0;
-      got = 0;
-      least = end;
-    }
+-- what a report leaves: the board and the reply
+pub record BoardEffect : Type 0 where
+  pub board : Board
+  pub reply : Reply
 
--- the pass closes with the last report
-unfoldable pub board_after_report : Time → Board → Board
-board_after_report end board = if all_set board.has_reported then after_pass end board else board
-
--- the reply to a report
-unfoldable pub report_reply : Board → Reply
-report_reply board =
-    if all_set board.has_reported then (if nat_eq board.sent board.got then Announced board.least else Again)
-    else Waiting
+-- what becomes of a board with a report: the last report closes the pass, and then equal sums announce the least so far, and
+-- unequal ones begin a new pass
+unfoldable pub after_report : Time → Board → BoardEffect
+after_report end board =
+    if not (all_set board.has_reported) then record { board = board; reply = Waiting }
+    else if nat_eq board.sent board.got then record { board = with_announcement board; reply = Announced board.least }
+    else record { board = with_new_pass end board; reply = Again }

@@ -10,7 +10,7 @@ use Rattle.vt_steps.specs.declared.step.Reply.TheVariants.{Done}
 use Rattle.vt_steps.specs.Letters.{is_empty}
 use Rattle.vt_steps.specs.World.{Part, Board, Book}
 use Rattle.vt_steps.specs.PartSteps.{is_for, part_after_send, mail_of_send, part_after_fetch, part_after_cut, report_sent, report_got, report_least, part_after_commit, rows_of_commit}
-use Rattle.vt_steps.specs.BoardSteps.{cut_board, may_report, with_report, board_after_report, report_reply}
+use Rattle.vt_steps.specs.BoardSteps.{cut_board, may_report, with_report, after_report}
 use Rattle.vt_steps.specs.BookSteps.{may_commit, with_rows, may_close, closed_book}
 
 -- what a step leaves that is done at a cell: the part, what the cell holds, and the reply
@@ -33,11 +33,10 @@ module _ {S P : Type 0} (sim : Simulation S P) where
   unfoldable pub cut : ℕ → Part P → Board → Option (CellEffect P Board)
   cut w part board = option_map (λ new. record { part = part_after_cut sim.end board.announced part; cell = new; reply = Done }) (cut_board sim.end w board)
 
-  -- a lawful Report on this board, which has it: the last one closes the pass, and the worker's floor is the announced time
-  -- as it then is
+  -- a lawful Report on this board, which has it: the worker's floor is the announced time as it then is
   abbrev pub reported : Part P → Board → CellEffect P Board
   reported part board =
-      let new = board_after_report sim.end board in record { part = record part { floor = new.announced }; cell = new; reply = report_reply board }
+      let effect = after_report sim.end board in record { part = record part { floor = effect.board.announced }; cell = effect.board; reply = effect.reply }
 
   -- Report of w
   unfoldable pub report : ℕ → Part P → Board → Option (CellEffect P Board)

@@ -10,7 +10,7 @@ use Rattle.vt_steps.specs.declared.step.Step.{Step}
 use Rattle.vt_steps.specs.declared.step.Step.TheVariants.{Execute, Undo, Cancel, Home, Send, Fetch, Accept, Cut, Report, Commit, Close}
 use Rattle.vt_steps.specs.declared.step.Reply.{Reply}
 use Rattle.vt_steps.specs.declared.step.Reply.TheVariants.{Done, Waiting, Again, Announced}
-use Rattle.vt_steps.specs.BoardSteps.{all_set, is_clear, with_open_round, cut_board, may_report, with_report, after_pass, board_after_report, report_reply}
+use Rattle.vt_steps.specs.BoardSteps.{all_set, is_clear, with_new_round, with_open_round, cut_board, may_report, with_report, after_report}
 use Rattle.vt_steps.specs.Cells.{worker_of}
 use Rattle.vt_steps.specs.Laws.{IsAny}
 use Rattle.vt_steps.specs.Marked.{Marked, Answered, unmarked, Each, IsMarkedRight, own_steps, shown, own_steps_of, cut_by_now, has_cut_since}
@@ -19,7 +19,7 @@ use Rattle.vt_steps.specs.Next.{Outcome, next, refused, with_part, with_inbox, w
 use Rattle.vt_steps.specs.PartSteps.{report_sent, report_got, report_least}
 use Rattle.vt_steps.specs.World.{Part, Board, World, opening_world}
 use Rattle.vt_steps.proofs.steps.Changes.{if_has, map_has}
-use Rattle.vt_steps.proofs.steps.Outcomes.{at_cell-either, done_or_refused-either, unless_closed-either}
+use Rattle.vt_steps.proofs.steps.Outcomes.{at_cell-either, done_or_refused-either, unless_closed-either, with_open_round-either, after_report-either}
 use Rattle.vt_steps.proofs.time.Flags.{none-set}
 use Rattle.vt_steps.proofs.time.Floors.{reached-times}
 use Rattle.vt_steps.proofs.steps.Locals.{local-changes_one_part}
@@ -38,34 +38,15 @@ data OnBoard {P : Type 0} (end : Time) (old : Board) (step : Step) (outcome : Ou
       (outcome.world.board.is_open ≡ true → (so_far : Bool) → cut_by_now so_far step outcome.answer ≡ so_far) → OnBoard end old step outcome
 
 -- a report leaves who has cut
-report-has_cut : (end : Time) (board : Board) → (board_after_report end board).has_cut ≡ board.has_cut
-unfolding board_after_report after_pass
-report-has_cut end board =
-    by_all (all_set board.has_reported)
-  where
-    by_sums : (b : Bool) → (let n : Board = cond b (record board { announced = board.least; is_open = false }) (record board { has_reported = replicate (length board.has_reported) false; sent = 0; got = 0; least = end }) in n.has_cut) ≡ board.has_cut
-    by_sums true = refl
-    by_sums false = refl
-
-    by_all : (b : Bool) → (let n : Board = cond b (cond (nat_eq board.sent board.got) (record board { announced = board.least; is_open = false }) (record board { has_reported = replicate (length board.has_reported) false; sent = 0; got = 0; least = end })) board in n.has_cut) ≡ board.has_cut
-    by_all true = by_sums (nat_eq board.sent board.got)
-    by_all false = refl
+report-has_cut : (end : Time) (board : Board) → (after_report end board).board.has_cut ≡ board.has_cut
+report-has_cut end board = after_report-either end board (λ effect. effect.board.has_cut ≡ board.has_cut) (λ some. refl) (λ all same. refl) (λ all apart. refl)
 
 -- it is answered by an announcement only where it ends the round
-report-open : (end : Time) (board : Board) (v : ℕ) → (board_after_report end board).is_open ≡ true → (so_far : Bool) → cut_by_now so_far (Report v) (Ok (report_reply board)) ≡ so_far
-unfolding board_after_report after_pass report_reply
+report-open : (end : Time) (board : Board) (v : ℕ) → (after_report end board).board.is_open ≡ true → (so_far : Bool) →
+    cut_by_now so_far (Report v) (Ok (after_report end board).reply) ≡ so_far
 report-open end board v is_open so_far =
-    elim (all_set board.has_reported) as (λ b.
-    (let n : Board = cond b (cond (nat_eq board.sent board.got) (record board { announced = board.least; is_open = false }) (record board { has_reported = replicate (length board.has_reported) false; sent = 0; got = 0; least = end })) board in n.is_open) ≡ true →
-    cut_by_now so_far (Report v) (Ok (cond b (cond (nat_eq board.sent board.got) (Announced board.least) Again) Waiting)) ≡ so_far) [
-      | true ↦ elim (nat_eq board.sent board.got) as (λ b.
-          (let n : Board = cond b (record board { announced = board.least; is_open = false }) (record board { has_reported = replicate (length board.has_reported) false; sent = 0; got = 0; least = end }) in n.is_open) ≡ true →
-          cut_by_now so_far (Report v) (Ok (cond b (Announced board.least) Again)) ≡ so_far) [
-            | true ↦ λ e. absurd (let h : false ≡ true = e in cc)
-            | false ↦ λ e. refl
-          ]
-      | false ↦ λ e. refl
-    ] is_open
+    after_report-either end board (λ effect. effect.board.is_open ≡ true → cut_by_now so_far (Report v) (Ok effect.reply) ≡ so_far)
+    (λ some e. refl) (λ all same e. absurd (let h : false ≡ true = e in cc)) (λ all apart e. refl) is_open
 
 module _ {S P : Type 0} (sim : Simulation S P) where
   -- a step at another cell than the board, which is no news to its worker
@@ -147,23 +128,12 @@ module _ {S P : Type 0} (sim : Simulation S P) (w : ℕ) where
 
   -- a board with an open round in which another worker has cut
   another-cut : (end : Time) (v : ℕ) (old new : Board) → ¬ (w ≡ v) → cut_board end v old ≡ Some new → slice_get new.has_cut w ≡ Some true → (old.is_open ≡ true) × (slice_get old.has_cut w ≡ Some true)
-  unfolding with_open_round
   another-cut end v old new apart cut_is set =
       let opened = with_open_round end old in
       let has = if_has (is_clear (slice_get opened.has_cut v)) (record opened { has_cut = slice_set opened.has_cut v true }) new cut_is in
       let there : slice_get opened.has_cut w ≡ Some true = sym (get-put_other opened.has_cut v w true apart) ∙ sym (ap (λ (b : Board). slice_get b.has_cut w) has.1) ∙ set in
-      elim old.is_open as (λ b. old.is_open ≡ b → slice_get (let o : Board = cond b old (record old {
-        is_open = true;
-        has_cut = replicate (length old.has_cut) false;
-        has_reported = replicate (length old.has_cut) false;
-        sent = 0;
-        got = 0;
-        least = end;
-        rounds = old.rounds + 1;
-      }) in o.has_cut) w ≡ Some true → (b ≡ true) × (slice_get old.has_cut w ≡ Some true)) [
-        | true ↦ λ is h. (refl, h)
-        | false ↦ λ is h. absurd (none-set (length old.has_cut) w h)
-      ] refl there
+      with_open_round-either end old (λ (o : Board). slice_get o.has_cut w ≡ Some true → (old.is_open ≡ true) × (slice_get old.has_cut w ≡ Some true))
+      (λ is h. (is, h)) (λ shut h. absurd (none-set (length old.has_cut) w h)) there
 
   cut-step : (world : World P) (own : List Answered) (m : Marked) → IsMarkedRight sim m → CutKnown world own → CutKnown (next sim world m.step).world (own ++ own_steps sim w world (m ∷ []))
   cut-step world own m right known = by_board (on-board sim world m.step)
@@ -199,20 +169,12 @@ module _ {S P : Type 0} (sim : Simulation S P) (w : ℕ) where
 
   -- a board that refuses the cut of a worker has an open round in which it has cut
   refused-cut : (end : Time) (board : Board) → w < length board.has_cut → cut_board end w board ≡ None → (board.is_open ≡ true) × (slice_get board.has_cut w ≡ Some true)
-  unfolding with_open_round
   refused-cut end board within none =
-      elim board.is_open as (λ b. board.is_open ≡ b → (let o : Board = cond b board (record board {
-        is_open = true;
-        has_cut = replicate (length board.has_cut) false;
-        has_reported = replicate (length board.has_cut) false;
-        sent = 0;
-        got = 0;
-        least = end;
-        rounds = board.rounds + 1;
-      }) in cond (is_clear (slice_get o.has_cut w)) (Some (record o { has_cut = slice_set o.has_cut w true })) None) ≡ None → (b ≡ true) × (slice_get board.has_cut w ≡ Some true)) [
-        | true ↦ λ is h. (refl, (let flag = get-within board.has_cut w within in flag.1 ∙ ap (λ f. Some f) (set_flag flag.0 (is-none (is_clear (slice_get board.has_cut w)) _ h) flag.1)))
-        | false ↦ λ is h. absurd (clear-none (length board.has_cut) w within (is-none (is_clear (slice_get (replicate (length board.has_cut) false) w)) _ h))
-      ] refl none
+      with_open_round-either end board (λ (o : Board). cond (is_clear (slice_get o.has_cut w)) (Some (record o { has_cut = slice_set o.has_cut w true })) None ≡ None →
+      (board.is_open ≡ true) × (slice_get board.has_cut w ≡ Some true))
+      (λ is h. (is, (let flag = get-within board.has_cut w within in flag.1 ∙ ap (λ f. Some f) (set_flag flag.0 (is-none (is_clear (slice_get board.has_cut w)) _ h) flag.1))))
+      (λ shut h. absurd (clear-none (length board.has_cut) w within (is-none (is_clear (slice_get (replicate (length board.has_cut) false) w)) _ h)))
+      none
     where
       is-none : {X : Type 0} (b : Bool) (x : X) → cond b (Some x) None ≡ None → b ≡ false
       is-none true x e = absurd (let h : Some x ≡ None = e in cc)

@@ -9,7 +9,7 @@ use Rattle.vt_steps.specs.declared.step.Reply.TheVariants.{Done}
 use Rattle.vt_steps.specs.Letters.{is_empty}
 use Rattle.vt_steps.specs.World.{Part, Board, World}
 use Rattle.vt_steps.specs.PartSteps.{part_after_send, mail_of_send, part_after_fetch, part_after_cut, report_sent, report_got, report_least, part_after_commit, rows_of_commit}
-use Rattle.vt_steps.specs.BoardSteps.{cut_board, may_report, with_report, report_reply}
+use Rattle.vt_steps.specs.BoardSteps.{cut_board, may_report, with_report, after_report}
 use Rattle.vt_steps.specs.BookSteps.{may_commit, with_rows, may_close, closed_book}
 use Rattle.vt_steps.specs.CellSteps.{CellEffect, may_send, send, fetch, cut, reported, report, commit, close}
 use Rattle.vt_steps.specs.Next.{next, refused, replied, done_or_refused, with_inbox, with_board, with_book, effect_in, at_cell}
@@ -86,7 +86,7 @@ module _ {S P : Type 0} (sim : Simulation S P) (world : World P) where
 
   pub next-report : (w : ℕ) (part : Part P) → slice_get world.parts w ≡ Some part → may_report w (report_least sim.end part) world.board ≡ true
       → (let board = with_report w (report_sent part) (report_got part) (report_least sim.end part) world.board in
-      next sim world (Report w) ≡ replied (with_reported sim world w part board) (report_reply board))
+      next sim world (Report w) ≡ replied (with_reported sim world w part board) (after_report sim.end board).reply)
   unfolding next report
   next-report w part there may =
       at_cell-found world w with_board (report sim w) (Some world.board) part world.board there refl

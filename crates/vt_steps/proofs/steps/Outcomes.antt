@@ -1,10 +1,13 @@
 -- How a step comes out. A proof about `next` gives what holds of a refusal and what holds of each effect.
-use Rattle.std.proofs.Common.{◌≡◌, ℕ, Bool, true, false, cond, refl, sym, ◌∙◌, ap, Option, Some, None, slice_get}
+use Rattle.std.proofs.Common.{◌≡◌, inl, inr, ℕ, Bool, true, false, not, cond, nat_eq, refl, sym, ◌∙◌, ap, subst, Option, Some, None, slice_get}
 use Rattle.std.specs.Option.{option_map, option_and_then}
+use Rattle.std.proofs.lemmas.Bool.Decides.{eqb_tells}
+use Rattle.vt_key.specs.Times.{Time}
 use Rattle.vt_key.specs.declared.fault.Fault.{Fault}
 use Rattle.vt_key.specs.declared.fault.Fault.TheVariants.{NotLawful, Closed}
-use Rattle.vt_steps.specs.declared.step.Reply.TheVariants.{Done}
-use Rattle.vt_steps.specs.World.{Part, Book, World}
+use Rattle.vt_steps.specs.declared.step.Reply.TheVariants.{Done, Waiting, Again, Announced}
+use Rattle.vt_steps.specs.World.{Part, Board, Book, World}
+use Rattle.vt_steps.specs.BoardSteps.{all_set, with_new_pass, with_new_round, with_announcement, with_open_round, BoardEffect, after_report}
 use Rattle.vt_steps.specs.BookSteps.{unless_closed}
 use Rattle.vt_steps.specs.CellSteps.{CellEffect}
 use Rattle.vt_steps.specs.Next.{Outcome, refused, replied, done_or_refused, with_part, locally, effect_in, at_cell}
@@ -54,6 +57,35 @@ unless_closed-either book refuse open_step Q shut is_open = by_test book.is_clos
     by_test : (b : Bool) → book.is_closed ≡ b → Q (cond b (refuse Closed) open_step)
     by_test true e = shut e
     by_test false e = is_open e
+
+-- ---- the board
+
+-- a round is open, the one that was or a new one
+pub with_open_round-either : (end : Time) (board : Board) (Q : Board → Type 0) → (board.is_open ≡ true → Q board) → (board.is_open ≡ false → Q (with_new_round end board)) →
+    Q (with_open_round end board)
+unfolding with_open_round
+with_open_round-either end board Q was opens =
+    elim board.is_open as (λ b. board.is_open ≡ b → Q (cond b board (with_new_round end board))) [ true ↦ was | false ↦ opens ] refl
+
+-- what a report leaves, by whether it is the last one of its pass, and then by the sums
+pub after_report-either : (end : Time) (board : Board) (Q : BoardEffect → Type 0) →
+    (all_set board.has_reported ≡ false → Q (record { board = board; reply = Waiting })) →
+    (all_set board.has_reported ≡ true → board.sent ≡ board.got → Q (record { board = with_announcement board; reply = Announced board.least })) →
+    (all_set board.has_reported ≡ true → ¬ (board.sent ≡ board.got) → Q (record { board = with_new_pass end board; reply = Again })) →
+    Q (after_report end board)
+unfolding after_report
+after_report-either end board Q waits announces again = by_flags (all_set board.has_reported) refl
+  where
+    by_sums : (b : Bool) → BoardEffect
+    by_sums b = cond b (record { board = with_announcement board; reply = Announced board.least }) (record { board = with_new_pass end board; reply = Again })
+
+    by_flags : (b : Bool) → all_set board.has_reported ≡ b → Q (cond (not b) (record { board = board; reply = Waiting }) (by_sums (nat_eq board.sent board.got)))
+    by_flags false some = waits some
+    by_flags true all =
+        elim (eqb_tells board.sent board.got) [
+          | inl e ↦ subst (λ b. Q (by_sums b)) (sym e.0) (announces all e.1)
+          | inr e ↦ subst (λ b. Q (by_sums b)) (sym e.0) (again all e.1)
+        ]
 
 -- ---- where they are
 

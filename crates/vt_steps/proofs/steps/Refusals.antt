@@ -11,7 +11,7 @@ use Rattle.vt_steps.specs.declared.step.Reply.{Reply}
 use Rattle.vt_steps.specs.declared.step.Reply.TheVariants.{Done, Waiting, Again, Announced}
 use Rattle.vt_steps.specs.World.{Part, Board, World}
 use Rattle.vt_steps.specs.PartSteps.{execute, undo, cancel, home, accept, report_sent, report_got, report_least}
-use Rattle.vt_steps.specs.BoardSteps.{all_set, cut_board, may_report, with_report, after_pass, board_after_report, report_reply}
+use Rattle.vt_steps.specs.BoardSteps.{all_set, cut_board, may_report, with_report, BoardEffect, after_report}
 use Rattle.vt_steps.specs.BookSteps.{may_commit, unless_closed}
 use Rattle.vt_steps.specs.CellSteps.{CellEffect, may_send, send, fetch, cut, report, commit, close}
 use Rattle.vt_steps.specs.Next.{Outcome, refused, replied, done_or_refused, with_part, with_inbox, with_board, with_book, locally, at_cell, next}
@@ -19,7 +19,7 @@ use Rattle.vt_steps.specs.Cells.{inbox_of, board_cell, book_cell, cell_of}
 use Rattle.vt_steps.specs.Laws.{IsReportReply, IsReplyRight, IsRefusalRight}
 use Rattle.vt_steps.specs.Letters.{is_empty}
 use Rattle.vt_steps.proofs.steps.Changes.{if_has, map_has}
-use Rattle.vt_steps.proofs.steps.Outcomes.{at_cell-either, unless_closed-either, unless_closed-shut}
+use Rattle.vt_steps.proofs.steps.Outcomes.{at_cell-either, unless_closed-either, after_report-either, unless_closed-shut}
 
 -- a step is refused as not lawful, or done
 data Ends {P : Type 0} (world : World P) (outcome : Outcome P) : Type 0 where
@@ -63,7 +63,7 @@ commit-ends sim world w =
 -- a report is refused as not lawful, or answered by the board
 data Reports {S P : Type 0} (sim : Simulation S P) (world : World P) (outcome : Outcome P) : Type 0 where
   not_reported : outcome ≡ refused world NotLawful → Reports sim world outcome
-  reports : (new : World P) (board : Board) → board.announced ≡ world.board.announced → new.board ≡ board_after_report sim.end board → outcome ≡ replied new (report_reply board) → Reports sim world outcome
+  reports : (new : World P) (board : Board) → board.announced ≡ world.board.announced → new.board ≡ (after_report sim.end board).board → outcome ≡ replied new (after_report sim.end board).reply → Reports sim world outcome
 
 report-ends : {S P : Type 0} (sim : Simulation S P) (world : World P) (w : ℕ) → Reports sim world (at_cell world w with_board (report sim w) (Some world.board))
 unfolding report with_report
@@ -119,7 +119,7 @@ ends-keep world outcome (done new is) = λ fault e. absurd (not_both outcome new
 
 reports-keep : {S P : Type 0} (sim : Simulation S P) (world : World P) (outcome : Outcome P) → Reports sim world outcome → Kept world outcome
 reports-keep sim world outcome (not_reported is) = refused-keeps world outcome NotLawful (inl refl) is
-reports-keep sim world outcome (reports new board kept after is) = λ fault e. absurd (not_both outcome new (report_reply board) fault is e)
+reports-keep sim world outcome (reports new board kept after is) = λ fault e. absurd (not_both outcome new (after_report sim.end board).reply fault is e)
 
 -- a book that is closed refuses as closed; one that is open lets the step end
 book-keeps : {P : Type 0} (world : World P) (outcome : Outcome P) → Ends world outcome → Kept world (unless_closed world.book (refused world) outcome)
@@ -142,7 +142,7 @@ never_closed world outcome (done new is) e = not_both outcome new Done Closed is
 
 report-never_closed : {S P : Type 0} (sim : Simulation S P) (world : World P) (outcome : Outcome P) → Reports sim world outcome → outcome.answer ≡ Err Closed → ⊥
 report-never_closed sim world outcome (not_reported is) e = never_closed world outcome (not_lawful is) e
-report-never_closed sim world outcome (reports new board kept after is) e = not_both outcome new (report_reply board) Closed is e
+report-never_closed sim world outcome (reports new board kept after is) e = not_both outcome new (after_report sim.end board).reply Closed is e
 
 closed-closes : {S P : Type 0} (sim : Simulation S P) (world : World P) (step : Step) → StepEnds sim world step → world.book.is_closed ≡ true → cell_of step ≡ Some book_cell → (next sim world step).answer ≡ Err Closed
 closed-closes sim world step (plain apart off ends) closed on = absurd (off on)
@@ -185,30 +185,22 @@ book-reply world outcome reply ends =
     unless_closed-either world.book (refused world) outcome (λ o. o.answer ≡ Ok reply → reply ≡ Done) (λ shut e. absurd (let h : Ok reply ≡ Err Closed = sym e in cc))
     (λ is_open. reply-done world outcome reply ends)
 
--- the board after a report, by whether it was the last one and whether the counts are equal
-board-replies : {P : Type 0} (end : Time) (old : World P) (new : World P) (board : Board) → board.announced ≡ old.board.announced → new.board ≡ board_after_report end board →
-    IsReportReply old new (report_reply board)
-unfolding board_after_report after_pass report_reply
+-- how a report is answered, by whether it was the last one and whether the counts are equal
+board-replies : {P : Type 0} (end : Time) (old : World P) (new : World P) (board : Board) → board.announced ≡ old.board.announced → new.board ≡ (after_report end board).board →
+    IsReportReply old new (after_report end board).reply
 board-replies end old new board kept is =
-    elim (all_set board.has_reported) as (λ b.
-    new.board ≡ cond b (cond (nat_eq board.sent board.got) (record board { announced = board.least; is_open = false }) (record board { has_reported = replicate (length board.has_reported) false; sent = 0; got = 0; least = end })) board →
-    IsReportReply old new (cond b (cond (nat_eq board.sent board.got) (Announced board.least) Again) Waiting)) [
-      | false ↦ λ e. inl (refl, ap (λ b. b.announced) e ∙ kept)
-      | true ↦
-          elim (nat_eq board.sent board.got) as (λ b.
-          new.board ≡ cond b (record board { announced = board.least; is_open = false }) (record board { has_reported = replicate (length board.has_reported) false; sent = 0; got = 0; least = end }) →
-          IsReportReply old new (cond b (Announced board.least) Again)) [
-            | true ↦ λ e. inr (inr (ap (λ t. Announced t) (sym (ap (λ b. b.announced) e))))
-            | false ↦ λ e. inr (inl (refl, ap (λ b. b.announced) e ∙ kept))
-          ]
-    ] is
+    after_report-either end board (λ effect. new.board ≡ effect.board → IsReportReply old new effect.reply)
+    (λ some e. inl (refl, ap (λ (b : Board). b.announced) e ∙ kept))
+    (λ all same e. inr (inr (ap (λ t. Announced t) (sym (ap (λ (b : Board). b.announced) e)))))
+    (λ all apart e. inr (inl (refl, ap (λ (b : Board). b.announced) e ∙ kept)))
+    is
 
 reports-reply : {S P : Type 0} (sim : Simulation S P) (world : World P) (outcome : Outcome P) (reply : Reply) → Reports sim world outcome → outcome.answer ≡ Ok reply → IsReportReply world outcome.world reply
 reports-reply sim world outcome reply (not_reported is) e =
     absurd (let h : Ok reply ≡ Err NotLawful = sym e ∙ ap (λ o. o.answer) is in cc)
 reports-reply sim world outcome reply (reports new board kept after is) e =
-    let h : Ok (report_reply board) ≡ Ok reply = sym (ap (λ o. o.answer) is) ∙ e in
-    let same : report_reply board ≡ reply = cc in
+    let h : Ok (after_report sim.end board).reply ≡ Ok reply = sym (ap (λ o. o.answer) is) ∙ e in
+    let same : (after_report sim.end board).reply ≡ reply = cc in
     subst (λ r. IsReportReply world outcome.world r) same
     (board-replies sim.end world outcome.world board kept (ap (λ o. o.world.board) is ∙ after))
 

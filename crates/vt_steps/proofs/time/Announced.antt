@@ -14,7 +14,7 @@ use Rattle.vt_key.specs.declared.letter.Mail.{Mail}
 use Rattle.vt_key.specs.declared.letter.Sign.TheVariants.{Plus}
 use Rattle.vt_model.specs.Simulation.{Simulation}
 use Rattle.vt_model.specs.Histories.{IsLawful}
-use Rattle.vt_steps.specs.BoardSteps.{all_set, is_clear, with_open_round, with_report, board_after_report}
+use Rattle.vt_steps.specs.BoardSteps.{all_set, is_clear, with_open_round, with_report, after_report}
 use Rattle.vt_steps.specs.Copies.{letter_weight, part_entries, letter_sum, entry_sum}
 use Rattle.vt_steps.specs.Letters.{signed, count_colour}
 use Rattle.vt_steps.specs.PartSteps.{part_after_send, part_after_fetch, part_after_cut, part_after_commit, report_sent, report_got, report_least}
@@ -94,10 +94,10 @@ module _ {S P : Type 0} (sim : Simulation S P) (lawful : IsLawful sim) (t : Time
       let board = with_report w (report_sent part) (report_got part) (report_least sim.end part) old.board in
       let reported = report-kept sim.end t old.parts old.inboxes old.board w part is a.0 b.0 clear g.round in
       let passed = pass-kept sim.end t old.parts old.inboxes board (report-is_open w (report_sent part) (report_got part) (report_least sim.end part) old.board a.0) reported in
-      let after : Part P = record part { floor = (board_after_report sim.end board).announced } in
+      let after : Part P = record part { floor = (after_report sim.end board).board.announced } in
       record {
         round = subst (λ n. IsRoundSound sim.end t n.parts n.inboxes n.board) (sym e)
-            (part-kept sim.end t old.parts old.inboxes (board_after_report sim.end board) w part after is (record { colour = refl; sent = refl; got = refl; red_minimum = refl }) (λ h. h) passed);
+            (part-kept sim.end t old.parts old.inboxes (after_report sim.end board).board w part after is (record { colour = refl; sent = refl; got = refl; red_minimum = refl }) (λ h. h) passed);
         entries = ap (λ n. sum_by (part_entries hasty) n.parts) e ∙ entries-put old w part after is (λ h. h) g.entries;
         shape = shape;
       }

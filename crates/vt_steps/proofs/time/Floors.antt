@@ -12,7 +12,7 @@ use Rattle.vt_key.specs.Times.{Time, TimeAtMost, opening_time, time_at_most}
 use Rattle.vt_model.specs.Simulation.{Simulation}
 use Rattle.vt_model.specs.Histories.{IsLawful}
 use Rattle.vt_steps.specs.declared.step.Step.{Step}
-use Rattle.vt_steps.specs.BoardSteps.{all_set, is_clear, with_open_round, with_report, after_pass, board_after_report}
+use Rattle.vt_steps.specs.BoardSteps.{all_set, is_clear, with_open_round, with_report, after_report}
 use Rattle.vt_steps.specs.BookSteps.{may_commit, with_rows}
 use Rattle.vt_steps.specs.Next.{next, run, reached}
 use Rattle.vt_steps.specs.PartSteps.{part_after_send, part_after_fetch, part_after_cut, part_after_commit, report_sent, report_got, report_least}
@@ -20,6 +20,7 @@ use Rattle.vt_steps.specs.World.{Part, Board, Book, World, opening_part, opening
 use Rattle.vt_steps.specs.Letters.{least_of}
 use Rattle.vt_steps.proofs.time.Announced.{IsTimeSound, time-kept, opening-time-sound}
 use Rattle.vt_steps.proofs.steps.Changes.{homes, arrives, Local, acts, takes, Change, stays, local, sends, fetches, cuts, reports, commits, closes, next_changes, run_keeps, if_has}
+use Rattle.vt_steps.proofs.steps.Outcomes.{with_open_round-either, after_report-either}
 use Rattle.vt_steps.proofs.lists.Places.{all-put, get-map, get-replicate, get-within}
 use Rattle.vt_steps.proofs.time.Flags.{put-cases}
 use Rattle.vt_steps.proofs.lists.Tests.{both_pass}
@@ -94,38 +95,19 @@ new-board end parts old new book b f =
 
 -- a round is open
 open-rises : {P : Type 0} (end : Time) (parts : List (Part P)) (board : Board) (book : Book) → AreFloorsSound end parts board book → BoardRises end board (with_open_round end board)
-unfolding with_open_round
 open-rises end parts board book f =
-    elim board.is_open as (λ b. board.is_open ≡ b → BoardRises end board (cond b board (record board {
-      is_open = true;
-      has_cut = replicate (length board.has_cut) false;
-      has_reported = replicate (length board.has_cut) false;
-      sent = 0;
-      got = 0;
-      least = end;
-      rounds = board.rounds + 1;
-    }))) [
-      | true ↦ λ is. record { announced = le_refl board.announced; least = f.least; bounded = f.bounded }
-      | false ↦ λ is. record { announced = le_refl board.announced; least = λ opened. f.bounded; bounded = f.bounded }
-    ] refl
+    with_open_round-either end board (BoardRises end board)
+    (λ is. record { announced = le_refl board.announced; least = f.least; bounded = f.bounded })
+    (λ shut. record { announced = le_refl board.announced; least = λ opened. f.bounded; bounded = f.bounded })
 
 -- a pass closes: what is announced is the least value reported
-pass-rises : (end : Time) (board : Board) → TimeAtMost board.announced board.least → TimeAtMost board.announced end → TimeAtMost board.least end → BoardRises end board (board_after_report end board)
-unfolding board_after_report after_pass
+pass-rises : (end : Time) (board : Board) → TimeAtMost board.announced board.least → TimeAtMost board.announced end → TimeAtMost board.least end →
+    BoardRises end board (after_report end board).board
 pass-rises end board least bounded least_end =
-    elim (all_set board.has_reported) as (λ b. BoardRises end board (cond b (cond (nat_eq board.sent board.got) announcing passing) board)) [
-      | true ↦ (elim (nat_eq board.sent board.got) as (λ b. BoardRises end board (cond b announcing passing)) [
-        | true ↦ record { announced = least; least = λ still. absurd (let h : false ≡ true = still in cc); bounded = least_end }
-        | false ↦ record { announced = le_refl board.announced; least = λ still. bounded; bounded = bounded }
-      ])
-      | false ↦ record { announced = le_refl board.announced; least = λ still. least; bounded = bounded }
-    ]
-  where
-    announcing : Board
-    announcing = record board { announced = board.least; is_open = false }
-
-    passing : Board
-    passing = record board { has_reported = replicate (length board.has_reported) false; sent = 0; got = 0; least = end }
+    after_report-either end board (λ effect. BoardRises end board effect.board)
+    (λ some. record { announced = le_refl board.announced; least = λ still. least; bounded = bounded })
+    (λ all same. record { announced = least; least = λ still. absurd (let h : false ≡ true = still in cc); bounded = least_end })
+    (λ all apart. record { announced = le_refl board.announced; least = λ still. bounded; bounded = bounded })
 
 -- ---- the book changes
 
@@ -195,12 +177,12 @@ module _ {S P : Type 0} (sim : Simulation S P) (old new : World P) (least_end : 
       let rises = pass-rises sim.end board (omega arith) bounded (omega arith) in
       let up = rises.announced in
       let own = f.announced w part is in
-      let risen : BoardRises sim.end old.board (board_after_report sim.end board) = record { announced = up; least = rises.least; bounded = rises.bounded } in
-      let moved = new-board sim.end old.parts old.board (board_after_report sim.end board) old.book risen f in
-      let after : Part P = record part { floor = (board_after_report sim.end board).announced } in
+      let risen : BoardRises sim.end old.board (after_report sim.end board).board = record { announced = up; least = rises.least; bounded = rises.bounded } in
+      let moved = new-board sim.end old.parts old.board (after_report sim.end board).board old.book risen f in
+      let after : Part P = record part { floor = (after_report sim.end board).board.announced } in
       subst (FloorsKept sim.end old) (sym e)
       (record {
-        sound = part-floor sim.end old.parts (board_after_report sim.end board) old.book w part after is (omega arith) (le_refl _) moved;
+        sound = part-floor sim.end old.parts (after_report sim.end board).board old.book w part after is (omega arith) (le_refl _) moved;
         announced = up;
         floor = le_refl _;
       })

@@ -11,13 +11,14 @@ use Rattle.vt_key.specs.Letters.{other_colour}
 use Rattle.vt_key.specs.Times.{Time, TimeAtMost}
 use Rattle.vt_key.specs.declared.letter.Colour.{Colour}
 use Rattle.vt_key.specs.declared.letter.Mail.{Mail}
-use Rattle.vt_steps.specs.BoardSteps.{all_set, with_open_round, with_report, after_pass, board_after_report}
+use Rattle.vt_steps.specs.BoardSteps.{all_set, with_new_pass, with_new_round, with_announcement, with_open_round, with_report, after_report}
 use Rattle.vt_steps.specs.Letters.{count_of, count_colour}
 use Rattle.vt_steps.specs.PartSteps.{part_after_cut, report_sent, report_got, report_least}
 use Rattle.vt_steps.specs.World.{Board, Part, letters_in}
 use Rattle.vt_steps.proofs.letters.Colours.{sent_in, got_in, early_coloured, other-other, all-coloured, none-coloured}
 use Rattle.vt_steps.proofs.time.Early.{early_in, early_mail, none-early, letters-early}
 use Rattle.vt_steps.proofs.time.Flags.{flagged_sum-put_same, flagged_sum-set, flagged_sum-all, flagged_sum-none, none-set, set-at, put-cases}
+use Rattle.vt_steps.proofs.steps.Outcomes.{with_open_round-either, after_report-either}
 use Rattle.vt_steps.proofs.lists.Places.{all-put, get-put_same, get-put_other, get-replicate, get-within}
 use Rattle.vt_steps.proofs.time.Rounds.{IsRedLate, IsOpenRound, IsRoundSound}
 use Rattle.vt_steps.proofs.lists.Sums.{sum_by-put, sum_by-nothings, sum-at}
@@ -29,40 +30,29 @@ not-shut b e f = absurd (let h : true ≡ false = sym e ∙ f in cc)
 -- ---- Cut
 
 module _ {P : Type 0} (end t : Time) (parts : List (Part P)) (inboxes : List (List (Mail P))) (board : Board) where
-  -- the board on which a round is opened
-  abbrev fresh : Board
-  fresh = record board {
-    is_open = true;
-    has_cut = replicate (length board.has_cut) false;
-    has_reported = replicate (length board.has_cut) false;
-    sent = 0;
-    got = 0;
-    least = end;
-    rounds = board.rounds + 1;
-  }
-
   -- a round opens: the colour that all have is now the old one, and no mail has the other
-  opens : board.is_open ≡ false → IsRoundSound end t parts inboxes board → IsRoundSound end t parts inboxes fresh
+  opens : board.is_open ≡ false → IsRoundSound end t parts inboxes board → IsRoundSound end t parts inboxes (with_new_round end board)
   opens shut g =
       let n = length board.has_cut in
+      let m = length board.has_reported in
       let next = other_colour g.now in
       let between = g.between shut in
       let none = between.no_old_mail in
       record {
         now = next;
         cut_size = length-replicate n false ∙ g.cut_size;
-        report_size = length-replicate n false ∙ g.cut_size;
+        report_size = length-replicate m false ∙ g.report_size;
         inbox_size = g.inbox_size;
         counts = g.counts;
         opened = λ open_is. record {
           colours = λ w part at flag cut.
               (let unset = get-replicate n w false flag cut in
               between.colours w part at ∙ (sym (other-other g.now) ∙ ap (λ b. cond b next (other_colour next)) (sym unset)));
-          all_cut = λ w flag. absurd (none-set n w flag);
-          sent = sym (flagged_sum-none (sent_in (other_colour next)) n parts);
+          all_cut = λ w flag. absurd (none-set m w flag);
+          sent = sym (flagged_sum-none (sent_in (other_colour next)) m parts);
           got = omega arith;
           new_mail = λ all. sum_by-nothings (early_coloured next t) inboxes (λ i inbox at. none-coloured next t inbox (let a = sum-at (count_colour next) inboxes i inbox at in omega arith));
-          heard = λ nothing least others w part at flag. absurd (none-set n w flag);
+          heard = λ nothing least others w part at flag. absurd (none-set m w flag);
         };
         between = λ shut. absurd (let h : true ≡ false = shut in cc);
         least_end = omega arith;
@@ -73,21 +63,11 @@ module _ {P : Type 0} (end t : Time) (parts : List (Part P)) (inboxes : List (Li
 
   -- a round is open, the one that was or a new one
   pub open-kept : IsRoundSound end t parts inboxes board → IsRoundSound end t parts inboxes (with_open_round end board)
-  unfolding with_open_round
-  open-kept g = elim board.is_open as (λ b. board.is_open ≡ b → IsRoundSound end t parts inboxes (cond b board fresh)) [ true ↦ λ is. g | false ↦ λ is. opens is g ] refl
+  open-kept g = with_open_round-either end board (IsRoundSound end t parts inboxes) (λ is. g) (λ shut. opens shut g)
 
 -- the board with an open round has one
 pub open-round_is_open : (end : Time) (board : Board) → (with_open_round end board).is_open ≡ true
-unfolding with_open_round
-open-round_is_open end board = elim board.is_open as (λ b. board.is_open ≡ b → (let o : Board = cond b board (record board {
-  is_open = true;
-  has_cut = replicate (length board.has_cut) false;
-  has_reported = replicate (length board.has_cut) false;
-  sent = 0;
-  got = 0;
-  least = end;
-  rounds = board.rounds + 1;
-}) in o.is_open ≡ true)) [ true ↦ λ is. is | false ↦ λ is. refl ] refl
+open-round_is_open end board = with_open_round-either end board (λ (b : Board). b.is_open ≡ true) (λ is. is) (λ shut. refl)
 
 module _ {P : Type 0} (end t announced : Time) (parts : List (Part P)) (inboxes : List (List (Mail P))) (board : Board) (w : ℕ) (part : Part P)
     (is : slice_get parts w ≡ Some part) (open_is : board.is_open ≡ true) (clear : slice_get board.has_cut w ≡ Some false) where
@@ -218,16 +198,8 @@ report-is_open w sent got value board is = is
 -- ---- the last report of a pass
 
 module _ {P : Type 0} (end t : Time) (parts : List (Part P)) (inboxes : List (List (Mail P))) (board : Board) (open_is : board.is_open ≡ true) (g : IsRoundSound end t parts inboxes board) where
-  -- the board after a pass with equal sums
-  abbrev announcing : Board
-  announcing = record board { announced = board.least; is_open = false }
-
-  -- and after one with unequal sums
-  abbrev passing : Board
-  passing = record board { has_reported = replicate (length board.has_reported) false; sent = 0; got = 0; least = end }
-
   -- unequal sums: a new pass begins, in which nobody has reported
-  again : IsRoundSound end t parts inboxes passing
+  again : IsRoundSound end t parts inboxes (with_new_pass end board)
   again =
       let n = length board.has_reported in
       let old = other_colour g.now in
@@ -302,7 +274,7 @@ module _ {P : Type 0} (end t : Time) (parts : List (Part P)) (inboxes : List (Li
         omega arith
 
     -- equal sums: the least value reported is announced, and the round ends
-    announces : board.sent ≡ board.got → IsRoundSound end t parts inboxes announcing
+    announces : board.sent ≡ board.got → IsRoundSound end t parts inboxes (with_announcement board)
     announces equal =
         let now = g.now in
         let o = g.opened open_is in
@@ -327,13 +299,6 @@ module _ {P : Type 0} (end t : Time) (parts : List (Part P)) (inboxes : List (Li
         }
 
   -- a pass closes with the last report
-  pub pass-kept : IsRoundSound end t parts inboxes (board_after_report end board)
-  unfolding board_after_report after_pass
+  pub pass-kept : IsRoundSound end t parts inboxes (after_report end board).board
   pass-kept =
-      elim (all_set board.has_reported) as (λ b. all_set board.has_reported ≡ b → IsRoundSound end t parts inboxes (cond b (cond (nat_eq board.sent board.got) announcing passing) board)) [
-        | true ↦ λ last. (elim (nat_eq board.sent board.got) as (λ b. nat_eq board.sent board.got ≡ b → IsRoundSound end t parts inboxes (cond b announcing passing)) [
-          | true ↦ λ equal. announces last (eqb-true board.sent board.got equal)
-          | false ↦ λ unequal. again
-        ] refl)
-        | false ↦ λ waiting. g
-      ] refl
+      after_report-either end board (λ effect. IsRoundSound end t parts inboxes effect.board) (λ some. g) (λ last same. announces last same) (λ last apart. again)
