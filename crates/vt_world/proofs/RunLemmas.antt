@@ -1,5 +1,5 @@
 -- Lists of steps, one step after the other.
-use Rattle.std.proofs.Common.{◌≡◌, ℕ, ◌+◌, ◌⊎◌, inl, inr, List, [], ◌∷◌, ◌++◌, take, refl, sym, ◌∙◌, ap, subst, arith, Result, Ok, Err, IfOk, IfErr, cond}
+use Rattle.std.proofs.Common.{◌≡◌, ℕ, ◌+◌, ◌⊎◌, inl, inr, List, [], ◌∷◌, ◌++◌, take, refl, sym, ◌∙◌, ap, subst, arith, Result, Ok, Err, IfOk, IfErr, OnOk, cond}
 use Rattle.std.proofs.lemmas.List.Sums.{sum_by-append}
 use Rattle.std.specs.Result.{is_err}
 use Rattle.vt_key.specs.declared.fault.Fault.{Fault}
@@ -11,8 +11,8 @@ use Rattle.vt_steps.specs.World.{World}
 use Rattle.vt_steps.specs.Next.{Outcome, next, run, answers}
 use Rattle.vt_steps.proofs.steps.MemoryLemmas.{run-append}
 use Rattle.vt_steps.proofs.steps.Refusals.{refusals as refusal-laws}
-use Rattle.vt_kernel.specs.Refusals.{IsSpent, IsStepRefusal}
-use Rattle.vt_world.specs.Calls.{IsStepOf, IsAnsweredBy, refusals}
+use Rattle.vt_kernel.specs.Refusals.{PassesLimit, IsSpent, IsStepRefusal}
+use Rattle.vt_world.specs.Calls.{IsStepOf, AreWithinLimits, IsAnsweredBy, refusals}
 
 module _ {S P : Type 0} (sim : Simulation S P) where
   -- no step
@@ -29,11 +29,21 @@ module _ {S P : Type 0} (sim : Simulation S P) where
   answers-more world [] step = refl
   answers-more world (first ∷ steps) step = ap (λ rest. (next sim world first).answer ∷ rest) (answers-more (next sim world first).world steps step)
 
+  within-more : (world : World P) (steps more : List Step) → AreWithinLimits sim world steps → AreWithinLimits sim (run sim world steps) more → AreWithinLimits sim world (steps ++ more)
+  unfolding run
+  within-more world [] more first rest = rest
+  within-more world (step ∷ steps) more first rest = (first.0, within-more (next sim world step).world steps more first.1 rest)
+
   -- one more step
   module _ (first mid new : World P) (steps : List Step) (at : ℕ) (step : Step) (more : ℕ) (here : take (at + 1) steps ≡ take at steps ++ step ∷ []) (ran : mid ≡ run sim first (take at steps)) (is : IsAnsweredBy sim step mid new more) where
     pub run-on : new ≡ run sim first (take (at + 1) steps)
     unfolding run
     run-on = is.goes ∙ ap (λ w. (next sim w step).world) ran ∙ sym (run-append sim first (take at steps) (step ∷ [])) ∙ ap (run sim first) (sym here)
+
+    pub within-on : AreWithinLimits sim first (take at steps) → AreWithinLimits sim first (take (at + 1) steps)
+    within-on so_far =
+        subst (AreWithinLimits sim first) (sym here)
+        (within-more first (take at steps) (step ∷ []) so_far (subst (λ w. AreWithinLimits sim w (step ∷ [])) ran is.within))
 
     pub count-on : (refused : ℕ) → refused ≡ refusals (answers sim first (take at steps)) → refused + more ≡ refusals (answers sim first (take (at + 1) steps))
     count-on refused so_far =
@@ -47,6 +57,7 @@ module _ {S P : Type 0} (sim : Simulation S P) where
     pub answered-ok : (reply : Reply) → IsStepOf sim step old new (Ok reply) → IsAnsweredBy sim step old new 0
     answered-ok reply is = record {
       goes = ap (λ (o : Outcome P). o.world) (sym is.0);
+      within = (subst (λ (o : Outcome P). OnOk o.answer (PassesLimit sim step o.world → ⊥)) (sym is.0) is.1, tt);
       counted = ap (λ (o : Outcome P). refusals (o.answer ∷ [])) (sym is.0);
       one = omega arith;
     }
@@ -57,6 +68,7 @@ module _ {S P : Type 0} (sim : Simulation S P) where
         elim is.1 [
           | inl e ↦ record {
             goes = is.0 ∙ sym ((refusal-laws sim old step).keeps fault e);
+            within = (subst (λ (a : Result Reply Fault). OnOk a (PassesLimit sim step (next sim old step).world → ⊥)) (sym e) tt, tt);
             counted = ap (λ a. refusals (a ∷ [])) (sym e);
             one = omega arith;
           }

@@ -1,5 +1,5 @@
 -- What the calls of a world answer, by the steps of the definitions.
-use Rattle.std.specs.Prelude.{◌≡◌, ℕ, ◌≤◌, ◌⊎◌, List, [], ◌∷◌, Result, Ok, Err}
+use Rattle.std.specs.Prelude.{◌≡◌, ℕ, ◌≤◌, ◌⊎◌, List, [], ◌∷◌, Result, Ok, Err, OnOk}
 use Rattle.std.specs.List.{count_by}
 use Rattle.std.specs.Result.{is_err}
 use Rattle.vt_key.specs.declared.fault.Fault.{Fault}
@@ -33,8 +33,15 @@ module _ {S P : Type 0} (sim : Simulation S P) where
   IsStepOf step old new (Ok reply) = (next sim old step ≡ replied new reply) × (PassesLimit sim step new → ⊥)
   IsStepOf step old new (Err fault) = (new ≡ old) × IsStepRefusal sim step old fault
 
-  -- a world goes on by a step, lawful or not, and its answer is so many refusals: none or one
+  -- of these steps none that is done raises a counter past its limit
+  abbrev pub AreWithinLimits : World P → List Step → Type 0
+  AreWithinLimits world [] = Unit {0}
+  AreWithinLimits world (step ∷ steps) =
+      OnOk (next sim world step).answer (PassesLimit sim step (next sim world step).world → ⊥) × AreWithinLimits (next sim world step).world steps
+
+  -- a world goes on by a step, lawful or not, within its limits, and its answer is so many refusals: none or one
   pub record IsAnsweredBy (step : Step) (old new : World P) (more : ℕ) : Type 0 where
     pub goes : new ≡ (next sim old step).world
+    pub within : AreWithinLimits old (step ∷ [])
     pub counted : more ≡ refusals ((next sim old step).answer ∷ [])
     pub one : more ≤ 1

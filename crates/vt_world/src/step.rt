@@ -1,6 +1,6 @@
 //! The eleven steps of a world, and lists of them.
 
-ghost use Rattle.std.specs.Prelude.{◌≡◌, ◌⊎◌, IsTrue, Err, take, slice_get, IfOk, IfErr, MatchOption};
+ghost use Rattle.std.specs.Prelude.{◌≡◌, ◌⊎◌, IsTrue, Err, take, slice_get, IfOk, IfErr, MatchOption, MatchResult};
 ghost use Rattle.vt_key.specs.Times.{TimeAtMost};
 ghost use Rattle.vt_key.specs.declared.fault.Fault.TheVariants.{NotLawful, Closed};
 ghost use Rattle.vt_model.specs.Simulation.{simulation_of};
@@ -8,7 +8,7 @@ ghost use Rattle.vt_model.specs.Settings.{end_of};
 ghost use Rattle.vt_steps.specs.World.{book_floor};
 ghost use Rattle.vt_steps.specs.Next.{run, answers};
 ghost use Rattle.vt_kernel.specs.Refusals.{IsSpent};
-ghost use Rattle.vt_world.specs.Calls.{IsStepOf, IsOfBook, IsAnsweredBy, refusals};
+ghost use Rattle.vt_world.specs.Calls.{IsStepOf, IsOfBook, AreWithinLimits, IsAnsweredBy, refusals};
 
 use crate::world::{World, add_step};
 use std::alloc::Global;
@@ -50,8 +50,8 @@ impl<'m, M: EventModel> World<'m, M> {
     }
 
     /// Does steps one after the other, and returns how many of them were refused. A step that isn't lawful, or that
-    /// the closed book refuses, changes nothing and counts as refused, and the next one follows. A closed book
-    /// doesn't change.
+    /// the closed book refuses, changes nothing and counts as refused, and the next one follows. No step that was done
+    /// raised a counter past 2^63. A closed book doesn't change.
     ///
     /// [`Stop`]: a lawful step couldn't be done, since memory was refused or a counter would pass 2^63. The world is
     /// the one after the steps before it.
@@ -59,6 +59,7 @@ impl<'m, M: EventModel> World<'m, M> {
         ensures whole { let sim = simulation_of (M.handlers self.old.model) self.old.config in IfOk result (λ n. self.new.world ≡ run sim self.old.world steps.now) }
         ensures count { let sim = simulation_of (M.handlers self.old.model) self.old.config in IfOk result (λ n. n ≡ refusals (answers sim self.old.world steps.now)) }
         ensures before { let sim = simulation_of (M.handlers self.old.model) self.old.config in IfErr result (λ stop. self.new.world ≡ run sim self.old.world (take stop.at steps.now)) }
+        ensures within { let sim = simulation_of (M.handlers self.old.model) self.old.config in MatchResult result (λ n. AreWithinLimits sim self.old.world steps.now) (λ stop. AreWithinLimits sim self.old.world (take stop.at steps.now)) }
         ensures stopped { let sim = simulation_of (M.handlers self.old.model) self.old.config in IfErr result (λ stop. MatchOption (slice_get steps.now stop.at) ⊥ (λ step. IsSpent sim step self.new.world stop.fault)) }
         ensures same { (self.new.model ≡ self.old.model) × (self.new.config ≡ self.old.config) }
         ensures announced { TimeAtMost self.old.world.board.announced self.new.world.board.announced }

@@ -4,7 +4,7 @@ use Rattle.std.proofs.Math.Nat.{le_refl}
 use Rattle.vt_model.specs.Simulation.{simulation_of}
 use Rattle.vt_steps.specs.declared.step.Step.TheVariants.{Execute}
 use Rattle.vt_world.specs.Calls.{IsAnsweredBy}
-use Rattle.vt_world.proofs.RunLemmas.{run-none, answers-none, run-on, count-on}
+use Rattle.vt_world.proofs.RunLemmas.{run-none, answers-none, run-on, within-on, count-on}
 use Rattle.vt_world.proofs.world.World.run.Goals as goal
 
 pub loop-at-init : goal.loop-at-init
@@ -15,6 +15,7 @@ loop-at-init g c =
       model = refl;
       config = refl;
       ran = run-none sim first.world;
+      within = tt;
       count = answers-none sim first.world;
       few = le_refl _;
       announced = le_refl _;
@@ -40,6 +41,7 @@ loop-at-preserved g c =
       model = c.advance.ensures.same.0 ∙ inv.model;
       config = c.advance.ensures.same.1 ∙ inv.config;
       ran = run-on sim first.world old.world new.world steps i step more here inv.ran is;
+      within = within-on sim first.world old.world new.world steps i step more here inv.ran is inv.within;
       count = count-on sim first.world old.world new.world steps i step more here inv.ran is c.loop-at.refused inv.count;
       few = (let one = is.one in let few = inv.few in omega (arith, one, few));
       announced = (let a = inv.announced in let b = c.advance.ensures.announced in omega (arith, a, b));

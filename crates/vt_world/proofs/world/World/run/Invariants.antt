@@ -5,7 +5,7 @@ use Rattle.vt_model.specs.Simulation.{simulation_of}
 use Rattle.vt_model.specs.Settings.{end_of}
 use Rattle.vt_steps.specs.Next.{run, answers}
 use Rattle.vt_steps.specs.World.{book_floor}
-use Rattle.vt_world.specs.Calls.{refusals}
+use Rattle.vt_world.specs.Calls.{AreWithinLimits, refusals}
 use Rattle.vt_world.proofs.world.World.run.Given as goal
 
 abbrev pub invariant-loop-at : goal.invariant-loop-at
@@ -16,6 +16,7 @@ invariant-loop-at g l =
       model : l.self.model ≡ l.initial.self.model;
       config : l.self.config ≡ l.initial.self.config;
       ran : l.self.world ≡ run sim first.world (take l.at l.steps);
+      within : AreWithinLimits sim first.world (take l.at l.steps);
       count : l.refused ≡ refusals (answers sim first.world (take l.at l.steps));
       few : l.refused ≤ l.at;
       announced : TimeAtMost first.world.board.announced l.self.world.board.announced;
