@@ -1,6 +1,6 @@
 -- How a book keeps its rows: the records of those that it shows, in the order of the rows, and the other rows.
 use Rattle.std.specs.Prelude.{◌≡◌, ℕ, false, List, [], ◌∷◌, ◌++◌}
-use Rattle.std.specs.List.{sum_by}
+use Rattle.std.specs.List.{sum_by, AllByRecursion}
 use Rattle.std.specs.List.Sorted.{IsSorted}
 use Rattle.vt_key.specs.Times.{Time}
 use Rattle.vt_model.specs.declared.rows.Row.{Row}
@@ -15,8 +15,7 @@ AreSameRows xs ys = (f : Row → ℕ) → sum_by f xs ≡ sum_by f ys
 
 -- none of these rows is before a row
 abbrev pub AreNotBefore : Row → List Row → Type 0
-AreNotBefore row [] = Unit {0}
-AreNotBefore row (r ∷ rs) = (row_before r row ≡ false) × AreNotBefore row rs
+AreNotBefore row = AllByRecursion (λ r. row_before r row ≡ false)
 
 -- rows in falling order: none is before the one that stands behind it
 abbrev pub AreFalling : List Row → Type 0

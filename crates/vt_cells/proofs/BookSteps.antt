@@ -1,6 +1,6 @@
 -- Commit and Close on a kernel and the book, by what the kernel's and the book's calls do and refuse.
 use Rattle.std.proofs.Common.{◌≡◌, ℕ, inl, inr, Bool, true, false, ◌&&◌, List, [], ◌∷◌, refl, sym, ◌∙◌, ap, subst, arith, Some, None, Result, Ok, Err, IfErr, slice_get}
-use Rattle.std.specs.List.{list_all}
+use Rattle.std.specs.List.{list_all, AllByRecursion}
 use Rattle.std.proofs.Math.Logic.{∥∥₁_elim}
 use Rattle.std.proofs.Props.{props}
 use Rattle.std.proofs.lemmas.Bool.Decides.{nat_tests}
@@ -23,7 +23,6 @@ use Rattle.vt_steps.specs.BookSteps.{may_commit, with_rows, may_close, closed_bo
 use Rattle.vt_steps.specs.Next.{reached}
 use Rattle.vt_steps.specs.Cells.{Cell, Acted, in_book, left_alone, act}
 use Rattle.vt_steps.proofs.time.Floors.{AreTimesSound, reached-times}
-use Rattle.vt_steps.proofs.lists.Lists.{Every}
 use Rattle.vt_steps.proofs.lists.Places.{get-within}
 use Rattle.vt_steps.proofs.lists.Tests.{passes_both}
 use Rattle.vt_kernel.specs.Held.{HeldWorker, StandsFor}
@@ -33,7 +32,7 @@ use Rattle.vt_cells.specs.Calls.{Acts, IsCellStepOf, IsBatchOf, AreReached, AreO
 use Rattle.vt_cells.proofs.ActLemmas.{act-commit, act-commit_closed, act-close, act-not_close, act-close_closed}
 
 -- rows that lie between two times, tested
-all-within : (from to : Time) (rows : List Row) → Every (IsBetween from to) rows → list_all (is_within from to) rows ≡ true
+all-within : (from to : Time) (rows : List Row) → AllByRecursion (IsBetween from to) rows → list_all (is_within from to) rows ≡ true
 all-within from to [] h = refl
 all-within from to (row ∷ rows) h =
     let low = h.0.0 in
@@ -82,9 +81,9 @@ module _ {S P K : Type 0} {handlers : Handlers S P K} {k : HeldWorker S P K} {bo
         let bounded : TimeAtMost (reached (sim_of handlers k) r.serial r.steps).board.announced (end_of k.config) = sound.floors.bounded in
         let own : r.part.floor ≡ k.floor = r.stands.floor in
         let below : time_at_most k.floor book.end ≡ true = grind (arith, nat_tests) in
-        let between : Every (IsBetween handed_in.0 k.floor) rows =
-        subst (λ t. Every (IsBetween handed_in.0 t) rows) own
-        (subst (Every (IsBetween handed_in.0 r.part.floor)) (sym rows_are) (commit-between (sim_of handlers k) lawful r.serial r.steps k.worker r.part handed_in.0 r.there handed_in.1)) in
+        let between : AllByRecursion (IsBetween handed_in.0 k.floor) rows =
+        subst (λ t. AllByRecursion (IsBetween handed_in.0 t) rows) own
+        (subst (AllByRecursion (IsBetween handed_in.0 r.part.floor)) (sym rows_are) (commit-between (sim_of handlers k) lawful r.serial r.steps k.worker r.part handed_in.0 r.there handed_in.1)) in
         passes_both (may_commit (slice_get book.book.floors k.worker) k.floor) (time_at_most k.floor book.end && are_within (slice_get book.book.floors k.worker) k.floor rows) may-up_to
         (passes_both (time_at_most k.floor book.end) (are_within (slice_get book.book.floors k.worker) k.floor rows) below
         (ap (λ o. are_within o k.floor rows) floor-there ∙ all-within handed_in.0 k.floor rows between))

@@ -10,12 +10,12 @@ use Rattle.vt_key.proofs.OrderLemmas.{stamp_same-true}
 use Rattle.vt_stream.specs.Words.{Stream}
 use Rattle.vt_model.specs.declared.settings.Config.{Config}
 use Rattle.vt_model.specs.Handler.{Handlers}
-use Rattle.vt_model.specs.Histories.{Among}
 use Rattle.vt_model.specs.Settings.{end_of}
 use Rattle.vt_key.specs.Queues.{has_stamp, without_first, has_rank}
+use Rattle.vt_key.specs.Lists.{Among}
 use Rattle.vt_steps.specs.World.{LogicalProcess}
 use Rattle.vt_steps.specs.ProcessSteps.{ProcessEffect, are_opposite, cancel_process}
-use Rattle.vt_steps.proofs.lists.Lists.{find-among, find-passes}
+use Rattle.vt_key.proofs.ListLemmas.{find-among, find-passes}
 use Rattle.vt_pending.specs.Letters.{holds_rank, without_stamp}
 use Rattle.vt_past.specs.declared.event.PastEvent.{PastEvent}
 use Rattle.vt_lp.specs.Held.{HeldProcess, StandsFor, IsOwnLetter, IsNotPending, IsProcessInside}

@@ -7,8 +7,8 @@ use Rattle.vt_key.specs.Times.{Time, TimeBefore}
 use Rattle.vt_key.specs.declared.letter.Event.{Event}
 use Rattle.vt_key.specs.declared.letter.Letter.{Letter}
 use Rattle.vt_key.specs.declared.letter.Sign.{Sign}
+use Rattle.vt_key.specs.Lists.{Among}
 use Rattle.vt_model.specs.declared.sending.Sent.{Sent}
-use Rattle.vt_model.specs.Histories.{Among}
 use Rattle.vt_steps.specs.Letters.{unstamped, stamped, signed}
 use Rattle.vt_lp.specs.Held.{IsWithinRun}
 

@@ -1,5 +1,6 @@
 -- What a logical process with rollback keeps in memory, and which processes of a world it stands for.
 use Rattle.std.specs.Prelude.{◌≡◌, ℕ, ◌+◌, ◌-◌, ◌%◌, ◌^◌, ◌<◌, ◌≤◌, false, List, [], ◌∷◌, map, All}
+use Rattle.std.specs.List.{AllByRecursion}
 use Rattle.vt_key.specs.Times.{Time, TimeBefore}
 use Rattle.vt_key.specs.Order.{RankBefore}
 use Rattle.vt_key.specs.declared.limits.TheConstants.{MAX_COUNT}
@@ -7,6 +8,7 @@ use Rattle.vt_key.specs.declared.letter.Event.{Event}
 use Rattle.vt_key.specs.declared.letter.Letter.{Letter}
 use Rattle.vt_key.specs.declared.letter.Sign.{Sign}
 use Rattle.vt_key.specs.declared.letter.Sign.TheVariants.{Plus, Minus}
+use Rattle.vt_key.specs.Lists.{IsRisingBy}
 use Rattle.vt_stream.specs.Words.{Stream}
 use Rattle.vt_model.specs.declared.limits.TheConstants.{MAX_DRAWS}
 use Rattle.vt_model.specs.declared.settings.Config.{Config}
@@ -100,12 +102,10 @@ pub record IsOwnEvent {P K : Type 0} (config : Config) (p : ℕ) (e : PastEvent 
 module _ {P K : Type 0} where
   -- the ranks of past events rise strictly: each is after this one's
   abbrev pub AllAfter : PastEvent P K → List (PastEvent P K) → Type 0
-  AllAfter e [] = Unit {0}
-  AllAfter e (d ∷ ds) = RankBefore e.letter.event.rank d.letter.event.rank × AllAfter e ds
+  AllAfter e = AllByRecursion (λ d. RankBefore e.letter.event.rank d.letter.event.rank)
 
   abbrev pub IsRisingPast : List (PastEvent P K) → Type 0
-  IsRisingPast [] = Unit {0}
-  IsRisingPast (e ∷ es) = AllAfter e es × IsRisingPast es
+  IsRisingPast = IsRisingBy (λ d e. RankBefore d.letter.event.rank e.letter.event.rank)
 
   -- a past event is not pending too
   abbrev pub IsNotPending : List (Letter P) → PastEvent P K → Type 0

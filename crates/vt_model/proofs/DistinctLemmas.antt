@@ -1,16 +1,18 @@
 -- No two pending events of a run have one key.
 use Rattle.std.proofs.Common.{◌≡◌, ℕ, zero, suc, ◌+◌, ◌<◌, ◌≤◌, inl, inr, List, [], ◌∷◌, ◌++◌, Bool, true, false, not, filter, flat_map, sum_by, Option, Some, None, refl, sym, subst, ap, ◌∙◌, arith}
 use Rattle.std.specs.Option.{option_map_or}
+use Rattle.std.specs.List.{range_with_len}
 use Rattle.std.proofs.lemmas.List.Sums.{sum_by-cons}
 use Rattle.vt_key.specs.Keys.{Key}
 use Rattle.vt_key.specs.Order.{key_same}
+use Rattle.vt_key.specs.Lists.{Among}
 use Rattle.vt_key.proofs.OrderLemmas.{key_same-true, same-key_same}
+use Rattle.vt_key.proofs.ListLemmas.{among-append, filter-among}
 use Rattle.vt_model.specs.declared.sending.Sent.{Sent}
 use Rattle.vt_model.specs.Simulation.{Simulation, after}
-use Rattle.vt_model.specs.Sequential.{RunState, events_of, least_event, fired_after, with_event, step, after_steps, numbers_below}
-use Rattle.vt_model.specs.Histories.{Among, AreNumbered, sends_of, IsLawful}
-use Rattle.vt_model.proofs.HistoryLemmas.{among-append}
-use Rattle.vt_model.proofs.RunLemmas.{tested, filter-yes, filter-no, filter-among, numbered-among, numbered-all, known_sent, lists_of, least-found, IsReached, reached, among-below, flat-next}
+use Rattle.vt_model.specs.Sequential.{RunState, events_of, least_event, fired_after, with_event, step, after_steps}
+use Rattle.vt_model.specs.Histories.{AreNumbered, sends_of, IsLawful}
+use Rattle.vt_model.proofs.RunLemmas.{tested, filter-yes, filter-no, numbered-among, numbered-all, known_sent, lists_of, least-found, IsReached, reached, among-below, flat-next}
 
 differs : (a b : Key) → (a ≡ b → ⊥) → key_same a b ≡ false
 differs a b never = elim (tested (key_same a b)) [ inl y ↦ absurd (never (key_same-true a b y)) | inr y ↦ y ]
@@ -85,13 +87,13 @@ module _ {S P : Type 0} (sim : Simulation S P) (lawful : IsLawful sim) where
       let number : a.key.number ≡ b.key.number = ap (λ (k : Key). k.number) same in
       omega arith)
 
-  distinct_opening : (n : ℕ) → n ≤ sim.lps → AreDistinct (flat_map (λ p. (sim.start p).sends) (numbers_below n))
+  distinct_opening : (n : ℕ) → n ≤ sim.lps → AreDistinct (flat_map (λ p. (sim.start p).sends) (range_with_len 0 n))
   distinct_opening zero few = tt
   distinct_opening (suc n) few =
       let is : n < sim.lps = omega arith in
       let numbers = lawful.numbered_start n is in
       rw (flat-next (λ p. (sim.start p).sends) n)
-      (distinct-append (flat_map (λ p. (sim.start p).sends) (numbers_below n)) (sim.start n).sends (distinct_opening n (omega arith)) (distinct-numbered n 0 (sim.start n).triple.number (sim.start n).sends numbers)
+      (distinct-append (flat_map (λ p. (sim.start p).sends) (range_with_len 0 n)) (sim.start n).sends (distinct_opening n (omega arith)) (distinct-numbered n 0 (sim.start n).triple.number (sim.start n).sends numbers)
       (λ a b m k same.
       let s = among-below sim lawful (λ p. (sim.start p).sends) n a m in
       let less : s.0 < n = s.1 in

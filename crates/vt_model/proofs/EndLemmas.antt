@@ -5,19 +5,20 @@ use Rattle.std.specs.Option.{option_map_or}
 use Rattle.std.proofs.lemmas.Bool.{eqb-true, eq-eqb}
 use Rattle.std.proofs.lemmas.List.Sums.{sum_by-cons, sum_by-append}
 use Rattle.std.proofs.Math.Nat.{pow-suc, one-le-pow, pow-le-pow_right, mul-le-mul_right}
-use Rattle.vt_key.specs.Keys.{Key}
 use Rattle.vt_key.specs.Order.{KeyBefore, key_before, key_same}
 use Rattle.vt_key.proofs.OrderLemmas.{key-irreflexive, key-transitive, key_before-true, before-key_before, same-key_same}
+use Rattle.vt_key.proofs.ListLemmas.{among-filter, filter-among, rising-filter}
 use Rattle.vt_key.specs.Times.{time_left}
+use Rattle.vt_key.specs.Lists.{Among, IsRisingBy}
 use Rattle.vt_model.specs.declared.limits.TheConstants.{MAX_SENDS}
 use Rattle.vt_model.specs.declared.sending.Sent.{Sent}
 use Rattle.vt_model.specs.Simulation.{Simulation, after}
 use Rattle.vt_model.specs.Sequential.{RunState, events_before, events_of, least_event, fired_after, opening, with_event, step, after_steps, weight, whole_run, rows_after, seq_events}
-use Rattle.vt_model.specs.Histories.{Among, AllAfter, IsRising, IsHistory, IsLawful}
-use Rattle.vt_model.specs.Rows.{AreRowsRising}
+use Rattle.vt_model.specs.Histories.{IsRising, IsHistory, IsLawful}
+use Rattle.vt_model.specs.Rows.{RowBefore}
 use Rattle.vt_model.proofs.HistoryLemmas.{one_history}
 use Rattle.vt_model.proofs.RowLemmas.{rows_rise}
-use Rattle.vt_model.proofs.RunLemmas.{tested, filter-yes, filter-no, filter-among, among-filter, find-none, least-found, known_sent, lists_of, IsReached, reached, fresh-later}
+use Rattle.vt_model.proofs.RunLemmas.{tested, filter-yes, filter-no, find-none, least-found, known_sent, lists_of, IsReached, reached, fresh-later}
 
 module _ {P : Type 0} where
   -- where there is an event, some event has none before it
@@ -87,17 +88,6 @@ module _ {P : Type 0} where
       let here : f x ≤ m = h x (inl refl) in
       let product : length (x ∷ xs) * m ≡ length xs * m + m = grind arith in
       omega (arith, ih, here, product, sum_by-cons f x xs)
-
-  -- a filter of a rising list rises
-  all_after-filter : (test : Sent P → Bool) (k : Key) (xs : List (Sent P)) → AllAfter k xs → AllAfter k (filter test xs)
-  all_after-filter test k [] a = a
-  all_after-filter test k (x ∷ xs) a =
-      elim (tested (test x)) [ inl y ↦ rw (filter-yes test x xs y) (a.0, all_after-filter test k xs a.1) | inr y ↦ rw (filter-no test x xs y) (all_after-filter test k xs a.1) ]
-
-  rising-filter : (test : Sent P → Bool) (xs : List (Sent P)) → IsRising xs → IsRising (filter test xs)
-  rising-filter test [] r = r
-  rising-filter test (x ∷ xs) r =
-      elim (tested (test x)) [ inl y ↦ rw (filter-yes test x xs y) (all_after-filter test x.key xs r.0, rising-filter test xs r.1) | inr y ↦ rw (filter-no test x xs y) (rising-filter test xs r.1) ]
 
 module _ {S P : Type 0} (sim : Simulation S P) (lawful : IsLawful sim) where
   weight-nil : weight sim [] ≡ 0
@@ -183,7 +173,7 @@ module _ {S P : Type 0} (sim : Simulation S P) (lawful : IsLawful sim) where
       let r = reached sim lawful n in
       record {
         own = λ p e is m. eqb-true e.dest p (filter-among (λ d. nat_eq d.dest p) e (after_steps sim n).executed m).1;
-        rising = λ p is. rising-filter (λ d. nat_eq d.dest p) (after_steps sim n).executed r.rising;
+        rising = λ p is. rising-filter (λ d e. KeyBefore d.key e.key) (λ d. nat_eq d.dest p) (after_steps sim n).executed r.rising;
         sent = λ p e is soon m. r.made e (inr (filter-among (λ d. nat_eq d.dest p) e (after_steps sim n).executed m).0);
         had = λ e soon s. elim (r.had e s) [
           | inl left ↦ absurd (subst (Among e) ends left)
@@ -241,10 +231,10 @@ module _ {S P : Type 0} (sim : Simulation S P) (lawful : IsLawful sim) where
   whole_run-rising = (reached sim lawful (weight sim (opening sim).pending)).rising
 
   -- the rows of a run rise by key and index, wherever it is
-  pub run_rows-rise : (n : ℕ) → AreRowsRising (rows_after sim [] (after_steps sim n).executed)
+  pub run_rows-rise : (n : ℕ) → IsRisingBy RowBefore (rows_after sim [] (after_steps sim n).executed)
   run_rows-rise n = rows_rise sim lawful.rows [] (after_steps sim n).executed (reached sim lawful n).rising
 
   -- and those of the whole run
-  pub whole_rows-rise : AreRowsRising (rows_after sim [] (whole_run sim))
+  pub whole_rows-rise : IsRisingBy RowBefore (rows_after sim [] (whole_run sim))
   unfolding whole_run
   whole_rows-rise = run_rows-rise (weight sim (opening sim).pending)

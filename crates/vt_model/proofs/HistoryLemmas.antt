@@ -1,13 +1,16 @@
 -- There is one history: two of them have the same events below the time.
-use Rattle.std.proofs.Common.{◌≡◌, ℕ, zero, suc, ◌<◌, ◌≤◌, ◌⊎◌, inl, inr, List, [], ◌∷◌, ◌++◌, Bool, true, false, nat_lt, if◌then◌else◌, refl, sym, subst, ap, ◌∙◌, arith}
+use Rattle.std.proofs.Common.{◌≡◌, ℕ, zero, suc, ◌<◌, ◌≤◌, ◌⊎◌, inl, inr, List, [], ◌∷◌, Bool, true, false, nat_lt, if◌then◌else◌, refl, sym, subst, ap, ◌∙◌, arith}
 use Rattle.std.proofs.lemmas.Bool.{lt-ltb, le-ltb, ltb-true, ltb-false}
 use Rattle.vt_key.specs.Keys.{Key}
 use Rattle.vt_key.specs.Order.{KeyBefore}
+use Rattle.vt_key.specs.Times.{time_before}
+use Rattle.vt_key.specs.Lists.{Among}
 use Rattle.vt_key.proofs.OrderLemmas.{key-irreflexive, key-asymmetric}
+use Rattle.vt_key.proofs.ListLemmas.{among-left, among-right, among-append, among-filter, filter-among, every-among, rising-filter}
 use Rattle.vt_model.specs.declared.sending.Sent.{Sent}
 use Rattle.vt_model.specs.Simulation.{Simulation, Triple}
 use Rattle.vt_model.specs.Sequential.{events_before}
-use Rattle.vt_model.specs.Histories.{Among, AllAfter, IsRising, sends_from, sends_of, IsHistory, IsLawful}
+use Rattle.vt_model.specs.Histories.{AllAfter, IsRising, sends_from, sends_of, IsHistory, IsLawful}
 
 -- a time is before another or not
 early : (a t : ℕ) → (a < t) ⊎ (t ≤ a)
@@ -18,24 +21,8 @@ late_key : (a b : Key) (t : ℕ) → KeyBefore a b → t ≤ a.time → t ≤ b.
 late_key a b t h l = grind arith
 
 module _ {P : Type 0} where
-  pub among-left : (e : Sent P) (xs ys : List (Sent P)) → Among e xs → Among e (xs ++ ys)
-  among-left e [] ys h = absurd h
-  among-left e (x ∷ xs) ys (inl h) = inl h
-  among-left e (x ∷ xs) ys (inr h) = inr (among-left e xs ys h)
-
-  pub among-right : (e : Sent P) (xs ys : List (Sent P)) → Among e ys → Among e (xs ++ ys)
-  among-right e [] ys h = h
-  among-right e (x ∷ xs) ys h = inr (among-right e xs ys h)
-
-  pub among-append : (e : Sent P) (xs ys : List (Sent P)) → Among e (xs ++ ys) → Among e xs ⊎ Among e ys
-  among-append e [] ys h = inr h
-  among-append e (x ∷ xs) ys (inl h) = inl (inl h)
-  among-append e (x ∷ xs) ys (inr h) = elim (among-append e xs ys h) [ inl a ↦ inl (inr a) | inr b ↦ inr b ]
-
   pub after-among : (k : Key) (es : List (Sent P)) (e : Sent P) → AllAfter k es → Among e es → KeyBefore k e.key
-  after-among k [] e a h = absurd h
-  after-among k (d ∷ ds) e a (inl h) = rw h a.0
-  after-among k (d ∷ ds) e a (inr h) = after-among k ds e a.1 h
+  after-among k = every-among (λ e. KeyBefore k e.key)
 
   -- two rising lists with the same events are one
   pub rising-same : (xs ys : List (Sent P)) → IsRising xs → IsRising ys → ((e : Sent P) → Among e xs → Among e ys) → ((e : Sent P) → Among e ys → Among e xs) → xs ≡ ys
@@ -74,34 +61,10 @@ module _ {P : Type 0} where
   before-no t x xs h = let e : nat_lt x.key.time t ≡ false = le-ltb _ _ h in ap (λ (b : Bool). if b then (x ∷ events_before t xs) else events_before t xs) e
 
   pub among-before : (t : ℕ) (e : Sent P) (xs : List (Sent P)) → Among e xs → e.key.time < t → Among e (events_before t xs)
-  among-before t e [] h k = h
-  among-before t e (x ∷ xs) (inl at) k =
-      let l : x.key.time < t = subst (λ (d : Sent P). d.key.time < t) at k in
-      rw (before-yes t x xs l) (inl at)
-  among-before t e (x ∷ xs) (inr h) k =
-      elim (early x.key.time t) [ inl l ↦ rw (before-yes t x xs l) (inr (among-before t e xs h k)) | inr l ↦ rw (before-no t x xs l) (among-before t e xs h k) ]
+  among-before t e xs h k = among-filter (λ d. time_before d.key.time t) e xs h (lt-ltb _ _ k)
 
   pub before-among : (t : ℕ) (e : Sent P) (xs : List (Sent P)) → Among e (events_before t xs) → Among e xs × (e.key.time < t)
-  before-among t e [] h = absurd h
-  before-among t e (x ∷ xs) h =
-      elim (early x.key.time t) [
-        | inl l ↦
-            let k : Among e (x ∷ events_before t xs) = subst (Among e) (before-yes t x xs l) h in
-            elim k [ inl at ↦ (inl at, subst (λ (d : Sent P). d.key.time < t) (sym at) l) | inr m ↦ let r = before-among t e xs m in (inr r.0, r.1) ]
-        | inr l ↦
-            let k : Among e (events_before t xs) = subst (Among e) (before-no t x xs l) h in
-            let r = before-among t e xs k in (inr r.0, r.1)
-      ]
-
-  all_after-before : (t : ℕ) (k : Key) (xs : List (Sent P)) → AllAfter k xs → AllAfter k (events_before t xs)
-  all_after-before t k [] a = a
-  all_after-before t k (x ∷ xs) a =
-      elim (early x.key.time t) [ inl l ↦ rw (before-yes t x xs l) (a.0, all_after-before t k xs a.1) | inr l ↦ rw (before-no t x xs l) (all_after-before t k xs a.1) ]
-
-  pub rising-before : (t : ℕ) (xs : List (Sent P)) → IsRising xs → IsRising (events_before t xs)
-  rising-before t [] r = r
-  rising-before t (x ∷ xs) r =
-      elim (early x.key.time t) [ inl l ↦ rw (before-yes t x xs l) (all_after-before t x.key xs r.0, rising-before t xs r.1) | inr l ↦ rw (before-no t x xs l) (rising-before t xs r.1) ]
+  before-among t e xs h = let r = filter-among (λ d. time_before d.key.time t) e xs h in (r.0, ltb-true e.key.time t r.1)
 
   late-before : (t : ℕ) (k : Key) (xs : List (Sent P)) → t ≤ k.time → AllAfter k xs → events_before t xs ≡ []
   late-before t k [] l a = refl
@@ -187,6 +150,6 @@ module _ {S P : Type 0} (sim : Simulation S P) (lawful : IsLawful sim) where
       λ q d. one_history below lists others h k t (omega arith) q d in
       let sooner : t < below = omega arith in
       rising-same (events_before (suc t) (lists p)) (events_before (suc t) (others p))
-      (rising-before (suc t) (lists p) (h.rising p is)) (rising-before (suc t) (others p) (k.rising p is))
+      (rising-filter (λ d e. KeyBefore d.key e.key) (λ e. time_before e.key.time (suc t)) (lists p) (h.rising p is)) (rising-filter (λ d e. KeyBefore d.key e.key) (λ e. time_before e.key.time (suc t)) (others p) (k.rising p is))
       (λ e m. carried below t lists others h k sooner agree p e is m)
       (λ e m. carried below t others lists k h sooner (λ q d. sym (agree q d)) p e is m)

@@ -3,13 +3,14 @@ use Rattle.std.proofs.Common.{◌≡◌, ℕ, suc, ◌+◌, ◌<◌, ◌≤◌, 
 use Rattle.std.specs.List.{All, enumerate_from}
 use Rattle.std.proofs.lemmas.List.Elements.{All-head, All-tail}
 use Rattle.std.proofs.lemmas.Bool.{lt-ltb, le-ltb, ltb-true, ltb-false}
+use Rattle.vt_key.specs.Lists.{Among}
 use Rattle.vt_model.specs.declared.sending.Sent.{Sent}
 use Rattle.vt_model.specs.declared.settings.Config.{Config}
 use Rattle.vt_stream.specs.Words.{seed_key}
 use Rattle.vt_model.specs.Sends.{SendRequest, sent_event, sent_events, receive_time}
 use Rattle.vt_model.specs.Handler.{Handlers, IsSendable, IsWithinLimits, AreWords}
 use Rattle.vt_model.specs.Simulation.{Triple, words_at, start_of, fire_of, simulation_of, after, after_from}
-use Rattle.vt_model.specs.Histories.{Among, AreNumbered, IsLawful}
+use Rattle.vt_model.specs.Histories.{AreNumbered, IsLawful}
 use Rattle.vt_stream.proofs.WordLemmas.{word_below}
 use Rattle.vt_model.proofs.RowLemmas.{has_rows}
 use Rattle.vt_model.specs.Settings.{end_of}

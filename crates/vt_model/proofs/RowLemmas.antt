@@ -2,9 +2,11 @@
 use Rattle.std.proofs.Common.{◌≡◌, ℕ, suc, ◌+◌, ◌<◌, inl, inr, List, [], ◌∷◌, ◌++◌, Bool, true, false, map, filter, nat_lt, if◌then◌else◌, refl, sym, subst, ap, ◌∙◌, arith}
 use Rattle.std.specs.List.{enumerate_from, AllByRecursion}
 use Rattle.std.proofs.lemmas.Bool.{lt-ltb}
+use Rattle.vt_key.proofs.ListLemmas.{every-append}
 use Rattle.vt_key.specs.Keys.{Key}
 use Rattle.vt_key.specs.Order.{KeyBefore}
 use Rattle.vt_key.specs.Times.{ticks_of, priority_of}
+use Rattle.vt_key.specs.Lists.{Among, IsRisingBy}
 use Rattle.vt_model.specs.declared.rows.Record.{Record}
 use Rattle.vt_model.specs.declared.rows.Row.{Row}
 use Rattle.vt_model.specs.declared.sending.Sent.{Sent}
@@ -13,8 +15,8 @@ use Rattle.vt_model.specs.Sends.{RecordRequest, requested_records}
 use Rattle.vt_model.specs.Handler.{Handlers}
 use Rattle.vt_model.specs.Simulation.{Simulation, Triple, rows_of, fire_of, simulation_of, words_at}
 use Rattle.vt_model.specs.Sequential.{fired_after, rows_after}
-use Rattle.vt_model.specs.Histories.{Among, AllAfter, IsRising}
-use Rattle.vt_model.specs.Rows.{AreRowsRising, AreRowsOf, record_time, records_before, RowBefore}
+use Rattle.vt_model.specs.Histories.{AllAfter, IsRising}
+use Rattle.vt_model.specs.Rows.{AreRowsOf, record_time, records_before, RowBefore}
 
 told_from : (key : Key) (n : ℕ) (rs : List Record) → map (λ (r : Row). r.rec) (map (λ (q : ℕ × Record). record { key = key; index = q.0; rec = q.1 }) (enumerate_from n rs)) ≡ rs
 told_from key n [] = refl
@@ -43,15 +45,11 @@ late_rows k a (r ∷ rs) n same less h =
     let below : a.index < r.index = omega arith in
     (inr (same ∙ sym h.0, below), late_rows k a rs (suc n) same (omega arith) h.3)
 
-after_append : (a : Row) (xs ys : List Row) → AllByRecursion (RowBefore a) xs → AllByRecursion (RowBefore a) ys → AllByRecursion (RowBefore a) (xs ++ ys)
-after_append a [] ys h k = k
-after_append a (x ∷ xs) ys h k = (h.0, after_append a xs ys h.1 k)
-
-rising_append : (k : Key) (n : ℕ) (xs ys : List Row) → AreRowsOf k n xs → AreRowsRising ys → ((a : Row) → a.key ≡ k → AllByRecursion (RowBefore a) ys) → AreRowsRising (xs ++ ys)
+rising_append : (k : Key) (n : ℕ) (xs ys : List Row) → AreRowsOf k n xs → IsRisingBy RowBefore ys → ((a : Row) → a.key ≡ k → AllByRecursion (RowBefore a) ys) → IsRisingBy RowBefore (xs ++ ys)
 rising_append k n [] ys h r all = r
 rising_append k n (x ∷ xs) ys h r all =
     let less : x.index < suc n = let at : x.index ≡ n = h.1 in omega arith in
-    (after_append x xs ys (late_rows k x xs (suc n) h.0 less h.3) (all x h.0), rising_append k (suc n) xs ys h.3 r all)
+    (every-append (RowBefore x) xs ys (late_rows k x xs (suc n) h.0 less h.3) (all x h.0), rising_append k (suc n) xs ys h.3 r all)
 
 module _ {S P : Type 0} (sim : Simulation S P) (rows : (p : ℕ) (t : Triple S) (e : Sent P) → AreRowsOf e.key 0 (sim.fire p t e).rows) where
   key_after : (a : Row) (k : Key) (n : ℕ) (rs : List Row) → KeyBefore a.key k → AreRowsOf k n rs → AllByRecursion (RowBefore a) rs
@@ -61,10 +59,10 @@ module _ {S P : Type 0} (sim : Simulation S P) (rows : (p : ℕ) (t : Triple S) 
   later_rows : (a : Row) (done xs : List (Sent P)) → AllAfter a.key xs → AllByRecursion (RowBefore a) (rows_after sim done xs)
   unfolding fired_after
   later_rows a done [] h = tt
-  later_rows a done (x ∷ xs) h = after_append a (fired_after sim done x).rows (rows_after sim (done ++ x ∷ []) xs) (key_after a x.key 0 (fired_after sim done x).rows h.0 (rows x.dest _ x)) (later_rows a (done ++ x ∷ []) xs h.1)
+  later_rows a done (x ∷ xs) h = every-append (RowBefore a) (fired_after sim done x).rows (rows_after sim (done ++ x ∷ []) xs) (key_after a x.key 0 (fired_after sim done x).rows h.0 (rows x.dest _ x)) (later_rows a (done ++ x ∷ []) xs h.1)
 
   -- the rows of events in rising order of keys rise by (key, index): each stands once
-  pub rows_rise : (done xs : List (Sent P)) → IsRising xs → AreRowsRising (rows_after sim done xs)
+  pub rows_rise : (done xs : List (Sent P)) → IsRising xs → IsRisingBy RowBefore (rows_after sim done xs)
   unfolding fired_after
   rows_rise done [] r = tt
   rows_rise done (x ∷ xs) r =
@@ -109,18 +107,3 @@ module _ {S P : Type 0} (sim : Simulation S P) (rows : (p : ℕ) (t : Triple S) 
   unfolding fired_after
   all_before t done [] h = refl
   all_before t done (x ∷ xs) h = filter_all t x.key 0 (fired_after sim done x).rows (rows_after sim (done ++ x ∷ []) xs) (rows x.dest _ x) (h x (inl refl)) (all_before t (done ++ x ∷ []) xs (λ e m. h e (inr m)))
-
--- a filter of rising rows rises
-after_filter : (test : Row → Bool) (a : Row) (rs : List Row) → AllByRecursion (RowBefore a) rs → AllByRecursion (RowBefore a) (filter test rs)
-after_filter test a [] h = tt
-after_filter test a (r ∷ rs) h = go (test r) (after_filter test a rs h.1) where
-  go : (b : Bool) → AllByRecursion (RowBefore a) (filter test rs) → AllByRecursion (RowBefore a) (if b then (r ∷ filter test rs) else filter test rs)
-  go true rest = (h.0, rest)
-  go false rest = rest
-
-pub rising_filter : (test : Row → Bool) (rs : List Row) → AreRowsRising rs → AreRowsRising (filter test rs)
-rising_filter test [] h = tt
-rising_filter test (r ∷ rs) h = go (test r) (rising_filter test rs h.1) where
-  go : (b : Bool) → AreRowsRising (filter test rs) → AreRowsRising (if b then (r ∷ filter test rs) else filter test rs)
-  go true rest = (after_filter test r rs h.0, rest)
-  go false rest = rest

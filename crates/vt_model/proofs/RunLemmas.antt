@@ -1,26 +1,37 @@
 -- The sequential run makes the one history.
-use Rattle.std.proofs.Common.{◌≡◌, ℕ, zero, suc, ◌<◌, ◌≤◌, ◌⊎◌, inl, inr, List, [], ◌∷◌, ◌++◌, Bool, true, false, not, ◌&&◌, filter, find, Option, Some, None, nat_lt, nat_eq, flat_map, if◌then◌else◌, refl, sym, subst, ap, ◌∙◌, arith, append_assoc, append-nil, ◌+◌, map}
-use Rattle.std.specs.List.{list_all}
+use Rattle.std.proofs.Common.{◌≡◌, ℕ, zero, suc, ◌<◌, ◌≤◌, ◌⊎◌, inl, inr, List, [], ◌∷◌, ◌++◌, Bool, true, false, not, ◌&&◌, filter, find, Option, Some, None, nat_eq, flat_map, if◌then◌else◌, refl, sym, subst, ap, ◌∙◌, arith, append_assoc, append-nil, ◌+◌, map}
+use Rattle.std.specs.List.{list_all, range_with_len}
 use Rattle.std.specs.Option.{option_map_or}
-use Rattle.std.proofs.lemmas.Bool.{ltb-true, ltb-false, eqb-true, eq-eqb}
-use Rattle.std.proofs.lemmas.List.{map-append}
+use Rattle.std.proofs.lemmas.Bool.{eqb-true, eq-eqb}
 use Rattle.std.proofs.lemmas.List.Elements.{filter-append}
 use Rattle.std.proofs.lemmas.Grind.{flat_map-append}
+use Rattle.std.proofs.lemmas.List.FromFn.{map-range_with_len_more}
 use Rattle.vt_key.specs.Keys.{Key}
 use Rattle.vt_key.specs.Order.{KeyBefore, key_before, key_same}
+use Rattle.vt_key.specs.Lists.{Among}
 use Rattle.vt_key.proofs.OrderLemmas.{key-transitive, key-total, before-key_before, key_same-true, same-key_same}
+use Rattle.vt_key.proofs.ListLemmas.{among-range, range-among, among-flat_map, flat_map-among, among-left, among-right, among-append, among-filter, filter-among, find-among, find-passes, rising-append}
 use Rattle.vt_model.specs.declared.sending.Sent.{Sent}
 use Rattle.vt_model.specs.Simulation.{Simulation, Triple, after, after_from}
-use Rattle.vt_model.specs.Sequential.{RunState, events_of, least_event, fired_after, opening, with_event, step, after_steps, numbers_below}
-use Rattle.vt_model.specs.Histories.{Among, AllAfter, IsRising, AreNumbered, sends_from, sends_of, IsSent, IsLawful}
-use Rattle.vt_model.proofs.HistoryLemmas.{among-left, among-right, among-append}
+use Rattle.vt_model.specs.Sequential.{RunState, events_of, least_event, fired_after, opening, with_event, step, after_steps}
+use Rattle.vt_model.specs.Histories.{IsRising, AreNumbered, sends_from, sends_of, IsSent, IsLawful}
 
 -- one number more
-pub map-next : {X : Type 0} (f : ℕ → X) (n : ℕ) → map f (numbers_below (n + 1)) ≡ map f (numbers_below n) ++ f n ∷ []
-map-next f n = let next : n + 1 ≡ suc n = omega arith in ap (λ k. map f (numbers_below k)) next ∙ map-append f (numbers_below n) (n ∷ [])
+pub map-next : {X : Type 0} (f : ℕ → X) (n : ℕ) → map f (range_with_len 0 (n + 1)) ≡ map f (range_with_len 0 n) ++ f n ∷ []
+map-next f n = map-range_with_len_more f 0 n n (omega arith)
 
-pub flat-next : {X : Type 0} (f : ℕ → List X) (n : ℕ) → flat_map f (numbers_below (suc n)) ≡ flat_map f (numbers_below n) ++ f n
-flat-next {X} f n = flat_map-append f (numbers_below n) (n ∷ []) ∙ ap (λ (l : List X). flat_map f (numbers_below n) ++ l) (append-nil (f n))
+range_with_len-next : (a n : ℕ) → range_with_len a (suc n) ≡ range_with_len a n ++ (a + n) ∷ []
+range_with_len-next a zero = let same : a ≡ a + 0 = omega arith in ap (λ k. k ∷ []) same
+range_with_len-next a (suc n) =
+    let same : a + 1 + n ≡ a + suc n = omega arith in
+    ap (λ ks. a ∷ ks) (range_with_len-next (a + 1) n) ∙ ap (λ k. a ∷ range_with_len (a + 1) n ++ k ∷ []) same
+
+pub range-next : (n : ℕ) → range_with_len 0 (suc n) ≡ range_with_len 0 n ++ n ∷ []
+range-next n = let same : 0 + n ≡ n = omega arith in range_with_len-next 0 n ∙ ap (λ k. range_with_len 0 n ++ k ∷ []) same
+
+pub flat-next : {X : Type 0} (f : ℕ → List X) (n : ℕ) → flat_map f (range_with_len 0 (suc n)) ≡ flat_map f (range_with_len 0 n) ++ f n
+flat-next {X} f n =
+    ap (flat_map f) (range-next n) ∙ flat_map-append f (range_with_len 0 n) (n ∷ []) ∙ ap (λ (l : List X). flat_map f (range_with_len 0 n) ++ l) (append-nil (f n))
 
 -- a test is true or false
 pub tested : (b : Bool) → (b ≡ true) ⊎ (b ≡ false)
@@ -73,36 +84,6 @@ module _ {P : Type 0} where
   pub filter-no : (test : Sent P → Bool) (x : Sent P) (xs : List (Sent P)) → test x ≡ false → filter test (x ∷ xs) ≡ filter test xs
   filter-no test x xs e = ap (λ (b : Bool). if b then (x ∷ filter test xs) else filter test xs) e
 
-  pub among-filter : (test : Sent P → Bool) (e : Sent P) (xs : List (Sent P)) → Among e xs → test e ≡ true → Among e (filter test xs)
-  among-filter test e [] h t = h
-  among-filter test e (x ∷ xs) (inl at) t = let y : test x ≡ true = ap test (sym at) ∙ t in rw (filter-yes test x xs y) (inl at)
-  among-filter test e (x ∷ xs) (inr h) t =
-      elim (tested (test x)) [ inl y ↦ rw (filter-yes test x xs y) (inr (among-filter test e xs h t)) | inr y ↦ rw (filter-no test x xs y) (among-filter test e xs h t) ]
-
-  pub filter-among : (test : Sent P → Bool) (e : Sent P) (xs : List (Sent P)) → Among e (filter test xs) → Among e xs × (test e ≡ true)
-  filter-among test e [] h = absurd h
-  filter-among test e (x ∷ xs) h =
-      elim (tested (test x)) [
-        | inl y ↦
-            let k : Among e (x ∷ filter test xs) = subst (Among e) (filter-yes test x xs y) h in
-            elim k [ inl at ↦ (inl at, ap test at ∙ y) | inr m ↦ let r = filter-among test e xs m in (inr r.0, r.1) ]
-        | inr y ↦
-            let k : Among e (filter test xs) = subst (Among e) (filter-no test x xs y) h in
-            let r = filter-among test e xs k in (inr r.0, r.1)
-      ]
-
-  find-found : (test : Sent P → Bool) (xs : List (Sent P)) (e : Sent P) → find test xs ≡ Some e → Among e xs × (test e ≡ true)
-  find-found test [] e h = absurd (cc)
-  find-found test (x ∷ xs) e h =
-      elim (tested (test x)) [
-        | inl y ↦
-            let at : x ≡ e = let k : Some x ≡ Some e = sym (ap (λ (b : Bool). if b then Some x else find test xs) y) ∙ h in cc in
-            (inl (sym at), ap test (sym at) ∙ y)
-        | inr y ↦
-            let k : find test xs ≡ Some e = sym (ap (λ (b : Bool). if b then Some x else find test xs) y) ∙ h in
-            let r = find-found test xs e k in (inr r.0, r.1)
-      ]
-
   pub find-none : (test : Sent P → Bool) (xs : List (Sent P)) (e : Sent P) → find test xs ≡ None → Among e xs → test e ≡ false
   find-none test [] e h m = absurd m
   find-none test (x ∷ xs) e h m =
@@ -125,11 +106,9 @@ module _ {P : Type 0} where
       ]
 
   rising-snoc : (xs : List (Sent P)) (e : Sent P) → IsRising xs → ((d : Sent P) → Among d xs → KeyBefore d.key e.key) → IsRising (xs ++ e ∷ [])
-  rising-snoc [] e r b = (tt, tt)
-  rising-snoc (x ∷ xs) e r b = (all_after-snoc x.key xs r.0 (b x (inl refl)), rising-snoc xs e r.1 (λ d m. b d (inr m))) where
-    all_after-snoc : (k : Key) (ys : List (Sent P)) → AllAfter k ys → KeyBefore k e.key → AllAfter k (ys ++ e ∷ [])
-    all_after-snoc k [] a h = (h, tt)
-    all_after-snoc k (y ∷ ys) a h = (a.0, all_after-snoc k ys a.1 h)
+  rising-snoc xs e r before =
+      rising-append (λ (c d : Sent P). KeyBefore c.key d.key) xs (e ∷ []) r (tt, tt)
+      (λ c d m n. elim n [ inl at ↦ subst (λ (x : Sent P). KeyBefore c.key x.key) (sym at) (before c m) | inr never ↦ absurd never ])
 
   -- the events of a process, with one more
   pub events_of-same : (p : ℕ) (xs : List (Sent P)) (e : Sent P) → e.dest ≡ p → events_of p (xs ++ e ∷ []) ≡ events_of p xs ++ e ∷ []
@@ -141,10 +120,10 @@ module _ {P : Type 0} where
   -- the least event is in the set, and none is before it
   pub least-found : (es : List (Sent P)) (e : Sent P) → least_event es ≡ Some e → Among e es × ((d : Sent P) → Among d es → KeyBefore d.key e.key → ⊥)
   least-found es e h =
-      let r = find-found (λ x. list_all (λ d. not (key_before d.key x.key)) es) es e h in (
-        r.0,
+      let first = λ (x : Sent P). list_all (λ d. not (key_before d.key x.key)) es in (
+        find-among first es e h,
         λ d m before.
-            let t : not (key_before d.key e.key) ≡ true = all-among (λ d. not (key_before d.key e.key)) es d r.1 m in
+            let t : not (key_before d.key e.key) ≡ true = all-among (λ d. not (key_before d.key e.key)) es d (find-passes first es e h) m in
             let u : key_before d.key e.key ≡ true = before-key_before d.key e.key before in
             let v : false ≡ true = sym (ap not u) ∙ t in absurd (cc),
       )
@@ -299,22 +278,14 @@ module _ {S P : Type 0} (sim : Simulation S P) (lawful : IsLawful sim) where
       }
 
   -- the starts
-  pub below-among : (f : ℕ → List (Sent P)) (n q : ℕ) (e : Sent P) → q < n → Among e (f q) → Among e (flat_map f (numbers_below n))
-  below-among f zero q e l m = absurd (omega arith)
-  below-among f (suc n) q e l m =
-      rw (flat-next f n) (elim (tested (nat_lt q n)) [
-        | inl y ↦ among-left e (flat_map f (numbers_below n)) (f n) (below-among f n q e (ltb-true q n y) m)
-        | inr y ↦ let high : n ≤ q = ltb-false q n y in let at : q ≡ n = omega arith in
-            among-right e (flat_map f (numbers_below n)) (f n) (subst (λ (k : ℕ). Among e (f k)) at m)
-      ])
+  pub below-among : (f : ℕ → List (Sent P)) (n q : ℕ) (e : Sent P) → q < n → Among e (f q) → Among e (flat_map f (range_with_len 0 n))
+  below-among f n q e l m = among-flat_map f e q (range_with_len 0 n) (among-range q 0 n (omega arith) (omega (arith, l))) m
 
-  pub among-below : (f : ℕ → List (Sent P)) (n : ℕ) (e : Sent P) → Among e (flat_map f (numbers_below n)) → (q : ℕ) × (q < n) × Among e (f q)
-  among-below f zero e m = absurd m
-  among-below f (suc n) e m =
-      elim (among-append e (flat_map f (numbers_below n)) (f n) (subst (Among e) (flat-next f n) m)) [
-        | inl a ↦ let r = among-below f n e a in let l : r.0 < n = r.1 in (r.0, omega arith, r.2)
-        | inr a ↦ (n, omega arith, a)
-      ]
+  pub among-below : (f : ℕ → List (Sent P)) (n : ℕ) (e : Sent P) → Among e (flat_map f (range_with_len 0 n)) → (q : ℕ) × (q < n) × Among e (f q)
+  among-below f n e m =
+      let r = flat_map-among f e (range_with_len 0 n) m in
+      let bounds = range-among r.0 0 n r.1 in
+      (r.0, omega (arith, bounds.1), r.2)
 
   pub reached_opening : IsReached (opening sim)
   reached_opening = record {

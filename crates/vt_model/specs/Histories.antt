@@ -1,28 +1,23 @@
 -- Histories: for each process the events that it executed, as the sends alone determine them; and the laws of a simulation.
-use Rattle.std.specs.Prelude.{◌≡◌, ℕ, suc, length, ◌<◌, ◌≤◌, ◌⊎◌, List, [], ◌∷◌, ◌++◌}
+use Rattle.std.specs.Prelude.{◌≡◌, ℕ, suc, length, ◌<◌, ◌≤◌, List, [], ◌∷◌, ◌++◌}
+use Rattle.std.specs.List.{AllByRecursion}
 use Rattle.vt_key.specs.Keys.{Key}
 use Rattle.vt_key.specs.Order.{KeyBefore}
 use Rattle.vt_model.specs.declared.sending.Sent.{Sent}
 use Rattle.vt_key.specs.Times.{Time, TimeBefore, at}
 use Rattle.vt_key.specs.declared.limits.TheConstants.{MAX_WORKERS, MAX_END}
+use Rattle.vt_key.specs.Lists.{Among, IsRisingBy}
 use Rattle.vt_model.specs.declared.limits.TheConstants.{MAX_SENDS}
 use Rattle.vt_model.specs.Rows.{AreRowsOf}
 use Rattle.vt_model.specs.Simulation.{Simulation, Triple}
 
--- x stands in the list
-abbrev pub Among : {X : Type 0} → X → List X → Type 0
-Among x [] = ⊥
-Among x (y ∷ ys) = (x ≡ y) ⊎ Among x ys
-
 -- each event of the list is after this key
 abbrev pub AllAfter : {P : Type 0} → Key → List (Sent P) → Type 0
-AllAfter k [] = Unit {0}
-AllAfter k (e ∷ es) = KeyBefore k e.key × AllAfter k es
+AllAfter k = AllByRecursion (λ e. KeyBefore k e.key)
 
 -- the keys of the list rise strictly
 abbrev pub IsRising : {P : Type 0} → List (Sent P) → Type 0
-IsRising [] = Unit {0}
-IsRising (e ∷ es) = AllAfter e.key es × IsRising es
+IsRising = IsRisingBy (λ d e. KeyBefore d.key e.key)
 
 -- sends of one process whose numbers rise strictly, from lo on and below hi
 abbrev pub AreNumbered : {P : Type 0} → ℕ → ℕ → ℕ → List (Sent P) → Type 0

@@ -1,6 +1,5 @@
 -- The order of rows, and what an event's rows are.
 use Rattle.std.specs.Prelude.{◌≡◌, ℕ, suc, ◌<◌, ◌⊎◌, List, [], ◌∷◌, filter}
-use Rattle.std.specs.List.{AllByRecursion}
 use Rattle.vt_key.specs.Keys.{Key}
 use Rattle.vt_key.specs.Times.{Time, at, time_before}
 use Rattle.vt_model.specs.declared.rows.Record.{Record}
@@ -18,11 +17,6 @@ records_before t rs = filter (λ r. time_before (record_time r) t) rs
 -- one row is before another, by key and then by index
 abbrev pub RowBefore : Row → Row → Type 0
 RowBefore a b = KeyBefore a.key b.key ⊎ ((a.key ≡ b.key) × (a.index < b.index))
-
--- each row is before all that follow it, so none stands twice
-abbrev pub AreRowsRising : List Row → Type 0
-AreRowsRising [] = Unit {0}
-AreRowsRising (r ∷ rs) = AllByRecursion (RowBefore r) rs × AreRowsRising rs
 
 -- rows of one event, from an index on: they have its key and its time, and indices one after the other
 abbrev pub AreRowsOf : Key → ℕ → List Row → Type 0

@@ -1,7 +1,7 @@
 -- The sequential run of a simulation: always the event of least key, of those that were sent and not yet executed. It
 -- knows no rollback, letter, colour or count.
 use Rattle.std.specs.Prelude.{ℕ, zero, suc, ◌+◌, ◌^◌, List, [], ◌∷◌, ◌++◌, Option, not, nat_eq, filter, find, map, flat_map, sum_by}
-use Rattle.std.specs.List.{list_all}
+use Rattle.std.specs.List.{list_all, range_with_len}
 use Rattle.std.specs.Option.{option_map_or}
 use Rattle.vt_key.specs.Times.{Time, time_before, time_left}
 use Rattle.vt_key.specs.Order.{key_before, key_same}
@@ -10,11 +10,6 @@ use Rattle.vt_model.specs.declared.rows.Row.{Row}
 use Rattle.vt_model.specs.declared.rows.Record.{Record}
 use Rattle.vt_model.specs.declared.sending.Sent.{Sent}
 use Rattle.vt_model.specs.Simulation.{Simulation, Fired, after}
-
--- the numbers below n
-abbrev pub numbers_below : ℕ → List ℕ
-numbers_below zero = []
-numbers_below (suc n) = numbers_below n ++ n ∷ []
 
 -- where a run is: the set of events that were sent and not executed, and the executed ones in their order
 pub record RunState (P : Type 0) : Type 0 where
@@ -49,7 +44,7 @@ module _ {S P : Type 0} (sim : Simulation S P) where
 
   -- at first the sends of all starts are pending
   abbrev pub opening : RunState P
-  opening = record { pending = flat_map (λ p. (sim.start p).sends) (numbers_below sim.lps); executed = [] }
+  opening = record { pending = flat_map (λ p. (sim.start p).sends) (range_with_len 0 sim.lps); executed = [] }
 
   -- an event is executed: it is taken out of the pending ones, and what it sends is put in
   abbrev pub with_event : RunState P → Sent P → RunState P
@@ -95,4 +90,4 @@ module _ {S P : Type 0} (sim : Simulation S P) where
 
   -- the final value of each process, in rising order of processes
   abbrev pub seq_finals : List ℕ
-  seq_finals = map (λ p. sim.finish p (after sim p (events_of p whole_run)).state) (numbers_below sim.lps)
+  seq_finals = map (λ p. sim.finish p (after sim p (events_of p whole_run)).state) (range_with_len 0 sim.lps)

@@ -2,11 +2,12 @@
 
 ghost use Rattle.std.specs.Prelude.{◌≡◌, ◌<◌, ◌≤◌, ℕ, suc, List, [], length};
 ghost use Rattle.vt_key.specs.Times.{Time};
+ghost use Rattle.vt_key.specs.Lists.{IsRisingBy};
 ghost use Rattle.vt_model.specs.Simulation.{simulation_of};
 ghost use Rattle.vt_model.specs.Sequential.{opening, after_steps, weight, whole_run, rows_after, seq_rows, seq_events, events_before};
 ghost use Rattle.vt_model.specs.Histories.{IsHistory, IsLawful, IsRising};
-ghost use Rattle.vt_model.specs.Rows.{AreRowsRising};
 ghost use Rattle.vt_model.specs.declared.sending.Sent.{Sent};
+ghost use Rattle.vt_model.specs.Rows.{RowBefore};
 
 use crate::{Config, Model};
 
@@ -28,9 +29,9 @@ pub fn run_ends<M: Model>(model: &M, config: Config)
 pub fn rows_rise<M: Model>(model: &M, config: Config)
     ensures keys { let sim = simulation_of (M.handlers model.now) config in (n : ℕ) → IsRising (after_steps sim n).executed }
     ensures whole_keys { IsRising (whole_run (simulation_of (M.handlers model.now) config)) }
-    ensures after_each_step { let sim = simulation_of (M.handlers model.now) config in (n : ℕ) → AreRowsRising (rows_after sim [] (after_steps sim n).executed) }
-    ensures whole { let sim = simulation_of (M.handlers model.now) config in AreRowsRising (rows_after sim [] (whole_run sim)) }
-    ensures before { (t : Time) → AreRowsRising (seq_rows (simulation_of (M.handlers model.now) config) t) }
+    ensures after_each_step { let sim = simulation_of (M.handlers model.now) config in (n : ℕ) → IsRisingBy RowBefore (rows_after sim [] (after_steps sim n).executed) }
+    ensures whole { let sim = simulation_of (M.handlers model.now) config in IsRisingBy RowBefore (rows_after sim [] (whole_run sim)) }
+    ensures before { (t : Time) → IsRisingBy RowBefore (seq_rows (simulation_of (M.handlers model.now) config) t) }
 {}
 
 /// There is only one history. Take for each process, below some time, exactly the events that the processes send to it, in

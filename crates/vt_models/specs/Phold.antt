@@ -1,8 +1,8 @@
 -- What the handlers of `Phold` give.
 use Rattle.std.specs.Prelude.{ℕ, ◌+◌, ◌-◌, ◌%◌, ◌^◌, List, [], ◌∷◌, Bool, nat_lt, map, if◌then◌else◌}
+use Rattle.std.specs.List.{range_with_len}
 use Rattle.vt_model.specs.Handler.{Handlers, StartResult, ForwardResult}
 use Rattle.vt_model.specs.Sends.{SendRequest}
-use Rattle.vt_model.specs.Sequential.{numbers_below}
 use Rattle.vt_models.specs.declared.phold.Phold.{Phold}
 use Rattle.vt_models.specs.declared.phold.TheConstants.{PERCENT, REMOTE}
 use Rattle.vt_stream.specs.Drawn.{scaled}
@@ -14,7 +14,7 @@ scheduled m dest w = record { dest = dest; delay = m.lookahead + scaled w m.span
 
 -- the first events of a process, at the process itself, a word for each
 abbrev pub first_events : Phold → ℕ → (ℕ → ℕ) → ℕ → List (SendRequest (Unit {0}))
-first_events m lp words n = map (λ i. scheduled m lp (words i)) (numbers_below n)
+first_events m lp words n = map (λ i. scheduled m lp (words i)) (range_with_len 0 n)
 
 -- a process starts at count 0 with as many events as the population says
 abbrev pub phold_start : Phold → ℕ → (ℕ → ℕ) → StartResult ℕ (Unit {0})

@@ -1,9 +1,10 @@
 -- The laws of `Phold`.
-use Rattle.std.proofs.Common.{◌≡◌, ℕ, zero, suc, if◌then◌else◌, ◌^◌, ◌<◌, [], ◌∷◌, ◌++◌, length, All, true, false, refl, sym, subst, ap, ◌∙◌, arith}
+use Rattle.std.proofs.Common.{◌≡◌, ℕ, zero, suc, if◌then◌else◌, ◌^◌, ◌<◌, [], ◌∷◌, ◌++◌, length, map, All, true, false, refl, sym, subst, ap, ◌∙◌, arith}
 use Rattle.std.proofs.lemmas.List.Elements.{All-nil, All-cons, All-append}
 use Rattle.std.proofs.lemmas.List.{map-append, length-append}
+use Rattle.std.specs.List.{range_with_len}
 use Rattle.vt_model.specs.Handler.{ForwardResult, IsWithinLimits, IsSendable, AreWords}
-use Rattle.vt_model.specs.Sequential.{numbers_below}
+use Rattle.vt_model.proofs.RunLemmas.{range-next}
 use Rattle.vt_models.specs.declared.phold.Phold.{Phold}
 use Rattle.vt_stream.specs.Drawn.{scaled}
 use Rattle.vt_stream.specs.DrawnLaws.{scaled_below}
@@ -17,7 +18,7 @@ one_event m lps now dest w known = All-cons (IsSendable lps now) (scheduled m de
 
 -- one scheduled more
 pub first_events-suc : (m : Phold) (lp : ℕ) (words : ℕ → ℕ) (n : ℕ) → first_events m lp words (suc n) ≡ first_events m lp words n ++ scheduled m lp (words n) ∷ []
-first_events-suc m lp words n = map-append (λ (i : ℕ). scheduled m lp (words i)) (numbers_below n) (n ∷ [])
+first_events-suc m lp words n = ap (map (λ (i : ℕ). scheduled m lp (words i))) (range-next n) ∙ map-append (λ (i : ℕ). scheduled m lp (words i)) (range_with_len 0 n) (n ∷ [])
 
 pub first_events_ok : (m : Phold) (lps now lp : ℕ) (words : ℕ → ℕ) (n : ℕ) → lp < lps → (length (first_events m lp words n) ≡ n) × All (IsSendable lps now) (first_events m lp words n)
 first_events_ok m lps now lp words zero known = (refl, All-nil (IsSendable lps now))

@@ -1,16 +1,18 @@
 -- The packets of a run are kept.
 use Rattle.std.proofs.Common.{◌≡◌, ℕ, zero, suc, ◌+◌, inl, List, [], ◌∷◌, ◌++◌, false, not, filter, flat_map, nat_eq, sum_by, if◌then◌else◌, Option, Some, None, refl, ap, ◌∙◌, arith, append-nil, append_assoc}
 use Rattle.std.specs.Option.{option_map_or}
+use Rattle.std.specs.List.{range_with_len}
 use Rattle.std.proofs.lemmas.List.{map-append}
 use Rattle.std.proofs.lemmas.List.Sums.{sum_by-append, sum_by_push}
 use Rattle.vt_key.specs.Order.{key_same}
+use Rattle.vt_key.specs.Lists.{Among}
 use Rattle.vt_model.specs.declared.rows.Row.{Row}
 use Rattle.vt_model.specs.declared.rows.Record.{Record}
 use Rattle.vt_model.specs.declared.sending.Sent.{Sent}
 use Rattle.vt_model.specs.declared.settings.Config.{Config}
 use Rattle.vt_model.specs.Simulation.{Triple, words_at, start_of, fire_of, after}
-use Rattle.vt_model.specs.Sequential.{RunState, events_of, least_event, fired_after, opening, with_event, step, after_steps, rows_after, records_of, numbers_below}
-use Rattle.vt_model.specs.Histories.{Among, IsLawful}
+use Rattle.vt_model.specs.Sequential.{RunState, events_of, least_event, fired_after, opening, with_event, step, after_steps, rows_after, records_of}
+use Rattle.vt_model.specs.Histories.{IsLawful}
 use Rattle.vt_model.specs.Settings.{end_of}
 use Rattle.vt_model.proofs.LawLemmas.{lawful_of, after_state}
 use Rattle.vt_model.proofs.RunLemmas.{after-snoc, events_of-same, events_of-other, known_sent, lists_of, least-found, IsReached, reached, flat-next}
@@ -141,14 +143,14 @@ module _ (m : Network) (c : Config) where
       omega (arith, all, taken, put, made, delivered, dropped, past-snoc [] x.executed e, kept)
 
   -- at the start there is none
-  begins : (n : ℕ) → sum_by (in_buffer []) (numbers_below n) + packets_coming (flat_map (λ p. ((network m c).start p).sends) (numbers_below n)) ≡ 0
+  begins : (n : ℕ) → sum_by (in_buffer []) (range_with_len 0 n) + packets_coming (flat_map (λ p. ((network m c).start p).sends) (range_with_len 0 n)) ≡ 0
   unfolding start_of
   begins zero = refl
   begins (suc n) =
       let words = words_at c.seed n 0 in
       let none = sent_or_past packets_brought (end_of c) n 0 0 (network_start m n words).send_requests in
       let sends = flat-next (λ (p : ℕ). ((network m c).start p).sends) n in
-      let more = sum_by-append packet_in (flat_map (λ p. ((network m c).start p).sends) (numbers_below n)) ((network m c).start n).sends in
+      let more = sum_by-append packet_in (flat_map (λ p. ((network m c).start p).sends) (range_with_len 0 n)) ((network m c).start n).sends in
       omega (arith, begins n, sum-next (in_buffer []) n, ap packets_coming sends, more, none)
 
   kept_opening : AreKept (opening (network m c))

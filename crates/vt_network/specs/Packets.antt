@@ -1,12 +1,13 @@
 -- Where the packets of a run are, after some of its steps.
 use Rattle.std.specs.Prelude.{ℕ, ◌+◌, List, [], ◌∷◌, ◌++◌, nat_eq, sum_by, if◌then◌else◌}
+use Rattle.std.specs.List.{range_with_len}
 use Rattle.vt_key.specs.Times.{Time, time_before}
 use Rattle.vt_model.specs.declared.rows.Record.{Record}
 use Rattle.vt_model.specs.declared.sending.Sent.{Sent}
 use Rattle.vt_model.specs.declared.settings.Config.{Config}
 use Rattle.vt_model.specs.Sends.{SendRequest, receive_time}
 use Rattle.vt_model.specs.Simulation.{Simulation, Triple, words_at, simulation_of, after}
-use Rattle.vt_model.specs.Sequential.{RunState, events_of, rows_after, records_of, numbers_below}
+use Rattle.vt_model.specs.Sequential.{RunState, events_of, rows_after, records_of}
 use Rattle.vt_model.specs.Settings.{end_of}
 use Rattle.vt_parts.specs.Ring.{item_count}
 use Rattle.vt_network.specs.declared.network.Network.{Network}
@@ -63,7 +64,7 @@ module _ (m : Network) (c : Config) where
 
   -- the packets in the buffers of the routers, also those that are being served
   abbrev pub packets_in_buffers : RunState NetworkEvent → ℕ
-  packets_in_buffers x = sum_by (λ p. item_count (after network p (events_of p x.executed)).state.queue) (numbers_below c.lps)
+  packets_in_buffers x = sum_by (λ p. item_count (after network p (events_of p x.executed)).state.queue) (range_with_len 0 c.lps)
 
   -- where the receiver of an event stands, after those of these events that it receives
   abbrev pub receiver_after : List (Sent NetworkEvent) → Sent NetworkEvent → Triple Router

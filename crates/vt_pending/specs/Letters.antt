@@ -1,11 +1,12 @@
 -- Letters in the order of their ranks.
 use Rattle.std.specs.Prelude.{Bool, false, not, Option, None, Some, List, [], ◌∷◌, find}
-use Rattle.std.specs.List.{list_any}
+use Rattle.std.specs.List.{list_any, AllByRecursion}
 use Rattle.vt_key.specs.Order.{RankBefore, rank_before}
 use Rattle.vt_key.specs.Queues.{without_first, letter_rank, has_rank, has_stamp}
 use Rattle.vt_key.specs.declared.order.Rank.{Rank}
 use Rattle.vt_key.specs.declared.order.Stamp.{Stamp}
 use Rattle.vt_key.specs.declared.letter.Letter.{Letter}
+use Rattle.vt_key.specs.Lists.{IsRisingBy}
 
 module _ {P : Type 0} where
   -- there is a letter, and it has this rank
@@ -35,10 +36,8 @@ module _ {P : Type 0} where
 
   -- each of the letters has a rank after this one
   abbrev pub AllAfter : Rank → List (Letter P) → Type 0
-  AllAfter rank [] = Unit {0}
-  AllAfter rank (letter ∷ letters) = RankBefore rank (letter_rank letter) × AllAfter rank letters
+  AllAfter rank = AllByRecursion (λ letter. RankBefore rank (letter_rank letter))
 
   -- the ranks of the letters rise strictly
   abbrev pub IsRising : List (Letter P) → Type 0
-  IsRising [] = Unit {0}
-  IsRising (letter ∷ letters) = AllAfter (letter_rank letter) letters × IsRising letters
+  IsRising = IsRisingBy (λ a b. RankBefore (letter_rank a) (letter_rank b))

@@ -1,6 +1,7 @@
 -- Where there is one worker, a call is refused as the definitions refuse its step after the place's own steps.
 use Rattle.std.proofs.Common.{◌≡◌, ◌⊎◌, inl, inr, ℕ, ◌<◌, Bool, true, false, cond, List, [], ◌∷◌, ◌++◌, map, refl, sym, ◌∙◌, ap, subst, arith, Option, Some, None, Result, Ok, Err, MatchResult, IfErr, slice_get}
 use Rattle.std.specs.Option.{option_map}
+use Rattle.std.specs.List.{AllByRecursion}
 use Rattle.vt_key.specs.declared.fault.Fault.{Fault}
 use Rattle.vt_key.specs.declared.fault.Fault.TheVariants.{Memory, NotLawful, Closed, Exhausted}
 use Rattle.vt_key.specs.Times.{Time}
@@ -19,7 +20,7 @@ use Rattle.vt_steps.specs.Cells.{board_cell, book_cell, CellName, Cell, on_board
 use Rattle.vt_steps.specs.CellSteps.{CellEffect, cut, reported, report, commit, close}
 use Rattle.vt_steps.specs.Claims.{DoGuardsPass}
 use Rattle.vt_steps.specs.Laws.{IsAny}
-use Rattle.vt_steps.specs.Marked.{Marked, Made, Answered, answered, unmarked, Each, own_steps_of, shown}
+use Rattle.vt_steps.specs.Marked.{Marked, Made, Answered, answered, unmarked, own_steps_of, shown}
 use Rattle.vt_steps.specs.Next.{Outcome, next, run, reached}
 use Rattle.vt_steps.proofs.steps.CellLemmas.{next-acts_on_one_cell}
 use Rattle.vt_steps.proofs.steps.Outcomes.{unless_closed-shut}
@@ -47,7 +48,7 @@ steps-made (m ∷ mine) = ap (λ (l : List Step). m.step ∷ l) (steps-made mine
 
 module _ {S P : Type 0} (sim : Simulation S P) (v : View P) where
   -- a list of the place's own steps alone leads where these lead
-  shown-alone : (log : List Marked) → own_steps_of sim v.worker log ≡ map answered v.mine → Each (λ m. m.worker ≡ v.worker) log → shown sim log ≡ reached sim 0 (map (λ m. m.step) v.mine)
+  shown-alone : (log : List Marked) → own_steps_of sim v.worker log ≡ map answered v.mine → AllByRecursion (λ m. m.worker ≡ v.worker) log → shown sim log ≡ reached sim 0 (map (λ m. m.step) v.mine)
   shown-alone log mine own =
       ap (reached sim 0) (sym (steps-own v.worker log own) ∙ sym (steps-answered sim v.worker (opening_world sim 0) log) ∙ ap (map (λ (a : Answered). a.step)) mine ∙ steps-made v.mine)
 

@@ -1,15 +1,16 @@
 -- A list of steps that grows at its end.
 use Rattle.std.proofs.Common.{◌≡◌, ℕ, List, [], ◌++◌, refl, sym, ◌∙◌, ap}
 use Rattle.std.proofs.lemmas.List.{append_assoc, append-nil}
+use Rattle.std.specs.List.{AllByRecursion}
 use Rattle.vt_steps.specs.declared.step.Step.{Step}
 use Rattle.vt_model.specs.Simulation.{Simulation}
 use Rattle.vt_steps.specs.World.{opening_world}
-use Rattle.vt_steps.specs.Marked.{Marked, Answered, marked, Each, own_steps_of, shown}
+use Rattle.vt_steps.specs.Marked.{Marked, Answered, marked, own_steps_of, shown}
 use Rattle.vt_steps.proofs.marks.MarkedRuns.{each-append, each-weaker, each-marked, own-append, own-others}
 use Rattle.vt_places.specs.Kept.{HasGrown}
 
 -- what one worker has made, another hasn't
-made-by : (w q : ℕ) (steps : List Step) → ¬ (q ≡ w) → Each (λ m. ¬ (m.worker ≡ q)) (marked w steps)
+made-by : (w q : ℕ) (steps : List Step) → ¬ (q ≡ w) → AllByRecursion (λ m. ¬ (m.worker ≡ q)) (marked w steps)
 made-by w q steps ne = each-weaker (λ m. m.worker ≡ w) (λ m. ¬ (m.worker ≡ q)) (marked w steps) (λ m is e. ne (sym e ∙ is)) (each-marked w steps)
 
 -- a list as a place left it
@@ -17,7 +18,7 @@ pub grown-not : (w : ℕ) (log : List Marked) → HasGrown w log log
 grown-not w log = record { since = []; whole = sym (append-nil log); others = tt }
 
 -- a list in which a worker has made nothing
-pub grown-before : (w : ℕ) (log : List Marked) → Each (λ m. ¬ (m.worker ≡ w)) log → HasGrown w [] log
+pub grown-before : (w : ℕ) (log : List Marked) → AllByRecursion (λ m. ¬ (m.worker ≡ w)) log → HasGrown w [] log
 grown-before w log others = record { since = log; whole = refl; others = others }
 
 -- more steps of another worker

@@ -1,5 +1,6 @@
 -- Each step on a station's table keeps the rule.
 use Rattle.std.proofs.Common.{◌≡◌, ◌≢◌, ◌⊎◌, ℕ, zero, suc, ◌<◌, ◌≤◌, List, [], ◌∷◌, ◌++◌, map, length, get_or, set, sym, refl, ap, ◌∙◌, subst, inl, ⊎_elim, arith, le_refl, le_trans, length-set, get_or-set_other, get_or-set_same, Some, slice_get}
+use Rattle.std.specs.List.{AllByRecursion}
 use mathlib.Core.Logic.{dite}
 use mathlib.Core.Option.{Option as Maybe, none, some, some-injective, some-ne-none}
 use native.Mathlib.Decide.{ℕ_discrete}
@@ -14,7 +15,7 @@ use Rattle.vt_model.specs.Simulation.{Simulation}
 use Rattle.vt_steps.specs.declared.step.Step.{Step}
 use Rattle.vt_steps.specs.World.{Part, World, book_floor, opening_world}
 use Rattle.vt_steps.specs.Cells.{CellName, inbox_of, Cell, in_inbox, content}
-use Rattle.vt_steps.specs.Marked.{Marked, Made, Answered, answered, unmarked, marked, Each, IsMarkedRight, own_steps_of, shown, DoesSo, Leads}
+use Rattle.vt_steps.specs.Marked.{Marked, Made, Answered, answered, unmarked, marked, IsMarkedRight, own_steps_of, shown, DoesSo, Leads}
 use Rattle.vt_steps.specs.Next.{run}
 use Rattle.vt_steps.proofs.book.ReachedBooks.{reached-falls}
 use Rattle.vt_steps.proofs.marks.MarkedRuns.{each-append, each-weaker, each-marked, own-append, shown-append, shown-marked}
@@ -38,7 +39,7 @@ module _ {S P : Type 0} (sim : Simulation S P) (config : Config) where
 
   -- the rule after it, with another list of steps
   rebuilt : (s : Standing P) (r : Kept sim config s) (id k x : ℕ) (h : Maybe (Slot P)) (v w : View P) (log : List Marked)
-      → get_elem? s.views id ≡ some v → k < cell_count sim.workers → w.worker ≡ v.worker → Each (λ m. m.worker < r.made) log → Each (IsMarkedRight sim) log
+      → get_elem? s.views id ≡ some v → k < cell_count sim.workers → w.worker ≡ v.worker → AllByRecursion (λ m. m.worker < r.made) log → AllByRecursion (IsMarkedRight sim) log
       → ((q : ℕ) → q ≢ v.worker → (slice_get (shown sim log).parts q ≡ slice_get (shown sim r.log).parts q) × (own_steps_of sim q log ≡ own_steps_of sim q r.log) × ((former : List Marked) → HasGrown q former r.log → HasGrown q former log))
       → ((j : ℕ) → j < cell_count sim.workers → j ≢ k → content (shown sim log) (cell_at sim.workers j) ≡ content (shown sim r.log) (cell_at sim.workers j))
       → TimeAtMost (book_floor sim.end (shown sim r.log).book) (book_floor sim.end (shown sim log).book)
@@ -155,7 +156,7 @@ module _ {S P : Type 0} (sim : Simulation S P) (config : Config) where
             waits = t.waits;
           }
 
-  all_own : (made p : ℕ) (ms : List Marked) → made ≤ 1 → p < made → Each (λ m. m.worker < made) ms → Each (λ m. m.worker ≡ p) ms
+  all_own : (made p : ℕ) (ms : List Marked) → made ≤ 1 → p < made → AllByRecursion (λ m. m.worker < made) ms → AllByRecursion (λ m. m.worker ≡ p) ms
   all_own made p [] one l a = tt
   all_own made p (m ∷ ms) one l a = let z = a.0 in (omega arith, all_own made p ms one l a.1)
 
@@ -343,11 +344,11 @@ module _ {S P : Type 0} (sim : Simulation S P) (config : Config) where
       now : content (shown sim (r.log ++ marked v.worker steps)) (cell_at sim.workers k) ≡ Some (held_in slot)
       now = ap (λ (n : World P). content n (cell_at sim.workers k)) whole ∙ did.cell
 
-      marks : Each (λ x. x.worker < r.made) (r.log ++ marked v.worker steps)
+      marks : AllByRecursion (λ x. x.worker < r.made) (r.log ++ marked v.worker steps)
       marks = each-append (λ x. x.worker < r.made) r.log (marked v.worker steps) r.marks
           (each-weaker (λ x. x.worker ≡ v.worker) (λ x. x.worker < r.made) (marked v.worker steps) (λ x is. subst (λ (n : ℕ). n < r.made) (sym is) t.inside) (each-marked v.worker steps))
 
-      rights : Each (IsMarkedRight sim) (r.log ++ marked v.worker steps)
+      rights : AllByRecursion (IsMarkedRight sim) (r.log ++ marked v.worker steps)
       rights = each-append (IsMarkedRight sim) r.log (marked v.worker steps) r.right goes.own
 
       map-append : (f : Made → Answered) (xs ys : List Made) → map f (xs ++ ys) ≡ map f xs ++ map f ys

@@ -3,11 +3,12 @@ use Rattle.std.proofs.Common.{◌≡◌, inl, inr, ℕ, ◌+◌, ◌<◌, Bool, 
 use Rattle.std.proofs.Common.{eq-eqb}
 use Rattle.std.proofs.lemmas.Bool.Decides.{eqb_tells}
 use Rattle.std.proofs.lemmas.List.{append-nil, nil_from_length}
+use Rattle.std.specs.List.{AllByRecursion}
 use Rattle.vt_model.specs.Simulation.{Simulation}
 use Rattle.vt_steps.specs.declared.step.Step.{Step}
 use Rattle.vt_steps.specs.Next.{next}
 use Rattle.vt_steps.specs.World.{World}
-use Rattle.vt_steps.specs.Marked.{Marked, Answered, unmarked, marked, Each, own_steps}
+use Rattle.vt_steps.specs.Marked.{Marked, Answered, unmarked, marked, own_steps}
 use Rattle.vt_steps.proofs.marks.MarkedRuns.{each-append, each-weaker, each-marked}
 use Rattle.vt_places.specs.Kept.{HasGrown}
 use Rattle.vt_places.proofs.Growth.{grown-not, grown-more}
@@ -17,7 +18,7 @@ abbrev pub steps_by : ℕ → List Marked → List Step
 steps_by w [] = []
 steps_by w (m ∷ marks) = cond (nat_eq m.worker w) (m.step ∷ steps_by w marks) (steps_by w marks)
 
-pub steps-own : (w : ℕ) (marks : List Marked) → Each (λ m. m.worker ≡ w) marks → steps_by w marks ≡ unmarked marks
+pub steps-own : (w : ℕ) (marks : List Marked) → AllByRecursion (λ m. m.worker ≡ w) marks → steps_by w marks ≡ unmarked marks
 steps-own w [] own = refl
 steps-own w (m ∷ marks) own = ap (λ b. cond b (m.step ∷ steps_by w marks) (steps_by w marks)) (eq-eqb m.worker w own.0) ∙ ap (λ (l : List Step). m.step ∷ l) (steps-own w marks own.1)
 
@@ -48,7 +49,7 @@ last-behind : {X : Type 0} (x : X) (xs : List X) (y : X) (ys : List X) → last_
 last-behind x [] y ys = refl
 last-behind x (z ∷ zs) y ys = last-behind z zs y ys
 
-last-each : {X : Type 0} (Q : X → Type 0) (x : X) (xs : List X) → Q x → Each Q xs → Q (last_of x xs)
+last-each : {X : Type 0} (Q : X → Type 0) (x : X) (xs : List X) → Q x → AllByRecursion Q xs → Q (last_of x xs)
 last-each Q x [] here rest = here
 last-each Q x (y ∷ ys) here rest = last-each Q y ys rest.0 rest.1
 
@@ -59,7 +60,7 @@ all-left m ms former g = by_rest g.since g.whole g.others
     w : ℕ
     w = (last_of m ms).worker
 
-    by_rest : (since : List Marked) → m ∷ ms ≡ former ++ since → Each (λ (x : Marked). ¬ (x.worker ≡ w)) since → m ∷ ms ≡ former
+    by_rest : (since : List Marked) → m ∷ ms ≡ former ++ since → AllByRecursion (λ (x : Marked). ¬ (x.worker ≡ w)) since → m ∷ ms ≡ former
     by_rest [] whole others = whole ∙ append-nil former
     by_rest (n ∷ ns) whole others =
         let same : last_of m ms ≡ last_of n ns = ap (last_of m) whole ∙ last-behind m former n ns in
@@ -70,13 +71,13 @@ abbrev pub AreTold : ℕ → List Marked → List Marked → Type 0
 AreTold workers log other = (q : ℕ) → q < workers → (former : List Marked) × HasGrown q former log × HasGrown q former other
 
 -- so one goes on where the other ends
-goes-on : (workers : ℕ) (log other : List Marked) → Each (λ m. m.worker < workers) log → AreTold workers log other → (more : List Marked) × (other ≡ log ++ more)
+goes-on : (workers : ℕ) (log other : List Marked) → AllByRecursion (λ m. m.worker < workers) log → AreTold workers log other → (more : List Marked) × (other ≡ log ++ more)
 goes-on workers [] other few told = (other, refl)
 goes-on workers (m ∷ ms) other few told =
     let t = told (last_of m ms).worker (last-each (λ (x : Marked). x.worker < workers) m ms few.0 few.1) in
     (t.2.since, t.2.whole ∙ ap (λ (l : List Marked). l ++ t.2.since) (sym (all-left m ms t.0 t.1)))
 
-pub places-tell : (workers : ℕ) (log other : List Marked) → Each (λ m. m.worker < workers) log → Each (λ m. m.worker < workers) other → AreTold workers log other → log ≡ other
+pub places-tell : (workers : ℕ) (log other : List Marked) → AllByRecursion (λ m. m.worker < workers) log → AllByRecursion (λ m. m.worker < workers) other → AreTold workers log other → log ≡ other
 places-tell workers log other few few_other told =
     let a = goes-on workers log other few told in
     let b = goes-on workers other log few_other (λ q less. (let t = told q less in (t.0, t.2, t.1))) in
@@ -86,12 +87,12 @@ places-tell workers log other few few_other told =
     b.1 ∙ ap (λ (l : List Marked). other ++ l) none ∙ append-nil other
 
 -- more steps of one worker stand behind all others
-pub list-grows : (workers w : ℕ) (log other : List Marked) (steps : List Step) → Each (λ m. m.worker < workers) log → Each (λ m. m.worker < workers) other → w < workers
+pub list-grows : (workers w : ℕ) (log other : List Marked) (steps : List Step) → AllByRecursion (λ m. m.worker < workers) log → AllByRecursion (λ m. m.worker < workers) other → w < workers
     → ((q : ℕ) → q < workers → ¬ (q ≡ w) → (former : List Marked) × HasGrown q former log × HasGrown q former other)
     → HasGrown w (log ++ marked w steps) other → other ≡ log ++ marked w steps
 list-grows workers w log other steps few few_other known others own = places-tell workers other (log ++ marked w steps) few_other few_longer same
   where
-    few_longer : Each (λ m. m.worker < workers) (log ++ marked w steps)
+    few_longer : AllByRecursion (λ m. m.worker < workers) (log ++ marked w steps)
     few_longer = each-append (λ m. m.worker < workers) log (marked w steps) few (each-weaker (λ m. m.worker ≡ w) (λ m. m.worker < workers) (marked w steps) (λ m is. omega arith) (each-marked w steps))
 
     same : AreTold workers other (log ++ marked w steps)

@@ -1,6 +1,6 @@
 -- The cells and the seats of a new station.
-use Rattle.std.proofs.Common.{◌≡◌, ℕ, zero, suc, ◌+◌, ◌-◌, ◌<◌, List, [], ◌∷◌, ◌++◌, map, length, get_or, replicate, drop, refl, sym, ◌∙◌, ap, subst, arith, length-append, Some, slice_get}
-use Rattle.std.specs.List.{range_with_len}
+use Rattle.std.proofs.Common.{◌≡◌, ℕ, zero, suc, ◌+◌, ◌-◌, ◌<◌, List, [], ◌∷◌, ◌++◌, map, length, get_or, replicate, drop, refl, sym, ◌∙◌, ap, subst, arith, length-append, Some, slice_get, slice_index_or}
+use Rattle.std.specs.List.{range_with_len, AllByRecursion}
 use Rattle.std.specs.Option.{option_map}
 use Rattle.std.proofs.lemmas.List.FromFn.{length-map-range_with_len}
 use mathlib.Core.Logic.{dite}
@@ -14,11 +14,10 @@ use Rattle.vt_model.specs.Simulation.{Simulation}
 use Rattle.vt_model.specs.Settings.{end_of}
 use Rattle.vt_steps.specs.World.{Part, opening_part, opening_world, opening_board, opening_book}
 use Rattle.vt_steps.specs.Cells.{inbox_of, board_cell, book_cell, in_inbox, on_board, in_book, content}
-use Rattle.vt_steps.specs.Marked.{Each}
 use Rattle.vt_places.specs.declared.slot.Slot.{Slot}
 use Rattle.vt_places.specs.declared.place.Place.{Place}
 use Rattle.vt_places.specs.Slots.{cell_count, cell_at, held_in, IsSlotOf}
-use Rattle.vt_places.specs.Kept.{Sat, first_view, left_view, next_view, first_or}
+use Rattle.vt_places.specs.Kept.{Sat, first_view, left_view, next_view}
 use Rattle.vt_places.specs.Making.{AreSlots, IsMaker, Opens, IsNew, AreNew}
 use Rattle.vt_places.proofs.Cells.{inbox-name, board-name, book-name}
 
@@ -26,7 +25,7 @@ use Rattle.vt_places.proofs.Cells.{inbox-name, board-name, book-name}
 
 module _ {P : Type 0} where
   -- an inbox
-  box-at : (Q : Slot P → Type 0) (boxes rest : List (Slot P)) (k : ℕ) → k < length boxes → Each Q boxes → (slot : Slot P) × (get_elem? (map some (boxes ++ rest)) k ≡ some (some slot)) × Q slot
+  box-at : (Q : Slot P → Type 0) (boxes rest : List (Slot P)) (k : ℕ) → k < length boxes → AllByRecursion Q boxes → (slot : Slot P) × (get_elem? (map some (boxes ++ rest)) k ≡ some (some slot)) × Q slot
   box-at Q [] rest k less e = absurd (omega arith)
   box-at Q (x ∷ xs) rest zero less e = (x, refl, e.0)
   box-at Q (x ∷ xs) rest (suc k) less e = box-at Q xs rest k (omega arith) e.1
@@ -114,7 +113,7 @@ module _ {S P : Type 0} (sim : Simulation S P) where
       let z : length m.0.waiting ≡ sim.workers - i = ap (λ (x : Sat P). length x.0.waiting) e ∙ length-map-range_with_len (opening_part sim 0) i (sim.workers - i) in
       omega arith
 
-  first-part : (i n : ℕ) (d : Part P) → 0 < n → first_or d (map (opening_part sim 0) (range_with_len i n)) ≡ opening_part sim 0 i
+  first-part : (i n : ℕ) (d : Part P) → 0 < n → slice_index_or (map (opening_part sim 0) (range_with_len i n)) 0 d ≡ opening_part sim 0 i
   first-part i zero d more = absurd (omega arith)
   first-part i (suc n) d more = refl
 
@@ -123,7 +122,7 @@ module _ {S P : Type 0} (sim : Simulation S P) where
   opens-next i m less e = record {
     rests = (refl, refl);
     worker = ap (λ (x : Sat P). x.0.made) e;
-    part = ap (λ (x : Sat P). first_or x.0.part x.0.waiting) e ∙ first-part i (sim.workers - i) (opening_part sim 0 0) (omega arith);
+    part = ap (λ (x : Sat P). slice_index_or x.0.waiting 0 x.0.part) e ∙ first-part i (sim.workers - i) (opening_part sim 0 0) (omega arith);
     mine = refl;
     log = refl;
     seen = refl;

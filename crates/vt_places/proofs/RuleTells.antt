@@ -3,11 +3,12 @@ use Rattle.std.proofs.Common.{◌≡◌, ℕ, ◌<◌, List, ◌++◌, length, s
 use mathlib.Core.Option.{some, some-injective}
 use lib.ListN.{get_elem?}
 use Rattle.std.proofs.Common.{set, length-set}
+use Rattle.std.specs.List.{AllByRecursion}
 use Rattle.atomic_table.proofs.Lists.{set_else}
 use Rattle.vt_model.specs.declared.settings.Config.{Config}
 use Rattle.vt_model.specs.Simulation.{Simulation}
 use Rattle.vt_steps.specs.declared.step.Step.{Step}
-use Rattle.vt_steps.specs.Marked.{Marked, marked, Each}
+use Rattle.vt_steps.specs.Marked.{Marked, marked}
 use Rattle.vt_places.specs.declared.view.View.{View}
 use Rattle.vt_places.specs.Kept.{Standing, HasGrown, Kept}
 use Rattle.vt_places.proofs.OneList.{AreTold, places-tell, list-grows}
@@ -16,7 +17,7 @@ use Rattle.vt_places.proofs.Seating.{set-there}
 module _ {S P : Type 0} (sim : Simulation S P) (config : Config) where
   -- two lists that the rule allows at one state are one
   pub one-log : (s : Standing P) (k l : Kept sim config s) → k.log ≡ l.log
-  one-log s k l = places-tell k.made k.log l.log k.marks (subst (λ (n : ℕ). Each (λ (m : Marked). m.worker < n) l.log) (sym l.count ∙ k.count) l.marks) told
+  one-log s k l = places-tell k.made k.log l.log k.marks (subst (λ (n : ℕ). AllByRecursion (λ (m : Marked). m.worker < n) l.log) (sym l.count ∙ k.count) l.marks) told
     where
       told : AreTold k.made k.log l.log
       told q less =
@@ -30,7 +31,7 @@ module _ {S P : Type 0} (sim : Simulation S P) (config : Config) where
   pub next-log : (s t : Standing P) (id : ℕ) (v w : View P) (steps : List Step) (k : Kept sim config s) (l : Kept sim config t)
       → get_elem? s.views id ≡ some v → t.views ≡ set s.views id w → w.worker ≡ v.worker → w.log ≡ k.log ++ marked v.worker steps → l.log ≡ k.log ++ marked v.worker steps
   next-log s t id v w steps k l at views same_worker left =
-      list-grows k.made v.worker k.log l.log steps k.marks (subst (λ (n : ℕ). Each (λ (m : Marked). m.worker < n) l.log) (sym l.count ∙ (ap length views ∙ length-set s.views id w) ∙ k.count) l.marks) (k.each id v at).inside others
+      list-grows k.made v.worker k.log l.log steps k.marks (subst (λ (n : ℕ). AllByRecursion (λ (m : Marked). m.worker < n) l.log) (sym l.count ∙ (ap length views ∙ length-set s.views id w) ∙ k.count) l.marks) (k.each id v at).inside others
       (subst (λ (n : ℕ). HasGrown n (k.log ++ marked v.worker steps) l.log) same_worker
       (subst (λ (former : List Marked). HasGrown w.worker former l.log) left (l.each id w (ap (λ (vs : List (View P)). get_elem? vs id) views ∙ set-there s.views id v w at)).grows))
     where

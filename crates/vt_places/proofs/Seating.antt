@@ -1,6 +1,6 @@
 -- The making of a station and of its places keeps the rule.
-use Rattle.std.proofs.Common.{◌≡◌, ◌≢◌, ◌⊎◌, ℕ, zero, suc, ◌+◌, ◌-◌, ◌<◌, List, [], ◌∷◌, ◌++◌, map, length, get_or, set, sym, refl, ap, ◌∙◌, subst, inl, inr, ⊎_elim, arith, length-set, length-append, Some, slice_get, drop}
-use Rattle.std.specs.List.{range_with_len}
+use Rattle.std.proofs.Common.{◌≡◌, ◌≢◌, ◌⊎◌, ℕ, zero, suc, ◌+◌, ◌-◌, ◌<◌, List, [], ◌∷◌, ◌++◌, map, length, get_or, set, sym, refl, ap, ◌∙◌, subst, inl, inr, ⊎_elim, arith, length-set, length-append, Some, slice_get, slice_index_or, drop}
+use Rattle.std.specs.List.{range_with_len, AllByRecursion}
 use Rattle.std.proofs.lemmas.List.FromFn.{length-map-range_with_len}
 use mathlib.Core.Logic.{dite}
 use mathlib.Core.Option.{some, some-injective, some-ne-none}
@@ -13,7 +13,7 @@ use Rattle.vt_model.specs.declared.settings.Config.{Config}
 use Rattle.vt_model.specs.Simulation.{Simulation}
 use Rattle.vt_steps.specs.World.{opening_part, opening_world}
 use Rattle.vt_steps.specs.Cells.{inbox_of, Cell, in_inbox, content}
-use Rattle.vt_steps.specs.Marked.{Marked, Each, own_steps}
+use Rattle.vt_steps.specs.Marked.{Marked, own_steps}
 use Rattle.vt_steps.specs.Next.{run}
 use Rattle.vt_steps.proofs.marks.MarkedRuns.{each-weaker, own-others}
 use Rattle.vt_steps.proofs.steps.LocalLeads.{run-others_part}
@@ -22,7 +22,7 @@ use Rattle.vt_places.specs.declared.slot.Slot.{Slot}
 use Rattle.vt_places.specs.declared.view.View.{View}
 use Rattle.vt_places.specs.Hands.{empty_hand, holding}
 use Rattle.vt_places.specs.Slots.{cell_count, word_at, cell_at, held_in, IsSlotOf}
-use Rattle.vt_places.specs.Kept.{Standing, IsSeated, IsClaimed, Makes, Sits, Kept, first_view, left_view, next_view, first_or}
+use Rattle.vt_places.specs.Kept.{Standing, IsSeated, IsClaimed, Makes, Sits, Kept, first_view, left_view, next_view}
 use Rattle.vt_places.proofs.Cells.{not-empty}
 use Rattle.vt_places.proofs.Growth.{grown-not, grown-before}
 
@@ -36,7 +36,7 @@ later : {X : Type 0} (l : List X) (i : ℕ) (x : X) → get_elem? (drop 1 l) i �
 later [] i x e = absurd (some-ne-none x (sym e))
 later (y ∷ ys) i x e = e
 
-head : {X : Type 0} (l : List X) (d : X) → 0 < length l → get_elem? l 0 ≡ some (first_or d l)
+head : {X : Type 0} (l : List X) (d : X) → 0 < length l → get_elem? l 0 ≡ some (slice_index_or l 0 d)
 head [] d h = absurd (omega arith)
 head (y ∷ ys) d h = refl
 
@@ -51,7 +51,7 @@ snoc-at [] a b (suc j) e = absurd (some-ne-none b (sym e))
 snoc-at (x ∷ xs) a b zero e = inl e
 snoc-at (x ∷ xs) a b (suc j) e = ⊎_elim inl (λ t. inr (t.0, ap suc t.1)) (snoc-at xs a b j e)
 
-below-not : (made : ℕ) (ms : List Marked) → Each (λ m. m.worker < made) ms → Each (λ m. m.worker ≡ made → ⊥) ms
+below-not : (made : ℕ) (ms : List Marked) → AllByRecursion (λ m. m.worker < made) ms → AllByRecursion (λ m. m.worker ≡ made → ⊥) ms
 below-not made [] a = tt
 below-not made (m ∷ ms) a = ((λ e. (let z = a.0 in omega arith)), below-not made ms a.1)
 
@@ -169,8 +169,8 @@ module _ {S P : Type 0} (sim : Simulation S P) (config : Config) where
         waits = o.waits;
       }
 
-      fresh : Each (λ m. m.worker ≡ v.made → ⊥) r.log
-      fresh = subst (λ (k : ℕ). Each (λ m. m.worker ≡ k → ⊥) r.log) (sym makes.next) (below-not r.made r.log r.marks)
+      fresh : AllByRecursion (λ m. m.worker ≡ v.made → ⊥) r.log
+      fresh = subst (λ (k : ℕ). AllByRecursion (λ m. m.worker ≡ k → ⊥) r.log) (sym makes.next) (below-not r.made r.log r.marks)
 
       new_sits : (j : ℕ) → j ≡ length s.views → Sits sim (parted s id v) r.log (r.made + 1) r.maker j (next_view v)
       new_sits j last = record {
@@ -178,7 +178,7 @@ module _ {S P : Type 0} (sim : Simulation S P) (config : Config) where
         part =
             run-others_part sim (opening_world sim 0) v.made r.log r.right fresh
             ∙ opening-at v.made (let a = makes.all in let b = makes.next in omega arith)
-            ∙ ap (λ p. Some p) (sym (makes.parts 0 (first_or v.part v.waiting) (head v.waiting v.part some_left) ∙ ap (opening_part sim 0) (let a = makes.next in let z : r.made + 0 ≡ v.made = omega arith in z)));
+            ∙ ap (λ p. Some p) (sym (makes.parts 0 (slice_index_or v.waiting 0 v.part) (head v.waiting v.part some_left) ∙ ap (opening_part sim 0) (let a = makes.next in let z : r.made + 0 ≡ v.made = omega arith in z)));
         mine = own-others sim v.made (opening_world sim 0) r.log fresh;
         grows = grown-before v.made r.log fresh;
         seen = omega arith;

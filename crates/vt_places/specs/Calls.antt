@@ -1,6 +1,7 @@
 -- What the calls of a station answer and leave.
 use Rattle.std.specs.Prelude.{◌≡◌, ℕ, ◌+◌, ◌<◌, ◌≤◌, ◌⊎◌, true, false, List, [], ◌∷◌, ◌++◌, map, length, Option, Some, None, Result, Ok, Err, slice_get, IfSome}
 use Rattle.std.specs.Result.{IsErrAnd}
+use Rattle.std.specs.List.{AllByRecursion}
 use Rattle.vt_key.specs.Times.{Time, TimeAtMost, TimeBefore}
 use Rattle.vt_key.specs.declared.fault.Fault.{Fault}
 use Rattle.vt_key.specs.declared.fault.Fault.TheVariants.{Memory, NotLawful, Busy, Closed, Exhausted}
@@ -23,7 +24,7 @@ use Rattle.vt_steps.specs.CellSteps.{may_send}
 use Rattle.vt_steps.specs.Next.{next, run, reached}
 use Rattle.vt_steps.specs.Cells.{Cell, in_inbox, in_book, content, cell_of, act}
 use Rattle.vt_steps.specs.Laws.{IsAny}
-use Rattle.vt_steps.specs.Marked.{Marked, marked, answered, made_done, Each, IsMarkedRight, own_steps_of, shown, has_cut_since, has_closed}
+use Rattle.vt_steps.specs.Marked.{Marked, marked, answered, made_done, IsMarkedRight, own_steps_of, shown, has_cut_since, has_closed}
 use Rattle.vt_kernel.specs.Held.{HeldWorker, StandsFor}
 use Rattle.vt_kernel.specs.Local.{local_steps}
 use Rattle.vt_kernel.specs.Guards.{IsSendRefusal}
@@ -79,7 +80,7 @@ module _ {S P : Type 0} (sim : Simulation S P) where
   -- part and this in cell k: what a claim tells
   pub record Known (v : View P) (k : ℕ) (cell : Cell P) : Type 0 where
     pub log : List Marked
-    pub right : Each (IsMarkedRight sim) log
+    pub right : AllByRecursion (IsMarkedRight sim) log
     pub within : v.worker < sim.workers
     pub part : slice_get (shown sim log).parts v.worker ≡ Some v.part
     pub mine : own_steps_of sim v.worker log ≡ map answered v.mine
@@ -87,7 +88,7 @@ module _ {S P : Type 0} (sim : Simulation S P) where
     pub seen : TimeAtMost v.seen (book_floor sim.end (shown sim log).book)
     pub shows : content (shown sim log) (cell_at sim.workers k) ≡ Some cell
     -- where there is one worker all steps are its own
-    pub own : sim.workers ≡ 1 → Each (λ m. m.worker ≡ v.worker) log
+    pub own : sim.workers ≡ 1 → AllByRecursion (λ m. m.worker ≡ v.worker) log
 
   -- a step of the place at its cell, after local steps that led to this part: the cell held one thing after a list of steps in which
   -- the place's are its own. The step is lawful, is answered so, and leaves the place's part and what the cell holds now. The list
@@ -207,11 +208,11 @@ module _ {S P : Type 0} (sim : Simulation S P) where
   -- one worker that list is the place's own steps
   pub record IsRefusedBy (v : View P) (step : Step) (fault : Fault) : Type 0 where
     pub log : List Marked
-    pub right : Each (IsMarkedRight sim) log
+    pub right : AllByRecursion (IsMarkedRight sim) log
     pub part : slice_get (shown sim log).parts v.worker ≡ Some v.part
     pub mine : own_steps_of sim v.worker log ≡ map answered v.mine
     pub grows : HasGrown v.worker v.log log
-    pub own : sim.workers ≡ 1 → Each (λ m. m.worker ≡ v.worker) log
+    pub own : sim.workers ≡ 1 → AllByRecursion (λ m. m.worker ≡ v.worker) log
     pub steps : List Step
     pub before : Part P
     pub led : local_steps sim v.worker steps v.part ≡ Some before
@@ -261,10 +262,10 @@ module _ {S P : Type 0} (sim : Simulation S P) where
   -- shown none above it
   pub record IsFloorLeft (v : View P) (step : Step) (floor : Time) : Type 0 where
     pub log : List Marked
-    pub right : Each (IsMarkedRight sim) log
+    pub right : AllByRecursion (IsMarkedRight sim) log
     pub mine : own_steps_of sim v.worker log ≡ map answered v.mine
     pub grows : HasGrown v.worker v.log log
-    pub own : sim.workers ≡ 1 → Each (λ m. m.worker ≡ v.worker) log
+    pub own : sim.workers ≡ 1 → AllByRecursion (λ m. m.worker ≡ v.worker) log
     pub steps : List Step
     pub before : Part P
     pub led : local_steps sim v.worker steps v.part ≡ Some before
@@ -276,10 +277,10 @@ module _ {S P : Type 0} (sim : Simulation S P) where
   -- closed the book it is the end of the run
   pub record AreRecordsShown (v : View P) (floor : Time) (records : List Record) : Type 0 where
     pub log : List Marked
-    pub right : Each (IsMarkedRight sim) log
+    pub right : AllByRecursion (IsMarkedRight sim) log
     pub mine : own_steps_of sim v.worker log ≡ map answered v.mine
     pub grows : HasGrown v.worker v.log log
-    pub own : sim.workers ≡ 1 → Each (λ m. m.worker ≡ v.worker) log
+    pub own : sim.workers ≡ 1 → AllByRecursion (λ m. m.worker ≡ v.worker) log
     pub floor_is : floor ≡ book_floor sim.end (shown sim log).book
     pub records_are : records ≡ seq_records sim floor
     pub rises : TimeAtMost v.seen floor

@@ -1,7 +1,7 @@
 -- What holds of a station between any two atomic steps: there is a list of steps, each marked with its worker, whose run from
 -- the opening world gives the world that the cells and the places show; and each place's own steps are those of its worker.
-use Rattle.std.specs.Prelude.{◌≡◌, ◌≢◌, ℕ, ◌+◌, ◌-◌, ◌<◌, ◌≤◌, List, [], ◌∷◌, ◌++◌, map, length, drop, slice_get, slice_index, Some}
-use Rattle.std.specs.List.{range_with_len}
+use Rattle.std.specs.Prelude.{◌≡◌, ◌≢◌, ℕ, ◌+◌, ◌-◌, ◌<◌, ◌≤◌, List, [], ◌∷◌, ◌++◌, map, length, drop, slice_get, slice_index, slice_index_or, Some}
+use Rattle.std.specs.List.{range_with_len, AllByRecursion}
 use mathlib.Core.Option.{none, some}
 use lib.ListN.{get_elem?}
 use Rattle.atomic_table.specs.Table.{State, Me}
@@ -10,7 +10,7 @@ use Rattle.vt_model.specs.declared.settings.Config.{Config}
 use Rattle.vt_model.specs.Simulation.{Simulation}
 use Rattle.vt_steps.specs.World.{Part, book_floor, opening_part}
 use Rattle.vt_steps.specs.Cells.{inbox_of, Cell, in_inbox, content}
-use Rattle.vt_steps.specs.Marked.{Marked, answered, Each, IsMarkedRight, own_steps_of, shown}
+use Rattle.vt_steps.specs.Marked.{Marked, answered, IsMarkedRight, own_steps_of, shown}
 use Rattle.vt_places.specs.declared.slot.Slot.{Slot}
 use Rattle.vt_places.specs.declared.view.View.{View}
 use Rattle.vt_places.specs.Hands.{empty_hand, holding}
@@ -28,7 +28,7 @@ Sat P = Me (Slot P) (View P)
 pub record HasGrown (w : ℕ) (former log : List Marked) : Type 0 where
   pub since : List Marked
   pub whole : log ≡ former ++ since
-  pub others : Each (λ m. ¬ (m.worker ≡ w)) since
+  pub others : AllByRecursion (λ m. ¬ (m.worker ≡ w)) since
 
 -- cell k is held by a seat
 pub record IsHeld {P : Type 0} (s : Standing P) (k : ℕ) : Type 0 where
@@ -89,8 +89,8 @@ module _ {S P : Type 0} (sim : Simulation S P) where
       pub deep : length s.homes ≡ cell_count sim.workers
       pub most : made ≤ sim.workers
       -- a worker without a place has made no step, and each step is marked with the worker that it is about
-      pub marks : Each (λ m. m.worker < made) log
-      pub right : Each (IsMarkedRight sim) log
+      pub marks : AllByRecursion (λ m. m.worker < made) log
+      pub right : AllByRecursion (IsMarkedRight sim) log
       pub count : length s.views ≡ made
       pub maker_there : maker < made
       -- a cell whose word says that it is claimed is held by one seat, and any other is at home
@@ -124,11 +124,6 @@ Rests m = (m.0.hand ≡ empty_hand) × (m.1 ≡ [])
 abbrev pub left_view : {P : Type 0} → View P → View P
 left_view v = record v { made = v.made + 1; waiting = drop 1 v.waiting }
 
--- what is there first, if anything is
-abbrev pub first_or : {X : Type 0} → X → List X → X
-first_or x [] = x
-first_or x (y ∷ ys) = y
-
 -- the view of the place that is made
 abbrev pub next_view : {P : Type 0} → View P → View P
-next_view v = blank v.made (first_or v.part v.waiting)
+next_view v = blank v.made (slice_index_or v.waiting 0 v.part)

@@ -1,6 +1,6 @@
 -- The making of a station and its places.
 use Rattle.std.specs.Prelude.{◌≡◌, ℕ, ◌+◌, ◌-◌, List, [], ◌∷◌, ◌++◌, map, length}
-use Rattle.std.specs.List.{range_with_len}
+use Rattle.std.specs.List.{range_with_len, AllByRecursion}
 use Rattle.atomic_table.specs.Seated.{TableId}
 use Rattle.vt_key.specs.Times.{opening_time}
 use Rattle.vt_model.specs.declared.settings.Config.{Config}
@@ -8,7 +8,6 @@ use Rattle.vt_model.specs.Simulation.{Simulation}
 use Rattle.vt_model.specs.Settings.{end_of}
 use Rattle.vt_steps.specs.World.{opening_part, opening_board, opening_book}
 use Rattle.vt_steps.specs.Cells.{in_inbox, on_board, in_book}
-use Rattle.vt_steps.specs.Marked.{Each}
 use Rattle.vt_places.specs.declared.slot.Slot.{Slot}
 use Rattle.vt_places.specs.declared.place.Place.{Place}
 use Rattle.vt_places.specs.Slots.{held_in, IsSlotOf}
@@ -22,7 +21,7 @@ pub record AreSlots {P : Type 0} (config : Config) (slots : List (Slot P)) : Typ
   pub book : Slot P
   pub all : slots ≡ boxes ++ board ∷ book ∷ []
   pub count : length boxes ≡ config.workers
-  pub boxes_are : Each (λ slot. (held_in slot ≡ in_inbox []) × ((k : ℕ) → IsSlotOf config k slot)) boxes
+  pub boxes_are : AllByRecursion (λ slot. (held_in slot ≡ in_inbox []) × ((k : ℕ) → IsSlotOf config k slot)) boxes
   pub board_is : held_in board ≡ on_board (opening_board config.workers (end_of config))
   pub board_right : (k : ℕ) → IsSlotOf config k board
   pub book_is : held_in book ≡ in_book (opening_book config.workers)

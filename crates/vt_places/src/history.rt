@@ -1,12 +1,13 @@
 //! The list of all steps, as the places of a station know it.
 
 ghost use Rattle.std.specs.Prelude.{◌≡◌, ℕ, ◌<◌, List, ◌++◌, set};
+ghost use Rattle.std.specs.List.{AllByRecursion};
 ghost use mathlib.Core.Option.{some};
 ghost use lib.ListN.{get_elem?};
 ghost use Rattle.vt_model.specs.declared.settings.Config.{Config};
 ghost use Rattle.vt_model.specs.Simulation.{Simulation};
 ghost use Rattle.vt_steps.specs.declared.step.Step.{Step};
-ghost use Rattle.vt_steps.specs.Marked.{Marked, marked, Each};
+ghost use Rattle.vt_steps.specs.Marked.{Marked, marked};
 ghost use Rattle.vt_places.specs.declared.view.View.{View};
 ghost use Rattle.vt_places.specs.Kept.{Standing, HasGrown, Kept};
 
@@ -16,7 +17,7 @@ ghost use Rattle.vt_places.specs.Kept.{Standing, HasGrown, Kept};
 /// the end of the list: that is the list of the next state (`next`).
 pub fn places_tell_the_list<S, P>()
     ghost sim: { Simulation S P }
-    ensures told { (workers : ℕ) (log other : List Marked) → Each (λ m. m.worker < workers) log → Each (λ m. m.worker < workers) other →
+    ensures told { (workers : ℕ) (log other : List Marked) → AllByRecursion (λ m. m.worker < workers) log → AllByRecursion (λ m. m.worker < workers) other →
         ((q : ℕ) → q < workers → (former : List Marked) × HasGrown q former log × HasGrown q former other) → log ≡ other }
     ensures one { (config : Config) (s : Standing P) (k l : Kept sim config s) → k.log ≡ l.log }
     ensures next { (config : Config) (s t : Standing P) (id : ℕ) (v w : View P) (steps : List Step) (k : Kept sim config s) (l : Kept sim config t) →

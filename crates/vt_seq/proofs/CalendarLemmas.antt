@@ -7,11 +7,11 @@ use Rattle.std.proofs.lemmas.List.{append_assoc, append-nil, map-append, map-set
 use Rattle.std.proofs.Math.Nat.{div-mul-le_self}
 use Rattle.std.proofs.lemmas.Nat.{le-div, pow_pos}
 use Rattle.std.proofs.lemmas.List.Sorted.{IsPermutation-refl, IsPermutation-sym, IsPermutation-trans, IsPermutation-append_left, IsPermutation-append_right, IsPermutation-append_comm, IsPermutation-middle, IsPermutation-to_front, IsPermutation-map}
+use Rattle.vt_key.proofs.ListLemmas.{among-left, among-right}
 use Rattle.vt_key.specs.Order.{KeyBefore}
 use Rattle.vt_key.specs.Times.{ticks_of}
+use Rattle.vt_key.specs.Lists.{Among}
 use Rattle.vt_model.specs.declared.sending.Sent.{Sent}
-use Rattle.vt_model.specs.Histories.{Among}
-use Rattle.vt_model.proofs.HistoryLemmas.{among-left, among-right}
 use Rattle.vt_seq.specs.declared.entry.Entry.{Entry}
 use Rattle.vt_seq.specs.Entries.{entry_cmp, events_in, IsLeast, IsFalling}
 use Rattle.vt_seq.specs.Days.{day_of, joined, is_used, IsPut, IsTaken, AreDated, AreJustBefore}

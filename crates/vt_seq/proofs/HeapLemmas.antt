@@ -11,10 +11,12 @@ use Rattle.std.proofs.lemmas.List.Sums.{sum_by-cons}
 use Rattle.std.proofs.lemmas.List.Sorted.{Contains-permutation, IsPermutation-append_left, IsPermutation-append_right, IsPermutation-map, IsPermutation-middle, IsPermutation-refl, IsPermutation-sym, IsPermutation-trans, sum_by-IsPermutation}
 use Rattle.vt_key.specs.Keys.{Key, key_cmp}
 use Rattle.vt_key.specs.Order.{KeyBefore, key_before, key_same}
+use Rattle.vt_key.specs.Lists.{Among}
 use Rattle.vt_key.proofs.OrderLemmas.{key-irreflexive, key-asymmetric, key-transitive, key-total, key_before-true, before-key_before, key_same-true, same-key_same}
+use Rattle.vt_key.proofs.ListLemmas.{among-append}
 use Rattle.vt_model.specs.declared.sending.Sent.{Sent}
-use Rattle.vt_model.specs.Histories.{Among, IsRising}
-use Rattle.vt_model.proofs.HistoryLemmas.{among-append, rising-same}
+use Rattle.vt_model.specs.Histories.{IsRising}
+use Rattle.vt_model.proofs.HistoryLemmas.{rising-same}
 use Rattle.vt_model.proofs.RunLemmas.{tested}
 use Rattle.vt_seq.specs.declared.entry.Entry.{Entry}
 use Rattle.vt_seq.specs.Queue.{inserted, all_inserted}

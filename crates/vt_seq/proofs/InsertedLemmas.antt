@@ -4,9 +4,10 @@ use Rattle.std.specs.List.{sum_by}
 use Rattle.std.proofs.lemmas.List.Sums.{sum_by-cons}
 use Rattle.vt_key.specs.Keys.{Key}
 use Rattle.vt_key.specs.Order.{KeyBefore, key_before}
+use Rattle.vt_key.specs.Lists.{Among}
 use Rattle.vt_key.proofs.OrderLemmas.{key-transitive, key-total, key_before-true, before-key_before}
 use Rattle.vt_model.specs.declared.sending.Sent.{Sent}
-use Rattle.vt_model.specs.Histories.{Among, AllAfter, IsRising, AreNumbered}
+use Rattle.vt_model.specs.Histories.{AllAfter, IsRising, AreNumbered}
 use Rattle.vt_model.proofs.RunLemmas.{tested}
 use Rattle.vt_seq.specs.Queue.{inserted, all_inserted, AreNew}
 use Rattle.vt_seq.proofs.InsertLemmas.{inserted-here, inserted-later}

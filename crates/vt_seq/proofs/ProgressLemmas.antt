@@ -7,6 +7,7 @@ use Rattle.std.specs.Option.{option_map}
 use Rattle.vt_key.specs.Keys.{Key}
 use Rattle.vt_key.specs.Order.{KeyBefore, key_before}
 use Rattle.vt_key.specs.Times.{ticks_of}
+use Rattle.vt_key.specs.Lists.{Among}
 use Rattle.vt_key.proofs.OrderLemmas.{key_before-true, before-key_before}
 use Rattle.vt_model.specs.declared.process.Process.{Process}
 use Rattle.vt_model.specs.declared.rows.Record.{Record}
@@ -15,7 +16,7 @@ use Rattle.vt_model.specs.declared.settings.Config.{Config}
 use Rattle.vt_model.specs.Handler.{Handlers}
 use Rattle.vt_model.specs.Simulation.{Simulation, Triple, simulation_of, after}
 use Rattle.vt_model.specs.Sequential.{after_steps, events_of, seq_records}
-use Rattle.vt_model.specs.Histories.{Among, AllAfter, IsRising}
+use Rattle.vt_model.specs.Histories.{AllAfter, IsRising}
 use Rattle.vt_model.proofs.HistoryLemmas.{after-among}
 use Rattle.vt_model.specs.Process.{triple_at}
 use Rattle.vt_seq.specs.Limits.{IsCountedWhole}

@@ -2,8 +2,9 @@
 use Rattle.std.proofs.Common.{◌≡◌, ℕ, ◌+◌, ◌<◌, ◌≤◌, List, [], ◌∷◌, ◌++◌, length, inl, inr, slice_index_or, true, false, nat_eq, zero, suc, refl, sym, ◌∙◌, ap, subst, arith}
 use Rattle.std.proofs.lemmas.Bool.{eqb-true, eq-eqb}
 use Rattle.std.proofs.Common.{length-append}
+use Rattle.vt_key.specs.Lists.{Among}
 use Rattle.vt_model.specs.declared.sending.Sent.{Sent}
-use Rattle.vt_model.specs.Histories.{Among, IsRising, IsLawful}
+use Rattle.vt_model.specs.Histories.{IsRising, IsLawful}
 use Rattle.vt_model.specs.Simulation.{Simulation, words_at, start_of}
 use Rattle.vt_model.specs.Handler.{StartResult}
 use Rattle.vt_model.specs.Sends.{Outgoing, with_requests}

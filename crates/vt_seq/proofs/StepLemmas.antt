@@ -10,15 +10,17 @@ use Rattle.vt_key.specs.Times.{time_left}
 use Rattle.vt_key.specs.declared.limits.TheConstants.{MAX_COUNT}
 use Rattle.vt_key.specs.Keys.{Key}
 use Rattle.vt_key.specs.Order.{KeyBefore, key_same}
+use Rattle.vt_key.specs.Lists.{Among}
 use Rattle.vt_key.proofs.OrderLemmas.{key-irreflexive, key_same-true, same-key_same}
+use Rattle.vt_key.proofs.ListLemmas.{among-left, among-right, among-append, among-filter, filter-among}
 use Rattle.vt_model.specs.declared.limits.TheConstants.{MAX_SENDS}
 use Rattle.vt_model.specs.declared.rows.Record.{Record}
 use Rattle.vt_model.specs.declared.sending.Sent.{Sent}
 use Rattle.vt_model.specs.Simulation.{Simulation, Fired, Triple, after, simulation_of}
 use Rattle.vt_model.specs.Sequential.{RunState, events_of, least_event, fired_after, with_event, after_steps, weight}
-use Rattle.vt_model.specs.Histories.{Among, IsRising, sends_of, IsLawful}
-use Rattle.vt_model.proofs.HistoryLemmas.{among-left, among-right, among-append, after-among}
-use Rattle.vt_model.proofs.RunLemmas.{tested, among-filter, filter-among, least-found, known_sent, lists_of, IsReached, reached, numbered-all, numbered-among, events_of-same, events_of-other, after-snoc}
+use Rattle.vt_model.specs.Histories.{IsRising, sends_of, IsLawful}
+use Rattle.vt_model.proofs.HistoryLemmas.{after-among}
+use Rattle.vt_model.proofs.RunLemmas.{tested, least-found, known_sent, lists_of, IsReached, reached, numbered-all, numbered-among, events_of-same, events_of-other, after-snoc}
 use Rattle.vt_model.proofs.EndLemmas.{least-none, sent-lighter, no_step}
 use Rattle.vt_model.proofs.LawLemmas.{after_state}
 use Rattle.vt_model.specs.declared.settings.Config.{Config}

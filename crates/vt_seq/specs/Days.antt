@@ -1,8 +1,8 @@
 -- Entries by days, and what a calendar keeps of them.
 use Rattle.std.specs.Prelude.{◌≡◌, ℕ, ◌+◌, ◌/◌, ◌^◌, ◌<◌, ◌≤◌, Bool, true, false, List, [], ◌∷◌, ◌++◌, slice_get, slice_set, Some}
 use Rattle.vt_key.specs.Times.{ticks_of}
+use Rattle.vt_key.specs.Lists.{Among}
 use Rattle.vt_model.specs.declared.sending.Sent.{Sent}
-use Rattle.vt_model.specs.Histories.{Among}
 use Rattle.vt_seq.specs.declared.days.TheConstants.{DAYS}
 use Rattle.vt_seq.specs.declared.entry.Entry.{Entry}
 use Rattle.vt_seq.specs.Entries.{events_in}

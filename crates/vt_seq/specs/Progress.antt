@@ -1,12 +1,12 @@
 -- What a contract sees of the sequential simulator.
 use Rattle.std.specs.Prelude.{◌≡◌, ℕ, ◌<◌, List, [], Some, slice_get}
+use Rattle.vt_key.specs.Lists.{Among}
 use Rattle.vt_model.specs.declared.rows.Record.{Record}
 use Rattle.vt_model.specs.declared.sending.Sent.{Sent}
 use Rattle.vt_model.specs.declared.settings.Config.{Config}
 use Rattle.vt_model.specs.Handler.{Handlers}
 use Rattle.vt_model.specs.Simulation.{Simulation, Triple, after, simulation_of}
 use Rattle.vt_model.specs.Sequential.{RunState, after_steps, events_of, rows_after, records_of}
-use Rattle.vt_model.specs.Histories.{Among}
 
 -- a run on its way: its model and config, the events that are pending, in an order that does not matter, where each
 -- process stands, and the records so far

@@ -1,14 +1,14 @@
 -- Pending events in the order of their keys.
-use Rattle.std.specs.Prelude.{◌≡◌, ℕ, ◌<◌, List, [], ◌∷◌, if◌then◌else◌}
+use Rattle.std.specs.Prelude.{◌≡◌, ℕ, ◌<◌, List, [], ◌∷◌}
 use Rattle.vt_key.specs.Times.{Time, TimeBefore}
 use Rattle.vt_key.specs.Order.{key_before}
+use Rattle.vt_key.specs.Lists.{Among}
+use Rattle.vt_key.specs.Queues.{insert_ordered}
 use Rattle.vt_model.specs.declared.sending.Sent.{Sent}
-use Rattle.vt_model.specs.Histories.{Among}
 
 -- events with one more, before the first of greater key
 abbrev pub inserted : {P : Type 0} → Sent P → List (Sent P) → List (Sent P)
-inserted e [] = e ∷ []
-inserted e (d ∷ ds) = if key_before e.key d.key then (e ∷ d ∷ ds) else (d ∷ inserted e ds)
+inserted = insert_ordered (λ d e. key_before d.key e.key)
 
 -- events with these inserted one after the other
 abbrev pub all_inserted : {P : Type 0} → List (Sent P) → List (Sent P) → List (Sent P)

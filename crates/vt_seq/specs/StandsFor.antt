@@ -1,12 +1,13 @@
 -- What the sequential simulator's fields stand for: a state of the sequential run.
 use Rattle.std.specs.Prelude.{◌≡◌, ℕ, ◌<◌, List, ◌++◌, drop, slice_index_or}
+use Rattle.vt_key.specs.Lists.{Among}
 use Rattle.vt_model.specs.declared.process.Process.{Process}
 use Rattle.vt_model.specs.declared.rows.Record.{Record}
 use Rattle.vt_model.specs.declared.sending.Sent.{Sent}
 use Rattle.vt_stream.specs.Words.{Stream}
 use Rattle.vt_model.specs.Simulation.{Simulation, Fired, after}
 use Rattle.vt_model.specs.Sequential.{RunState, after_steps, events_of, records_of}
-use Rattle.vt_model.specs.Histories.{Among, IsRising}
+use Rattle.vt_model.specs.Histories.{IsRising}
 use Rattle.vt_model.specs.Process.{triple_at}
 use Rattle.vt_seq.specs.Queue.{all_inserted}
 

@@ -3,8 +3,8 @@
 ghost use Rattle.std.specs.Prelude.{◌≡◌, ℕ, ◌<◌, ◌≤◌, ◌++◌, length, drop, IfOk, IfErr};
 ghost use Rattle.vt_key.specs.Times.{TimeBefore};
 ghost use Rattle.vt_key.specs.declared.fault.Fault.TheVariants.{Memory};
+ghost use Rattle.vt_key.specs.Lists.{Among};
 ghost use Rattle.vt_model.specs.declared.sending.Sent.{Sent};
-ghost use Rattle.vt_model.specs.Histories.{Among};
 ghost use Rattle.vt_model.specs.Process.{triple_at, IsProcessStream};
 ghost use Rattle.vt_model.specs.Simulation.{simulation_of};
 ghost use Rattle.vt_model.specs.Settings.{end_of};

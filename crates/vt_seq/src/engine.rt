@@ -1,11 +1,12 @@
 //! The fields of an execution, and its steps on them.
 
 ghost use Rattle.std.specs.Prelude.{◌≡◌, ℕ, suc, ◌<◌, ◌≤◌, ◌↔◌, ◌⊎◌, [], length, map, All, IfOk, IfErr, IsTrue, IfSome, IfNone, Err, slice_index_or, vec_len, false};
+ghost use Rattle.std.specs.List.{range_with_len};
 ghost use Rattle.vt_key.specs.declared.fault.Fault.TheVariants.{Memory, NotLawful, Exhausted};
 ghost use Rattle.vt_key.specs.declared.limits.TheConstants.{MAX_COUNT};
 ghost use Rattle.vt_model.specs.Process.{IsProcessStream};
 ghost use Rattle.vt_model.specs.Simulation.{simulation_of, after};
-ghost use Rattle.vt_model.specs.Sequential.{after_steps, whole_run, events_of, weight, numbers_below};
+ghost use Rattle.vt_model.specs.Sequential.{after_steps, whole_run, events_of, weight};
 ghost use Rattle.vt_model.specs.Settings.{end_of};
 ghost use Rattle.vt_seq.specs.Given.{AddsStep};
 ghost use Rattle.vt_seq.specs.Limits.{IsStepRefusal};
@@ -128,7 +129,7 @@ impl<'m, M: EventModel> Engine<'m, M> {
     ///
     /// [`Fault::NotLawful`]: an event is pending still. [`Fault::Memory`]: none is, and memory was refused.
     pub(crate) fn finals(&self, alloc: Global) -> Result<Vec<u64>, Fault>
-        ensures values { let sim = simulation_of (M.handlers self.now.model.now) self.now.config in IfOk result (λ v. v.items ≡ map (λ p. (M.handlers self.now.model.now).finish p (after sim p (events_of p (whole_run sim))).state) (numbers_below self.now.config.lps)) }
+        ensures values { let sim = simulation_of (M.handlers self.now.model.now) self.now.config in IfOk result (λ v. v.items ≡ map (λ p. (M.handlers self.now.model.now).finish p (after sim p (events_of p (whole_run sim))).state) (range_with_len 0 self.now.config.lps)) }
         ensures nothing_left { IfOk result (λ v. self.now.pending ≡ []) }
         ensures not_lawful { 0 < length self.now.pending → result ≡ Err NotLawful }
         ensures refused { self.now.pending ≡ [] → IfErr result (λ fault. fault ≡ Memory) }

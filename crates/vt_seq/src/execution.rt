@@ -4,8 +4,8 @@ ghost use Rattle.std.specs.Prelude.{◌≡◌, ℕ, ◌+◌, ◌<◌, ◌≤◌,
 ghost use Rattle.std.specs.Option.{option_map};
 ghost use Rattle.vt_key.specs.Times.{ticks_of};
 ghost use Rattle.vt_key.specs.declared.fault.Fault.TheVariants.{Memory, NotLawful, Exhausted};
+ghost use Rattle.vt_key.specs.Lists.{Among};
 ghost use Rattle.vt_model.specs.declared.sending.Sent.{Sent};
-ghost use Rattle.vt_model.specs.Histories.{Among};
 ghost use Rattle.vt_model.specs.Simulation.{simulation_of, after};
 ghost use Rattle.vt_model.specs.Sequential.{after_steps, events_of, seq_finals};
 ghost use Rattle.vt_seq.specs.Given.{AddsSteps, AddsRest};

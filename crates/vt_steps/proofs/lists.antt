@@ -1,4 +1,3 @@
-pub mod Lists
 pub mod Places
 pub mod Sums
 pub mod Tests

@@ -7,10 +7,11 @@ use Rattle.vt_key.specs.declared.letter.Letter.{Letter}
 use Rattle.vt_key.specs.declared.letter.Mail.{Mail}
 use Rattle.vt_key.specs.declared.fault.Fault.TheVariants.{Closed}
 use Rattle.vt_key.specs.Order.{rank_before}
+use Rattle.vt_key.specs.Lists.{IsRisingBy}
 use Rattle.vt_model.specs.declared.rows.Record.{Record}
 use Rattle.vt_model.specs.Simulation.{Simulation, after}
 use Rattle.vt_model.specs.Sequential.{events_before, seq_events, seq_rows, seq_records}
-use Rattle.vt_model.specs.Rows.{AreRowsRising}
+use Rattle.vt_model.specs.Rows.{RowBefore}
 use Rattle.vt_steps.specs.declared.step.Step.{Step}
 use Rattle.vt_steps.specs.declared.step.Step.TheVariants.{Home, Accept, Report, Commit, Close}
 use Rattle.vt_steps.specs.declared.step.Reply.{Reply}
@@ -68,7 +69,7 @@ module _ {S P : Type 0} (sim : Simulation S P) where
   -- the book shows exactly the sequential run's rows below its floor, in that run's order, each key and index once
   pub record AreRecordsRight (world : World P) : Type 0 where
     pub rows : book_rows sim.end world.book ≡ seq_rows sim (book_floor sim.end world.book)
-    pub once : AreRowsRising (book_rows sim.end world.book)
+    pub once : IsRisingBy RowBefore (book_rows sim.end world.book)
     pub records : book_records sim.end world.book ≡ seq_records sim (book_floor sim.end world.book)
 
   -- from one world to a later one, neither the floor nor the announced time falls, and no record is taken back

@@ -1,7 +1,7 @@
 -- Steps that are marked with the worker that makes them, and what each worker is answered in a run of them. Workers that
 -- share cells make such a run together, and each of them knows its own steps alone.
 use Rattle.std.specs.Prelude.{◌≡◌, ℕ, nat_eq, Bool, true, false, List, [], ◌∷◌, map, if◌then◌else◌, slice_get, Some, Result, Ok}
-use Rattle.std.specs.List.{list_any}
+use Rattle.std.specs.List.{list_any, AllByRecursion}
 use Rattle.vt_key.specs.declared.fault.Fault.{Fault}
 use Rattle.vt_model.specs.Simulation.{Simulation}
 use Rattle.vt_steps.specs.declared.step.Step.{Step}
@@ -43,11 +43,6 @@ marked w steps = map (λ step. record { worker = w; step = step }) steps
 -- these steps were done, and answered so
 abbrev pub made_done : List Step → List Made
 made_done steps = map (λ step. record { step = step; reply = Done }) steps
-
--- each element has this property
-abbrev pub Each : {X : Type 0} → (X → Type 0) → List X → Type 0
-Each Q [] = Unit {0}
-Each Q (x ∷ xs) = Q x × Each Q xs
 
 module _ {S P : Type 0} (sim : Simulation S P) where
   -- a step is marked with the worker whose part it is about. Close is about no part, and any worker may make it
@@ -94,7 +89,7 @@ module _ {S P : Type 0} (sim : Simulation S P) where
 
   -- the steps of worker w lead from a part and the content of a cell to others, in every world that has these two
   pub record Leads (w : ℕ) (name : CellName) (part : Part P) (cell : Cell P) (steps : List Step) (new : Part P) (left : Cell P) (made : List Made) : Type 0 where
-    pub own : Each (λ m. IsMarkedRight m) (marked w steps)
+    pub own : AllByRecursion (λ m. IsMarkedRight m) (marked w steps)
     pub does : (world : World P) → slice_get world.parts w ≡ Some part → content world name ≡ Some cell → DoesSo w name steps world new left made
 
 -- ---- what a worker can tell from its own steps

@@ -2,6 +2,7 @@
 //! the others do, and what the worker can conclude from their answers.
 
 ghost use Rattle.std.specs.Prelude.{ℕ, ◌≡◌, ◌<◌, ◌++◌, [], ◌∷◌, List, Some, None, Ok, true, false, slice_get};
+ghost use Rattle.std.specs.List.{AllByRecursion};
 ghost use Rattle.vt_key.specs.Times.{TimeAtMost, TimeBefore};
 ghost use Rattle.vt_model.specs.Simulation.{Simulation};
 ghost use Rattle.vt_model.specs.Histories.{IsLawful};
@@ -13,7 +14,7 @@ ghost use Rattle.vt_steps.specs.BookSteps.{may_close};
 ghost use Rattle.vt_steps.specs.Cells.{CellName, Cell, worker_of, cell_of, act};
 ghost use Rattle.vt_steps.specs.Laws.{IsAny};
 ghost use Rattle.vt_steps.specs.Next.{next};
-ghost use Rattle.vt_steps.specs.Marked.{Marked, made_done, Each, IsMarkedRight, own_steps_of, shown, LeadLocally, Leads, has_cut_since, has_closed};
+ghost use Rattle.vt_steps.specs.Marked.{Marked, made_done, IsMarkedRight, own_steps_of, shown, LeadLocally, Leads, has_cut_since, has_closed};
 
 /// Take local steps of a worker and then one step of it at a cell. They do the same in every world with this part of
 /// the worker and this cell, and change no other part and no other cell. So they may be put last in a run, whatever
@@ -35,7 +36,7 @@ pub fn others_keep_their_parts<S, P>()
 pub fn cuts_are_refused_after_a_cut<S, P>()
     ghost sim: { Simulation S P }
     requires { IsLawful sim }
-    ensures { (w : ℕ) (marks : List Marked) → Each (IsMarkedRight sim) marks → w < sim.workers → cut_board sim.end w (shown sim marks).board ≡ None → has_cut_since false (own_steps_of sim w marks) ≡ true }
+    ensures { (w : ℕ) (marks : List Marked) → AllByRecursion (IsMarkedRight sim) marks → w < sim.workers → cut_board sim.end w (shown sim marks).board ≡ None → has_cut_since false (own_steps_of sim w marks) ≡ true }
 {}
 
 /// Once a worker's close was done, the book is closed. If the book is closed, each worker's floor is the end of the
@@ -43,7 +44,7 @@ pub fn cuts_are_refused_after_a_cut<S, P>()
 pub fn closes_are_known<S, P>()
     ghost sim: { Simulation S P }
     requires { IsLawful sim }
-    ensures closed { (w : ℕ) (marks : List Marked) → Each (IsMarkedRight sim) marks → has_closed (own_steps_of sim w marks) ≡ true → (shown sim marks).book.is_closed ≡ true }
+    ensures closed { (w : ℕ) (marks : List Marked) → AllByRecursion (IsMarkedRight sim) marks → has_closed (own_steps_of sim w marks) ≡ true → (shown sim marks).book.is_closed ≡ true }
     ensures floors { (marks : List Marked) (w : ℕ) (part : Part P) → (shown sim marks).book.is_closed ≡ true → slice_get (shown sim marks).parts w ≡ Some part → part.floor ≡ sim.end }
     ensures early { (marks : List Marked) → may_close sim.end (shown sim marks).book ≡ false → TimeBefore (book_floor sim.end (shown sim marks).book) sim.end }
 {}

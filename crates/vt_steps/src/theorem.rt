@@ -5,9 +5,10 @@
 
 ghost use Rattle.std.specs.Prelude.{ℕ, ◌≡◌, IsTrue, List, Some, slice_get};
 ghost use Rattle.vt_key.specs.Times.{TimeAtMost};
+ghost use Rattle.vt_key.specs.Lists.{IsRisingBy};
 ghost use Rattle.vt_model.specs.Simulation.{Simulation};
 ghost use Rattle.vt_model.specs.Histories.{IsLawful};
-ghost use Rattle.vt_model.specs.Rows.{AreRowsRising};
+ghost use Rattle.vt_model.specs.Rows.{RowBefore};
 ghost use Rattle.vt_steps.specs.declared.step.Step.{Step};
 ghost use Rattle.vt_steps.specs.Rows.{rows_in_order};
 ghost use Rattle.vt_steps.specs.World.{Part, least};
@@ -36,7 +37,7 @@ pub fn records_are_right<S, P>()
     ensures right { (serial : ℕ) (steps : List Step) →
         AreRecordsRight sim (reached sim serial steps) }
     ensures once { (serial : ℕ) (steps : List Step) →
-        AreRowsRising (rows_in_order (reached sim serial steps).book.rows) }
+        IsRisingBy RowBefore (rows_in_order (reached sim serial steps).book.rows) }
 {}
 
 /// Once the book is closed, its floor is the end of the run and its records are those of the whole sequential run.

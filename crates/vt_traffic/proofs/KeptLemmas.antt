@@ -1,14 +1,16 @@
 -- The number of cars is kept by a run.
 use Rattle.std.proofs.Common.{◌≡◌, ℕ, zero, suc, ◌+◌, ◌*◌, ◌^◌, ◌<◌, ◌≤◌, inl, List, [], ◌∷◌, ◌++◌, false, not, filter, flat_map, nat_eq, sum_by, Option, Some, None, refl, sym, ap, arith}
 use Rattle.std.specs.Option.{option_map_or}
+use Rattle.std.specs.List.{range_with_len}
 use Rattle.std.proofs.Math.Nat.{mul-le-mul}
 use Rattle.std.proofs.lemmas.List.Sums.{sum_by-append}
 use Rattle.vt_key.specs.Order.{key_same}
+use Rattle.vt_key.specs.Lists.{Among}
 use Rattle.vt_model.specs.declared.sending.Sent.{Sent}
 use Rattle.vt_model.specs.declared.settings.Config.{Config}
 use Rattle.vt_model.specs.Simulation.{Triple, words_at, start_of, fire_of, after, after_from}
-use Rattle.vt_model.specs.Sequential.{RunState, events_of, least_event, fired_after, opening, with_event, step, after_steps, numbers_below}
-use Rattle.vt_model.specs.Histories.{Among, IsLawful}
+use Rattle.vt_model.specs.Sequential.{RunState, events_of, least_event, fired_after, opening, with_event, step, after_steps}
+use Rattle.vt_model.specs.Histories.{IsLawful}
 use Rattle.vt_model.proofs.LawLemmas.{lawful_of}
 use Rattle.vt_model.proofs.RunLemmas.{after-snoc, events_of-same, events_of-other, known_sent, lists_of, least-found, IsReached, reached, flat-next}
 use Rattle.vt_model.specs.Settings.{end_of}
@@ -75,9 +77,9 @@ module _ (m : Traffic) (c : Config) where
       omega (arith, more, state, past-snoc p start es e, fire-cars p there e fits)
 
   -- in all
-  cars_in_all : (x : RunState JunctionEvent) → cars_on_grid m c x + cars_past_end m c x ≡ sum_by (cars_of x.executed) (numbers_below c.lps)
+  cars_in_all : (x : RunState JunctionEvent) → cars_on_grid m c x + cars_past_end m c x ≡ sum_by (cars_of x.executed) (range_with_len 0 c.lps)
   cars_in_all x =
-      sym (sum_by-both (λ (p : ℕ). cars_at (after (grid m c) p (events_of p x.executed)).state) (λ (p : ℕ). sent_past_from m c p ((grid m c).start p).triple (events_of p x.executed)) (numbers_below c.lps))
+      sym (sum_by-both (λ (p : ℕ). cars_at (after (grid m c) p (events_of p x.executed)).state) (λ (p : ℕ). sent_past_from m c p ((grid m c).start p).triple (events_of p x.executed)) (range_with_len 0 c.lps))
 
   -- the number of cars
   abbrev IsKept : RunState JunctionEvent → Type 0
@@ -92,20 +94,20 @@ module _ (m : Traffic) (c : Config) where
       let most : 2 * m.cars * c.lps ≤ 2000 * 65536 = mul-le-mul {n₁ = 2 * m.cars} {m₁ = c.lps} {n₂ = 2000} {m₂ = 65536} (omega (arith, m.few_cars)) c.few_processes in
       omega (arith, part-le there c.lps e.dest is, kept, most) in
       let own = own-cars x.executed e few in
-      let all : sum_by (cars_of (x.executed ++ e ∷ [])) (numbers_below c.lps) + cars_coming fresh ≡ sum_by (cars_of x.executed) (numbers_below c.lps) + car_in e = sum_one (cars_of (x.executed ++ e ∷ [])) (cars_of x.executed) c.lps e.dest (cars_coming fresh) (car_in e) is (others-cars x.executed e) own in
+      let all : sum_by (cars_of (x.executed ++ e ∷ [])) (range_with_len 0 c.lps) + cars_coming fresh ≡ sum_by (cars_of x.executed) (range_with_len 0 c.lps) + car_in e = sum_one (cars_of (x.executed ++ e ∷ [])) (cars_of x.executed) c.lps e.dest (cars_coming fresh) (car_in e) is (others-cars x.executed e) own in
       let taken = sum_by-without car_in x.pending e distinct here in
       let put = sum_by-append car_in (filter (λ d. not (key_same d.key e.key)) x.pending) fresh in
       omega (arith, all, taken, put, kept, cars_in_all x, cars_in_all (with_event (grid m c) x e))
 
   -- at the start
-  begins : (n : ℕ) → sum_by (cars_of []) (numbers_below n) + cars_coming (flat_map (λ p. ((grid m c).start p).sends) (numbers_below n)) ≡ 2 * m.cars * n
+  begins : (n : ℕ) → sum_by (cars_of []) (range_with_len 0 n) + cars_coming (flat_map (λ p. ((grid m c).start p).sends) (range_with_len 0 n)) ≡ 2 * m.cars * n
   unfolding start_of
   begins zero = omega arith
   begins (suc n) =
       let words = words_at c.seed n 0 in
       let none = sent_or_past cars_brought (end_of c) n 0 0 (traffic_start m n words).send_requests in
       let sends = flat-next (λ (p : ℕ). ((grid m c).start p).sends) n in
-      let more = sum_by-append car_in (flat_map (λ p. ((grid m c).start p).sends) (numbers_below n)) ((grid m c).start n).sends in
+      let more = sum_by-append car_in (flat_map (λ p. ((grid m c).start p).sends) (range_with_len 0 n)) ((grid m c).start n).sends in
       let product : 2 * m.cars * suc n ≡ 2 * m.cars * n + 2 * m.cars = grind arith in
       omega (arith, begins n, sum-next (cars_of []) n, ap cars_coming sends, more, none, start-cars m n words, start-sent m n words, product)
 

@@ -1,11 +1,12 @@
 -- How many cars there are.
 use Rattle.std.specs.Prelude.{ℕ, ◌+◌, List, [], ◌∷◌, Option, Some, None, sum_by, if◌then◌else◌}
+use Rattle.std.specs.List.{range_with_len}
 use Rattle.vt_key.specs.Times.{Time, time_before}
 use Rattle.vt_model.specs.declared.sending.Sent.{Sent}
 use Rattle.vt_model.specs.declared.settings.Config.{Config}
 use Rattle.vt_model.specs.Sends.{SendRequest, receive_time}
 use Rattle.vt_model.specs.Simulation.{Simulation, Triple, words_at, simulation_of, after}
-use Rattle.vt_model.specs.Sequential.{RunState, events_of, numbers_below}
+use Rattle.vt_model.specs.Sequential.{RunState, events_of}
 use Rattle.vt_model.specs.Settings.{end_of}
 use Rattle.vt_traffic.specs.declared.grid.Traffic.{Traffic}
 use Rattle.vt_traffic.specs.declared.junction.Road.{Road}
@@ -52,7 +53,7 @@ module _ (m : Traffic) (c : Config) where
 
   -- the cars that are at the junctions
   abbrev pub cars_on_grid : RunState JunctionEvent → ℕ
-  cars_on_grid x = sum_by (λ p. cars_at (after grid p (events_of p x.executed)).state) (numbers_below c.lps)
+  cars_on_grid x = sum_by (λ p. cars_at (after grid p (events_of p x.executed)).state) (range_with_len 0 c.lps)
 
   -- the cars that a junction sends past the end by these events, from where it stood
   abbrev pub sent_past_from : ℕ → Triple Junction → List (Sent JunctionEvent) → ℕ
@@ -63,4 +64,4 @@ module _ (m : Traffic) (c : Config) where
 
   -- the cars that would arrive at or past the end
   abbrev pub cars_past_end : RunState JunctionEvent → ℕ
-  cars_past_end x = sum_by (λ p. sent_past_from p (grid.start p).triple (events_of p x.executed)) (numbers_below c.lps)
+  cars_past_end x = sum_by (λ p. sent_past_from p (grid.start p).triple (events_of p x.executed)) (range_with_len 0 c.lps)

@@ -1,6 +1,6 @@
 -- What the book holds: the rows of all committed events; and no past event is before its worker's hand-in floor.
 use Rattle.std.proofs.Common.{◌≡◌, inl, inr, ℕ, zero, suc, ◌+◌, ◌-◌, true, false, cond, List, [], ◌∷◌, ◌++◌, map, length, drop, replicate, refl, sym, subst, ◌∙◌, ap, arith, append_assoc, Option, Some, slice_get, slice_set}
-use Rattle.std.specs.List.{sum_by, prefix_len, range_with_len}
+use Rattle.std.specs.List.{sum_by, prefix_len, range_with_len, AllByRecursion}
 use Rattle.std.proofs.lemmas.Bool.Decides.{nat_tests}
 use Rattle.std.proofs.lemmas.List.{map-append}
 use Rattle.std.proofs.lemmas.List.Sums.{sum_by-cons, sum_by-append}
@@ -9,6 +9,7 @@ use Rattle.vt_key.specs.Times.{Time, TimeAtMost, time_before}
 use Rattle.vt_key.specs.declared.letter.Letter.{Letter}
 use Rattle.vt_key.specs.declared.letter.Sign.{Sign}
 use Rattle.vt_key.specs.declared.letter.Sign.TheVariants.{Plus, Minus}
+use Rattle.vt_key.specs.Lists.{IsRisingBy}
 use Rattle.vt_model.specs.declared.rows.Row.{Row}
 use Rattle.vt_model.specs.declared.sending.Sent.{Sent}
 use Rattle.vt_model.specs.Simulation.{Simulation, Triple, after_from}
@@ -24,7 +25,7 @@ use Rattle.vt_steps.proofs.steps.Changes.{Act, executes, undoes, cancels, Local,
 use Rattle.vt_steps.proofs.time.Early.{early, early_in, not-early}
 use Rattle.vt_steps.proofs.time.Flags.{put-cases}
 use Rattle.vt_steps.proofs.time.Floors.{AreTimesSound, commit-has}
-use Rattle.vt_steps.proofs.lists.Lists.{Every, Rising, every-append, every-take, every-weaker}
+use Rattle.vt_key.proofs.ListLemmas.{every-append, every-take, every-weaker}
 use Rattle.vt_steps.proofs.lists.Places.{all-put, get-map, get-put_same, get-put_other, get-replicate}
 use Rattle.vt_steps.proofs.letters.ProcessSums.{sum_by_place, sum_by_place-put}
 use Rattle.vt_steps.proofs.letters.RankTimes.{rank-order-time}
@@ -33,7 +34,7 @@ use Rattle.vt_steps.proofs.steps.CommitRows.{rows_of_processes}
 
 -- no entry is before a time
 abbrev pub AreNotBefore : {P : Type 0} → Time → List (Entry P) → Type 0
-AreNotBefore {P} t entries = Every (λ (entry : Entry P). TimeAtMost t entry.event.rank.key.time) entries
+AreNotBefore {P} t entries = AllByRecursion (λ (entry : Entry P). TimeAtMost t entry.event.rank.key.time) entries
 
 -- the rows of what a process committed
 abbrev pub committed_rows : {S P : Type 0} → Simulation S P → ℕ → List (Entry P) → List Row
@@ -165,7 +166,7 @@ module _ {S P : Type 0} (sim : Simulation S P) (f : Row → ℕ) (w : ℕ) (floo
       omega arith
 
 -- of entries in rising rank, those behind the first ones before a floor are not before it
-rest-late : {P : Type 0} (floor : Time) (entries : List (Entry P)) → Rising (λ (a b : Entry P). RankBefore a.event.rank b.event.rank) entries →
+rest-late : {P : Type 0} (floor : Time) (entries : List (Entry P)) → IsRisingBy (λ (a b : Entry P). RankBefore a.event.rank b.event.rank) entries →
     AreNotBefore floor (drop (prefix_len (is_below floor) entries) entries)
 rest-late floor [] r = tt
 rest-late {P} floor (x ∷ xs) r =
@@ -184,7 +185,7 @@ rest-late {P} floor (x ∷ xs) r =
 -- the past events of each process stand in rising rank
 abbrev pub DoPastsRise : {P : Type 0} → World P → Type 0
 DoPastsRise {P} world = (w place : ℕ) (part : Part P) (process : LogicalProcess P) → slice_get world.parts w ≡ Some part → slice_get part.processes place ≡ Some process →
-    Rising (λ (a b : Entry P). RankBefore a.event.rank b.event.rank) process.past
+    IsRisingBy (λ (a b : Entry P). RankBefore a.event.rank b.event.rank) process.past
 
 module _ {S P : Type 0} (sim : Simulation S P) (old new : World P) (b : IsBooked sim old) where
   -- a part changes alone, and commits nothing

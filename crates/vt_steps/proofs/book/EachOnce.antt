@@ -9,11 +9,12 @@ use Rattle.std.proofs.lemmas.List.Sums.{sum_by-cons, sum_by-append}
 use Rattle.vt_key.specs.Order.{KeyBefore, key_same}
 use Rattle.vt_key.specs.Times.{TimeBefore, opening_time, time_before}
 use Rattle.vt_key.specs.Keys.{Key}
+use Rattle.vt_key.specs.Lists.{IsRisingBy}
 use Rattle.vt_key.proofs.OrderLemmas.{key-irreflexive, key-total, key_same-true, same-key_same}
 use Rattle.vt_model.specs.declared.rows.Row.{Row}
 use Rattle.vt_model.specs.declared.sending.Sent.{Sent}
 use Rattle.vt_model.specs.Histories.{IsLawful}
-use Rattle.vt_model.specs.Rows.{RowBefore, AreRowsRising}
+use Rattle.vt_model.specs.Rows.{RowBefore}
 use Rattle.vt_model.specs.Sequential.{events_before, rows_after, seq_events, seq_rows, whole_run}
 use Rattle.vt_model.specs.Simulation.{Simulation, after_from}
 use Rattle.vt_model.proofs.RunLemmas.{tested}
@@ -26,7 +27,7 @@ use Rattle.vt_steps.specs.World.{Entry, LogicalProcess, Part, World, entry_event
 use Rattle.vt_steps.proofs.book.BookRows.{committed_rows, part_rows, process_rows, rows_from-append}
 use Rattle.vt_steps.proofs.letters.Entries.{process-at_place}
 use Rattle.vt_steps.proofs.letters.EventTimes.{early-events}
-use Rattle.vt_steps.proofs.lists.Lists.{Every, every-map, every-weaker}
+use Rattle.vt_key.proofs.ListLemmas.{every-map, every-weaker}
 use Rattle.vt_steps.proofs.letters.ProcessSums.{over_places, sum_by_place-bound, whole-rows-by-process}
 use Rattle.vt_steps.proofs.letters.Ranks.{reached-committed}
 use Rattle.vt_steps.proofs.book.ReachedBooks.{reached-accounted}
@@ -63,7 +64,7 @@ none-again row (r ∷ rs) h =
     omega arith
 
 -- among rising rows each key and index stands at most once
-rising-once : (key : Key) (index : ℕ) (rows : List Row) → AreRowsRising rows → sum_by (is_row key index) rows ≤ 1
+rising-once : (key : Key) (index : ℕ) (rows : List Row) → IsRisingBy RowBefore rows → sum_by (is_row key index) rows ≤ 1
 rising-once key index [] h = omega arith
 rising-once key index (r ∷ rs) h =
     let a = sum_by-cons (is_row key index) r rs in
@@ -97,7 +98,7 @@ row-after a b h none = elim (key-total a.key b.key) [
 ]
 
 -- rows in order among which each key and index stands at most once rise strictly
-once-rising : (rows : List Row) → AreInOrder rows → ((key : Key) (index : ℕ) → sum_by (is_row key index) rows ≤ 1) → AreRowsRising rows
+once-rising : (rows : List Row) → AreInOrder rows → ((key : Key) (index : ℕ) → sum_by (is_row key index) rows ≤ 1) → IsRisingBy RowBefore rows
 once-rising [] h once = tt
 once-rising (r ∷ rs) h once = (after rs h.0 none, once-rising rs h.1 fewer)
   where
@@ -119,7 +120,7 @@ once-rising (r ∷ rs) h once = (after rs h.0 none, once-rising rs h.1 fewer)
 
 module _ {S P : Type 0} (sim : Simulation S P) (lawful : IsLawful sim) (world : World P) (known : IsAccounted sim world)
     (committed : (w place : ℕ) (part : Part P) (process : LogicalProcess P) → slice_get world.parts w ≡ Some part → slice_get part.processes place ≡ Some process →
-    Every (λ (e : Entry P). TimeBefore e.event.rank.key.time world.board.announced) process.done) (f : Row → ℕ) where
+    AllByRecursion (λ (e : Entry P). TimeBefore e.event.rank.key.time world.board.announced) process.done) (f : Row → ℕ) where
   -- of the process at a place
   place-bound : (w place : ℕ) (part : Part P) (process : LogicalProcess P) → slice_get world.parts w ≡ Some part → slice_get part.processes place ≡ Some process →
       process_rows sim f w place process ≤ run_rows sim lawful world known f world.board.announced (process_at sim w place)
@@ -129,7 +130,7 @@ module _ {S P : Type 0} (sim : Simulation S P) (lawful : IsLawful sim) (world : 
       let shape = (known.times.at opening_time).shape in
       let less = process-known sim world shape w place part process at there in
       let is = process-at_place sim world w place part process (part-within sim world shape w part at) at there in
-      let soon : Every (λ (e : Sent P). TimeBefore e.key.time t) (entry_events process.done) =
+      let soon : AllByRecursion (λ (e : Sent P). TimeBefore e.key.time t) (entry_events process.done) =
       every-map (λ (e : Entry P). unstamped e.event) (λ (e : Sent P). TimeBefore e.key.time t) process.done (committed w place part process at there) in
       let rest = events_before t (entry_events process.past) in
       let whole : seq_events sim p t ≡ entry_events process.done ++ rest =
@@ -170,14 +171,14 @@ module _ {S P : Type 0} (sim : Simulation S P) (lawful : IsLawful sim) (world : 
 module _ {S P : Type 0} (sim : Simulation S P) (lawful : IsLawful sim) (serial : ℕ) (steps : List Step) where
   -- all committed events are before the announced time
   committed-before : (w place : ℕ) (part : Part P) (process : LogicalProcess P) → slice_get (reached sim serial steps).parts w ≡ Some part → slice_get part.processes place ≡ Some process →
-      Every (λ (e : Entry P). TimeBefore e.event.rank.key.time (reached sim serial steps).board.announced) process.done
+      AllByRecursion (λ (e : Entry P). TimeBefore e.event.rank.key.time (reached sim serial steps).board.announced) process.done
   committed-before w place part process at there =
       let low = (reached-accounted sim lawful serial steps).times.floors.announced w part at in
       every-weaker (λ (e : Entry P). TimeBefore e.event.rank.key.time part.floor) (λ (e : Entry P). TimeBefore e.event.rank.key.time (reached sim serial steps).board.announced) process.done
       (λ e k. omega arith) (reached-committed sim lawful serial steps w place part process at there)
 
   -- so all rows of the book, put in order, rise strictly by key and index
-  pub book-once : AreRowsRising (rows_in_order (reached sim serial steps).book.rows)
+  pub book-once : IsRisingBy RowBefore (rows_in_order (reached sim serial steps).book.rows)
   book-once =
       let world = reached sim serial steps in
       let rows = world.book.rows in

@@ -1,6 +1,7 @@
 -- The book in every reached world: it is accounted for, nothing falls in any further steps, and once closed it is whole.
 use Rattle.std.proofs.Common.{◌≡◌, ℕ, ◌/◌, ◌%◌, ◌<◌, true, false, List, [], ◌∷◌, ◌++◌, refl, sym, subst, ◌∙◌, ap, arith}
 use Rattle.std.specs.Prelude.{IsTrue}
+use Rattle.std.specs.List.{AllByRecursion}
 use Rattle.vt_key.specs.Order.{RankBefore}
 use Rattle.vt_key.specs.Times.{TimeAtMost, TimeBefore}
 use Rattle.vt_model.specs.declared.sending.Sent.{Sent}
@@ -20,7 +21,7 @@ use Rattle.vt_steps.proofs.letters.Entries.{process-at_place}
 use Rattle.vt_steps.proofs.steps.Everywhere.{InEntry, InProcess, part-in}
 use Rattle.vt_steps.proofs.letters.EventTimes.{early-events}
 use Rattle.vt_steps.proofs.time.Floors.{nothing-falls, reached-times}
-use Rattle.vt_steps.proofs.lists.Lists.{Every, every-append, every-get, every-map, every-weaker, rising-right}
+use Rattle.vt_key.proofs.ListLemmas.{every-append, every-get, every-map, every-weaker, rising-right}
 use Rattle.vt_steps.proofs.history.QuietHistories.{histories_are_right, reached-sound}
 use Rattle.vt_steps.proofs.letters.Ranks.{reached-ranks}
 use Rattle.vt_steps.proofs.book.Records.{IsAccounted, floors-right, records-right}
@@ -108,7 +109,7 @@ closed-stays sim world (step ∷ more) shut =
 
 module _ {S P : Type 0} (sim : Simulation S P) (lawful : IsLawful sim) (serial : ℕ) (steps : List Step) where
   -- what each process executed is before the end of the run
-  executed-ends : (p : ℕ) (process : LogicalProcess P) → IsProcess sim (reached sim serial steps) p process → Every (λ (e : Sent P). TimeBefore e.key.time sim.end) (entry_events (process.done ++ process.past))
+  executed-ends : (p : ℕ) (process : LogicalProcess P) → IsProcess sim (reached sim serial steps) p process → AllByRecursion (λ (e : Sent P). TimeBefore e.key.time sim.end) (entry_events (process.done ++ process.past))
   executed-ends p process is =
       let part = part-in (IsBounded sim) (reached sim serial steps) (p % sim.workers) is.0 is.1 (reached-bounds sim lawful serial steps) in
       let here = every-get (InProcess (IsBounded sim)) is.0.processes (p / sim.workers) process is.2 part.processes in

@@ -6,12 +6,13 @@ use Rattle.std.proofs.lemmas.List.{map-append}
 use Rattle.std.proofs.lemmas.Option.{slice_get_within}
 use Rattle.vt_key.specs.Order.{RankBefore}
 use Rattle.vt_key.specs.Times.{Time, TimeAtMost, opening_time}
+use Rattle.vt_key.specs.Lists.{IsRisingBy}
 use Rattle.vt_model.specs.declared.rows.Row.{Row}
 use Rattle.vt_model.specs.declared.sending.Sent.{Sent}
 use Rattle.vt_model.specs.Simulation.{Simulation}
 use Rattle.vt_model.specs.Histories.{IsLawful}
-use Rattle.vt_model.specs.Rows.{AreRowsRising}
 use Rattle.vt_model.specs.Sequential.{events_before, events_of, records_of, rows_after, rows_before, seq_events, seq_rows, whole_run}
+use Rattle.vt_model.specs.Rows.{RowBefore}
 use Rattle.vt_model.proofs.EndLemmas.{whole_is_history}
 use Rattle.vt_steps.specs.Claims.{AreFloorsRight, AreHistoriesRight, AreRecordsRight, IsProcess}
 use Rattle.vt_steps.specs.Letters.{unstamped}
@@ -22,7 +23,7 @@ use Rattle.vt_steps.proofs.book.BookRows.{AreNotBefore, IsBooked, part_rows, pro
 use Rattle.vt_steps.proofs.letters.Entries.{process-at_place}
 use Rattle.vt_steps.proofs.letters.EventTimes.{AreEventsLate, early-front, ranks-times, rising-times}
 use Rattle.vt_steps.proofs.time.Floors.{AreTimesSound, floor-announced, floor-at}
-use Rattle.vt_steps.proofs.lists.Lists.{every-map, every-weaker, rising-left}
+use Rattle.vt_key.proofs.ListLemmas.{every-map, every-weaker, rising-left}
 use Rattle.vt_steps.proofs.lists.Places.{get-within}
 use Rattle.vt_steps.proofs.letters.ProcessSums.{over_places, over_processes, sum_by_place-range, whole-rows-by-process}
 use Rattle.vt_steps.proofs.history.QuietHistories.{DoAllRanksRise}
@@ -111,6 +112,6 @@ module _ {S P : Type 0} (sim : Simulation S P) (lawful : IsLawful sim) (world : 
   pub records-right : AreRecordsRight sim world
   records-right = record {
     rows = book-rows;
-    once = subst AreRowsRising (sym book-rows) (seq_rows-rise sim lawful (book_floor sim.end world.book));
+    once = subst (IsRisingBy RowBefore) (sym book-rows) (seq_rows-rise sim lawful (book_floor sim.end world.book));
     records = ap records_of book-rows;
   }

@@ -5,21 +5,21 @@ use Rattle.std.specs.List.{sum_by, AllByRecursion}
 use Rattle.std.proofs.lemmas.Bool.Decides.{nat_tests}
 use Rattle.std.proofs.lemmas.List.{map-append}
 use Rattle.std.proofs.lemmas.List.Sums.{sum_by-cons, sum_by-append}
+use Rattle.vt_key.proofs.ListLemmas.{rising-filter}
 use Rattle.vt_key.specs.Times.{Time, TimeAtMost, TimeBefore, time_before}
 use Rattle.vt_key.specs.Keys.{Key}
+use Rattle.vt_key.specs.Lists.{IsRisingBy}
 use Rattle.vt_model.specs.declared.rows.Row.{Row}
 use Rattle.vt_model.specs.declared.rows.Record.{Record}
 use Rattle.vt_model.specs.declared.sending.Sent.{Sent}
-use Rattle.vt_model.specs.Rows.{RowBefore, AreRowsRising, AreRowsOf}
+use Rattle.vt_model.specs.Rows.{RowBefore, AreRowsOf}
 use Rattle.vt_model.specs.Simulation.{Simulation, Triple}
 use Rattle.vt_model.specs.Sequential.{rows_before, records_of, events_before, whole_run, rows_after, seq_rows, seq_records}
 use Rattle.vt_model.specs.Histories.{IsLawful}
-use Rattle.vt_model.proofs.RowLemmas.{rising_filter}
 use Rattle.vt_model.proofs.RunLemmas.{tested, filter-yes, filter-no}
 use Rattle.vt_model.proofs.EndLemmas.{whole_rows-rise}
 use Rattle.vt_steps.specs.Rows.{rows_from}
 use Rattle.vt_steps.proofs.letters.EventTimes.{AreEventsLate, DoTimesRise, late-events, late-rest}
-use Rattle.vt_steps.proofs.lists.Lists.{Every}
 
 -- ---- rows before a time
 
@@ -46,7 +46,7 @@ late-none t (r ∷ rs) h =
     ap (λ b. cond b (r ∷ rows_before t rs) (rows_before t rs)) is ∙ late-none t rs h.1
 
 -- of rising rows, those before a time come first
-pub early-first : (t : Time) (rows : List Row) → AreRowsRising rows → (rest : List Row) × (rows ≡ rows_before t rows ++ rest)
+pub early-first : (t : Time) (rows : List Row) → IsRisingBy RowBefore rows → (rest : List Row) × (rows ≡ rows_before t rows ++ rest)
 early-first t [] h = ([], refl)
 early-first t (r ∷ rs) h = elim (tested (time_before r.key.time t)) [
   | inl is ↦
@@ -73,8 +73,8 @@ before-before t u (r ∷ rs) le =
 
 module _ {S P : Type 0} (sim : Simulation S P) (lawful : IsLawful sim) where
   -- the rows of the sequential run before any time rise
-  pub seq_rows-rise : (t : Time) → AreRowsRising (seq_rows sim t)
-  seq_rows-rise t = rising_filter (λ (r : Row). time_before r.key.time t) (rows_after sim [] (whole_run sim)) (whole_rows-rise sim lawful)
+  pub seq_rows-rise : (t : Time) → IsRisingBy RowBefore (seq_rows sim t)
+  seq_rows-rise t = rising-filter RowBefore (λ (r : Row). time_before r.key.time t) (rows_after sim [] (whole_run sim)) (whole_rows-rise sim lawful)
 
   -- its records before a time begin those before a later one
   pub seq_records-begin : (t u : Time) → TimeAtMost t u → (rest : List Record) × (seq_records sim u ≡ seq_records sim t ++ rest)
@@ -127,7 +127,7 @@ early-weight f t key n (r ∷ rs) soon h =
 
 module _ {S P : Type 0} (sim : Simulation S P) (lawful : IsLawful sim) where
   -- the rows of early events weigh what they weigh
-  pub all-early-rows : (f : Row → ℕ) (t : Time) (p : ℕ) (triple : Triple S) (events : List (Sent P)) → Every (λ (e : Sent P). TimeBefore e.key.time t) events →
+  pub all-early-rows : (f : Row → ℕ) (t : Time) (p : ℕ) (triple : Triple S) (events : List (Sent P)) → AllByRecursion (λ (e : Sent P). TimeBefore e.key.time t) events →
       sum_by (early_weight f t) (rows_from sim p triple events) ≡ sum_by f (rows_from sim p triple events)
   all-early-rows f t p triple [] soon = refl
   all-early-rows f t p triple (e ∷ es) soon =

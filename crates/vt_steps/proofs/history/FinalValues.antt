@@ -14,7 +14,7 @@ use Rattle.vt_steps.specs.Next.{reached}
 use Rattle.vt_steps.specs.World.{LogicalProcess, Part, least, process_at, triple_after}
 use Rattle.vt_steps.proofs.letters.Entries.{process-at_place}
 use Rattle.vt_steps.proofs.letters.EventTimes.{early-events}
-use Rattle.vt_steps.proofs.lists.Lists.{every-all}
+use Rattle.vt_key.proofs.ListLemmas.{every-all}
 use Rattle.vt_steps.proofs.book.ReachedBooks.{reached-accounted, quiet-triple}
 use Rattle.vt_steps.proofs.book.Records.{floors-right}
 use Rattle.vt_steps.proofs.steps.Shape.{reached-shape, part-within, process-known}

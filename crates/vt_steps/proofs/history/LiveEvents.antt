@@ -7,14 +7,15 @@ use Rattle.std.proofs.lemmas.Bool.{cases_order}
 use Rattle.std.proofs.lemmas.List.{map-append}
 use Rattle.vt_key.specs.declared.letter.Event.{Event}
 use Rattle.vt_key.specs.declared.order.Stamp.{Stamp}
-use Rattle.vt_model.specs.Histories.{Among, AreNumbered, IsLawful, IsSent, sends_of}
+use Rattle.vt_key.specs.Lists.{Among, IsRisingBy}
+use Rattle.vt_model.specs.Histories.{AreNumbered, IsLawful, IsSent, sends_of}
 use Rattle.vt_model.specs.Simulation.{Simulation, after}
 use Rattle.vt_model.specs.declared.sending.Sent.{Sent}
 use Rattle.vt_model.proofs.RunLemmas.{numbered-all, numbered-among}
 use Rattle.vt_steps.specs.Copies.{entry_sum, live_count, of_stamp, sent_by}
 use Rattle.vt_steps.specs.Letters.{stamped, unstamped}
 use Rattle.vt_steps.specs.World.{Entry, World, entry_events, process_at, process_count, start_events}
-use Rattle.vt_steps.proofs.lists.Lists.{Rising, among-append, among-flat_map, among-left, among-map, among-range, among-right, every-all, flat_map-among, map-among, range-among, rising-unmap, same-element}
+use Rattle.vt_key.proofs.ListLemmas.{among-append, among-flat_map, among-left, among-map, among-range, among-right, every-all, flat_map-among, map-among, range-among, rising-unmap, same-element}
 use Rattle.vt_steps.proofs.lists.Sums.{some-among, some-either, sum-among}
 use Rattle.vt_steps.proofs.letters.Stamped.{unstamped-stamped}
 use Rattle.vt_steps.proofs.steps.Shape.{IsShaped, known-place, own-place, place-known, place-of_place, worker-of_place}
@@ -76,7 +77,7 @@ module _ {P : Type 0} where
       ])
 
 -- sends with rising numbers, by the number
-numbered-rising : {P : Type 0} (p low high : ℕ) (xs : List (Sent P)) → AreNumbered p low high xs → Rising (λ x y. x.key.number ≡ y.key.number → ⊥) xs
+numbered-rising : {P : Type 0} (p low high : ℕ) (xs : List (Sent P)) → AreNumbered p low high xs → IsRisingBy (λ x y. x.key.number ≡ y.key.number → ⊥) xs
 numbered-rising p low high [] h = tt
 numbered-rising p low high (x ∷ xs) h = (
   every-all (λ y. x.key.number ≡ y.key.number → ⊥) xs (λ y m same. (let above = (numbered-among p (suc x.key.number) high xs y h.2 m).1 in omega arith)),

@@ -1,7 +1,7 @@
 -- What stands where: what a process holds and has executed is for it, mail is in the inbox of its receiver's worker, and what
 -- an entry sent is what its event sends, the process standing where the entries before it leave it.
 use Rattle.std.proofs.Common.{◌≡◌, ℕ, ◌-◌, ◌/◌, ◌%◌, true, List, [], ◌∷◌, ◌++◌, map, length, take, drop, refl, sym, ◌∙◌, ap, subst, arith, append_assoc, Some, None, slice_get, slice_set}
-use Rattle.std.specs.List.{filter, flat_map, last_or, prefix_len, range_with_len}
+use Rattle.std.specs.List.{filter, flat_map, last_or, prefix_len, range_with_len, AllByRecursion}
 use Rattle.std.proofs.Math.Nat.{div-add-mod'}
 use Rattle.std.proofs.lemmas.Bool.{eqb-true}
 use Rattle.std.proofs.lemmas.List.{map-append, take-append-drop}
@@ -20,7 +20,7 @@ use Rattle.vt_steps.specs.Next.{reached}
 use Rattle.vt_steps.specs.PartSteps.{is_below, is_for, mail_of_send, part_after_commit, part_after_cut, part_after_fetch, part_after_send, process_after_commit}
 use Rattle.vt_steps.specs.ProcessSteps.{ProcessEffect, effect_of_execute, effect_of_undo, with_letter}
 use Rattle.vt_steps.specs.World.{Entry, LogicalProcess, Part, World, entry_events, opening_part, opening_world, process_at, process_count, triple_after}
-use Rattle.vt_steps.proofs.lists.Lists.{Every, before_last, every-append, every-get, every-insert_ordered, every-left, every-map, every-remove, every-right, every-without_first, filter-passes, find-passes}
+use Rattle.vt_key.proofs.ListLemmas.{before_last, every-append, every-get, every-insert_ordered, every-left, every-map, every-remove, every-right, every-without_first, filter-passes, find-passes}
 use Rattle.vt_steps.proofs.lists.Places.{all-put, get-map, get-replicate}
 use Rattle.vt_steps.proofs.letters.Stamped.{unstamped-stamped}
 use Rattle.vt_steps.proofs.steps.Changes.{Act, executes, undoes, cancels, Leaves, homes, arrives, Local, acts, takes, Change, stays, local, sends, fetches, cuts, reports, commits, closes, run_keeps}
@@ -62,8 +62,8 @@ module _ {S P : Type 0} (sim : Simulation S P) (p : ℕ) where
 -- what process p has executed was fired from its start on and is for p, and so is what is pending
 pub record IsOwnHistory {S P : Type 0} (sim : Simulation S P) (p : ℕ) (process : LogicalProcess P) : Type 0 where
   pub fired : AreFired sim p (sim.start p).triple (process.done ++ process.past)
-  pub receiver : Every (λ entry. entry.event.dest ≡ p) (process.done ++ process.past)
-  pub pending : Every (λ letter. letter.event.dest ≡ p) process.pending
+  pub receiver : AllByRecursion (λ entry. entry.event.dest ≡ p) (process.done ++ process.past)
+  pub pending : AllByRecursion (λ letter. letter.event.dest ≡ p) process.pending
 
 -- the entries of a process before its last one, and it
 pub history-before_last : {P : Type 0} (process : LogicalProcess P) (last : Entry P) → last_or None process.past ≡ Some last → process.done ++ process.past ≡ (process.done ++ take (length process.past - 1) process.past) ++ last ∷ []
@@ -80,17 +80,17 @@ module _ {S P : Type 0} (sim : Simulation S P) (p : ℕ) where
   act-history w serial old effect (executes least rest pending follows is) h =
       let unsent : List (Sent P) = (sim.fire p (triple_after sim p (old.done ++ old.past)) (unstamped least.event)).sends in
       let entry : Entry P = record { event = least.event; sent = stamped w serial unsent } in
-      let queue : Every (λ letter. letter.event.dest ≡ p) (least ∷ rest) = subst (Every (λ letter. letter.event.dest ≡ p)) pending h.pending in
+      let queue : AllByRecursion (λ letter. letter.event.dest ≡ p) (least ∷ rest) = subst (AllByRecursion (λ letter. letter.event.dest ≡ p)) pending h.pending in
       let longer : (old.done ++ old.past) ++ entry ∷ [] ≡ old.done ++ (old.past ++ entry ∷ []) = append_assoc old.done old.past (entry ∷ []) in
       subst (λ a. IsOwnHistory sim p a.process) (sym is) (record {
         fired = subst (AreFired sim p (sim.start p).triple) longer (fired-snoc sim p (sim.start p).triple (old.done ++ old.past) entry h.fired (unstamped-stamped w serial unsent));
-        receiver = subst (Every (λ e. e.event.dest ≡ p)) longer (every-append (λ e. e.event.dest ≡ p) (old.done ++ old.past) (entry ∷ []) h.receiver (queue.0, tt));
+        receiver = subst (AllByRecursion (λ e. e.event.dest ≡ p)) longer (every-append (λ e. e.event.dest ≡ p) (old.done ++ old.past) (entry ∷ []) h.receiver (queue.0, tt));
         pending = queue.1;
       })
   act-history w serial old effect (undoes last last_is must is) h =
       let front : List (Entry P) = take (length old.past - 1) old.past in
       let shorter = history-before_last old last last_is in
-      let receivers = subst (Every (λ e. e.event.dest ≡ p)) shorter h.receiver in
+      let receivers = subst (AllByRecursion (λ e. e.event.dest ≡ p)) shorter h.receiver in
       subst (λ a. IsOwnHistory sim p a.process) (sym is) (record {
         fired = fired-left sim p (sim.start p).triple (old.done ++ front) (last ∷ []) (subst (AreFired sim p (sim.start p).triple) shorter h.fired);
         receiver = every-left (λ e. e.event.dest ≡ p) (old.done ++ front) (last ∷ []) receivers;
@@ -114,7 +114,7 @@ module _ {S P : Type 0} (sim : Simulation S P) (p : ℕ) where
       let same = history-commit (prefix_len (is_below floor) process.past) process in
       record {
         fired = subst (AreFired sim p (sim.start p).triple) same h.fired;
-        receiver = subst (Every (λ e. e.event.dest ≡ p)) same h.receiver;
+        receiver = subst (AllByRecursion (λ e. e.event.dest ≡ p)) same h.receiver;
         pending = h.pending;
       }
 
@@ -123,7 +123,7 @@ module _ {S P : Type 0} (sim : Simulation S P) (p : ℕ) where
 -- the histories of a worker's processes are their own, and its arrived mail is for them
 pub record IsOwnPart {S P : Type 0} (sim : Simulation S P) (w : ℕ) (part : Part P) : Type 0 where
   pub history : (place : ℕ) (process : LogicalProcess P) → slice_get part.processes place ≡ Some process → IsOwnHistory sim (process_at sim w place) process
-  pub arrived : Every (λ mail. is_for sim w mail.letter ≡ true) part.arrived
+  pub arrived : AllByRecursion (λ mail. is_for sim w mail.letter ≡ true) part.arrived
 
 module _ {S P : Type 0} (sim : Simulation S P) (w : ℕ) where
   -- a letter for a worker is for the process of its place
@@ -168,7 +168,7 @@ module _ {S P : Type 0} (sim : Simulation S P) (w : ℕ) where
 -- of each worker: its part is its own, and the mail in its inbox is for its processes
 pub record IsOwnWorld {S P : Type 0} (sim : Simulation S P) (world : World P) : Type 0 where
   pub parts : (w : ℕ) (part : Part P) → slice_get world.parts w ≡ Some part → IsOwnPart sim w part
-  pub inboxes : (v : ℕ) (inbox : List (Mail P)) → slice_get world.inboxes v ≡ Some inbox → Every (λ mail. is_for sim v mail.letter ≡ true) inbox
+  pub inboxes : (v : ℕ) (inbox : List (Mail P)) → slice_get world.inboxes v ≡ Some inbox → AllByRecursion (λ mail. is_for sim v mail.letter ≡ true) inbox
 
 module _ {S P : Type 0} (sim : Simulation S P) where
   -- a part gives way to one of its own
@@ -177,7 +177,7 @@ module _ {S P : Type 0} (sim : Simulation S P) where
   part-own old new w part after is e h f v found at = all-put (IsOwnPart sim) old.parts w part after is h.parts f v found (sym (ap (λ ps. slice_get ps v) e) ∙ at)
 
   -- the inboxes stay
-  same-inboxes : (old new : World P) → new.inboxes ≡ old.inboxes → IsOwnWorld sim old → (v : ℕ) (inbox : List (Mail P)) → slice_get new.inboxes v ≡ Some inbox → Every (λ mail. is_for sim v mail.letter ≡ true) inbox
+  same-inboxes : (old new : World P) → new.inboxes ≡ old.inboxes → IsOwnWorld sim old → (v : ℕ) (inbox : List (Mail P)) → slice_get new.inboxes v ≡ Some inbox → AllByRecursion (λ mail. is_for sim v mail.letter ≡ true) inbox
   same-inboxes old new e h v inbox at = h.inboxes v inbox (sym (ap (λ boxes. slice_get boxes v) e) ∙ at)
 
   -- each change keeps it
@@ -190,14 +190,14 @@ module _ {S P : Type 0} (sim : Simulation S P) where
   }
   own-kept old new (sends w v part inbox is in_is e) h = record {
     parts = part-own old new w part (part_after_send sim v part) is (ap (λ n. n.parts) e) h (λ here. record { history = here.history; arrived = here.arrived });
-    inboxes = λ u box at. all-put (λ j z. Every (λ mail. is_for sim j mail.letter ≡ true) z) old.inboxes v inbox (inbox ++ mail_of_send sim v part) in_is h.inboxes
+    inboxes = λ u box at. all-put (λ j z. AllByRecursion (λ mail. is_for sim j mail.letter ≡ true) z) old.inboxes v inbox (inbox ++ mail_of_send sim v part) in_is h.inboxes
         (λ there. every-append (λ mail. is_for sim v mail.letter ≡ true) inbox (mail_of_send sim v part) there
         (every-map (λ letter. record { letter = letter; colour = part.colour }) (λ mail. is_for sim v mail.letter ≡ true) (filter (is_for sim v) part.outbox) (filter-passes (is_for sim v) part.outbox)))
         u box (sym (ap (λ n. slice_get n.inboxes u) e) ∙ at);
   }
   own-kept old new (fetches w part inbox is in_is none e) h = record {
     parts = part-own old new w part (part_after_fetch inbox part) is (ap (λ n. n.parts) e) h (λ here. record { history = here.history; arrived = h.inboxes w inbox in_is });
-    inboxes = λ u box at. all-put (λ j z. Every (λ mail. is_for sim j mail.letter ≡ true) z) old.inboxes w inbox [] in_is h.inboxes (λ there. tt) u box (sym (ap (λ n. slice_get n.inboxes u) e) ∙ at);
+    inboxes = λ u box at. all-put (λ j z. AllByRecursion (λ mail. is_for sim j mail.letter ≡ true) z) old.inboxes w inbox [] in_is h.inboxes (λ there. tt) u box (sym (ap (λ n. slice_get n.inboxes u) e) ∙ at);
   }
   own-kept old new (cuts w part board is cut_is e) h = record {
     parts = part-own old new w part (part_after_cut sim.end old.board.announced part) is (ap (λ n. n.parts) e) h (λ here. record { history = here.history; arrived = here.arrived });
@@ -232,7 +232,7 @@ module _ {S P : Type 0} (sim : Simulation S P) where
           history = λ place process there. subst (IsOwnHistory sim (process_at sim w place)) (sym (get-replicate (process_count sim from.0) place empty process there)) (record { fired = tt; receiver = tt; pending = tt });
           arrived = tt;
         }));
-    inboxes = λ v inbox at. (let none : List (Mail P) = [] in subst (Every (λ mail. is_for sim v mail.letter ≡ true)) (sym (get-replicate sim.workers v none inbox at)) tt);
+    inboxes = λ v inbox at. (let none : List (Mail P) = [] in subst (AllByRecursion (λ mail. is_for sim v mail.letter ≡ true)) (sym (get-replicate sim.workers v none inbox at)) tt);
   }
 
   -- and each reached world

@@ -3,6 +3,7 @@
 use Rattle.std.proofs.Common.{◌≡◌, ℕ, ◌+◌, ◌/◌, ◌%◌, ◌≤◌, ◌<◌, inl, inr, Bool, true, false, cond, List, [], ◌∷◌, ◌++◌, refl, sym, ◌∙◌, ap, subst, arith, filter}
 use Rattle.std.proofs.Math.Nat.{le_refl}
 use Rattle.std.proofs.lemmas.Bool.{ltb-true, ltb-false, lt-ltb}
+use Rattle.std.specs.List.{AllByRecursion}
 use Rattle.vt_key.specs.Order.{KeyBefore, RankBefore, StampBefore}
 use Rattle.vt_key.specs.Times.{Time, TimeAtMost, TimeBefore, time_before}
 use Rattle.vt_key.proofs.OrderLemmas.{stamp-irreflexive}
@@ -11,7 +12,8 @@ use Rattle.vt_key.specs.declared.letter.Letter.{Letter}
 use Rattle.vt_key.specs.declared.letter.Sign.{Sign}
 use Rattle.vt_key.specs.declared.letter.Sign.TheVariants.{Plus, Minus}
 use Rattle.vt_key.specs.declared.order.Stamp.{Stamp}
-use Rattle.vt_model.specs.Histories.{AllAfter, Among, IsHistory, IsLawful, IsRising, IsSent, sends_from}
+use Rattle.vt_key.specs.Lists.{Among, IsRisingBy}
+use Rattle.vt_model.specs.Histories.{IsHistory, IsLawful, IsRising, IsSent, sends_from}
 use Rattle.vt_model.specs.Sequential.{events_before, seq_events}
 use Rattle.vt_model.specs.Simulation.{Simulation, Triple}
 use Rattle.vt_model.specs.declared.sending.Sent.{Sent}
@@ -23,7 +25,7 @@ use Rattle.vt_steps.specs.Copies.{entry_sum, is_copy, is_event_of, letter_sum, l
 use Rattle.vt_steps.specs.Letters.{least_time, letter_time, unstamped}
 use Rattle.vt_steps.specs.Next.{reached}
 use Rattle.vt_steps.specs.World.{Entry, LogicalProcess, World, all_letters, entry_events, least}
-use Rattle.vt_steps.proofs.lists.Lists.{Every, Rising, among-append, among-filter, among-left, among-map, among-right, every-among, filter-among, flat_map-among, map-among, rising-filter, rising-map, rising-weaker}
+use Rattle.vt_key.proofs.ListLemmas.{among-append, among-filter, among-left, among-map, among-right, every-among, filter-among, flat_map-among, map-among, rising-filter, rising-map, rising-weaker}
 use Rattle.vt_steps.proofs.lists.Sums.{some-either}
 use Rattle.vt_steps.proofs.letters.Stamped.{Alike}
 use Rattle.vt_steps.proofs.steps.Shape.{IsShaped, own-place, reached-shape}
@@ -37,14 +39,6 @@ use Rattle.vt_steps.proofs.history.LiveEvents.{IsLiveEvent, first-among, live-co
 
 -- ---- lists of events whose times never fall
 
--- a list that rises by keys, as the model says it
-rising-keys : {P : Type 0} (es : List (Sent P)) → Rising (λ d e. KeyBefore d.key e.key) es → IsRising es
-rising-keys {P = P} [] h = tt
-rising-keys {P = P} (e ∷ es) h = (after_each es h.0, rising-keys es h.1) where
-  after_each : (ds : List (Sent P)) → Every (λ d. KeyBefore e.key d.key) ds → AllAfter e.key ds
-  after_each [] k = tt
-  after_each (d ∷ ds) k = (k.0, after_each ds k.1)
-
 -- the events before a time, once more cut to those before it
 before-twice : {P : Type 0} (t : Time) (es : List (Sent P)) → events_before t (events_before t es) ≡ events_before t es
 before-twice t [] = refl
@@ -57,7 +51,7 @@ before-twice t (e ∷ es) =
 
 module _ {S P : Type 0} (sim : Simulation S P) (lawful : IsLawful sim) (p : ℕ) (known : p < sim.lps) (t : Time) where
   -- events from a time on send later
-  late-sends : (triple : Triple S) (es : List (Sent P)) (d : Sent P) → Every (λ e. TimeAtMost t e.key.time) es → Among d (sends_from sim p triple es) → TimeAtMost t d.key.time
+  late-sends : (triple : Triple S) (es : List (Sent P)) (d : Sent P) → AllByRecursion (λ e. TimeAtMost t e.key.time) es → Among d (sends_from sim p triple es) → TimeAtMost t d.key.time
   late-sends triple [] d late m = absurd m
   late-sends triple (e ∷ es) d late m =
       elim (among-append d (sim.fire p triple e).sends (sends_from sim p (sim.fire p triple e).triple es) m) [
@@ -115,7 +109,7 @@ reached-sound sim serial steps = record {
 -- the ranks of each process's entries rise
 abbrev pub DoAllRanksRise : {S P : Type 0} → Simulation S P → World P → Type 0
 DoAllRanksRise {P = P} sim world =
-    (p : ℕ) (process : LogicalProcess P) → IsProcess sim world p process → Rising (λ (d e : Entry P). RankBefore d.event.rank e.event.rank) (process.done ++ process.past)
+    (p : ℕ) (process : LogicalProcess P) → IsProcess sim world p process → IsRisingBy (λ (d e : Entry P). RankBefore d.event.rank e.event.rank) (process.done ++ process.past)
 
 -- the least time is at most each letter's
 pub least-at_most : {P : Type 0} (end : Time) (letters : List (Letter P)) (letter : Letter P) → Among letter letters → TimeAtMost (least_time end letters) (letter_time letter)
@@ -189,11 +183,11 @@ module _ {S P : Type 0} (sim : Simulation S P) (lawful : IsLawful sim) (serial :
       receiver p entry =
           by-process sim world p (λ l. Among entry l → entry.event.dest ≡ p) (λ m. absurd m)
           (λ process is m. every-among (λ e. e.event.dest ≡ p) (process.done ++ process.past) entry
-          (subst (λ q. Every (λ e. e.event.dest ≡ q) (process.done ++ process.past)) (own-place sim p) ((sound.own.parts (p % sim.workers) is.0 is.1).history (p / sim.workers) process is.2).receiver) m)
+          (subst (λ q. AllByRecursion (λ e. e.event.dest ≡ q) (process.done ++ process.past)) (own-place sim p) ((sound.own.parts (p % sim.workers) is.0 is.1).history (p / sim.workers) process is.2).receiver) m)
 
       -- its ranks rise
-      entries-rise : (p : ℕ) → Rising (λ (d e : Entry P). RankBefore d.event.rank e.event.rank) (entries_of sim world p)
-      entries-rise p = by-process sim world p (Rising (λ (d e : Entry P). RankBefore d.event.rank e.event.rank)) tt (λ process is. ranks p process is)
+      entries-rise : (p : ℕ) → IsRisingBy (λ (d e : Entry P). RankBefore d.event.rank e.event.rank) (entries_of sim world p)
+      entries-rise p = by-process sim world p (IsRisingBy (λ (d e : Entry P). RankBefore d.event.rank e.event.rank)) tt (λ process is. ranks p process is)
 
       -- so its times never fall
       times-rise : (p : ℕ) → DoTimesRise (history p)
@@ -206,8 +200,7 @@ module _ {S P : Type 0} (sim : Simulation S P) (lawful : IsLawful sim) (serial :
           let is_early : Entry P → Bool = λ e. time_before e.event.rank.key.time t in
           let live : (e : Entry P) → Among e (filter is_early entries) → IsLiveEvent sim serial world e.event =
           λ e m. (let r = filter-among is_early e entries m in executed-live p e r.0 (ltb-true e.event.rank.key.time t r.1)) in
-          rising-keys (early_history p)
-          (subst (Rising (λ d e. KeyBefore d.key e.key)) (sym (filter-entries entries))
+          subst (IsRisingBy (λ d e. KeyBefore d.key e.key)) (sym (filter-entries entries))
           (rising-map (λ (e : Entry P). unstamped e.event) (λ d e. KeyBefore d.key e.key) (filter is_early entries)
           (rising-weaker (λ (d e : Entry P). RankBefore d.event.rank e.event.rank) (λ (d e : Entry P). KeyBefore d.event.rank.key e.event.rank.key) (filter is_early entries)
           (λ d e m n before. elim before [
@@ -216,7 +209,7 @@ module _ {S P : Type 0} (sim : Simulation S P) (lawful : IsLawful sim) (serial :
                 let same : d.event ≡ e.event = one_live sim serial lawful world sound.own d.event e.event (live d m) (live e n) k.0 in
                 absurd (stamp-irreflexive e.event.rank.stamp (subst (λ s. StampBefore s e.event.rank.stamp) (ap (λ (x : Event P). x.rank.stamp) same) k.1)))
           ])
-          (rising-filter (λ (d e : Entry P). RankBefore d.event.rank e.event.rank) is_early entries (entries-rise p)))))
+          (rising-filter (λ (d e : Entry P). RankBefore d.event.rank e.event.rank) is_early entries (entries-rise p))))
         where
           filter-entries : (es : List (Entry P)) → events_before t (entry_events es) ≡ entry_events (filter (λ e. time_before e.event.rank.key.time t) es)
           filter-entries [] = refl

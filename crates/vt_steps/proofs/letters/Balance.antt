@@ -22,7 +22,7 @@ use Rattle.vt_steps.specs.Next.{with_part}
 use Rattle.vt_steps.specs.PartSteps.{is_below, is_for, mail_of_send, part_after_commit, part_after_cut, part_after_fetch, part_after_send, process_after_commit, with_effect}
 use Rattle.vt_steps.specs.ProcessSteps.{ProcessEffect, effect_of_execute, effect_of_undo, with_letter}
 use Rattle.vt_steps.specs.World.{Entry, LogicalProcess, Part, World, process_at, triple_after}
-use Rattle.vt_steps.proofs.lists.Lists.{find-passes}
+use Rattle.vt_key.proofs.ListLemmas.{find-passes}
 use Rattle.vt_steps.proofs.lists.Places.{get-put_same, get-put_other}
 use Rattle.vt_steps.proofs.lists.Sums.{sum_by-put, sum_by-without_first, sum_by-insert_ordered, sum_by-filters, sum_by-map, sum_by-take-drop, sum_by-before_last, sum_by-remove, sum_by-single}
 use Rattle.vt_steps.proofs.letters.Stamped.{length-stamped}

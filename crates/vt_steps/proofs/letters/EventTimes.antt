@@ -2,25 +2,27 @@
 use Rattle.std.proofs.Common.{◌≡◌, true, false, List, [], ◌∷◌, ◌++◌, refl, ◌∙◌, ap, arith, append-nil}
 use Rattle.std.proofs.lemmas.Bool.Decides.{nat_tests}
 use Rattle.std.proofs.lemmas.List.Elements.{filter-append}
+use Rattle.std.specs.List.{AllByRecursion}
 use Rattle.vt_key.specs.Keys.{Key}
 use Rattle.vt_key.specs.Order.{KeyBefore, RankBefore}
 use Rattle.vt_key.specs.Times.{Time, TimeAtMost, TimeBefore, time_before}
+use Rattle.vt_key.specs.Lists.{IsRisingBy}
 use Rattle.vt_model.specs.declared.sending.Sent.{Sent}
-use Rattle.vt_model.specs.Histories.{AllAfter, IsRising}
+use Rattle.vt_model.specs.Histories.{IsRising}
 use Rattle.vt_model.specs.Sequential.{events_before}
 use Rattle.vt_model.proofs.RunLemmas.{filter-yes, filter-no}
 use Rattle.vt_steps.specs.Letters.{unstamped}
 use Rattle.vt_steps.specs.World.{Entry, entry_events}
-use Rattle.vt_steps.proofs.lists.Lists.{Every, Rising, every-map, every-weaker}
+use Rattle.vt_key.proofs.ListLemmas.{every-map, every-weaker, rising-weaker}
 use Rattle.vt_steps.proofs.letters.RankTimes.{rank-order-time}
 
 -- no event of the list is before a time
 abbrev pub AreEventsLate : {P : Type 0} → Time → List (Sent P) → Type 0
-AreEventsLate {P} t events = Every (λ (e : Sent P). TimeAtMost t e.key.time) events
+AreEventsLate {P} t events = AllByRecursion (λ (e : Sent P). TimeAtMost t e.key.time) events
 
 -- the times of the list never fall
 abbrev pub DoTimesRise : {P : Type 0} → List (Sent P) → Type 0
-DoTimesRise {P} events = Rising (λ (d e : Sent P). TimeAtMost d.key.time e.key.time) events
+DoTimesRise {P} events = IsRisingBy (λ (d e : Sent P). TimeAtMost d.key.time e.key.time) events
 
 -- late events are not among those before the time
 pub late-events : {P : Type 0} (t : Time) (events : List (Sent P)) → AreEventsLate t events → events_before t events ≡ []
@@ -31,7 +33,7 @@ late-events t (e ∷ es) h =
     filter-no (λ d. time_before d.key.time t) e es is ∙ late-events t es h.1
 
 -- where all events are before a time, those before it are all
-pub early-events : {P : Type 0} (t : Time) (events : List (Sent P)) → Every (λ (e : Sent P). TimeBefore e.key.time t) events → events_before t events ≡ events
+pub early-events : {P : Type 0} (t : Time) (events : List (Sent P)) → AllByRecursion (λ (e : Sent P). TimeBefore e.key.time t) events → events_before t events ≡ events
 early-events t [] h = refl
 early-events t (e ∷ es) h =
     let soon = h.0 in
@@ -39,7 +41,7 @@ early-events t (e ∷ es) h =
     filter-yes (λ d. time_before d.key.time t) e es is ∙ ap (λ l. e ∷ l) (early-events t es h.1)
 
 -- what follows a late event is late
-pub late-rest : {P : Type 0} (t : Time) (e : Sent P) (events : List (Sent P)) → TimeAtMost t e.key.time → Every (λ d. TimeAtMost e.key.time d.key.time) events → AreEventsLate t events
+pub late-rest : {P : Type 0} (t : Time) (e : Sent P) (events : List (Sent P)) → TimeAtMost t e.key.time → AllByRecursion (λ d. TimeAtMost e.key.time d.key.time) events → AreEventsLate t events
 late-rest t e events late h = every-weaker (λ d. TimeAtMost e.key.time d.key.time) (λ d. TimeAtMost t d.key.time) events (λ d up. omega arith) h
 
 -- of two lists of which no event of the second is before the time, those of the first are all that are
@@ -49,18 +51,13 @@ early-front t xs ys late =
 
 -- where keys rise, times never fall
 pub rising-times : {P : Type 0} (events : List (Sent P)) → IsRising events → DoTimesRise events
-rising-times [] h = tt
-rising-times {P} (e ∷ es) h = (after-each es h.0, rising-times es h.1)
+rising-times events = rising-weaker (λ d e. KeyBefore d.key e.key) (λ d e. TimeAtMost d.key.time e.key.time) events (λ d e here there before. later d.key e.key before)
   where
-    later : (k : Key) → KeyBefore e.key k → TimeAtMost e.key.time k.time
-    later k before = grind arith
-
-    after-each : (ds : List (Sent P)) → AllAfter e.key ds → Every (λ d. TimeAtMost e.key.time d.key.time) ds
-    after-each [] k = tt
-    after-each (d ∷ ds) k = (later d.key k.0, after-each ds k.1)
+    later : (k l : Key) → KeyBefore k l → TimeAtMost k.time l.time
+    later k l before = grind arith
 
 -- where the ranks of entries rise, the times of their events never fall
-pub ranks-times : {P : Type 0} (entries : List (Entry P)) → Rising (λ (a b : Entry P). RankBefore a.event.rank b.event.rank) entries → DoTimesRise (entry_events entries)
+pub ranks-times : {P : Type 0} (entries : List (Entry P)) → IsRisingBy (λ (a b : Entry P). RankBefore a.event.rank b.event.rank) entries → DoTimesRise (entry_events entries)
 ranks-times [] h = tt
 ranks-times {P} (x ∷ xs) h = (
   every-map (λ (e : Entry P). unstamped e.event) (λ (d : Sent P). TimeAtMost x.event.rank.key.time d.key.time) xs

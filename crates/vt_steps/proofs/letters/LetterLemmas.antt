@@ -27,7 +27,7 @@ use Rattle.vt_steps.specs.Laws.{IsMessageExecuted, IsEventUndone, AreBothGone, A
 use Rattle.vt_key.specs.Order.{key_same}
 use Rattle.vt_key.specs.Queues.{has_stamp, without_first}
 use Rattle.vt_key.proofs.OrderLemmas.{key_same-true, stamp_same-true}
-use Rattle.vt_steps.proofs.lists.Lists.{find-passes}
+use Rattle.vt_key.proofs.ListLemmas.{find-passes}
 use Rattle.vt_steps.proofs.steps.Changes.{Leaves, homes, arrives, map_has, chain_has, if_has, unless_has, empty_is}
 use Rattle.vt_steps.proofs.steps.Outcomes.{locally-either, at_cell-either, done_or_refused-either, unless_closed-either}
 use Rattle.vt_steps.proofs.lists.Sums.{sum_by-put, sum_by-single, sum_by-map, sum_by-filters}

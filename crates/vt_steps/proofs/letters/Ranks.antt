@@ -2,7 +2,7 @@
 -- where all are committed, it is the announced time that keeps them before what comes: no committed event is at or after a
 -- worker's floor, no floor is after the announced time, and no letter is before it.
 use Rattle.std.proofs.Common.{◌≡◌, inl, inr, ℕ, zero, suc, ◌+◌, ◌-◌, ◌/◌, ◌%◌, ◌<◌, true, false, cond, List, [], ◌∷◌, ◌++◌, length, take, refl, sym, ◌∙◌, ap, subst, arith, append_assoc, append-nil, Option, Some, None, slice_get, slice_set}
-use Rattle.std.specs.List.{AllPairs, flat_map, last_or, prefix_len, range_with_len, slice_index_or}
+use Rattle.std.specs.List.{AllPairs, flat_map, last_or, prefix_len, range_with_len, slice_index_or, AllByRecursion}
 use Rattle.std.proofs.lemmas.Bool.{ltb-true}
 use Rattle.vt_key.specs.Order.{RankBefore, rank_before}
 use Rattle.vt_key.specs.Times.{Time, TimeAtMost, TimeBefore, opening_time}
@@ -10,7 +10,8 @@ use Rattle.vt_key.proofs.OrderLemmas.{rank-transitive, rank_before-true, before-
 use Rattle.vt_key.specs.declared.letter.Letter.{Letter}
 use Rattle.vt_key.specs.declared.letter.Sign.{Sign}
 use Rattle.vt_key.specs.declared.letter.Sign.TheVariants.{Plus, Minus}
-use Rattle.vt_model.specs.Histories.{Among, IsLawful}
+use Rattle.vt_key.specs.Lists.{Among, IsRisingBy}
+use Rattle.vt_model.specs.Histories.{IsLawful}
 use Rattle.vt_model.specs.Simulation.{Simulation}
 use Rattle.vt_steps.specs.declared.step.Step.{Step}
 use Rattle.vt_steps.specs.Claims.{DoRanksRise, IsProcess}
@@ -19,7 +20,7 @@ use Rattle.vt_steps.specs.Next.{reached}
 use Rattle.vt_steps.specs.PartSteps.{is_below, part_after_commit, part_after_cut, part_after_fetch, part_after_send, process_after_commit, with_effect}
 use Rattle.vt_steps.specs.ProcessSteps.{ProcessEffect, effect_of_execute, effect_of_undo, may_follow, with_letter}
 use Rattle.vt_steps.specs.World.{Entry, LogicalProcess, Part, World, all_letters, least, letters_in, opening_part, opening_world, process_at, process_count, triple_after}
-use Rattle.vt_steps.proofs.lists.Lists.{Every, Rising, among-append, among-flat_map, among-left, among-right, every-among, every-append, every-weaker, get-among, no_last, rising-across, rising-append, rising-left}
+use Rattle.vt_key.proofs.ListLemmas.{among-append, among-flat_map, among-left, among-right, every-among, every-append, every-weaker, get-among, no_last, rising-across, rising-append, rising-left}
 use Rattle.vt_steps.proofs.lists.Places.{all-put, get-map, get-replicate}
 use Rattle.vt_steps.proofs.steps.Changes.{Act, executes, undoes, cancels, Leaves, homes, arrives, Local, acts, takes, Change, stays, local, sends, fetches, cuts, reports, commits, closes, run_keeps}
 use Rattle.vt_steps.proofs.history.OwnHistories.{history-before_last, history-commit}
@@ -35,8 +36,8 @@ IsEntryBefore d e = RankBefore d.event.rank e.event.rank
 
 -- a process whose ranks rise, and whose committed events are before the floor
 pub record IsOrdered {P : Type 0} (floor : Time) (process : LogicalProcess P) : Type 0 where
-  pub rising : Rising IsEntryBefore (process.done ++ process.past)
-  pub committed : Every (λ e. TimeBefore e.event.rank.key.time floor) process.done
+  pub rising : IsRisingBy IsEntryBefore (process.done ++ process.past)
+  pub committed : AllByRecursion (λ e. TimeBefore e.event.rank.key.time floor) process.done
 
 module _ {P : Type 0} where
   -- what may follow the last past entry, and is not before the floor, follows all
@@ -52,7 +53,7 @@ module _ {P : Type 0} where
       by_last (Some last) is ok =
           let front : List (Entry P) = process.done ++ take (length process.past - 1) process.past in
           let whole = history-before_last process last is in
-          let rising : Rising IsEntryBefore (front ++ last ∷ []) = subst (Rising IsEntryBefore) whole ordered.rising in
+          let rising : IsRisingBy IsEntryBefore (front ++ last ∷ []) = subst (IsRisingBy IsEntryBefore) whole ordered.rising in
           let step : IsEntryBefore last new = rank_before-true last.event.rank new.event.rank ok in
           elim (among-append x front (last ∷ []) (subst (Among x) whole m)) [
             | inl earlier ↦ rank-transitive x.event.rank last.event.rank new.event.rank (rising-across IsEntryBefore front (last ∷ []) rising x last earlier (inl refl)) step
@@ -67,13 +68,13 @@ module _ {P : Type 0} where
   }
 
   -- those in front that are below the floor are before it
-  front-before : (floor : Time) (xs : List (Entry P)) → Every (λ e. TimeBefore e.event.rank.key.time floor) (take (prefix_len (is_below floor) xs) xs)
+  front-before : (floor : Time) (xs : List (Entry P)) → AllByRecursion (λ e. TimeBefore e.event.rank.key.time floor) (take (prefix_len (is_below floor) xs) xs)
   front-before floor [] = tt
   front-before floor (x ∷ xs) =
-      elim (is_below floor x) as (λ b. is_below floor x ≡ b → Every (λ e. TimeBefore e.event.rank.key.time floor) (take (cond b (1 + prefix_len (is_below floor) xs) 0) (x ∷ xs))) [
+      elim (is_below floor x) as (λ b. is_below floor x ≡ b → AllByRecursion (λ e. TimeBefore e.event.rank.key.time floor) (take (cond b (1 + prefix_len (is_below floor) xs) 0) (x ∷ xs))) [
         | true ↦ λ is.
             (let more : 1 + prefix_len (is_below floor) xs ≡ suc (prefix_len (is_below floor) xs) = omega arith in
-            subst (λ n. Every (λ e. TimeBefore e.event.rank.key.time floor) (take n (x ∷ xs))) (sym more) (ltb-true x.event.rank.key.time floor is, front-before floor xs))
+            subst (λ n. AllByRecursion (λ e. TimeBefore e.event.rank.key.time floor) (take n (x ∷ xs))) (sym more) (ltb-true x.event.rank.key.time floor is, front-before floor xs))
         | false ↦ λ is. tt
       ] refl
 
@@ -82,7 +83,7 @@ module _ {P : Type 0} where
   commit-ordered floor process h =
       let n = prefix_len (is_below floor) process.past in
       record {
-        rising = subst (Rising IsEntryBefore) (history-commit n process) h.rising;
+        rising = subst (IsRisingBy IsEntryBefore) (history-commit n process) h.rising;
         committed = every-append (λ e. TimeBefore e.event.rank.key.time floor) process.done (take n process.past) h.committed (front-before floor process.past);
       }
 
@@ -100,13 +101,13 @@ act-ordered {P = P} sim p w serial floor old effect (executes least rest pending
     let low = late least (subst (Among least) (sym pending) (inl refl)) in
     let longer : (old.done ++ old.past) ++ entry ∷ [] ≡ old.done ++ (old.past ++ entry ∷ []) = append_assoc old.done old.past (entry ∷ []) in
     subst (λ a. IsOrdered floor a.process) (sym is) (record {
-      rising = subst (Rising IsEntryBefore) longer (rising-append IsEntryBefore (old.done ++ old.past) (entry ∷ []) h.rising (tt, tt)
+      rising = subst (IsRisingBy IsEntryBefore) longer (rising-append IsEntryBefore (old.done ++ old.past) (entry ∷ []) h.rising (tt, tt)
           (λ x y m n. elim n [ inl e ↦ subst (IsEntryBefore x) (sym e) (follows-all floor old entry h may low x m) | inr none ↦ absurd none ]));
       committed = h.committed;
     })
 act-ordered {P = P} sim p w serial floor old effect (undoes last last_is must is) late h =
     subst (λ a. IsOrdered floor a.process) (sym is) (record {
-      rising = rising-left IsEntryBefore (old.done ++ take (length old.past - 1) old.past) (last ∷ []) (subst (Rising IsEntryBefore) (history-before_last old last last_is) h.rising);
+      rising = rising-left IsEntryBefore (old.done ++ take (length old.past - 1) old.past) (last ∷ []) (subst (IsRisingBy IsEntryBefore) (history-before_last old last last_is) h.rising);
       committed = h.committed;
     })
 act-ordered sim p w serial floor old effect (cancels stamp minus plus waits pends keys is) late h =
@@ -214,7 +215,7 @@ module _ {S P : Type 0} (sim : Simulation S P) where
 
   -- what each process has committed is before its worker's floor
   pub reached-committed : IsLawful sim → (serial : ℕ) (steps : List Step) (w place : ℕ) (part : Part P) (process : LogicalProcess P) → slice_get (reached sim serial steps).parts w ≡ Some part →
-      slice_get part.processes place ≡ Some process → Every (λ e. TimeBefore e.event.rank.key.time part.floor) process.done
+      slice_get part.processes place ≡ Some process → AllByRecursion (λ e. TimeBefore e.event.rank.key.time part.floor) process.done
   unfolding IsOrderedPart
   reached-committed lawful serial steps w place part process at there = (reached-ordered lawful serial steps w part at place process there).committed
 
@@ -227,7 +228,7 @@ among-at (x ∷ xs) zero d h = inl refl
 among-at (x ∷ xs) (suc j) d h = inr (among-at xs j d (omega arith))
 
 -- a rising list, by its places and the test of ranks
-rising-pairs : {P : Type 0} (xs : List (Entry P)) → Rising IsEntryBefore xs → AllPairs (λ (a b : Entry P). rank_before a.event.rank b.event.rank ≡ true) xs
+rising-pairs : {P : Type 0} (xs : List (Entry P)) → IsRisingBy IsEntryBefore xs → AllPairs (λ (a b : Entry P). rank_before a.event.rank b.event.rank ≡ true) xs
 rising-pairs [] h i j d less within = absurd (omega arith)
 rising-pairs (x ∷ xs) h i zero d less within = absurd (omega arith)
 rising-pairs (x ∷ xs) h zero (suc j) d less within =

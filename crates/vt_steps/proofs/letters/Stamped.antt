@@ -1,6 +1,6 @@
 -- Events that were just stamped: their stamps are new ones, each of its own, and without them they are what was sent.
 use Rattle.std.proofs.Common.{◌≡◌, inl, inr, ℕ, suc, ◌+◌, ◌≤◌, ◌<◌, true, false, List, [], ◌∷◌, map, length, refl, ap, arith}
-use Rattle.std.specs.List.{sum_by}
+use Rattle.std.specs.List.{sum_by, AllByRecursion}
 use Rattle.std.proofs.lemmas.Bool.{cases_lt}
 use Rattle.std.proofs.lemmas.List.Sums.{sum_by-cons}
 use Rattle.vt_key.specs.Order.{stamp_same}
@@ -10,7 +10,7 @@ use Rattle.vt_key.specs.declared.order.Stamp.{Stamp}
 use Rattle.vt_model.specs.declared.sending.Sent.{Sent}
 use Rattle.vt_steps.specs.Copies.{as_count, of_stamp}
 use Rattle.vt_steps.specs.Letters.{stamped, unstamped}
-use Rattle.vt_steps.proofs.lists.Lists.{Every, every-weaker, every-both}
+use Rattle.vt_key.proofs.ListLemmas.{every-weaker, every-both}
 
 -- as many as were sent
 pub length-stamped : {P : Type 0} (w serial : ℕ) (xs : List (Sent P)) → length (stamped w serial xs) ≡ length xs
@@ -29,7 +29,7 @@ pub record IsStamped {P : Type 0} (w low high : ℕ) (x : Event P) : Type 0 wher
   pub most : x.rank.stamp.serial < high
 
 -- their stamps are the next ones
-pub stamped-each : {P : Type 0} (w serial : ℕ) (xs : List (Sent P)) → Every (IsStamped w serial (serial + length xs)) (stamped w serial xs)
+pub stamped-each : {P : Type 0} (w serial : ℕ) (xs : List (Sent P)) → AllByRecursion (IsStamped w serial (serial + length xs)) (stamped w serial xs)
 stamped-each w serial [] = tt
 stamped-each w serial (x ∷ xs) = (
   record { worker = refl; least = omega arith; most = omega arith },
@@ -43,7 +43,7 @@ abbrev pub Alike : {P : Type 0} → Event P → Event P → Type 0
 Alike x y = x.rank.stamp ≡ y.rank.stamp → x ≡ y
 
 -- each of them is the only one of its stamp
-pub stamped-alike : {P : Type 0} (w serial : ℕ) (xs : List (Sent P)) → Every (λ x. Every (Alike x) (stamped w serial xs)) (stamped w serial xs)
+pub stamped-alike : {P : Type 0} (w serial : ℕ) (xs : List (Sent P)) → AllByRecursion (λ x. AllByRecursion (Alike x) (stamped w serial xs)) (stamped w serial xs)
 stamped-alike w serial [] = tt
 stamped-alike {P} w serial (x ∷ xs) =
     let rest : List (Event P) = stamped w (serial + 1) xs in
@@ -54,7 +54,7 @@ stamped-alike {P} w serial (x ∷ xs) =
         every-weaker (IsStamped w (serial + 1) (serial + 1 + length xs)) (Alike first) rest
             (λ y h e. let s : serial ≡ y.rank.stamp.serial = ap (λ a. a.serial) e in let l = h.least in elim (let none : ⊥ = omega arith in none) [ ]) later,
       ),
-      every-both (IsStamped w (serial + 1) (serial + 1 + length xs)) (λ z. Every (Alike z) rest) (λ z. Every (Alike z) (first ∷ rest)) rest
+      every-both (IsStamped w (serial + 1) (serial + 1 + length xs)) (λ z. AllByRecursion (Alike z) rest) (λ z. AllByRecursion (Alike z) (first ∷ rest)) rest
           (λ z h k. ((λ e. let s : z.rank.stamp.serial ≡ serial = ap (λ a. a.serial) e in let l = h.least in elim (let none : ⊥ = omega arith in none) [ ]), k)) later (stamped-alike w (serial + 1) xs),
     )
 

@@ -6,8 +6,8 @@ use Rattle.std.proofs.lemmas.List.Sums.{sum_by-cons, sum_by-append}
 use Rattle.vt_key.specs.Order.{rank_before}
 use Rattle.vt_key.specs.Queues.{insert_letter, without_first}
 use Rattle.vt_key.specs.declared.letter.Letter.{Letter}
-use Rattle.vt_model.specs.Histories.{Among}
-use Rattle.vt_steps.proofs.lists.Lists.{before_last, get-among}
+use Rattle.vt_key.specs.Lists.{Among}
+use Rattle.vt_key.proofs.ListLemmas.{before_last, get-among}
 
 -- ---- after one edit
 

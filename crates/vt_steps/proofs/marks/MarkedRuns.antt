@@ -2,19 +2,20 @@
 use Rattle.std.proofs.Common.{◌≡◌, ℕ, Bool, true, false, cond, List, [], ◌∷◌, ◌++◌, refl, sym, ◌∙◌, ap, subst, nat_eq}
 use Rattle.std.proofs.Common.{eq-eqb, ne_eqb}
 use Rattle.std.proofs.lemmas.List.{append_assoc, append-nil}
+use Rattle.std.specs.List.{AllByRecursion}
 use Rattle.vt_model.specs.Simulation.{Simulation}
 use Rattle.vt_steps.specs.declared.step.Step.{Step}
-use Rattle.vt_steps.specs.Marked.{Marked, Answered, unmarked, marked, Each, IsMarkedRight, own_steps, shown}
+use Rattle.vt_steps.specs.Marked.{Marked, Answered, unmarked, marked, IsMarkedRight, own_steps, shown}
 use Rattle.vt_steps.specs.Next.{next, run}
 use Rattle.vt_steps.specs.World.{World, opening_world}
 
 -- ---- lists
 
-pub each-append : {X : Type 0} (Q : X → Type 0) (xs ys : List X) → Each Q xs → Each Q ys → Each Q (xs ++ ys)
+pub each-append : {X : Type 0} (Q : X → Type 0) (xs ys : List X) → AllByRecursion Q xs → AllByRecursion Q ys → AllByRecursion Q (xs ++ ys)
 each-append Q [] ys a b = b
 each-append Q (x ∷ xs) ys a b = (a.0, each-append Q xs ys a.1 b)
 
-pub each-weaker : {X : Type 0} (Q R : X → Type 0) (xs : List X) → ((x : X) → Q x → R x) → Each Q xs → Each R xs
+pub each-weaker : {X : Type 0} (Q R : X → Type 0) (xs : List X) → ((x : X) → Q x → R x) → AllByRecursion Q xs → AllByRecursion R xs
 each-weaker Q R [] f a = tt
 each-weaker Q R (x ∷ xs) f a = (f x a.0, each-weaker Q R xs f a.1)
 
@@ -31,7 +32,7 @@ marked-append w [] ys = refl
 marked-append w (x ∷ xs) ys = ap (λ l. record { worker = w; step = x } ∷ l) (marked-append w xs ys)
 
 -- all steps that a worker is marked with are its own
-pub each-marked : (w : ℕ) (steps : List Step) → Each (λ m. m.worker ≡ w) (marked w steps)
+pub each-marked : (w : ℕ) (steps : List Step) → AllByRecursion (λ m. m.worker ≡ w) (marked w steps)
 each-marked w [] = tt
 each-marked w (step ∷ steps) = (refl, each-marked w steps)
 
@@ -60,7 +61,7 @@ module _ {S P : Type 0} (sim : Simulation S P) where
       ∙ cons-append (nat_eq m.worker w) a (own_steps sim w outcome.world marks) (own_steps sim w (run sim outcome.world (unmarked marks)) more)
 
   -- steps of other workers are none of one's own
-  pub own-others : (w : ℕ) (world : World P) (marks : List Marked) → Each (λ m. ¬ (m.worker ≡ w)) marks → own_steps sim w world marks ≡ []
+  pub own-others : (w : ℕ) (world : World P) (marks : List Marked) → AllByRecursion (λ m. ¬ (m.worker ≡ w)) marks → own_steps sim w world marks ≡ []
   unfolding own_steps
   own-others w world [] others = refl
   own-others w world (m ∷ marks) others =
@@ -89,7 +90,7 @@ module _ {S P : Type 0} (sim : Simulation S P) where
   -- what holds of a world and a worker's own steps on the way to it, each step keeping it, holds after a list of steps
   pub own-keeps : (w : ℕ) (Keeps : World P → List Answered → Type 0) →
       ((world : World P) (own : List Answered) (m : Marked) → IsMarkedRight sim m → Keeps world own → Keeps (next sim world m.step).world (own ++ own_steps sim w world (m ∷ []))) →
-      (marks : List Marked) (world : World P) (own : List Answered) → Each (IsMarkedRight sim) marks → Keeps world own → Keeps (run sim world (unmarked marks)) (own ++ own_steps sim w world marks)
+      (marks : List Marked) (world : World P) (own : List Answered) → AllByRecursion (IsMarkedRight sim) marks → Keeps world own → Keeps (run sim world (unmarked marks)) (own ++ own_steps sim w world marks)
   unfolding run own_steps
   own-keeps w Keeps kept [] world own right holds = subst (λ l. Keeps world l) (sym (append-nil own)) holds
   own-keeps w Keeps kept (m ∷ marks) world own right holds =

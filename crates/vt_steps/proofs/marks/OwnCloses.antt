@@ -2,6 +2,7 @@
 -- floor is the end of the run; and a close is refused only where the book's floor is below the end.
 use Rattle.std.proofs.Common.{◌≡◌, inl, inr, ℕ, true, false, cond, List, [], ◌∷◌, ◌++◌, sym, ◌∙◌, ap, arith, Some, slice_get, nat_eq}
 use Rattle.std.specs.Option.{option_map}
+use Rattle.std.specs.List.{AllByRecursion}
 use Rattle.std.proofs.lemmas.List.Folds.{list_any-append}
 use Rattle.std.proofs.lemmas.Bool.Decides.{nat_tests}
 use Rattle.std.proofs.lemmas.Option.{slice_get_within}
@@ -11,7 +12,7 @@ use Rattle.vt_model.specs.Simulation.{Simulation}
 use Rattle.vt_steps.specs.declared.step.Step.{Step}
 use Rattle.vt_steps.specs.declared.step.Step.TheVariants.{Execute, Undo, Cancel, Home, Send, Fetch, Accept, Cut, Report, Commit, Close}
 use Rattle.vt_steps.specs.BookSteps.{may_close}
-use Rattle.vt_steps.specs.Marked.{Marked, Answered, unmarked, Each, IsMarkedRight, own_steps, shown, own_steps_of, is_close_done, has_closed}
+use Rattle.vt_steps.specs.Marked.{Marked, Answered, unmarked, IsMarkedRight, own_steps, shown, own_steps_of, is_close_done, has_closed}
 use Rattle.vt_steps.specs.CellSteps.{close}
 use Rattle.vt_steps.specs.Next.{Outcome, next, run, refused, with_book}
 use Rattle.vt_steps.specs.World.{Part, World, opening_world, book_floor}
@@ -72,7 +73,7 @@ module _ {S P : Type 0} (sim : Simulation S P) where
       ]
 
   -- where a worker closed the book it is closed
-  pub closed-known : (w : ℕ) (marks : List Marked) → Each (IsMarkedRight sim) marks → has_closed (own_steps_of sim w marks) ≡ true → (shown sim marks).book.is_closed ≡ true
+  pub closed-known : (w : ℕ) (marks : List Marked) → AllByRecursion (IsMarkedRight sim) marks → has_closed (own_steps_of sim w marks) ≡ true → (shown sim marks).book.is_closed ≡ true
   closed-known w marks right = own-keeps sim w ClosedKnown (closed-step w) marks (opening_world sim 0) [] right (λ h. absurd (let e : false ≡ true = h in cc))
 
   -- ---- floors

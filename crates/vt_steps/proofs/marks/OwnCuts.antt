@@ -1,6 +1,7 @@
 -- A worker that has cut in the open round has cut since it was last told of an announcement: so its cut is refused only then.
-use Rattle.std.proofs.Common.{◌≡◌, inl, inr, ℕ, zero, suc, ◌+◌, ◌<◌, Bool, true, false, cond, List, [], ◌∷◌, ◌++◌, length, replicate, refl, sym, ◌∙◌, ap, subst, arith, Option, Some, None, Result, Ok, slice_get, slice_set, nat_eq}
+use Rattle.std.proofs.Common.{◌≡◌, inl, inr, ℕ, zero, suc, ◌<◌, Bool, true, false, cond, List, [], ◌∷◌, ◌++◌, length, replicate, refl, sym, ◌∙◌, ap, subst, arith, Option, Some, None, Result, Ok, slice_get, slice_set, nat_eq}
 use Rattle.std.specs.Option.{option_map}
+use Rattle.std.specs.List.{AllByRecursion}
 use Rattle.std.proofs.lemmas.Bool.Decides.{eqb_tells}
 use Rattle.vt_key.specs.Times.{Time, opening_time}
 use Rattle.vt_key.specs.declared.fault.Fault.{Fault}
@@ -9,11 +10,11 @@ use Rattle.vt_model.specs.Simulation.{Simulation}
 use Rattle.vt_steps.specs.declared.step.Step.{Step}
 use Rattle.vt_steps.specs.declared.step.Step.TheVariants.{Execute, Undo, Cancel, Home, Send, Fetch, Accept, Cut, Report, Commit, Close}
 use Rattle.vt_steps.specs.declared.step.Reply.{Reply}
-use Rattle.vt_steps.specs.declared.step.Reply.TheVariants.{Done, Waiting, Again, Announced}
-use Rattle.vt_steps.specs.BoardSteps.{all_set, is_clear, with_new_round, with_open_round, cut_board, may_report, with_report, after_report}
+use Rattle.vt_steps.specs.declared.step.Reply.TheVariants.{Done}
+use Rattle.vt_steps.specs.BoardSteps.{is_clear, with_open_round, cut_board, may_report, with_report, after_report}
 use Rattle.vt_steps.specs.Cells.{worker_of}
 use Rattle.vt_steps.specs.Laws.{IsAny}
-use Rattle.vt_steps.specs.Marked.{Marked, Answered, unmarked, Each, IsMarkedRight, own_steps, shown, own_steps_of, cut_by_now, has_cut_since}
+use Rattle.vt_steps.specs.Marked.{Marked, Answered, unmarked, IsMarkedRight, own_steps, shown, own_steps_of, cut_by_now, has_cut_since}
 use Rattle.vt_steps.specs.CellSteps.{CellEffect, send, fetch, cut, report, commit, close}
 use Rattle.vt_steps.specs.Next.{Outcome, next, refused, with_part, with_inbox, with_board, with_book, effect_in, at_cell}
 use Rattle.vt_steps.specs.PartSteps.{report_sent, report_got, report_least}
@@ -164,7 +165,7 @@ module _ {S P : Type 0} (sim : Simulation S P) (w : ℕ) where
   opening-known is_open set = absurd (let h : false ≡ true = is_open in cc)
 
   -- it holds of every shown world
-  pub cut-known : (marks : List Marked) → Each (IsMarkedRight sim) marks → CutKnown (shown sim marks) (own_steps_of sim w marks)
+  pub cut-known : (marks : List Marked) → AllByRecursion (IsMarkedRight sim) marks → CutKnown (shown sim marks) (own_steps_of sim w marks)
   cut-known marks right = own-keeps sim w CutKnown cut-step marks (opening_world sim 0) [] right opening-known
 
   -- a board that refuses the cut of a worker has an open round in which it has cut
@@ -190,7 +191,7 @@ module _ {S P : Type 0} (sim : Simulation S P) (w : ℕ) where
       clear-none (suc n) (suc i) less h = clear-none n i (omega arith) h
 
   -- a worker's cut is refused only where it has cut since it was last told of an announcement
-  pub refused-cut-known : IsLawful sim → (marks : List Marked) → Each (IsMarkedRight sim) marks → w < sim.workers → cut_board sim.end w (shown sim marks).board ≡ None → has_cut_since false (own_steps_of sim w marks) ≡ true
+  pub refused-cut-known : IsLawful sim → (marks : List Marked) → AllByRecursion (IsMarkedRight sim) marks → w < sim.workers → cut_board sim.end w (shown sim marks).board ≡ None → has_cut_since false (own_steps_of sim w marks) ≡ true
   refused-cut-known lawful marks right within none =
       let sound = ((reached-times sim lawful 0 (unmarked marks)).at opening_time) in
       let size = sound.round.cut_size in

@@ -1,8 +1,10 @@
--- Every event of a reached world is for a known process, and before the end of the run.
+-- AllByRecursion event of a reached world is for a known process, and before the end of the run.
 use Rattle.std.proofs.Common.{ℕ, ◌%◌, ◌<◌, List, sym, subst}
+use Rattle.std.specs.List.{AllByRecursion}
 use Rattle.vt_key.specs.Times.{TimeBefore}
 use Rattle.vt_key.specs.declared.letter.Event.{Event}
-use Rattle.vt_model.specs.Histories.{Among, IsLawful}
+use Rattle.vt_key.specs.Lists.{Among}
+use Rattle.vt_model.specs.Histories.{IsLawful}
 use Rattle.vt_model.specs.Simulation.{Simulation}
 use Rattle.vt_model.specs.declared.sending.Sent.{Sent}
 use Rattle.vt_steps.specs.declared.step.Step.{Step}
@@ -12,7 +14,7 @@ use Rattle.vt_steps.specs.World.{World, opening_world}
 use Rattle.vt_steps.proofs.time.Agreement.{start-worker}
 use Rattle.vt_steps.proofs.steps.Changes.{Change, run_keeps}
 use Rattle.vt_steps.proofs.steps.Everywhere.{InWorld, Spread, kept, made, change-spread, events_of_starts, opening-in}
-use Rattle.vt_steps.proofs.lists.Lists.{Every, among-map, every-all, every-unmap}
+use Rattle.vt_key.proofs.ListLemmas.{among-map, every-all, every-unmap}
 use Rattle.vt_steps.proofs.history.LiveEvents.{start-first}
 use Rattle.vt_steps.proofs.steps.Shape.{IsShaped, opening-shape, shape-kept}
 use Rattle.vt_steps.proofs.letters.Stamped.{unstamped-stamped}
@@ -28,8 +30,8 @@ IsBounded sim event = IsBoundedSend sim (unstamped event)
 
 module _ {S P : Type 0} (sim : Simulation S P) (lawful : IsLawful sim) where
   -- what is stamped of such sends
-  stamped-bounds : (w serial : ℕ) (sends : List (Sent P)) → Every (IsBoundedSend sim) sends → Every (IsBounded sim) (stamped w serial sends)
-  stamped-bounds w serial sends h = every-unmap unstamped (IsBoundedSend sim) (stamped w serial sends) (subst (Every (IsBoundedSend sim)) (sym (unstamped-stamped w serial sends)) h)
+  stamped-bounds : (w serial : ℕ) (sends : List (Sent P)) → AllByRecursion (IsBoundedSend sim) sends → AllByRecursion (IsBounded sim) (stamped w serial sends)
+  stamped-bounds w serial sends h = every-unmap unstamped (IsBoundedSend sim) (stamped w serial sends) (subst (AllByRecursion (IsBoundedSend sim)) (sym (unstamped-stamped w serial sends)) h)
 
   -- each change keeps that all events are
   bounds-kept : (old new : World P) → IsShaped sim old → Change sim old new → InWorld (IsBounded sim) old → InWorld (IsBounded sim) new
@@ -41,7 +43,7 @@ module _ {S P : Type 0} (sim : Simulation S P) (lawful : IsLawful sim) where
         (every-all (IsBoundedSend sim) (sim.fire p triple event).sends (λ d m. record { known = lawful.known p triple event d less m; ends = lawful.ends p triple event d less m })))
 
   -- so are those of the starts
-  starts-bounds : (serial : ℕ) → Every (IsBounded sim) (events_of_starts sim serial)
+  starts-bounds : (serial : ℕ) → AllByRecursion (IsBounded sim) (events_of_starts sim serial)
   starts-bounds serial =
       every-all (IsBounded sim) (events_of_starts sim serial) (λ x m.
       (let r = start-worker sim serial x m in

@@ -1,21 +1,21 @@
 -- Predicates on all copies: what holds of each event in a world, as a letter, as an executed event and as what an entry sent,
 -- and what each change does to it. A step only moves events, but Execute, which makes those that it stamps.
 use Rattle.std.proofs.Common.{◌≡◌, ℕ, ◌+◌, ◌-◌, ◌≤◌, ◌<◌, not, List, [], ◌∷◌, ◌++◌, map, length, sym, ◌∙◌, ap, subst, arith, Some, slice_get, slice_set}
-use Rattle.std.specs.List.{filter, flat_map, prefix_len, range_with_len}
+use Rattle.std.specs.List.{filter, flat_map, prefix_len, range_with_len, AllByRecursion}
 use Rattle.vt_key.specs.declared.letter.Event.{Event}
 use Rattle.vt_key.specs.declared.letter.Letter.{Letter}
 use Rattle.vt_key.specs.declared.letter.Mail.{Mail}
 use Rattle.vt_key.specs.declared.letter.Sign.{Sign}
 use Rattle.vt_key.specs.declared.letter.Sign.TheVariants.{Minus, Plus}
-use Rattle.vt_model.specs.Histories.{Among}
 use Rattle.vt_model.specs.Simulation.{Simulation, Triple}
 use Rattle.vt_model.specs.declared.sending.Sent.{Sent}
 use Rattle.vt_steps.specs.Letters.{signed, stamped, unstamped}
 use Rattle.vt_key.specs.Queues.{has_stamp}
+use Rattle.vt_key.specs.Lists.{Among}
 use Rattle.vt_steps.specs.PartSteps.{is_below, is_for, mail_of_send, part_after_commit, part_after_cut, part_after_fetch, part_after_send, process_after_commit, ripe, with_effect}
 use Rattle.vt_steps.specs.ProcessSteps.{ProcessEffect, effect_of_execute, effect_of_undo, with_letter}
 use Rattle.vt_steps.specs.World.{Entry, LogicalProcess, Part, World, all_letters, letters_in, opening_part, opening_world, process_at, process_count, start_events, triple_after}
-use Rattle.vt_steps.proofs.lists.Lists.{Every, every-append, every-drop, every-filter, every-find, every-flat_map, every-among, every-get, every-insert_ordered, every-last, every-map, every-put, every-remove, every-replicate, every-take, every-unflat_map, every-weaker, every-without_first}
+use Rattle.vt_key.proofs.ListLemmas.{every-append, every-drop, every-filter, every-find, every-flat_map, every-among, every-get, every-insert_ordered, every-last, every-map, every-put, every-remove, every-replicate, every-take, every-unflat_map, every-weaker, every-without_first}
 use Rattle.vt_steps.proofs.lists.Places.{get-put_same}
 use Rattle.vt_steps.proofs.letters.Stamped.{length-stamped}
 use Rattle.vt_steps.proofs.steps.Changes.{Act, executes, undoes, cancels, Leaves, homes, arrives, Local, acts, takes, Change, stays, local, sends, fetches, cuts, reports, commits, closes}
@@ -26,25 +26,25 @@ use Rattle.vt_steps.proofs.steps.Shape.{IsShaped, process-known}
 -- in an entry: of its event, and of each event that it sent
 pub record InEntry {P : Type 0} (Q : Event P → Type 0) (entry : Entry P) : Type 0 where
   pub event : Q entry.event
-  pub sent : Every Q entry.sent
+  pub sent : AllByRecursion Q entry.sent
 
 -- in a process: in its entries, pending and waiting
 pub record InProcess {P : Type 0} (Q : Event P → Type 0) (process : LogicalProcess P) : Type 0 where
-  pub done : Every (InEntry Q) process.done
-  pub past : Every (InEntry Q) process.past
-  pub pending : Every (λ letter. Q letter.event) process.pending
-  pub waiting : Every (λ letter. Q letter.event) process.waiting
+  pub done : AllByRecursion (InEntry Q) process.done
+  pub past : AllByRecursion (InEntry Q) process.past
+  pub pending : AllByRecursion (λ letter. Q letter.event) process.pending
+  pub waiting : AllByRecursion (λ letter. Q letter.event) process.waiting
 
 -- in a part: in its processes, its outbox and its arrived mail
 pub record InPart {P : Type 0} (Q : Event P → Type 0) (part : Part P) : Type 0 where
-  pub processes : Every (InProcess Q) part.processes
-  pub outbox : Every (λ letter. Q letter.event) part.outbox
-  pub arrived : Every (λ mail. Q mail.letter.event) part.arrived
+  pub processes : AllByRecursion (InProcess Q) part.processes
+  pub outbox : AllByRecursion (λ letter. Q letter.event) part.outbox
+  pub arrived : AllByRecursion (λ mail. Q mail.letter.event) part.arrived
 
 -- in a world: in its parts and its inboxes
 pub record InWorld {P : Type 0} (Q : Event P → Type 0) (world : World P) : Type 0 where
-  pub parts : Every (InPart Q) world.parts
-  pub inboxes : Every (λ inbox. Every (λ mail. Q mail.letter.event) inbox) world.inboxes
+  pub parts : AllByRecursion (InPart Q) world.parts
+  pub inboxes : AllByRecursion (λ inbox. AllByRecursion (λ mail. Q mail.letter.event) inbox) world.inboxes
 
 -- ---- where each has Q, this one has, and what follows from Q holds of each
 
@@ -54,13 +54,13 @@ module _ {P : Type 0} (Q : Event P → Type 0) where
   part-in world w part at h = every-get (InPart Q) world.parts w part at h.parts
 
   -- the letters of a part
-  letters-in : (part : Part P) → InPart Q part → Every (λ letter. Q letter.event) (letters_in part)
+  letters-in : (part : Part P) → InPart Q part → AllByRecursion (λ letter. Q letter.event) (letters_in part)
   letters-in part h =
       let R : Letter P → Type 0 = λ letter. Q letter.event in
       every-append R (part.outbox ++ map (λ mail. mail.letter) part.arrived) (flat_map (λ process. process.pending ++ process.waiting) part.processes)
       (every-append R part.outbox (map (λ mail. mail.letter) part.arrived) h.outbox (every-map (λ mail. mail.letter) R part.arrived h.arrived))
       (every-flat_map R (λ process. process.pending ++ process.waiting) part.processes
-      (every-weaker (InProcess Q) (λ process. Every R (process.pending ++ process.waiting)) part.processes
+      (every-weaker (InProcess Q) (λ process. AllByRecursion R (process.pending ++ process.waiting)) part.processes
       (λ process k. every-append R process.pending process.waiting k.pending k.waiting) h.processes))
 
   -- a letter
@@ -69,7 +69,7 @@ module _ {P : Type 0} (Q : Event P → Type 0) where
       let R : Letter P → Type 0 = λ l. Q l.event in
       every-among R (all_letters world) letter
       (every-append R (flat_map letters_in world.parts) (map (λ mail. mail.letter) (flat_map (λ inbox. inbox) world.inboxes))
-      (every-flat_map R letters_in world.parts (every-weaker (InPart Q) (λ part. Every R (letters_in part)) world.parts letters-in h.parts))
+      (every-flat_map R letters_in world.parts (every-weaker (InPart Q) (λ part. AllByRecursion R (letters_in part)) world.parts letters-in h.parts))
       (every-map (λ mail. mail.letter) R (flat_map (λ inbox. inbox) world.inboxes) (every-flat_map (λ mail. Q mail.letter.event) (λ inbox. inbox) world.inboxes h.inboxes))) m
 
 -- what follows from Q holds
@@ -99,7 +99,7 @@ module _ {P : Type 0} (Q R : Event P → Type 0) (f : (x : Event P) → Q x → 
   pub world-weaker : (world : World P) → InWorld Q world → InWorld R world
   world-weaker world h = record {
     parts = every-weaker (InPart Q) (InPart R) world.parts part-weaker h.parts;
-    inboxes = every-weaker (λ box. Every (λ m. Q m.letter.event) box) (λ box. Every (λ m. R m.letter.event) box) world.inboxes
+    inboxes = every-weaker (λ box. AllByRecursion (λ m. Q m.letter.event) box) (λ box. AllByRecursion (λ m. R m.letter.event) box) world.inboxes
         (λ box. every-weaker (λ m. Q m.letter.event) (λ m. R m.letter.event) box (λ m. f m.letter.event)) h.inboxes;
   }
 
@@ -111,10 +111,10 @@ pub data PartSpread {S P : Type 0} (sim : Simulation S P) (w : ℕ) (old new : P
   part_kept : ((Q : Event P → Type 0) → InPart Q old → InPart Q new) → PartSpread sim w old new
   part_made : (place : ℕ) (process : LogicalProcess P) (triple : Triple S) (event : Sent P) → slice_get old.processes place ≡ Some process →
       old.serial + length (sim.fire (process_at sim w place) triple event).sends ≤ new.serial →
-      ((Q : Event P → Type 0) → InPart Q old → Every Q (stamped w old.serial (sim.fire (process_at sim w place) triple event).sends) → InPart Q new) → PartSpread sim w old new
+      ((Q : Event P → Type 0) → InPart Q old → AllByRecursion Q (stamped w old.serial (sim.fire (process_at sim w place) triple event).sends) → InPart Q new) → PartSpread sim w old new
 
 -- a process gives way, and letters go to the outbox
-effect-in : {P : Type 0} (Q : Event P → Type 0) (part : Part P) (place : ℕ) (effect : ProcessEffect P) → InPart Q part → InProcess Q effect.process → Every (λ letter. Q letter.event) effect.letters →
+effect-in : {P : Type 0} (Q : Event P → Type 0) (part : Part P) (place : ℕ) (effect : ProcessEffect P) → InPart Q part → InProcess Q effect.process → AllByRecursion (λ letter. Q letter.event) effect.letters →
     InPart Q (with_effect part place effect)
 effect-in Q part place effect h p l = record {
   processes = every-put (InProcess Q) part.processes place effect.process h.processes p;
@@ -153,7 +153,7 @@ module _ {S P : Type 0} (sim : Simulation S P) where
       omega arith)
       (λ Q h fresh.
       (let here = every-get (InProcess Q) old.processes place process at h.processes in
-      let queue : Every (λ letter. Q letter.event) (least ∷ rest) = subst (Every (λ letter. Q letter.event)) pending here.pending in
+      let queue : AllByRecursion (λ letter. Q letter.event) (least ∷ rest) = subst (AllByRecursion (λ letter. Q letter.event)) pending here.pending in
       effect-in Q old place effect h
       (subst (λ a. InProcess Q a.process) (sym is) (record {
         done = here.done;
@@ -161,7 +161,7 @@ module _ {S P : Type 0} (sim : Simulation S P) where
         pending = queue.1;
         waiting = here.waiting;
       }))
-      (subst (λ a. Every (λ letter. Q letter.event) a.letters) (sym is) (every-map (signed Plus) (λ letter. Q letter.event) made fresh))))
+      (subst (λ a. AllByRecursion (λ letter. Q letter.event) a.letters) (sym is) (every-map (signed Plus) (λ letter. Q letter.event) made fresh))))
   act-spread w place old process effect at (undoes last last_is must is) =
       part_kept (λ Q h.
       (let here = every-get (InProcess Q) old.processes place process at h.processes in
@@ -173,7 +173,7 @@ module _ {S P : Type 0} (sim : Simulation S P) where
         pending = every-insert_ordered (λ letter. Q letter.event) (signed Plus last.event) process.pending entry.event here.pending;
         waiting = here.waiting;
       }))
-      (subst (λ a. Every (λ letter. Q letter.event) a.letters) (sym is) (every-map (signed Minus) (λ letter. Q letter.event) last.sent entry.sent))))
+      (subst (λ a. AllByRecursion (λ letter. Q letter.event) a.letters) (sym is) (every-map (signed Minus) (λ letter. Q letter.event) last.sent entry.sent))))
   act-spread w place old process effect at (cancels stamp minus plus waits pends keys is) =
       part_kept (λ Q h.
       (let here = every-get (InProcess Q) old.processes place process at h.processes in
@@ -184,7 +184,7 @@ module _ {S P : Type 0} (sim : Simulation S P) where
         pending = every-without_first (λ letter. Q letter.event) (has_stamp stamp) process.pending here.pending;
         waiting = every-without_first (λ letter. Q letter.event) (has_stamp stamp) process.waiting here.waiting;
       }))
-      (subst (λ a. Every (λ letter. Q letter.event) a.letters) (sym is) tt)))
+      (subst (λ a. AllByRecursion (λ letter. Q letter.event) a.letters) (sym is) tt)))
 
   -- a letter leaves the outbox or the arrived mail
   leaves-in : (w : ℕ) (old new : Part P) (letter : Letter P) → Leaves sim w old new letter → (Q : Event P → Type 0) → InPart Q old → InPart Q new × Q letter.event
@@ -222,15 +222,15 @@ pub data Spread {S P : Type 0} (sim : Simulation S P) (old new : World P) : Type
   kept : ((Q : Event P → Type 0) → InWorld Q old → InWorld Q new) → Spread sim old new
   made : (w : ℕ) (part after : Part P) (p : ℕ) (triple : Triple S) (event : Sent P) → slice_get old.parts w ≡ Some part → slice_get new.parts w ≡ Some after →
       p < sim.lps → part.serial + length (sim.fire p triple event).sends ≤ after.serial →
-      ((Q : Event P → Type 0) → InWorld Q old → Every Q (stamped w part.serial (sim.fire p triple event).sends) → InWorld Q new) → Spread sim old new
+      ((Q : Event P → Type 0) → InWorld Q old → AllByRecursion Q (stamped w part.serial (sim.fire p triple event).sends) → InWorld Q new) → Spread sim old new
 
 module _ {S P : Type 0} (sim : Simulation S P) where
   -- a part of the same events takes a part's place
   still-in : (Q : Event P → Type 0) (old new : World P) (w : ℕ) (part after : Part P) → slice_get old.parts w ≡ Some part → new.parts ≡ slice_set old.parts w after → new.inboxes ≡ old.inboxes →
       (InPart Q part → InPart Q after) → InWorld Q old → InWorld Q new
   still-in Q old new w part after is parts inboxes f h = record {
-    parts = subst (Every (InPart Q)) (sym parts) (every-put (InPart Q) old.parts w after h.parts (f (part-in Q old w part is h)));
-    inboxes = subst (Every (λ inbox. Every (λ mail. Q mail.letter.event) inbox)) (sym inboxes) h.inboxes;
+    parts = subst (AllByRecursion (InPart Q)) (sym parts) (every-put (InPart Q) old.parts w after h.parts (f (part-in Q old w part is h)));
+    inboxes = subst (AllByRecursion (λ inbox. AllByRecursion (λ mail. Q mail.letter.event) inbox)) (sym inboxes) h.inboxes;
   }
 
   -- each change
@@ -248,11 +248,11 @@ module _ {S P : Type 0} (sim : Simulation S P) where
   change-spread old new shape (sends w v part inbox is in_is e) =
       kept (λ Q h.
       (let here = part-in Q old w part is h in
-      let there = every-get (λ box. Every (λ mail. Q mail.letter.event) box) old.inboxes v inbox in_is h.inboxes in
+      let there = every-get (λ box. AllByRecursion (λ mail. Q mail.letter.event) box) old.inboxes v inbox in_is h.inboxes in
       subst (InWorld Q) (sym e) (record {
         parts = every-put (InPart Q) old.parts w (part_after_send sim v part) h.parts
             (record { processes = here.processes; outbox = every-filter (λ l. Q l.event) (λ letter. not (is_for sim v letter)) part.outbox here.outbox; arrived = here.arrived });
-        inboxes = every-put (λ box. Every (λ mail. Q mail.letter.event) box) old.inboxes v (inbox ++ mail_of_send sim v part) h.inboxes
+        inboxes = every-put (λ box. AllByRecursion (λ mail. Q mail.letter.event) box) old.inboxes v (inbox ++ mail_of_send sim v part) h.inboxes
             (every-append (λ mail. Q mail.letter.event) inbox (mail_of_send sim v part) there
             (every-map (λ letter. record { letter = letter; colour = part.colour }) (λ mail. Q mail.letter.event) (filter (is_for sim v) part.outbox)
             (every-filter (λ l. Q l.event) (is_for sim v) part.outbox here.outbox)));
@@ -260,10 +260,10 @@ module _ {S P : Type 0} (sim : Simulation S P) where
   change-spread old new shape (fetches w part inbox is in_is none e) =
       kept (λ Q h.
       (let here = part-in Q old w part is h in
-      let there = every-get (λ box. Every (λ mail. Q mail.letter.event) box) old.inboxes w inbox in_is h.inboxes in
+      let there = every-get (λ box. AllByRecursion (λ mail. Q mail.letter.event) box) old.inboxes w inbox in_is h.inboxes in
       subst (InWorld Q) (sym e) (record {
         parts = every-put (InPart Q) old.parts w (part_after_fetch inbox part) h.parts (record { processes = here.processes; outbox = here.outbox; arrived = there });
-        inboxes = every-put (λ box. Every (λ mail. Q mail.letter.event) box) old.inboxes w [] h.inboxes tt;
+        inboxes = every-put (λ box. AllByRecursion (λ mail. Q mail.letter.event) box) old.inboxes w [] h.inboxes tt;
       })))
   change-spread old new shape (cuts w part board is cut_is e) =
       kept (λ Q. still-in Q old new w part (part_after_cut sim.end old.board.announced part) is (ap (λ n. n.parts) e) (ap (λ n. n.inboxes) e)
@@ -287,19 +287,19 @@ abbrev pub events_of_starts : {S P : Type 0} → Simulation S P → ℕ → List
 events_of_starts sim serial = flat_map (start_events sim serial) (range_with_len 0 sim.workers)
 
 -- what holds of that holds everywhere at the opening
-pub opening-in : {S P : Type 0} (sim : Simulation S P) (serial : ℕ) (Q : Event P → Type 0) → Every Q (events_of_starts sim serial) → InWorld Q (opening_world sim serial)
+pub opening-in : {S P : Type 0} (sim : Simulation S P) (serial : ℕ) (Q : Event P → Type 0) → AllByRecursion Q (events_of_starts sim serial) → InWorld Q (opening_world sim serial)
 unfolding opening_world
 opening-in {P = P} sim serial Q h =
     let none : List (Mail P) = [] in
     let empty : LogicalProcess P = record { done = []; past = []; pending = []; waiting = [] } in
     record {
       parts = every-map (opening_part sim serial) (InPart Q) (range_with_len 0 sim.workers)
-          (every-weaker (λ w. Every Q (start_events sim serial w)) (λ w. InPart Q (opening_part sim serial w)) (range_with_len 0 sim.workers)
+          (every-weaker (λ w. AllByRecursion Q (start_events sim serial w)) (λ w. InPart Q (opening_part sim serial w)) (range_with_len 0 sim.workers)
           (λ w k. record {
             processes = every-replicate (InProcess Q) (process_count sim w) empty (record { done = tt; past = tt; pending = tt; waiting = tt });
             outbox = every-map (signed Plus) (λ letter. Q letter.event) (start_events sim serial w) k;
             arrived = tt;
           })
           (every-unflat_map Q (start_events sim serial) (range_with_len 0 sim.workers) h));
-      inboxes = every-replicate (λ inbox. Every (λ mail. Q mail.letter.event) inbox) sim.workers none tt;
+      inboxes = every-replicate (λ inbox. AllByRecursion (λ mail. Q mail.letter.event) inbox) sim.workers none tt;
     }

@@ -14,7 +14,8 @@ use Rattle.vt_key.specs.declared.letter.Sign.{Sign}
 use Rattle.vt_key.specs.declared.letter.Sign.TheVariants.{Plus, Minus}
 use Rattle.vt_key.specs.declared.order.Rank.{Rank}
 use Rattle.vt_key.specs.declared.order.Stamp.{Stamp}
-use Rattle.vt_model.specs.Histories.{Among, IsLawful}
+use Rattle.vt_key.specs.Lists.{Among}
+use Rattle.vt_model.specs.Histories.{IsLawful}
 use Rattle.vt_model.specs.Simulation.{Simulation}
 use Rattle.vt_steps.specs.declared.step.Reply.TheVariants.{Done}
 use Rattle.vt_steps.specs.declared.step.Step.{Step}
@@ -24,7 +25,7 @@ use Rattle.vt_steps.specs.Next.{done_or_refused, next, reached, with_part}
 use Rattle.vt_steps.specs.PartSteps.{accept, deliver, home, is_for, with_effect}
 use Rattle.vt_steps.specs.ProcessSteps.{accept_process, holds, with_letter}
 use Rattle.vt_steps.specs.World.{Entry, LogicalProcess, Part, World}
-use Rattle.vt_steps.proofs.lists.Lists.{every-among, every-get, find-among, find-passes, get-among}
+use Rattle.vt_key.proofs.ListLemmas.{every-among, every-get, find-among, find-passes, get-among}
 use Rattle.vt_steps.proofs.lists.Tests.{both_pass, either_passes}
 use Rattle.vt_steps.proofs.lists.Sums.{sum-among, sum-at}
 use Rattle.vt_steps.proofs.steps.Shape.{known-process, reached-shape}

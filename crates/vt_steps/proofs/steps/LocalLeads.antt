@@ -2,6 +2,7 @@
 -- one step at the cell. So they may stand last, whatever the other workers did since the first of them.
 use Rattle.std.proofs.Common.{◌≡◌, ℕ, ◌%◌, true, false, List, [], ◌∷◌, ◌++◌, map, refl, sym, ◌∙◌, ap, subst, Option, Some, None, Ok, slice_get, slice_set}
 use Rattle.std.specs.Option.{option_map, is_none}
+use Rattle.std.specs.List.{AllByRecursion}
 use Rattle.vt_model.specs.Simulation.{Simulation}
 use Rattle.vt_steps.specs.declared.step.Step.{Step}
 use Rattle.vt_steps.specs.declared.step.Step.TheVariants.{Execute, Undo, Cancel, Home, Send, Fetch, Accept, Cut, Report, Commit, Close}
@@ -9,7 +10,7 @@ use Rattle.vt_steps.specs.declared.step.Reply.{Reply}
 use Rattle.vt_steps.specs.declared.step.Reply.TheVariants.{Done}
 use Rattle.vt_steps.specs.Cells.{CellName, inbox_of, board_cell, book_cell, Cell, in_inbox, on_board, in_book, content, with_content, worker_of, cell_of, Acted, left_alone, acted_locally, acted_at, acted_close, act, put_back}
 use Rattle.vt_steps.specs.Laws.{IsAny, IsRefused, ActsOnOneCell}
-use Rattle.vt_steps.specs.Marked.{Marked, Made, Answered, answered, unmarked, marked, made_done, Each, IsMarkedRight, own_steps, LeadLocally, DoesSo, Leads}
+use Rattle.vt_steps.specs.Marked.{Marked, Made, Answered, answered, unmarked, marked, made_done, IsMarkedRight, own_steps, LeadLocally, DoesSo, Leads}
 use Rattle.vt_steps.specs.CellSteps.{CellEffect, send, fetch, cut, report, commit, close}
 use Rattle.vt_steps.specs.Next.{next, run, refused, with_book}
 use Rattle.vt_steps.specs.World.{Part, Book, World}
@@ -206,7 +207,7 @@ module _ {S P : Type 0} (sim : Simulation S P) (w : ℕ) where
   leads-nowhere name part cell = record { own = tt; does = λ world is holds. nothing-done world name part cell is holds }
 
   -- local steps are marked with their worker
-  local-right : (steps : List Step) (part new : Part P) → LeadLocally sim w steps part new → Each (IsMarkedRight sim) (marked w steps)
+  local-right : (steps : List Step) (part new : Part P) → LeadLocally sim w steps part new → AllByRecursion (IsMarkedRight sim) (marked w steps)
   local-right [] part new leads = tt
   local-right (step ∷ steps) part new leads = (some-any (worker_of sim step) w leads.1.own, local-right steps leads.0 new leads.2)
 
@@ -215,7 +216,7 @@ module _ {S P : Type 0} (sim : Simulation S P) (w : ℕ) where
       IsAny (worker_of sim step) w → IsAny (cell_of step) name → act sim step before cell ≡ record { part = new; cell = left; answer = Ok reply } →
       Leads sim w name part cell (steps ++ step ∷ []) new left (made_done steps ++ record { step = step; reply = reply } ∷ [])
   leads name steps step part before new cell left reply local whose at does = record {
-    own = subst (Each (IsMarkedRight sim)) (sym (marked-append w steps (step ∷ []))) (each-append (IsMarkedRight sim) (marked w steps) (marked w (step ∷ [])) (local-right steps part before local) (whose, tt));
+    own = subst (AllByRecursion (IsMarkedRight sim)) (sym (marked-append w steps (step ∷ []))) (each-append (IsMarkedRight sim) (marked w steps) (marked w (step ∷ [])) (local-right steps part before local) (whose, tt));
     does = λ world is holds.
         (let first = local-does world name steps part before cell local is holds in
         does-append world name steps (step ∷ []) before new cell left (made_done steps) (record { step = step; reply = reply } ∷ []) first
@@ -279,7 +280,7 @@ module _ {S P : Type 0} (sim : Simulation S P) where
       by_worker (Some u) mine any = by_part (slice_get world.parts w) (mine ∙ ap (λ n. Some n) any) refl
 
   -- nor do steps of other workers
-  pub run-others_part : (world : World P) (q : ℕ) (marks : List Marked) → Each (IsMarkedRight sim) marks → Each (λ m. ¬ (m.worker ≡ q)) marks → slice_get (run sim world (unmarked marks)).parts q ≡ slice_get world.parts q
+  pub run-others_part : (world : World P) (q : ℕ) (marks : List Marked) → AllByRecursion (IsMarkedRight sim) marks → AllByRecursion (λ m. ¬ (m.worker ≡ q)) marks → slice_get (run sim world (unmarked marks)).parts q ≡ slice_get world.parts q
   unfolding run
   run-others_part world q [] right others = refl
   run-others_part world q (m ∷ marks) right others =

@@ -1,5 +1,5 @@
 -- How a step ends: refused, with nothing changed, or done.
-use Rattle.std.proofs.Common.{◌≡◌, ℕ, ◌⊎◌, inl, inr, ◌/◌, ◌%◌, true, false, cond, refl, sym, ◌∙◌, ap, subst, Option, Some, None, Ok, Err, slice_get, length, replicate, nat_eq}
+use Rattle.std.proofs.Common.{◌≡◌, ℕ, ◌⊎◌, inl, inr, ◌/◌, ◌%◌, true, refl, sym, ◌∙◌, ap, subst, Option, Some, None, Ok, Err, slice_get}
 use Rattle.std.specs.Option.{option_map, option_and_then}
 use Rattle.vt_key.specs.Times.{Time}
 use Rattle.vt_key.specs.declared.fault.Fault.{Fault}
@@ -8,10 +8,10 @@ use Rattle.vt_model.specs.Simulation.{Simulation}
 use Rattle.vt_steps.specs.declared.step.Step.{Step}
 use Rattle.vt_steps.specs.declared.step.Step.TheVariants.{Execute, Undo, Cancel, Home, Send, Fetch, Accept, Cut, Report, Commit, Close}
 use Rattle.vt_steps.specs.declared.step.Reply.{Reply}
-use Rattle.vt_steps.specs.declared.step.Reply.TheVariants.{Done, Waiting, Again, Announced}
+use Rattle.vt_steps.specs.declared.step.Reply.TheVariants.{Done, Announced}
 use Rattle.vt_steps.specs.World.{Part, Board, World}
 use Rattle.vt_steps.specs.PartSteps.{execute, undo, cancel, home, accept, report_sent, report_got, report_least}
-use Rattle.vt_steps.specs.BoardSteps.{all_set, cut_board, may_report, with_report, BoardEffect, after_report}
+use Rattle.vt_steps.specs.BoardSteps.{cut_board, may_report, with_report, after_report}
 use Rattle.vt_steps.specs.BookSteps.{may_commit, unless_closed}
 use Rattle.vt_steps.specs.CellSteps.{CellEffect, may_send, send, fetch, cut, report, commit, close}
 use Rattle.vt_steps.specs.Next.{Outcome, refused, replied, done_or_refused, with_part, with_inbox, with_board, with_book, locally, at_cell, next}

@@ -1,9 +1,9 @@
 -- All copies of a stamp carry one event: what the steps stamp has a stamp that no copy had, and no step changes an event.
 use Rattle.std.proofs.Common.{◌≡◌, ℕ, ◌+◌, ◌≤◌, ◌<◌, List, length, sym, ◌∙◌, ap, subst, arith, Some, slice_get}
-use Rattle.std.specs.List.{range_with_len}
+use Rattle.std.specs.List.{range_with_len, AllByRecursion}
 use Rattle.std.specs.Option.{option_map_or}
 use Rattle.vt_key.specs.declared.letter.Event.{Event}
-use Rattle.vt_model.specs.Histories.{Among}
+use Rattle.vt_key.specs.Lists.{Among}
 use Rattle.vt_model.specs.Simulation.{Simulation}
 use Rattle.vt_model.specs.declared.sending.Sent.{Sent}
 use Rattle.vt_steps.specs.declared.step.Step.{Step}
@@ -11,7 +11,7 @@ use Rattle.vt_steps.specs.Copies.{serial_at}
 use Rattle.vt_steps.specs.Letters.{stamped}
 use Rattle.vt_steps.specs.Next.{reached}
 use Rattle.vt_steps.specs.World.{Part, World, opening_world, start_events, start_sends}
-use Rattle.vt_steps.proofs.lists.Lists.{Every, every-all, every-among, every-both, every-weaker, flat_map-among, range-among}
+use Rattle.vt_key.proofs.ListLemmas.{every-all, every-among, every-both, every-weaker, flat_map-among, range-among}
 use Rattle.vt_steps.proofs.letters.Stamped.{IsStamped, stamped-each, Alike, stamped-alike}
 use Rattle.vt_steps.proofs.steps.Changes.{Change, run_keeps}
 use Rattle.vt_steps.proofs.steps.Shape.{IsShaped, shape-kept, opening-shape}
@@ -23,7 +23,7 @@ use Rattle.vt_steps.proofs.steps.Everywhere.{InWorld, Spread, kept, made, change
 -- Q of each event in a world, and of each that the starts sent
 pub record OfAllCopies {P : Type 0} (starts : List (Event P)) (Q : Event P → Type 0) (world : World P) : Type 0 where
   pub inside : InWorld Q world
-  pub first : Every Q starts
+  pub first : AllByRecursion Q starts
 
 -- the stamp of an event is made: its serial is below its worker's next one
 abbrev pub HasMadeStamp : {P : Type 0} → World P → Event P → Type 0
@@ -87,7 +87,7 @@ module _ {S P : Type 0} (sim : Simulation S P) (starts : List (Event P)) where
         let own = serial-of_part old w part is in
         let fresh : List (Event P) = stamped w part.serial sends in
         let high : ℕ = part.serial + length sends in
-        let each : Every (IsStamped w part.serial high) fresh = stamped-each w part.serial sends in
+        let each : AllByRecursion (IsStamped w part.serial high) fresh = stamped-each w part.serial sends in
         let apart : (x y : Event P) → HasMadeStamp old x → IsStamped w part.serial high y → x.rank.stamp ≡ y.rank.stamp → ⊥ =
         λ x y m k. made-apart old w high x y m (subst (λ n. IsStamped w n high y) (sym own) k) in
         let still : (x : Event P) → IsOnlyOne starts old x → IsOnlyOne starts new x =
@@ -98,7 +98,7 @@ module _ {S P : Type 0} (sim : Simulation S P) (starts : List (Event P)) where
             first = k.1.first;
           },
         ) in
-        let new_one : (x : Event P) → IsStamped w part.serial high x → Every (Alike x) fresh → IsOnlyOne starts new x =
+        let new_one : (x : Event P) → IsStamped w part.serial high x → AllByRecursion (Alike x) fresh → IsOnlyOne starts new x =
         λ x s like. (
           (let up = s.most in let at = ap (serial_at new) s.worker in let next = serial-of_part new w after is_after in omega arith),
           record {
@@ -108,7 +108,7 @@ module _ {S P : Type 0} (sim : Simulation S P) (starts : List (Event P)) where
         ) in
         record {
           inside = f (IsOnlyOne starts new) (world-weaker (IsOnlyOne starts old) (IsOnlyOne starts new) still old h.inside)
-              (every-both (IsStamped w part.serial high) (λ x. Every (Alike x) fresh) (IsOnlyOne starts new) fresh new_one each (stamped-alike w part.serial sends));
+              (every-both (IsStamped w part.serial high) (λ x. AllByRecursion (Alike x) fresh) (IsOnlyOne starts new) fresh new_one each (stamped-alike w part.serial sends));
           first = every-weaker (IsOnlyOne starts old) (IsOnlyOne starts new) starts still h.first;
         }
 
@@ -133,7 +133,7 @@ module _ {S P : Type 0} (sim : Simulation S P) (serial : ℕ) where
       omega arith
 
   -- and each other one of its stamp is it
-  starts-alike : (x : Event P) → Among x (events_of_starts sim serial) → Every (Alike x) (events_of_starts sim serial)
+  starts-alike : (x : Event P) → Among x (events_of_starts sim serial) → AllByRecursion (Alike x) (events_of_starts sim serial)
   starts-alike x m =
       let r = start-worker x m in
       every-all (Alike x) (events_of_starts sim serial) (λ y n same.
@@ -141,13 +141,13 @@ module _ {S P : Type 0} (sim : Simulation S P) (serial : ℕ) where
       let worker : s.0 ≡ r.0 = sym s.3.worker ∙ sym (ap (λ a. a.worker) same) ∙ r.3.worker in
       let here : Among y (start_events sim serial r.0) = subst (λ v. Among y (start_events sim serial v)) worker s.2 in
       every-among (Alike x) (start_events sim serial r.0) y
-      (every-among (λ a. Every (Alike a) (start_events sim serial r.0)) (start_events sim serial r.0) x (stamped-alike r.0 serial (start_sends sim r.0)) r.2) here same))
+      (every-among (λ a. AllByRecursion (Alike a) (start_events sim serial r.0)) (start_events sim serial r.0) x (stamped-alike r.0 serial (start_sends sim r.0)) r.2) here same))
 
   -- so the copies agree
   opening-agreement : DoCopiesAgree (events_of_starts sim serial) (opening_world sim serial)
   opening-agreement =
       let starts : List (Event P) = events_of_starts sim serial in
-      let each : Every (IsOnlyOne starts (opening_world sim serial)) starts =
+      let each : AllByRecursion (IsOnlyOne starts (opening_world sim serial)) starts =
       every-all (IsOnlyOne starts (opening_world sim serial)) starts (λ x m.
       (let like = starts-alike x m in
       (start-made x m, record { inside = opening-in sim serial (Alike x) like; first = like }))) in

@@ -11,9 +11,10 @@ use Rattle.vt_key.specs.declared.letter.Event.{Event}
 use Rattle.vt_key.specs.declared.letter.Letter.{Letter}
 use Rattle.vt_key.specs.declared.letter.Sign.{Sign}
 use Rattle.vt_key.specs.declared.letter.Sign.TheVariants.{Plus, Minus}
+use Rattle.vt_key.specs.Lists.{Among}
 use Rattle.vt_model.specs.declared.sending.Sent.{Sent}
 use Rattle.vt_model.specs.Simulation.{Simulation, Triple}
-use Rattle.vt_model.specs.Histories.{Among, IsLawful}
+use Rattle.vt_model.specs.Histories.{IsLawful}
 use Rattle.vt_steps.specs.Copies.{as_count, letter_weight, process_sum, process_entries, part_entries}
 use Rattle.vt_steps.specs.Letters.{signed, stamped, unstamped}
 use Rattle.vt_steps.specs.PartSteps.{with_effect}

@@ -1,6 +1,6 @@
 -- Floors: each worker's hand-in floor is at most its floor, and that at most the announced time; the announced time is at most
 -- the least value reported so far, so it never falls, nor does the book's floor.
-use Rattle.std.proofs.Common.{◌≡◌, inl, inr, ℕ, zero, suc, ◌+◌, true, false, cond, List, [], ◌∷◌, length, replicate, refl, sym, subst, ◌∙◌, ap, arith, Option, Some, None, slice_get, slice_set, nat_eq}
+use Rattle.std.proofs.Common.{◌≡◌, inl, inr, ℕ, zero, suc, true, false, List, [], ◌∷◌, length, refl, sym, subst, ◌∙◌, ap, arith, Option, Some, None, slice_get, slice_set}
 use Rattle.std.specs.List.{range_with_len}
 use Rattle.std.proofs.Math.ListN.{length-set}
 use Rattle.std.proofs.Math.Nat.{le_refl}

@@ -1,9 +1,8 @@
 -- Cut and Report keep what holds of each round. When the last worker reports equal sums, no mail of the old colour is
 -- travelling and none came to a worker since it reported, so the least value reported is a lower bound of all letters.
-use Rattle.std.proofs.Common.{◌≡◌, inl, inr, ℕ, ◌+◌, Bool, true, false, cond, List, length, replicate, refl, sym, ◌∙◌, ap, arith, Option, Some, slice_get, slice_set, nat_eq}
+use Rattle.std.proofs.Common.{◌≡◌, inl, inr, ℕ, ◌+◌, Bool, true, false, cond, List, length, refl, sym, ◌∙◌, ap, arith, Option, Some, slice_get, slice_set}
 use Rattle.std.specs.List.{sum_by}
 use Rattle.std.proofs.Math.ListN.{length-set}
-use Rattle.std.proofs.lemmas.Bool.{eqb-true}
 use Rattle.std.proofs.lemmas.Bool.Decides.{eqb_tells}
 use Rattle.std.proofs.lemmas.List.{length-replicate}
 use Rattle.std.proofs.lemmas.Option.{slice_get_within}

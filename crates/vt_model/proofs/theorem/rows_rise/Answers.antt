@@ -1,9 +1,10 @@
 use Rattle.std.proofs.Common.{[]}
+use Rattle.vt_key.proofs.ListLemmas.{rising-filter}
 use Rattle.vt_key.specs.Times.{time_before}
 use Rattle.vt_model.specs.declared.rows.Row.{Row}
 use Rattle.vt_model.specs.Simulation.{simulation_of}
 use Rattle.vt_model.specs.Sequential.{whole_run, rows_after}
-use Rattle.vt_model.proofs.RowLemmas.{rising_filter}
+use Rattle.vt_model.specs.Rows.{RowBefore}
 use Rattle.vt_model.proofs.RunLemmas.{reached}
 use Rattle.vt_model.proofs.EndLemmas.{whole_run-rising, run_rows-rise, whole_rows-rise}
 use Rattle.vt_model.proofs.LawLemmas.{lawful_of}
@@ -18,5 +19,5 @@ returns g c =
       whole_keys = whole_run-rising sim lawful;
       after_each_step = run_rows-rise sim lawful;
       whole = whole_rows-rise sim lawful;
-      before = λ t. rising_filter (λ (r : Row). time_before r.key.time t) (rows_after sim [] (whole_run sim)) (whole_rows-rise sim lawful);
+      before = λ t. rising-filter RowBefore (λ (r : Row). time_before r.key.time t) (rows_after sim [] (whole_run sim)) (whole_rows-rise sim lawful);
     }

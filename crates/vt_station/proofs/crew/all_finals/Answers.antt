@@ -1,7 +1,6 @@
-use Rattle.std.proofs.Common.{◌≡◌, ◌+◌, suc, [], ◌∷◌, ◌++◌, map, sym, ap, ◌∙◌, arith}
-use Rattle.std.proofs.lemmas.List.{map-append}
+use Rattle.std.proofs.Common.{[], ◌∷◌, ◌++◌, sym, ◌∙◌}
 use Rattle.vt_model.specs.Simulation.{simulation_of}
-use Rattle.vt_model.specs.Sequential.{numbers_below}
+use Rattle.vt_model.proofs.RunLemmas.{map-next}
 use Rattle.vt_steps.specs.Finals.{final_value}
 use Rattle.vt_station.proofs.crew.all_finals.Goals as goal
 
@@ -9,6 +8,5 @@ pub loop-lp-preserved : goal.loop-lp-preserved
 loop-lp-preserved g c =
     let final = final_value (simulation_of (g.M.Model.handlers c.args.model.now) c.args.config) in
     let lp = c.loop-lp.lp in
-    let next : suc lp ≡ lp + 1 = omega arith in
     c.in-Ok.ensures.items ∙ (λ j. c.loop-lp.invariant j ++ c.in-Some.ensures j ∷ [])
-    ∙ sym (map-append final (numbers_below lp) (lp ∷ [])) ∙ ap (λ k. map final (numbers_below k)) next
+    ∙ sym (map-next final lp)

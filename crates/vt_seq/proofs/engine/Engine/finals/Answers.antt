@@ -1,10 +1,11 @@
 use Rattle.std.proofs.Common.{rules, ◌≡◌, ℕ, ◌+◌, ◌∙◌, List, [], ◌∷◌, ◌++◌, map, sym, ap, subst, refl, ◌<◌, arith}
 use Rattle.std.proofs.Math.Logic.{∥∥₁_elim}
 use Rattle.std.proofs.Props.{props}
+use Rattle.std.specs.List.{range_with_len}
 use Rattle.vt_model.specs.Process.{triple_at}
 use Rattle.vt_model.specs.Simulation.{Triple, simulation_of, after}
 use Rattle.vt_model.specs.declared.process.Process.{Process}
-use Rattle.vt_model.specs.Sequential.{after_steps, events_of, whole_run, numbers_below}
+use Rattle.vt_model.specs.Sequential.{after_steps, events_of, whole_run}
 use Rattle.vt_model.proofs.LawLemmas.{lawful_of}
 use Rattle.vt_seq.proofs.StepLemmas.{none_pending, none_there, none_first, not_both}
 use Rattle.vt_model.proofs.EndLemmas.{executed_all}
@@ -25,7 +26,7 @@ returns-clause-values g c =
     let at : c.loop-p.p ≡ config.lps = omega (arith, high, low) in
     ∥∥₁_elim c.args.self.now.stands (Prim.hlevel props) (λ x.
     let all : (after_steps sim x.0).executed ≡ whole_run sim = executed_all sim lawful x.0 (none_pending (after_steps sim x.0).pending items x.1.had none) in
-    c.loop-p.invariant x.0 x.1 ∙ (λ j. map (λ (p : ℕ). (g.M.Model.handlers m).finish p (after sim p (events_of p (all j))).state) (numbers_below (at j))))
+    c.loop-p.invariant x.0 x.1 ∙ (λ j. map (λ (p : ℕ). (g.M.Model.handlers m).finish p (after sim p (events_of p (all j))).state) (range_with_len 0 (at j))))
 
 pub returns-clause-nothing_left : goal.returns-clause-nothing_left
 returns-clause-nothing_left g c = none_there c.args.self.now.pending c.in-None.ensures
@@ -41,7 +42,7 @@ loop-p-preserved g c n st =
     let at : triple_at q.state q.number q.stream ≡ after sim p (events_of p (after_steps sim n).executed) = ap (λ (o : Process _ _ _ _). triple_at o.state o.number o.stream) c.index.ensures ∙ st.triples p q c.loop-p-test.true in
     let value : c.finish-value.result ≡ final p = c.finish-value.ensures ∙ ap (λ (t : Triple _). (g.M.Model.handlers m).finish p t.state) at in
     let pushed : c.push.new.self.items ≡ c.loop-p.values.items ++ c.finish-value.result ∷ [] = search rules in
-    pushed ∙ ap (λ (l : List ℕ). l ++ c.finish-value.result ∷ []) (c.loop-p.invariant n st) ∙ ap (λ v. map final (numbers_below p) ++ v ∷ []) value
+    pushed ∙ ap (λ (l : List ℕ). l ++ c.finish-value.result ∷ []) (c.loop-p.invariant n st) ∙ ap (λ v. map final (range_with_len 0 p) ++ v ∷ []) value
     ∙ sym (map-next final p)
 
 pub returns-clause-not_lawful : goal.returns-clause-not_lawful

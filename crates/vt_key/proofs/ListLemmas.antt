@@ -1,76 +1,66 @@
 -- Lists by recursion: what holds of each element, what stands among them, what holds of each and all after it; and how
 -- the edits that steps make keep this.
 use Rattle.std.proofs.Common.{◌≡◌, ℕ, zero, suc, ◌+◌, ◌-◌, ◌≤◌, ◌<◌, ◌⊎◌, inl, inr, Bool, true, false, cond, List, [], ◌∷◌, ◌++◌, map, length, take, drop, replicate, refl, sym, ◌∙◌, ap, subst, arith, Some, None, slice_get, slice_set}
-use Rattle.std.specs.List.{filter, find, flat_map, last_or, range_with_len, remove}
+use Rattle.std.specs.List.{filter, find, flat_map, last_or, range_with_len, remove, AllByRecursion}
 use Rattle.std.proofs.lemmas.Bool.{cases_order}
 use Rattle.vt_key.specs.Order.{rank_before}
 use Rattle.vt_key.specs.Queues.{insert_letter, without_first}
 use Rattle.vt_key.specs.declared.letter.Letter.{Letter}
-use Rattle.vt_model.specs.Histories.{Among}
-
--- each element of the list has Q
-abbrev pub Every : {X : Type 0} → (X → Type 0) → List X → Type 0
-Every Q [] = Unit {0}
-Every Q (x ∷ xs) = Q x × Every Q xs
-
--- each element stands in R to all after it
-abbrev pub Rising : {X : Type 0} → (X → X → Type 0) → List X → Type 0
-Rising R [] = Unit {0}
-Rising R (x ∷ xs) = Every (R x) xs × Rising R xs
+use Rattle.vt_key.specs.Lists.{Among, IsRisingBy}
 
 -- ---- each element
 
 -- of two lists, of the two together
-pub every-append : {X : Type 0} (Q : X → Type 0) (xs ys : List X) → Every Q xs → Every Q ys → Every Q (xs ++ ys)
+pub every-append : {X : Type 0} (Q : X → Type 0) (xs ys : List X) → AllByRecursion Q xs → AllByRecursion Q ys → AllByRecursion Q (xs ++ ys)
 every-append Q [] ys h k = k
 every-append Q (x ∷ xs) ys h k = (h.0, every-append Q xs ys h.1 k)
 
 -- of the front
-pub every-left : {X : Type 0} (Q : X → Type 0) (xs ys : List X) → Every Q (xs ++ ys) → Every Q xs
+pub every-left : {X : Type 0} (Q : X → Type 0) (xs ys : List X) → AllByRecursion Q (xs ++ ys) → AllByRecursion Q xs
 every-left Q [] ys h = tt
 every-left Q (x ∷ xs) ys h = (h.0, every-left Q xs ys h.1)
 
 -- of the rest
-pub every-right : {X : Type 0} (Q : X → Type 0) (xs ys : List X) → Every Q (xs ++ ys) → Every Q ys
+pub every-right : {X : Type 0} (Q : X → Type 0) (xs ys : List X) → AllByRecursion Q (xs ++ ys) → AllByRecursion Q ys
 every-right Q [] ys h = h
 every-right Q (x ∷ xs) ys h = every-right Q xs ys h.1
 
 -- of the one at a place
-pub every-get : {X : Type 0} (Q : X → Type 0) (xs : List X) (i : ℕ) (x : X) → slice_get xs i ≡ Some x → Every Q xs → Q x
+pub every-get : {X : Type 0} (Q : X → Type 0) (xs : List X) (i : ℕ) (x : X) → slice_get xs i ≡ Some x → AllByRecursion Q xs → Q x
 every-get Q [] i x e h = absurd (let k : None ≡ Some x = e in cc)
 every-get Q (y ∷ ys) zero x e h = let same : y ≡ x = cc in subst Q same h.0
 every-get Q (y ∷ ys) (suc i) x e h = every-get Q ys i x e h.1
 
 -- after a write of one that has it
-pub every-put : {X : Type 0} (Q : X → Type 0) (xs : List X) (i : ℕ) (y : X) → Every Q xs → Q y → Every Q (slice_set xs i y)
+pub every-put : {X : Type 0} (Q : X → Type 0) (xs : List X) (i : ℕ) (y : X) → AllByRecursion Q xs → Q y → AllByRecursion Q (slice_set xs i y)
 every-put Q [] i y h q = tt
 every-put Q (x ∷ xs) zero y h q = (q, h.1)
 every-put Q (x ∷ xs) (suc i) y h q = (h.0, every-put Q xs i y h.1 q)
 
 -- of the first n
-pub every-take : {X : Type 0} (Q : X → Type 0) (n : ℕ) (xs : List X) → Every Q xs → Every Q (take n xs)
+pub every-take : {X : Type 0} (Q : X → Type 0) (n : ℕ) (xs : List X) → AllByRecursion Q xs → AllByRecursion Q (take n xs)
 every-take Q zero xs h = tt
 every-take Q (suc n) [] h = tt
 every-take Q (suc n) (x ∷ xs) h = (h.0, every-take Q n xs h.1)
 
 -- of all but the first n
-pub every-drop : {X : Type 0} (Q : X → Type 0) (n : ℕ) (xs : List X) → Every Q xs → Every Q (drop n xs)
+pub every-drop : {X : Type 0} (Q : X → Type 0) (n : ℕ) (xs : List X) → AllByRecursion Q xs → AllByRecursion Q (drop n xs)
 every-drop Q zero xs h = h
 every-drop Q (suc n) [] h = tt
 every-drop Q (suc n) (x ∷ xs) h = every-drop Q n xs h.1
 
 -- of the others, where one is removed
-pub every-remove : {X : Type 0} (Q : X → Type 0) (xs : List X) (i : ℕ) → Every Q xs → Every Q (remove xs i)
+pub every-remove : {X : Type 0} (Q : X → Type 0) (xs : List X) (i : ℕ) → AllByRecursion Q xs → AllByRecursion Q (remove xs i)
 every-remove Q xs i h = every-append Q (take i xs) (drop (suc i) xs) (every-take Q i xs h) (every-drop Q (suc i) xs h)
 
 -- of the others, where the first that passes is left out
-pub every-without_first : {X : Type 0} (Q : X → Type 0) (test : X → Bool) (xs : List X) → Every Q xs → Every Q (without_first test xs)
+pub every-without_first : {X : Type 0} (Q : X → Type 0) (test : X → Bool) (xs : List X) → AllByRecursion Q xs → AllByRecursion Q (without_first test xs)
 every-without_first Q test [] h = tt
 every-without_first Q test (x ∷ xs) h =
-    elim (test x) as (λ b. Every Q (cond b xs (x ∷ without_first test xs))) [ true ↦ h.1 | false ↦ (h.0, every-without_first Q test xs h.1) ]
+    elim (test x) as (λ b. AllByRecursion Q (cond b xs (x ∷ without_first test xs))) [ true ↦ h.1 | false ↦ (h.0, every-without_first Q test xs h.1) ]
 
 -- of the first that passes
-pub every-find : {X : Type 0} (Q : X → Type 0) (test : X → Bool) (xs : List X) (x : X) → find test xs ≡ Some x → Every Q xs → Q x
+pub every-find : {X : Type 0} (Q : X → Type 0) (test : X → Bool) (xs : List X) (x : X) → find test xs ≡ Some x → AllByRecursion Q xs → Q x
 every-find Q test [] x e h = absurd (let k : None ≡ Some x = e in cc)
 every-find Q test (y ∷ ys) x e h =
     elim (test y) as (λ b. cond b (Some y) (find test ys) ≡ Some x → Q x) [
@@ -79,57 +69,57 @@ every-find Q test (y ∷ ys) x e h =
     ] e
 
 -- of those that pass
-pub every-filter : {X : Type 0} (Q : X → Type 0) (test : X → Bool) (xs : List X) → Every Q xs → Every Q (filter test xs)
+pub every-filter : {X : Type 0} (Q : X → Type 0) (test : X → Bool) (xs : List X) → AllByRecursion Q xs → AllByRecursion Q (filter test xs)
 every-filter Q test [] h = tt
 every-filter Q test (x ∷ xs) h =
-    elim (test x) as (λ b. Every Q (cond b (x ∷ filter test xs) (filter test xs))) [ true ↦ (h.0, every-filter Q test xs h.1) | false ↦ every-filter Q test xs h.1 ]
+    elim (test x) as (λ b. AllByRecursion Q (cond b (x ∷ filter test xs) (filter test xs))) [ true ↦ (h.0, every-filter Q test xs h.1) | false ↦ every-filter Q test xs h.1 ]
 
 -- those that pass do
-pub filter-passes : {X : Type 0} (test : X → Bool) (xs : List X) → Every (λ x. test x ≡ true) (filter test xs)
+pub filter-passes : {X : Type 0} (test : X → Bool) (xs : List X) → AllByRecursion (λ x. test x ≡ true) (filter test xs)
 filter-passes test [] = tt
 filter-passes test (x ∷ xs) =
-    elim (test x) as (λ b. test x ≡ b → Every (λ y. test y ≡ true) (cond b (x ∷ filter test xs) (filter test xs))) [ true ↦ λ e. (e, filter-passes test xs) | false ↦ λ e. filter-passes test xs ] refl
+    elim (test x) as (λ b. test x ≡ b → AllByRecursion (λ y. test y ≡ true) (cond b (x ∷ filter test xs) (filter test xs))) [ true ↦ λ e. (e, filter-passes test xs) | false ↦ λ e. filter-passes test xs ] refl
 
 -- of the images, where the elements' images have it
-pub every-map : {X Y : Type 0} (f : X → Y) (Q : Y → Type 0) (xs : List X) → Every (λ x. Q (f x)) xs → Every Q (map f xs)
+pub every-map : {X Y : Type 0} (f : X → Y) (Q : Y → Type 0) (xs : List X) → AllByRecursion (λ x. Q (f x)) xs → AllByRecursion Q (map f xs)
 every-map f Q [] h = tt
 every-map f Q (x ∷ xs) h = (h.0, every-map f Q xs h.1)
 
 -- and the way back
-pub every-unmap : {X Y : Type 0} (f : X → Y) (Q : Y → Type 0) (xs : List X) → Every Q (map f xs) → Every (λ x. Q (f x)) xs
+pub every-unmap : {X Y : Type 0} (f : X → Y) (Q : Y → Type 0) (xs : List X) → AllByRecursion Q (map f xs) → AllByRecursion (λ x. Q (f x)) xs
 every-unmap f Q [] h = tt
 every-unmap f Q (x ∷ xs) h = (h.0, every-unmap f Q xs h.1)
 
 -- of all pieces together
-pub every-flat_map : {X Y : Type 0} (Q : Y → Type 0) (f : X → List Y) (xs : List X) → Every (λ x. Every Q (f x)) xs → Every Q (flat_map f xs)
+pub every-flat_map : {X Y : Type 0} (Q : Y → Type 0) (f : X → List Y) (xs : List X) → AllByRecursion (λ x. AllByRecursion Q (f x)) xs → AllByRecursion Q (flat_map f xs)
 every-flat_map Q f [] h = tt
 every-flat_map Q f (x ∷ xs) h = every-append Q (f x) (flat_map f xs) h.0 (every-flat_map Q f xs h.1)
 
 -- and of each piece
-pub every-unflat_map : {X Y : Type 0} (Q : Y → Type 0) (f : X → List Y) (xs : List X) → Every Q (flat_map f xs) → Every (λ x. Every Q (f x)) xs
+pub every-unflat_map : {X Y : Type 0} (Q : Y → Type 0) (f : X → List Y) (xs : List X) → AllByRecursion Q (flat_map f xs) → AllByRecursion (λ x. AllByRecursion Q (f x)) xs
 every-unflat_map Q f [] h = tt
 every-unflat_map Q f (x ∷ xs) h = (every-left Q (f x) (flat_map f xs) h, every-unflat_map Q f xs (every-right Q (f x) (flat_map f xs) h))
 
 -- of many times the same
-pub every-replicate : {X : Type 0} (Q : X → Type 0) (n : ℕ) (x : X) → Q x → Every Q (replicate n x)
+pub every-replicate : {X : Type 0} (Q : X → Type 0) (n : ℕ) (x : X) → Q x → AllByRecursion Q (replicate n x)
 every-replicate Q zero x q = tt
 every-replicate Q (suc n) x q = (q, every-replicate Q n x q)
 
 -- what follows from Q
-pub every-weaker : {X : Type 0} (Q R : X → Type 0) (xs : List X) → ((x : X) → Q x → R x) → Every Q xs → Every R xs
+pub every-weaker : {X : Type 0} (Q R : X → Type 0) (xs : List X) → ((x : X) → Q x → R x) → AllByRecursion Q xs → AllByRecursion R xs
 every-weaker Q R [] f h = tt
 every-weaker Q R (x ∷ xs) f h = (f x h.0, every-weaker Q R xs f h.1)
 
 -- what follows from Q and R
-pub every-both : {X : Type 0} (Q R T : X → Type 0) (xs : List X) → ((x : X) → Q x → R x → T x) → Every Q xs → Every R xs → Every T xs
+pub every-both : {X : Type 0} (Q R T : X → Type 0) (xs : List X) → ((x : X) → Q x → R x → T x) → AllByRecursion Q xs → AllByRecursion R xs → AllByRecursion T xs
 every-both Q R T [] f h k = tt
 every-both Q R T (x ∷ xs) f h k = (f x h.0 k.0, every-both Q R T xs f h.1 k.1)
 
 -- after a letter is put in order
-pub every-insert_ordered : {P : Type 0} (Q : Letter P → Type 0) (x : Letter P) (xs : List (Letter P)) → Q x → Every Q xs → Every Q (insert_letter x xs)
+pub every-insert_ordered : {P : Type 0} (Q : Letter P → Type 0) (x : Letter P) (xs : List (Letter P)) → Q x → AllByRecursion Q xs → AllByRecursion Q (insert_letter x xs)
 every-insert_ordered Q x [] q h = (q, tt)
 every-insert_ordered Q x (y ∷ ys) q h =
-    elim (rank_before x.event.rank y.event.rank) as (λ b. Every Q (cond b (x ∷ y ∷ ys) (y ∷ insert_letter x ys))) [
+    elim (rank_before x.event.rank y.event.rank) as (λ b. AllByRecursion Q (cond b (x ∷ y ∷ ys) (y ∷ insert_letter x ys))) [
       | true ↦ (q, h)
       | false ↦ (h.0, every-insert_ordered Q x ys q h.1)
     ]
@@ -229,19 +219,19 @@ find-passes test (y ∷ ys) x e =
     ] refl e
 
 -- what each element has, this one has
-pub every-among : {X : Type 0} (Q : X → Type 0) (xs : List X) (x : X) → Every Q xs → Among x xs → Q x
+pub every-among : {X : Type 0} (Q : X → Type 0) (xs : List X) (x : X) → AllByRecursion Q xs → Among x xs → Q x
 every-among Q [] x h k = elim k [ ]
 every-among Q (y ∷ ys) x h k = elim k [ inl e ↦ subst Q (sym e) h.0 | inr m ↦ every-among Q ys x h.1 m ]
 
 -- what holds of whatever is an element holds of each
-pub every-all : {X : Type 0} (Q : X → Type 0) (xs : List X) → ((x : X) → Among x xs → Q x) → Every Q xs
+pub every-all : {X : Type 0} (Q : X → Type 0) (xs : List X) → ((x : X) → Among x xs → Q x) → AllByRecursion Q xs
 every-all Q [] h = tt
 every-all Q (x ∷ xs) h = (h x (inl refl), every-all Q xs (λ y m. h y (inr m)))
 
 -- ---- each and all after it
 
 -- two rising lists of which the first stands before the second
-pub rising-append : {X : Type 0} (R : X → X → Type 0) (xs ys : List X) → Rising R xs → Rising R ys → ((x y : X) → Among x xs → Among y ys → R x y) → Rising R (xs ++ ys)
+pub rising-append : {X : Type 0} (R : X → X → Type 0) (xs ys : List X) → IsRisingBy R xs → IsRisingBy R ys → ((x y : X) → Among x xs → Among y ys → R x y) → IsRisingBy R (xs ++ ys)
 rising-append R [] ys h k f = k
 rising-append R (x ∷ xs) ys h k f = (
   every-all (R x) (xs ++ ys) (λ y m. elim (among-append y xs ys m) [ inl a ↦ every-among (R x) xs y h.0 a | inr b ↦ f x y (inl refl) b ]),
@@ -249,17 +239,17 @@ rising-append R (x ∷ xs) ys h k f = (
 )
 
 -- the front of a rising list
-pub rising-left : {X : Type 0} (R : X → X → Type 0) (xs ys : List X) → Rising R (xs ++ ys) → Rising R xs
+pub rising-left : {X : Type 0} (R : X → X → Type 0) (xs ys : List X) → IsRisingBy R (xs ++ ys) → IsRisingBy R xs
 rising-left R [] ys h = tt
 rising-left R (x ∷ xs) ys h = (every-left (R x) xs ys h.0, rising-left R xs ys h.1)
 
 -- the rest of a rising list
-pub rising-right : {X : Type 0} (R : X → X → Type 0) (xs ys : List X) → Rising R (xs ++ ys) → Rising R ys
+pub rising-right : {X : Type 0} (R : X → X → Type 0) (xs ys : List X) → IsRisingBy R (xs ++ ys) → IsRisingBy R ys
 rising-right R [] ys h = h
 rising-right R (x ∷ xs) ys h = rising-right R xs ys h.1
 
 -- each of the front stands before each of the rest
-pub rising-across : {X : Type 0} (R : X → X → Type 0) (xs ys : List X) → Rising R (xs ++ ys) → (x y : X) → Among x xs → Among y ys → R x y
+pub rising-across : {X : Type 0} (R : X → X → Type 0) (xs ys : List X) → IsRisingBy R (xs ++ ys) → (x y : X) → Among x xs → Among y ys → R x y
 rising-across R [] ys h x y m n = elim m [ ]
 rising-across R (z ∷ zs) ys h x y m n =
     elim m [
@@ -268,16 +258,16 @@ rising-across R (z ∷ zs) ys h x y m n =
     ]
 
 -- those that pass
-pub rising-filter : {X : Type 0} (R : X → X → Type 0) (test : X → Bool) (xs : List X) → Rising R xs → Rising R (filter test xs)
+pub rising-filter : {X : Type 0} (R : X → X → Type 0) (test : X → Bool) (xs : List X) → IsRisingBy R xs → IsRisingBy R (filter test xs)
 rising-filter R test [] h = tt
 rising-filter R test (x ∷ xs) h =
-    elim (test x) as (λ b. Rising R (cond b (x ∷ filter test xs) (filter test xs))) [
+    elim (test x) as (λ b. IsRisingBy R (cond b (x ∷ filter test xs) (filter test xs))) [
       | true ↦ (every-filter (R x) test xs h.0, rising-filter R test xs h.1)
       | false ↦ rising-filter R test xs h.1
     ]
 
 -- what follows from R for its elements
-pub rising-weaker : {X : Type 0} (R Q : X → X → Type 0) (xs : List X) → ((x y : X) → Among x xs → Among y xs → R x y → Q x y) → Rising R xs → Rising Q xs
+pub rising-weaker : {X : Type 0} (R Q : X → X → Type 0) (xs : List X) → ((x y : X) → Among x xs → Among y xs → R x y → Q x y) → IsRisingBy R xs → IsRisingBy Q xs
 rising-weaker R Q [] f h = tt
 rising-weaker R Q (x ∷ xs) f h = (
   every-all (Q x) xs (λ y m. f x y (inl refl) (inr m) (every-among (R x) xs y h.0 m)),
@@ -285,17 +275,17 @@ rising-weaker R Q (x ∷ xs) f h = (
 )
 
 -- the images of a rising list
-pub rising-map : {X Y : Type 0} (f : X → Y) (R : Y → Y → Type 0) (xs : List X) → Rising (λ x y. R (f x) (f y)) xs → Rising R (map f xs)
+pub rising-map : {X Y : Type 0} (f : X → Y) (R : Y → Y → Type 0) (xs : List X) → IsRisingBy (λ x y. R (f x) (f y)) xs → IsRisingBy R (map f xs)
 rising-map f R [] h = tt
 rising-map f R (x ∷ xs) h = (every-map f (R (f x)) xs h.0, rising-map f R xs h.1)
 
 -- and the way back
-pub rising-unmap : {X Y : Type 0} (f : X → Y) (R : Y → Y → Type 0) (xs : List X) → Rising R (map f xs) → Rising (λ x y. R (f x) (f y)) xs
+pub rising-unmap : {X Y : Type 0} (f : X → Y) (R : Y → Y → Type 0) (xs : List X) → IsRisingBy R (map f xs) → IsRisingBy (λ x y. R (f x) (f y)) xs
 rising-unmap f R [] h = tt
 rising-unmap f R (x ∷ xs) h = (every-unmap f (R (f x)) xs h.0, rising-unmap f R xs h.1)
 
 -- two elements that R keeps apart where f has one value are one, if f has one value
-pub same-element : {X Y : Type 0} (f : X → Y) (xs : List X) → Rising (λ x y. f x ≡ f y → ⊥) xs → (x y : X) → Among x xs → Among y xs → f x ≡ f y → x ≡ y
+pub same-element : {X Y : Type 0} (f : X → Y) (xs : List X) → IsRisingBy (λ x y. f x ≡ f y → ⊥) xs → (x y : X) → Among x xs → Among y xs → f x ≡ f y → x ≡ y
 same-element f [] h x y m n e = elim m [ ]
 same-element f (z ∷ zs) h x y m n e =
     elim m [
@@ -314,8 +304,8 @@ before_last (y ∷ z ∷ zs) x e =
     rw shorter (ap (λ w. y ∷ w) (before_last (z ∷ zs) x e))
 
 -- what each element has, the last has
-pub every-last : {X : Type 0} (Q : X → Type 0) (xs : List X) (x : X) → last_or None xs ≡ Some x → Every Q xs → Q x
-every-last Q xs x e h = (every-right Q (take (length xs - 1) xs) (x ∷ []) (subst (Every Q) (before_last xs x e) h)).0
+pub every-last : {X : Type 0} (Q : X → Type 0) (xs : List X) (x : X) → last_or None xs ≡ Some x → AllByRecursion Q xs → Q x
+every-last Q xs x e h = (every-right Q (take (length xs - 1) xs) (x ∷ []) (subst (AllByRecursion Q) (before_last xs x e) h)).0
 
 -- a list without a last element is empty
 pub no_last : {X : Type 0} (xs : List X) → last_or None xs ≡ None → xs ≡ []
