@@ -16,7 +16,7 @@ use Rattle.vt_steps.proofs.lists.Tests.{both_pass}
 use Rattle.vt_book.specs.Books.{is_within, are_within}
 use Rattle.vt_book.specs.Kept.{AreSameRows, AreNotBefore, IsKept}
 use Rattle.vt_steps.proofs.time.Floors.{floor-at}
-use Rattle.vt_book.proofs.RowLists.{same-before, same-none, one-order, first-in-order, every-not-before, every-before, late-rows, order-apart, before-twice}
+use Rattle.vt_book.proofs.RowLists.{same-before, same-none, one-order, first-in-order, every-before, late-rows, order-apart, before-twice}
 
 -- ---- rows that are taken out
 
@@ -29,7 +29,7 @@ pub first-taken : (t : Time) (row : Row) (now rest : List Row) → time_before r
     rows_in_order (rows_before t now) ≡ row ∷ rows_in_order (rows_before t rest)
 first-taken t row now rest early first same =
     one-order (rows_before t now) (row ∷ rows_before t rest) (λ f. same-before t now (row ∷ rest) same f ∙ ap (sum_by f) (front-before t row rest early))
-    ∙ first-in-order row (rows_before t rest) (every-before _ t rest (every-not-before row rest first))
+    ∙ first-in-order row (rows_before t rest) (every-before _ t rest first)
 
 -- the rows that are left, beside those that were there at first
 pub others-left : (t : Time) (row : Row) (start now rest : List Row) → time_before row.key.time t ≡ true → AreSameRows now (row ∷ rest) →
