@@ -5,6 +5,7 @@ use Rattle.vt_key.specs.Order.{RankBefore, rank_before}
 use Rattle.vt_key.specs.Queues.{without_first, letter_rank, insert_letter}
 use Rattle.vt_key.specs.declared.order.Rank.{Rank}
 use Rattle.vt_key.specs.declared.letter.Letter.{Letter}
+use Rattle.vt_key.proofs.ListLemmas.{every-filter}
 use Rattle.vt_key.proofs.OrderLemmas.{rank_before-true, before-rank_before}
 use Rattle.vt_pending.specs.Letters.{AllAfter, IsRising}
 use Rattle.vt_pending.proofs.Rising.{AllAfter-before}
@@ -94,19 +95,6 @@ module _ {X : Type 0} where
 -- ---- of letters in rising rank
 
 module _ {P : Type 0} where
-  pub AllAfter-filter : (a : Rank) (p : Letter P → Bool) (ls : List (Letter P)) → AllAfter a ls → AllAfter a (filter p ls)
-  AllAfter-filter a p [] all = tt
-  AllAfter-filter a p (l ∷ ls) all =
-      elim (p l) as (λ b. AllAfter a (if b then l ∷ filter p ls else filter p ls)) [ true ↦ (all.0, AllAfter-filter a p ls all.1) | false ↦ AllAfter-filter a p ls all.1 ]
-
-  pub IsRising-filter : (p : Letter P → Bool) (ls : List (Letter P)) → IsRising ls → IsRising (filter p ls)
-  IsRising-filter p [] rises = tt
-  IsRising-filter p (l ∷ ls) rises =
-      elim (p l) as (λ b. IsRising (if b then l ∷ filter p ls else filter p ls)) [
-        | true ↦ (AllAfter-filter (letter_rank l) p ls rises.0, IsRising-filter p ls rises.1)
-        | false ↦ IsRising-filter p ls rises.1
-      ]
-
   -- a letter before all others goes to the front
   pub insert-first : (x : Letter P) (ls : List (Letter P)) → AllAfter (letter_rank x) ls → insert_letter x ls ≡ x ∷ ls
   insert-first x [] all = refl
@@ -120,7 +108,7 @@ module _ {P : Type 0} where
       elim (rank_before r s) as (λ b. rank_before r s ≡ b → filter p (if b then x ∷ l ∷ ls else l ∷ insert_letter x ls) ≡ insert_letter x (filter p (l ∷ ls))) [
         | true ↦ λ e.
             let h : RankBefore r s = rank_before-true r s e in
-            ap (λ b. if b then x ∷ filter p (l ∷ ls) else filter p (l ∷ ls)) own ∙ sym (insert-first x (filter p (l ∷ ls)) (AllAfter-filter r p (l ∷ ls) (h, AllAfter-before r s ls h rises.0)))
+            ap (λ b. if b then x ∷ filter p (l ∷ ls) else filter p (l ∷ ls)) own ∙ sym (insert-first x (filter p (l ∷ ls)) (every-filter _ p (l ∷ ls) (h, AllAfter-before r s ls h rises.0)))
         | false ↦ λ e.
             elim (p l) as (λ c. (if c then l ∷ filter p (insert_letter x ls) else filter p (insert_letter x ls)) ≡ insert_letter x (if c then l ∷ filter p ls else filter p ls)) [
               | true ↦ ap (λ ms. l ∷ ms) (filter-insert p x ls own rises.1) ∙ sym (ap (λ b. if b then x ∷ l ∷ filter p ls else l ∷ insert_letter x (filter p ls)) e)

@@ -5,6 +5,7 @@ use Rattle.vt_key.specs.Order.{rank_before}
 use Rattle.vt_key.specs.Queues.{letter_rank, insert_letter}
 use Rattle.vt_key.specs.declared.order.Rank.{Rank}
 use Rattle.vt_key.specs.declared.letter.Letter.{Letter}
+use Rattle.vt_key.proofs.ListLemmas.{every-filter, rising-filter}
 use Rattle.vt_key.proofs.OrderLemmas.{rank_before-true, before-rank_before}
 use Rattle.vt_nodes.specs.First.{before_first, from_first}
 use Rattle.vt_nodes.specs.Lines.{begins_with}
@@ -12,7 +13,7 @@ use Rattle.vt_pending.specs.Letters.{some_has_rank, holds_rank, is_reached, IsRi
 use Rattle.vt_pending.specs.Buckets.{bucket_of, in_bucket, not_in_bucket, list_at, without_list, is_place, first_holds, insert_here, insert_in, put_list, IsRow}
 use Rattle.vt_pending.proofs.Placing.{not-back, follows}
 use Rattle.vt_pending.proofs.Holding.{before-differs, none-holds, holds-first}
-use Rattle.vt_pending.proofs.Filters.{filter-within, AllAfter-filter, IsRising-filter}
+use Rattle.vt_pending.proofs.Filters.{filter-within}
 use Rattle.vt_pending.proofs.Rows.{own, apart, same-number}
 use Rattle.vt_pending.proofs.Kept.{holds-own}
 
@@ -102,16 +103,16 @@ module _ {P : Type 0} where
               let all : mine ≡ filter (in_bucket b) (y ∷ ys) = ap (λ n. y ∷ filter (in_bucket n) ys) (same-number (own y) b e) ∙ sym (ap (λ c. if c then y ∷ filter (in_bucket b) ys else filter (in_bucket b) ys) e) in
               ap (λ c. if c then some_has_rank r (find (is_reached r) mine) else false) e
               ∙ ap (λ l. some_has_rank r (find (is_reached r) l)) all
-              ∙ holds-first r (filter (in_bucket b) (y ∷ ys)) (IsRising-filter (in_bucket b) (y ∷ ys) rises) ∙ holds-own r (y ∷ ys)
+              ∙ holds-first r (filter (in_bucket b) (y ∷ ys)) (rising-filter _ (in_bucket b) (y ∷ ys) rises) ∙ holds-own r (y ∷ ys)
           | false ↦ λ e.
               elim t as (λ u. rank_before s r ≡ u → first_holds b r (if not u then mine ∷ lists else from) ≡ holds_rank r (y ∷ ys)) [
                 | true ↦ λ f.
-                    held-ahead lists others (IsRising-filter (not_in_bucket (own y)) ys rises.1) row.1
+                    held-ahead lists others (rising-filter _ (not_in_bucket (own y)) ys rises.1) row.1
                     ∙ sym (holds-own r others) ∙ ap (holds_rank r) (filter-within (in_bucket b) (not_in_bucket (own y)) (apart b y e) ys) ∙ holds-own r ys
                     ∙ ap (λ c. c || holds_rank r ys) (sym (before-differs s r (rank_before-true s r f)))
                 | false ↦ λ f.
                     ap (λ c. if c then some_has_rank r (find (is_reached r) mine) else false) e
-                    ∙ sym (none-holds r s (filter (in_bucket b) ys) f (AllAfter-filter s (in_bucket b) ys rises.0))
+                    ∙ sym (none-holds r s (filter (in_bucket b) ys) f (every-filter _ (in_bucket b) ys rises.0))
                     ∙ ap (λ c. holds_rank r (if c then y ∷ filter (in_bucket b) ys else filter (in_bucket b) ys)) (sym e) ∙ holds-own r (y ∷ ys)
               ] refl
         ] refl)

@@ -6,6 +6,7 @@ use Rattle.vt_key.specs.Order.{RankBefore, rank_before, rank_same}
 use Rattle.vt_key.specs.Queues.{without_first, letter_rank, has_rank, insert_letter}
 use Rattle.vt_key.specs.declared.order.Rank.{Rank}
 use Rattle.vt_key.specs.declared.letter.Letter.{Letter}
+use Rattle.vt_key.proofs.ListLemmas.{every-weaker, every-insert_ordered, every-without_first}
 use Rattle.vt_key.proofs.OrderLemmas.{rank-transitive, rank-total, rank_before-true, before-rank_before, same-rank_same}
 use Rattle.vt_pending.specs.Letters.{holds_rank, AllAfter, IsRising}
 
@@ -31,21 +32,7 @@ after a b late other = elim (rank-total a b) [
 module _ {P : Type 0} where
   -- what is after a rank is after each rank before it
   pub AllAfter-before : (a b : Rank) (ls : List (Letter P)) → RankBefore a b → AllAfter b ls → AllAfter a ls
-  AllAfter-before a b [] h all = tt
-  AllAfter-before a b (l ∷ ls) h all = (rank-transitive a b (letter_rank l) h all.0, AllAfter-before a b ls h all.1)
-
-  AllAfter-insert : (a : Rank) (x : Letter P) (ls : List (Letter P)) → RankBefore a (letter_rank x) → AllAfter a ls → AllAfter a (insert_letter x ls)
-  AllAfter-insert a x [] h all = (h, tt)
-  AllAfter-insert a x (l ∷ ls) h all =
-      elim (rank_before (letter_rank x) (letter_rank l)) as (λ b. AllAfter a (if b then x ∷ l ∷ ls else l ∷ insert_letter x ls)) [
-        | true ↦ (h, all)
-        | false ↦ (all.0, AllAfter-insert a x ls h all.1)
-      ]
-
-  AllAfter-without : (a : Rank) (test : Letter P → Bool) (ls : List (Letter P)) → AllAfter a ls → AllAfter a (without_first test ls)
-  AllAfter-without a test [] all = tt
-  AllAfter-without a test (l ∷ ls) all =
-      elim (test l) as (λ b. AllAfter a (if b then ls else l ∷ without_first test ls)) [ true ↦ all.1 | false ↦ (all.0, AllAfter-without a test ls all.1) ]
+  AllAfter-before a b ls h all = every-weaker _ _ ls (λ l. rank-transitive a b (letter_rank l) h) all
 
   -- a letter of another rank than all others is put in its place
   pub IsRising-insert : (x : Letter P) (ls : List (Letter P)) → holds_rank (letter_rank x) ls ≡ false → IsRising ls → IsRising (insert_letter x ls)
@@ -57,7 +44,7 @@ module _ {P : Type 0} where
         | false ↦ λ e.
             let here : rank_same s r ≡ false = first-false (rank_same s r) (list_any (has_rank r) ls) none in
             let there : list_any (has_rank r) ls ≡ false = second-false (rank_same s r) (list_any (has_rank r) ls) none in
-            (AllAfter-insert s x ls (after r s e here) rises.0, IsRising-insert x ls there rises.1)
+            (every-insert_ordered _ x ls (after r s e here) rises.0, IsRising-insert x ls there rises.1)
       ] refl
 
   -- one letter is taken out
@@ -66,5 +53,5 @@ module _ {P : Type 0} where
   IsRising-without test (l ∷ ls) rises =
       elim (test l) as (λ b. IsRising (if b then ls else l ∷ without_first test ls)) [
         | true ↦ rises.1
-        | false ↦ (AllAfter-without (letter_rank l) test ls rises.0, IsRising-without test ls rises.1)
+        | false ↦ (every-without_first _ test ls rises.0, IsRising-without test ls rises.1)
       ]

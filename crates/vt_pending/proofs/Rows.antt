@@ -6,6 +6,7 @@ use Rattle.vt_key.specs.Order.{rank_before}
 use Rattle.vt_key.specs.Queues.{letter_rank, has_rank, insert_letter}
 use Rattle.vt_key.specs.declared.order.Rank.{Rank}
 use Rattle.vt_key.specs.declared.letter.Letter.{Letter}
+use Rattle.vt_key.proofs.ListLemmas.{every-filter, rising-filter}
 use Rattle.vt_key.proofs.OrderLemmas.{rank_before-true, before-rank_before}
 use Rattle.vt_nodes.specs.Lines.{first_item}
 use Rattle.vt_pending.specs.Letters.{holds_rank, AllAfter, IsRising}
@@ -13,7 +14,7 @@ use Rattle.vt_pending.specs.Buckets.{bucket_of, in_bucket, not_in_bucket, some_i
 use Rattle.vt_pending.proofs.Placing.{not-back, follows}
 use Rattle.vt_pending.proofs.Rising.{first-false, second-false}
 use Rattle.vt_pending.proofs.Holding.{holds-filter}
-use Rattle.vt_pending.proofs.Filters.{filter-swap, filter-within, filter-insert, filter-insert-other, AllAfter-filter, IsRising-filter, insert-first}
+use Rattle.vt_pending.proofs.Filters.{filter-swap, filter-within, filter-insert, filter-insert-other, insert-first}
 
 not-true : (c : Bool) → not c ≡ true → c ≡ false
 not-true true e = sym e
@@ -133,7 +134,7 @@ module _ {P : Type 0} where
       elim (in_bucket b x) as (λ c. in_bucket b x ≡ c → IsRow (list ∷ lists) (if not c then x ∷ filter (not_in_bucket b) xs else filter (not_in_bucket b) xs)
       → IsRow (put_some (if c then x ∷ filter (in_bucket b) xs else filter (in_bucket b) xs) (list ∷ lists)) (x ∷ xs)) [
         | true ↦ λ e r.
-            let all : AllAfter (letter_rank x) (filter (not_in_bucket b) xs) = AllAfter-filter (letter_rank x) (not_in_bucket b) xs rises.0 in
+            let all : AllAfter (letter_rank x) (filter (not_in_bucket b) xs) = every-filter _ (not_in_bucket b) xs rises.0 in
             subst (λ ls. IsRow ls (x ∷ xs)) (sym (put-before x (filter (in_bucket b) xs) (list ∷ lists) (filter (not_in_bucket b) xs) r all)) (
               ap (λ n. x ∷ filter (in_bucket n) xs) (sym (same-number (own x) b e)),
               subst (λ n. IsRow (list ∷ lists) (filter (not_in_bucket n) xs)) (sym (same-number (own x) b e)) r,
@@ -141,11 +142,11 @@ module _ {P : Type 0} where
         | false ↦ λ e r.
             let ours : List (Letter P) = filter (in_bucket (own x)) (filter (not_in_bucket b) xs) in
             let others : List (Letter P) = filter (not_in_bucket (own x)) xs in
-            let all : AllAfter (letter_rank x) (filter (in_bucket b) xs) = AllAfter-filter (letter_rank x) (in_bucket b) xs rises.0 in
+            let all : AllAfter (letter_rank x) (filter (in_bucket b) xs) = every-filter _ (in_bucket b) xs rises.0 in
             let place : put_some (filter (in_bucket b) xs) (list ∷ lists) ≡ (x ∷ ours) ∷ put_some (filter (in_bucket b) xs) lists =
             ap (λ l. put_some (filter (in_bucket b) xs) (l ∷ lists)) r.0 ∙ put-behind x ours (filter (in_bucket b) xs) lists all in
             let rest : IsRow lists (filter (not_in_bucket b) others) = subst (IsRow lists) (filter-swap (not_in_bucket (own x)) (not_in_bucket b) xs) r.1 in
-            let more : IsRow (put_some (filter (in_bucket b) others) lists) others = row-put b lists others (IsRising-filter (not_in_bucket (own x)) xs rises.1) rest in
+            let more : IsRow (put_some (filter (in_bucket b) others) lists) others = row-put b lists others (rising-filter _ (not_in_bucket (own x)) xs rises.1) rest in
             subst (λ ls. IsRow ls (x ∷ xs)) (sym place) (
               ap (λ l. x ∷ l) (filter-within (in_bucket (own x)) (not_in_bucket b) (apart-back b x e) xs),
               subst (λ l. IsRow (put_some l lists) others) (filter-within (in_bucket b) (not_in_bucket (own x)) (apart b x e) xs) more,
@@ -191,7 +192,7 @@ module _ {P : Type 0} where
                   let absent : holds_rank r others ≡ false = holds-filter r (not_in_bucket (own y)) ys (second-false (has_rank r y) (holds_rank r ys) none) in
                   subst (IsRow (mine ∷ insert_in b x lists)) (sym place) (
                     ap (λ l. y ∷ l) (sym (filter-insert-other (in_bucket (own y)) x ys (not-true (in_bucket (own y) x) away))),
-                    subst (IsRow (insert_in b x lists)) (sym (filter-insert (not_in_bucket (own y)) x ys away rises.1)) (row-insert x lists others (IsRising-filter (not_in_bucket (own y)) ys rises.1) absent row.1),
+                    subst (IsRow (insert_in b x lists)) (sym (filter-insert (not_in_bucket (own y)) x ys away rises.1)) (row-insert x lists others (rising-filter _ (not_in_bucket (own y)) ys rises.1) absent row.1),
                   )
               | false ↦ λ f.
                   let before : rank_before r s ≡ true = before-rank_before r s (follows s r f (first-false (has_rank r y) (holds_rank r ys) none)) in
@@ -218,7 +219,7 @@ module _ {P : Type 0} where
       let ours : List (Letter P) = filter (in_bucket b) xs in let others : List (Letter P) = filter (not_in_bucket b) xs in
       elim (in_bucket b x) as (λ c. merged (if c then x ∷ ours else ours) (if not c then x ∷ others else others) ≡ x ∷ xs) [
         | true ↦ ap (insert_letter x) (merged-parts b xs rises.1) ∙ insert-first x xs rises.0
-        | false ↦ merged-first x ours others (AllAfter-filter (letter_rank x) (in_bucket b) xs rises.0) ∙ ap (λ l. x ∷ l) (merged-parts b xs rises.1)
+        | false ↦ merged-first x ours others (every-filter _ (in_bucket b) xs rises.0) ∙ ap (λ l. x ∷ l) (merged-parts b xs rises.1)
       ]
 
   -- they are those that it is a row of
@@ -228,5 +229,5 @@ module _ {P : Type 0} where
   row-letters (list ∷ lists) [] rises row = absurd row
   row-letters (list ∷ lists) (x ∷ xs) rises row =
       let ours : List (Letter P) = filter (in_bucket (own x)) xs in let others : List (Letter P) = filter (not_in_bucket (own x)) xs in
-      (λ i. merged (row.0 i) (row-letters lists others (IsRising-filter (not_in_bucket (own x)) xs rises.1) row.1 i))
+      (λ i. merged (row.0 i) (row-letters lists others (rising-filter _ (not_in_bucket (own x)) xs rises.1) row.1 i))
       ∙ ap (insert_letter x) (merged-parts (own x) xs rises.1) ∙ insert-first x xs rises.0

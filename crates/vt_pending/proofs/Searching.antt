@@ -6,12 +6,12 @@ use Rattle.vt_key.specs.Order.{RankBefore, rank_before}
 use Rattle.vt_key.specs.Queues.{letter_rank}
 use Rattle.vt_key.specs.declared.order.Rank.{Rank}
 use Rattle.vt_key.specs.declared.letter.Letter.{Letter}
+use Rattle.vt_key.proofs.ListLemmas.{every-filter, rising-filter}
 use Rattle.vt_key.proofs.OrderLemmas.{rank-total, rank-transitive, rank_before-true, before-rank_before}
 use Rattle.vt_pending.specs.Letters.{AllAfter, IsRising}
 use Rattle.vt_pending.specs.Buckets.{in_bucket, not_in_bucket, both_before, lesser, least_from, IsRow}
 use Rattle.vt_pending.proofs.Placing.{not-back}
 use Rattle.vt_pending.proofs.Rising.{AllAfter-before}
-use Rattle.vt_pending.proofs.Filters.{AllAfter-filter, IsRising-filter}
 use Rattle.vt_pending.proofs.Rows.{own, in-own}
 
 -- a rank that isn't before a second one isn't before a third one that isn't after the second
@@ -77,12 +77,12 @@ module _ {P : Type 0} (test : Letter P → Bool) where
       elim (in_bucket b x) as (λ c. lesser (find test (if c then x ∷ ours else ours)) (find test (if not c then x ∷ others else others)) ≡ (if test x then Some x else find test xs)) [
         | true ↦
             elim (test x) as (λ t. lesser (if t then Some x else find test ours) (find test others) ≡ (if t then Some x else find test xs)) [
-              | true ↦ lesser-first x (find test others) (found-after x others (AllAfter-filter (letter_rank x) (not_in_bucket b) xs rises.0))
+              | true ↦ lesser-first x (find test others) (found-after x others (every-filter _ (not_in_bucket b) xs rises.0))
               | false ↦ find-parts b xs rises.1
             ]
         | false ↦
             elim (test x) as (λ t. lesser (find test ours) (if t then Some x else find test others) ≡ (if t then Some x else find test xs)) [
-              | true ↦ lesser-second x (find test ours) (found-after x ours (AllAfter-filter (letter_rank x) (in_bucket b) xs rises.0))
+              | true ↦ lesser-second x (find test ours) (found-after x ours (every-filter _ (in_bucket b) xs rises.0))
               | false ↦ find-parts b xs rises.1
             ]
       ]
@@ -104,7 +104,7 @@ module _ {P : Type 0} (test : Letter P → Bool) where
       let rest : others ≡ filter (not_in_bucket (own x)) (x ∷ xs) = sym (ap (λ c. if not c then x ∷ others else others) (in-own x)) in
       let all : lesser (find test list) (find test others) ≡ find test (x ∷ xs) = (λ i. lesser (find test (first i)) (find test (rest i))) ∙ find-parts (own x) (x ∷ xs) rises in
       let on : least_from test (lesser o (find test list)) lists ≡ lesser o (find test (x ∷ xs)) =
-      row-find (lesser o (find test list)) lists others (IsRising-filter (not_in_bucket (own x)) xs rises.1) row.1
+      row-find (lesser o (find test list)) lists others (rising-filter _ (not_in_bucket (own x)) xs rises.1) row.1
       ∙ lesser-both o (find test list) (find test others) ∙ ap (lesser o) all in
       ap (λ l. if both_before o (slice_get l 0) then o else least_from test (lesser o (find test list)) lists) row.0
       ∙ elim (both_before o (Some x)) as (λ t. both_before o (Some x) ≡ t → (if t then o else least_from test (lesser o (find test list)) lists) ≡ lesser o (find test (x ∷ xs))) [

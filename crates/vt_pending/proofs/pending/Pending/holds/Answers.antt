@@ -1,7 +1,7 @@
 use Rattle.std.proofs.Common.{rules, ◌≡◌, ◌∙◌, false, true, find, filter, sym, ap}
+use Rattle.vt_key.proofs.ListLemmas.{rising-filter}
 use Rattle.vt_pending.specs.Letters.{some_has_rank, holds_rank, is_reached}
 use Rattle.vt_pending.specs.Buckets.{bucket_of, in_bucket, letters_of, list_at}
-use Rattle.vt_pending.proofs.Filters.{IsRising-filter}
 use Rattle.vt_pending.proofs.Holding.{holds-first}
 use Rattle.vt_pending.proofs.Kept.{marks-of, empty-else, holds-own}
 use Rattle.vt_pending.proofs.pending.Pending.holds.Goals as goal
@@ -18,4 +18,4 @@ returns g c =
     let r = c.args.rank in let s = c.self.inside in let b = c.bucket-number in let all = letters_of s.lists in let kept = c.self.invariant.0 in
     let list = ap (list_at b.result) c.iter.ensures ∙ kept.list b.result b.ensures.within ∙ ap (λ n. filter (in_bucket n) all) b.ensures.value in
     c.has_rank.ensures ∙ ap (some_has_rank r) (c.find_in-found.ensures ∙ ap (find (is_reached r)) list)
-    ∙ holds-first r (filter (in_bucket (bucket_of r)) all) (IsRising-filter (in_bucket (bucket_of r)) all kept.rising) ∙ holds-own r all ∙ ap (holds_rank r) c.self.view_is
+    ∙ holds-first r (filter (in_bucket (bucket_of r)) all) (rising-filter _ (in_bucket (bucket_of r)) all kept.rising) ∙ holds-own r all ∙ ap (holds_rank r) c.self.view_is
