@@ -2,7 +2,7 @@
 use Rattle.std.proofs.Common.{◌≡◌, ◌||◌, ◌⊎◌, inl, inr, Bool, true, false, not, if◌then◌else◌, ℕ, List, [], ◌∷◌, Some, None, Result, Ok, Err, IfOk, IfErr, map, slice_get, refl, sym, subst, ◌∙◌, ap, arith}
 use Rattle.std.specs.Prelude.{All}
 use Rattle.std.specs.List.{list_any}
-use Rattle.std.proofs.lemmas.List.Elements.{All-nil, All-cons, All-head, All-tail}
+use Rattle.std.proofs.lemmas.List.Elements.{All-from_recursion, recursion_from_All, All-nil, All-cons, All-head, All-tail}
 use Rattle.vt_key.specs.Order.{rank_before, rank_same}
 use Rattle.vt_key.specs.Times.{Time, earlier}
 use Rattle.vt_key.specs.Queues.{has_rank, insert_letter, letter_rank}
@@ -10,6 +10,7 @@ use Rattle.vt_key.specs.declared.order.Rank.{Rank}
 use Rattle.vt_key.specs.declared.letter.Letter.{Letter}
 use Rattle.vt_key.specs.declared.letter.Sign.{Sign}
 use Rattle.vt_key.specs.declared.letter.Sign.TheVariants.{Plus, Minus}
+use Rattle.vt_key.proofs.ListLemmas.{every-insert_ordered}
 use Rattle.vt_key.proofs.OrderLemmas.{rank_same-true, same-rank_same}
 use Rattle.vt_stream.specs.Words.{Stream}
 use Rattle.vt_model.specs.declared.settings.Config.{Config}
@@ -55,11 +56,7 @@ right-false false b none = none
 module _ {P : Type 0} where
   -- what each letter has, and the new one, each has with the new one in its place
   pub All-insert : (Q : Letter P → Type 0) (x : Letter P) (ls : List (Letter P)) → Q x → All Q ls → All Q (insert_letter x ls)
-  All-insert Q x [] q all = All-cons Q x [] q all
-  All-insert Q x (l ∷ ls) q all = elim (rank_before (letter_rank x) (letter_rank l)) as (λ b. All Q (if b then x ∷ l ∷ ls else l ∷ insert_letter x ls)) [
-    | true ↦ All-cons Q x (l ∷ ls) q all
-    | false ↦ All-cons Q l (insert_letter x ls) (All-head Q l ls all) (All-insert Q x ls q (All-tail Q l ls all))
-  ]
+  All-insert Q x ls q all = All-from_recursion Q (insert_letter x ls) (every-insert_ordered Q x ls q (recursion_from_All Q ls all))
 
   -- a rank that is neither among the letters nor the new one's
   pub holds-insert : (r : Rank) (x : Letter P) (ls : List (Letter P)) → rank_same (letter_rank x) r ≡ false → holds_rank r ls ≡ false → holds_rank r (insert_letter x ls) ≡ false

@@ -1,7 +1,7 @@
 -- Two letters that annihilate each other: what the process keeps to, and the step of each process that it stands for.
 use Rattle.std.proofs.Common.{◌≡◌, ◌||◌, ◌+◌, inl, inr, Bool, true, false, if◌then◌else◌, ℕ, suc, arith, List, [], ◌∷◌, Option, Some, None, length, refl, sym, subst, ◌∙◌, ap}
 use Rattle.std.specs.Prelude.{All, IfNone, find}
-use Rattle.std.proofs.lemmas.List.Elements.{All-nil, All-cons, All-head, All-tail}
+use Rattle.std.proofs.lemmas.List.Elements.{All-from_recursion, recursion_from_All, All-nil, All-cons, All-head, All-tail}
 use Rattle.vt_key.specs.declared.order.Rank.{Rank}
 use Rattle.vt_key.specs.declared.order.Stamp.{Stamp}
 use Rattle.vt_key.specs.declared.letter.Letter.{Letter}
@@ -15,7 +15,7 @@ use Rattle.vt_key.specs.Queues.{has_stamp, without_first, has_rank}
 use Rattle.vt_key.specs.Lists.{Among}
 use Rattle.vt_steps.specs.World.{LogicalProcess}
 use Rattle.vt_steps.specs.ProcessSteps.{ProcessEffect, are_opposite, cancel_process}
-use Rattle.vt_key.proofs.ListLemmas.{find-among, find-passes}
+use Rattle.vt_key.proofs.ListLemmas.{every-without_first, find-among, find-passes}
 use Rattle.vt_pending.specs.Letters.{holds_rank, without_stamp}
 use Rattle.vt_past.specs.declared.event.PastEvent.{PastEvent}
 use Rattle.vt_lp.specs.Held.{HeldProcess, StandsFor, IsOwnLetter, IsNotPending, IsProcessInside}
@@ -28,11 +28,7 @@ module _ {P : Type 0} where
 
   -- what each letter has, each that is left has
   All-without : (Q : Letter P → Type 0) (stamp : Stamp) (ls : List (Letter P)) → All Q ls → All Q (without_stamp stamp ls)
-  All-without Q stamp [] all = All-nil Q
-  All-without Q stamp (l ∷ ls) all = elim (has_stamp stamp l) as (λ b. All Q (if b then ls else l ∷ without_stamp stamp ls)) [
-    | true ↦ All-tail Q l ls all
-    | false ↦ All-cons Q l (without_stamp stamp ls) (All-head Q l ls all) (All-without Q stamp ls (All-tail Q l ls all))
-  ]
+  All-without Q stamp ls all = All-from_recursion Q (without_stamp stamp ls) (every-without_first Q (has_stamp stamp) ls (recursion_from_All Q ls all))
 
   -- a rank that is not there is not among those left
   holds-without : (r : Rank) (stamp : Stamp) (ls : List (Letter P)) → holds_rank r ls ≡ false → holds_rank r (without_stamp stamp ls) ≡ false

@@ -1,10 +1,10 @@
--- What the ends of the lists tell: that the least letter can go out and come back.
-use Rattle.std.proofs.Common.{◌≡◌, ◌||◌, Bool, true, false, if◌then◌else◌, List, [], ◌∷◌, refl, subst, ◌∙◌, ap, ◌⊎◌, inl, inr}
+-- No letter after a rank has it.
+use Rattle.std.proofs.Common.{◌≡◌, ◌||◌, Bool, true, false, List, [], ◌∷◌, refl, subst, ◌∙◌, ap, ◌⊎◌, inl, inr}
 use Rattle.vt_key.specs.Order.{RankBefore, rank_same}
-use Rattle.vt_key.specs.Queues.{letter_rank, insert_letter}
+use Rattle.vt_key.specs.Queues.{letter_rank}
 use Rattle.vt_key.specs.declared.order.Rank.{Rank}
 use Rattle.vt_key.specs.declared.letter.Letter.{Letter}
-use Rattle.vt_key.proofs.OrderLemmas.{rank-irreflexive, rank_same-true, before-rank_before}
+use Rattle.vt_key.proofs.OrderLemmas.{rank-irreflexive, rank_same-true}
 use Rattle.vt_pending.specs.Letters.{holds_rank, AllAfter}
 
 -- a rank that is after another is not the same
@@ -22,8 +22,3 @@ module _ {P : Type 0} where
   pub none-after : (r : Rank) (ls : List (Letter P)) → AllAfter r ls → holds_rank r ls ≡ false
   none-after r [] all = refl
   none-after r (l ∷ ls) all = ap (λ b. b || holds_rank r ls) (after-differs r (letter_rank l) all.0) ∙ none-after r ls all.1
-
-  -- a letter that all others are after is put before them
-  pub insert-first : (l : Letter P) (ls : List (Letter P)) → AllAfter (letter_rank l) ls → insert_letter l ls ≡ l ∷ ls
-  insert-first l [] all = refl
-  insert-first l (x ∷ xs) all = ap (λ b. if b then l ∷ x ∷ xs else x ∷ insert_letter l xs) (before-rank_before (letter_rank l) (letter_rank x) all.0)

@@ -2,7 +2,7 @@
 use Rattle.std.proofs.Common.{◌≡◌, ℕ, ◌+◌, ◌<◌, ◌≤◌, inl, inr, List, [], ◌∷◌, ◌++◌, map, length, Bool, true, false, Option, Some, None, if◌then◌else◌, refl, sym, subst, ap, ◌∙◌, arith}
 use Rattle.std.specs.List.{All, last_or}
 use Rattle.std.proofs.lemmas.List.{map-append}
-use Rattle.std.proofs.lemmas.List.Elements.{All-head, All-tail, All-cons, All-nil, All-append}
+use Rattle.std.proofs.lemmas.List.Elements.{All-head, All-tail, All-cons, All-nil, All-append, All-weaker}
 use Rattle.vt_key.specs.Times.{Time, TimeBefore}
 use Rattle.vt_key.specs.Order.{RankBefore}
 use Rattle.vt_key.specs.Queues.{letter_rank, has_rank}
@@ -11,6 +11,7 @@ use Rattle.vt_key.specs.declared.fault.Fault.{Fault}
 use Rattle.vt_key.specs.declared.letter.Event.{Event}
 use Rattle.vt_key.specs.declared.letter.Letter.{Letter}
 use Rattle.vt_key.specs.declared.letter.Sign.TheVariants.{Plus, Minus}
+use Rattle.vt_key.proofs.ListLemmas.{every-append}
 use Rattle.vt_key.proofs.OrderLemmas.{rank-transitive, rank_before-true}
 use Rattle.vt_model.specs.declared.sending.Sent.{Sent}
 use Rattle.vt_model.specs.declared.rows.Record.{Record}
@@ -30,7 +31,7 @@ use Rattle.vt_steps.proofs.steps.MemoryLemmas.{is_where, goes_on, after-append}
 use Rattle.vt_steps.proofs.letters.Stamped.{length-stamped}
 use Rattle.vt_past.specs.declared.event.PastEvent.{PastEvent}
 use Rattle.vt_past.specs.declared.event.UndoEntry.{UndoEntry}
-use Rattle.vt_lp.specs.Held.{HeldProcess, StandsFor, process_memory, remembered, way_back, IsOwnLetter, IsOwnEvent, IsReady, AllAfter, IsRisingPast, IsNotPending, IsProcessInside}
+use Rattle.vt_lp.specs.Held.{HeldProcess, StandsFor, process_memory, remembered, way_back, IsOwnLetter, IsOwnEvent, IsReady, IsRisingPast, IsNotPending, IsProcessInside}
 use Rattle.vt_lp.specs.Guards.{IsDone, IsExecuteRefusal, may_come_after}
 use Rattle.vt_past.specs.Events.{past_event}
 use Rattle.vt_lp.specs.Past.{ready_event, IsAdvanceRefusal}
@@ -211,17 +212,9 @@ module _ {S P K : Type 0} (handlers : Handlers S P K) where
           subst (λ step. IsExecuteRefusal sim held.lp serial step fault) (sym (execute-some held w serial h l ls event is ready s))
           (lawful-refusal l ls (coe 0 1 (j. IsAdvanceRefusal (sim.fire (own j) held.triple (unstamped (first j))) serial fault) refused))
 
-All-weaker : {X : Type 0} (Q R : X → Type 0) (xs : List X) → ((x : X) → Q x → R x) → All Q xs → All R xs
-All-weaker Q R [] f all = All-nil R
-All-weaker Q R (x ∷ xs) f all = All-cons R x xs (f x (All-head Q x xs all)) (All-weaker Q R xs f (All-tail Q x xs all))
-
 -- ---- what a process keeps to
 
 module _ {P K : Type 0} where
-  after-more : (a e : PastEvent P K) (es : List (PastEvent P K)) → AllAfter a es → RankBefore a.letter.event.rank e.letter.event.rank → AllAfter a (es ++ e ∷ [])
-  after-more a e [] all h = (h, tt)
-  after-more a e (d ∷ ds) all h = (all.0, after-more a e ds all.1 h)
-
   before-end : (d e : PastEvent P K) (ds : List (PastEvent P K)) → IsRisingPast (d ∷ ds) → may_come_after (last_or (Some d) ds) e.letter.event.rank ≡ true →
       RankBefore d.letter.event.rank e.letter.event.rank
   before-end d e [] rises h = rank_before-true d.letter.event.rank e.letter.event.rank h
@@ -229,8 +222,8 @@ module _ {P K : Type 0} where
 
   rising-more : (es : List (PastEvent P K)) (e : PastEvent P K) → IsRisingPast es → may_come_after (last_or None es) e.letter.event.rank ≡ true → IsRisingPast (es ++ e ∷ [])
   rising-more [] e rises h = (tt, tt)
-  rising-more (d ∷ []) e rises h = (after-more d e [] tt (before-end d e [] rises h), (tt, tt))
-  rising-more (d ∷ c ∷ cs) e rises h = (after-more d e (c ∷ cs) rises.0 (before-end d e (c ∷ cs) rises h), rising-more (c ∷ cs) e rises.1 h)
+  rising-more (d ∷ []) e rises h = ((before-end d e [] rises h, tt), (tt, tt))
+  rising-more (d ∷ c ∷ cs) e rises h = (every-append _ (c ∷ cs) (e ∷ []) rises.0 (before-end d e (c ∷ cs) rises h, tt), rising-more (c ∷ cs) e rises.1 h)
 
   -- another place in the stream and another send number
   pub inside-at : (config : Config) (p number new_number : ℕ) (stream new_stream : Stream) (past : List (PastEvent P K)) (pending waiting new_pending : List (Letter P)) (new_past : List (PastEvent P K)) →
@@ -273,6 +266,6 @@ module _ {P K : Type 0} where
         }) (All-nil (IsOwnEvent config p)));
         rising = rising-more past e inside.rising (ready-may l ls past event (ready ∙ ap (λ xs. ready_event xs past) is));
         apart = All-append (IsNotPending ls) past (e ∷ [])
-            (All-weaker (IsNotPending (l ∷ ls)) (IsNotPending ls) past (λ d h. right-false (has_rank d.letter.event.rank l) (holds_rank d.letter.event.rank ls) h) apart)
+            (All-weaker (IsNotPending (l ∷ ls)) (IsNotPending ls) (λ d h. right-false (has_rank d.letter.event.rank l) (holds_rank d.letter.event.rank ls) h) past apart)
             (All-cons (IsNotPending ls) e [] (none-after (letter_rank l) ls up.0) (All-nil (IsNotPending ls)));
       })

@@ -9,6 +9,7 @@ use Rattle.vt_key.specs.Times.{Time}
 use Rattle.vt_key.specs.Keys.{Key}
 use Rattle.vt_key.specs.declared.order.Rank.{Rank}
 use Rattle.vt_key.specs.declared.letter.Letter.{Letter}
+use Rattle.vt_key.proofs.ListLemmas.{rising-right}
 use Rattle.vt_stream.specs.Words.{Stream}
 use Rattle.vt_model.specs.declared.rows.Record.{Record}
 use Rattle.vt_model.specs.declared.rows.Row.{Row}
@@ -117,10 +118,6 @@ module _ {P K : Type 0} (floor : Time) where
   All-unripe Q [] all = all
   All-unripe Q (e ∷ es) all = elim (is_ripe floor e) as (λ b. All Q (if b then unripe_events floor es else e ∷ es)) [ true ↦ All-unripe Q es (All-tail Q e es all) | false ↦ all ]
 
-  rising-unripe : (es : List (PastEvent P K)) → IsRisingPast es → IsRisingPast (unripe_events floor es)
-  rising-unripe [] rises = tt
-  rising-unripe (e ∷ es) rises = elim (is_ripe floor e) as (λ b. IsRisingPast (if b then unripe_events floor es else e ∷ es)) [ true ↦ rising-unripe es rises.1 | false ↦ rises ]
-
   pub inside-committed : (config : Config) (p number : ℕ) (stream : Stream) (past new : List (PastEvent P K)) (pending waiting : List (Letter P)) → new ≡ unripe_events floor past →
       IsProcessInside config p number stream past pending waiting → IsProcessInside config p number stream new pending waiting
   inside-committed config p number stream past new pending waiting is i = record {
@@ -130,7 +127,7 @@ module _ {P K : Type 0} (floor : Time) where
     own_pending = i.own_pending;
     own_waiting = i.own_waiting;
     own_past = subst (λ (es : List (PastEvent P K)). All (IsOwnEvent config p) es) (sym is) (All-unripe (IsOwnEvent config p) past i.own_past);
-    rising = subst (λ (es : List (PastEvent P K)). IsRisingPast es) (sym is) (rising-unripe past i.rising);
+    rising = subst (λ (es : List (PastEvent P K)). IsRisingPast es) (sym is) (rising-right _ (ripe_events past) (unripe_events floor past) (subst (λ (es : List (PastEvent P K)). IsRisingPast es) (parts past) i.rising));
     apart = subst (λ (es : List (PastEvent P K)). All (IsNotPending pending) es) (sym is) (All-unripe (IsNotPending pending) past i.apart);
   }
 

@@ -1,14 +1,15 @@
 -- Undo: what the code does is the step of each process that it stands for.
-use Rattle.std.proofs.Common.{◌≡◌, ℕ, suc, ◌+◌, ◌-◌, ◌≤◌, List, [], ◌∷◌, ◌++◌, map, take, length, true, false, Option, Some, None, if◌then◌else◌, refl, sym, subst, ap, ◌∙◌, arith}
+use Rattle.std.proofs.Common.{◌≡◌, ℕ, suc, ◌+◌, ◌-◌, ◌≤◌, inl, List, [], ◌∷◌, ◌++◌, map, take, length, true, false, Option, Some, None, if◌then◌else◌, refl, sym, subst, ap, ◌∙◌, arith}
 use Rattle.std.specs.List.{All, last_or}
 use Rattle.std.specs.Option.{option_and_then}
 use Rattle.std.proofs.lemmas.List.{map-append}
-use Rattle.std.proofs.lemmas.List.Elements.{All-head, All-tail, All-cons, All-nil}
+use Rattle.std.proofs.lemmas.List.Elements.{All-from_recursion, recursion_from_All, All-head, All-tail, All-cons, All-nil}
 use Rattle.vt_key.specs.Order.{rank_before, rank_same}
 use Rattle.vt_key.specs.Queues.{letter_rank, insert_letter}
 use Rattle.vt_key.specs.declared.limits.TheConstants.{MAX_COUNT}
 use Rattle.vt_key.specs.declared.letter.Letter.{Letter}
 use Rattle.vt_key.specs.declared.letter.Sign.TheVariants.{Plus, Minus}
+use Rattle.vt_key.proofs.ListLemmas.{every-left, every-right, every-both, every-all, rising-left, rising-across}
 use Rattle.vt_stream.specs.Words.{Stream}
 use Rattle.vt_model.specs.declared.settings.Config.{Config}
 use Rattle.vt_model.specs.Handler.{Handlers}
@@ -21,7 +22,7 @@ use Rattle.vt_steps.specs.ProcessSteps.{must_undo, effect_of_undo, undo_process,
 use Rattle.vt_steps.specs.StandsFor.{entry_of, LeadTo}
 use Rattle.vt_steps.proofs.steps.MemoryLemmas.{goes_back}
 use Rattle.vt_past.specs.declared.event.PastEvent.{PastEvent}
-use Rattle.vt_lp.specs.Held.{HeldProcess, StandsFor, process_memory, remembered, way_back, IsOwnLetter, IsOwnEvent, IsReady, IsWithinRun, AllAfter, IsRisingPast, IsNotPending, IsProcessInside}
+use Rattle.vt_lp.specs.Held.{HeldProcess, StandsFor, process_memory, remembered, way_back, IsOwnLetter, IsOwnEvent, IsReady, IsWithinRun, IsRisingPast, IsNotPending, IsProcessInside}
 use Rattle.vt_lp.specs.Guards.{IsDone}
 use Rattle.vt_lp.specs.Past.{is_forced, must_undo_last}
 use Rattle.vt_lp.proofs.AcceptLemmas.{All-insert, holds-insert}
@@ -46,14 +47,12 @@ module _ {X : Type 0} where
   front-of xs x = let n = length-push xs x in take-front (length (xs ++ x ∷ []) - 1) xs x (omega (arith, n))
 
   pub All-front : (Q : X → Type 0) (xs : List X) (x : X) → All Q (xs ++ x ∷ []) → All Q xs × Q x
-  All-front Q [] x a = (All-nil Q, All-head Q x [] a)
-  All-front Q (y ∷ ys) x a =
-      let rest = All-front Q ys x (All-tail Q y (ys ++ x ∷ []) a) in
-      (All-cons Q y ys (All-head Q y (ys ++ x ∷ []) a) rest.0, rest.1)
+  All-front Q xs x a =
+      let all = recursion_from_All Q (xs ++ x ∷ []) a in
+      (All-from_recursion Q xs (every-left Q xs (x ∷ []) all), (every-right Q xs (x ∷ []) all).0)
 
   All-both : (Q R T : X → Type 0) (xs : List X) → ((x : X) → Q x → R x → T x) → All Q xs → All R xs → All T xs
-  All-both Q R T [] f a b = All-nil T
-  All-both Q R T (x ∷ xs) f a b = All-cons T x xs (f x (All-head Q x xs a) (All-head R x xs b)) (All-both Q R T xs f (All-tail Q x xs a) (All-tail R x xs b))
+  All-both Q R T xs f a b = All-from_recursion T xs (every-both Q R T xs f (recursion_from_All Q xs a) (recursion_from_All R xs b))
 
 pub length-insert : {P : Type 0} (l : Letter P) (ls : List (Letter P)) → length (insert_letter l ls) ≡ length ls + 1
 length-insert l [] = refl
@@ -133,23 +132,11 @@ module _ {S P K : Type 0} (handlers : Handlers S P K) where
 -- ---- what a process keeps to
 
 module _ {P K : Type 0} where
-  after-front : (a : PastEvent P K) (es : List (PastEvent P K)) (e : PastEvent P K) → AllAfter a (es ++ e ∷ []) → AllAfter a es
-  after-front a [] e all = tt
-  after-front a (d ∷ ds) e all = (all.0, after-front a ds e all.1)
-
-  rising-front : (es : List (PastEvent P K)) (e : PastEvent P K) → IsRisingPast (es ++ e ∷ []) → IsRisingPast es
-  rising-front [] e rises = tt
-  rising-front (d ∷ ds) e rises = (after-front d ds e rises.0, rising-front ds e rises.1)
-
   -- the last one's rank is no other's
   others : (es : List (PastEvent P K)) (e : PastEvent P K) → IsRisingPast (es ++ e ∷ []) → All (λ d. rank_same e.letter.event.rank d.letter.event.rank ≡ false) es
-  others [] e rises = All-nil (λ (d : PastEvent P K). rank_same e.letter.event.rank d.letter.event.rank ≡ false)
-  others (d ∷ ds) e rises =
-      All-cons (λ (d : PastEvent P K). rank_same e.letter.event.rank d.letter.event.rank ≡ false) d ds (from ds rises.0) (others ds e rises.1)
-    where
-      from : (cs : List (PastEvent P K)) → AllAfter d (cs ++ e ∷ []) → rank_same e.letter.event.rank d.letter.event.rank ≡ false
-      from [] all = after-differs d.letter.event.rank e.letter.event.rank all.0
-      from (c ∷ cs) all = from cs all.1
+  others es e rises =
+      All-from_recursion (λ (d : PastEvent P K). rank_same e.letter.event.rank d.letter.event.rank ≡ false) es
+      (every-all _ es (λ d m. after-differs d.letter.event.rank e.letter.event.rank (rising-across _ es (e ∷ []) rises d e m (inl refl))))
 
   -- the last past event is pending again
   pub inside-less : (config : Config) (p number new_number : ℕ) (stream new_stream : Stream) (past : List (PastEvent P K)) (pending waiting new_pending : List (Letter P)) (es : List (PastEvent P K))
@@ -166,7 +153,7 @@ module _ {P K : Type 0} where
         own_pending = All-insert (IsOwnLetter p (end_of config) Plus) e.letter pending mine.1.own inside.own_pending;
         own_waiting = inside.own_waiting;
         own_past = mine.0;
-        rising = rising-front es e rises;
+        rising = rising-left _ es (e ∷ []) rises;
         apart = All-both (IsNotPending pending) (λ d. rank_same e.letter.event.rank d.letter.event.rank ≡ false) (IsNotPending (insert_letter e.letter pending)) es
             (λ d not_there other. holds-insert d.letter.event.rank e.letter pending other not_there) apart.0 (others es e rises);
       })

@@ -1,4 +1,4 @@
-mod Filters
+pub mod Filters
 mod Finding
 mod Holding
 mod Inserting

@@ -3,7 +3,8 @@ use Rattle.vt_key.specs.declared.letter.Letter.{Letter}
 use Rattle.vt_pending.specs.Letters.{holds_rank, IsRising}
 use Rattle.vt_key.specs.Queues.{letter_rank, insert_letter}
 use Rattle.vt_past.specs.declared.event.PastEvent.{PastEvent}
-use Rattle.vt_lp.proofs.Ends.{none-after, insert-first}
+use Rattle.vt_pending.proofs.Filters.{insert-first}
+use Rattle.vt_lp.proofs.Ends.{none-after}
 use Rattle.vt_lp.proofs.executing.keep.Goals as goal
 
 pub insert-requires : goal.insert-requires
