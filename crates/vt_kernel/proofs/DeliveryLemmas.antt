@@ -5,6 +5,7 @@ use Rattle.vt_key.specs.Queues.{without_first}
 use Rattle.std.proofs.lemmas.List.Elements.{All-cons, All-head, All-tail, All-append, All-take, All-drop}
 use Rattle.std.specs.Option.{option_map, option_and_then}
 use Rattle.std.proofs.lemmas.Bool.Decides.{eqb_tells}
+use Rattle.vt_key.proofs.ListLemmas.{find-passes}
 use Rattle.vt_key.specs.declared.letter.Letter.{Letter}
 use Rattle.vt_key.specs.declared.letter.Mail.{Mail}
 use Rattle.vt_model.specs.declared.settings.Config.{Config}
@@ -26,15 +27,6 @@ use Rattle.vt_kernel.specs.Local.{local_step}
 use Rattle.vt_kernel.specs.Guards.{IsDone}
 use Rattle.vt_kernel.proofs.OwnSteps.{at_own, own, own-step}
 use Rattle.vt_kernel.proofs.LocalLemmas.{IsOwnPlace, found-at, changed-done, changed-refused}
-
--- what is found passes the test
-pub find-passes : {X : Type 0} (test : X → Bool) (xs : List X) (x : X) → find test xs ≡ Some x → test x ≡ true
-find-passes test [] x is = absurd (let k : None ≡ Some x = is in cc)
-find-passes test (y ∷ ys) x is =
-    elim (test y) as (λ b. test y ≡ b → (cond b (Some y) (find test ys)) ≡ Some x → test x ≡ true) [
-      | true ↦ λ passes e. (let same : y ≡ x = cc in subst (λ z. test z ≡ true) same passes)
-      | false ↦ λ fails e. find-passes test ys x e
-    ] refl is
 
 -- and has what all have
 pub find-all : {X : Type 0} (Q : X → Type 0) (test : X → Bool) (xs : List X) (x : X) → All Q xs → find test xs ≡ Some x → Q x

@@ -3,6 +3,7 @@ use Rattle.std.proofs.Common.{◌≡◌, ◌||◌, ◌⊎◌, inl, inr, Bool, tr
 use Rattle.std.specs.Prelude.{All}
 use Rattle.std.specs.List.{list_any}
 use Rattle.std.proofs.lemmas.List.Elements.{All-from_recursion, recursion_from_All, All-nil, All-cons, All-head, All-tail}
+use Rattle.vt_pending.proofs.Rising.{first-false, second-false}
 use Rattle.vt_key.specs.Order.{rank_before, rank_same}
 use Rattle.vt_key.specs.Times.{Time, earlier}
 use Rattle.vt_key.specs.Queues.{has_rank, insert_letter, letter_rank}
@@ -44,15 +45,6 @@ err-is (Err d) e is t = t
 
 -- ---- what the process keeps to
 
--- neither of two where not one of them
-pub left-false : (a b : Bool) → (a || b) ≡ false → a ≡ false
-left-false true b none = none
-left-false false b none = refl
-
-pub right-false : (a b : Bool) → (a || b) ≡ false → b ≡ false
-right-false true b none = absurd (let h : true ≡ false = none in cc)
-right-false false b none = none
-
 module _ {P : Type 0} where
   -- what each letter has, and the new one, each has with the new one in its place
   pub All-insert : (Q : Letter P → Type 0) (x : Letter P) (ls : List (Letter P)) → Q x → All Q ls → All Q (insert_letter x ls)
@@ -64,8 +56,8 @@ module _ {P : Type 0} where
   holds-insert r x (l ∷ ls) other none = elim (rank_before (letter_rank x) (letter_rank l)) as (λ b. holds_rank r (if b then x ∷ l ∷ ls else l ∷ insert_letter x ls) ≡ false) [
     | true ↦ ap (λ b. b || holds_rank r (l ∷ ls)) other ∙ none
     | false ↦
-        let here = left-false (has_rank r l) (holds_rank r ls) none in
-        let there = right-false (has_rank r l) (holds_rank r ls) none in
+        let here = first-false (has_rank r l) (holds_rank r ls) none in
+        let there = second-false (has_rank r l) (holds_rank r ls) none in
         ap (λ b. b || holds_rank r (insert_letter x ls)) here ∙ holds-insert r x ls other there
   ]
 
@@ -85,8 +77,8 @@ module _ {P K : Type 0} where
       All (IsNotPending ls) past → All (IsNotPending (insert_letter x ls)) past
   apart-insert x ls [] none apart = All-nil (IsNotPending (insert_letter x ls))
   apart-insert x ls (e ∷ es) none apart =
-      let here = left-false (rank_same e.letter.event.rank (letter_rank x)) (list_any (λ (d : PastEvent P K). rank_same d.letter.event.rank (letter_rank x)) es) none in
-      let there = right-false (rank_same e.letter.event.rank (letter_rank x)) (list_any (λ (d : PastEvent P K). rank_same d.letter.event.rank (letter_rank x)) es) none in
+      let here = first-false (rank_same e.letter.event.rank (letter_rank x)) (list_any (λ (d : PastEvent P K). rank_same d.letter.event.rank (letter_rank x)) es) none in
+      let there = second-false (rank_same e.letter.event.rank (letter_rank x)) (list_any (λ (d : PastEvent P K). rank_same d.letter.event.rank (letter_rank x)) es) none in
       All-cons (IsNotPending (insert_letter x ls)) e es
       (holds-insert e.letter.event.rank x ls (differs e.letter.event.rank (letter_rank x) here) (All-head (IsNotPending ls) e es apart))
       (apart-insert x ls es there (All-tail (IsNotPending ls) e es apart))
@@ -96,7 +88,7 @@ module _ {P K : Type 0} where
       new ≡ insert_letter x pending → IsOwnLetter p (end_of config) Plus x → holds_letter pending waiting past Plus (letter_rank x) ≡ false →
       IsProcessInside config p number stream past pending waiting → IsProcessInside config p number stream past new waiting
   inside-message config p number stream past pending waiting new x is own never i =
-      let none = right-false (list_any (has_rank (letter_rank x)) pending) (list_any (λ (e : PastEvent P K). rank_same e.letter.event.rank (letter_rank x)) past) never in
+      let none = second-false (list_any (has_rank (letter_rank x)) pending) (list_any (λ (e : PastEvent P K). rank_same e.letter.event.rank (letter_rank x)) past) never in
       record {
         known = i.known;
         few_sends = i.few_sends;

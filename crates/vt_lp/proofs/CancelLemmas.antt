@@ -2,6 +2,7 @@
 use Rattle.std.proofs.Common.{◌≡◌, ◌||◌, ◌+◌, inl, inr, Bool, true, false, if◌then◌else◌, ℕ, suc, arith, List, [], ◌∷◌, Option, Some, None, length, refl, sym, subst, ◌∙◌, ap}
 use Rattle.std.specs.Prelude.{All, IfNone, find}
 use Rattle.std.proofs.lemmas.List.Elements.{All-from_recursion, recursion_from_All, All-nil, All-cons, All-head, All-tail}
+use Rattle.vt_pending.proofs.Rising.{first-false, second-false}
 use Rattle.vt_key.specs.declared.order.Rank.{Rank}
 use Rattle.vt_key.specs.declared.order.Stamp.{Stamp}
 use Rattle.vt_key.specs.declared.letter.Letter.{Letter}
@@ -21,7 +22,6 @@ use Rattle.vt_past.specs.declared.event.PastEvent.{PastEvent}
 use Rattle.vt_lp.specs.Held.{HeldProcess, StandsFor, IsOwnLetter, IsNotPending, IsProcessInside}
 use Rattle.vt_lp.specs.Guards.{IsDone, can_annihilate}
 use Rattle.vt_past.specs.Kept.{KeptNodes, one_if_some}
-use Rattle.vt_lp.proofs.AcceptLemmas.{left-false, right-false}
 
 module _ {P : Type 0} where
   -- ---- what the process keeps to
@@ -34,8 +34,8 @@ module _ {P : Type 0} where
   holds-without : (r : Rank) (stamp : Stamp) (ls : List (Letter P)) → holds_rank r ls ≡ false → holds_rank r (without_stamp stamp ls) ≡ false
   holds-without r stamp [] none = none
   holds-without r stamp (l ∷ ls) none =
-      let here = left-false (has_rank r l) (holds_rank r ls) none in
-      let there = right-false (has_rank r l) (holds_rank r ls) none in
+      let here = first-false (has_rank r l) (holds_rank r ls) none in
+      let there = second-false (has_rank r l) (holds_rank r ls) none in
       elim (has_stamp stamp l) as (λ b. holds_rank r (if b then ls else l ∷ without_stamp stamp ls) ≡ false) [
         | true ↦ there
         | false ↦ ap (λ b. b || holds_rank r (without_stamp stamp ls)) here ∙ holds-without r stamp ls there

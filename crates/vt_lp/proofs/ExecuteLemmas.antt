@@ -3,6 +3,7 @@ use Rattle.std.proofs.Common.{◌≡◌, ℕ, ◌+◌, ◌<◌, ◌≤◌, inl, 
 use Rattle.std.specs.List.{All, last_or}
 use Rattle.std.proofs.lemmas.List.{map-append}
 use Rattle.std.proofs.lemmas.List.Elements.{All-head, All-tail, All-cons, All-nil, All-append, All-weaker}
+use Rattle.vt_pending.proofs.Rising.{second-false}
 use Rattle.vt_key.specs.Times.{Time, TimeBefore}
 use Rattle.vt_key.specs.Order.{RankBefore}
 use Rattle.vt_key.specs.Queues.{letter_rank, has_rank}
@@ -36,7 +37,6 @@ use Rattle.vt_lp.specs.Guards.{IsDone, IsExecuteRefusal, may_come_after}
 use Rattle.vt_past.specs.Events.{past_event}
 use Rattle.vt_lp.specs.Past.{ready_event, IsAdvanceRefusal}
 use Rattle.vt_lp.specs.Used.{sends_by, sends_of}
-use Rattle.vt_lp.proofs.AcceptLemmas.{right-false}
 use Rattle.vt_lp.proofs.Ends.{none-after}
 use Rattle.vt_lp.proofs.Advancing.{events-signed}
 
@@ -266,6 +266,6 @@ module _ {P K : Type 0} where
         }) (All-nil (IsOwnEvent config p)));
         rising = rising-more past e inside.rising (ready-may l ls past event (ready ∙ ap (λ xs. ready_event xs past) is));
         apart = All-append (IsNotPending ls) past (e ∷ [])
-            (All-weaker (IsNotPending (l ∷ ls)) (IsNotPending ls) (λ d h. right-false (has_rank d.letter.event.rank l) (holds_rank d.letter.event.rank ls) h) past apart)
+            (All-weaker (IsNotPending (l ∷ ls)) (IsNotPending ls) (λ d h. second-false (has_rank d.letter.event.rank l) (holds_rank d.letter.event.rank ls) h) past apart)
             (All-cons (IsNotPending ls) e [] (none-after (letter_rank l) ls up.0) (All-nil (IsNotPending ls)));
       })

@@ -1,6 +1,5 @@
 mod ProcessView
 mod RisingLemmas
-mod PastLemmas
 mod ReachLemmas
 mod ReadyLemmas
 mod LeastLemmas

@@ -8,7 +8,7 @@ use Rattle.vt_key.specs.Order.{RankBefore, rank_before, rank_same}
 use Rattle.vt_key.specs.declared.order.Rank.{Rank}
 use Rattle.vt_key.proofs.OrderLemmas.{rank-transitive, rank-total, rank_before-true, before-rank_before}
 use Rattle.vt_lp.proofs.Ends.{after-differs}
-use Rattle.vt_lp.proofs.PastLemmas.{before-differs}
+use Rattle.vt_pending.proofs.Holding.{before-differs}
 use Rattle.vt_past.specs.declared.event.PastEvent.{PastEvent}
 use Rattle.vt_lp.specs.Held.{AllAfter, IsRisingPast}
 

@@ -10,7 +10,7 @@ use Rattle.vt_past.specs.Events.{rank_of_last, last_rank}
 use Rattle.vt_lp.specs.Guards.{may_come_after, ready_rank}
 use Rattle.vt_lp.specs.Held.{IsRisingPast}
 use Rattle.vt_lp.specs.Past.{ready_event, is_forced, must_undo_last}
-use Rattle.vt_lp.proofs.PastLemmas.{before-differs}
+use Rattle.vt_pending.proofs.Holding.{before-differs}
 
 -- an event of this rank may follow one of that rank, or none at all
 abbrev pub comes_after : Option Rank → Rank → Bool

@@ -1,10 +1,10 @@
 pub mod Filters
 mod Finding
-mod Holding
+pub mod Holding
 mod Inserting
 mod Kept
 mod Placing
-mod Rising
+pub mod Rising
 mod Rows
 mod Searching
 mod Words
