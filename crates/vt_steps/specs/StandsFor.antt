@@ -1,18 +1,15 @@
 -- What a value in memory stands for. Memory keeps no committed events, and changes the state of a process in place. So a
 -- value stands for every world that has its other fields, and in which committed events lead to where its past begins.
 use Rattle.std.specs.Prelude.{◌≡◌, ℕ, ◌+◌, List, [], ◌∷◌, map, Result}
-use Rattle.vt_key.specs.Times.{Time}
 use Rattle.vt_key.specs.declared.letter.Event.{Event}
 use Rattle.vt_key.specs.declared.letter.Letter.{Letter}
-use Rattle.vt_key.specs.declared.letter.Mail.{Mail}
-use Rattle.vt_key.specs.declared.letter.Colour.{Colour}
 use Rattle.vt_key.specs.declared.fault.Fault.{Fault}
 use Rattle.vt_model.specs.declared.rows.Row.{Row}
 use Rattle.vt_model.specs.Simulation.{Simulation, Triple, Fired}
 use Rattle.vt_steps.specs.declared.step.Step.{Step}
 use Rattle.vt_steps.specs.declared.step.Reply.{Reply}
-use Rattle.vt_steps.specs.Letters.{Counts, unstamped}
-use Rattle.vt_steps.specs.World.{Entry, LogicalProcess, Part, Board, Book, World, triple_after, process_at}
+use Rattle.vt_steps.specs.Letters.{unstamped}
+use Rattle.vt_steps.specs.World.{Entry, LogicalProcess, PartOf, Part, WorldOf, World, triple_after, process_at}
 use Rattle.vt_steps.specs.Next.{next, run, reached}
 
 -- what memory keeps of a past event: the event, what it sent, its rows, and the way back: where the process stands once the
@@ -31,23 +28,12 @@ pub record ProcessMemory (S P : Type 0) : Type 0 where
   pub waiting : List (Letter P)
 
 -- what memory keeps of a part
-pub record PartMemory (S P : Type 0) : Type 0 where
-  pub processes : List (ProcessMemory S P)
-  pub outbox : List (Letter P)
-  pub arrived : List (Mail P)
-  pub colour : Colour
-  pub sent : Counts
-  pub got : Counts
-  pub red_minimum : Time
-  pub floor : Time
-  pub serial : ℕ
+abbrev pub PartMemory : Type 0 → Type 0 → Type 0
+PartMemory S P = PartOf (ProcessMemory S P) P
 
 -- what memory keeps of a world
-pub record WorldMemory (S P : Type 0) : Type 0 where
-  pub parts : List (PartMemory S P)
-  pub inboxes : List (List (Mail P))
-  pub board : Board
-  pub book : Book
+abbrev pub WorldMemory : Type 0 → Type 0 → Type 0
+WorldMemory S P = WorldOf (ProcessMemory S P) P
 
 -- the entry that is remembered
 abbrev pub entry_of : {S P : Type 0} → Remembered S P → Entry P

@@ -30,12 +30,12 @@ pub record LogicalProcess (P : Type 0) : Type 0 where
   pub pending : List (Letter P)
   pub waiting : List (Letter P)
 
--- the part of one worker: its processes; the letters that it made and that have not gone; the mail that it fetched and has
+-- the part of one worker, where X stands for a process: its processes; the letters that it made and that have not gone; the mail that it fetched and has
 -- not accepted; its colour; how much mail of each colour it sent and got; the least time of all that it sent since it took
 -- its colour; the time below which it may commit; and the serial of the next event that it makes.
 -- Process p is at index p / workers of the part of worker p mod workers
-pub record Part (P : Type 0) : Type 0 where
-  pub processes : List (LogicalProcess P)
+pub record PartOf (X P : Type 0) : Type 0 where
+  pub processes : List X
   pub outbox : List (Letter P)
   pub arrived : List (Mail P)
   pub colour : Colour
@@ -44,6 +44,10 @@ pub record Part (P : Type 0) : Type 0 where
   pub red_minimum : Time
   pub floor : Time
   pub serial : ℕ
+
+-- a part of the definitions
+abbrev pub Part : Type 0 → Type 0
+Part P = PartOf (LogicalProcess P) P
 
 -- the board: the announced time; whether a round is open; who has cut in it, and who has reported in its pass, by worker;
 -- the sums of the counts reported in the pass, and the least value reported; and how many rounds were opened
@@ -64,12 +68,16 @@ pub record Book : Type 0 where
   pub floors : List Time
   pub is_closed : Bool
 
--- a world: the parts and the inboxes by worker, the board and the book
-pub record World (P : Type 0) : Type 0 where
-  pub parts : List (Part P)
+-- a world, where X stands for a process: the parts and the inboxes by worker, the board and the book
+pub record WorldOf (X P : Type 0) : Type 0 where
+  pub parts : List (PartOf X P)
   pub inboxes : List (List (Mail P))
   pub board : Board
   pub book : Book
+
+-- a world of the definitions
+abbrev pub World : Type 0 → Type 0
+World P = WorldOf (LogicalProcess P) P
 
 -- ---- histories
 
