@@ -3,9 +3,7 @@
 use Rattle.std.proofs.Common.{◌≡◌, ℕ, zero, suc, ◌+◌, ◌-◌, ◌≤◌, ◌<◌, ◌⊎◌, inl, inr, Bool, true, false, cond, List, [], ◌∷◌, ◌++◌, map, length, take, drop, replicate, refl, sym, ◌∙◌, ap, subst, arith, Some, None, slice_get, slice_set}
 use Rattle.std.specs.List.{filter, find, flat_map, last_or, range_with_len, remove, AllByRecursion}
 use Rattle.std.proofs.lemmas.Bool.{cases_order}
-use Rattle.vt_key.specs.Order.{rank_before}
-use Rattle.vt_key.specs.Queues.{insert_letter, without_first}
-use Rattle.vt_key.specs.declared.letter.Letter.{Letter}
+use Rattle.vt_key.specs.Queues.{insert_ordered, without_first}
 use Rattle.vt_key.specs.Lists.{Among, IsRisingBy}
 
 -- ---- each element
@@ -115,13 +113,13 @@ pub every-both : {X : Type 0} (Q R T : X → Type 0) (xs : List X) → ((x : X) 
 every-both Q R T [] f h k = tt
 every-both Q R T (x ∷ xs) f h k = (f x h.0 k.0, every-both Q R T xs f h.1 k.1)
 
--- after a letter is put in order
-pub every-insert_ordered : {P : Type 0} (Q : Letter P → Type 0) (x : Letter P) (xs : List (Letter P)) → Q x → AllByRecursion Q xs → AllByRecursion Q (insert_letter x xs)
-every-insert_ordered Q x [] q h = (q, tt)
-every-insert_ordered Q x (y ∷ ys) q h =
-    elim (rank_before x.event.rank y.event.rank) as (λ b. AllByRecursion Q (cond b (x ∷ y ∷ ys) (y ∷ insert_letter x ys))) [
+-- after one that has it is put in order
+pub every-insert_ordered : {X : Type 0} (is_before : X → X → Bool) (Q : X → Type 0) (x : X) (xs : List X) → Q x → AllByRecursion Q xs → AllByRecursion Q (insert_ordered is_before x xs)
+every-insert_ordered is_before Q x [] q h = (q, tt)
+every-insert_ordered is_before Q x (y ∷ ys) q h =
+    elim (is_before x y) as (λ b. AllByRecursion Q (cond b (x ∷ y ∷ ys) (y ∷ insert_ordered is_before x ys))) [
       | true ↦ (q, h)
-      | false ↦ (h.0, every-insert_ordered Q x ys q h.1)
+      | false ↦ (h.0, every-insert_ordered is_before Q x ys q h.1)
     ]
 
 -- ---- what stands among the elements
@@ -182,6 +180,24 @@ filter-among test x (y ∷ ys) k =
       | true ↦ λ t m. elim m [ inl e ↦ (inl e, ap test e ∙ t) | inr n ↦ (let ih = filter-among test x ys n in (inr ih.0, ih.1)) ]
       | false ↦ λ t m. (let ih = filter-among test x ys m in (inr ih.0, ih.1))
     ] refl k
+
+-- what is put in order and what was there, of the list with it
+pub among-insert_ordered : {X : Type 0} (is_before : X → X → Bool) (x : X) (xs : List X) (y : X) → (y ≡ x) ⊎ Among y xs → Among y (insert_ordered is_before x xs)
+among-insert_ordered is_before x [] y m = m
+among-insert_ordered is_before x (z ∷ zs) y m =
+    elim (is_before x z) as (λ b. Among y (cond b (x ∷ z ∷ zs) (z ∷ insert_ordered is_before x zs))) [
+      | true ↦ m
+      | false ↦ elim m [ inl e ↦ inr (among-insert_ordered is_before x zs y (inl e)) | inr n ↦ elim n [ inl e ↦ inl e | inr k ↦ inr (among-insert_ordered is_before x zs y (inr k)) ] ]
+    ]
+
+-- of the list with it, what is put in order or was there
+pub insert_ordered-among : {X : Type 0} (is_before : X → X → Bool) (x : X) (xs : List X) (y : X) → Among y (insert_ordered is_before x xs) → (y ≡ x) ⊎ Among y xs
+insert_ordered-among is_before x [] y m = m
+insert_ordered-among is_before x (z ∷ zs) y m =
+    elim (is_before x z) as (λ b. Among y (cond b (x ∷ z ∷ zs) (z ∷ insert_ordered is_before x zs)) → (y ≡ x) ⊎ Among y (z ∷ zs)) [
+      | true ↦ λ k. k
+      | false ↦ λ k. elim k [ inl e ↦ inr (inl e) | inr n ↦ elim (insert_ordered-among is_before x zs y n) [ inl e ↦ inl e | inr o ↦ inr (inr o) ] ]
+    ] m
 
 -- a number is in a range of numbers
 pub among-range : (x a n : ℕ) → a ≤ x → x < a + n → Among x (range_with_len a n)

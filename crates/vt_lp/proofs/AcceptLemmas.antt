@@ -48,7 +48,7 @@ err-is (Err d) e is t = t
 module _ {P : Type 0} where
   -- what each letter has, and the new one, each has with the new one in its place
   pub All-insert : (Q : Letter P → Type 0) (x : Letter P) (ls : List (Letter P)) → Q x → All Q ls → All Q (insert_letter x ls)
-  All-insert Q x ls q all = All-from_recursion Q (insert_letter x ls) (every-insert_ordered Q x ls q (recursion_from_All Q ls all))
+  All-insert Q x ls q all = All-from_recursion Q (insert_letter x ls) (every-insert_ordered (λ a b. rank_before (letter_rank a) (letter_rank b)) Q x ls q (recursion_from_All Q ls all))
 
   -- a rank that is neither among the letters nor the new one's
   pub holds-insert : (r : Rank) (x : Letter P) (ls : List (Letter P)) → rank_same (letter_rank x) r ≡ false → holds_rank r ls ≡ false → holds_rank r (insert_letter x ls) ≡ false

@@ -44,7 +44,7 @@ module _ {P : Type 0} where
         | false ↦ λ e.
             let here : rank_same s r ≡ false = first-false (rank_same s r) (list_any (has_rank r) ls) none in
             let there : list_any (has_rank r) ls ≡ false = second-false (rank_same s r) (list_any (has_rank r) ls) none in
-            (every-insert_ordered _ x ls (after r s e here) rises.0, IsRising-insert x ls there rises.1)
+            (every-insert_ordered (λ a b. rank_before (letter_rank a) (letter_rank b)) _ x ls (after r s e here) rises.0, IsRising-insert x ls there rises.1)
       ] refl
 
   -- one letter is taken out

@@ -7,10 +7,10 @@ use Rattle.std.proofs.lemmas.List.{append_assoc, append-nil, map-append, map-set
 use Rattle.std.proofs.Math.Nat.{div-mul-le_self}
 use Rattle.std.proofs.lemmas.Nat.{le-div, pow_pos}
 use Rattle.std.proofs.lemmas.List.Sorted.{IsPermutation-refl, IsPermutation-sym, IsPermutation-trans, IsPermutation-append_left, IsPermutation-append_right, IsPermutation-append_comm, IsPermutation-middle, IsPermutation-to_front, IsPermutation-map}
-use Rattle.vt_key.proofs.ListLemmas.{among-left, among-right}
 use Rattle.vt_key.specs.Order.{KeyBefore}
 use Rattle.vt_key.specs.Times.{ticks_of}
 use Rattle.vt_key.specs.Lists.{Among}
+use Rattle.vt_key.proofs.ListLemmas.{among-append, among-left, among-right}
 use Rattle.vt_model.specs.declared.sending.Sent.{Sent}
 use Rattle.vt_seq.specs.declared.entry.Entry.{Entry}
 use Rattle.vt_seq.specs.Entries.{entry_cmp, events_in, IsLeast, IsFalling}
@@ -122,15 +122,15 @@ module _ {P : Type 0} where
         | inl u ↦
             let here : i ≡ day = u.0 in
             let both : Among d (events_in (put.list ++ x ∷ [])) = subst (λ (k : List (Entry P)). Among d (events_in k)) u.1 m in
-            elim (last-or put.list x d both) [
+            elim (among-append d (events_in put.list) (x.event ∷ []) (subst (Among d) (map-append (λ (e : Entry P). e.event) put.list (x ∷ [])) both)) [
               | inl n ↦ let it = dated day put.list d put.there n in let t : day_of scale (ticks_of d.key.time) ≡ base + day = it.0 in (omega (arith, t, here), omega (arith, late, here))
-              | inr same ↦ let t : day_of scale (ticks_of d.key.time) ≡ day_of scale (ticks_of x.event.key.time) = ap (λ (e : Sent P). day_of scale (ticks_of e.key.time)) same in (omega (arith, t, tick, here), omega (arith, late, here))
+              | inr own ↦ elim own [
+                | inl same ↦ let t : day_of scale (ticks_of d.key.time) ≡ day_of scale (ticks_of x.event.key.time) = ap (λ (e : Sent P). day_of scale (ticks_of e.key.time)) same in (omega (arith, t, tick, here), omega (arith, late, here))
+                | inr never ↦ absurd never
+              ]
             ]
         | inr u ↦ dated i l d u.1 m
-      ] where
-        last-or : (ys : List (Entry P)) (x : Entry P) (d : Sent P) → Among d (events_in (ys ++ x ∷ [])) → Among d (events_in ys) ⊎ (d ≡ x.event)
-        last-or [] x d m = elim m [ inl at ↦ inr at | inr never ↦ absurd never ]
-        last-or (y ∷ ys) x d m = elim m [ inl at ↦ inl (inl at) | inr n ↦ elim (last-or ys x d n) [ inl o ↦ inl (inr o) | inr at ↦ inr at ] ]
+      ]
 
   pub dated-taken : (scale base next day : ℕ) (list : List (Entry P)) (old new : List (List (Entry P))) → AreDated scale base next old → IsTaken day list old new → AreDated scale base (day + 1) new
   dated-taken scale base next day list old new dated taken i l d at m =
@@ -309,7 +309,3 @@ module _ {P : Type 0} where
 
   pub none-just : (scale day : ℕ) (xs : List (Entry P)) → xs ≡ [] → AreJustBefore scale day xs
   none-just scale day xs none d m = absurd (subst (λ (k : List (Entry P)). Among d (events_in k)) none m)
-
-  pub empty-of : (xs : List (Entry P)) → length xs ≡ 0 → xs ≡ []
-  empty-of [] none = refl
-  empty-of (x ∷ xs) none = absurd (omega (arith, none))

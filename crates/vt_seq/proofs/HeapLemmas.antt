@@ -1,5 +1,5 @@
 -- The events of entries in the order of their keys, when one is put in, and when the first is taken out.
-use Rattle.std.proofs.Common.{◌≡◌, ℕ, zero, suc, ◌+◌, ◌<◌, ◌≤◌, inl, inr, List, [], ◌∷◌, Bool, true, false, ◌++◌, length, slice_index_or, drop, slice_get, Some, Result, Ok, Err, IfOk, IfErr, is_err, if◌then◌else◌, refl, sym, subst, ap, ◌∙◌, arith}
+use Rattle.std.proofs.Common.{◌≡◌, ℕ, suc, ◌+◌, ◌<◌, ◌≤◌, inl, inr, List, [], ◌∷◌, Bool, true, false, ◌++◌, length, slice_index_or, drop, slice_get, Some, Result, Ok, Err, IfOk, IfErr, is_err, if◌then◌else◌, refl, sym, subst, ap, ◌∙◌, arith}
 use Rattle.std.specs.List.{Contains}
 use Rattle.std.specs.List.Sorted.{IsPermutation}
 use Rattle.std.specs.BinaryHeap.{IsHeap, IsUpperBound}
@@ -21,8 +21,8 @@ use Rattle.vt_model.proofs.RunLemmas.{tested}
 use Rattle.vt_seq.specs.declared.entry.Entry.{Entry}
 use Rattle.vt_seq.specs.Queue.{inserted, all_inserted}
 use Rattle.vt_seq.specs.Entries.{entry_cmp, events_in, in_order, held, AreApart, IsLeast, IsQueue}
-use Rattle.vt_seq.proofs.InsertLemmas.{inserted-here, inserted-later}
 use Rattle.vt_seq.proofs.InsertedLemmas.{inserted-rising, inserted-sum, all_inserted-among, among-all_inserted}
+use Rattle.vt_seq.proofs.StepLemmas.{among-at}
 
 -- ---- how keys compare
 
@@ -58,22 +58,22 @@ module _ {P : Type 0} where
   -- ---- the order in which events are inserted
 
   swap : (e d : Sent P) (xs : List (Sent P)) → KeyBefore e.key d.key → inserted e (inserted d xs) ≡ inserted d (inserted e xs)
-  swap e d [] h = inserted-here e d [] (before-key_before e.key d.key h) ∙ sym (inserted-later d e [] (not-before d.key e.key (λ k. key-asymmetric e.key d.key h k)))
-  swap e d (x ∷ xs) h =
-      let y : key_before e.key d.key ≡ true = before-key_before e.key d.key h in
-      let n : key_before d.key e.key ≡ false = not-before d.key e.key (λ k. key-asymmetric e.key d.key h k) in
-      elim (tested (key_before d.key x.key)) [
-        | inl z ↦
-            let w : key_before e.key x.key ≡ true = before-key_before e.key x.key (key-transitive e.key d.key x.key h (key_before-true d.key x.key z)) in
-            ap (inserted e) (inserted-here d x xs z) ∙ inserted-here e d (x ∷ xs) y
-            ∙ sym (ap (inserted d) (inserted-here e x xs w) ∙ inserted-later d e (x ∷ xs) n ∙ ap (λ (ys : List (Sent P)). e ∷ ys) (inserted-here d x xs z))
-        | inr z ↦ elim (tested (key_before e.key x.key)) [
-          | inl w ↦ ap (inserted e) (inserted-later d x xs z) ∙ inserted-here e x (inserted d xs) w
-              ∙ sym (ap (inserted d) (inserted-here e x xs w) ∙ inserted-later d e (x ∷ xs) n ∙ ap (λ (ys : List (Sent P)). e ∷ ys) (inserted-later d x xs z))
-          | inr w ↦ ap (inserted e) (inserted-later d x xs z) ∙ inserted-later e x (inserted d xs) w ∙ ap (λ (ys : List (Sent P)). x ∷ ys) (swap e d xs h)
-              ∙ sym (ap (inserted d) (inserted-later e x xs w) ∙ inserted-later d x (inserted e xs) z)
+  swap e d xs h = go xs where
+    y : key_before e.key d.key ≡ true
+    y = before-key_before e.key d.key h
+
+    n : key_before d.key e.key ≡ false
+    n = not-before d.key e.key (key-asymmetric e.key d.key h)
+
+    go : (xs : List (Sent P)) → inserted e (inserted d xs) ≡ inserted d (inserted e xs)
+    go [] = rw y (rw n refl)
+    go (x ∷ xs) =
+        elim (tested (key_before d.key x.key)) [
+          | inl z ↦
+              let w : key_before e.key x.key ≡ true = before-key_before e.key x.key (key-transitive e.key d.key x.key h (key_before-true d.key x.key z)) in
+              rw z (rw w (rw z (rw y (rw n refl))))
+          | inr z ↦ elim (tested (key_before e.key x.key)) [ inl w ↦ rw z (rw w (rw z (rw n refl))) | inr w ↦ rw z (rw w (rw z (ap (λ ys. x ∷ ys) (go xs)))) ]
         ]
-      ]
 
   -- two events of different keys are inserted in either order
   either_order : (e d : Sent P) (xs : List (Sent P)) → (d.key ≡ e.key → ⊥) → inserted e (inserted d xs) ≡ inserted d (inserted e xs)
@@ -90,7 +90,7 @@ module _ {P : Type 0} where
   -- events of which none is before the first of a list leave it first
   all_later : (e : Sent P) (es ds : List (Sent P)) → ((d : Sent P) → Among d es → KeyBefore d.key e.key → ⊥) → all_inserted es (e ∷ ds) ≡ e ∷ all_inserted es ds
   all_later e [] ds h = refl
-  all_later e (d ∷ es) ds h = ap (all_inserted es) (inserted-later d e ds (not-before d.key e.key (h d (inl refl)))) ∙ all_later e es (inserted d ds) (λ f m. h f (inr m))
+  all_later e (d ∷ es) ds h = rw (not-before d.key e.key (h d (inl refl))) (all_later e es (inserted d ds) (λ f m. h f (inr m)))
 
   -- ---- events of different keys
 
@@ -132,13 +132,8 @@ module _ {P : Type 0} where
   among-contains d (e ∷ es) (inl at) = (0, (let z : 0 < length (e ∷ es) = omega arith in z), sym at)
   among-contains d (e ∷ es) (inr m) = let r = among-contains d es m in let k : ℕ = r.0 in let less : k < length es = r.1 in (suc k, (let z : suc k < length (e ∷ es) = omega (arith, less) in z), r.2)
 
-  contains-among : (d : Sent P) (es : List (Sent P)) (k : ℕ) → k < length es → slice_index_or es k d ≡ d → Among d es
-  contains-among d [] k l at = absurd (omega (arith, l))
-  contains-among d (e ∷ es) zero l at = inl (sym at)
-  contains-among d (e ∷ es) (suc k) l at = inr (contains-among d es k (omega (arith, l)) at)
-
   pub among-permuted : (xs ys : List (Sent P)) → IsPermutation xs ys → (d : Sent P) → Among d xs → Among d ys
-  among-permuted xs ys h d m = let r = Contains-permutation xs ys d h (among-contains d xs m) in contains-among d ys r.0 r.1 r.2
+  among-permuted xs ys h d m = let r = Contains-permutation xs ys d h (among-contains d xs m) in subst (λ x. Among x ys) r.2 (among-at ys r.0 d r.1)
 
   apart-permuted : (xs ys : List (Sent P)) → IsPermutation xs ys → AreApart xs → AreApart ys
   apart-permuted xs ys h apart k = let same : held k ys ≡ held k xs = sum_by-IsPermutation (one_held k) xs ys h in let a : held k xs ≤ 1 = apart k in omega (arith, same, a)

@@ -1,4 +1,3 @@
-pub mod InsertLemmas
 pub mod StartLemmas
 pub mod InsertedLemmas
 pub mod StepLemmas

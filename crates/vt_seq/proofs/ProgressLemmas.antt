@@ -8,6 +8,7 @@ use Rattle.vt_key.specs.Keys.{Key}
 use Rattle.vt_key.specs.Order.{KeyBefore, key_before}
 use Rattle.vt_key.specs.Times.{ticks_of}
 use Rattle.vt_key.specs.Lists.{Among}
+use Rattle.vt_key.proofs.ListLemmas.{every-among}
 use Rattle.vt_key.proofs.OrderLemmas.{key_before-true, before-key_before}
 use Rattle.vt_model.specs.declared.process.Process.{Process}
 use Rattle.vt_model.specs.declared.rows.Record.{Record}
@@ -17,7 +18,6 @@ use Rattle.vt_model.specs.Handler.{Handlers}
 use Rattle.vt_model.specs.Simulation.{Simulation, Triple, simulation_of, after}
 use Rattle.vt_model.specs.Sequential.{after_steps, events_of, seq_records}
 use Rattle.vt_model.specs.Histories.{AllAfter, IsRising}
-use Rattle.vt_model.proofs.HistoryLemmas.{after-among}
 use Rattle.vt_model.specs.Process.{triple_at}
 use Rattle.vt_seq.specs.Limits.{IsCountedWhole}
 use Rattle.vt_seq.specs.Given.{records_to, AddsStep, AddsSteps, AddsRest}
@@ -65,7 +65,7 @@ first_tick [] rises r is e m = absurd m
 first_tick (d ∷ es) rises r is e m =
     subst (λ (x : Option ℕ). IfSome x (λ tick. tick ≤ ticks_of e.key.time)) (sym is) (elim m [
       | inl same ↦ subst (λ (x : Sent _). ticks_of d.key.time ≤ ticks_of x.key.time) (sym same) (omega arith)
-      | inr later ↦ not_before (after-among d.key es e rises.0 later)
+      | inr later ↦ not_before (every-among (λ f. KeyBefore d.key f.key) es e rises.0 later)
     ]) where
       not_before : KeyBefore d.key e.key → ticks_of d.key.time ≤ ticks_of e.key.time
       not_before (inl soon) = omega (arith, soon)

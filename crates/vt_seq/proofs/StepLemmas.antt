@@ -12,14 +12,13 @@ use Rattle.vt_key.specs.Keys.{Key}
 use Rattle.vt_key.specs.Order.{KeyBefore, key_same}
 use Rattle.vt_key.specs.Lists.{Among}
 use Rattle.vt_key.proofs.OrderLemmas.{key-irreflexive, key_same-true, same-key_same}
-use Rattle.vt_key.proofs.ListLemmas.{among-left, among-right, among-append, among-filter, filter-among}
+use Rattle.vt_key.proofs.ListLemmas.{every-among, among-left, among-right, among-append, among-filter, filter-among}
 use Rattle.vt_model.specs.declared.limits.TheConstants.{MAX_SENDS}
 use Rattle.vt_model.specs.declared.rows.Record.{Record}
 use Rattle.vt_model.specs.declared.sending.Sent.{Sent}
 use Rattle.vt_model.specs.Simulation.{Simulation, Fired, Triple, after, simulation_of}
 use Rattle.vt_model.specs.Sequential.{RunState, events_of, least_event, fired_after, with_event, after_steps, weight}
 use Rattle.vt_model.specs.Histories.{IsRising, sends_of, IsLawful}
-use Rattle.vt_model.proofs.HistoryLemmas.{after-among}
 use Rattle.vt_model.proofs.RunLemmas.{tested, least-found, known_sent, lists_of, IsReached, reached, numbered-all, numbered-among, events_of-same, events_of-other, after-snoc}
 use Rattle.vt_model.proofs.EndLemmas.{least-none, sent-lighter, no_step}
 use Rattle.vt_model.proofs.LawLemmas.{after_state}
@@ -127,7 +126,7 @@ module _ {S P : Type 0} (sim : Simulation S P) (lawful : IsLawful sim) where
     go None h = absurd (subst (Among e) (least-none x.pending h) (to e (inl refl)))
     go (Some m) h =
         let l = least-found x.pending m h in
-        elim (from m l.0) [ inl at ↦ h ∙ ap Some at | inr a ↦ absurd (l.1 e (to e (inl refl)) (after-among e.key rest m r.0 a)) ]
+        elim (from m l.0) [ inl at ↦ h ∙ ap Some at | inr a ↦ absurd (l.1 e (to e (inl refl)) (every-among (λ d. KeyBefore e.key d.key) rest m r.0 a)) ]
 
 -- the send number of each of so many processes is within its limit
 abbrev pub AreCounted : {M S P K : Type 0} → ℕ → List (Process M S P K) → Type 0
@@ -155,7 +154,7 @@ module _ {M S P K : Type 0} (sim : Simulation S P) (lawful : IsLawful sim) where
           | inl a ↦ among-right d (filter kept x.pending) fresh a
           | inr a ↦ among-left d (filter kept x.pending) fresh (among-filter kept d x.pending (st.sent d (inr a)) (elim (tested (key_same d.key e.key)) [
             | inr z ↦ ap not z
-            | inl z ↦ absurd (key-irreflexive e.key (subst (λ (k : Key). KeyBefore e.key k) (key_same-true d.key e.key z) (after-among e.key rest d st.rising.0 a)))
+            | inl z ↦ absurd (key-irreflexive e.key (subst (λ (k : Key). KeyBefore e.key k) (key_same-true d.key e.key z) (every-among (λ f. KeyBefore e.key f.key) rest d st.rising.0 a)))
           ]))
         ];
         had = λ d m. elim (among-append d (filter kept x.pending) fresh m) [

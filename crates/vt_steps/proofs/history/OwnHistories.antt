@@ -15,7 +15,8 @@ use Rattle.vt_model.specs.Simulation.{Simulation, Triple, after_from}
 use Rattle.vt_model.specs.declared.sending.Sent.{Sent}
 use Rattle.vt_steps.specs.declared.step.Step.{Step}
 use Rattle.vt_steps.specs.Letters.{signed, stamped, unstamped}
-use Rattle.vt_key.specs.Queues.{has_stamp}
+use Rattle.vt_key.specs.Order.{rank_before}
+use Rattle.vt_key.specs.Queues.{has_stamp, letter_rank}
 use Rattle.vt_steps.specs.Next.{reached}
 use Rattle.vt_steps.specs.PartSteps.{is_below, is_for, mail_of_send, part_after_commit, part_after_cut, part_after_fetch, part_after_send, process_after_commit}
 use Rattle.vt_steps.specs.ProcessSteps.{ProcessEffect, effect_of_execute, effect_of_undo, with_letter}
@@ -94,7 +95,7 @@ module _ {S P : Type 0} (sim : Simulation S P) (p : ℕ) where
       subst (λ a. IsOwnHistory sim p a.process) (sym is) (record {
         fired = fired-left sim p (sim.start p).triple (old.done ++ front) (last ∷ []) (subst (AreFired sim p (sim.start p).triple) shorter h.fired);
         receiver = every-left (λ e. e.event.dest ≡ p) (old.done ++ front) (last ∷ []) receivers;
-        pending = every-insert_ordered (λ letter. letter.event.dest ≡ p) (signed Plus last.event) old.pending (every-right (λ e. e.event.dest ≡ p) (old.done ++ front) (last ∷ []) receivers).0 h.pending;
+        pending = every-insert_ordered (λ a b. rank_before (letter_rank a) (letter_rank b)) (λ letter. letter.event.dest ≡ p) (signed Plus last.event) old.pending (every-right (λ e. e.event.dest ≡ p) (old.done ++ front) (last ∷ []) receivers).0 h.pending;
       })
   act-history w serial old effect (cancels stamp minus plus waits pends keys is) h =
       subst (λ a. IsOwnHistory sim p a.process) (sym is) (record {
@@ -105,7 +106,7 @@ module _ {S P : Type 0} (sim : Simulation S P) (p : ℕ) where
 
   -- where p takes a letter for it
   with_letter-history : (process : LogicalProcess P) (sign : Sign) (letter : Letter P) → letter.event.dest ≡ p → IsOwnHistory sim p process → IsOwnHistory sim p (with_letter process sign letter)
-  with_letter-history process Plus letter to h = record { fired = h.fired; receiver = h.receiver; pending = every-insert_ordered (λ l. l.event.dest ≡ p) letter process.pending to h.pending }
+  with_letter-history process Plus letter to h = record { fired = h.fired; receiver = h.receiver; pending = every-insert_ordered (λ a b. rank_before (letter_rank a) (letter_rank b)) (λ l. l.event.dest ≡ p) letter process.pending to h.pending }
   with_letter-history process Minus letter to h = record { fired = h.fired; receiver = h.receiver; pending = h.pending }
 
   -- where p commits

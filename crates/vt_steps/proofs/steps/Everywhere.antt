@@ -10,7 +10,8 @@ use Rattle.vt_key.specs.declared.letter.Sign.TheVariants.{Minus, Plus}
 use Rattle.vt_model.specs.Simulation.{Simulation, Triple}
 use Rattle.vt_model.specs.declared.sending.Sent.{Sent}
 use Rattle.vt_steps.specs.Letters.{signed, stamped, unstamped}
-use Rattle.vt_key.specs.Queues.{has_stamp}
+use Rattle.vt_key.specs.Order.{rank_before}
+use Rattle.vt_key.specs.Queues.{has_stamp, letter_rank}
 use Rattle.vt_key.specs.Lists.{Among}
 use Rattle.vt_steps.specs.PartSteps.{is_below, is_for, mail_of_send, part_after_commit, part_after_cut, part_after_fetch, part_after_send, process_after_commit, ripe, with_effect}
 use Rattle.vt_steps.specs.ProcessSteps.{ProcessEffect, effect_of_execute, effect_of_undo, with_letter}
@@ -125,9 +126,9 @@ effect-in Q part place effect h p l = record {
 -- a process takes a letter
 with_letter-in : {P : Type 0} (Q : Event P → Type 0) (process : LogicalProcess P) (sign : Sign) (letter : Letter P) → InProcess Q process → Q letter.event → InProcess Q (with_letter process sign letter)
 with_letter-in Q process Plus letter h q =
-    record { done = h.done; past = h.past; pending = every-insert_ordered (λ l. Q l.event) letter process.pending q h.pending; waiting = h.waiting }
+    record { done = h.done; past = h.past; pending = every-insert_ordered (λ a b. rank_before (letter_rank a) (letter_rank b)) (λ l. Q l.event) letter process.pending q h.pending; waiting = h.waiting }
 with_letter-in Q process Minus letter h q =
-    record { done = h.done; past = h.past; pending = h.pending; waiting = every-insert_ordered (λ l. Q l.event) letter process.waiting q h.waiting }
+    record { done = h.done; past = h.past; pending = h.pending; waiting = every-insert_ordered (λ a b. rank_before (letter_rank a) (letter_rank b)) (λ l. Q l.event) letter process.waiting q h.waiting }
 
 -- a process commits
 commit-in : {P : Type 0} (Q : Event P → Type 0) (floor : _) (process : LogicalProcess P) → InProcess Q process → InProcess Q (process_after_commit floor process)
@@ -170,7 +171,7 @@ module _ {S P : Type 0} (sim : Simulation S P) where
       (subst (λ a. InProcess Q a.process) (sym is) (record {
         done = here.done;
         past = every-take (InEntry Q) (length process.past - 1) process.past here.past;
-        pending = every-insert_ordered (λ letter. Q letter.event) (signed Plus last.event) process.pending entry.event here.pending;
+        pending = every-insert_ordered (λ a b. rank_before (letter_rank a) (letter_rank b)) (λ letter. Q letter.event) (signed Plus last.event) process.pending entry.event here.pending;
         waiting = here.waiting;
       }))
       (subst (λ a. AllByRecursion (λ letter. Q letter.event) a.letters) (sym is) (every-map (signed Minus) (λ letter. Q letter.event) last.sent entry.sent))))
