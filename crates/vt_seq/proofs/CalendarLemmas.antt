@@ -3,7 +3,10 @@ use Rattle.std.proofs.Common.{◌≡◌, ℕ, zero, suc, ◌+◌, ◌/◌, ◌^�
 use Rattle.std.specs.List.Sorted.{IsPermutation, IsSorted}
 use Rattle.std.specs.Ordering.{is_lt}
 use Rattle.std.proofs.lemmas.Bool.{cases_order}
-use Rattle.std.proofs.lemmas.List.{append_assoc, append-nil, map-append, map-set}
+use Rattle.std.specs.Option.{option_map}
+use Rattle.std.proofs.lemmas.List.{append_assoc, append-nil, map-append, map-set, set-get_or}
+use Rattle.std.proofs.lemmas.Option.{slice_get-map, slice_get-get_or, get_or_from_slice_get}
+use Rattle.std.proofs.Math.Seq.{map-set_same}
 use Rattle.std.proofs.Math.Nat.{div-mul-le_self}
 use Rattle.std.proofs.lemmas.Nat.{le-div, pow_pos}
 use Rattle.std.proofs.lemmas.List.Sorted.{IsPermutation-refl, IsPermutation-sym, IsPermutation-trans, IsPermutation-append_left, IsPermutation-append_right, IsPermutation-append_comm, IsPermutation-middle, IsPermutation-to_front, IsPermutation-map}
@@ -160,15 +163,10 @@ module _ {P : Type 0} where
   used-put [] x = refl
   used-put (y ∷ l) x = refl
 
-  mark-of : (days : List (List (Entry P))) (i : ℕ) (l : List (Entry P)) → slice_get days i ≡ Some l → slice_get (map is_used days) i ≡ Some (is_used l)
-  mark-of [] i l h = let never : None ≡ Some l = h in absurd (cc)
-  mark-of (k ∷ days) zero l h = ap (λ (m : List (Entry P)). Some (is_used m)) (let z : k ≡ l = (let y : Some k ≡ Some l = h in cc) in z)
-  mark-of (k ∷ days) (suc i) l h = mark-of days i l h
-
   -- a day that has no mark has no entry
   pub unmarked-empty : (days : List (List (Entry P))) (i : ℕ) (l : List (Entry P)) → slice_get days i ≡ Some l → (slice_get (map is_used days) i ≡ Some true → ⊥) → l ≡ []
   unmarked-empty days i [] h none = refl
-  unmarked-empty days i (x ∷ l) h none = absurd (none (mark-of days i (x ∷ l) h))
+  unmarked-empty days i (x ∷ l) h none = absurd (none (slice_get-map is_used days i ∙ ap (option_map is_used) h))
 
   pub unmarked-none : (days : List (List (Entry P))) → ((i : ℕ) → slice_get (map is_used days) i ≡ Some true → ⊥) → joined days ≡ []
   unmarked-none [] none = refl
@@ -199,19 +197,13 @@ module _ {P : Type 0} where
   items_of lists = map (λ (list : Vec (Entry P) Global). list.items) lists
 
   pub day-there : {V : Type 0} (f : V → List (Entry P)) (vs : List V) (i : ℕ) (d : V) → i < length vs → slice_get (map f vs) i ≡ Some (f (get_or vs i d))
-  day-there f [] i d l = absurd (omega (arith, l))
-  day-there f (v ∷ vs) zero d l = refl
-  day-there f (v ∷ vs) (suc i) d l = day-there f vs i d (omega (arith, l))
+  day-there f vs i d l = slice_get-map f vs i ∙ ap (option_map f) (slice_get-get_or vs i d l)
 
-  pub set-there : (days : List (List (Entry P))) (i : ℕ) (l : List (Entry P)) → slice_get days i ≡ Some l → slice_set days i l ≡ days
-  set-there [] i l h = let never : None ≡ Some l = h in absurd (cc)
-  set-there (k ∷ days) zero l h = ap (λ (m : List (Entry P)). m ∷ days) (let z : l ≡ k = (let y : Some k ≡ Some l = h in cc) in z)
-  set-there (k ∷ days) (suc i) l h = ap (λ (m : List (List (Entry P))). k ∷ m) (set-there days i l h)
+  set-there : (days : List (List (Entry P))) (i : ℕ) (l : List (Entry P)) → slice_get days i ≡ Some l → slice_set days i l ≡ days
+  set-there days i l h = ap (slice_set days i) (sym (get_or_from_slice_get days i l l h)) ∙ set-get_or days i l
 
-  pub kept-marks : (days : List (List (Entry P))) (i : ℕ) (l new : List (Entry P)) → slice_get days i ≡ Some l → is_used new ≡ is_used l → map is_used (slice_set days i new) ≡ map is_used days
-  kept-marks [] i l new h same = let never : None ≡ Some l = h in absurd (cc)
-  kept-marks (k ∷ days) zero l new h same = ap (λ (b : Bool). b ∷ map is_used days) (same ∙ ap is_used (let z : l ≡ k = (let y : Some k ≡ Some l = h in cc) in z))
-  kept-marks (k ∷ days) (suc i) l new h same = ap (λ (m : List Bool). is_used k ∷ m) (kept-marks days i l new h same)
+  kept-marks : (days : List (List (Entry P))) (i : ℕ) (l new : List (Entry P)) → slice_get days i ≡ Some l → is_used new ≡ is_used l → map is_used (slice_set days i new) ≡ map is_used days
+  kept-marks days i l new h same = map-set_same is_used days i new l (same ∙ ap is_used (sym (get_or_from_slice_get days i l l h)))
 
   pub filled-used : (l : List (Entry P)) → (length l ≡ 0 → ⊥) → is_used l ≡ true
   filled-used [] some = absurd (some refl)

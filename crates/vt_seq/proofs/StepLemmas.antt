@@ -1,9 +1,10 @@
 -- One step of the code is one step of the definition.
-use Rattle.std.proofs.Common.{◌≡◌, ℕ, zero, suc, ◌+◌, ◌^◌, ◌<◌, ◌≤◌, inl, inr, List, [], ◌∷◌, ◌++◌, Bool, true, false, not, filter, drop, Option, Some, None, nat_eq, nat_lt, length, slice_get, slice_index_or, slice_set, Result, Ok, Err, IfOk, IfErr, refl, sym, subst, ap, ◌∙◌, arith}
+use Rattle.std.proofs.Common.{◌≡◌, ℕ, suc, ◌+◌, ◌^◌, ◌<◌, ◌≤◌, inl, inr, List, [], ◌∷◌, ◌++◌, Bool, true, false, not, filter, drop, Option, Some, None, nat_eq, nat_lt, length, slice_get, slice_index_or, slice_set, Result, Ok, Err, IfOk, IfErr, refl, sym, subst, ap, ◌∙◌, arith}
 use Rattle.std.specs.List.{sum_by}
 use Rattle.std.specs.Option.{option_map_or}
 use Rattle.std.proofs.lemmas.List.{set-get_or, get_or-set_same, get_or-set_other}
 use Rattle.std.proofs.lemmas.List.Sums.{sum_by-cons}
+use Rattle.std.proofs.lemmas.Option.{slice_get-get_or}
 use Rattle.std.proofs.lemmas.Bool.{eqb-true, eq-eqb, ltb-true}
 use Rattle.vt_key.specs.declared.fault.Fault.{Fault}
 use Rattle.vt_key.specs.Times.{time_left}
@@ -12,7 +13,7 @@ use Rattle.vt_key.specs.Keys.{Key}
 use Rattle.vt_key.specs.Order.{KeyBefore, key_same}
 use Rattle.vt_key.specs.Lists.{Among}
 use Rattle.vt_key.proofs.OrderLemmas.{key-irreflexive, key_same-true, same-key_same}
-use Rattle.vt_key.proofs.ListLemmas.{every-among, among-left, among-right, among-append, among-filter, filter-among}
+use Rattle.vt_key.proofs.ListLemmas.{every-among, among-left, among-right, among-append, among-filter, filter-among, get-among}
 use Rattle.vt_model.specs.declared.limits.TheConstants.{MAX_SENDS}
 use Rattle.vt_model.specs.declared.rows.Record.{Record}
 use Rattle.vt_model.specs.declared.sending.Sent.{Sent}
@@ -54,9 +55,7 @@ not_both xs h some = omega (arith, some, ap length h)
 
 module _ {P : Type 0} where
   pub among-at : (xs : List (Sent P)) (k : ℕ) (d : Sent P) → k < length xs → Among (slice_index_or xs k d) xs
-  among-at [] k d l = absurd (omega (arith, l))
-  among-at (x ∷ xs) zero d l = inl refl
-  among-at (x ∷ xs) (suc k) d l = inr (among-at xs k d (omega arith))
+  among-at xs k d l = get-among xs k (slice_index_or xs k d) (slice_get-get_or xs k d l)
 
   at-among : (Q : Sent P → Type 0) (xs : List (Sent P)) → ((k : ℕ) (d : Sent P) → k < length xs → Q (slice_index_or xs k d)) → (e : Sent P) → Among e xs → Q e
   at-among Q [] h e m = absurd m

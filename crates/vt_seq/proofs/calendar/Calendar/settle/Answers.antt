@@ -1,9 +1,9 @@
 use Rattle.std.proofs.Common.{◌≡◌, ◌+◌, ◌++◌, ◌∙◌, [], List, length, sym, subst, arith, rules}
 use Rattle.std.specs.List.Sorted.{IsPermutation}
+use Rattle.std.proofs.lemmas.List.{nil_from_length}
 use Rattle.vt_seq.specs.declared.entry.Entry.{Entry}
 use Rattle.vt_seq.specs.Days.{joined, AreDated}
 use Rattle.vt_seq.proofs.CalendarLemmas.{sorted-falling, just-permuted, taken-just, dated-taken, entries-taken, none-falling, none-just}
-use Rattle.vt_seq.proofs.StepLemmas.{nil_of}
 use Rattle.vt_seq.proofs.calendar.Calendar.settle.Goals as goal
 
 pub overflow_add-self : goal.overflow_add-self
@@ -25,7 +25,7 @@ pub invariant_of-self-in_default : goal.invariant_of-self-in_default
 invariant_of-self-in_default g c =
     let it = c.args.self.now in
     let zero : length it.present.items ≡ 0 = search rules in
-    let none : c.take_first.new.present.items ≡ [] = c.in_default.ensures.present_kept ∙ nil_of it.present.items zero in
+    let none : c.take_first.new.present.items ≡ [] = c.in_default.ensures.present_kept ∙ nil_from_length it.present.items zero in
     record {
       scaled = it.scaled;
       falling = none-falling c.take_first.new.present.items none;
@@ -38,6 +38,6 @@ returns-in-Some-clause-same g c =
     let it = c.args.self.now in
     let sorted = c.sort_unstable.new.self.items in
     let zero : length it.present.items ≡ 0 = search rules in
-    let none : it.present.items ≡ [] = nil_of it.present.items zero in
+    let none : it.present.items ≡ [] = nil_from_length it.present.items zero in
     subst (λ (l : List (Entry _)). IsPermutation (l ++ joined it.days) (sorted ++ joined c.take_first.new.self)) (sym none)
     (entries-taken c.in-Some.day c.take_first.new.present.items sorted it.days c.take_first.new.self c.in-Some.ensures.taken c.sort_unstable.ensures.permutation)
