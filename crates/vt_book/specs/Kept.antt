@@ -1,5 +1,5 @@
 -- How a book keeps its rows: the records of those that it shows, in the order of the rows, and the other rows.
-use Rattle.std.specs.Prelude.{◌≡◌, ℕ, false, List, [], ◌∷◌, ◌++◌}
+use Rattle.std.specs.Prelude.{◌≡◌, ℕ, false, List, ◌++◌}
 use Rattle.std.specs.List.{sum_by, AllByRecursion}
 use Rattle.std.specs.List.Sorted.{IsSorted}
 use Rattle.vt_key.specs.Times.{Time}
