@@ -16,13 +16,13 @@ use Rattle.vt_steps.specs.Cells.{in_inbox, on_board, in_book, Acted, left_alone,
 use Rattle.vt_steps.proofs.steps.Outcomes.{unless_closed-open, unless_closed-shut}
 
 module _ {S P : Type 0} (sim : Simulation S P) where
-  pub act-send : (w v : ℕ) (part : Part P) (mails : List (Mail P)) → may_send sim w v part ≡ true →
+  pub act-send : (w v : ℕ) (part : Part P) (mails : List (Mail P)) → may_send sim.workers w v part.outbox ≡ true →
       act sim (Send w v) part (in_inbox mails) ≡ record { part = part_after_send sim v part; cell = in_inbox (mails ++ mail_of_send sim v part); answer = Ok Done }
   unfolding act send
   act-send w v part mails may =
       ap (λ b. acted_at part in_inbox mails (cond b (Some (record { part = part_after_send sim v part; cell = mails ++ mail_of_send sim v part; reply = Done })) None)) may
 
-  pub act-not_send : (w v : ℕ) (part : Part P) (mails : List (Mail P)) → may_send sim w v part ≡ false → act sim (Send w v) part (in_inbox mails) ≡ left_alone part (in_inbox mails) NotLawful
+  pub act-not_send : (w v : ℕ) (part : Part P) (mails : List (Mail P)) → may_send sim.workers w v part.outbox ≡ false → act sim (Send w v) part (in_inbox mails) ≡ left_alone part (in_inbox mails) NotLawful
   unfolding act send
   act-not_send w v part mails may =
       ap (λ b. acted_at part in_inbox mails (cond b (Some (record { part = part_after_send sim v part; cell = mails ++ mail_of_send sim v part; reply = Done })) None)) may

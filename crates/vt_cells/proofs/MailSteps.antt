@@ -81,7 +81,7 @@ module _ {S P : Type 0} (sim : Simulation S P) where
 module _ {S P K : Type 0} (handlers : Handlers S P K) (old new : HeldWorker S P K) where
   -- a send that the kernel did
   pub send-done : (v : ℕ) (mails left : List (Mail P)) → new.worker ≡ old.worker → new.config ≡ old.config
-      → ((part : Part P) → StandsFor handlers old part → (may_send (simulation_of handlers old.config) old.worker v part ≡ true)
+      → ((part : Part P) → StandsFor handlers old part → (may_send (simulation_of handlers old.config).workers old.worker v part.outbox ≡ true)
       × StandsFor handlers new (part_after_send (simulation_of handlers old.config) v part) × (left ≡ mails ++ mail_of_send (simulation_of handlers old.config) v part))
       → ((part : Part P) → StandsFor handlers new part → count_of part.sent part.colour ≤ MAX_COUNT)
       → IsCellStepOf handlers old.config (Send old.worker v) old new (in_inbox mails) (in_inbox left) (Ok Done)

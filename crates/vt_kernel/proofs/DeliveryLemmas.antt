@@ -72,24 +72,24 @@ module _ {S P K : Type 0} (handlers : Handlers S P K) (held : HeldWorker S P K) 
 
   -- the worker and its part without the first letter for one of its processes
   abbrev letter-left : HeldWorker S P K
-  letter-left = record held { outbox = without_first (is_for (simulation_of handlers held.config) held.worker) held.outbox }
+  letter-left = record held { outbox = without_first (is_for (simulation_of handlers held.config).workers held.worker) held.outbox }
 
   abbrev part-letter-left : Part P
-  part-letter-left = record part { outbox = without_first (is_for (simulation_of handlers held.config) held.worker) part.outbox }
+  part-letter-left = record part { outbox = without_first (is_for (simulation_of handlers held.config).workers held.worker) part.outbox }
 
   letter-left-stands : StandsFor handlers letter-left part-letter-left
-  letter-left-stands = left-stands (without_first (is_for (simulation_of handlers held.config) held.worker)) (λ ms. ms)
+  letter-left-stands = left-stands (without_first (is_for (simulation_of handlers held.config).workers held.worker)) (λ ms. ms)
 
   -- Home, where its letter was found
-  home-is : {letter : Letter P} → find (is_for (simulation_of handlers held.config) held.worker) held.outbox ≡ Some letter → letter.event.dest % held.config.workers ≡ held.worker
+  home-is : {letter : Letter P} → find (is_for (simulation_of handlers held.config).workers held.worker) held.outbox ≡ Some letter → letter.event.dest % held.config.workers ≡ held.worker
       → local_step (simulation_of handlers held.config) held.worker (step.Home held.worker) part
       ≡ at_own (simulation_of handlers held.config) held.worker letter.event.dest (at_process (accept_process letter) (letter.event.dest / held.config.workers) part-letter-left)
   home-is {letter} there own_letter =
       ap (λ (b : Bool). if b then home (simulation_of handlers held.config) held.worker part else None) (same-worker held.worker)
-      ∙ ap (option_and_then (deliver (simulation_of handlers held.config) part-letter-left)) (ap (find (is_for (simulation_of handlers held.config) held.worker)) h.outbox ∙ there)
+      ∙ ap (option_and_then (deliver (simulation_of handlers held.config) part-letter-left)) (ap (find (is_for (simulation_of handlers held.config).workers held.worker)) h.outbox ∙ there)
       ∙ sym (own (simulation_of handlers held.config) held.worker letter.event.dest (at_process (accept_process letter) (letter.event.dest / held.config.workers) part-letter-left) own_letter)
 
-  pub home-done : {letter : Letter P} {place : ℕ} {q : HeldProcess S P K} (new : HeldProcess S P K) → find (is_for (simulation_of handlers held.config) held.worker) held.outbox ≡ Some letter
+  pub home-done : {letter : Letter P} {place : ℕ} {q : HeldProcess S P K} (new : HeldProcess S P K) → find (is_for (simulation_of handlers held.config).workers held.worker) held.outbox ≡ Some letter
       → IsOwnPlace held.config held.worker letter.event.dest place → slice_get held.processes place ≡ Some q → (new.lp ≡ q.lp) × (new.config ≡ q.config)
       → ((process : LogicalProcess P) → ProcessStandsFor handlers q process → ProcessIsDone handlers new (accept_process letter process) [] [] 0 0)
       → IsDone handlers (record letter-left { processes = slice_set held.processes place new }) (local_step (simulation_of handlers held.config) held.worker (step.Home held.worker) part)
@@ -97,18 +97,18 @@ module _ {S P K : Type 0} (handlers : Handlers S P K) (held : HeldWorker S P K) 
       subst (IsDone handlers (record letter-left { processes = slice_set held.processes place new })) (sym (home-is there own_place.1))
       (changed-done handlers letter-left are part-letter-left letter-left-stands new (accept_process letter) own_place at same done)
 
-  pub home-refused : {letter : Letter P} {place : ℕ} {q : HeldProcess S P K} → find (is_for (simulation_of handlers held.config) held.worker) held.outbox ≡ Some letter
+  pub home-refused : {letter : Letter P} {place : ℕ} {q : HeldProcess S P K} → find (is_for (simulation_of handlers held.config).workers held.worker) held.outbox ≡ Some letter
       → IsOwnPlace held.config held.worker letter.event.dest place → slice_get held.processes place ≡ Some q
       → ((process : LogicalProcess P) → ProcessStandsFor handlers q process → accept_process letter process ≡ None)
       → local_step (simulation_of handlers held.config) held.worker (step.Home held.worker) part ≡ None
   home-refused {letter} there own_place at none =
       home-is there own_place.1 ∙ changed-refused handlers letter-left are part-letter-left letter-left-stands (accept_process letter) own_place at none
 
-  pub home-nothing : find (is_for (simulation_of handlers held.config) held.worker) held.outbox ≡ None
+  pub home-nothing : find (is_for (simulation_of handlers held.config).workers held.worker) held.outbox ≡ None
       → local_step (simulation_of handlers held.config) held.worker (step.Home held.worker) part ≡ None
   home-nothing none =
       ap (λ (b : Bool). if b then home (simulation_of handlers held.config) held.worker part else None) (same-worker held.worker)
-      ∙ ap (option_and_then (deliver (simulation_of handlers held.config) part-letter-left)) (ap (find (is_for (simulation_of handlers held.config) held.worker)) h.outbox ∙ none)
+      ∙ ap (option_and_then (deliver (simulation_of handlers held.config) part-letter-left)) (ap (find (is_for (simulation_of handlers held.config).workers held.worker)) h.outbox ∙ none)
 
   -- ---- Accept at place i
 

@@ -12,9 +12,8 @@ use Rattle.vt_model.specs.Simulation.{simulation_of}
 use Rattle.vt_model.specs.Settings.{end_of}
 use Rattle.vt_steps.specs.Letters.{Counts, raised, count_colour, least_time}
 use Rattle.vt_steps.specs.World.{Part}
-use Rattle.vt_steps.specs.PartSteps.{part_after_cut, part_after_fetch, part_after_send, mail_of_send}
+use Rattle.vt_steps.specs.PartSteps.{part_after_cut, part_after_fetch, part_after_send, mail_of_send, is_for}
 use Rattle.vt_kernel.specs.Held.{HeldWorker, StandsFor}
-use Rattle.vt_outbox.specs.Outbox.{is_for_worker}
 use Rattle.vt_kernel.specs.Guards.{mailed}
 
 module _ {S P K : Type 0} where
@@ -59,15 +58,15 @@ module _ {S P K : Type 0} where
       }
 
   pub stands-send : {held now : HeldWorker S P K} → held ≡ now → (handlers : Handlers S P K) (v : ℕ) (part : Part P) → StandsFor handlers now part →
-      (outbox : List (Letter P)) → outbox ≡ filter (λ (l : Letter P). not (is_for_worker held.config v l)) held.outbox →
-      (sent : Counts) → sent ≡ raised held.sent held.colour (length (filter (is_for_worker held.config v) held.outbox)) →
-      (red : Time) → red ≡ earlier held.red_minimum (least_time (end_of held.config) (filter (is_for_worker held.config v) held.outbox)) →
+      (outbox : List (Letter P)) → outbox ≡ filter (λ (l : Letter P). not (is_for held.config.workers v l)) held.outbox →
+      (sent : Counts) → sent ≡ raised held.sent held.colour (length (filter (is_for held.config.workers v) held.outbox)) →
+      (red : Time) → red ≡ earlier held.red_minimum (least_time (end_of held.config) (filter (is_for held.config.workers v) held.outbox)) →
       StandsFor handlers (record held { outbox = outbox; sent = sent; red_minimum = red }) (part_after_send (simulation_of handlers now.config) v part)
   unfolding part_after_send
   stands-send {held} e handlers v part s outbox left sent counted red least =
       let h : StandsFor handlers held part = stands_along e handlers part s in
-      let others : List (Letter P) → List (Letter P) = filter (λ (l : Letter P). not (is_for_worker held.config v l)) in
-      let theirs : List (Letter P) → List (Letter P) = filter (is_for_worker held.config v) in
+      let others : List (Letter P) → List (Letter P) = filter (λ (l : Letter P). not (is_for held.config.workers v l)) in
+      let theirs : List (Letter P) → List (Letter P) = filter (is_for held.config.workers v) in
       subst (λ (u : HeldWorker S P K). StandsFor handlers (record held { outbox = outbox; sent = sent; red_minimum = red }) (part_after_send (simulation_of handlers u.config) v part)) e
       (record {
         processes = h.processes;
@@ -83,9 +82,9 @@ module _ {S P K : Type 0} where
 
   -- the mail that a worker sends, by its part
   pub mail-sent : {held now : HeldWorker S P K} → held ≡ now → (handlers : Handlers S P K) (v : ℕ) (part : Part P) → StandsFor handlers now part →
-      map (mailed held.colour) (filter (is_for_worker held.config v) held.outbox) ≡ mail_of_send (simulation_of handlers now.config) v part
+      map (mailed held.colour) (filter (is_for held.config.workers v) held.outbox) ≡ mail_of_send (simulation_of handlers now.config) v part
   unfolding mail_of_send
   mail-sent {held} e handlers v part s =
       let h : StandsFor handlers held part = stands_along e handlers part s in
-      subst (λ (u : HeldWorker S P K). map (mailed held.colour) (filter (is_for_worker held.config v) held.outbox) ≡ mail_of_send (simulation_of handlers u.config) v part) e
-      (λ j. map (mailed (sym h.colour j)) (filter (is_for_worker held.config v) (sym h.outbox j)))
+      subst (λ (u : HeldWorker S P K). map (mailed held.colour) (filter (is_for held.config.workers v) held.outbox) ≡ mail_of_send (simulation_of handlers u.config) v part) e
+      (λ j. map (mailed (sym h.colour j)) (filter (is_for held.config.workers v) (sym h.outbox j)))

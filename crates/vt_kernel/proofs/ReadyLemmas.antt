@@ -9,7 +9,7 @@ use Rattle.vt_key.specs.declared.letter.Letter.{Letter}
 use Rattle.vt_model.specs.Handler.{Handlers}
 use Rattle.vt_model.specs.Simulation.{Simulation, simulation_of}
 use Rattle.vt_steps.specs.declared.step.Step.TheVariants.{Execute}
-use Rattle.vt_steps.specs.World.{Entry, LogicalProcess, Part}
+use Rattle.vt_steps.specs.World.{Entry, LogicalProcess, Part, entry_rank}
 use Rattle.vt_steps.specs.ProcessSteps.{ProcessEffect, may_follow, effect_of_execute, execute_least, execute_process}
 use Rattle.vt_steps.specs.PartSteps.{with_effect}
 use Rattle.vt_steps.specs.StandsFor.{entry_of}
@@ -61,13 +61,13 @@ module _ {S P K : Type 0} (handlers : Handlers S P K) where
   -- ---- at a process
 
   last-may : (p : ℕ) (o : Option (PastEvent P K)) (r : Option (Entry P)) (es : List (PastEvent P K)) (event : Event P) →
-      may_follow r event ≡ may_come_after o event.rank → may_follow (last_or r (map entry_of (map (remembered handlers p) es))) event ≡ may_come_after (last_or o es) event.rank
+      may_follow entry_rank r event.rank ≡ may_come_after o event.rank → may_follow entry_rank (last_or r (map entry_of (map (remembered handlers p) es))) event.rank ≡ may_come_after (last_or o es) event.rank
   last-may p o r [] event h = h
   last-may p o r (e ∷ es) event h = last-may p (Some e) (Some (entry_of (remembered handlers p e))) es event refl
 
   may-is : (held : HeldProcess S P K) (process : LogicalProcess P) (event : Event P) → ProcessStandsFor handlers held process
-      → may_follow (last_or None process.past) event ≡ may_come_after (last_or None held.past) event.rank
-  may-is held process event s = ap (λ (es : List (Entry P)). may_follow (last_or None es) event) s.past ∙ last-may held.lp None None held.past event refl
+      → may_follow entry_rank (last_or None process.past) event.rank ≡ may_come_after (last_or None held.past) event.rank
+  may-is held process event s = ap (λ (es : List (Entry P)). may_follow entry_rank (last_or None es) event.rank) s.past ∙ last-may held.lp None None held.past event refl
 
   -- Execute is lawful where a rank is ready
   pub ready-lawful : (sim : Simulation S P) (p w serial : ℕ) (held : HeldProcess S P K) (process : LogicalProcess P) (rank : Rank) → ProcessStandsFor handlers held process

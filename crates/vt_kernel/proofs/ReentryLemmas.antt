@@ -11,12 +11,13 @@ use Rattle.vt_key.specs.declared.letter.Mail.{Mail}
 use Rattle.vt_model.specs.declared.settings.Config.{Config}
 use Rattle.vt_model.specs.Settings.{end_of}
 use Rattle.vt_steps.specs.Letters.{Counts}
+use Rattle.vt_steps.specs.PartSteps.{is_for}
 use Rattle.vt_lp.specs.Held.{HeldProcess}
 use Rattle.vt_contest.specs.declared.contest.Contest.{Contest}
 use Rattle.vt_contest.specs.Contest.{WasContestOf}
 use Rattle.vt_contest.proofs.Written.{get-all}
 use Rattle.vt_contest.proofs.ContestLemmas.{contest-before}
-use Rattle.vt_outbox.specs.Outbox.{is_for_worker, HeldOutbox}
+use Rattle.vt_outbox.specs.Outbox.{HeldOutbox}
 use Rattle.vt_kernel.specs.Held.{IsWorkerInside, IsOwnMail}
 use Rattle.vt_kernel.proofs.ProcessLemmas.{process-at}
 use Rattle.vt_kernel.proofs.LocalLemmas.{IsOwnPlace, index-get, place-within}
@@ -60,11 +61,11 @@ module _ {S P K : Type 0} {config : Config} {w : ℕ} {processes : List (HeldPro
       (there, record { own = (place_is, own.own, own.within.known); soon = own.within.soon })
 
   -- and so is the first of the outbox for one of the worker's processes
-  pub first-own : {letter taken : Letter P} {place : ℕ} → Some taken ≡ find (is_for_worker outbox.config w) outbox.letters → letter ≡ taken
-      → place ≡ letter.event.dest / config.workers → (find (is_for_worker config w) outbox.letters ≡ Some letter) × IsOwnLetter letter place
+  pub first-own : {letter taken : Letter P} {place : ℕ} → Some taken ≡ find (is_for outbox.config.workers w) outbox.letters → letter ≡ taken
+      → place ≡ letter.event.dest / config.workers → (find (is_for config.workers w) outbox.letters ≡ Some letter) × IsOwnLetter letter place
   first-own {letter} found got place_is =
-      let there : find (is_for_worker config w) outbox.letters ≡ Some letter =
-      ap (λ (k : Config). find (is_for_worker k w) outbox.letters) (sym h.by_worker) ∙ sym found ∙ ap Some (sym got) in
+      let there : find (is_for config.workers w) outbox.letters ≡ Some letter =
+      ap (λ (k : Config). find (is_for k.workers w) outbox.letters) (sym h.by_worker) ∙ sym found ∙ ap Some (sym got) in
       let own = found-in h letter there in
       (there, record { own = (place_is, own.0, own.1.known); soon = own.1.soon })
 

@@ -19,7 +19,6 @@ use Rattle.vt_steps.specs.PartSteps.{is_for, letters_for}
 use Rattle.vt_steps.specs.CellSteps.{may_send}
 use Rattle.vt_lp.specs.Held.{AllWithinRun, IsWithinRun}
 use Rattle.vt_kernel.specs.Held.{HeldWorker, StandsFor, AreCounted, AllOwnMail, IsOwnMail}
-use Rattle.vt_outbox.specs.Outbox.{is_for_worker}
 use Rattle.vt_kernel.specs.Guards.{mailed, IsSendRefusal}
 
 -- ---- counts
@@ -54,14 +53,14 @@ module _ {X : Type 0} (test : X → Bool) where
 -- ---- the guard
 
 module _ {S P : Type 0} (sim : Simulation S P) (w v : ℕ) (part : Part P) where
-  pub may_send-yes : nat_eq w v ≡ false → 0 < length (letters_for sim v part) → may_send sim w v part ≡ true
-  may_send-yes other some = (λ j. not (other j) && any_some (is_for sim v) part.outbox some j)
+  pub may_send-yes : nat_eq w v ≡ false → 0 < length (letters_for sim v part) → may_send sim.workers w v part.outbox ≡ true
+  may_send-yes other some = (λ j. not (other j) && any_some (is_for sim.workers v) part.outbox some j)
 
-  pub may_send-own : nat_eq w v ≡ true → may_send sim w v part ≡ false
-  may_send-own own = ap (λ (b : Bool). not b && list_any (is_for sim v) part.outbox) own
+  pub may_send-own : nat_eq w v ≡ true → may_send sim.workers w v part.outbox ≡ false
+  may_send-own own = ap (λ (b : Bool). not b && list_any (is_for sim.workers v) part.outbox) own
 
-  pub may_send-none : nat_eq w v ≡ false → length (letters_for sim v part) ≡ 0 → may_send sim w v part ≡ false
-  may_send-none other none = (λ j. not (other j) && any_none (is_for sim v) part.outbox none j)
+  pub may_send-none : nat_eq w v ≡ false → length (letters_for sim v part) ≡ 0 → may_send sim.workers w v part.outbox ≡ false
+  may_send-none other none = (λ j. not (other j) && any_none (is_for sim.workers v) part.outbox none j)
 
 -- ---- the refusals
 
@@ -72,13 +71,13 @@ IsRoomRefusal most count fault = ((fault ≡ NotLawful) × (count ≡ 0)) ⊎ ((
 module _ {S P K : Type 0} where
   -- how many letters are to be sent, by a part that the worker stands for
   pub count_sent : {held now : HeldWorker S P K} → held ≡ now → (handlers : Handlers S P K) (v : ℕ) (part : Part P) → StandsFor handlers now part →
-      length (filter (is_for_worker held.config v) held.outbox) ≡ length (letters_for (simulation_of handlers now.config) v part)
+      length (filter (is_for held.config.workers v) held.outbox) ≡ length (letters_for (simulation_of handlers now.config) v part)
   count_sent {held} {now} e handlers v part s =
-      ap (λ (u : HeldWorker S P K). length (filter (is_for_worker u.config v) u.outbox)) e ∙ ap (λ (ls : List (Letter P)). length (filter (is_for_worker now.config v) ls)) (sym s.outbox)
+      ap (λ (u : HeldWorker S P K). length (filter (is_for u.config.workers v) u.outbox)) e ∙ ap (λ (ls : List (Letter P)). length (filter (is_for now.config.workers v) ls)) (sym s.outbox)
 
   pub refused-send : {held now : HeldWorker S P K} → held ≡ now → (handlers : Handlers S P K) (v : ℕ) (part : Part P) → StandsFor handlers now part →
       (fault : Fault) (most : ℕ) → most + count_of held.sent held.colour ≡ MAX_COUNT → nat_eq held.worker v ≡ false →
-      IsRoomRefusal most (length (filter (is_for_worker held.config v) held.outbox)) fault →
+      IsRoomRefusal most (length (filter (is_for held.config.workers v) held.outbox)) fault →
       IsSendRefusal (simulation_of handlers now.config) now.worker v part fault
   refused-send {held} {now} e handlers v part s fault most room other why =
       let sim = simulation_of handlers now.config in
@@ -102,11 +101,11 @@ module _ {S P K : Type 0} where
 -- ---- the mail is for its worker
 
 module _ {P : Type 0} (config : Config) (v : ℕ) (colour : Colour) where
-  own_mail-one : (letter : Letter P) → IsWithinRun config.lps (end_of config) letter → is_for_worker config v letter ≡ true → IsOwnMail config v (mailed colour letter)
+  own_mail-one : (letter : Letter P) → IsWithinRun config.lps (end_of config) letter → is_for config.workers v letter ≡ true → IsOwnMail config v (mailed colour letter)
   own_mail-one letter within own = record { within = within; own = grind (arith, nat_tests) }
 
-  pub own_mail-sent : (letters : List (Letter P)) → AllWithinRun config letters → AllOwnMail config v (map (mailed colour) (filter (is_for_worker config v) letters))
+  pub own_mail-sent : (letters : List (Letter P)) → AllWithinRun config letters → AllOwnMail config v (map (mailed colour) (filter (is_for config.workers v) letters))
   own_mail-sent letters within =
-      let chosen = filter (is_for_worker config v) letters in
+      let chosen = filter (is_for config.workers v) letters in
       All-map (IsOwnMail config v) (mailed colour) chosen
-      (λ k d inside. own_mail-one _ (All-filter (is_for_worker config v) (IsWithinRun config.lps (end_of config)) letters within k d inside) (filter_passes (is_for_worker config v) letters k d inside))
+      (λ k d inside. own_mail-one _ (All-filter (is_for config.workers v) (IsWithinRun config.lps (end_of config)) letters within k d inside) (filter_passes (is_for config.workers v) letters k d inside))

@@ -12,12 +12,11 @@ use Rattle.vt_model.specs.Handler.{Handlers}
 use Rattle.vt_model.specs.Simulation.{Simulation}
 use Rattle.vt_steps.specs.declared.step.Step.{Step}
 use Rattle.vt_steps.specs.Letters.{count_of}
-use Rattle.vt_steps.specs.World.{LogicalProcess, Part}
+use Rattle.vt_steps.specs.World.{LogicalProcess, Part, letters_of_worker}
 use Rattle.vt_steps.specs.PartSteps.{letters_for, process_after_commit}
 use Rattle.vt_steps.specs.CellSteps.{may_send}
 use Rattle.vt_lp.specs.Held.{HeldProcess, StandsFor as ProcessStandsFor}
 use Rattle.vt_lp.specs.Guards.{number_of}
-use Rattle.vt_outbox.specs.Outbox.{is_for_worker}
 use Rattle.vt_kernel.specs.Held.{HeldWorker, StandsFor}
 use Rattle.vt_kernel.specs.Local.{local_steps, IsSettled, AreSettling, count_undos}
 
@@ -55,8 +54,8 @@ module _ {S P : Type 0} (sim : Simulation S P) where
   -- would not, and memory was refused
   abbrev pub IsSendRefusal : ℕ → ℕ → Part P → Fault → Type 0
   IsSendRefusal w v part fault =
-      ((fault ≡ NotLawful) × (may_send sim w v part ≡ false))
-      ⊎ ((may_send sim w v part ≡ true)
+      ((fault ≡ NotLawful) × (may_send sim.workers w v part.outbox ≡ false))
+      ⊎ ((may_send sim.workers w v part.outbox ≡ true)
       × (((fault ≡ Exhausted) × (MAX_COUNT < count_of part.sent part.colour + length (letters_for sim v part)))
       ⊎ ((fault ≡ Memory) × (count_of part.sent part.colour + length (letters_for sim v part) ≤ MAX_COUNT))))
 
@@ -69,19 +68,13 @@ module _ {S P : Type 0} (sim : Simulation S P) where
     pub settled : IsSettled sim w p new
     pub counted : undone ≡ count_undos steps % 2 ^ 64
 
--- the worker's outbox holds letters for processes of worker v, which is another one
-abbrev pub holds_letters_for : {S P K : Type 0} → HeldWorker S P K → ℕ → Bool
-holds_letters_for held v = not (nat_eq held.worker v) && list_any (is_for_worker held.config v) held.outbox
-
 -- the letter as mail of this colour
 abbrev pub mailed : {P : Type 0} → Colour → Letter P → Mail P
 mailed colour letter = record { letter = letter; colour = colour }
 
 -- all letters that a worker has: in its outbox, arrived, pending and waiting
 abbrev pub held_letters : {S P K : Type 0} → HeldWorker S P K → List (Letter P)
-held_letters held =
-    held.outbox ++ map (λ mail. mail.letter) held.arrived
-    ++ flat_map (λ process. process.pending ++ process.waiting) held.processes
+held_letters held = letters_of_worker (λ process. process.pending ++ process.waiting) held.outbox held.arrived held.processes
 
 -- a process after it committed below a floor: whatever process it stood for, it stands for the one after; what is pending or
 -- waits there stays

@@ -23,7 +23,7 @@ impl<M: EventModel> Kernel<M> {
     /// [`Fault::NotLawful`]: `v` is this worker, or the outbox holds no letter for a process of `v`. [`Fault::Exhausted`]: the
     /// count of mail sent would pass 2^63.
     pub fn may_send(&self, v: u32) -> Result<(), Fault>
-        ensures lawful { (handlers : Handlers _ _ _) (part : Part _) → StandsFor handlers self.now part → IfOk result (λ _. (may_send (simulation_of handlers self.now.config) self.now.worker v part ≡ true) × (count_of part.sent part.colour + length (letters_for (simulation_of handlers self.now.config) v part) ≤ MAX_COUNT)) }
+        ensures lawful { (handlers : Handlers _ _ _) (part : Part _) → StandsFor handlers self.now part → IfOk result (λ _. (may_send (simulation_of handlers self.now.config).workers self.now.worker v part.outbox ≡ true) × (count_of part.sent part.colour + length (letters_for (simulation_of handlers self.now.config) v part) ≤ MAX_COUNT)) }
         ensures refused { (handlers : Handlers _ _ _) (part : Part _) → StandsFor handlers self.now part → IfErr result (λ fault. IsSendRefusal (simulation_of handlers self.now.config) self.now.worker v part fault) }
         ensures faults { IfErr result (λ fault. (fault ≡ NotLawful) ⊎ (fault ≡ Exhausted)) }
     {

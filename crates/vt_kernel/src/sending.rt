@@ -10,11 +10,10 @@ ghost use Rattle.vt_model.specs.Simulation.{simulation_of};
 ghost use Rattle.vt_model.specs.Settings.{end_of};
 ghost use Rattle.vt_steps.specs.Letters.{count_of, least_time, raised};
 ghost use Rattle.vt_steps.specs.World.{Part};
-ghost use Rattle.vt_steps.specs.PartSteps.{part_after_send, mail_of_send};
+ghost use Rattle.vt_steps.specs.PartSteps.{part_after_send, mail_of_send, is_for};
 ghost use Rattle.vt_steps.specs.CellSteps.{may_send};
 ghost use Rattle.vt_kernel.specs.Held.{StandsFor, AllOwnMail};
-ghost use Rattle.vt_outbox.specs.Outbox.{is_for_worker};
-ghost use Rattle.vt_kernel.specs.Guards.{mailed, holds_letters_for, IsSendRefusal};
+ghost use Rattle.vt_kernel.specs.Guards.{mailed, IsSendRefusal};
 
 use crate::kernel::Kernel;
 use vt_key::{Colour, Fault, Letter, Mail, When};
@@ -32,10 +31,10 @@ impl<M: EventModel> Kernel<M> {
     /// [`Fault::Exhausted`]: the count of mail sent would pass 2^63. [`Fault::Memory`]: memory was refused. After
     /// each the worker and `mail` are unchanged.
     pub fn letters_for(&mut self, v: u32, mail: &mut Vec<Mail<M::Payload>>) -> Result<(), Fault>
-        ensures sent { let letters = filter (is_for_worker self.old.config v) self.old.outbox in IfOk result (λ _. self.new ≡ record self.old { outbox = filter (λ letter. not (is_for_worker self.old.config v letter)) self.old.outbox; sent = raised self.old.sent self.old.colour (length letters); red_minimum = earlier self.old.red_minimum (least_time (end_of self.old.config) letters) }) }
-        ensures mail { IfOk result (λ _. mail.new.items ≡ mail.old.items ++ map (mailed self.old.colour) (filter (is_for_worker self.old.config v) self.old.outbox)) }
-        ensures own { IfOk result (λ _. AllOwnMail self.old.config v (map (mailed self.old.colour) (filter (is_for_worker self.old.config v) self.old.outbox))) }
-        ensures done { (handlers : Handlers _ _ _) (part : Part _) → StandsFor handlers self.old part → IfOk result (λ _. (may_send (simulation_of handlers self.old.config) self.old.worker v part ≡ true) × StandsFor handlers self.new (part_after_send (simulation_of handlers self.old.config) v part) × (mail.new.items ≡ mail.old.items ++ mail_of_send (simulation_of handlers self.old.config) v part)) }
+        ensures sent { let letters = filter (is_for self.old.config.workers v) self.old.outbox in IfOk result (λ _. self.new ≡ record self.old { outbox = filter (λ letter. not (is_for self.old.config.workers v letter)) self.old.outbox; sent = raised self.old.sent self.old.colour (length letters); red_minimum = earlier self.old.red_minimum (least_time (end_of self.old.config) letters) }) }
+        ensures mail { IfOk result (λ _. mail.new.items ≡ mail.old.items ++ map (mailed self.old.colour) (filter (is_for self.old.config.workers v) self.old.outbox)) }
+        ensures own { IfOk result (λ _. AllOwnMail self.old.config v (map (mailed self.old.colour) (filter (is_for self.old.config.workers v) self.old.outbox))) }
+        ensures done { (handlers : Handlers _ _ _) (part : Part _) → StandsFor handlers self.old part → IfOk result (λ _. (may_send (simulation_of handlers self.old.config).workers self.old.worker v part.outbox ≡ true) × StandsFor handlers self.new (part_after_send (simulation_of handlers self.old.config) v part) × (mail.new.items ≡ mail.old.items ++ mail_of_send (simulation_of handlers self.old.config) v part)) }
         ensures counted { (handlers : Handlers _ _ _) (part : Part _) → StandsFor handlers self.new part → IfOk result (λ _. count_of part.sent part.colour ≤ MAX_COUNT) }
         ensures refused { (handlers : Handlers _ _ _) (part : Part _) → StandsFor handlers self.old part → IfErr result (λ fault. IsSendRefusal (simulation_of handlers self.old.config) self.old.worker v part fault) }
         ensures faults { IfErr result (λ fault. (fault ≡ NotLawful) ⊎ ((fault ≡ Exhausted) ⊎ (fault ≡ Memory))) }
@@ -56,8 +55,8 @@ impl<M: EventModel> Kernel<M> {
     /// The first worker from number `v` on, other than this one, that the outbox holds letters for; None if there is none.
     /// A send to it is lawful.
     pub fn receiver_from(&self, v: u32) -> Option<u32>
-        ensures first { IfSome result (λ u. (v ≤ u) × (u < self.now.config.workers) × (holds_letters_for self.now u ≡ true) × ((k : ℕ) → v ≤ k → k < u → holds_letters_for self.now k ≡ false)) }
-        ensures nobody { IfNone result ((k : ℕ) → v ≤ k → holds_letters_for self.now k ≡ false) }
+        ensures first { IfSome result (λ u. (v ≤ u) × (u < self.now.config.workers) × (may_send self.now.config.workers self.now.worker u self.now.outbox ≡ true) × ((k : ℕ) → v ≤ k → k < u → may_send self.now.config.workers self.now.worker k self.now.outbox ≡ false)) }
+        ensures nobody { IfNone result ((k : ℕ) → v ≤ k → may_send self.now.config.workers self.now.worker k self.now.outbox ≡ false) }
     {
         for u in v..self.config.workers {
             if u != self.worker && self.outbox.has_for(u) {
@@ -76,9 +75,9 @@ fn make_room<P: Copy>(
     mail: &mut Vec<Mail<P>>,
 ) -> Result<u64, Fault>
     ensures items { mail.new.items ≡ mail.old.items }
-    ensures count { IfOk result (λ n. (n ≡ length (filter (is_for_worker outbox.now.config v) outbox.now.letters)) × (n ≤ most) × (0 < n)) }
-    ensures room { IfOk result (λ n. vec_len mail.new + length (filter (is_for_worker outbox.now.config v) outbox.now.letters) ≤ vec_capacity mail.new) }
-    ensures refused { let count = length (filter (is_for_worker outbox.now.config v) outbox.now.letters) in IfErr result (λ fault. ((fault ≡ NotLawful) × (count ≡ 0)) ⊎ ((0 < count) × (((fault ≡ Exhausted) × (most < count)) ⊎ ((fault ≡ Memory) × (count ≤ most))))) }
+    ensures count { IfOk result (λ n. (n ≡ length (filter (is_for outbox.now.config.workers v) outbox.now.letters)) × (n ≤ most) × (0 < n)) }
+    ensures room { IfOk result (λ n. vec_len mail.new + length (filter (is_for outbox.now.config.workers v) outbox.now.letters) ≤ vec_capacity mail.new) }
+    ensures refused { let count = length (filter (is_for outbox.now.config.workers v) outbox.now.letters) in IfErr result (λ fault. ((fault ≡ NotLawful) × (count ≡ 0)) ⊎ ((0 < count) × (((fault ≡ Exhausted) × (most < count)) ⊎ ((fault ≡ Memory) × (count ≤ most))))) }
 {
     let Some(count) = outbox.count_for(v, most) else {
         return Err(Fault::Exhausted);

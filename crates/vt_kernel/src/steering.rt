@@ -3,7 +3,7 @@
 ghost use Rattle.std.specs.Prelude.{◌≡◌, slice_get};
 ghost use Rattle.std.specs.Option.{option_map};
 ghost use Rattle.std.specs.List.{find};
-ghost use Rattle.vt_outbox.specs.Outbox.{is_for_worker};
+ghost use Rattle.vt_steps.specs.PartSteps.{is_for};
 
 use crate::kernel::Kernel;
 use vt_model::Model as EventModel;
@@ -23,7 +23,7 @@ impl<M: EventModel> Kernel<M> {
     /// The process to which [`Kernel::home`] would deliver a letter; None if the outbox has no letter for a process
     /// of this worker.
     pub fn home_for(&self) -> Option<u32>
-        ensures { result ≡ option_map (λ letter. letter.event.dest) (find (is_for_worker self.now.config self.now.worker) self.now.outbox) }
+        ensures { result ≡ option_map (λ letter. letter.event.dest) (find (is_for self.now.config.workers self.now.worker) self.now.outbox) }
     {
         let Some(letter) = self.outbox.first_for(self.worker) else {
             return None;

@@ -19,7 +19,7 @@ use Rattle.vt_model.specs.Handler.{Handlers}
 use Rattle.vt_model.specs.Settings.{end_of}
 use Rattle.vt_steps.specs.Letters.{letter_time, least_time}
 use Rattle.vt_steps.proofs.letters.RankTimes.{not-after-time}
-use Rattle.vt_steps.specs.World.{LogicalProcess}
+use Rattle.vt_steps.specs.World.{LogicalProcess, entry_rank}
 use Rattle.vt_steps.specs.StandsFor.{entry_of}
 use Rattle.vt_steps.specs.ProcessSteps.{ProcessEffect, holds, with_letter, accept_process}
 use Rattle.vt_pending.specs.Letters.{holds_rank}
@@ -125,7 +125,7 @@ module _ {S P K : Type 0} (handlers : Handlers S P K) where
 
   -- what a process holds is what the process that it stands for holds
   holds-is : (held : HeldProcess S P K) (h : LogicalProcess P) (sign : Sign) (rank : Rank) → StandsFor handlers held h →
-      holds h sign rank ≡ holds_letter held.pending held.waiting held.past sign rank
+      holds entry_rank h.pending h.waiting h.past sign rank ≡ holds_letter held.pending held.waiting held.past sign rank
   holds-is held h Plus rank s =
       (λ j. list_any (has_rank rank) (s.pending j) || list_any (λ e. rank_same e.event.rank rank) (s.past j))
       ∙ ap (λ b. list_any (has_rank rank) held.pending || b) (any-past held.lp rank held.past)

@@ -15,12 +15,12 @@ use Rattle.vt_model.specs.Settings.{end_of}
 use Rattle.vt_key.specs.Queues.{has_stamp, without_first, has_rank}
 use Rattle.vt_key.specs.Lists.{Among}
 use Rattle.vt_steps.specs.World.{LogicalProcess}
-use Rattle.vt_steps.specs.ProcessSteps.{ProcessEffect, are_opposite, cancel_process}
+use Rattle.vt_steps.specs.ProcessSteps.{ProcessEffect, are_opposite, cancel_process, can_annihilate}
 use Rattle.vt_key.proofs.ListLemmas.{every-without_first, find-among, find-passes}
 use Rattle.vt_pending.specs.Letters.{holds_rank, without_stamp}
 use Rattle.vt_past.specs.declared.event.PastEvent.{PastEvent}
 use Rattle.vt_lp.specs.Held.{HeldProcess, StandsFor, IsOwnLetter, IsNotPending, IsProcessInside}
-use Rattle.vt_lp.specs.Guards.{IsDone, can_annihilate}
+use Rattle.vt_lp.specs.Guards.{IsDone}
 use Rattle.vt_past.specs.Kept.{KeptNodes, one_if_some}
 
 module _ {P : Type 0} where

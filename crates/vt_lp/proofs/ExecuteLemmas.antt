@@ -25,7 +25,7 @@ use Rattle.vt_pending.specs.Letters.{holds_rank, IsRising}
 use Rattle.vt_model.specs.Simulation.{Simulation, Triple, Fired, simulation_of}
 use Rattle.vt_model.specs.Settings.{end_of}
 use Rattle.vt_steps.specs.Letters.{unstamped, stamped, signed}
-use Rattle.vt_steps.specs.World.{Entry, LogicalProcess, triple_after}
+use Rattle.vt_steps.specs.World.{Entry, LogicalProcess, triple_after, entry_rank}
 use Rattle.vt_steps.specs.ProcessSteps.{may_follow, effect_of_execute, execute_least, execute_process}
 use Rattle.vt_steps.specs.StandsFor.{entry_of, IsRemembered, LeadTo}
 use Rattle.vt_steps.proofs.steps.MemoryLemmas.{is_where, goes_on, after-append}
@@ -75,12 +75,12 @@ module _ {P K : Type 0} where
 module _ {S P K : Type 0} (handlers : Handlers S P K) where
   -- what may follow the last entry of a process may come after the last past event of the value
   last-may : (p : ℕ) (o : Option (PastEvent P K)) (r : Option (Entry P)) (es : List (PastEvent P K)) (event : Event P) →
-      may_follow r event ≡ may_come_after o event.rank → may_follow (last_or r (map entry_of (map (remembered handlers p) es))) event ≡ may_come_after (last_or o es) event.rank
+      may_follow entry_rank r event.rank ≡ may_come_after o event.rank → may_follow entry_rank (last_or r (map entry_of (map (remembered handlers p) es))) event.rank ≡ may_come_after (last_or o es) event.rank
   last-may p o r [] event h = h
   last-may p o r (e ∷ es) event h = last-may p (Some e) (Some (entry_of (remembered handlers p e))) es event refl
 
-  may-is : (held : HeldProcess S P K) (h : LogicalProcess P) (event : Event P) → StandsFor handlers held h → may_follow (last_or None h.past) event ≡ may_come_after (last_or None held.past) event.rank
-  may-is held h event s = ap (λ (es : List (Entry P)). may_follow (last_or None es) event) s.past ∙ last-may held.lp None None held.past event refl
+  may-is : (held : HeldProcess S P K) (h : LogicalProcess P) (event : Event P) → StandsFor handlers held h → may_follow entry_rank (last_or None h.past) event.rank ≡ may_come_after (last_or None held.past) event.rank
+  may-is held h event s = ap (λ (es : List (Entry P)). may_follow entry_rank (last_or None es) event.rank) s.past ∙ last-may held.lp None None held.past event refl
 
   -- Execute is not lawful
   pub execute-none : (held : HeldProcess S P K) (w serial : ℕ) (h : LogicalProcess P) → None ≡ ready_event held.pending held.past → StandsFor handlers held h →

@@ -1,6 +1,7 @@
 -- Which event may be executed next, from the least pending letter and the rank of the last past event.
 use Rattle.std.proofs.Common.{◌≡◌, Bool, true, false, ◌||◌, if◌then◌else◌, List, [], ◌∷◌, Option, Some, None, slice_get, refl, sym, ◌∙◌, ap}
 use Rattle.std.specs.List.{last_or, list_any}
+use Rattle.vt_steps.specs.ProcessSteps.{must_undo}
 use Rattle.vt_key.specs.Order.{RankBefore, rank_before, rank_same}
 use Rattle.vt_key.specs.declared.order.Rank.{Rank}
 use Rattle.vt_key.specs.declared.letter.Letter.{Letter}
@@ -9,7 +10,7 @@ use Rattle.vt_past.specs.declared.event.PastEvent.{PastEvent}
 use Rattle.vt_past.specs.Events.{rank_of_last, last_rank}
 use Rattle.vt_lp.specs.Guards.{may_come_after, ready_rank}
 use Rattle.vt_lp.specs.Held.{IsRisingPast}
-use Rattle.vt_lp.specs.Past.{ready_event, is_forced, must_undo_last}
+use Rattle.vt_lp.specs.Past.{ready_event, must_undo_last}
 use Rattle.vt_pending.proofs.Holding.{before-differs}
 
 -- an event of this rank may follow one of that rank, or none at all
@@ -44,15 +45,15 @@ module _ {P K : Type 0} where
       ∙ ap (λ (t : Bool). if t then Some l.event else None) (may-follow past last l.event.rank is ∙ comes)
 
   -- and whether the last one has to be undone
-  undo-by : (pending waiting : List (Letter P)) (last : Option (PastEvent P K)) (rank : Rank) → Some rank ≡ rank_of_last last → must_undo_last pending waiting last ≡ is_forced pending waiting rank
+  undo-by : (pending waiting : List (Letter P)) (last : Option (PastEvent P K)) (rank : Rank) → Some rank ≡ rank_of_last last → must_undo_last pending waiting last ≡ must_undo pending waiting rank
   undo-by pending waiting None rank is = absurd (let e : Some rank ≡ None = is in cc)
-  undo-by pending waiting (Some last) rank is = let same : last.letter.event.rank ≡ rank = cc in ap (is_forced pending waiting) same
+  undo-by pending waiting (Some last) rank is = let same : last.letter.event.rank ≡ rank = cc in ap (must_undo pending waiting) same
 
   undo-none : (pending waiting : List (Letter P)) (last : Option (PastEvent P K)) → None ≡ rank_of_last last → must_undo_last pending waiting last ≡ false
   undo-none pending waiting None is = refl
   undo-none pending waiting (Some last) is = absurd (let e : None ≡ Some last.letter.event.rank = is in cc)
 
-  pub undo-told : (pending waiting : List (Letter P)) (past : List (PastEvent P K)) (rank : Rank) → Some rank ≡ last_rank past → must_undo_last pending waiting (last_or None past) ≡ is_forced pending waiting rank
+  pub undo-told : (pending waiting : List (Letter P)) (past : List (PastEvent P K)) (rank : Rank) → Some rank ≡ last_rank past → must_undo_last pending waiting (last_or None past) ≡ must_undo pending waiting rank
   undo-told pending waiting past rank is = undo-by pending waiting (last_or None past) rank is
 
   pub undo-nobody : (pending waiting : List (Letter P)) (past : List (PastEvent P K)) → None ≡ last_rank past → must_undo_last pending waiting (last_or None past) ≡ false

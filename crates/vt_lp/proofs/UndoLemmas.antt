@@ -24,7 +24,7 @@ use Rattle.vt_steps.proofs.steps.MemoryLemmas.{goes_back}
 use Rattle.vt_past.specs.declared.event.PastEvent.{PastEvent}
 use Rattle.vt_lp.specs.Held.{HeldProcess, StandsFor, process_memory, remembered, way_back, IsOwnLetter, IsOwnEvent, IsReady, IsWithinRun, IsRisingPast, IsNotPending, IsProcessInside}
 use Rattle.vt_lp.specs.Guards.{IsDone}
-use Rattle.vt_lp.specs.Past.{is_forced, must_undo_last}
+use Rattle.vt_lp.specs.Past.{must_undo_last}
 use Rattle.vt_lp.proofs.AcceptLemmas.{All-insert, holds-insert}
 use Rattle.vt_lp.proofs.Ends.{after-differs}
 
@@ -78,7 +78,7 @@ ready-within lps end (l ∷ ls) all =
 module _ {S P K : Type 0} (handlers : Handlers S P K) where
   -- what Undo does at a process whose last past entry this is
   abbrev undo_after : LogicalProcess P → Entry P → Option (ProcessEffect P)
-  undo_after h last = if must_undo h last.event then Some (effect_of_undo h last) else None
+  undo_after h last = if must_undo h.pending h.waiting last.event.rank then Some (effect_of_undo h last) else None
 
   -- what the value is asked is what the process is asked
   undo-last : (held : HeldProcess S P K) (h : LogicalProcess P) (o : Option (PastEvent P K)) (r : Option (Entry P)) (es : List (PastEvent P K)) →
@@ -87,7 +87,7 @@ module _ {S P K : Type 0} (handlers : Handlers S P K) where
   undo-last held h o r [] a b f none = f none
   undo-last held h o r (e ∷ es) a b f none =
       undo-last held h (Some e) (Some (entry_of (remembered handlers held.lp e))) es a b
-      (λ no. ap (λ t. if t then Some (effect_of_undo h (entry_of (remembered handlers held.lp e))) else None) ((λ j. is_forced (a j) (b j) e.letter.event.rank) ∙ no)) none
+      (λ no. ap (λ t. if t then Some (effect_of_undo h (entry_of (remembered handlers held.lp e))) else None) ((λ j. must_undo (a j) (b j) e.letter.event.rank) ∙ no)) none
 
   pub undo-none : (held : HeldProcess S P K) (h : LogicalProcess P) → must_undo_last held.pending held.waiting (last_or None held.past) ≡ false → StandsFor handlers held h →
       undo_process h ≡ None
@@ -110,8 +110,8 @@ module _ {S P K : Type 0} (handlers : Handlers S P K) where
       let last_is : last_or None h.past ≡ Some entry = ap (λ (es : List (Entry P)). last_or None es) past_is ∙ last-push None (map entry_of (map (remembered handlers p) past)) entry in
       let front_is : take (length h.past - 1) h.past ≡ map entry_of (map (remembered handlers p) past) =
       ap (λ (es : List (Entry P)). take (length es - 1) es) past_is ∙ front-of (map entry_of (map (remembered handlers p) past)) entry in
-      let must : must_undo h e.letter.event ≡ true =
-      (λ j. is_forced (s.pending j) (s.waiting j) e.letter.event.rank)
+      let must : must_undo h.pending h.waiting e.letter.event.rank ≡ true =
+      (λ j. must_undo (s.pending j) (s.waiting j) e.letter.event.rank)
       ∙ ap (must_undo_last held.pending held.waiting) (sym (ap (λ (es : List (PastEvent P K)). last_or None es) longer ∙ last-push None past e)) ∙ forced in
       let gone = goes_back sim p (process_memory handlers held) h (map (remembered handlers p) past) (remembered handlers p e) s shorter in
       let plus : signed Plus e.letter.event ≡ e.letter = λ j. record { event = e.letter.event; sign = sym mine.own.signed j } in

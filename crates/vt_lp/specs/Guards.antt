@@ -16,7 +16,7 @@ use Rattle.vt_model.specs.Handler.{Handlers}
 use Rattle.vt_model.specs.Simulation.{Simulation}
 use Rattle.vt_steps.specs.Letters.{least_time}
 use Rattle.vt_steps.specs.World.{LogicalProcess, triple_after}
-use Rattle.vt_steps.specs.ProcessSteps.{ProcessEffect, are_opposite}
+use Rattle.vt_steps.specs.ProcessSteps.{ProcessEffect, may_follow, holds}
 use Rattle.vt_past.specs.declared.event.PastEvent.{PastEvent}
 use Rattle.vt_lp.specs.Held.{HeldProcess, StandsFor}
 
@@ -53,8 +53,7 @@ module _ {S P : Type 0} (sim : Simulation S P) (p : ℕ) where
 module _ {P K : Type 0} where
   -- an event of this rank may follow the last past event, or none at all
   abbrev pub may_come_after : Option (PastEvent P K) → Rank → Bool
-  may_come_after None rank = true
-  may_come_after (Some last) rank = rank_before last.letter.event.rank rank
+  may_come_after = may_follow (λ e. e.letter.event.rank)
 
   -- the rank of the event that Execute would execute, if it is lawful
   abbrev pub ready_rank : List (Letter P) → List (PastEvent P K) → Option Rank
@@ -63,9 +62,7 @@ module _ {P K : Type 0} where
 
   -- whether a letter of this sign and rank is held
   abbrev pub holds_letter : List (Letter P) → List (Letter P) → List (PastEvent P K) → Sign → Rank → Bool
-  holds_letter pending waiting past Plus rank =
-      list_any (has_rank rank) pending || list_any (λ e. rank_same e.letter.event.rank rank) past
-  holds_letter pending waiting past Minus rank = list_any (has_rank rank) waiting
+  holds_letter = holds (λ e. e.letter.event.rank)
 
 module _ {P : Type 0} where
   -- a letter is before all letters of a queue, whose first one it is once it stands there
@@ -84,10 +81,6 @@ module _ {P : Type 0} where
   lesser_rank (Some a) None = Some a.event.rank
   lesser_rank None (Some b) = Some b.event.rank
   lesser_rank (Some a) (Some b) = if rank_before b.event.rank a.event.rank then Some b.event.rank else Some a.event.rank
-
-  -- the waiting and the pending letter of this stamp annihilate each other: the first of each are there, with equal keys
-  abbrev pub can_annihilate : Stamp → List (Letter P) → List (Letter P) → Bool
-  can_annihilate stamp pending waiting = are_opposite (find (has_stamp stamp) waiting) (find (has_stamp stamp) pending)
 
 -- what a process tells of its least letters is as it was: the rank of the event that Execute would execute, the least rank, and
 -- the least time

@@ -1,6 +1,7 @@
 -- How an executed event becomes a past one, and when the last past one has to be undone.
 use Rattle.std.specs.Prelude.{ℕ, ◌≡◌, ◌+◌, ◌<◌, ◌≤◌, ◌⊎◌, length, Bool, false, not, ◌||◌, List, [], ◌∷◌, if◌then◌else◌, Option, Some, None}
 use Rattle.std.specs.List.{list_any, last_or}
+use Rattle.vt_steps.specs.ProcessSteps.{must_undo}
 use Rattle.vt_key.specs.Order.{rank_before}
 use Rattle.vt_key.specs.declared.order.Rank.{Rank}
 use Rattle.vt_key.specs.declared.limits.TheConstants.{MAX_COUNT}
@@ -18,12 +19,6 @@ IsAdvanceRefusal fired serial fault =
     ((fault ≡ Exhausted) × ((MAX_COUNT < fired.triple.number) ⊎ (MAX_COUNT < serial + length fired.sends)))
     ⊎ ((fault ≡ Memory) × (fired.triple.number ≤ MAX_COUNT) × (serial + length fired.sends ≤ MAX_COUNT))
 
--- the letters force the undo of an event of this rank: a pending one is before it, or a waiting one is not after it
-abbrev pub is_forced : {P : Type 0} → List (Letter P) → List (Letter P) → Rank → Bool
-is_forced pending waiting rank =
-    list_any (λ letter. rank_before letter.event.rank rank) pending
-    || list_any (λ letter. not (rank_before rank letter.event.rank)) waiting
-
 module _ {P K : Type 0} where
   -- the event that Execute would execute, if it is lawful
   abbrev pub ready_event : List (Letter P) → List (PastEvent P K) → Option (Event P)
@@ -33,4 +28,4 @@ module _ {P K : Type 0} where
   -- the last past event, if there is one, has to be undone
   abbrev pub must_undo_last : List (Letter P) → List (Letter P) → Option (PastEvent P K) → Bool
   must_undo_last pending waiting None = false
-  must_undo_last pending waiting (Some last) = is_forced pending waiting last.letter.event.rank
+  must_undo_last pending waiting (Some last) = must_undo pending waiting last.letter.event.rank

@@ -9,9 +9,9 @@ ghost use Rattle.vt_key.specs.declared.fault.Fault.TheVariants.{NotLawful};
 ghost use Rattle.vt_model.specs.Handler.{Handlers};
 ghost use Rattle.vt_model.specs.Settings.{end_of};
 ghost use Rattle.vt_steps.specs.World.{LogicalProcess};
-ghost use Rattle.vt_steps.specs.ProcessSteps.{cancel_process, accept_process};
+ghost use Rattle.vt_steps.specs.ProcessSteps.{cancel_process, accept_process, can_annihilate};
 ghost use Rattle.vt_lp.specs.Held.{StandsFor, IsRisingPast};
-ghost use Rattle.vt_lp.specs.Guards.{IsDone, holds_letter, would_lead, is_first, TellsSame, can_annihilate, may_come_after};
+ghost use Rattle.vt_lp.specs.Guards.{IsDone, holds_letter, would_lead, is_first, TellsSame, may_come_after};
 
 use crate::Lp;
 use vt_key::{Fault, Letter, Rank, Sign, Stamp};
@@ -167,7 +167,6 @@ struct Annihilates<'a, P: Copy> {
 }
 
 impl<'a, P: Copy> Predicate<Letter<P>> for Annihilates<'a, P> {
-    ghost use Rattle.vt_lp.specs.Guards.{can_annihilate};
 
     ghost passes = { λ t letter. can_annihilate letter.event.rank.stamp t.pending.now t.waiting.now };
 

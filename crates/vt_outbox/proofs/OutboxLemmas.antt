@@ -11,8 +11,9 @@ use Rattle.vt_key.specs.Queues.{without_first}
 use Rattle.vt_key.specs.declared.letter.Letter.{Letter}
 use Rattle.vt_model.specs.declared.settings.Config.{Config}
 use Rattle.vt_steps.specs.Letters.{least_time}
+use Rattle.vt_steps.specs.PartSteps.{is_for}
 use Rattle.vt_steps.proofs.lists.Places.{get-put_same, get-put_other, get-replicate}
-use Rattle.vt_outbox.specs.Outbox.{HeldOutbox, is_for_worker, IsSorted}
+use Rattle.vt_outbox.specs.Outbox.{HeldOutbox, IsSorted}
 use Rattle.vt_outbox.proofs.PartingLemmas.{passes, fails}
 
 -- ---- the first that passes a test, and those that do not pass
@@ -188,9 +189,9 @@ module _ {P : Type 0} (end : Time) where
 
   -- with the letters for one worker more
   pub least-below_more : (config : Config) (k : ℕ) (letters : List (Letter P))
-      → least_time end (letters_below config (k + 1) letters) ≡ earlier (least_time end (letters_below config k letters)) (least_time end (filter (is_for_worker config k) letters))
+      → least_time end (letters_below config (k + 1) letters) ≡ earlier (least_time end (letters_below config k letters)) (least_time end (filter (is_for config.workers k) letters))
   least-below_more config k letters =
-      least-either (λ l. nat_lt (l.event.dest % config.workers) k) (is_for_worker config k) (λ l. nat_lt (l.event.dest % config.workers) (k + 1)) (λ x. below-more (x.event.dest % config.workers) k) letters
+      least-either (λ l. nat_lt (l.event.dest % config.workers) k) (is_for config.workers k) (λ l. nat_lt (l.event.dest % config.workers) (k + 1)) (λ x. below-more (x.event.dest % config.workers) k) letters
     where
       below-more : (n m : ℕ) → nat_lt n (m + 1) ≡ (nat_lt n m || nat_eq n m)
       below-more n m = grind (arith, nat_tests)
@@ -215,7 +216,7 @@ module _ {P : Type 0} (config : Config) where
       known m less = grind (arith, nat_tests)
 
   -- no letter is for a worker behind the last
-  pub never-beyond : (v : ℕ) → config.workers ≤ v → (x : Letter P) → is_for_worker config v x ≡ false
+  pub never-beyond : (v : ℕ) → config.workers ≤ v → (x : Letter P) → is_for config.workers v x ≡ false
   never-beyond v past x =
       elim (eqb_tells (x.event.dest % config.workers) v) [
         | inl e ↦ absurd (let known = receiver-known x in let same = e.1 in omega (arith, known, same, past))
@@ -223,9 +224,9 @@ module _ {P : Type 0} (config : Config) where
       ]
 
   -- where there is one for a worker, there is that worker
-  pub receiver-below : (v : ℕ) (letters : List (Letter P)) → 0 < length (filter (is_for_worker config v) letters) → v < config.workers
+  pub receiver-below : (v : ℕ) (letters : List (Letter P)) → 0 < length (filter (is_for config.workers v) letters) → v < config.workers
   receiver-below v letters some =
-      let beyond : (config.workers ≤ v → ⊥) = λ past. (let none : length (filter (is_for_worker config v) letters) ≡ 0 = ap length (filter-never (is_for_worker config v) (never-beyond v past) letters) in omega (arith, none, some)) in
+      let beyond : (config.workers ≤ v → ⊥) = λ past. (let none : length (filter (is_for config.workers v) letters) ≡ 0 = ap length (filter-never (is_for config.workers v) (never-beyond v past) letters) in omega (arith, none, some)) in
       omega (arith, beyond)
 
 -- ---- an outbox
@@ -236,54 +237,54 @@ module _ {P : Type 0} {config : Config} {lists : List (List (Letter P))} {count 
       → next ≡ (count + 1) % 2 ^ 64 → IsSorted config (slice_set lists v new) next (letters ++ letter ∷ [])
   sorted-put letter v next {list} {new} own there is more =
       let mine : nat_eq (letter.event.dest % config.workers) v ≡ true = (elim (eqb_tells (letter.event.dest % config.workers) v) [ inl e ↦ e.0 | inr e ↦ absurd (e.1 own) ]) in
-      let kept = λ (u : ℕ). filter-append (is_for_worker config u) letters (letter ∷ []) in
+      let kept = λ (u : ℕ). filter-append (is_for config.workers u) letters (letter ∷ []) in
       let one : length (letters ++ letter ∷ []) ≡ length letters + 1 = length-append letters (letter ∷ []) in
       let was = h.counted in
       record {
         all_there = length-set lists v new ∙ h.all_there;
-        sorted = all-written (λ u list. list ≡ filter (is_for_worker config u) (letters ++ letter ∷ [])) lists v list new there
-            (is ∙ ap (λ ls. ls ++ letter ∷ []) (h.sorted v list there) ∙ ap (λ (b : Bool). filter (is_for_worker config v) letters ++ cond b (letter ∷ []) []) (sym mine) ∙ sym (kept v))
-            (λ u l apart at. h.sorted u l at ∙ sym (kept u ∙ ap (λ (b : Bool). filter (is_for_worker config u) letters ++ cond b (letter ∷ []) []) (not-both (letter.event.dest % config.workers) u v apart mine) ∙ append-nil (filter (is_for_worker config u) letters)));
+        sorted = all-written (λ u list. list ≡ filter (is_for config.workers u) (letters ++ letter ∷ [])) lists v list new there
+            (is ∙ ap (λ ls. ls ++ letter ∷ []) (h.sorted v list there) ∙ ap (λ (b : Bool). filter (is_for config.workers v) letters ++ cond b (letter ∷ []) []) (sym mine) ∙ sym (kept v))
+            (λ u l apart at. h.sorted u l at ∙ sym (kept u ∙ ap (λ (b : Bool). filter (is_for config.workers u) letters ++ cond b (letter ∷ []) []) (not-both (letter.event.dest % config.workers) u v apart mine) ∙ append-nil (filter (is_for config.workers u) letters)));
         counted = omega (arith, one, was, more);
       }
 
   -- the letters for a worker are empty where its list is
-  pub none-for : (v : ℕ) {list : List (Letter P)} → slice_get lists v ≡ Some list → list ≡ [] → find (is_for_worker config v) letters ≡ None
-  none-for v {list} there is = find-filter (is_for_worker config v) letters ∙ ap (λ (ls : List (Letter P)). slice_get ls 0) (sym (h.sorted v list there) ∙ is)
+  pub none-for : (v : ℕ) {list : List (Letter P)} → slice_get lists v ≡ Some list → list ≡ [] → find (is_for config.workers v) letters ≡ None
+  none-for v {list} there is = find-filter (is_for config.workers v) letters ∙ ap (λ (ls : List (Letter P)). slice_get ls 0) (sym (h.sorted v list there) ∙ is)
 
   -- the first letter for a worker
-  pub first-for : (v : ℕ) (letter : Letter P) {list rest : List (Letter P)} → slice_get lists v ≡ Some list → list ≡ letter ∷ rest → find (is_for_worker config v) letters ≡ Some letter
-  first-for v letter {list} there is = find-filter (is_for_worker config v) letters ∙ ap (λ (ls : List (Letter P)). slice_get ls 0) (sym (h.sorted v list there) ∙ is)
+  pub first-for : (v : ℕ) (letter : Letter P) {list rest : List (Letter P)} → slice_get lists v ≡ Some list → list ≡ letter ∷ rest → find (is_for config.workers v) letters ≡ Some letter
+  first-for v letter {list} there is = find-filter (is_for config.workers v) letters ∙ ap (λ (ls : List (Letter P)). slice_get ls 0) (sym (h.sorted v list there) ∙ is)
 
   -- it is taken out
   pub sorted-pop : (letter : Letter P) (v next : ℕ) {list new : List (Letter P)} → slice_get lists v ≡ Some list → list ≡ letter ∷ new → next ≡ (count + 18446744073709551615) % 2 ^ 64
-      → IsSorted config (slice_set lists v new) next (without_first (is_for_worker config v) letters)
+      → IsSorted config (slice_set lists v new) next (without_first (is_for config.workers v) letters)
   sorted-pop letter v next {list} {new} there is less =
-      let test : Letter P → Bool = is_for_worker config v in
+      let test : Letter P → Bool = is_for config.workers v in
       let one = length-without test letters letter (first-for v letter there is) in
       let was = h.counted in
       record {
         all_there = length-set lists v new ∙ h.all_there;
-        sorted = all-written (λ u l. l ≡ filter (is_for_worker config u) (without_first test letters)) lists v list new there
+        sorted = all-written (λ u l. l ≡ filter (is_for config.workers u) (without_first test letters)) lists v list new there
             (ap (drop 1) (sym is ∙ h.sorted v list there) ∙ sym (filter-without test letters))
-            (λ u l apart at. h.sorted u l at ∙ sym (filter-without_other test (is_for_worker config u) (λ x mine. not-both (x.event.dest % config.workers) u v apart mine) letters));
+            (λ u l apart at. h.sorted u l at ∙ sym (filter-without_other test (is_for config.workers u) (λ x mine. not-both (x.event.dest % config.workers) u v apart mine) letters));
         counted = omega (arith, one, was, less);
       }
 
   -- it is put back
   pub sorted-back : (letter : Letter P) (v next : ℕ) (before : List (Letter P)) {list new : List (Letter P)} → slice_get lists v ≡ Some list → new ≡ letter ∷ list
-      → find (is_for_worker config v) before ≡ Some letter → letters ≡ without_first (is_for_worker config v) before → next ≡ (count + 1) % 2 ^ 64
+      → find (is_for config.workers v) before ≡ Some letter → letters ≡ without_first (is_for config.workers v) before → next ≡ (count + 1) % 2 ^ 64
       → IsSorted config (slice_set lists v new) next before
   sorted-back letter v next before {list} {new} there is found without more =
-      let test : Letter P → Bool = is_for_worker config v in
+      let test : Letter P → Bool = is_for config.workers v in
       let one = length-without test before letter found in
       let was = h.counted in
       let less : length letters ≡ length (without_first test before) = ap length without in
       record {
         all_there = length-set lists v new ∙ h.all_there;
-        sorted = all-written (λ u l. l ≡ filter (is_for_worker config u) before) lists v list new there
+        sorted = all-written (λ u l. l ≡ filter (is_for config.workers u) before) lists v list new there
             (is ∙ ap (λ ls. letter ∷ ls) (h.sorted v list there ∙ ap (filter test) without ∙ filter-without test before) ∙ first-again (filter test before) (sym (find-filter test before) ∙ found))
-            (λ u l apart at. h.sorted u l at ∙ ap (filter (is_for_worker config u)) without ∙ filter-without_other test (is_for_worker config u) (λ x mine. not-both (x.event.dest % config.workers) u v apart mine) before);
+            (λ u l apart at. h.sorted u l at ∙ ap (filter (is_for config.workers u)) without ∙ filter-without_other test (is_for config.workers u) (λ x mine. not-both (x.event.dest % config.workers) u v apart mine) before);
         counted = omega (arith, one, was, less, more);
       }
     where
@@ -293,17 +294,17 @@ module _ {P : Type 0} {config : Config} {lists : List (List (Letter P))} {count 
 
   -- all letters for a worker are taken out
   pub sorted-taken : (v next taken : ℕ) {list new : List (Letter P)} → slice_get lists v ≡ Some list → new ≡ [] → taken ≡ length list % 2 ^ 64 → next ≡ (count + (18446744073709551616 - taken)) % 2 ^ 64
-      → IsSorted config (slice_set lists v new) next (filter (λ (l : Letter P). not (is_for_worker config v l)) letters)
+      → IsSorted config (slice_set lists v new) next (filter (λ (l : Letter P). not (is_for config.workers v l)) letters)
   sorted-taken v next taken {list} {new} there is size less =
-      let test : Letter P → Bool = is_for_worker config v in
+      let test : Letter P → Bool = is_for config.workers v in
       let own : length list ≡ length (filter test letters) = ap length (h.sorted v list there) in
       let both = length-parted test letters in
       let was = h.counted in
       record {
         all_there = length-set lists v new ∙ h.all_there;
-        sorted = all-written (λ u l. l ≡ filter (is_for_worker config u) (filter (λ (l : Letter P). not (test l)) letters)) lists v list new there
+        sorted = all-written (λ u l. l ≡ filter (is_for config.workers u) (filter (λ (l : Letter P). not (test l)) letters)) lists v list new there
             (is ∙ sym (filter-others_none test letters))
-            (λ u l apart at. h.sorted u l at ∙ sym (filter-others_other test (is_for_worker config u) (λ x mine. not-both (x.event.dest % config.workers) u v apart mine) letters));
+            (λ u l apart at. h.sorted u l at ∙ sym (filter-others_other test (is_for config.workers u) (λ x mine. not-both (x.event.dest % config.workers) u v apart mine) letters));
         counted = omega (arith, own, both, was, size, less);
       }
 
@@ -316,6 +317,6 @@ sorted-none config n lists is all = record {
 }
 
 -- where no letter was found for a worker, the outbox is as it was
-pub none-popped : {P : Type 0} (w : ℕ) {outbox popped : HeldOutbox P} → None ≡ find (is_for_worker outbox.config w) outbox.letters
-    → popped ≡ record outbox { letters = without_first (is_for_worker outbox.config w) outbox.letters } → popped ≡ outbox
-none-popped w {outbox} none is = is ∙ (λ j. record outbox { letters = without-none (is_for_worker outbox.config w) outbox.letters (sym none) j })
+pub none-popped : {P : Type 0} (w : ℕ) {outbox popped : HeldOutbox P} → None ≡ find (is_for outbox.config.workers w) outbox.letters
+    → popped ≡ record outbox { letters = without_first (is_for outbox.config.workers w) outbox.letters } → popped ≡ outbox
+none-popped w {outbox} none is = is ∙ (λ j. record outbox { letters = without-none (is_for outbox.config.workers w) outbox.letters (sym none) j })

@@ -7,7 +7,7 @@ ghost use Rattle.vt_key.specs.Queues.{without_first};
 ghost use Rattle.vt_key.specs.declared.fault.Fault.TheVariants.{Memory};
 ghost use Rattle.vt_key.specs.declared.letter.Letter.{Letter as LetterValue};
 ghost use Rattle.vt_steps.specs.Letters.{least_time};
-ghost use Rattle.vt_outbox.specs.Outbox.{is_for_worker};
+ghost use Rattle.vt_steps.specs.PartSteps.{is_for};
 
 use std::alloc::Global;
 use std::marker::Model;
@@ -91,8 +91,8 @@ impl<P: Copy> Outbox<P> {
     pub fn pop_for(&mut self, v: u32) -> Option<Parcel<Letter<P>>>
         ghost letters: { Items (LetterValue P) }
         requires known { v < self.old.config.workers }
-        requires left { letters ≡ without_first (is_for_worker self.old.config v) self.old.letters }
-        ensures letter { result ≡ find (is_for_worker self.old.config v) self.old.letters }
+        requires left { letters ≡ without_first (is_for self.old.config.workers v) self.old.letters }
+        ensures letter { result ≡ find (is_for self.old.config.workers v) self.old.letters }
         ensures left { self.new ≡ record self.old { letters = letters } }
     {
         let letter = self.lists[v as usize].pop_front()?;
@@ -107,8 +107,8 @@ impl<P: Copy> Outbox<P> {
         ghost letters: { Items (LetterValue P) }
         requires known { v < self.old.config.workers }
         requires all { letters ≡ before.now.value.letters }
-        requires found { find (is_for_worker self.old.config v) before.now.value.letters ≡ Some letter }
-        requires left { self.old ≡ record before.now.value { letters = without_first (is_for_worker self.old.config v) before.now.value.letters } }
+        requires found { find (is_for self.old.config.workers v) before.now.value.letters ≡ Some letter }
+        requires left { self.old ≡ record before.now.value { letters = without_first (is_for self.old.config.workers v) before.now.value.letters } }
         ensures { self.new ≡ before.now.value }
     {
         self.lists[v as usize].push_front(letter);
@@ -120,8 +120,8 @@ impl<P: Copy> Outbox<P> {
     pub fn take_for(&mut self, v: u32, alloc: Global) -> List<Letter<P>>
         ghost letters: { Items (LetterValue P) }
         requires known { v < self.old.config.workers }
-        requires left { letters ≡ filter (λ letter. not (is_for_worker self.old.config v letter)) self.old.letters }
-        ensures taken { result ≡ filter (is_for_worker self.old.config v) self.old.letters }
+        requires left { letters ≡ filter (λ letter. not (is_for self.old.config.workers v letter)) self.old.letters }
+        ensures taken { result ≡ filter (is_for self.old.config.workers v) self.old.letters }
         ensures left { self.new ≡ record self.old { letters = letters } }
     {
         let taken = mem::replace(&mut self.lists[v as usize], List::new(alloc));
@@ -139,7 +139,7 @@ impl<P: Copy> Outbox<P> {
 
     /// Whether there is a letter for a process of worker `v`.
     pub fn has_for(&self, v: u32) -> bool
-        ensures { result ≡ list_any (is_for_worker self.now.config v) self.now.letters }
+        ensures { result ≡ list_any (is_for self.now.config.workers v) self.now.letters }
     {
         let Some(list) = self.list_for(v) else {
             return false;
@@ -149,7 +149,7 @@ impl<P: Copy> Outbox<P> {
 
     /// The first letter for a process of worker `v`; None if there is none.
     pub fn first_for(&self, v: u32) -> Option<&Letter<P>>
-        ensures { option_copied result ≡ find (is_for_worker self.now.config v) self.now.letters }
+        ensures { option_copied result ≡ find (is_for self.now.config.workers v) self.now.letters }
     {
         let Some(list) = self.list_for(v) else {
             return None;
@@ -159,8 +159,8 @@ impl<P: Copy> Outbox<P> {
 
     /// How many letters are for processes of worker `v`; None if there are more than `most`.
     pub fn count_for(&self, v: u32, most: u64) -> Option<u64>
-        ensures count { IfSome result (λ n. (n ≡ length (filter (is_for_worker self.now.config v) self.now.letters)) × (n ≤ most)) }
-        ensures more { IfNone result (most < length (filter (is_for_worker self.now.config v) self.now.letters)) }
+        ensures count { IfSome result (λ n. (n ≡ length (filter (is_for self.now.config.workers v) self.now.letters)) × (n ≤ most)) }
+        ensures more { IfNone result (most < length (filter (is_for self.now.config.workers v) self.now.letters)) }
     {
         let Some(list) = self.list_for(v) else {
             return Some(0);
@@ -170,8 +170,8 @@ impl<P: Copy> Outbox<P> {
 
     // The letters for processes of worker `v`; None if there is no such worker.
     fn list_for(&self, v: u32) -> Option<&List<Letter<P>>>
-        ensures letters { IfSome result (λ list. list.now ≡ filter (is_for_worker self.now.config v) self.now.letters) }
-        ensures unknown { IfNone result (filter (is_for_worker self.now.config v) self.now.letters ≡ []) }
+        ensures letters { IfSome result (λ list. list.now ≡ filter (is_for self.now.config.workers v) self.now.letters) }
+        ensures unknown { IfNone result (filter (is_for self.now.config.workers v) self.now.letters ≡ []) }
     {
         self.lists.get(v as usize)
     }

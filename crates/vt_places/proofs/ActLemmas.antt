@@ -26,16 +26,16 @@ use Rattle.vt_places.specs.Calls.{Reaches}
 module _ {S P : Type 0} (sim : Simulation S P) where
   -- ---- a send goes to a worker
 
-  any-for : (v : ℕ) (letters : List (Letter P)) → 1 ≤ sim.workers → list_any (is_for sim v) letters ≡ true → v < sim.workers
+  any-for : (v : ℕ) (letters : List (Letter P)) → 1 ≤ sim.workers → list_any (is_for sim.workers v) letters ≡ true → v < sim.workers
   any-for v [] some e = absurd (let h : false ≡ true = e in cc)
   any-for v (letter ∷ letters) some e =
       elim (eqb_tells (letter.event.dest % sim.workers) v) [
         | inl t ↦ subst (λ n. n < sim.workers) t.1 (mod-lt letter.event.dest some)
-        | inr t ↦ any-for v letters some (sym (ap (λ b. b || list_any (is_for sim v) letters) t.0) ∙ e)
+        | inr t ↦ any-for v letters some (sym (ap (λ b. b || list_any (is_for sim.workers v) letters) t.0) ∙ e)
       ]
 
-  pub sent-known : (w v : ℕ) (part : Part P) → 1 ≤ sim.workers → may_send sim w v part ≡ true → v < sim.workers
-  sent-known w v part some may = any-for v part.outbox some (both_pass (not (nat_eq w v)) (list_any (is_for sim v) part.outbox) may).1
+  pub sent-known : (w v : ℕ) (part : Part P) → 1 ≤ sim.workers → may_send sim.workers w v part.outbox ≡ true → v < sim.workers
+  sent-known w v part some may = any-for v part.outbox some (both_pass (not (nat_eq w v)) (list_any (is_for sim.workers v) part.outbox) may).1
 
 -- ---- a fetch of nothing
 
@@ -72,5 +72,5 @@ nothing-passes handlers w k part new was is past = subst (λ (n : Counts). (MAX_
 
 module _ {S P K : Type 0} {handlers : Handlers S P K} {config : Config} {view : View P} {k : HeldWorker S P K} (r : Reaches handlers config view k) where
   -- the kernel of a place sends to a worker of the run
-  pub sent-within : (v : ℕ) → may_send (simulation_of handlers k.config) k.worker v r.part ≡ true → v < config.workers
+  pub sent-within : (v : ℕ) → may_send (simulation_of handlers k.config).workers k.worker v r.part.outbox ≡ true → v < config.workers
   sent-within v may = subst (λ (f : Config). v < f.workers) r.config_is (sent-known (simulation_of handlers k.config) k.worker v r.part k.config.some_worker may)

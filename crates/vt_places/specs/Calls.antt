@@ -189,7 +189,7 @@ module _ {S P : Type 0} (sim : Simulation S P) where
   abbrev pub IsPostRefusal : ℕ → ℕ → Part P → Fault → Type 0
   IsPostRefusal w v part fault =
       IsSendRefusal sim w v part fault
-      ⊎ ((fault ≡ Busy) × (1 < sim.workers) × (may_send sim w v part ≡ true) × (count_of part.sent part.colour + length (letters_for sim v part) ≤ MAX_COUNT))
+      ⊎ ((fault ≡ Busy) × (1 < sim.workers) × (may_send sim.workers w v part.outbox ≡ true) × (count_of part.sent part.colour + length (letters_for sim v part) ≤ MAX_COUNT))
 
   -- why a fetch is refused: what arrived before is not accepted yet; or it is, and the cell was claimed by another place; or
   -- the mail in the worker's inbox, after a list of steps in which the place's are its own, would take a count past its limit

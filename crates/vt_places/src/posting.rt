@@ -45,7 +45,7 @@ impl<M: EventModel> Station<M> {
             (λ _. Visited handlers config (place_view place.old) kernel.old (step.Send (place_worker place.old) v) reply.Done kernel.new (place_view place.old).seen (place_view place.new))
             (λ _. Stays (place_view place.old) (place_view place.new) × (kernel.new ≡ kernel.old)) }
         ensures refused { let handlers = M.handlers (station_model self.now) in let config = station_config self.now in (part : Part _) → StandsFor handlers kernel.old part → IfErr result (λ fault. IsPostRefusal (simulation_of handlers config) (place_worker place.old) v part fault) }
-        ensures unlawful { let handlers = M.handlers (station_model self.now) in let config = station_config self.now in (part : Part _) → StandsFor handlers kernel.old part → may_send (simulation_of handlers config) (place_worker place.old) v part ≡ false → result ≡ Err NotLawful }
+        ensures unlawful { let handlers = M.handlers (station_model self.now) in let config = station_config self.now in (part : Part _) → StandsFor handlers kernel.old part → may_send (simulation_of handlers config).workers (place_worker place.old) v part.outbox ≡ false → result ≡ Err NotLawful }
         ensures ready { Reaches (M.handlers (station_model self.now)) (station_config self.now) (place_view place.new) kernel.new }
     {
         kernel.may_send(v)?;

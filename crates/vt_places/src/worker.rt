@@ -218,7 +218,7 @@ impl<'a, M: EventModel> Worker<'a, M> {
         ensures done { MatchResult result
             (λ _. Visited (M.handlers self.old.model) self.old.config self.old.view self.old.kernel (step.Send self.old.kernel.worker v) reply.Done self.new.kernel self.old.view.seen self.new.view)
             (λ _. Stays self.old.view self.new.view × (self.new.kernel ≡ self.old.kernel)) }
-        ensures unlawful { (part : Part _) → StandsFor (M.handlers self.old.model) self.old.kernel part → may_send (simulation_of (M.handlers self.old.model) self.old.config) self.old.kernel.worker v part ≡ false → result ≡ Err NotLawful }
+        ensures unlawful { (part : Part _) → StandsFor (M.handlers self.old.model) self.old.kernel part → may_send (simulation_of (M.handlers self.old.model) self.old.config).workers self.old.kernel.worker v part.outbox ≡ false → result ≡ Err NotLawful }
         ensures refused { (part : Part _) → StandsFor (M.handlers self.old.model) self.old.kernel part → IfErr result (λ fault. IsPostRefusal (simulation_of (M.handlers self.old.model) self.old.config) self.old.kernel.worker v part fault) }
     {
         self.station.post(&mut self.place, &mut self.kernel, v)

@@ -3,6 +3,7 @@
 use Rattle.std.specs.Prelude.{ℕ, Bool, not, nat_eq, ◌&&◌, List, [], ◌++◌, if◌then◌else◌, slice_get, Option, Some, None}
 use Rattle.std.specs.List.{list_any}
 use Rattle.std.specs.Option.{option_map}
+use Rattle.vt_key.specs.declared.letter.Letter.{Letter}
 use Rattle.vt_key.specs.declared.letter.Mail.{Mail}
 use Rattle.vt_model.specs.Simulation.{Simulation}
 use Rattle.vt_steps.specs.declared.step.Reply.{Reply}
@@ -19,15 +20,15 @@ pub record CellEffect (P C : Type 0) : Type 0 where
   pub cell : C
   pub reply : Reply
 
-module _ {S P : Type 0} (sim : Simulation S P) where
-  -- Send from w to v: they are two workers, and the outbox of w holds a letter for a process of v
-  abbrev pub may_send : ℕ → ℕ → Part P → Bool
-  may_send w v part = not (nat_eq w v) && list_any (is_for sim v) part.outbox
+-- Send from w to v, of so many workers: they are two, and the outbox of w holds a letter for a process of v
+abbrev pub may_send : {P : Type 0} → ℕ → ℕ → ℕ → List (Letter P) → Bool
+may_send workers w v outbox = not (nat_eq w v) && list_any (is_for workers v) outbox
 
+module _ {S P : Type 0} (sim : Simulation S P) where
   -- Send from w to v: the letters for v go to the back of the inbox of v
   unfoldable pub send : ℕ → ℕ → Part P → List (Mail P) → Option (CellEffect P (List (Mail P)))
   send w v part inbox =
-      if may_send w v part then Some (record { part = part_after_send sim v part; cell = inbox ++ mail_of_send sim v part; reply = Done }) else None
+      if may_send sim.workers w v part.outbox then Some (record { part = part_after_send sim v part; cell = inbox ++ mail_of_send sim v part; reply = Done }) else None
 
   -- Cut of w, where the board takes it
   unfoldable pub cut : ℕ → Part P → Board → Option (CellEffect P Board)

@@ -54,7 +54,7 @@ module _ {S P : Type 0} (sim : Simulation S P) where
   -- below the announced time, and no floor is below the hand-in floor
   pub record DoGuardsPass (world : World P) : Type 0 where
     pub homes : (w : ℕ) (part : Part P) (letter : Letter P) → slice_get world.parts w ≡ Some part →
-        find (is_for sim w) part.outbox ≡ Some letter → (next sim world (Home w)).answer ≡ Ok Done
+        find (is_for sim.workers w) part.outbox ≡ Some letter → (next sim world (Home w)).answer ≡ Ok Done
     pub accepts : (w i : ℕ) (part : Part P) (mail : Mail P) → slice_get world.parts w ≡ Some part →
         slice_get part.arrived i ≡ Some mail → (next sim world (Accept w i)).answer ≡ Ok Done
     pub reports : (w : ℕ) → IsTrue world.board.is_open → IsTrue (all_set world.board.has_cut) →

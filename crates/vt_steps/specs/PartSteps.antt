@@ -46,18 +46,18 @@ module _ {P : Type 0} where
 
 -- ---- Home and Accept
 
-module _ {S P : Type 0} (sim : Simulation S P) where
-  -- the letter is for a process of worker w
-  abbrev pub is_for : ℕ → Letter P → Bool
-  is_for w letter = nat_eq (letter.event.dest % sim.workers) w
+-- the letter is for a process of worker w, of so many workers
+abbrev pub is_for : {P : Type 0} → ℕ → ℕ → Letter P → Bool
+is_for workers w letter = nat_eq (letter.event.dest % workers) w
 
+module _ {S P : Type 0} (sim : Simulation S P) where
   -- the letter goes to its process, if it is there and does not hold it already
   abbrev pub deliver : Part P → Letter P → Option (Part P)
   deliver part letter = at_process (accept_process letter) (letter.event.dest / sim.workers) part
 
   -- Home of worker w: the outbox's first letter for a process of w leaves it for its process
   abbrev pub home : ℕ → Part P → Option (Part P)
-  home w part = option_and_then (deliver (record part { outbox = without_first (is_for w) part.outbox })) (find (is_for w) part.outbox)
+  home w part = option_and_then (deliver (record part { outbox = without_first (is_for sim.workers w) part.outbox })) (find (is_for sim.workers w) part.outbox)
 
   -- Accept of the mail at index i of what has arrived: it goes to its process, and the mail behind it moves up
   abbrev pub accept : ℕ → Part P → Option (Part P)
@@ -67,13 +67,13 @@ module _ {S P : Type 0} (sim : Simulation S P) where
 
   -- the letters of the outbox for processes of v
   abbrev pub letters_for : ℕ → Part P → List (Letter P)
-  letters_for v part = filter (is_for v) part.outbox
+  letters_for v part = filter (is_for sim.workers v) part.outbox
 
   -- the part after a send to v: the letters leave the outbox, are counted, and lower the red minimum
   unfoldable pub part_after_send : ℕ → Part P → Part P
   part_after_send v part =
       record part {
-        outbox = filter (λ letter. not (is_for v letter)) part.outbox;
+        outbox = filter (λ letter. not (is_for sim.workers v letter)) part.outbox;
         sent = raised part.sent part.colour (length (letters_for v part));
         red_minimum = earlier part.red_minimum (least_time sim.end (letters_for v part));
       }

@@ -13,7 +13,7 @@ use Rattle.vt_key.specs.declared.letter.Sign.{Sign}
 use Rattle.vt_key.specs.declared.letter.Sign.TheVariants.{Plus, Minus}
 use Rattle.vt_model.specs.Simulation.{Simulation}
 use Rattle.vt_steps.specs.Letters.{unstamped, stamped, signed}
-use Rattle.vt_steps.specs.World.{Entry, LogicalProcess, triple_after}
+use Rattle.vt_steps.specs.World.{Entry, LogicalProcess, entry_rank, triple_after}
 
 -- what a step does at a process: the process after it, the letters that go to the back of the worker's outbox, and how many
 -- serials are taken
@@ -22,12 +22,12 @@ pub record ProcessEffect (P : Type 0) : Type 0 where
   pub letters : List (Letter P)
   pub serials : ℕ
 
+-- of things with a rank each: one of this rank may follow the last one, or none at all, if its rank is greater
+abbrev pub may_follow : {X : Type 0} → (X → Rank) → Option X → Rank → Bool
+may_follow rank_of last rank = option_map_or (λ x. rank_before (rank_of x) rank) last true
+
 module _ {P : Type 0} where
   -- ---- Execute
-
-  -- an event may follow an entry, or no entry at all, if its rank is greater
-  abbrev pub may_follow : Option (Entry P) → Event P → Bool
-  may_follow last event = option_map_or (λ entry. rank_before entry.event.rank event.rank) last true
 
   -- the least pending event becomes the last past entry; what it sends takes the next serials
   unfoldable pub effect_of_execute : {S : Type 0} → Simulation S P → ℕ → ℕ → ℕ → LogicalProcess P → Letter P → List (Letter P) → ProcessEffect P
@@ -44,7 +44,7 @@ module _ {P : Type 0} where
   abbrev pub execute_least : {S : Type 0} → Simulation S P → ℕ → ℕ → ℕ → LogicalProcess P → List (Letter P) → Option (ProcessEffect P)
   execute_least sim p w serial process [] = None
   execute_least sim p w serial process (least ∷ rest) =
-      if may_follow (last_or None process.past) least.event then Some (effect_of_execute sim p w serial process least rest)
+      if may_follow entry_rank (last_or None process.past) least.event.rank then Some (effect_of_execute sim p w serial process least rest)
       else None
 
   -- Execute at process p of worker w, whose next serial is given
@@ -53,11 +53,11 @@ module _ {P : Type 0} where
 
   -- ---- Undo
 
-  -- an event has to be undone: a pending rank is less than its own, or a waiting one is at most its own
-  abbrev pub must_undo : LogicalProcess P → Event P → Bool
-  must_undo process event =
-      list_any (λ letter. rank_before letter.event.rank event.rank) process.pending
-      || list_any (λ letter. not (rank_before event.rank letter.event.rank)) process.waiting
+  -- an event of this rank has to be undone: a pending rank is less, or a waiting one is at most this one
+  abbrev pub must_undo : List (Letter P) → List (Letter P) → Rank → Bool
+  must_undo pending waiting rank =
+      list_any (λ letter. rank_before letter.event.rank rank) pending
+      || list_any (λ letter. not (rank_before rank letter.event.rank)) waiting
 
   -- the last past entry is dropped, its event is pending again, and the anti-messages of what it sent go out
   unfoldable pub effect_of_undo : LogicalProcess P → Entry P → ProcessEffect P
@@ -73,7 +73,7 @@ module _ {P : Type 0} where
 
   -- Undo at a process. The guard: there is a last past entry, and its event has to be undone
   abbrev pub undo_process : LogicalProcess P → Option (ProcessEffect P)
-  undo_process process = option_and_then (λ last. if must_undo process last.event then Some (effect_of_undo process last) else None) (last_or None process.past)
+  undo_process process = option_and_then (λ last. if must_undo process.pending process.waiting last.event.rank then Some (effect_of_undo process last) else None) (last_or None process.past)
 
   -- ---- Cancel
 
@@ -82,11 +82,14 @@ module _ {P : Type 0} where
   are_opposite (Some minus) (Some plus) = key_same minus.event.rank.key plus.event.rank.key
   are_opposite _ _ = false
 
-  -- Cancel at a process: the first waiting and the first pending letter of this stamp, if they have equal keys, annihilate
-  -- each other
+  -- the first waiting and the first pending letter of this stamp annihilate each other
+  abbrev pub can_annihilate : Stamp → List (Letter P) → List (Letter P) → Bool
+  can_annihilate stamp pending waiting = are_opposite (find (has_stamp stamp) waiting) (find (has_stamp stamp) pending)
+
+  -- Cancel at a process of this stamp
   unfoldable pub cancel_process : Stamp → LogicalProcess P → Option (ProcessEffect P)
   cancel_process stamp process =
-      if are_opposite (find (has_stamp stamp) process.waiting) (find (has_stamp stamp) process.pending)
+      if can_annihilate stamp process.pending process.waiting
       then Some (record {
         process = record process {
           pending = without_first (has_stamp stamp) process.pending;
@@ -99,11 +102,10 @@ module _ {P : Type 0} where
 
   -- ---- a letter that comes, by Home or by Accept
 
-  -- a process holds a letter: a message of its rank is pending or past, or an anti-message of its rank is waiting
-  abbrev pub holds : LogicalProcess P → Sign → Rank → Bool
-  holds process Plus rank =
-      list_any (has_rank rank) process.pending || list_any (λ entry. rank_same entry.event.rank rank) process.past
-  holds process Minus rank = list_any (has_rank rank) process.waiting
+  -- a letter is held: a message of its rank is pending or past, or an anti-message of its rank is waiting
+  abbrev pub holds : {X : Type 0} → (X → Rank) → List (Letter P) → List (Letter P) → List X → Sign → Rank → Bool
+  holds rank_of pending waiting past Plus rank = list_any (has_rank rank) pending || list_any (λ x. rank_same (rank_of x) rank) past
+  holds rank_of pending waiting past Minus rank = list_any (has_rank rank) waiting
 
   -- a message is pending from now on, an anti-message waiting
   abbrev pub with_letter : LogicalProcess P → Sign → Letter P → LogicalProcess P
@@ -113,5 +115,5 @@ module _ {P : Type 0} where
   -- a letter comes to its process, which must not hold it already
   unfoldable pub accept_process : Letter P → LogicalProcess P → Option (ProcessEffect P)
   accept_process letter process =
-      if holds process letter.sign letter.event.rank then None
+      if holds entry_rank process.pending process.waiting process.past letter.sign letter.event.rank then None
       else Some (record { process = with_letter process letter.sign letter; letters = []; serials = 0 })

@@ -3,6 +3,7 @@
 use Rattle.std.specs.Prelude.{ℕ, ◌+◌, ◌-◌, ◌*◌, ◌/◌, Bool, false, List, [], ◌++◌, map, length, replicate}
 use Rattle.std.specs.List.{flat_map, range_with_len, sum_by}
 use Rattle.vt_key.specs.Times.{Time, opening_time}
+use Rattle.vt_key.specs.declared.order.Rank.{Rank}
 use Rattle.vt_key.specs.declared.letter.Event.{Event}
 use Rattle.vt_key.specs.declared.letter.Letter.{Letter}
 use Rattle.vt_key.specs.declared.letter.Mail.{Mail}
@@ -81,6 +82,10 @@ World P = WorldOf (LogicalProcess P) P
 
 -- ---- histories
 
+-- the rank of an entry is that of its event
+abbrev pub entry_rank : {P : Type 0} → Entry P → Rank
+entry_rank entry = entry.event.rank
+
 -- the events of these entries, as the model knows them
 abbrev pub entry_events : {P : Type 0} → List (Entry P) → List (Sent P)
 entry_events entries = map (λ entry. unstamped entry.event) entries
@@ -92,11 +97,13 @@ triple_after sim p entries = after sim p (entry_events entries)
 -- ---- what is unprocessed or travelling
 
 module _ {P : Type 0} where
-  -- the letters in a part: in its outbox, fetched, pending and waiting
+  -- the letters of a worker: in its outbox, arrived, and at each of its processes
+  abbrev pub letters_of_worker : {X : Type 0} → (X → List (Letter P)) → List (Letter P) → List (Mail P) → List X → List (Letter P)
+  letters_of_worker at_process outbox arrived processes = outbox ++ map (λ mail. mail.letter) arrived ++ flat_map at_process processes
+
+  -- the letters in a part: in its outbox, arrived, pending and waiting
   abbrev pub letters_in : Part P → List (Letter P)
-  letters_in part =
-      part.outbox ++ map (λ mail. mail.letter) part.arrived
-      ++ flat_map (λ process. process.pending ++ process.waiting) part.processes
+  letters_in part = letters_of_worker (λ process. process.pending ++ process.waiting) part.outbox part.arrived part.processes
 
   -- all letters of a world: those in the parts, and those in the inboxes
   abbrev pub all_letters : World P → List (Letter P)

@@ -49,7 +49,7 @@ pub fn letters_are_delivered<S, P>()
     ghost sim: { Simulation S P }
     requires { IsLawful sim }
     ensures homes { (serial : ℕ) (steps : List Step) (w : ℕ) (part : Part P) (letter : Letter P) → slice_get (reached sim serial steps).parts w ≡ Some part →
-        find (is_for sim w) part.outbox ≡ Some letter → (next sim (reached sim serial steps) (Home w)).answer ≡ Ok Done }
+        find (is_for sim.workers w) part.outbox ≡ Some letter → (next sim (reached sim serial steps) (Home w)).answer ≡ Ok Done }
     ensures accepts { (serial : ℕ) (steps : List Step) (w i : ℕ) (part : Part P) (mail : Mail P) → slice_get (reached sim serial steps).parts w ≡ Some part →
         slice_get part.arrived i ≡ Some mail → (next sim (reached sim serial steps) (Accept w i)).answer ≡ Ok Done }
 {}

@@ -124,23 +124,23 @@ module _ {S P : Type 0} (sim : Simulation S P) (p : ℕ) where
 -- the histories of a worker's processes are their own, and its arrived mail is for them
 pub record IsOwnPart {S P : Type 0} (sim : Simulation S P) (w : ℕ) (part : Part P) : Type 0 where
   pub history : (place : ℕ) (process : LogicalProcess P) → slice_get part.processes place ≡ Some process → IsOwnHistory sim (process_at sim w place) process
-  pub arrived : AllByRecursion (λ mail. is_for sim w mail.letter ≡ true) part.arrived
+  pub arrived : AllByRecursion (λ mail. is_for sim.workers w mail.letter ≡ true) part.arrived
 
 module _ {S P : Type 0} (sim : Simulation S P) (w : ℕ) where
   -- a letter for a worker is for the process of its place
-  receiver-place : (letter : Letter P) → is_for sim w letter ≡ true → letter.event.dest ≡ process_at sim w (letter.event.dest / sim.workers)
+  receiver-place : (letter : Letter P) → is_for sim.workers w letter ≡ true → letter.event.dest ≡ process_at sim w (letter.event.dest / sim.workers)
   receiver-place letter h =
       let own : letter.event.dest % sim.workers ≡ w = eqb-true (letter.event.dest % sim.workers) w h in
       let whole = div-add-mod' letter.event.dest sim.workers in
       omega arith
 
   -- a letter leaves
-  leaves-own : (old new : Part P) (letter : Letter P) → Leaves sim w old new letter → IsOwnPart sim w old → IsOwnPart sim w new × (is_for sim w letter ≡ true)
+  leaves-own : (old new : Part P) (letter : Letter P) → Leaves sim w old new letter → IsOwnPart sim w old → IsOwnPart sim w new × (is_for sim.workers w letter ≡ true)
   leaves-own old new letter (homes found is) h =
-      (subst (IsOwnPart sim w) (sym is) (record { history = h.history; arrived = h.arrived }), find-passes (is_for sim w) old.outbox letter found)
+      (subst (IsOwnPart sim w) (sym is) (record { history = h.history; arrived = h.arrived }), find-passes (is_for sim.workers w) old.outbox letter found)
   leaves-own old new letter (arrives i mail at letter_is is) h = (
-    subst (IsOwnPart sim w) (sym is) (record { history = h.history; arrived = every-remove (λ m. is_for sim w m.letter ≡ true) old.arrived i h.arrived }),
-    subst (λ l. is_for sim w l ≡ true) (sym letter_is) (every-get (λ m. is_for sim w m.letter ≡ true) old.arrived i mail at h.arrived),
+    subst (IsOwnPart sim w) (sym is) (record { history = h.history; arrived = every-remove (λ m. is_for sim.workers w m.letter ≡ true) old.arrived i h.arrived }),
+    subst (λ l. is_for sim.workers w l ≡ true) (sym letter_is) (every-get (λ m. is_for sim.workers w m.letter ≡ true) old.arrived i mail at h.arrived),
   )
 
   -- a process gives way to one whose history is its own
@@ -169,7 +169,7 @@ module _ {S P : Type 0} (sim : Simulation S P) (w : ℕ) where
 -- of each worker: its part is its own, and the mail in its inbox is for its processes
 pub record IsOwnWorld {S P : Type 0} (sim : Simulation S P) (world : World P) : Type 0 where
   pub parts : (w : ℕ) (part : Part P) → slice_get world.parts w ≡ Some part → IsOwnPart sim w part
-  pub inboxes : (v : ℕ) (inbox : List (Mail P)) → slice_get world.inboxes v ≡ Some inbox → AllByRecursion (λ mail. is_for sim v mail.letter ≡ true) inbox
+  pub inboxes : (v : ℕ) (inbox : List (Mail P)) → slice_get world.inboxes v ≡ Some inbox → AllByRecursion (λ mail. is_for sim.workers v mail.letter ≡ true) inbox
 
 module _ {S P : Type 0} (sim : Simulation S P) where
   -- a part gives way to one of its own
@@ -178,7 +178,7 @@ module _ {S P : Type 0} (sim : Simulation S P) where
   part-own old new w part after is e h f v found at = all-put (IsOwnPart sim) old.parts w part after is h.parts f v found (sym (ap (λ ps. slice_get ps v) e) ∙ at)
 
   -- the inboxes stay
-  same-inboxes : (old new : World P) → new.inboxes ≡ old.inboxes → IsOwnWorld sim old → (v : ℕ) (inbox : List (Mail P)) → slice_get new.inboxes v ≡ Some inbox → AllByRecursion (λ mail. is_for sim v mail.letter ≡ true) inbox
+  same-inboxes : (old new : World P) → new.inboxes ≡ old.inboxes → IsOwnWorld sim old → (v : ℕ) (inbox : List (Mail P)) → slice_get new.inboxes v ≡ Some inbox → AllByRecursion (λ mail. is_for sim.workers v mail.letter ≡ true) inbox
   same-inboxes old new e h v inbox at = h.inboxes v inbox (sym (ap (λ boxes. slice_get boxes v) e) ∙ at)
 
   -- each change keeps it
@@ -191,14 +191,14 @@ module _ {S P : Type 0} (sim : Simulation S P) where
   }
   own-kept old new (sends w v part inbox is in_is e) h = record {
     parts = part-own old new w part (part_after_send sim v part) is (ap (λ n. n.parts) e) h (λ here. record { history = here.history; arrived = here.arrived });
-    inboxes = λ u box at. all-put (λ j z. AllByRecursion (λ mail. is_for sim j mail.letter ≡ true) z) old.inboxes v inbox (inbox ++ mail_of_send sim v part) in_is h.inboxes
-        (λ there. every-append (λ mail. is_for sim v mail.letter ≡ true) inbox (mail_of_send sim v part) there
-        (every-map (λ letter. record { letter = letter; colour = part.colour }) (λ mail. is_for sim v mail.letter ≡ true) (filter (is_for sim v) part.outbox) (filter-passes (is_for sim v) part.outbox)))
+    inboxes = λ u box at. all-put (λ j z. AllByRecursion (λ mail. is_for sim.workers j mail.letter ≡ true) z) old.inboxes v inbox (inbox ++ mail_of_send sim v part) in_is h.inboxes
+        (λ there. every-append (λ mail. is_for sim.workers v mail.letter ≡ true) inbox (mail_of_send sim v part) there
+        (every-map (λ letter. record { letter = letter; colour = part.colour }) (λ mail. is_for sim.workers v mail.letter ≡ true) (filter (is_for sim.workers v) part.outbox) (filter-passes (is_for sim.workers v) part.outbox)))
         u box (sym (ap (λ n. slice_get n.inboxes u) e) ∙ at);
   }
   own-kept old new (fetches w part inbox is in_is none e) h = record {
     parts = part-own old new w part (part_after_fetch inbox part) is (ap (λ n. n.parts) e) h (λ here. record { history = here.history; arrived = h.inboxes w inbox in_is });
-    inboxes = λ u box at. all-put (λ j z. AllByRecursion (λ mail. is_for sim j mail.letter ≡ true) z) old.inboxes w inbox [] in_is h.inboxes (λ there. tt) u box (sym (ap (λ n. slice_get n.inboxes u) e) ∙ at);
+    inboxes = λ u box at. all-put (λ j z. AllByRecursion (λ mail. is_for sim.workers j mail.letter ≡ true) z) old.inboxes w inbox [] in_is h.inboxes (λ there. tt) u box (sym (ap (λ n. slice_get n.inboxes u) e) ∙ at);
   }
   own-kept old new (cuts w part board is cut_is e) h = record {
     parts = part-own old new w part (part_after_cut sim.end old.board.announced part) is (ap (λ n. n.parts) e) h (λ here. record { history = here.history; arrived = here.arrived });
@@ -233,7 +233,7 @@ module _ {S P : Type 0} (sim : Simulation S P) where
           history = λ place process there. subst (IsOwnHistory sim (process_at sim w place)) (sym (get-replicate (process_count sim from.0) place empty process there)) (record { fired = tt; receiver = tt; pending = tt });
           arrived = tt;
         }));
-    inboxes = λ v inbox at. (let none : List (Mail P) = [] in subst (AllByRecursion (λ mail. is_for sim v mail.letter ≡ true)) (sym (get-replicate sim.workers v none inbox at)) tt);
+    inboxes = λ v inbox at. (let none : List (Mail P) = [] in subst (AllByRecursion (λ mail. is_for sim.workers v mail.letter ≡ true)) (sym (get-replicate sim.workers v none inbox at)) tt);
   }
 
   -- and each reached world

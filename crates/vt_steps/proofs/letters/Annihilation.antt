@@ -8,7 +8,7 @@ use Rattle.vt_key.specs.declared.letter.Event.{Event}
 use Rattle.vt_key.specs.declared.letter.Letter.{Letter}
 use Rattle.vt_key.specs.declared.letter.Sign.TheVariants.{Plus, Minus}
 use Rattle.vt_steps.specs.Letters.{signed}
-use Rattle.vt_steps.specs.World.{LogicalProcess}
+use Rattle.vt_steps.specs.World.{LogicalProcess, entry_rank}
 use Rattle.vt_steps.specs.ProcessSteps.{ProcessEffect, holds, are_opposite, accept_process, cancel_process}
 use Rattle.vt_steps.specs.Laws.{IsFreeOf, unchanged, Annihilate}
 use Rattle.vt_key.proofs.OrderLemmas.{same-stamp_same, same-key_same}
@@ -72,8 +72,8 @@ module _ {P : Type 0} (event : Event P) (process : LogicalProcess P) (free : IsF
       cancel_process event.rank.stamp both.process ≡ Some (unchanged process)
   unfolding accept_process with_both
   message_first with_one both first second =
-      let one = unless_has (holds process Plus event.rank) _ with_one first in
-      let two = unless_has (holds with_one.process Minus event.rank) _ both second in
+      let one = unless_has (holds entry_rank process.pending process.waiting process.past Plus event.rank) _ with_one first in
+      let two = unless_has (holds entry_rank with_one.process.pending with_one.process.waiting with_one.process.past Minus event.rank) _ both second in
       let is : both.process ≡ with_both = ap (λ e. e.process) two.1 ∙ ap (λ (e : ProcessEffect P). record (e.process) { waiting = insert_letter (signed Minus event) e.process.waiting }) one.1 in
       ap (λ q. cancel_process event.rank.stamp q) is ∙ cancel-both
 
@@ -81,8 +81,8 @@ module _ {P : Type 0} (event : Event P) (process : LogicalProcess P) (free : IsF
       cancel_process event.rank.stamp both.process ≡ Some (unchanged process)
   unfolding accept_process with_both
   anti_message_first with_one both first second =
-      let one = unless_has (holds process Minus event.rank) _ with_one first in
-      let two = unless_has (holds with_one.process Plus event.rank) _ both second in
+      let one = unless_has (holds entry_rank process.pending process.waiting process.past Minus event.rank) _ with_one first in
+      let two = unless_has (holds entry_rank with_one.process.pending with_one.process.waiting with_one.process.past Plus event.rank) _ both second in
       let is : both.process ≡ with_both = ap (λ e. e.process) two.1 ∙ ap (λ (e : ProcessEffect P). record (e.process) { pending = insert_letter (signed Plus event) e.process.pending }) one.1 in
       ap (λ q. cancel_process event.rank.stamp q) is ∙ cancel-both
 

@@ -138,7 +138,7 @@ effect-balance old place process effect come gone more fewer is b = record {
 pub leaves-balance : {S P : Type 0} (sim : Simulation S P) (w : ℕ) (old new : Part P) (letter : Letter P) → Leaves sim w old new letter →
     (f : Sign → Event P → ℕ) → part_sum f new + letter_weight f letter ≡ part_sum f old
 leaves-balance sim w old new letter (homes is e) f =
-    let a = sum_by-without_first (letter_weight f) (is_for sim w) old.outbox letter is in
+    let a = sum_by-without_first (letter_weight f) (is_for sim.workers w) old.outbox letter is in
     let c = ap (part_sum f) e in
     omega arith
 leaves-balance sim w old new letter (arrives i mail is same e) f =
@@ -351,9 +351,9 @@ send-copies {P = P} sim old new w v part inbox is in_is parts inboxes =
           let z = sum_by-put (sum_by (mail_weight f)) old.inboxes v inbox (inbox ++ mail_of_send sim v part) in_is in
           let u = ap (sum_by (sum_by (mail_weight f))) inboxes in
           let a = sum_by-append (mail_weight f) inbox (mail_of_send sim v part) in
-          let b = sum_by-filters (letter_weight f) (is_for sim v) part.outbox in
+          let b = sum_by-filters (letter_weight f) (is_for sim.workers v) part.outbox in
           let wrap : Letter P → Mail P = λ letter. record { letter = letter; colour = part.colour } in
-          let c = sum_by-map (mail_weight f) wrap (filter (is_for sim v) part.outbox) in
+          let c = sum_by-map (mail_weight f) wrap (filter (is_for sim.workers v) part.outbox) in
           omega arith);
       entries = λ g.
           (let x = sum_by-put (part_entries g) old.parts w part (part_after_send sim v part) is in

@@ -15,7 +15,7 @@ use Rattle.vt_steps.specs.declared.step.Step.{Step}
 use Rattle.vt_steps.specs.declared.step.Step.TheVariants.{Execute, Undo, Cancel, Home, Send, Fetch, Accept, Cut, Report, Commit, Close}
 use Rattle.vt_steps.specs.declared.step.Reply.TheVariants.{Done}
 use Rattle.vt_steps.specs.Letters.{signed, stamped, unstamped, is_empty}
-use Rattle.vt_steps.specs.World.{Entry, LogicalProcess, Part, Board, Book, World, process_at, triple_after}
+use Rattle.vt_steps.specs.World.{Entry, LogicalProcess, Part, Board, Book, World, process_at, triple_after, entry_rank}
 use Rattle.vt_steps.specs.ProcessSteps.{ProcessEffect, may_follow, must_undo, are_opposite, holds, effect_of_execute, effect_of_undo, execute_least, execute_process, undo_process, cancel_process, accept_process}
 use Rattle.vt_steps.specs.PartSteps.{execute, undo, cancel, with_effect, at_process, is_for, deliver, home, accept, part_after_send, mail_of_send, part_after_fetch, part_after_cut, report_least}
 use Rattle.vt_steps.specs.CellSteps.{CellEffect, may_send, send, fetch, cut, report, commit, close}
@@ -103,7 +103,7 @@ execute-done : {S P : Type 0} (sim : Simulation S P) (p w serial : ℕ) (process
     process.pending ≡ pending → execute_least sim p w serial process pending ≡ Some effect → Executed sim p w serial process effect
 execute-done sim p w serial process effect [] is e = absurd (let h : None ≡ Some effect = e in cc)
 execute-done sim p w serial process effect (least ∷ rest) is e =
-    let has = if_has (may_follow (last_or None process.past) least.event) _ effect e in
+    let has = if_has (may_follow entry_rank (last_or None process.past) least.event.rank) _ effect e in
     record { least = least; rest = rest; is = is; does = has.1 }
 
 record Undone {P : Type 0} (process : LogicalProcess P) (effect : ProcessEffect P) : Type 0 where
@@ -113,8 +113,8 @@ record Undone {P : Type 0} (process : LogicalProcess P) (effect : ProcessEffect 
 
 undo-done : {P : Type 0} (process : LogicalProcess P) (effect : ProcessEffect P) → undo_process process ≡ Some effect → Undone process effect
 undo-done {P = P} process effect e =
-    let at = chain_has (λ (last : Entry P). cond (must_undo process last.event) (Some (effect_of_undo process last)) None) (last_or None process.past) effect e in
-    let has = if_has (must_undo process at.0.event) _ effect at.2 in
+    let at = chain_has (λ (last : Entry P). cond (must_undo process.pending process.waiting last.event.rank) (Some (effect_of_undo process last)) None) (last_or None process.past) effect e in
+    let has = if_has (must_undo process.pending process.waiting at.0.event.rank) _ effect at.2 in
     record { last = at.0; is = at.1; does = has.1 }
 
 record Opposite {P : Type 0} (m p : Option (Letter P)) : Type 0 where
@@ -231,14 +231,14 @@ unfolding accept_process
 deliver-balance {P = P} sim w old part new letter leaves e =
     let place : ℕ = letter.event.dest / sim.workers in
     let a = at_process-done (accept_process letter) place part new e in
-    let free = unless_has (holds a.process letter.sign letter.event.rank) _ a.effect a.takes in
+    let free = unless_has (holds entry_rank a.process.pending a.process.waiting a.process.past letter.sign letter.event.rank) _ a.effect a.takes in
     subst (λ n. PartBalance old n [] [] [] []) (sym (a.gives ∙ ap (with_effect part place) free.1))
     (takes-balance sim w place old part letter a.process leaves a.at)
 
 home-balance : {S P : Type 0} (sim : Simulation S P) (w : ℕ) (part new : Part P) → home sim w part ≡ Some new → PartBalance part new [] [] [] []
 home-balance {P = P} sim w part new e =
-    let left : Part P = record part { outbox = without_first (is_for sim w) part.outbox } in
-    let at = chain_has (deliver sim left) (find (is_for sim w) part.outbox) new e in
+    let left : Part P = record part { outbox = without_first (is_for sim.workers w) part.outbox } in
+    let at = chain_has (deliver sim left) (find (is_for sim.workers w) part.outbox) new e in
     deliver-balance sim w part left new at.0 (homes at.1 refl) at.2
 
 accept-balance : {S P : Type 0} (sim : Simulation S P) (w i : ℕ) (part new : Part P) → accept sim i part ≡ Some new → PartBalance part new [] [] [] []
@@ -259,14 +259,14 @@ send-kept : {S P : Type 0} (sim : Simulation S P) (world : World P) (w v : ℕ) 
 unfolding send letter_sum part_after_send mail_of_send
 send-kept {P = P} sim world w v =
     cell-kept world w (with_inbox v) (send sim w v) (slice_get world.inboxes v) (λ part inbox effect is holds e f.
-    (let has = if_has (may_send sim w v part) _ effect e in
+    (let has = if_has (may_send sim.workers w v part.outbox) _ effect e in
     let same = ap (λ (n : CellEffect P (List (Mail P))). letter_sum f (with_inbox v (with_part world w n.part) n.cell)) has.1 in
     let x = sum_by-put (part_sum f) world.parts w part (part_after_send sim v part) is in
     let z = sum_by-put (sum_by (mail_weight f)) world.inboxes v inbox (inbox ++ mail_of_send sim v part) holds in
     let a = sum_by-append (mail_weight f) inbox (mail_of_send sim v part) in
-    let b = sum_by-filters (letter_weight f) (is_for sim v) part.outbox in
+    let b = sum_by-filters (letter_weight f) (is_for sim.workers v) part.outbox in
     let wrap : Letter P → Mail P = λ letter. record { letter = letter; colour = part.colour } in
-    let c = sum_by-map (mail_weight f) wrap (filter (is_for sim v) part.outbox) in
+    let c = sum_by-map (mail_weight f) wrap (filter (is_for sim.workers v) part.outbox) in
     omega arith))
 
 -- an inbox becomes what has arrived

@@ -19,7 +19,7 @@ use Rattle.vt_steps.specs.Letters.{letter_time, stamped, unstamped}
 use Rattle.vt_steps.specs.Next.{reached}
 use Rattle.vt_steps.specs.PartSteps.{is_below, part_after_commit, part_after_cut, part_after_fetch, part_after_send, process_after_commit, with_effect}
 use Rattle.vt_steps.specs.ProcessSteps.{ProcessEffect, effect_of_execute, effect_of_undo, may_follow, with_letter}
-use Rattle.vt_steps.specs.World.{Entry, LogicalProcess, Part, World, all_letters, least, letters_in, opening_part, opening_world, process_at, process_count, triple_after}
+use Rattle.vt_steps.specs.World.{Entry, LogicalProcess, Part, World, all_letters, least, letters_in, opening_part, opening_world, process_at, process_count, triple_after, entry_rank}
 use Rattle.vt_key.proofs.ListLemmas.{among-append, among-flat_map, among-left, among-right, every-among, every-append, every-weaker, get-among, no_last, rising-across, rising-append, rising-left}
 use Rattle.vt_steps.proofs.lists.Places.{all-put, get-map, get-replicate}
 use Rattle.vt_steps.proofs.steps.Changes.{Act, executes, undoes, cancels, Leaves, homes, arrives, Local, acts, takes, Change, stays, local, sends, fetches, cuts, reports, commits, closes, run_keeps}
@@ -41,11 +41,11 @@ pub record IsOrdered {P : Type 0} (floor : Time) (process : LogicalProcess P) : 
 
 module _ {P : Type 0} where
   -- what may follow the last past entry, and is not before the floor, follows all
-  follows-all : (floor : Time) (process : LogicalProcess P) (new : Entry P) → IsOrdered floor process → may_follow (last_or None process.past) new.event ≡ true →
+  follows-all : (floor : Time) (process : LogicalProcess P) (new : Entry P) → IsOrdered floor process → may_follow entry_rank (last_or None process.past) new.event.rank ≡ true →
       TimeAtMost floor new.event.rank.key.time → (x : Entry P) → Among x (process.done ++ process.past) → IsEntryBefore x new
   follows-all floor process new ordered may late x m = by_last (last_or None process.past) refl may
     where
-      by_last : (last : Option (Entry P)) → last_or None process.past ≡ last → may_follow last new.event ≡ true → IsEntryBefore x new
+      by_last : (last : Option (Entry P)) → last_or None process.past ≡ last → may_follow entry_rank last new.event.rank ≡ true → IsEntryBefore x new
       by_last None is ok =
           let none : process.done ++ process.past ≡ process.done = ap (λ past. process.done ++ past) (no_last process.past is) ∙ append-nil process.done in
           let before = every-among (λ (e : Entry P). TimeBefore e.event.rank.key.time floor) process.done x ordered.committed (subst (Among x) none m) in

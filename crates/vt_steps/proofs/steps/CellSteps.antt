@@ -19,20 +19,20 @@ use Rattle.vt_steps.proofs.steps.Outcomes.{at_cell-found, at_cell-nobody, at_cel
 module _ {S P : Type 0} (sim : Simulation S P) (world : World P) where
   -- ---- an inbox
 
-  pub next-send : (w v : ℕ) (part : Part P) (inbox : List (Mail P)) → slice_get world.parts w ≡ Some part → slice_get world.inboxes v ≡ Some inbox → may_send sim w v part ≡ true
+  pub next-send : (w v : ℕ) (part : Part P) (inbox : List (Mail P)) → slice_get world.parts w ≡ Some part → slice_get world.inboxes v ≡ Some inbox → may_send sim.workers w v part.outbox ≡ true
       → next sim world (Send w v) ≡ replied (record world { parts = slice_set world.parts w (part_after_send sim v part); inboxes = slice_set world.inboxes v (inbox ++ mail_of_send sim v part) }) Done
   unfolding next send
   next-send w v part inbox there here may =
       at_cell-found world w (with_inbox v) (send sim w v) (slice_get world.inboxes v) part inbox there here
       ∙ ap (λ b. effect_in world w (with_inbox v) (cond b (Some (record { part = part_after_send sim v part; cell = inbox ++ mail_of_send sim v part; reply = Done })) None)) may
 
-  pub next-not_send : (w v : ℕ) (part : Part P) → slice_get world.parts w ≡ Some part → may_send sim w v part ≡ false
+  pub next-not_send : (w v : ℕ) (part : Part P) → slice_get world.parts w ≡ Some part → may_send sim.workers w v part.outbox ≡ false
       → next sim world (Send w v) ≡ refused world NotLawful
   unfolding next send
   next-not_send w v part there may =
       at_cell-unlawful world w (with_inbox v) (send sim w v) (slice_get world.inboxes v) (λ own is inbox here.
       (let same : own ≡ part = (let h : Some own ≡ Some part = sym is ∙ there in cc) in
-      ap (λ b. (let o : Option (CellEffect P (List (Mail P))) = cond b (Some (record { part = part_after_send sim v own; cell = inbox ++ mail_of_send sim v own; reply = Done })) None in o)) (ap (may_send sim w v) same ∙ may)))
+      ap (λ b. (let o : Option (CellEffect P (List (Mail P))) = cond b (Some (record { part = part_after_send sim v own; cell = inbox ++ mail_of_send sim v own; reply = Done })) None in o)) (ap (λ (q : Part P). may_send sim.workers w v q.outbox) same ∙ may)))
 
   pub next-send_nobody : (w v : ℕ) → slice_get world.parts w ≡ None → next sim world (Send w v) ≡ refused world NotLawful
   unfolding next

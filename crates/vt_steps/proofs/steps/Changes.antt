@@ -15,7 +15,7 @@ use Rattle.vt_steps.specs.CellSteps.{CellEffect, close, commit, cut, fetch, may_
 use Rattle.vt_steps.specs.Next.{at_cell, done_or_refused, locally, next, refused, run, with_board, with_book, with_inbox, with_part}
 use Rattle.vt_steps.specs.PartSteps.{at_process, deliver, is_for, mail_of_send, part_after_commit, part_after_cut, part_after_fetch, part_after_send, report_got, report_least, report_sent, rows_of_commit, with_effect, accept, home}
 use Rattle.vt_steps.specs.ProcessSteps.{ProcessEffect, accept_process, are_opposite, cancel_process, effect_of_execute, effect_of_undo, execute_least, holds, may_follow, must_undo, with_letter, undo_process}
-use Rattle.vt_steps.specs.World.{Board, Book, Entry, LogicalProcess, Part, World, process_at}
+use Rattle.vt_steps.specs.World.{Board, Book, Entry, LogicalProcess, Part, World, process_at, entry_rank}
 use Rattle.vt_steps.specs.declared.step.Step.{Step}
 use Rattle.vt_steps.specs.declared.step.Step.TheVariants.{Accept, Cancel, Close, Commit, Cut, Execute, Fetch, Home, Report, Send, Undo}
 use Rattle.vt_steps.proofs.steps.Outcomes.{at_cell-either, done_or_refused-either, locally-either, unless_closed-either}
@@ -24,8 +24,8 @@ use Rattle.vt_steps.proofs.steps.Outcomes.{at_cell-either, done_or_refused-eithe
 -- and its anti-message annihilate each other
 pub data Act {S P : Type 0} (sim : Simulation S P) (p w serial : ℕ) (old : LogicalProcess P) (new : ProcessEffect P) : Type 0 where
   executes : (least : Letter P) (rest : List (Letter P)) → old.pending ≡ least ∷ rest →
-      may_follow (last_or None old.past) least.event ≡ true → new ≡ effect_of_execute sim p w serial old least rest → Act sim p w serial old new
-  undoes : (last : Entry P) → last_or None old.past ≡ Some last → must_undo old last.event ≡ true → new ≡ effect_of_undo old last → Act sim p w serial old new
+      may_follow entry_rank (last_or None old.past) least.event.rank ≡ true → new ≡ effect_of_execute sim p w serial old least rest → Act sim p w serial old new
+  undoes : (last : Entry P) → last_or None old.past ≡ Some last → must_undo old.pending old.waiting last.event.rank ≡ true → new ≡ effect_of_undo old last → Act sim p w serial old new
   cancels : (stamp : Stamp) (minus plus : Letter P) → find (has_stamp stamp) old.waiting ≡ Some minus → find (has_stamp stamp) old.pending ≡ Some plus →
       key_same minus.event.rank.key plus.event.rank.key ≡ true →
       new ≡ record {
@@ -36,7 +36,7 @@ pub data Act {S P : Type 0} (sim : Simulation S P) (p w serial : ℕ) (old : Log
 
 -- a letter leaves the outbox for home, or the mail that has arrived
 pub data Leaves {S P : Type 0} (sim : Simulation S P) (w : ℕ) (old new : Part P) (letter : Letter P) : Type 0 where
-  homes : find (is_for sim w) old.outbox ≡ Some letter → new ≡ record old { outbox = without_first (is_for sim w) old.outbox } → Leaves sim w old new letter
+  homes : find (is_for sim.workers w) old.outbox ≡ Some letter → new ≡ record old { outbox = without_first (is_for sim.workers w) old.outbox } → Leaves sim w old new letter
   arrives : (i : ℕ) (mail : Mail P) → slice_get old.arrived i ≡ Some mail → letter ≡ mail.letter → new ≡ record old { arrived = remove old.arrived i } → Leaves sim w old new letter
 
 -- a local step of worker w: a process acts, or takes a letter
@@ -44,7 +44,7 @@ pub data Local {S P : Type 0} (sim : Simulation S P) (w : ℕ) (old new : Part P
   acts : (place : ℕ) (process : LogicalProcess P) (acted : ProcessEffect P) → slice_get old.processes place ≡ Some process →
       Act sim (process_at sim w place) w old.serial process acted → new ≡ with_effect old place acted → Local sim w old new
   takes : (part : Part P) (letter : Letter P) (place : ℕ) (process : LogicalProcess P) → Leaves sim w old part letter →
-      slice_get part.processes place ≡ Some process → place ≡ letter.event.dest / sim.workers → holds process letter.sign letter.event.rank ≡ false →
+      slice_get part.processes place ≡ Some process → place ≡ letter.event.dest / sim.workers → holds entry_rank process.pending process.waiting process.past letter.sign letter.event.rank ≡ false →
       new ≡ with_effect part place (record { process = with_letter process letter.sign letter; letters = []; serials = 0 }) → Local sim w old new
 
 -- the world after a lawful report of w on this board
@@ -97,14 +97,14 @@ pub execute_acts : {S P : Type 0} (sim : Simulation S P) (p w serial : ℕ) (old
     old.pending ≡ pending → execute_least sim p w serial old pending ≡ Some new → Act sim p w serial old new
 execute_acts sim p w serial old [] new is e = absurd (let h : None ≡ Some new = e in cc)
 execute_acts sim p w serial old (least ∷ rest) new is e =
-    let has = if_has (may_follow (last_or None old.past) least.event) (effect_of_execute sim p w serial old least rest) new e in
+    let has = if_has (may_follow entry_rank (last_or None old.past) least.event.rank) (effect_of_execute sim p w serial old least rest) new e in
     executes least rest is has.0 has.1
 
 -- Undo
 pub undo_acts : {S P : Type 0} (sim : Simulation S P) (p w serial : ℕ) (old : LogicalProcess P) (new : ProcessEffect P) → undo_process old ≡ Some new → Act sim p w serial old new
 undo_acts {P = P} sim p w serial old new e =
-    let at = chain_has (λ (last : Entry P). cond (must_undo old last.event) (Some (effect_of_undo old last)) None) (last_or None old.past) new e in
-    let has = if_has (must_undo old at.0.event) (effect_of_undo old at.0) new at.2 in
+    let at = chain_has (λ (last : Entry P). cond (must_undo old.pending old.waiting last.event.rank) (Some (effect_of_undo old last)) None) (last_or None old.past) new e in
+    let has = if_has (must_undo old.pending old.waiting at.0.event.rank) (effect_of_undo old at.0) new at.2 in
     undoes at.0 at.1 has.0 has.1
 
 -- two letters that annihilate each other are there
@@ -141,14 +141,14 @@ deliver_takes sim w old part new letter leaves e =
     let place = letter.event.dest / sim.workers in
     let has = map_has (with_effect part place) (option_and_then (accept_process letter) (slice_get part.processes place)) new e in
     let at = chain_has (accept_process letter) (slice_get part.processes place) has.0 has.1 in
-    let free = unless_has (holds at.0 letter.sign letter.event.rank) _ has.0 at.2 in
+    let free = unless_has (holds entry_rank at.0.pending at.0.waiting at.0.past letter.sign letter.event.rank) _ has.0 at.2 in
     takes part letter place at.0 leaves at.1 refl free.0 (has.2 ∙ ap (with_effect part place) free.1)
 
 -- Home
 home_takes : {S P : Type 0} (sim : Simulation S P) (w : ℕ) (old new : Part P) → home sim w old ≡ Some new → Local sim w old new
 home_takes {P = P} sim w old new e =
-    let part : Part P = record old { outbox = without_first (is_for sim w) old.outbox } in
-    let at = chain_has (deliver sim part) (find (is_for sim w) old.outbox) new e in
+    let part : Part P = record old { outbox = without_first (is_for sim.workers w) old.outbox } in
+    let at = chain_has (deliver sim part) (find (is_for sim.workers w) old.outbox) new e in
     deliver_takes sim w old part new at.0 (homes at.1 refl) at.2
 
 -- Accept
@@ -183,7 +183,7 @@ send_changes : {S P : Type 0} (sim : Simulation S P) (old : World P) (w v : ℕ)
 unfolding send
 send_changes {P = P} sim old w v =
     cell_changes sim old w (with_inbox v) (send sim w v) (slice_get old.inboxes v) (λ part inbox effect is holds e.
-    (let has = if_has (may_send sim w v part) _ effect e in
+    (let has = if_has (may_send sim.workers w v part.outbox) _ effect e in
     sends w v part inbox is holds (ap (λ (x : CellEffect P (List (Mail P))). with_inbox v (with_part old w x.part) x.cell) has.1)))
 
 -- Fetch

@@ -192,10 +192,10 @@ module _ {S P : Type 0} (sim : Simulation S P) where
   leaves-in w old new letter (homes found is) Q h = (
     subst (InPart Q) (sym is) (record {
       processes = h.processes;
-      outbox = every-without_first (λ l. Q l.event) (is_for sim w) old.outbox h.outbox;
+      outbox = every-without_first (λ l. Q l.event) (is_for sim.workers w) old.outbox h.outbox;
       arrived = h.arrived;
     }),
-    every-find (λ l. Q l.event) (is_for sim w) old.outbox letter found h.outbox,
+    every-find (λ l. Q l.event) (is_for sim.workers w) old.outbox letter found h.outbox,
   )
   leaves-in w old new letter (arrives i mail at letter_is is) Q h = (
     subst (InPart Q) (sym is) (record {
@@ -252,11 +252,11 @@ module _ {S P : Type 0} (sim : Simulation S P) where
       let there = every-get (λ box. AllByRecursion (λ mail. Q mail.letter.event) box) old.inboxes v inbox in_is h.inboxes in
       subst (InWorld Q) (sym e) (record {
         parts = every-put (InPart Q) old.parts w (part_after_send sim v part) h.parts
-            (record { processes = here.processes; outbox = every-filter (λ l. Q l.event) (λ letter. not (is_for sim v letter)) part.outbox here.outbox; arrived = here.arrived });
+            (record { processes = here.processes; outbox = every-filter (λ l. Q l.event) (λ letter. not (is_for sim.workers v letter)) part.outbox here.outbox; arrived = here.arrived });
         inboxes = every-put (λ box. AllByRecursion (λ mail. Q mail.letter.event) box) old.inboxes v (inbox ++ mail_of_send sim v part) h.inboxes
             (every-append (λ mail. Q mail.letter.event) inbox (mail_of_send sim v part) there
-            (every-map (λ letter. record { letter = letter; colour = part.colour }) (λ mail. Q mail.letter.event) (filter (is_for sim v) part.outbox)
-            (every-filter (λ l. Q l.event) (is_for sim v) part.outbox here.outbox)));
+            (every-map (λ letter. record { letter = letter; colour = part.colour }) (λ mail. Q mail.letter.event) (filter (is_for sim.workers v) part.outbox)
+            (every-filter (λ l. Q l.event) (is_for sim.workers v) part.outbox here.outbox)));
       })))
   change-spread old new shape (fetches w part inbox is in_is none e) =
       kept (λ Q h.

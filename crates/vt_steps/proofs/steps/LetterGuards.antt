@@ -24,7 +24,7 @@ use Rattle.vt_steps.specs.Copies.{as_count, entry_sum, is_copy, is_event_of, let
 use Rattle.vt_steps.specs.Next.{done_or_refused, next, reached, with_part}
 use Rattle.vt_steps.specs.PartSteps.{accept, deliver, home, is_for, with_effect}
 use Rattle.vt_steps.specs.ProcessSteps.{accept_process, holds, with_letter}
-use Rattle.vt_steps.specs.World.{Entry, LogicalProcess, Part, World}
+use Rattle.vt_steps.specs.World.{Entry, LogicalProcess, Part, World, entry_rank}
 use Rattle.vt_key.proofs.ListLemmas.{every-among, every-get, find-among, find-passes, get-among}
 use Rattle.vt_steps.proofs.lists.Tests.{both_pass, either_passes}
 use Rattle.vt_steps.proofs.lists.Sums.{sum-among, sum-at}
@@ -71,7 +71,7 @@ module _ {P : Type 0} where
 -- a copy in the outbox or the arrived mail, and one at the process: one too many
 not-held : {S P : Type 0} (sim : Simulation S P) (serial : ℕ) (world : World P) (w place : ℕ) (part : Part P) (process : LogicalProcess P) (sign : Sign) (rank : Rank) → StampFacts sim serial rank.stamp world →
     slice_get world.parts w ≡ Some part → slice_get part.processes place ≡ Some process →
-    1 ≤ sum_by (letter_weight (is_copy sign rank.stamp)) part.outbox + sum_by (mail_weight (is_copy sign rank.stamp)) part.arrived → holds process sign rank ≡ true → ⊥
+    1 ≤ sum_by (letter_weight (is_copy sign rank.stamp)) part.outbox + sum_by (mail_weight (is_copy sign rank.stamp)) part.arrived → holds entry_rank process.pending process.waiting process.past sign rank ≡ true → ⊥
 not-held {P = P} sim serial world w place part process Plus rank facts at there outside h =
     let f : Sign → Event P → ℕ = is_copy Plus rank.stamp in
     let g : Entry P → ℕ = is_event_of rank.stamp in
@@ -116,11 +116,11 @@ not-held {P = P} sim serial world w place part process Minus rank facts at there
 module _ {S P : Type 0} (sim : Simulation S P) where
   -- a letter that its process does not hold gets there
   delivered : (part : Part P) (letter : Letter P) (process : LogicalProcess P) → slice_get part.processes (letter.event.dest / sim.workers) ≡ Some process →
-      (holds process letter.sign letter.event.rank ≡ true → ⊥) → (after : Part P) × (deliver sim part letter ≡ Some after)
+      (holds entry_rank process.pending process.waiting process.past letter.sign letter.event.rank ≡ true → ⊥) → (after : Part P) × (deliver sim part letter ≡ Some after)
   unfolding accept_process
-  delivered part letter process there free = by_held (holds process letter.sign letter.event.rank) refl
+  delivered part letter process there free = by_held (holds entry_rank process.pending process.waiting process.past letter.sign letter.event.rank) refl
     where
-      by_held : (b : Bool) → holds process letter.sign letter.event.rank ≡ b → (after : Part P) × (deliver sim part letter ≡ Some after)
+      by_held : (b : Bool) → holds entry_rank process.pending process.waiting process.past letter.sign letter.event.rank ≡ b → (after : Part P) × (deliver sim part letter ≡ Some after)
       by_held true e = absurd (free e)
       by_held false e = (
         with_effect part (letter.event.dest / sim.workers) (record { process = with_letter process letter.sign letter; letters = []; serials = 0 }),
@@ -136,24 +136,24 @@ module _ {S P : Type 0} (sim : Simulation S P) where
 
   module _ (lawful : IsLawful sim) (serial : ℕ) (steps : List Step) (w : ℕ) (part : Part P) (at : slice_get (reached sim serial steps).parts w ≡ Some part) where
     -- the process that a letter of w is for is there
-    receiver-there : (letter : Letter P) → is_for sim w letter ≡ true → letter.event.dest < sim.lps → (process : LogicalProcess P) × (slice_get part.processes (letter.event.dest / sim.workers) ≡ Some process)
+    receiver-there : (letter : Letter P) → is_for sim.workers w letter ≡ true → letter.event.dest < sim.lps → (process : LogicalProcess P) × (slice_get part.processes (letter.event.dest / sim.workers) ≡ Some process)
     receiver-there letter for_w known =
         let own : letter.event.dest % sim.workers ≡ w = eqb-true (letter.event.dest % sim.workers) w for_w in
         known-process sim (reached sim serial steps) (reached-shape sim serial steps) letter.event.dest part lawful.some_worker known (ap (slice_get (reached sim serial steps).parts) own ∙ at)
 
     -- a letter that comes home is not held there
-    pub homes-done : (letter : Letter P) → find (is_for sim w) part.outbox ≡ Some letter → (next sim (reached sim serial steps) (Home w)).answer ≡ Ok Done
+    pub homes-done : (letter : Letter P) → find (is_for sim.workers w) part.outbox ≡ Some letter → (next sim (reached sim serial steps) (Home w)).answer ≡ Ok Done
     unfolding next
     homes-done letter found =
         let world = reached sim serial steps in
         let stamp : Stamp = letter.event.rank.stamp in
-        let member = find-among (is_for sim w) part.outbox letter found in
+        let member = find-among (is_for sim.workers w) part.outbox letter found in
         let bounded = every-among (λ (l : Letter P). IsBounded sim l.event) part.outbox letter (part-in (IsBounded sim) world w part at (reached-bounds sim lawful serial steps)).outbox member in
-        let process = receiver-there letter (find-passes (is_for sim w) part.outbox letter found) bounded.known in
+        let process = receiver-there letter (find-passes (is_for sim.workers w) part.outbox letter found) bounded.known in
         let counted = sum-among (letter_weight (is_copy letter.sign stamp)) part.outbox letter member in
         let one : letter_weight (is_copy letter.sign stamp) letter ≡ 1 = own-copy letter.sign letter.event in
         let free = not-held sim serial world w (letter.event.dest / sim.workers) part process.0 letter.sign letter.event.rank (stamp-facts sim serial stamp steps) at process.1 (omega arith) in
-        let left : Part P = record part { outbox = without_first (is_for sim w) part.outbox } in
+        let left : Part P = record part { outbox = without_first (is_for sim.workers w) part.outbox } in
         let after = delivered left letter process.0 process.1 free in
         let goes : home sim w part ≡ Some after.0 = ap (option_and_then (deliver sim left)) found ∙ after.1 in
         local-done world w part after.0 (home sim w) at goes
@@ -166,7 +166,7 @@ module _ {S P : Type 0} (sim : Simulation S P) where
         let letter : Letter P = mail.letter in
         let stamp : Stamp = letter.event.rank.stamp in
         let bounded = every-get (λ (m : Mail P). IsBounded sim m.letter.event) part.arrived i mail there (part-in (IsBounded sim) world w part at (reached-bounds sim lawful serial steps)).arrived in
-        let for_w = every-get (λ (m : Mail P). is_for sim w m.letter ≡ true) part.arrived i mail there ((reached-own sim serial steps).parts w part at).arrived in
+        let for_w = every-get (λ (m : Mail P). is_for sim.workers w m.letter ≡ true) part.arrived i mail there ((reached-own sim serial steps).parts w part at).arrived in
         let process = receiver-there letter for_w bounded.known in
         let counted = sum-among (mail_weight (is_copy letter.sign stamp)) part.arrived mail (get-among part.arrived i mail there) in
         let one : mail_weight (is_copy letter.sign stamp) mail ≡ 1 = own-copy letter.sign letter.event in

@@ -43,7 +43,7 @@ cell-ends world w put step cell replies_done =
 send-ends : {S P : Type 0} (sim : Simulation S P) (world : World P) (w v : ℕ) → Ends world (at_cell world w (with_inbox v) (send sim w v) (slice_get world.inboxes v))
 unfolding send
 send-ends sim world w v =
-    cell-ends world w (with_inbox v) (send sim w v) (slice_get world.inboxes v) (λ part inbox effect e. ap (λ (x : CellEffect _ _). x.reply) (if_has (may_send sim w v part) _ effect e).1)
+    cell-ends world w (with_inbox v) (send sim w v) (slice_get world.inboxes v) (λ part inbox effect e. ap (λ (x : CellEffect _ _). x.reply) (if_has (may_send sim.workers w v part.outbox) _ effect e).1)
 
 fetch-ends : {P : Type 0} (world : World P) (w : ℕ) → Ends world (at_cell world w (with_inbox w) fetch (slice_get world.inboxes w))
 unfolding fetch

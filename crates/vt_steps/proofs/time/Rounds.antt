@@ -137,11 +137,11 @@ module _ {S P : Type 0} (sim : Simulation S P) (t : Time) (parts : List (Part P)
     (is : slice_get parts w ≡ Some part) (in_is : slice_get inboxes v ≡ Some inbox) where
   -- the letters that go
   abbrev leaving : List (Letter P)
-  leaving = filter (is_for sim v) part.outbox
+  leaving = filter (is_for sim.workers v) part.outbox
 
   -- where nothing that a worker has is before t, nothing that it sends is
   leaving-late : early_in t part ≡ 0 → early_letters t leaving ≡ 0
-  leaving-late none = let split = sum_by-filters (letter_weight (early t)) (is_for sim v) part.outbox in omega arith
+  leaving-late none = let split = sum_by-filters (letter_weight (early t)) (is_for sim.workers v) part.outbox in omega arith
 
   -- mail of the new colour that is sent is not before t, if the red minimum of those that have cut is not
   new-mail-late : (now : Colour) → IsOpenRound now t parts inboxes board → length board.has_cut ≡ length parts →
@@ -188,7 +188,7 @@ module _ {S P : Type 0} (sim : Simulation S P) (t : Time) (parts : List (Part P)
       let old = other_colour now in
       let after = part_after_send sim v part in
       let mails = map (mailed part.colour) leaving in
-      let split = sum_by-filters (letter_weight (early t)) (is_for sim v) part.outbox in
+      let split = sum_by-filters (letter_weight (early t)) (is_for sim.workers v) part.outbox in
       let got_same = flagged_sum-put_same (got_in old) board.has_reported parts w part after is refl in
       record {
         colours = all-put (λ u (p : Part P). (flag : Bool) → slice_get board.has_cut u ≡ Some flag → p.colour ≡ cond flag now (other_colour now)) parts w part after is o.colours (λ was. was);
@@ -224,7 +224,7 @@ module _ {S P : Type 0} (sim : Simulation S P) (t : Time) (parts : List (Part P)
       let mails = map (mailed part.colour) leaving in
       let size = length-set parts w after in
       let in_size = length-set inboxes v (inbox ++ mails) in
-      let split = sum_by-filters (letter_weight (early t)) (is_for sim v) part.outbox in
+      let split = sum_by-filters (letter_weight (early t)) (is_for sim.workers v) part.outbox in
       let mail_is = λ (c : Colour). (sum_by-append (λ (m : Mail P). cond (is_colour c m.colour) 1 0) inbox mails ∙ ap (λ n. count_colour c inbox + n) (count_colour-mailed c part.colour leaving)) in
       record {
         now = g.now;

@@ -9,8 +9,9 @@ use Rattle.vt_model.specs.Settings.{end_of}
 use Rattle.vt_steps.specs.declared.step.Step.TheVariants as step
 use Rattle.vt_lp.specs.Held.{HeldProcess, AllWithinRun, IsWithinRun}
 use Rattle.vt_steps.specs.ProcessSteps.{accept_process}
+use Rattle.vt_steps.specs.PartSteps.{is_for}
 use Rattle.vt_lp.specs.Guards.{would_lead, IsDone as ProcessIsDone}
-use Rattle.vt_outbox.specs.Outbox.{HeldOutbox, is_for_worker}
+use Rattle.vt_outbox.specs.Outbox.{HeldOutbox}
 use Rattle.vt_kernel.specs.Held.{HeldWorker, IsWorkerInside}
 use Rattle.vt_kernel.specs.Local.{local_step}
 use Rattle.vt_kernel.specs.Guards.{IsDone}
@@ -39,12 +40,12 @@ returns-in_default-clause-kept g c =
 pub returns-in_default-clause-refused : goal.returns-in_default-clause-refused
 returns-in_default-clause-refused g c handlers part s =
     let i = c.self.inside in
-    let none = ap (λ (k : Config). find (is_for_worker k i.worker) i.outbox.letters) (sym c.self.invariant.by_worker) ∙ sym c.in_default.ensures.letter in
+    let none = ap (λ (k : Config). find (is_for k.workers i.worker) i.outbox.letters) (sym c.self.invariant.by_worker) ∙ sym c.in_default.ensures.letter in
     subst (λ (v : HeldWorker _ _ _). local_step (simulation_of handlers v.config) v.worker (step.Home v.worker) part ≡ None) c.self.view_is
     (home-nothing handlers (view_of i) c.self.invariant.own_processes part (stands_along c.self.view_is handlers part s) none)
 
 -- the letter is the first for one of the worker's processes, and the place is that process's
-first : (g : Over) (c : After-index-place g) → (find (is_for_worker c.self.inside.config c.self.inside.worker) c.self.inside.outbox.letters ≡ Some c.get.result.now) × IsOwnLetter c.self.invariant c.get.result.now c.index-place.result
+first : (g : Over) (c : After-index-place g) → (find (is_for c.self.inside.config.workers c.self.inside.worker) c.self.inside.outbox.letters ≡ Some c.get.result.now) × IsOwnLetter c.self.invariant c.get.result.now c.index-place.result
 first g c = first-own c.self.invariant c.in-Some.ensures.letter c.get.ensures c.index-place.ensures
 
 pub index_mut-process-requires : goal.index_mut-process-requires
@@ -98,17 +99,17 @@ enter_accepted-requires-clause-behind g c κs within later =
     (c.in_default-accept.ensures.behind behind) c.self.invariant.in_contest
 
 -- the outbox without the letter
-left : (g : Over) (c : After-index-place g) → c.pop_for.new.self.letters ≡ without_first (is_for_worker c.self.inside.config c.self.inside.worker) c.self.inside.outbox.letters
+left : (g : Over) (c : After-index-place g) → c.pop_for.new.self.letters ≡ without_first (is_for c.self.inside.config.workers c.self.inside.worker) c.self.inside.outbox.letters
 left g c =
     let i = c.self.inside in
-    ap (λ (o : HeldOutbox _). o.letters) c.pop_for.ensures.left ∙ ap (λ (k : Config). without_first (is_for_worker k i.worker) i.outbox.letters) c.self.invariant.by_worker
+    ap (λ (o : HeldOutbox _). o.letters) c.pop_for.ensures.left ∙ ap (λ (k : Config). without_first (is_for k.workers i.worker) i.outbox.letters) c.self.invariant.by_worker
 
 pub invariant_of-self-2 : goal.invariant_of-self-2
 invariant_of-self-2 g c =
     let i = c.self.inside in
     let at = goal.at.invariant_of-self-2 g c in
     let same = c.in_default-accept.ensures.same in
-    let within = without-all (IsWithinRun i.config.lps (end_of i.config)) (is_for_worker i.config i.worker) i.outbox.letters c.self.invariant.sendable in
+    let within = without-all (IsWithinRun i.config.lps (end_of i.config)) (is_for i.config.workers i.worker) i.outbox.letters c.self.invariant.sendable in
     inside-changed c.self.invariant _ c.accept.new.self (there g at.After-index_mut-process) (same.0, same.1) c.deref.ensures.value c.enter_accepted.ensures
     (subst (λ (ls : List (Letter _)). AllWithinRun i.config ls) (sym (left g at.After-index-place)) within) (ap (λ (o : HeldOutbox _). o.config) c.pop_for.ensures.left ∙ c.self.invariant.by_worker) c.self.invariant.few_made
 

@@ -11,9 +11,9 @@ use Rattle.vt_model.specs.declared.settings.Config.{Config}
 use Rattle.vt_model.specs.Simulation.{simulation_of}
 use Rattle.vt_model.specs.Settings.{end_of}
 use Rattle.vt_steps.specs.Letters.{least_time, raised, count_of}
-use Rattle.vt_steps.specs.PartSteps.{letters_for}
+use Rattle.vt_steps.specs.PartSteps.{letters_for, is_for}
 use Rattle.vt_lp.specs.Held.{AllWithinRun, IsWithinRun}
-use Rattle.vt_outbox.specs.Outbox.{HeldOutbox, is_for_worker}
+use Rattle.vt_outbox.specs.Outbox.{HeldOutbox}
 use Rattle.vt_kernel.specs.Held.{HeldWorker, AllOwnMail, AreCounted}
 use Rattle.vt_kernel.specs.Guards.{mailed, IsSendRefusal}
 use Rattle.vt_kernel.proofs.InsideLemmas.{inside-outbox}
@@ -36,7 +36,7 @@ returns-in_err-count-clause-refused g c handlers part s =
     if_err (λ (fault : Fault). IsSendRefusal (simulation_of handlers c.args.self.now.config) c.args.self.now.worker c.args.v part fault)
     c.from_residual.result c.in_err-count.field-0.0 (search rules)
     (refused-send c.self.view_is handlers c.args.v part s c.in_err-count.field-0.0 c.room-room.result c.room-room.ensures test
-    (subst (λ (f : Config). IsRoomRefusal c.room-room.result (length (filter (is_for_worker f c.args.v) k.outbox.letters)) c.in_err-count.field-0.0) c.self.invariant.by_worker c.in_err-count.ensures.refused))
+    (subst (λ (f : Config). IsRoomRefusal c.room-room.result (length (filter (is_for f.workers c.args.v) k.outbox.letters)) c.in_err-count.field-0.0) c.self.invariant.by_worker c.in_err-count.ensures.refused))
 
 pub room-room-requires : goal.room-room-requires
 room-room-requires g c = record { few = count_of-counted c.self.inside.sent c.self.inside.colour c.self.invariant.few_sent }
@@ -52,9 +52,9 @@ pub invariant_of-self : goal.invariant_of-self
 invariant_of-self g c =
     let k = c.self.inside in
     let inv = c.self.invariant in
-    let test : Letter _ → Bool = is_for_worker k.config c.args.v in
+    let test : Letter _ → Bool = is_for k.config.workers c.args.v in
     let letters : c.take_for-letters.new.self.letters ≡ filter (λ (l : Letter _). not (test l)) k.outbox.letters =
-    ap (λ (o : HeldOutbox _). o.letters) c.take_for-letters.ensures.left ∙ ap (λ (f : Config). filter (λ (l : Letter _). not (is_for_worker f c.args.v l)) k.outbox.letters) inv.by_worker in
+    ap (λ (o : HeldOutbox _). o.letters) c.take_for-letters.ensures.left ∙ ap (λ (f : Config). filter (λ (l : Letter _). not (is_for f.workers c.args.v l)) k.outbox.letters) inv.by_worker in
     let count = c.in_ok-count.ensures.count in
     let few : count_of k.sent k.colour + c.in_ok-count.count ≤ MAX_COUNT = omega (arith, c.room-room.ensures, count.1) in
     inside-outbox c.take_for-letters.new.self c.raise.new.self
@@ -66,18 +66,18 @@ invariant_of-self g c =
 pub returns-clause-sent : goal.returns-clause-sent
 returns-clause-sent g c =
     let k = c.self.inside in
-    let others : HeldWorker _ _ _ → List (Letter _) = λ v. filter (λ (l : Letter _). not (is_for_worker v.config c.args.v l)) v.outbox in
-    let theirs : HeldWorker _ _ _ → List (Letter _) = λ v. filter (is_for_worker v.config c.args.v) v.outbox in
+    let others : HeldWorker _ _ _ → List (Letter _) = λ v. filter (λ (l : Letter _). not (is_for v.config.workers c.args.v l)) v.outbox in
+    let theirs : HeldWorker _ _ _ → List (Letter _) = λ v. filter (is_for v.config.workers c.args.v) v.outbox in
     let after : HeldWorker _ _ _ → HeldWorker _ _ _ = λ v. record v {
       outbox = others v;
       sent = raised v.sent v.colour (length (theirs v));
       red_minimum = earlier v.red_minimum (least_time (end_of v.config) (theirs v));
     } in
-    let theirs = ap (λ (f : Config). filter (is_for_worker f c.args.v) k.outbox.letters) c.self.invariant.by_worker in
-    let letters : c.take_for-letters.new.self.letters ≡ filter (λ (l : Letter _). not (is_for_worker k.config c.args.v l)) k.outbox.letters =
-    ap (λ (o : HeldOutbox _). o.letters) c.take_for-letters.ensures.left ∙ ap (λ (f : Config). filter (λ (l : Letter _). not (is_for_worker f c.args.v l)) k.outbox.letters) c.self.invariant.by_worker in
-    let sent : c.raise.new.self ≡ raised k.sent k.colour (length (filter (is_for_worker k.config c.args.v) k.outbox.letters)) = c.raise.ensures ∙ ap (raised k.sent k.colour) (c.in_ok-count.ensures.count.0 ∙ ap length theirs) in
-    let red : c.earlier-self-inside.result ≡ earlier k.red_minimum (least_time (end_of k.config) (filter (is_for_worker k.config c.args.v) k.outbox.letters)) = c.earlier-self-inside.ensures ∙ ap (earlier k.red_minimum) (c.move_letters-least.ensures.least ∙ ap (least_time (end_of k.config)) (c.take_for-letters.ensures.taken ∙ theirs)) in
+    let theirs = ap (λ (f : Config). filter (is_for f.workers c.args.v) k.outbox.letters) c.self.invariant.by_worker in
+    let letters : c.take_for-letters.new.self.letters ≡ filter (λ (l : Letter _). not (is_for k.config.workers c.args.v l)) k.outbox.letters =
+    ap (λ (o : HeldOutbox _). o.letters) c.take_for-letters.ensures.left ∙ ap (λ (f : Config). filter (λ (l : Letter _). not (is_for f.workers c.args.v l)) k.outbox.letters) c.self.invariant.by_worker in
+    let sent : c.raise.new.self ≡ raised k.sent k.colour (length (filter (is_for k.config.workers c.args.v) k.outbox.letters)) = c.raise.ensures ∙ ap (raised k.sent k.colour) (c.in_ok-count.ensures.count.0 ∙ ap length theirs) in
+    let red : c.earlier-self-inside.result ≡ earlier k.red_minimum (least_time (end_of k.config) (filter (is_for k.config.workers c.args.v) k.outbox.letters)) = c.earlier-self-inside.ensures ∙ ap (earlier k.red_minimum) (c.move_letters-least.ensures.least ∙ ap (least_time (end_of k.config)) (c.take_for-letters.ensures.taken ∙ theirs)) in
     (λ j. record {
       worker = k.worker;
       config = k.config;
@@ -104,17 +104,17 @@ returns-clause-counted g c handlers part s =
 pub returns-clause-own : goal.returns-clause-own
 returns-clause-own g c =
     let k = c.self.inside in
-    subst (λ (v : HeldWorker _ _ _). AllOwnMail v.config c.args.v (map (mailed v.colour) (filter (is_for_worker v.config c.args.v) v.outbox))) c.self.view_is
+    subst (λ (v : HeldWorker _ _ _). AllOwnMail v.config c.args.v (map (mailed v.colour) (filter (is_for v.config.workers c.args.v) v.outbox))) c.self.view_is
     (own_mail-sent k.config c.args.v k.colour k.outbox.letters c.self.invariant.sendable)
 
 pub returns-clause-done : goal.returns-clause-done
 returns-clause-done g c handlers part s =
     let k = c.self.inside in
-    let theirs = ap (λ (f : Config). filter (is_for_worker f c.args.v) k.outbox.letters) c.self.invariant.by_worker in
-    let letters : c.take_for-letters.new.self.letters ≡ filter (λ (l : Letter _). not (is_for_worker k.config c.args.v l)) k.outbox.letters =
-    ap (λ (o : HeldOutbox _). o.letters) c.take_for-letters.ensures.left ∙ ap (λ (f : Config). filter (λ (l : Letter _). not (is_for_worker f c.args.v l)) k.outbox.letters) c.self.invariant.by_worker in
-    let sent : c.raise.new.self ≡ raised k.sent k.colour (length (filter (is_for_worker k.config c.args.v) k.outbox.letters)) = c.raise.ensures ∙ ap (raised k.sent k.colour) (c.in_ok-count.ensures.count.0 ∙ ap length theirs) in
-    let red : c.earlier-self-inside.result ≡ earlier k.red_minimum (least_time (end_of k.config) (filter (is_for_worker k.config c.args.v) k.outbox.letters)) = c.earlier-self-inside.ensures ∙ ap (earlier k.red_minimum) (c.move_letters-least.ensures.least ∙ ap (least_time (end_of k.config)) (c.take_for-letters.ensures.taken ∙ theirs)) in
+    let theirs = ap (λ (f : Config). filter (is_for f.workers c.args.v) k.outbox.letters) c.self.invariant.by_worker in
+    let letters : c.take_for-letters.new.self.letters ≡ filter (λ (l : Letter _). not (is_for k.config.workers c.args.v l)) k.outbox.letters =
+    ap (λ (o : HeldOutbox _). o.letters) c.take_for-letters.ensures.left ∙ ap (λ (f : Config). filter (λ (l : Letter _). not (is_for f.workers c.args.v l)) k.outbox.letters) c.self.invariant.by_worker in
+    let sent : c.raise.new.self ≡ raised k.sent k.colour (length (filter (is_for k.config.workers c.args.v) k.outbox.letters)) = c.raise.ensures ∙ ap (raised k.sent k.colour) (c.in_ok-count.ensures.count.0 ∙ ap length theirs) in
+    let red : c.earlier-self-inside.result ≡ earlier k.red_minimum (least_time (end_of k.config) (filter (is_for k.config.workers c.args.v) k.outbox.letters)) = c.earlier-self-inside.ensures ∙ ap (earlier k.red_minimum) (c.move_letters-least.ensures.least ∙ ap (least_time (end_of k.config)) (c.take_for-letters.ensures.taken ∙ theirs)) in
     let own : nat_eq k.worker c.args.v ≡ false = grind (arith, nat_tests) in
     let other : nat_eq c.args.self.now.worker c.args.v ≡ false = ap (λ (v : HeldWorker _ _ _). nat_eq v.worker c.args.v) (sym c.self.view_is) ∙ own in
     let number = count_sent c.self.view_is handlers c.args.v part s in

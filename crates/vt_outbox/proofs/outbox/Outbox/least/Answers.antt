@@ -4,7 +4,8 @@ use Rattle.std.proofs.lemmas.Option.{slice_get_read}
 use Rattle.vt_key.specs.Times.{earlier}
 use Rattle.vt_key.specs.declared.letter.Letter.{Letter}
 use Rattle.vt_steps.specs.Letters.{least_time}
-use Rattle.vt_outbox.specs.Outbox.{HeldOutbox, is_for_worker}
+use Rattle.vt_steps.specs.PartSteps.{is_for}
+use Rattle.vt_outbox.specs.Outbox.{HeldOutbox}
 use Rattle.vt_outbox.proofs.OutboxLemmas.{letters_below-none, letters_below-all, least-below_more}
 use Rattle.vt_outbox.proofs.outbox.Outbox.least.Goals as goal
 
@@ -20,7 +21,7 @@ loop-list-preserved g c =
     let items = c.deref-list-items.result.now in
     let there = slice_get_read items (length items) k c.list-item.result refl c.loop-list-test.true c.list-item.is in
     let own = c.self.invariant.sorted k c.list-item.result (ap (λ (ls : List (List (Letter _))). slice_get ls k) (sym c.deref-list-items.ensures.value) ∙ there)
-    ∙ ap (λ (o : HeldOutbox _). filter (is_for_worker o.config k) o.letters) c.self.view_is in
+    ∙ ap (λ (o : HeldOutbox _). filter (is_for o.config.workers k) o.letters) c.self.view_is in
     c.earlier-least.ensures
     ∙ (λ j. earlier (c.loop-list.invariant j) ((c.least_of_letters.ensures ∙ ap (least_time end) own) j))
     ∙ sym (least-below_more end now.config k now.letters)

@@ -1,8 +1,9 @@
 use Rattle.std.proofs.Common.{◌≡◌, ◌∙◌, ◌<◌, slice_set, ap, subst, sym, refl}
 use Rattle.std.specs.List.{find}
 use Rattle.std.proofs.lemmas.Option.{slice_get_read}
+use Rattle.vt_steps.specs.PartSteps.{is_for}
 use Rattle.vt_key.specs.Queues.{without_first}
-use Rattle.vt_outbox.specs.Outbox.{HeldOutbox, is_for_worker, IsSorted}
+use Rattle.vt_outbox.specs.Outbox.{HeldOutbox, IsSorted}
 use Rattle.vt_outbox.proofs.OutboxLemmas.{none-for, first-for, sorted-pop, without-none}
 use Rattle.vt_outbox.proofs.outbox.Outbox.pop_for.Goals as goal
 
@@ -13,7 +14,7 @@ returns-in_err-letter-clause-letter g c =
     let all = c.self.invariant.all_there in
     let known : v < i.config.workers = subst (λ (o : HeldOutbox _). v < o.config.workers) (sym c.self.view_is) c.requires.1.0 in
     let there = slice_get_read i.lists.items i.config.workers v c.index_mut.result.now (sym all) known c.index_mut.ensures.value in
-    c.from_residual.ensures ∙ sym (none-for c.self.invariant v there c.in_err-letter.ensures.0) ∙ ap (λ (o : HeldOutbox _). find (is_for_worker o.config v) o.letters) c.self.view_is
+    c.from_residual.ensures ∙ sym (none-for c.self.invariant v there c.in_err-letter.ensures.0) ∙ ap (λ (o : HeldOutbox _). find (is_for o.config.workers v) o.letters) c.self.view_is
 
 pub returns-in_err-letter-clause-left : goal.returns-in_err-letter-clause-left
 returns-in_err-letter-clause-left g c =
@@ -23,8 +24,8 @@ returns-in_err-letter-clause-left g c =
     let all = c.self.invariant.all_there in
     let known : v < i.config.workers = subst (λ (o : HeldOutbox _). v < o.config.workers) (sym c.self.view_is) c.requires.1.0 in
     let there = slice_get_read i.lists.items i.config.workers v c.index_mut.result.now (sym all) known c.index_mut.ensures.value in
-    let none = ap (λ (o : HeldOutbox _). find (is_for_worker o.config v) o.letters) (sym c.self.view_is) ∙ none-for c.self.invariant v there c.in_err-letter.ensures.0 in
-    let kept : now.letters ≡ g.letters = sym (without-none (is_for_worker now.config v) now.letters none) ∙ sym c.requires.1.1 in
+    let none = ap (λ (o : HeldOutbox _). find (is_for o.config.workers v) o.letters) (sym c.self.view_is) ∙ none-for c.self.invariant v there c.in_err-letter.ensures.0 in
+    let kept : now.letters ≡ g.letters = sym (without-none (is_for now.config.workers v) now.letters none) ∙ sym c.requires.1.1 in
     c.self.view_is ∙ (λ j. record { config = now.config; letters = kept j })
 
 pub invariant_of-self-2 : goal.invariant_of-self-2
@@ -34,8 +35,8 @@ invariant_of-self-2 g c =
     let all = c.self.invariant.all_there in
     let known : v < i.config.workers = subst (λ (o : HeldOutbox _). v < o.config.workers) (sym c.self.view_is) c.requires.1.0 in
     let there = slice_get_read i.lists.items i.config.workers v c.index_mut.result.now (sym all) known c.index_mut.ensures.value in
-    let letters : c.picked.result.items ≡ without_first (is_for_worker i.config v) i.all.items =
-    c.picked.ensures ∙ c.requires.1.1 ∙ ap (λ (o : HeldOutbox _). without_first (is_for_worker o.config v) o.letters) (sym c.self.view_is) in
+    let letters : c.picked.result.items ≡ without_first (is_for i.config.workers v) i.all.items =
+    c.picked.ensures ∙ c.requires.1.1 ∙ ap (λ (o : HeldOutbox _). without_first (is_for o.config.workers v) o.letters) (sym c.self.view_is) in
     subst (IsSorted i.config (slice_set i.lists.items v c.pop_front.new.self) _) (sym letters)
     (sorted-pop c.self.invariant c.in_ok-letter.letter v _ there c.in_ok-letter.ensures refl)
 
@@ -46,4 +47,4 @@ returns-clause-letter g c =
     let all = c.self.invariant.all_there in
     let known : v < i.config.workers = subst (λ (o : HeldOutbox _). v < o.config.workers) (sym c.self.view_is) c.requires.1.0 in
     let there = slice_get_read i.lists.items i.config.workers v c.index_mut.result.now (sym all) known c.index_mut.ensures.value in
-    sym (first-for c.self.invariant v c.in_ok-letter.letter there c.in_ok-letter.ensures) ∙ ap (λ (o : HeldOutbox _). find (is_for_worker o.config v) o.letters) c.self.view_is
+    sym (first-for c.self.invariant v c.in_ok-letter.letter there c.in_ok-letter.ensures) ∙ ap (λ (o : HeldOutbox _). find (is_for o.config.workers v) o.letters) c.self.view_is
