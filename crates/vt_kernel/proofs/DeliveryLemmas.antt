@@ -17,13 +17,13 @@ use Rattle.vt_steps.specs.Letters.{Counts}
 use Rattle.vt_steps.specs.World.{LogicalProcess, Part}
 use Rattle.vt_steps.specs.ProcessSteps.{accept_process}
 use Rattle.vt_steps.specs.PartSteps.{at_process, with_effect, is_for, home, accept, deliver}
+use Rattle.vt_steps.specs.Cells.{local_step}
 use Rattle.vt_lp.specs.Held.{HeldProcess, IsWithinRun, StandsFor as ProcessStandsFor}
 use Rattle.vt_lp.specs.Guards.{holds_letter, IsDone as ProcessIsDone}
 use Rattle.vt_lp.proofs.AcceptLemmas.{accepted, accept-by}
 use Rattle.vt_contest.specs.declared.contest.Contest.{Contest}
 use Rattle.vt_outbox.specs.Outbox.{HeldOutbox}
 use Rattle.vt_kernel.specs.Held.{HeldWorker, StandsFor, AreProcesses, IsWorkerInside}
-use Rattle.vt_kernel.specs.Local.{local_step}
 use Rattle.vt_kernel.specs.Guards.{IsDone}
 use Rattle.vt_kernel.proofs.OwnSteps.{at_own, own, own-step}
 use Rattle.vt_kernel.proofs.LocalLemmas.{IsOwnPlace, found-at, changed-done, changed-refused}

@@ -14,12 +14,12 @@ use Rattle.vt_steps.specs.ProcessSteps.{ProcessEffect, execute_process}
 use Rattle.vt_steps.specs.PartSteps.{with_effect, at_process, execute}
 use Rattle.vt_steps.specs.declared.step.Step.TheVariants.{Execute}
 use Rattle.vt_steps.specs.StandsFor.{StandsForProcess}
+use Rattle.vt_steps.specs.Cells.{if_own, local_step}
 use Rattle.vt_steps.proofs.lists.Places.{get-put_same}
 use Rattle.vt_steps.proofs.steps.MemoryLemmas.{is_where}
 use Rattle.vt_lp.specs.Held.{HeldProcess, process_memory, StandsFor as ProcessStandsFor}
 use Rattle.vt_lp.specs.Guards.{IsDone as ProcessIsDone, IsExecuteRefusal as ProcessIsExecuteRefusal, number_of}
 use Rattle.vt_kernel.specs.Held.{HeldWorker, StandsFor, AreProcesses}
-use Rattle.vt_kernel.specs.Local.{if_own, local_step}
 use Rattle.vt_kernel.specs.Guards.{IsDone, AreWithinLimits, IsExecuteRefusal, NumberIs}
 use Rattle.vt_kernel.proofs.ProcessLemmas.{get-map_of, stands-at, process-at, stands-after}
 

@@ -13,12 +13,12 @@ use Rattle.vt_steps.specs.World.{Entry, LogicalProcess, Part, entry_rank}
 use Rattle.vt_steps.specs.ProcessSteps.{ProcessEffect, may_follow, effect_of_execute, execute_least, execute_process}
 use Rattle.vt_steps.specs.PartSteps.{with_effect}
 use Rattle.vt_steps.specs.StandsFor.{entry_of}
+use Rattle.vt_steps.specs.Cells.{local_step}
 use Rattle.vt_past.specs.declared.event.PastEvent.{PastEvent}
 use Rattle.vt_lp.specs.Held.{HeldProcess, remembered, StandsFor as ProcessStandsFor}
 use Rattle.vt_lp.specs.Guards.{may_come_after, ready_rank}
 use Rattle.vt_contest.specs.Entries.{ready_of}
 use Rattle.vt_kernel.specs.Held.{HeldWorker, StandsFor, AreProcesses}
-use Rattle.vt_kernel.specs.Local.{local_step}
 use Rattle.vt_kernel.proofs.OwnSteps.{own-execute, not-own, own-step, found, refused-at}
 use Rattle.vt_kernel.proofs.LocalLemmas.{past-refused, execute-step}
 

@@ -15,9 +15,10 @@ use Rattle.vt_steps.specs.declared.step.Step.TheVariants.{Undo, Cancel}
 use Rattle.vt_steps.specs.World.{LogicalProcess, Part}
 use Rattle.vt_steps.specs.ProcessSteps.{ProcessEffect, undo_process, cancel_process, can_annihilate}
 use Rattle.vt_steps.specs.PartSteps.{with_effect}
+use Rattle.vt_steps.specs.Cells.{local_step, local_steps}
 use Rattle.vt_steps.proofs.lists.Places.{get-put_same}
 pub use Rattle.vt_contest.proofs.Written.{put-there}
-use Rattle.vt_kernel.specs.Local.{local_step, local_steps, AreSettling, IsSettled, is_undo, count_undos}
+use Rattle.vt_kernel.specs.Local.{AreSettling, IsSettled, is_undo, count_undos}
 use Rattle.vt_lp.specs.Held.{HeldProcess, StandsFor as ProcessStandsFor}
 use Rattle.vt_lp.specs.Guards.{IsDone as ProcessIsDone}
 use Rattle.vt_kernel.specs.Settled.{and_then, nothing_done, LedTo, not_moved, undone, cancelled, IsLed, IsSettledTo}

@@ -15,10 +15,11 @@ use Rattle.vt_steps.specs.Letters.{count_of}
 use Rattle.vt_steps.specs.World.{LogicalProcess, Part, letters_of_worker}
 use Rattle.vt_steps.specs.PartSteps.{letters_for, process_after_commit}
 use Rattle.vt_steps.specs.CellSteps.{may_send}
+use Rattle.vt_steps.specs.Cells.{local_steps}
 use Rattle.vt_lp.specs.Held.{HeldProcess, StandsFor as ProcessStandsFor}
 use Rattle.vt_lp.specs.Guards.{number_of}
 use Rattle.vt_kernel.specs.Held.{HeldWorker, StandsFor}
-use Rattle.vt_kernel.specs.Local.{local_steps, IsSettled, AreSettling, count_undos}
+use Rattle.vt_kernel.specs.Local.{IsSettled, AreSettling, count_undos}
 
 -- a step is done: it was lawful, and the worker stands for the part after it
 pub record IsDone {S P K : Type 0} (handlers : Handlers S P K) (new : HeldWorker S P K) (step : Option (Part P)) : Type 0 where

@@ -6,10 +6,10 @@ ghost use Rattle.vt_tournament.specs.Least.{IsLeast};
 ghost use Rattle.vt_model.specs.Handler.{Handlers};
 ghost use Rattle.vt_model.specs.Simulation.{simulation_of};
 ghost use Rattle.vt_steps.specs.World.{Part};
+ghost use Rattle.vt_steps.specs.Cells.{local_step};
 ghost use Rattle.vt_steps.specs.declared.step.Step.TheVariants as step;
 ghost use Rattle.vt_contest.specs.Entries.{ready_of};
 ghost use Rattle.vt_kernel.specs.Held.{StandsFor};
-ghost use Rattle.vt_kernel.specs.Local.{local_step};
 
 use crate::kernel::Kernel;
 use vt_model::Model as EventModel;

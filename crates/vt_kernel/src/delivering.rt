@@ -8,11 +8,11 @@ ghost use Rattle.vt_model.specs.Handler.{Handlers};
 ghost use Rattle.vt_model.specs.Simulation.{simulation_of};
 ghost use Rattle.vt_steps.specs.World.{LogicalProcess, Part};
 ghost use Rattle.vt_steps.specs.ProcessSteps.{accept_process};
+ghost use Rattle.vt_steps.specs.Cells.{local_step};
 ghost use Rattle.vt_steps.specs.declared.step.Step.TheVariants as step;
 ghost use Rattle.vt_lp.specs.Held.{StandsFor as ProcessStandsFor};
 ghost use Rattle.vt_lp.specs.Guards.{holds_letter, IsDone as ProcessIsDone};
 ghost use Rattle.vt_kernel.specs.Held.{StandsFor};
-ghost use Rattle.vt_kernel.specs.Local.{local_step};
 ghost use Rattle.vt_kernel.specs.Guards.{IsDone, IsAcceptRefusal};
 
 use crate::kernel::Kernel;

@@ -16,7 +16,7 @@ use Rattle.vt_steps.specs.declared.step.Reply.TheVariants.{Done}
 use Rattle.vt_steps.specs.BoardSteps.{all_set, is_clear, cut_board, may_report, with_report}
 use Rattle.vt_steps.specs.PartSteps.{part_after_cut, report_sent, report_got, report_least}
 use Rattle.vt_steps.specs.World.{Part, Board, Book, World, opening_world}
-use Rattle.vt_steps.specs.Cells.{board_cell, book_cell, CellName, Cell, on_board, in_book, content, worker_of, cell_of, Acted, left_alone, acted_at, acted_close, act}
+use Rattle.vt_steps.specs.Cells.{board_cell, book_cell, CellName, Cell, on_board, in_book, content, worker_of, cell_of, Acted, left_alone, acted_at, acted_close, act, local_steps}
 use Rattle.vt_steps.specs.CellSteps.{CellEffect, cut, reported, report, commit, close}
 use Rattle.vt_steps.specs.Claims.{DoGuardsPass}
 use Rattle.vt_steps.specs.Laws.{IsAny}
@@ -29,12 +29,10 @@ use Rattle.vt_steps.proofs.steps.LocalLeads.{local-does}
 use Rattle.vt_steps.proofs.marks.MarkedRuns.{steps-append}
 use Rattle.vt_steps.proofs.lists.Tests.{both_pass}
 use Rattle.vt_kernel.specs.Held.{HeldWorker}
-use Rattle.vt_kernel.specs.Local.{local_steps}
 use Rattle.vt_places.specs.declared.view.View.{View}
 use Rattle.vt_places.specs.Slots.{cell_at}
 use Rattle.vt_places.specs.Calls.{Known, Closes, Reaches, Visited, IsRefusedBy, IsCutRefusal, IsReportRefusal, IsCommitRefusal, IsCloseRefusal, IsRefusedAlone}
 use Rattle.vt_places.proofs.OneList.{steps-own, steps-answered}
-use Rattle.vt_places.proofs.Releases.{steps-lead}
 
 same-fault : {X : Type 0} (r : Result X Fault) (a b : Fault) → r ≡ Err a → r ≡ Err b → a ≡ b
 same-fault r a b e f = let h : ◌≡◌ {A = Result _ Fault} (Err a) (Err b) = sym e ∙ f in cc
@@ -56,7 +54,7 @@ module _ {S P : Type 0} (sim : Simulation S P) (v : View P) where
   module _ (world : World P) (is : slice_get world.parts v.worker ≡ Some v.part) (steps : List Step) (part : Part P) (led : local_steps sim v.worker steps v.part ≡ Some part) where
     answered-there : (name : CellName) (cell : Cell P) (step : Step) → content world name ≡ Some cell → IsAny (worker_of sim step) v.worker → IsAny (cell_of step) name → (next sim (run sim world steps) step).answer ≡ (act sim step part cell).answer
     answered-there name cell step holds whose at =
-        let d = local-does sim v.worker world name steps v.part part cell (steps-lead sim v.worker steps v.part part led) is holds in
+        let d = local-does sim v.worker world name steps v.part part cell led is holds in
         ap (λ (o : Outcome P). o.answer) ((next-acts_on_one_cell sim (run sim world steps) step).acts v.worker name part cell whose at d.part d.cell)
 
 -- ---- what a step on a board or a book is answered
@@ -187,7 +185,7 @@ module _ {S P : Type 0} (sim : Simulation S P) (v : View P) where
       same-book : (own_world steps).book ≡ (shown sim b.log).book
       same-book =
           let book = (shown sim b.log).book in
-          let d = local-does sim v.worker (shown sim b.log) book_cell steps v.part part (in_book book) (steps-lead sim v.worker steps v.part part led) b.part refl in
+          let d = local-does sim v.worker (shown sim b.log) book_cell steps v.part part (in_book book) led b.part refl in
           let there : (run sim (shown sim b.log) steps).book ≡ book = (let h : ◌≡◌ {A = Option (Cell P)} (Some (in_book (run sim (shown sim b.log) steps).book)) (Some (in_book book)) = d.cell in cc) in
           ap (λ (n : World P). (run sim n steps).book) (sym same-world) ∙ there
 
@@ -195,14 +193,14 @@ module _ {S P : Type 0} (sim : Simulation S P) (v : View P) where
     there-board : refusing.board ≡ (shown sim b.log).board
     there-board =
         let board = (shown sim b.log).board in
-        let d = local-does sim v.worker (shown sim b.log) board_cell b.steps v.part b.before (on_board board) (steps-lead sim v.worker b.steps v.part b.before b.led) b.part refl in
+        let d = local-does sim v.worker (shown sim b.log) board_cell b.steps v.part b.before (on_board board) b.led b.part refl in
         let h : ◌≡◌ {A = Option (Cell P)} (Some (on_board refusing.board)) (Some (on_board board)) = d.cell in
         let e : refusing.board ≡ board = cc in e
 
     there-book : refusing.book ≡ (shown sim b.log).book
     there-book =
         let book = (shown sim b.log).book in
-        let d = local-does sim v.worker (shown sim b.log) book_cell b.steps v.part b.before (in_book book) (steps-lead sim v.worker b.steps v.part b.before b.led) b.part refl in
+        let d = local-does sim v.worker (shown sim b.log) book_cell b.steps v.part b.before (in_book book) b.led b.part refl in
         let h : ◌≡◌ {A = Option (Cell P)} (Some (in_book refusing.book)) (Some (in_book book)) = d.cell in
         let e : refusing.book ≡ book = cc in e
 

@@ -25,7 +25,7 @@ use Rattle.vt_places.specs.Commits.{Commits}
 use Rattle.vt_places.proofs.CallLemmas.{WithHand, done-held}
 use Rattle.vt_places.proofs.Growth.{grown-not}
 use Rattle.vt_places.proofs.Keeps.{releases}
-use Rattle.vt_places.proofs.Releases.{steps-lead, home-not_claimed, home-not_empty}
+use Rattle.vt_places.proofs.Releases.{home-not_claimed, home-not_empty}
 
 module _ {S P K : Type 0} (handlers : Handlers S P K) (config : Config) where
   -- after local steps and a commit
@@ -37,7 +37,7 @@ module _ {S P K : Type 0} (handlers : Handlers S P K) (config : Config) where
       let left = part_after_commit way.part in
       let own : List Made = made_done way.steps ++ record { step = Commit worker; reply = Done } ∷ [] in
       let goes : Leads sim m.0.worker (cell_at sim.workers k) m.0.part found (way.steps ++ Commit worker ∷ []) left now own =
-      leads sim m.0.worker (cell_at sim.workers k) way.steps (Commit worker) m.0.part way.part left found now Done (steps-lead sim m.0.worker way.steps m.0.part way.part way.led) whose (sym at) (does way.part way.stands) in
+      leads sim m.0.worker (cell_at sim.workers k) way.steps (Commit worker) m.0.part way.part left found now Done way.led whose (sym at) (does way.part way.stands) in
       releases sim config lawful slots id k home_word m found h.slot (way.steps ++ Commit worker ∷ []) left own (λ log. log ++ marked m.0.worker (way.steps ++ Commit worker ∷ [])) seen
       (λ (n : ℕ) (after : Sat P). (after.1 ≡ []) × Commits handlers config m.0 worker lent seen after.0) near home-not_claimed (λ e _. home-not_empty e) h.carried h.hand h.right
       (subst (λ (c : Cell P). Leads sim m.0.worker (cell_at sim.workers k) m.0.part found (way.steps ++ Commit worker ∷ []) left c own) (sym h.now_is) goes)

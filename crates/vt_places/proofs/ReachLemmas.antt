@@ -11,8 +11,8 @@ use Rattle.vt_model.specs.Simulation.{Simulation, simulation_of}
 use Rattle.vt_steps.specs.declared.step.Step.{Step}
 use Rattle.vt_steps.specs.declared.step.Reply.{Reply}
 use Rattle.vt_steps.specs.World.{Part, opening_part}
+use Rattle.vt_steps.specs.Cells.{local_step, local_steps}
 use Rattle.vt_kernel.specs.Held.{HeldWorker, StandsFor}
-use Rattle.vt_kernel.specs.Local.{local_step, local_steps}
 use Rattle.vt_kernel.specs.Guards.{IsDone, SettlesTo}
 use Rattle.vt_places.specs.declared.view.View.{View}
 use Rattle.vt_places.specs.Kept.{Sat}

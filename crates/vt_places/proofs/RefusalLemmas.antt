@@ -15,7 +15,7 @@ use Rattle.vt_steps.specs.BoardSteps.{cut_board}
 use Rattle.vt_steps.specs.Next.{Outcome, next, run}
 use Rattle.std.specs.Option.{option_map}
 use Rattle.vt_steps.specs.CellSteps.{CellEffect, cut, report}
-use Rattle.vt_steps.specs.Cells.{CellName, board_cell, book_cell, Cell, on_board, in_book, content, worker_of, cell_of, acted_at, act, put_back}
+use Rattle.vt_steps.specs.Cells.{CellName, board_cell, book_cell, Cell, on_board, in_book, content, worker_of, cell_of, acted_at, act, put_back, local_steps}
 use Rattle.vt_steps.specs.Laws.{IsAny}
 use Rattle.vt_cells.specs.Calls.{IsCellRefusal, IsHandInRefusal, IsClosingRefusal}
 use Rattle.vt_cells.proofs.WorldLemmas.{next-put_back, refused-there}
@@ -27,11 +27,9 @@ use Rattle.vt_steps.proofs.marks.OwnCloses.{closed-floors, unclosable-floor, clo
 use Rattle.vt_steps.proofs.book.ReachedBooks.{reached-falls, reached-accounted}
 use Rattle.vt_steps.proofs.book.Records.{records-right}
 use Rattle.vt_steps.proofs.marks.OwnCuts.{refused-cut-known}
-use Rattle.vt_kernel.specs.Local.{local_steps}
 use Rattle.vt_kernel.specs.Refusals.{IsStepRefusal}
 use Rattle.vt_places.specs.declared.view.View.{View}
 use Rattle.vt_places.specs.Calls.{Known, IsRefusedBy, IsCutRefusal, IsReportRefusal, IsCommitRefusal, IsCloseRefusal, IsFloorLeft, AreRecordsShown}
-use Rattle.vt_places.proofs.Releases.{steps-lead}
 
 -- a list of one step
 run-one : {S P : Type 0} (sim : Simulation S P) (world : World P) (step : Step) → run sim world (step ∷ []) ≡ (next sim world step).world
@@ -47,10 +45,10 @@ module _ {S P : Type 0} {sim : Simulation S P} {v : View P} {k : ℕ} {cell : Ce
   then_there = run sim (shown sim known.log) steps
 
   board-does : DoesSo sim v.worker board_cell steps there before (on_board there.board) (made_done steps)
-  board-does = local-does sim v.worker there board_cell steps v.part before (on_board there.board) (steps-lead sim v.worker steps v.part before led) known.part refl
+  board-does = local-does sim v.worker there board_cell steps v.part before (on_board there.board) led known.part refl
 
   book-does : DoesSo sim v.worker book_cell steps there before (in_book there.book) (made_done steps)
-  book-does = local-does sim v.worker there book_cell steps v.part before (in_book there.book) (steps-lead sim v.worker steps v.part before led) known.part refl
+  book-does = local-does sim v.worker there book_cell steps v.part before (in_book there.book) led known.part refl
 
   -- they change neither the board nor the book, and lead to the part before the step
   pub then-part : slice_get then_there.parts v.worker ≡ Some before

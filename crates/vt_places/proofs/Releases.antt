@@ -16,13 +16,12 @@ use Rattle.vt_steps.specs.declared.step.Reply.{Reply}
 use Rattle.vt_steps.specs.declared.step.Reply.TheVariants.{Done}
 use Rattle.vt_steps.specs.World.{Part}
 use Rattle.vt_steps.specs.PartSteps.{home}
-use Rattle.vt_steps.specs.Cells.{book_cell, Cell, in_inbox, worker_of, cell_of, acted_locally, act, act_locally}
+use Rattle.vt_steps.specs.Cells.{book_cell, Cell, in_inbox, worker_of, cell_of, acted_locally, act, act_locally, local_step, local_steps}
 use Rattle.vt_steps.specs.Laws.{IsAny}
-use Rattle.vt_steps.specs.Marked.{Made, marked, made_done, LeadsLocally, LeadLocally, Leads}
+use Rattle.vt_steps.specs.Marked.{Made, marked, made_done, Leads}
 use Rattle.vt_steps.proofs.steps.Changes.{chain_has}
 use Rattle.vt_steps.proofs.steps.LocalLeads.{leads, leads-nowhere}
 use Rattle.vt_kernel.specs.Held.{HeldWorker, StandsFor}
-use Rattle.vt_kernel.specs.Local.{local_step, local_steps}
 use Rattle.vt_places.specs.declared.view.View.{View}
 use Rattle.vt_places.specs.Hands.{empty_hand}
 use Rattle.vt_places.specs.Slots.{cell_count, word_at, empty_word, claimed_word, home_word, cell_at, held_in}
@@ -31,46 +30,6 @@ use Rattle.vt_cells.specs.Calls.{Acts, PassesThere, IsCellStepOf}
 use Rattle.vt_places.specs.Calls.{seen_or, Unvisited, Closes, Known, Reaches, Visited, Holding, ShowsFloor, MaySee}
 use Rattle.vt_places.proofs.Growth.{grown-not}
 use Rattle.vt_places.proofs.Keeps.{releases, Looked, looks}
-
--- ---- local steps of a kernel as local steps of a worker
-
-module _ {S P : Type 0} (sim : Simulation S P) (w : ℕ) where
-  pub if-own : {X : Type 0} (v : ℕ) (o : Option X) (x : X) → cond (nat_eq v w) o None ≡ Some x → (v ≡ w) × (o ≡ Some x)
-  if-own v o x e =
-      elim (eqb_tells v w) [
-        | inl t ↦ (t.1, sym (ap (λ b. cond b o None) t.0) ∙ e)
-        | inr t ↦ absurd (let h : None ≡ Some x = sym (ap (λ b. cond b o None) t.0) ∙ e in cc)
-      ]
-
-  step-leads : (step : Step) (part new : Part P) → local_step sim w step part ≡ Some new → LeadsLocally sim w step part new
-  unfolding act
-  step-leads (Execute p) part new e =
-      let h = if-own (p % sim.workers) (act_locally sim (Execute p) part) new e in
-      record { own = ap (λ n. Some n) h.0; local = refl; done = λ cell. ap (acted_locally part cell) h.1 }
-  step-leads (Undo p) part new e =
-      let h = if-own (p % sim.workers) (act_locally sim (Undo p) part) new e in
-      record { own = ap (λ n. Some n) h.0; local = refl; done = λ cell. ap (acted_locally part cell) h.1 }
-  step-leads (Cancel p stamp) part new e =
-      let h = if-own (p % sim.workers) (act_locally sim (Cancel p stamp) part) new e in
-      record { own = ap (λ n. Some n) h.0; local = refl; done = λ cell. ap (acted_locally part cell) h.1 }
-  step-leads (Home v) part new e =
-      let h = if-own v (act_locally sim (Home v) part) new e in
-      record { own = ap (λ n. Some n) h.0; local = refl; done = λ cell. ap (acted_locally part cell) h.1 }
-  step-leads (Accept v i) part new e =
-      let h = if-own v (act_locally sim (Accept v i) part) new e in
-      record { own = ap (λ n. Some n) h.0; local = refl; done = λ cell. ap (acted_locally part cell) h.1 }
-  step-leads (Send v u) part new e = absurd (let h : None ≡ Some new = (if-own v None new e).1 in cc)
-  step-leads (Fetch v) part new e = absurd (let h : None ≡ Some new = (if-own v None new e).1 in cc)
-  step-leads (Cut v) part new e = absurd (let h : None ≡ Some new = (if-own v None new e).1 in cc)
-  step-leads (Report v) part new e = absurd (let h : None ≡ Some new = (if-own v None new e).1 in cc)
-  step-leads (Commit v) part new e = absurd (let h : None ≡ Some new = (if-own v None new e).1 in cc)
-  step-leads Close part new e = absurd (let h : None ≡ Some new = e in cc)
-
-  pub steps-lead : (steps : List Step) (part new : Part P) → local_steps sim w steps part ≡ Some new → LeadLocally sim w steps part new
-  steps-lead [] part new e = let h : Some part ≡ Some new = e in let same : part ≡ new = cc in same
-  steps-lead (step ∷ steps) part new e =
-      let h = chain_has (local_steps sim w steps) (local_step sim w step part) new e in
-      (h.0, step-leads step part h.0 h.1, steps-lead steps h.0 new h.2)
 
 -- ---- releases
 
@@ -154,7 +113,7 @@ module _ {S P K : Type 0} (handlers : Handlers S P K) (config : Config) (lawful 
       let sim = simulation_of handlers config in
       let a = does.acts way.part way.stands in
       let goes : Leads sim m.0.worker (cell_at sim.workers k) m.0.part found (way.steps ++ step ∷ []) a.0 now (made_done way.steps ++ record { step = step; reply = reply } ∷ []) =
-      leads sim m.0.worker (cell_at sim.workers k) way.steps step m.0.part way.part a.0 found now reply (steps-lead sim m.0.worker way.steps m.0.part way.part way.led) whose at a.1 in
+      leads sim m.0.worker (cell_at sim.workers k) way.steps step m.0.part way.part a.0 found now reply way.led whose at a.1 in
       releases sim config lawful slots id k x m found h.slot (way.steps ++ step ∷ []) a.0 (made_done way.steps ++ record { step = step; reply = reply } ∷ []) (λ log. log ++ marked m.0.worker (way.steps ++ step ∷ [])) m.0.seen
       (λ (n : ℕ) (after : Sat P). GaveBack m after × Visited handlers config m.0 before step reply left m.0.seen after.0) near home (λ e _. h.now_is ∙ empty e) h.carried h.hand h.right
       (subst (λ (c : Cell P). Leads sim m.0.worker (cell_at sim.workers k) m.0.part found (way.steps ++ step ∷ []) a.0 c (made_done way.steps ++ record { step = step; reply = reply } ∷ [])) (sym h.now_is) goes)
@@ -184,7 +143,7 @@ module _ {S P K : Type 0} (handlers : Handlers S P K) (config : Config) (lawful 
       let a = does.acts way.part way.stands in
       looks sim config lawful slots id k m (way.steps ++ step ∷ []) a.0 (made_done way.steps ++ record { step = step; reply = reply } ∷ [])
       (λ after. (after.1 ≡ []) × Visited handlers config m.0 before step reply left m.0.seen after.0) near rests
-      (leads sim m.0.worker (cell_at sim.workers k) way.steps step m.0.part way.part a.0 (in_inbox []) (in_inbox []) reply (steps-lead sim m.0.worker way.steps m.0.part way.part way.led) whose at a.1)
+      (leads sim m.0.worker (cell_at sim.workers k) way.steps step m.0.part way.part a.0 (in_inbox []) (in_inbox []) reply way.led whose at a.1)
       (λ known. (refl, visited-at k m.0 (in_inbox []) (in_inbox []) before left step reply at does within way known))
 
   -- after a close

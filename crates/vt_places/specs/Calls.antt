@@ -22,11 +22,10 @@ use Rattle.vt_steps.specs.Letters.{is_empty, count_of}
 use Rattle.vt_steps.specs.PartSteps.{letters_for}
 use Rattle.vt_steps.specs.CellSteps.{may_send}
 use Rattle.vt_steps.specs.Next.{next, run, reached}
-use Rattle.vt_steps.specs.Cells.{Cell, in_inbox, in_book, content, cell_of, act}
+use Rattle.vt_steps.specs.Cells.{Cell, in_inbox, in_book, content, cell_of, act, local_steps}
 use Rattle.vt_steps.specs.Laws.{IsAny}
 use Rattle.vt_steps.specs.Marked.{Marked, marked, answered, made_done, IsMarkedRight, own_steps_of, shown, has_cut_since, has_closed}
 use Rattle.vt_kernel.specs.Held.{HeldWorker, StandsFor}
-use Rattle.vt_kernel.specs.Local.{local_steps}
 use Rattle.vt_kernel.specs.Guards.{IsSendRefusal}
 use Rattle.vt_kernel.specs.Refusals.{IsStepRefusal}
 use Rattle.vt_cells.specs.Calls.{Acts, IsTooMuchMail, PassesThere}

@@ -11,8 +11,8 @@ use Rattle.vt_steps.specs.declared.step.Reply.TheVariants.{Done}
 use Rattle.vt_steps.specs.World.{Part}
 use Rattle.vt_steps.specs.Marked.{made_done}
 use Rattle.vt_steps.specs.PartSteps.{part_after_commit}
+use Rattle.vt_steps.specs.Cells.{local_steps}
 use Rattle.vt_kernel.specs.Held.{HeldWorker, StandsFor}
-use Rattle.vt_kernel.specs.Local.{local_steps}
 use Rattle.vt_cells.specs.Calls.{CommitsTo}
 use Rattle.vt_places.specs.declared.view.View.{View}
 use Rattle.vt_places.specs.Hands.{empty_hand}

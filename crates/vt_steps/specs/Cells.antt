@@ -1,7 +1,7 @@
 -- What each step reads and changes: the part of one worker, and the content of at most one cell, which is an inbox, the
 -- board or the book. `act` is a step on these two alone.
-use Rattle.std.specs.Prelude.{ℕ, ◌%◌, Bool, List, slice_get, Option, Some, None, Result, Ok, Err, ◌/◌}
-use Rattle.std.specs.Option.{option_map, is_none}
+use Rattle.std.specs.Prelude.{ℕ, nat_eq, ◌%◌, Bool, List, [], ◌∷◌, if◌then◌else◌, slice_get, Option, Some, None, Result, Ok, Err, ◌/◌}
+use Rattle.std.specs.Option.{option_map, option_and_then, is_none}
 use Rattle.vt_key.specs.declared.letter.Mail.{Mail}
 use Rattle.vt_key.specs.declared.fault.Fault.{Fault}
 use Rattle.vt_key.specs.declared.fault.Fault.TheVariants.{NotLawful}
@@ -127,3 +127,20 @@ module _ {P : Type 0} where
         world = with_content (with_part world w acted.part) name acted.cell;
         answer = acted.answer;
       }
+
+-- ---- lists of local steps
+
+module _ {S P : Type 0} (sim : Simulation S P) (w : ℕ) where
+  -- a step on the part of this worker, where that is w; no step of w is lawful at another's part
+  abbrev pub if_own : Option ℕ → Option (Part P) → Option (Part P)
+  if_own None step = None
+  if_own (Some v) step = if nat_eq v w then step else None
+
+  -- a local step of worker w on its part, if it is lawful
+  abbrev pub local_step : Step → Part P → Option (Part P)
+  local_step step part = if_own (worker_of sim step) (act_locally sim step part)
+
+  -- a list of local steps, each of them lawful
+  abbrev pub local_steps : List Step → Part P → Option (Part P)
+  local_steps [] part = Some part
+  local_steps (step ∷ steps) part = option_and_then (local_steps steps) (local_step step part)

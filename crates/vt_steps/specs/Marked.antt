@@ -10,7 +10,7 @@ use Rattle.vt_steps.specs.declared.step.Reply.{Reply}
 use Rattle.vt_steps.specs.declared.step.Reply.TheVariants.{Done, Announced}
 use Rattle.vt_steps.specs.World.{Part, World, opening_world}
 use Rattle.vt_steps.specs.Next.{next, run, reached}
-use Rattle.vt_steps.specs.Cells.{CellName, Cell, content, worker_of, is_local, act}
+use Rattle.vt_steps.specs.Cells.{CellName, Cell, content, worker_of}
 use Rattle.vt_steps.specs.Laws.{IsAny}
 
 -- a step, and the worker that makes it
@@ -66,17 +66,6 @@ module _ {S P : Type 0} (sim : Simulation S P) where
   own_steps_of w marks = own_steps w (opening_world sim 0) marks
 
   -- ---- what the steps of one worker do, whatever the others did before
-
-  -- a local step of worker w leads from one part to another, whatever the rest of the world is
-  pub record LeadsLocally (w : ℕ) (step : Step) (part new : Part P) : Type 0 where
-    pub own : worker_of sim step ≡ Some w
-    pub local : is_local step ≡ true
-    pub done : (cell : Cell P) → act sim step part cell ≡ record { part = new; cell = cell; answer = Ok Done }
-
-  -- local steps of worker w, each of them done, lead from one part to another
-  abbrev pub LeadLocally : ℕ → List Step → Part P → Part P → Type 0
-  LeadLocally w [] part new = part ≡ new
-  LeadLocally w (step ∷ steps) part new = (between : Part P) × LeadsLocally w step part between × LeadLocally w steps between new
 
   -- what the steps of worker w do to a world in which its part and one cell are as they were: they lead to another part and
   -- another content of that cell, change no other part and no other cell, and are answered so

@@ -7,7 +7,6 @@ use Rattle.vt_key.specs.Order.{rank_before, rank_same, key_same}
 use Rattle.vt_key.specs.Queues.{has_stamp, has_rank, insert_letter, without_first}
 use Rattle.vt_key.specs.declared.order.Rank.{Rank}
 use Rattle.vt_key.specs.declared.order.Stamp.{Stamp}
-use Rattle.vt_key.specs.declared.letter.Event.{Event}
 use Rattle.vt_key.specs.declared.letter.Letter.{Letter}
 use Rattle.vt_key.specs.declared.letter.Sign.{Sign}
 use Rattle.vt_key.specs.declared.letter.Sign.TheVariants.{Plus, Minus}

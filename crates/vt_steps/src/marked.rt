@@ -11,17 +11,17 @@ ghost use Rattle.vt_steps.specs.declared.step.Reply.{Reply};
 ghost use Rattle.vt_steps.specs.World.{Part, World, book_floor};
 ghost use Rattle.vt_steps.specs.BoardSteps.{cut_board};
 ghost use Rattle.vt_steps.specs.BookSteps.{may_close};
-ghost use Rattle.vt_steps.specs.Cells.{CellName, Cell, worker_of, cell_of, act};
+ghost use Rattle.vt_steps.specs.Cells.{CellName, Cell, worker_of, cell_of, act, local_steps};
 ghost use Rattle.vt_steps.specs.Laws.{IsAny};
 ghost use Rattle.vt_steps.specs.Next.{next};
-ghost use Rattle.vt_steps.specs.Marked.{Marked, made_done, IsMarkedRight, own_steps_of, shown, LeadLocally, Leads, has_cut_since, has_closed};
+ghost use Rattle.vt_steps.specs.Marked.{Marked, made_done, IsMarkedRight, own_steps_of, shown, Leads, has_cut_since, has_closed};
 
 /// Take local steps of a worker and then one step of it at a cell. They do the same in every world with this part of
 /// the worker and this cell, and change no other part and no other cell. So they may be put last in a run, whatever
 /// other workers did meanwhile.
 pub fn own_steps_may_come_last<S, P>()
     ghost sim: { Simulation S P }
-    ensures { (w : ℕ) (name : CellName) (steps : List Step) (step : Step) (part before new : Part P) (cell left : Cell P) (reply : Reply) → LeadLocally sim w steps part before →
+    ensures { (w : ℕ) (name : CellName) (steps : List Step) (step : Step) (part before new : Part P) (cell left : Cell P) (reply : Reply) → local_steps sim w steps part ≡ Some before →
         IsAny (worker_of sim step) w → IsAny (cell_of step) name → act sim step before cell ≡ record { part = new; cell = left; answer = Ok reply } →
         Leads sim w name part cell (steps ++ step ∷ []) new left (made_done steps ++ record { step = step; reply = reply } ∷ []) }
 {}

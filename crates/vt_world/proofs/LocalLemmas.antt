@@ -16,9 +16,9 @@ use Rattle.vt_steps.specs.declared.step.Reply.TheVariants.{Done}
 use Rattle.vt_steps.specs.World.{LogicalProcess, Part, World}
 use Rattle.vt_steps.specs.Next.{Outcome, next, reached, replied, with_part, done_or_refused}
 use Rattle.vt_steps.specs.StandsFor.{GoesOn}
+use Rattle.vt_steps.specs.Cells.{local_step}
 use Rattle.vt_lp.specs.Guards.{number_of}
 use Rattle.vt_kernel.specs.Held.{HeldWorker, StandsFor as WorkerStandsFor}
-use Rattle.vt_kernel.specs.Local.{local_step}
 use Rattle.vt_kernel.specs.Guards.{IsDone, IsExecuteRefusal, IsAcceptRefusal}
 use Rattle.vt_kernel.specs.Refusals.{IsStepRefusal, PassesLimit}
 use Rattle.vt_steps.proofs.lists.Places.{get-put_same}

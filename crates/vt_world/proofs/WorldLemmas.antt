@@ -13,10 +13,9 @@ use Rattle.vt_steps.specs.declared.step.Reply.TheVariants.{Done}
 use Rattle.vt_steps.specs.World.{Part, World}
 use Rattle.vt_steps.specs.Next.{Outcome, next, with_part, done_or_refused, locally}
 use Rattle.vt_steps.specs.StandsFor.{PartMemory, StandsForPart, StandForParts, GoesOn}
-use Rattle.vt_steps.specs.Cells.{act_locally}
+use Rattle.vt_steps.specs.Cells.{act_locally, if_own, local_step}
 use Rattle.vt_kernel.specs.Held.{HeldWorker, part_memory, StandsFor as WorkerStandsFor}
 use Rattle.vt_kernel.specs.Guards.{IsDone}
-use Rattle.vt_kernel.specs.Local.{if_own, local_step}
 use Rattle.vt_kernel.proofs.ProcessLemmas.{map-put, get-map_of}
 use Rattle.vt_world.specs.Held.{HeldWorld, world_memory, StandsForWorld, AreWorkers, IsWorldInside}
 

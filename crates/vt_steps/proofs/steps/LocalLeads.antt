@@ -1,21 +1,22 @@
 -- What the steps of one worker do to its part and to one cell they do in every world that has these two: local steps, and then
 -- one step at the cell. So they may stand last, whatever the other workers did since the first of them.
-use Rattle.std.proofs.Common.{◌≡◌, ℕ, ◌%◌, true, false, List, [], ◌∷◌, ◌++◌, map, refl, sym, ◌∙◌, ap, subst, Option, Some, None, Ok, slice_get, slice_set}
+use Rattle.std.proofs.Common.{◌≡◌, inl, inr, ℕ, ◌%◌, true, false, cond, nat_eq, List, [], ◌∷◌, ◌++◌, map, refl, sym, ◌∙◌, ap, subst, Option, Some, None, Ok, slice_get, slice_set}
 use Rattle.std.specs.Option.{option_map, is_none}
 use Rattle.std.specs.List.{AllByRecursion}
+use Rattle.std.proofs.lemmas.Bool.Decides.{eqb_tells}
 use Rattle.vt_model.specs.Simulation.{Simulation}
 use Rattle.vt_steps.specs.declared.step.Step.{Step}
 use Rattle.vt_steps.specs.declared.step.Step.TheVariants.{Execute, Undo, Cancel, Home, Send, Fetch, Accept, Cut, Report, Commit, Close}
 use Rattle.vt_steps.specs.declared.step.Reply.{Reply}
 use Rattle.vt_steps.specs.declared.step.Reply.TheVariants.{Done}
-use Rattle.vt_steps.specs.Cells.{CellName, inbox_of, board_cell, book_cell, Cell, in_inbox, on_board, in_book, content, with_content, worker_of, cell_of, Acted, left_alone, acted_locally, acted_at, acted_close, act, put_back}
+use Rattle.vt_steps.specs.Cells.{CellName, inbox_of, board_cell, book_cell, Cell, in_inbox, on_board, in_book, content, with_content, worker_of, cell_of, Acted, left_alone, acted_locally, acted_at, acted_close, act_locally, act, put_back, is_local, local_step, local_steps}
 use Rattle.vt_steps.specs.Laws.{IsAny, IsRefused, ActsOnOneCell}
-use Rattle.vt_steps.specs.Marked.{Marked, Made, Answered, answered, unmarked, marked, made_done, IsMarkedRight, own_steps, LeadLocally, DoesSo, Leads}
+use Rattle.vt_steps.specs.Marked.{Marked, Made, Answered, answered, unmarked, marked, made_done, IsMarkedRight, own_steps, DoesSo, Leads}
 use Rattle.vt_steps.specs.CellSteps.{CellEffect, send, fetch, cut, report, commit, close}
 use Rattle.vt_steps.specs.Next.{next, run, refused, with_book}
 use Rattle.vt_steps.specs.World.{Part, Book, World}
 use Rattle.vt_steps.proofs.steps.CellLemmas.{next-acts_on_one_cell}
-use Rattle.vt_steps.proofs.steps.Changes.{map_has}
+use Rattle.vt_steps.proofs.steps.Changes.{map_has, chain_has}
 use Rattle.vt_steps.proofs.steps.Outcomes.{done_or_refused-either, unless_closed-either}
 use Rattle.vt_steps.proofs.marks.MarkedRuns.{each-append, marked-append, own-append, own-first, steps-append, unmarked-marked}
 use Rattle.vt_steps.proofs.lists.Places.{get-put_same, get-put_other}
@@ -192,27 +193,69 @@ module _ {S P : Type 0} (sim : Simulation S P) (w : ℕ) where
             ∙ sym (map-append answered made then_made);
       }
 
+  -- ---- local steps
+
+  if-own : {X : Type 0} (v : ℕ) (o : Option X) (x : X) → cond (nat_eq v w) o None ≡ Some x → (v ≡ w) × (o ≡ Some x)
+  if-own v o x e =
+      elim (eqb_tells v w) [
+        | inl t ↦ (t.1, sym (ap (λ b. cond b o None) t.0) ∙ e)
+        | inr t ↦ absurd (let h : None ≡ Some x = sym (ap (λ b. cond b o None) t.0) ∙ e in cc)
+      ]
+
+  -- a local step that is done is its worker's, is about no cell, and does so whatever a cell holds
+  record LeadsLocally (step : Step) (part new : Part P) : Type 0 where
+    pub own : worker_of sim step ≡ Some w
+    pub local : is_local step ≡ true
+    pub done : (cell : Cell P) → act sim step part cell ≡ record { part = new; cell = cell; answer = Ok Done }
+
+  step-leads : (step : Step) (part new : Part P) → local_step sim w step part ≡ Some new → LeadsLocally step part new
+  unfolding act
+  step-leads (Execute p) part new e =
+      let h = if-own (p % sim.workers) (act_locally sim (Execute p) part) new e in
+      record { own = ap (λ n. Some n) h.0; local = refl; done = λ cell. ap (acted_locally part cell) h.1 }
+  step-leads (Undo p) part new e =
+      let h = if-own (p % sim.workers) (act_locally sim (Undo p) part) new e in
+      record { own = ap (λ n. Some n) h.0; local = refl; done = λ cell. ap (acted_locally part cell) h.1 }
+  step-leads (Cancel p stamp) part new e =
+      let h = if-own (p % sim.workers) (act_locally sim (Cancel p stamp) part) new e in
+      record { own = ap (λ n. Some n) h.0; local = refl; done = λ cell. ap (acted_locally part cell) h.1 }
+  step-leads (Home v) part new e =
+      let h = if-own v (act_locally sim (Home v) part) new e in
+      record { own = ap (λ n. Some n) h.0; local = refl; done = λ cell. ap (acted_locally part cell) h.1 }
+  step-leads (Accept v i) part new e =
+      let h = if-own v (act_locally sim (Accept v i) part) new e in
+      record { own = ap (λ n. Some n) h.0; local = refl; done = λ cell. ap (acted_locally part cell) h.1 }
+  step-leads (Send v u) part new e = absurd (let h : None ≡ Some new = (if-own v None new e).1 in cc)
+  step-leads (Fetch v) part new e = absurd (let h : None ≡ Some new = (if-own v None new e).1 in cc)
+  step-leads (Cut v) part new e = absurd (let h : None ≡ Some new = (if-own v None new e).1 in cc)
+  step-leads (Report v) part new e = absurd (let h : None ≡ Some new = (if-own v None new e).1 in cc)
+  step-leads (Commit v) part new e = absurd (let h : None ≡ Some new = (if-own v None new e).1 in cc)
+  step-leads Close part new e = absurd (let h : None ≡ Some new = e in cc)
+
   -- local steps
-  pub local-does : (world : World P) (name : CellName) (steps : List Step) (part new : Part P) (cell : Cell P) → LeadLocally sim w steps part new →
+  pub local-does : (world : World P) (name : CellName) (steps : List Step) (part new : Part P) (cell : Cell P) → local_steps sim w steps part ≡ Some new →
       slice_get world.parts w ≡ Some part → content world name ≡ Some cell → DoesSo sim w name steps world new cell (made_done steps)
-  local-does world name [] part new cell leads is holds = nothing-done world name new cell (is ∙ ap (λ p. Some p) leads) holds
-  local-does world name (step ∷ steps) part new cell leads is holds =
-      let first = leads.1 in
-      let one = step-does world name step part leads.0 cell cell Done (some-any (worker_of sim step) w first.own) (none-any (cell_of step) name first.local) (first.done cell) is holds in
-      does-append world name (step ∷ []) steps leads.0 new cell cell (record { step = step; reply = Done } ∷ []) (made_done steps) one
-      (local-does (run sim world (step ∷ [])) name steps leads.0 new cell leads.2 one.part one.cell)
+  local-does world name [] part new cell led is holds = nothing-done world name new cell (is ∙ led) holds
+  local-does world name (step ∷ steps) part new cell led is holds =
+      let between = chain_has (local_steps sim w steps) (local_step sim w step part) new led in
+      let first = step-leads step part between.0 between.1 in
+      let one = step-does world name step part between.0 cell cell Done (some-any (worker_of sim step) w first.own) (none-any (cell_of step) name first.local) (first.done cell) is holds in
+      does-append world name (step ∷ []) steps between.0 new cell cell (record { step = step; reply = Done } ∷ []) (made_done steps) one
+      (local-does (run sim world (step ∷ [])) name steps between.0 new cell between.2 one.part one.cell)
 
   -- no step leads nowhere
   pub leads-nowhere : (name : CellName) (part : Part P) (cell : Cell P) → Leads sim w name part cell [] part cell []
   leads-nowhere name part cell = record { own = tt; does = λ world is holds. nothing-done world name part cell is holds }
 
   -- local steps are marked with their worker
-  local-right : (steps : List Step) (part new : Part P) → LeadLocally sim w steps part new → AllByRecursion (IsMarkedRight sim) (marked w steps)
-  local-right [] part new leads = tt
-  local-right (step ∷ steps) part new leads = (some-any (worker_of sim step) w leads.1.own, local-right steps leads.0 new leads.2)
+  local-right : (steps : List Step) (part new : Part P) → local_steps sim w steps part ≡ Some new → AllByRecursion (IsMarkedRight sim) (marked w steps)
+  local-right [] part new led = tt
+  local-right (step ∷ steps) part new led =
+      let between = chain_has (local_steps sim w steps) (local_step sim w step part) new led in
+      (some-any (worker_of sim step) w (step-leads step part between.0 between.1).own, local-right steps between.0 new between.2)
 
   -- local steps, and one step at the cell
-  pub leads : (name : CellName) (steps : List Step) (step : Step) (part before new : Part P) (cell left : Cell P) (reply : Reply) → LeadLocally sim w steps part before →
+  pub leads : (name : CellName) (steps : List Step) (step : Step) (part before new : Part P) (cell left : Cell P) (reply : Reply) → local_steps sim w steps part ≡ Some before →
       IsAny (worker_of sim step) w → IsAny (cell_of step) name → act sim step before cell ≡ record { part = new; cell = left; answer = Ok reply } →
       Leads sim w name part cell (steps ++ step ∷ []) new left (made_done steps ++ record { step = step; reply = reply } ∷ [])
   leads name steps step part before new cell left reply local whose at does = record {

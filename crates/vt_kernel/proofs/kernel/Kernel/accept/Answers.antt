@@ -8,11 +8,11 @@ use Rattle.vt_key.specs.declared.letter.Mail.{Mail}
 use Rattle.vt_model.specs.Simulation.{simulation_of}
 use Rattle.vt_model.specs.Settings.{end_of}
 use Rattle.vt_steps.specs.ProcessSteps.{accept_process}
+use Rattle.vt_steps.specs.Cells.{local_step}
 use Rattle.vt_steps.specs.declared.step.Step.TheVariants as step
 use Rattle.vt_lp.specs.Held.{HeldProcess}
 use Rattle.vt_lp.specs.Guards.{holds_letter, would_lead, IsDone as ProcessIsDone}
 use Rattle.vt_kernel.specs.Held.{HeldWorker, IsOwnMail, AllOwnMail, IsWorkerInside}
-use Rattle.vt_kernel.specs.Local.{local_step}
 use Rattle.vt_kernel.specs.Guards.{IsDone, IsAcceptRefusal}
 use Rattle.vt_contest.proofs.ContestLemmas.{contest-kept}
 use Rattle.vt_kernel.proofs.PartLemmas.{stands_along}

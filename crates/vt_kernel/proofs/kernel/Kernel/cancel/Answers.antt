@@ -1,10 +1,10 @@
 use Rattle.std.proofs.Common.{rules, ◌≡◌, None, Some, slice_get, slice_set, List, sym, subst}
 use Rattle.vt_model.specs.Simulation.{simulation_of}
 use Rattle.vt_steps.specs.ProcessSteps.{cancel_process}
+use Rattle.vt_steps.specs.Cells.{local_step}
 use Rattle.vt_steps.specs.declared.step.Step.TheVariants as step
 use Rattle.vt_lp.specs.Held.{HeldProcess}
 use Rattle.vt_kernel.specs.Held.{HeldWorker, IsWorkerInside}
-use Rattle.vt_kernel.specs.Local.{local_step}
 use Rattle.vt_kernel.specs.Guards.{IsDone}
 use Rattle.vt_kernel.proofs.PartLemmas.{stands_along}
 use Rattle.vt_kernel.proofs.LocalLemmas.{view_of, place-within, inside-changed, unknown-refused, changed-done, changed-refused, written-same}

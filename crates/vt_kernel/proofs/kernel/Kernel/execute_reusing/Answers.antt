@@ -6,12 +6,12 @@ use Rattle.vt_model.specs.declared.settings.Config.{Config}
 use Rattle.vt_model.specs.Simulation.{simulation_of}
 use Rattle.vt_steps.specs.World.{Part}
 use Rattle.vt_steps.specs.ProcessSteps.{execute_process}
+use Rattle.vt_steps.specs.Cells.{local_step}
 use Rattle.vt_steps.specs.declared.step.Step.TheVariants as step
 use Rattle.vt_steps.proofs.lists.Places.{get-put_same}
 use Rattle.vt_lp.specs.Held.{HeldProcess}
 use Rattle.vt_lp.specs.Guards.{IsDone as ProcessIsDone, IsExecuteRefusal as ProcessRefusal}
 use Rattle.vt_kernel.specs.Held.{HeldWorker, StandsFor, process_of}
-use Rattle.vt_kernel.specs.Local.{local_step}
 use Rattle.vt_kernel.specs.Guards.{IsDone, AreWithinLimits, IsExecuteRefusal}
 use Rattle.vt_model.proofs.Sizes.{out_fits}
 use Rattle.vt_kernel.proofs.PartLemmas.{stands_along}
