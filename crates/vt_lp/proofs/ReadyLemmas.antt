@@ -1,50 +1,20 @@
--- Which event may be executed next, from the least pending letter and the rank of the last past event.
-use Rattle.std.proofs.Common.{◌≡◌, Bool, true, false, ◌||◌, if◌then◌else◌, List, [], ◌∷◌, Option, Some, None, slice_get, refl, sym, ◌∙◌, ap}
+-- What the rank of the last past event tells: whether it has to be undone, and which past events a rank can have.
+use Rattle.std.proofs.Common.{◌≡◌, true, false, ◌||◌, List, [], ◌∷◌, Option, Some, None, refl, ◌∙◌, ap}
 use Rattle.std.specs.List.{last_or, list_any}
 use Rattle.vt_steps.specs.ProcessSteps.{must_undo}
-use Rattle.vt_key.specs.Order.{RankBefore, rank_before, rank_same}
+use Rattle.vt_key.specs.Order.{RankBefore, rank_same}
 use Rattle.vt_key.specs.declared.order.Rank.{Rank}
 use Rattle.vt_key.specs.declared.letter.Letter.{Letter}
 use Rattle.vt_key.proofs.OrderLemmas.{rank-transitive, rank_before-true}
 use Rattle.vt_past.specs.declared.event.PastEvent.{PastEvent}
 use Rattle.vt_past.specs.Events.{rank_of_last, last_rank}
-use Rattle.vt_lp.specs.Guards.{may_come_after, ready_rank}
+use Rattle.vt_lp.specs.Guards.{may_come_after}
 use Rattle.vt_lp.specs.Held.{IsRisingPast}
-use Rattle.vt_lp.specs.Past.{ready_event, must_undo_last}
+use Rattle.vt_lp.specs.Past.{must_undo_last}
 use Rattle.vt_pending.proofs.Holding.{before-differs}
 
--- an event of this rank may follow one of that rank, or none at all
-abbrev pub comes_after : Option Rank → Rank → Bool
-comes_after None rank = true
-comes_after (Some last) rank = rank_before last rank
-
 module _ {P K : Type 0} where
-  -- the rank of the last past event tells what may follow
-  may-come : (last : Option (PastEvent P K)) (rank : Rank) → may_come_after last rank ≡ comes_after (rank_of_last last) rank
-  may-come None rank = refl
-  may-come (Some last) rank = refl
-
-  pub may-follow : (past : List (PastEvent P K)) (last : Option Rank) (rank : Rank) → last ≡ last_rank past → may_come_after (last_or None past) rank ≡ comes_after last rank
-  may-follow past last rank is = may-come (last_or None past) rank ∙ ap (λ o. comes_after o rank) (sym is)
-
-  -- so it tells what is ready
-  pub ready-told : (pending : List (Letter P)) (past : List (PastEvent P K)) (l : Letter P) (last : Option Rank) (b : Bool) → slice_get pending 0 ≡ Some l →
-      last ≡ last_rank past → comes_after last l.event.rank ≡ b → ready_rank pending past ≡ (if b then Some l.event.rank else None)
-  ready-told [] past l last b at is comes = absurd (let e : None ≡ Some l = at in cc)
-  ready-told (x ∷ xs) past l last b at is comes =
-      let same : x ≡ l = cc in
-      ap (λ (y : Letter P). if may_come_after (last_or None past) y.event.rank then Some y.event.rank else None) same
-      ∙ ap (λ (t : Bool). if t then Some l.event.rank else None) (may-follow past last l.event.rank is ∙ comes)
-
-  pub event-told : (pending : List (Letter P)) (past : List (PastEvent P K)) (l : Letter P) (last : Option Rank) (b : Bool) → slice_get pending 0 ≡ Some l →
-      last ≡ last_rank past → comes_after last l.event.rank ≡ b → ready_event pending past ≡ (if b then Some l.event else None)
-  event-told [] past l last b at is comes = absurd (let e : None ≡ Some l = at in cc)
-  event-told (x ∷ xs) past l last b at is comes =
-      let same : x ≡ l = cc in
-      ap (λ (y : Letter P). if may_come_after (last_or None past) y.event.rank then Some y.event else None) same
-      ∙ ap (λ (t : Bool). if t then Some l.event else None) (may-follow past last l.event.rank is ∙ comes)
-
-  -- and whether the last one has to be undone
+  -- whether the last past event has to be undone, by its rank
   undo-by : (pending waiting : List (Letter P)) (last : Option (PastEvent P K)) (rank : Rank) → Some rank ≡ rank_of_last last → must_undo_last pending waiting last ≡ must_undo pending waiting rank
   undo-by pending waiting None rank is = absurd (let e : Some rank ≡ None = is in cc)
   undo-by pending waiting (Some last) rank is = let same : last.letter.event.rank ≡ rank = cc in ap (must_undo pending waiting) same

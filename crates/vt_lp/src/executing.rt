@@ -22,6 +22,7 @@ ghost use Rattle.vt_past.specs.Kept.{GaveEvent};
 ghost use Rattle.vt_lp.specs.Used.{sends_of, after_letters, IsLeft};
 ghost use Rattle.vt_lp.specs.Past.{ready_event, IsAdvanceRefusal};
 
+use crate::letters::ends_before;
 use crate::lp::Lp;
 use crate::making::{is_counted, letters};
 use std::alloc::Global;
@@ -142,10 +143,8 @@ fn ready_event<P: Copy, K: Copy>(pending: &Pending<P>, past: &Past<P, K>) -> Opt
     ensures rising { IsRising pending.now }
 {
     let least = pending.least()?;
-    if let Some(last) = past.last_rank() {
-        if !last.is_before(&least.event.rank) {
-            return None;
-        }
+    if !ends_before(past, least.event.rank) {
+        return None;
     }
     Some(least.event)
 }

@@ -167,7 +167,6 @@ struct Annihilates<'a, P: Copy> {
 }
 
 impl<'a, P: Copy> Predicate<Letter<P>> for Annihilates<'a, P> {
-
     ghost passes = { λ t letter. can_annihilate letter.event.rank.stamp t.pending.now t.waiting.now };
 
     fn test(&self, letter: &Letter<P>) -> bool {
@@ -191,7 +190,9 @@ impl<P: Copy, K: Copy> Predicate<PastEvent<P, K>> for NotAfter {
 }
 
 /// Whether there is no past event, or the last one is before this rank.
-fn ends_before<P: Copy, K: Copy>(past: &Past<P, K>, rank: Rank) -> bool
+// A call would copy the rank.
+#[inline(always)]
+pub(crate) fn ends_before<P: Copy, K: Copy>(past: &Past<P, K>, rank: Rank) -> bool
     ensures { result ≡ may_come_after (last_or None past.now) rank }
 {
     match past.last_rank() {

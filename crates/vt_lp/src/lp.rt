@@ -6,6 +6,7 @@ ghost use Rattle.vt_steps.specs.Letters.{least_time};
 ghost use Rattle.vt_lp.specs.Guards.{ready_rank, lesser_rank};
 ghost use Rattle.vt_model.specs.Settings.{end_of};
 
+use crate::letters::ends_before;
 use std::marker::Model;
 use vt_key::{Letter, Rank, When};
 use vt_model::{Config, Model as EventModel, Process};
@@ -139,10 +140,8 @@ impl<M: EventModel> Lp<M> {
         ensures { result ≡ ready_rank self.now.pending self.now.past }
     {
         let least = self.pending.least()?;
-        if let Some(last) = self.past.last_rank() {
-            if !last.is_before(&least.event.rank) {
-                return None;
-            }
+        if !ends_before(&self.past, least.event.rank) {
+            return None;
         }
         Some(least.event.rank)
     }
