@@ -67,6 +67,7 @@ impl<M: EventModel> Lp<M> {
     pub fn fossil(&mut self, floor: When)
         ensures committed { (handlers : Handlers _ _ _) (h : LogicalProcess _) → StandsFor handlers self.old h → StandsFor handlers self.new (process_after_commit floor h) }
         ensures same { (self.new.lp ≡ self.old.lp) × (self.new.config ≡ self.old.config) × (self.new.triple ≡ self.old.triple) × (self.new.pending ≡ self.old.pending) × (self.new.waiting ≡ self.old.waiting) }
+        ensures past { self.new.past ≡ unripe_events floor self.old.past }
     {
         let mut spare = Spare::new(self.past.events().allocator());
         let _ = self.fossil_into(floor, &mut spare);
