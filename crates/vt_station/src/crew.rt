@@ -182,6 +182,7 @@ fn job_of<'a, M: EventModel>(
     requires place { IsNew (simulation_of (M.handlers model.now) config) (station_table station.now) worker place }
     ensures told { (result.model ≡ model.now) × (result.config ≡ config) }
     ensures worker { result.worker ≡ worker }
+    ensures begins { (result.outcome ≡ None) × (result.finals ≡ None) }
 {
     Job {
         station,
