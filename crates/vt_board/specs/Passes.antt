@@ -2,7 +2,6 @@
 use Rattle.std.specs.Prelude.{◌≡◌, ℕ, ◌<◌, Bool, false, IsTrue, nat_eq, List, [], ◌∷◌, ◌++◌, length}
 use Rattle.std.specs.List.{count_by, sum_by}
 use Rattle.vt_key.specs.Times.{Time, earlier}
-use Rattle.vt_steps.specs.declared.step.Reply.{Reply}
 use Rattle.vt_steps.specs.declared.step.Reply.TheVariants.{Waiting, Again, Announced}
 use Rattle.vt_steps.specs.World.{Board}
 use Rattle.vt_steps.specs.BoardSteps.{with_new_pass, may_report, with_report, BoardEffect, after_report}

@@ -10,11 +10,11 @@ use Rattle.vt_model.specs.declared.rows.Record.{Record}
 use Rattle.vt_model.specs.declared.rows.Row.{Row}
 use Rattle.vt_model.specs.Sequential.{rows_before, records_of}
 use Rattle.vt_steps.specs.BookSteps.{may_commit}
-use Rattle.vt_steps.specs.Rows.{rows_in_order}
+use Rattle.vt_steps.specs.Rows.{rows_in_order, NoneBefore, AreSameRows}
 use Rattle.vt_steps.specs.Letters.{least_of}
 use Rattle.vt_steps.proofs.lists.Tests.{both_pass}
 use Rattle.vt_book.specs.Books.{is_within, are_within}
-use Rattle.vt_book.specs.Kept.{AreSameRows, AreNotBefore, IsKept}
+use Rattle.vt_book.specs.Kept.{IsKept}
 use Rattle.vt_steps.proofs.time.Floors.{floor-at}
 use Rattle.vt_book.proofs.RowLists.{same-before, same-none, one-order, first-in-order, every-before, late-rows, order-apart, before-twice}
 
@@ -25,7 +25,7 @@ front-before : (t : Time) (row : Row) (rows : List Row) → time_before row.key.
 front-before t row rows e = ap (λ b. cond b (row ∷ rows_before t rows) (rows_before t rows)) e
 
 -- the first in order of those before a time
-pub first-taken : (t : Time) (row : Row) (now rest : List Row) → time_before row.key.time t ≡ true → AreNotBefore row rest → AreSameRows now (row ∷ rest) →
+pub first-taken : (t : Time) (row : Row) (now rest : List Row) → time_before row.key.time t ≡ true → NoneBefore row rest → AreSameRows now (row ∷ rest) →
     rows_in_order (rows_before t now) ≡ row ∷ rows_in_order (rows_before t rest)
 first-taken t row now rest early first same =
     one-order (rows_before t now) (row ∷ rows_before t rest) (λ f. same-before t now (row ∷ rest) same f ∙ ap (sum_by f) (front-before t row rest early))

@@ -1,21 +1,12 @@
 -- How a book keeps its rows: the records of those that it shows, in the order of the rows, and the other rows.
-use Rattle.std.specs.Prelude.{◌≡◌, ℕ, false, List, ◌++◌}
-use Rattle.std.specs.List.{sum_by, AllByRecursion}
+use Rattle.std.specs.Prelude.{◌≡◌, List, ◌++◌}
 use Rattle.std.specs.List.Sorted.{IsSorted}
 use Rattle.vt_key.specs.Times.{Time}
 use Rattle.vt_model.specs.declared.rows.Row.{Row}
 use Rattle.vt_model.specs.declared.rows.Record.{Record}
 use Rattle.vt_model.specs.contracts.rows.RowOrd.TheImpl.{ghosts}
 use Rattle.vt_model.specs.Sequential.{rows_before, records_of}
-use Rattle.vt_steps.specs.Rows.{row_before, rows_in_order}
-
--- two lists have the same rows, each as often: they have the same sums, whatever each row weighs
-abbrev pub AreSameRows : List Row → List Row → Type 0
-AreSameRows xs ys = (f : Row → ℕ) → sum_by f xs ≡ sum_by f ys
-
--- none of these rows is before a row
-abbrev pub AreNotBefore : Row → List Row → Type 0
-AreNotBefore row = AllByRecursion (λ r. row_before r row ≡ false)
+use Rattle.vt_steps.specs.Rows.{rows_in_order, AreSameRows}
 
 -- rows in falling order: none is before the one that stands behind it
 abbrev pub AreFalling : List Row → Type 0

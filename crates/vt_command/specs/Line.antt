@@ -1,7 +1,7 @@
 -- The command line.
 use Rattle.std.specs.Prelude.{List, ◌∷◌, ◌++◌, map, codes, Option}
 use Rattle.clap.specs.Words.{App, Text}
-use Rattle.vt_options.specs.Line.{subcommand_by, given_by}
+use Rattle.vt_options.specs.Line.{given_by}
 use Rattle.vt_options.specs.Own.{run_names, replay_names, app_for}
 use Rattle.vt_command.specs.Table.{twarp_models}
 
@@ -16,10 +16,6 @@ replay_options = replay_names twarp_models
 -- the program's command line, as its parser reads it: two subcommands, `run` and `replay`
 abbrev pub twarp_app : App
 twarp_app = app_for (codes "twarp") twarp_models
-
--- the subcommand that the words name
-abbrev pub subcommand_in : List Text → Option Text
-subcommand_in words = subcommand_by twarp_app words
 
 -- the text that the words give to an option
 abbrev pub given_in : List Text → Text → Option Text

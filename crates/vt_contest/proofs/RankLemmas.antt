@@ -1,26 +1,18 @@
 -- The ranks that a process enters: where no anti-message waits, and where past events are forgotten.
-use Rattle.std.proofs.Common.{◌≡◌, ◌∙◌, ◌⊎◌, inl, inr, Bool, true, false, if◌then◌else◌, ℕ, List, [], ◌∷◌, ◌++◌, refl, sym, ap, subst, Option, Some, None, slice_get, IfSome, IfNone}
+use Rattle.std.proofs.Common.{◌≡◌, ◌∙◌, ◌⊎◌, inl, inr, Bool, true, false, if◌then◌else◌, ℕ, List, [], ◌∷◌, refl, sym, ap, subst, Option, Some, None, slice_get}
 use Rattle.std.specs.List.{last_or}
 use Rattle.vt_key.specs.Order.{rank_before}
 use Rattle.vt_key.specs.Times.{Time}
 use Rattle.vt_key.specs.declared.order.Rank.{Rank}
 use Rattle.vt_key.specs.declared.letter.Letter.{Letter}
 use Rattle.vt_key.proofs.OrderLemmas.{same-rank_same}
-use Rattle.vt_model.specs.Settings.{end_of}
-use Rattle.vt_steps.specs.Letters.{least_time}
 use Rattle.vt_lp.specs.Held.{HeldProcess}
 use Rattle.vt_lp.specs.Guards.{ready_rank, lesser_rank, may_come_after}
 use Rattle.vt_lp.specs.Ripe.{is_ripe, unripe_events}
 use Rattle.vt_past.specs.declared.event.PastEvent.{PastEvent}
-use Rattle.vt_contest.specs.Entries.{entries_of, ready_of, unready_of, other_rank, earliest_of, rank_time, TellsLeast}
+use Rattle.vt_contest.specs.Entries.{entries_of, ready_of, unready_of, other_rank, TellsLeast}
 use Rattle.vt_contest.specs.Contest.{HasForgottenEvents}
 use Rattle.vt_contest.proofs.EntryLemmas.{entered-at}
-
--- what a process tells of its least rank tells the least time
-pub tells-least : {S P K : Type 0} (q : HeldProcess S P K) (least : Option Rank) → least ≡ earliest_of q → IfSome least (λ rank. rank.key.time ≡ least_time (end_of q.config) (q.pending ++ q.waiting))
-    → IfNone least ((q.pending ≡ []) × (q.waiting ≡ [])) → TellsLeast q
-tells-least q None is some none = ap (rank_time (end_of q.config)) (sym is) ∙ (λ j. least_time (end_of q.config) (sym none.0 j ++ sym none.1 j))
-tells-least q (Some rank) is some none = ap (rank_time (end_of q.config)) (sym is) ∙ some
 
 -- where an event is ready and nothing waits, the ready event has the least rank
 first_ready : (t : Bool) (rank r : Rank) → (if t then Some rank else None) ≡ Some r → None ≡ other_rank (if t then Some rank else None) (Some rank)

@@ -1,11 +1,11 @@
 -- Home and Accept: a letter leaves the outbox or the mail that has arrived, and reaches its process.
-use Rattle.std.proofs.Common.{◌≡◌, ℕ, suc, ◌/◌, ◌%◌, inl, inr, Bool, true, false, cond, nat_eq, List, [], ◌∷◌, take, drop, refl, sym, ◌∙◌, ap, subst, Some, None, slice_get, slice_set, if◌then◌else◌}
+use Rattle.std.proofs.Common.{◌≡◌, ℕ, suc, ◌/◌, ◌%◌, inl, inr, Bool, true, false, nat_eq, List, [], take, drop, refl, sym, ◌∙◌, ap, subst, Some, None, slice_get, slice_set, if◌then◌else◌}
 use Rattle.std.specs.List.{All, find, remove}
 use Rattle.vt_key.specs.Queues.{without_first}
-use Rattle.std.proofs.lemmas.List.Elements.{All-cons, All-head, All-tail, All-append, All-take, All-drop}
+use Rattle.std.proofs.lemmas.List.Elements.{All-from_recursion, recursion_from_All, All-append, All-take, All-drop}
 use Rattle.std.specs.Option.{option_map, option_and_then}
 use Rattle.std.proofs.lemmas.Bool.Decides.{eqb_tells}
-use Rattle.vt_key.proofs.ListLemmas.{find-passes}
+use Rattle.vt_key.proofs.ListLemmas.{every-find, every-without_first, find-passes}
 use Rattle.vt_key.specs.declared.letter.Letter.{Letter}
 use Rattle.vt_key.specs.declared.letter.Mail.{Mail}
 use Rattle.vt_model.specs.declared.settings.Config.{Config}
@@ -30,21 +30,11 @@ use Rattle.vt_kernel.proofs.LocalLemmas.{IsOwnPlace, found-at, changed-done, cha
 
 -- and has what all have
 pub find-all : {X : Type 0} (Q : X → Type 0) (test : X → Bool) (xs : List X) (x : X) → All Q xs → find test xs ≡ Some x → Q x
-find-all Q test [] x h is = absurd (let k : None ≡ Some x = is in cc)
-find-all Q test (y ∷ ys) x h is =
-    elim (test y) as (λ b. (cond b (Some y) (find test ys)) ≡ Some x → Q x) [
-      | true ↦ λ e. (let same : y ≡ x = cc in subst Q same (All-head Q y ys h))
-      | false ↦ λ e. find-all Q test ys x (All-tail Q y ys h) e
-    ] is
+find-all Q test xs x h is = every-find Q test xs x is (recursion_from_All Q xs h)
 
 -- those that are left have it too
 pub without-all : {X : Type 0} (Q : X → Type 0) (test : X → Bool) (xs : List X) → All Q xs → All Q (without_first test xs)
-without-all Q test [] h = h
-without-all Q test (y ∷ ys) h =
-    elim (test y) as (λ b. All Q (cond b ys (y ∷ without_first test ys))) [
-      | true ↦ All-tail Q y ys h
-      | false ↦ All-cons Q y (without_first test ys) (All-head Q y ys h) (without-all Q test ys (All-tail Q y ys h))
-    ]
+without-all Q test xs h = All-from_recursion Q (without_first test xs) (every-without_first Q test xs (recursion_from_All Q xs h))
 
 -- a letter for this worker, by the test
 pub for-worker : (workers w dest : ℕ) → nat_eq (dest % workers) w ≡ true → dest % workers ≡ w

@@ -1,26 +1,25 @@
 -- Execute is lawful exactly at the processes that are ready in the contest.
-use Rattle.std.proofs.Common.{◌≡◌, ℕ, zero, suc, ◌+◌, ◌*◌, ◌/◌, ◌%◌, ◌≤◌, inl, inr, Bool, true, false, List, [], ◌∷◌, map, length, refl, sym, ◌∙◌, ap, subst, arith, if◌then◌else◌, Option, Some, None, IfNone, slice_get}
+use Rattle.std.proofs.Common.{◌≡◌, ℕ, zero, suc, ◌+◌, ◌*◌, ◌/◌, ◌%◌, ◌≤◌, inl, inr, Bool, true, false, List, [], ◌∷◌, map, length, refl, sym, ◌∙◌, ap, subst, arith, if◌then◌else◌, Option, Some, None, slice_get}
 use Rattle.std.specs.List.{last_or}
 use Rattle.std.specs.Option.{option_map}
 use Rattle.std.proofs.lemmas.Bool.Decides.{eqb_tells}
 use Rattle.vt_key.specs.declared.order.Rank.{Rank}
-use Rattle.vt_key.specs.declared.letter.Event.{Event}
 use Rattle.vt_key.specs.declared.letter.Letter.{Letter}
 use Rattle.vt_model.specs.Handler.{Handlers}
 use Rattle.vt_model.specs.Simulation.{Simulation, simulation_of}
 use Rattle.vt_steps.specs.declared.step.Step.TheVariants.{Execute}
-use Rattle.vt_steps.specs.World.{Entry, LogicalProcess, Part, entry_rank}
-use Rattle.vt_steps.specs.ProcessSteps.{ProcessEffect, may_follow, effect_of_execute, execute_least, execute_process}
+use Rattle.vt_steps.specs.World.{LogicalProcess, Part}
+use Rattle.vt_steps.specs.ProcessSteps.{ProcessEffect, effect_of_execute, execute_least, execute_process}
 use Rattle.vt_steps.specs.PartSteps.{with_effect}
-use Rattle.vt_steps.specs.StandsFor.{entry_of}
 use Rattle.vt_steps.specs.Cells.{local_step}
-use Rattle.vt_past.specs.declared.event.PastEvent.{PastEvent}
-use Rattle.vt_lp.specs.Held.{HeldProcess, remembered, StandsFor as ProcessStandsFor}
+use Rattle.vt_lp.specs.Held.{HeldProcess, StandsFor as ProcessStandsFor}
 use Rattle.vt_lp.specs.Guards.{may_come_after, ready_rank}
 use Rattle.vt_contest.specs.Entries.{ready_of}
 use Rattle.vt_kernel.specs.Held.{HeldWorker, StandsFor, AreProcesses}
 use Rattle.vt_kernel.proofs.OwnSteps.{own-execute, not-own, own-step, found, refused-at}
 use Rattle.vt_kernel.proofs.LocalLemmas.{past-refused, execute-step}
+use Rattle.vt_kernel.proofs.ProcessLemmas.{get-map_of}
+use Rattle.vt_lp.proofs.ExecuteLemmas.{may-is}
 
 -- ---- lists and options
 
@@ -38,19 +37,10 @@ get-mapped f [] i y at = absurd (let h : None ≡ Some y = at in cc)
 get-mapped f (x ∷ xs) zero y at = (x, refl, (let h : Some (f x) ≡ Some y = at in cc))
 get-mapped f (x ∷ xs) (suc i) y at = get-mapped f xs i y at
 
-get-of-map : {X Y : Type 0} (f : X → Y) (xs : List X) (i : ℕ) (x : X) → slice_get xs i ≡ Some x → slice_get (map f xs) i ≡ Some (f x)
-get-of-map f [] i x at = absurd (let h : None ≡ Some x = at in cc)
-get-of-map f (y ∷ ys) zero x at = (let h : Some y ≡ Some x = at in let same : y ≡ x = cc in ap (λ z. Some (f z)) same)
-get-of-map f (y ∷ ys) (suc i) x at = get-of-map f ys i x at
-
 past-get : {X : Type 0} (xs : List X) (i : ℕ) → slice_get xs i ≡ None → length xs ≤ i
 past-get [] i gone = omega arith
 past-get (x ∷ xs) zero gone = absurd (let h : Some x ≡ None = gone in cc)
 past-get (x ∷ xs) (suc i) gone = (let rest = past-get xs i gone in omega (arith, rest))
-
-pub none-says : {X : Type 0} (o : Option X) (Q : Type 0) → Q → IfNone o Q
-none-says None Q q = q
-none-says (Some x) Q q = tt
 
 -- either it is there or not
 one-of : {X Q : Type 0} (o : Option X) → (o ≡ None → Q) → ((x : X) → o ≡ Some x → Q) → Q
@@ -59,15 +49,6 @@ one-of (Some x) none some = some x refl
 
 module _ {S P K : Type 0} (handlers : Handlers S P K) where
   -- ---- at a process
-
-  last-may : (p : ℕ) (o : Option (PastEvent P K)) (r : Option (Entry P)) (es : List (PastEvent P K)) (event : Event P) →
-      may_follow entry_rank r event.rank ≡ may_come_after o event.rank → may_follow entry_rank (last_or r (map entry_of (map (remembered handlers p) es))) event.rank ≡ may_come_after (last_or o es) event.rank
-  last-may p o r [] event h = h
-  last-may p o r (e ∷ es) event h = last-may p (Some e) (Some (entry_of (remembered handlers p e))) es event refl
-
-  may-is : (held : HeldProcess S P K) (process : LogicalProcess P) (event : Event P) → ProcessStandsFor handlers held process
-      → may_follow entry_rank (last_or None process.past) event.rank ≡ may_come_after (last_or None held.past) event.rank
-  may-is held process event s = ap (λ (es : List (Entry P)). may_follow entry_rank (last_or None es) event.rank) s.past ∙ last-may held.lp None None held.past event refl
 
   -- Execute is lawful where a rank is ready
   pub ready-lawful : (sim : Simulation S P) (p w serial : ℕ) (held : HeldProcess S P K) (process : LogicalProcess P) (rank : Rank) → ProcessStandsFor handlers held process
@@ -80,7 +61,7 @@ module _ {S P K : Type 0} (handlers : Handlers S P K) where
       go (l ∷ ls) is = (
         effect_of_execute sim p w serial process l ls,
         ap (λ b. if b then Some (effect_of_execute sim p w serial process l ls) else None)
-            (may-is held process l.event s ∙ if-true (may_come_after (last_or None held.past) l.event.rank) l.event.rank rank is),
+            (may-is handlers held process l.event s ∙ if-true (may_come_after (last_or None held.past) l.event.rank) l.event.rank rank is),
       )
 
   -- and where none is it is not
@@ -93,7 +74,7 @@ module _ {S P K : Type 0} (handlers : Handlers S P K) where
       go [] is = refl
       go (l ∷ ls) is =
           ap (λ b. if b then Some (effect_of_execute sim p w serial process l ls) else None)
-          (may-is held process l.event s ∙ if-false (may_come_after (last_or None held.past) l.event.rank) l.event.rank is)
+          (may-is handlers held process l.event s ∙ if-false (may_come_after (last_or None held.past) l.event.rank) l.event.rank is)
 
   -- ---- at a worker
 
@@ -126,5 +107,5 @@ module _ {S P K : Type 0} (handlers : Handlers S P K) where
               refused-at handlers held part p q step e.1 f
               (one-of (ready_of q)
               (λ none. none-ready sim (place * held.config.workers + held.worker) held.worker part.serial q f.process f.stands none)
-              (λ rank some. absurd (nobody place rank (get-of-map ready_of held.processes place q at ∙ ap Some some))))))
+              (λ rank some. absurd (nobody place rank (get-map_of ready_of held.processes place q at ∙ ap Some some))))))
         ]

@@ -1,5 +1,5 @@
 -- Undo and Cancel at one process of a part.
-use Rattle.std.specs.Prelude.{◌≡◌, ℕ, nat_eq, ◌⊎◌, Bool, true, false, List, [], ◌∷◌, length, if◌then◌else◌, Option, Some, None}
+use Rattle.std.specs.Prelude.{◌≡◌, ℕ, ◌⊎◌, Bool, true, false, List, length, None}
 use Rattle.std.specs.List.{filter, AllByRecursion}
 use Rattle.vt_key.specs.declared.order.Stamp.{Stamp}
 use Rattle.vt_model.specs.Simulation.{Simulation}

@@ -19,25 +19,25 @@ pub key-asymmetric : (a b : Key) → KeyBefore a b → KeyBefore b a → ⊥
 key-asymmetric a b h k = grind arith
 
 -- of two numbers one is less, or they are one
-apart : (a b : ℕ) → (a < b) ⊎ ((a ≡ b) ⊎ (b < a))
-apart a b = elim (cases_order a b) [ inl e ↦ inr (inl e) | inr h ↦ elim h [ inl l ↦ inl l | inr l ↦ inr (inr l) ] ]
+pub numbers-apart : (a b : ℕ) → (a < b) ⊎ ((a ≡ b) ⊎ (b < a))
+numbers-apart a b = elim (cases_order a b) [ inl e ↦ inr (inl e) | inr h ↦ elim h [ inl l ↦ inl l | inr l ↦ inr (inr l) ] ]
 
 same_fields : (a b : Key) → a.time ≡ b.time → a.source ≡ b.source → a.number ≡ b.number → a ≡ b
 same_fields a b e f g = λ i. record { time = e i; source = f i; number = g i }
 
 pub key-total : (a b : Key) → KeyBefore a b ⊎ ((a ≡ b) ⊎ KeyBefore b a)
 key-total a b =
-    elim (apart a.time b.time) [
+    elim (numbers-apart a.time b.time) [
       | inl h ↦ inl (inl h)
       | inr h ↦ elim h [
         | inr k ↦ inr (inr (inl k))
         | inl e ↦
-            elim (apart a.source b.source) [
+            elim (numbers-apart a.source b.source) [
               | inl h ↦ inl (inr (e, inl h))
               | inr h ↦ elim h [
                 | inr k ↦ inr (inr (inr (sym e, inl k)))
                 | inl f ↦
-                    elim (apart a.number b.number) [
+                    elim (numbers-apart a.number b.number) [
                       | inl h ↦ inl (inr (e, inr (f, h)))
                       | inr h ↦ elim h [
                         | inr k ↦ inr (inr (inr (sym e, inr (sym f, k))))
@@ -80,12 +80,12 @@ stamp-transitive a b c h k = grind arith
 
 pub stamp-total : (a b : Stamp) → StampBefore a b ⊎ ((a ≡ b) ⊎ StampBefore b a)
 stamp-total a b =
-    elim (apart a.worker b.worker) [
+    elim (numbers-apart a.worker b.worker) [
       | inl h ↦ inl (inl h)
       | inr h ↦ elim h [
         | inr k ↦ inr (inr (inl k))
         | inl e ↦
-            elim (apart a.serial b.serial) [
+            elim (numbers-apart a.serial b.serial) [
               | inl h ↦ inl (inr (e, h))
               | inr h ↦ elim h [
                 | inr k ↦ inr (inr (inr (sym e, k)))

@@ -79,7 +79,7 @@ module _ {S P K : Type 0} (handlers : Handlers S P K) where
   last-may p o r [] event h = h
   last-may p o r (e ∷ es) event h = last-may p (Some e) (Some (entry_of (remembered handlers p e))) es event refl
 
-  may-is : (held : HeldProcess S P K) (h : LogicalProcess P) (event : Event P) → StandsFor handlers held h → may_follow entry_rank (last_or None h.past) event.rank ≡ may_come_after (last_or None held.past) event.rank
+  pub may-is : (held : HeldProcess S P K) (h : LogicalProcess P) (event : Event P) → StandsFor handlers held h → may_follow entry_rank (last_or None h.past) event.rank ≡ may_come_after (last_or None held.past) event.rank
   may-is held h event s = ap (λ (es : List (Entry P)). may_follow entry_rank (last_or None es) event.rank) s.past ∙ last-may held.lp None None held.past event refl
 
   -- Execute is not lawful

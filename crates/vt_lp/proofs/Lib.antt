@@ -4,10 +4,10 @@ mod ReachLemmas
 mod ReadyLemmas
 mod LeastLemmas
 pub mod AcceptLemmas
-mod CancelLemmas
+pub mod CancelLemmas
 mod Stamping
 pub mod RipeLemmas
 mod Ends
 mod Advancing
-mod ExecuteLemmas
+pub mod ExecuteLemmas
 mod UndoLemmas

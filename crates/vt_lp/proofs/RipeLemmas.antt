@@ -55,11 +55,6 @@ rows_grow key records i n d others rows new is same within before =
     ∙ append_assoc others (rows_of key (take i records)) last
     ∙ ap (λ rs. others ++ rs) (sym (rows_of_more key records i d within))
 
--- the rows of no records
-pub rows_of_none : (key : Key) → rows_of key [] ≡ []
-unfolding rows_of
-rows_of_none key = refl
-
 module _ {P K : Type 0} where
   -- no past event is after the last one
   until-last : (e : PastEvent P K) (es : List (PastEvent P K)) (last : Rank) → IsRisingPast (e ∷ es) → last_rank (e ∷ es) ≡ Some last → e.letter.event.rank.key.time ≤ last.key.time

@@ -1,5 +1,5 @@
 -- Letters in rising rank: what is asked of all of them, the least one answers.
-use Rattle.std.proofs.Common.{◌≡◌, ◌||◌, ◌⊎◌, inl, inr, ◌++◌, Bool, true, false, not, List, [], ◌∷◌, Some, None, slice_get, refl, sym, subst, ◌∙◌, ap, arith}
+use Rattle.std.proofs.Common.{◌≡◌, ◌||◌, ◌⊎◌, inl, inr, ◌++◌, Bool, true, false, not, List, [], ◌∷◌, Some, None, slice_get, refl, sym, ◌∙◌, ap, arith}
 use Rattle.std.specs.List.{list_any}
 use Rattle.vt_key.specs.Times.{Time, TimeAtMost, earlier}
 use Rattle.vt_key.specs.Order.{RankBefore, rank_before}
@@ -77,16 +77,6 @@ module _ {P : Type 0} where
   -- the least time is the least letter's
   pub least_time-rising : (end : Time) (l : Letter P) (ls : List (Letter P)) → TimeAtMost (letter_time l) end → IsRising (l ∷ ls) → least_time end (l ∷ ls) ≡ letter_time l
   least_time-rising end l ls soon rises = let h = least-after end l.event.rank ls soon rises.0 in omega arith
-
-  pub least_time-least : (end : Time) (l : Letter P) (ls : List (Letter P)) → slice_get ls 0 ≡ Some l → TimeAtMost (letter_time l) end → IsRising ls → least_time end ls ≡ letter_time l
-  least_time-least end l [] at soon rises = absurd (let e : None ≡ Some l = at in cc)
-  least_time-least end l (x ∷ xs) at soon rises =
-      let same : l ≡ x = cc in
-      least_time-rising end x xs (subst (λ (y : Letter P). TimeAtMost (letter_time y) end) same soon) rises ∙ ap letter_time (sym same)
-
-  pub least_time-none : (end : Time) (ls : List (Letter P)) → slice_get ls 0 ≡ None → least_time end ls ≡ end
-  least_time-none end [] at = refl
-  least_time-none end (x ∷ xs) at = absurd (let e : Some x ≡ None = at in cc)
 
   -- the least time is not after the end
   least_time-end : (end : Time) (ls : List (Letter P)) → TimeAtMost (least_time end ls) end

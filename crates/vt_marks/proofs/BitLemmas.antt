@@ -1,9 +1,8 @@
 -- Bits of one word, and of words in a row.
-use Rattle.std.proofs.Common.{◌≡◌, ◌≢◌, ◌⊎◌, inl, inr, ℕ, zero, suc, ◌+◌, ◌-◌, ◌*◌, ◌/◌, ◌%◌, ◌^◌, ◌<◌, ◌≤◌, Bool, true, false, nat_eq, not, min, bit_and, List, [], ◌∷◌, length, slice_index_or, slice_set, refl, sym, ◌∙◌, ap, arith, w64}
+use Rattle.std.proofs.Common.{◌≡◌, ◌≢◌, ◌⊎◌, inl, inr, ℕ, zero, suc, ◌+◌, ◌-◌, ◌*◌, ◌/◌, ◌%◌, ◌^◌, ◌<◌, ◌≤◌, Bool, true, false, nat_eq, not, min, bit_and, List, [], ◌∷◌, length, slice_index_or, refl, sym, ◌∙◌, ap, arith, w64}
 use Rattle.std.specs.Int.{bit_at, trailing_zeros}
 use Rattle.std.proofs.lemmas.Bool.{cases_lt}
 use Rattle.std.proofs.lemmas.Bool.Decides.{nat_tests}
-use Rattle.std.proofs.lemmas.List.{get_or-set_same, get_or-set_other}
 use Rattle.std.proofs.lemmas.Nat.{and_le_l}
 use Rattle.std.proofs.lemmas.Nat.Bits.{bit_at_and, bit_at-zero, bit_at-lt, bit_at-trailing_zeros, ones_shl, bit_at_mask_inside, bit_at_mask_below}
 use Rattle.vt_marks.specs.Bits.{is_one, is_set, AreSums}
@@ -80,27 +79,6 @@ get-past (w ∷ ws) (suc k) past = get-past ws k (omega arith)
 
 pub past-words : (words : List ℕ) (place : ℕ) → length words ≤ place / 64 → is_set words place ≡ false
 past-words words place past = in-word words place (place / 64) 0 false refl (get-past words (place / 64) past) (cleared 0 (place % 64) (bit_at-zero (place % 64)))
-
--- a word with a bit that is written
-module _ (words : List ℕ) (place word : ℕ) (within : place / 64 < length words) where
-  pub written-own : (value : Bool) → is_one word (place % 64) ≡ value → is_set (slice_set words (place / 64) word) place ≡ value
-  written-own value is = in-word _ place (place / 64) word value refl (get_or-set_same words (place / 64) word 0 within) is
-
-  pub written-other : ((bit : ℕ) → bit < 64 → bit ≢ place % 64 → is_one word bit ≡ is_one (slice_index_or words (place / 64) 0) bit)
-      → (other : ℕ) → other ≢ place → is_set (slice_set words (place / 64) word) other ≡ is_set words other
-  written-other same other differs = go (cases_lt (other / 64) (place / 64)) (cases_lt (place / 64) (other / 64))
-    where
-      apart : other / 64 ≢ place / 64 → is_set (slice_set words (place / 64) word) other ≡ is_set words other
-      apart away = ap (λ n. is_one n (other % 64)) (get_or-set_other words (place / 64) (other / 64) word 0 away)
-
-      go : ((other / 64 < place / 64) ⊎ (place / 64 ≤ other / 64)) → ((place / 64 < other / 64) ⊎ (other / 64 ≤ place / 64)) → is_set (slice_set words (place / 64) word) other ≡ is_set words other
-      go (inl less) _ = apart (λ e. omega (arith, e, less))
-      go (inr _) (inl more) = apart (λ e. omega (arith, e, more))
-      go (inr a) (inr b) =
-          let here : other / 64 ≡ place / 64 = omega (arith, a, b) in
-          let off : other % 64 ≢ place % 64 = λ e. differs (omega (arith, e, here)) in
-          in-word _ other (place / 64) word _ here (get_or-set_same words (place / 64) word 0 within) (same (other % 64) (omega arith) off)
-          ∙ ap (λ k. is_one (slice_index_or words k 0) (other % 64)) (sym here)
 
 -- ---- words, and sums that tell which of them have a bit that is set
 

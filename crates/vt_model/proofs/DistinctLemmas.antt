@@ -1,18 +1,17 @@
 -- No two pending events of a run have one key.
-use Rattle.std.proofs.Common.{◌≡◌, ℕ, zero, suc, ◌+◌, ◌<◌, ◌≤◌, inl, inr, List, [], ◌∷◌, ◌++◌, Bool, true, false, not, filter, flat_map, sum_by, Option, Some, None, refl, sym, subst, ap, ◌∙◌, arith}
-use Rattle.std.specs.Option.{option_map_or}
+use Rattle.std.proofs.Common.{◌≡◌, ℕ, zero, suc, ◌+◌, ◌<◌, ◌≤◌, inl, inr, List, [], ◌∷◌, Bool, true, false, not, filter, flat_map, sum_by, refl, sym, subst, ap, ◌∙◌, arith}
 use Rattle.std.specs.List.{range_with_len}
 use Rattle.std.proofs.lemmas.List.Sums.{sum_by-cons}
 use Rattle.vt_key.specs.Keys.{Key}
 use Rattle.vt_key.specs.Order.{key_same}
-use Rattle.vt_key.specs.Lists.{Among}
+use Rattle.vt_key.specs.Lists.{Among, IsRisingBy}
 use Rattle.vt_key.proofs.OrderLemmas.{key_same-true, same-key_same}
-use Rattle.vt_key.proofs.ListLemmas.{among-append, filter-among}
+use Rattle.vt_key.proofs.ListLemmas.{every-all, every-among, filter-among, rising-append, rising-filter}
 use Rattle.vt_model.specs.declared.sending.Sent.{Sent}
 use Rattle.vt_model.specs.Simulation.{Simulation, after}
-use Rattle.vt_model.specs.Sequential.{RunState, events_of, least_event, fired_after, with_event, step, after_steps}
+use Rattle.vt_model.specs.Sequential.{RunState, events_of, fired_after, with_event, after_steps}
 use Rattle.vt_model.specs.Histories.{AreNumbered, sends_of, IsLawful}
-use Rattle.vt_model.proofs.RunLemmas.{tested, filter-yes, filter-no, numbered-among, numbered-all, known_sent, lists_of, least-found, IsReached, reached, among-below, flat-next}
+use Rattle.vt_model.proofs.RunLemmas.{each_step, tested, filter-yes, filter-no, numbered-among, numbered-all, known_sent, lists_of, least-found, IsReached, reached, among-below, flat-next}
 
 differs : (a b : Key) → (a ≡ b → ⊥) → key_same a b ≡ false
 differs a b never = elim (tested (key_same a b)) [ inl y ↦ absurd (never (key_same-true a b y)) | inr y ↦ y ]
@@ -20,33 +19,17 @@ differs a b never = elim (tested (key_same a b)) [ inl y ↦ absurd (never (key_
 module _ {P : Type 0} where
   -- no two of these events have one key
   abbrev pub AreDistinct : List (Sent P) → Type 0
-  AreDistinct [] = Unit {0}
-  AreDistinct (x ∷ xs) = ((d : Sent P) → Among d xs → x.key ≡ d.key → ⊥) × AreDistinct xs
-
-  distinct-filter : (test : Sent P → Bool) (xs : List (Sent P)) → AreDistinct xs → AreDistinct (filter test xs)
-  distinct-filter test [] h = tt
-  distinct-filter test (x ∷ xs) h =
-      elim (tested (test x)) [
-        | inl y ↦ rw (filter-yes test x xs y) (λ d m. h.0 d (filter-among test d xs m).0, distinct-filter test xs h.1)
-        | inr y ↦ rw (filter-no test x xs y) (distinct-filter test xs h.1)
-      ]
-
-  distinct-append : (xs ys : List (Sent P)) → AreDistinct xs → AreDistinct ys → ((a b : Sent P) → Among a xs → Among b ys → a.key ≡ b.key → ⊥) → AreDistinct (xs ++ ys)
-  distinct-append [] ys h k apart = k
-  distinct-append (x ∷ xs) ys h k apart = (
-    λ d m. elim (among-append d xs ys m) [ inl a ↦ h.0 d a | inr a ↦ apart x d (inl refl) a ],
-    distinct-append xs ys h.1 k (λ a b m n. apart a b (inr m) n),
-  )
+  AreDistinct = IsRisingBy (λ a b. a.key ≡ b.key → ⊥)
 
   -- sends with rising numbers are distinct
   distinct-numbered : (p lo hi : ℕ) (es : List (Sent P)) → AreNumbered p lo hi es → AreDistinct es
   distinct-numbered p lo hi [] n = tt
   distinct-numbered p lo hi (e ∷ es) n = (
-    λ d m same.
+    every-all (λ d. e.key ≡ d.key → ⊥) es (λ d m same.
         let r = numbered-among p (suc e.key.number) hi es d n.2 m in
         let above : suc e.key.number ≤ d.key.number = r.1 in
         let number : e.key.number ≡ d.key.number = ap (λ (k : Key). k.number) same in
-        omega arith,
+        omega arith),
     distinct-numbered p (suc e.key.number) hi es n.2,
   )
 
@@ -58,11 +41,11 @@ module _ {P : Type 0} where
   pub sum_by-without : (f : Sent P → ℕ) (xs : List (Sent P)) (e : Sent P) → AreDistinct xs → Among e xs → sum_by f (filter (λ d. not (key_same d.key e.key)) xs) + f e ≡ sum_by f xs
   sum_by-without f [] e h m = absurd m
   sum_by-without f (x ∷ xs) e h (inl at) =
-      let others : (d : Sent P) → Among d xs → not (key_same d.key e.key) ≡ true = λ d m. ap not (differs d.key e.key (λ same. h.0 d m (ap (λ (y : Sent P). y.key) (sym at) ∙ sym same))) in
+      let others : (d : Sent P) → Among d xs → not (key_same d.key e.key) ≡ true = λ d m. ap not (differs d.key e.key (λ same. every-among (λ d. x.key ≡ d.key → ⊥) xs d h.0 m (ap (λ (y : Sent P). y.key) (sym at) ∙ sym same))) in
       let out : not (key_same x.key e.key) ≡ false = ap not (subst (λ (y : Sent P). key_same y.key e.key ≡ true) at (same-key_same e.key)) in
       rw (filter-no (λ d. not (key_same d.key e.key)) x xs out, filter-all (λ d. not (key_same d.key e.key)) xs others) (omega (arith, sum_by-cons f x xs, ap f at))
   sum_by-without f (x ∷ xs) e h (inr m) =
-      let in_place : not (key_same x.key e.key) ≡ true = ap not (differs x.key e.key (h.0 e m)) in
+      let in_place : not (key_same x.key e.key) ≡ true = ap not (differs x.key e.key (every-among (λ d. x.key ≡ d.key → ⊥) xs e h.0 m)) in
       rw (filter-yes (λ d. not (key_same d.key e.key)) x xs in_place)
       (omega (arith, sum_by-without f xs e h.1 m, sum_by-cons f x xs, sum_by-cons f x (filter (λ d. not (key_same d.key e.key)) xs)))
 
@@ -75,7 +58,7 @@ module _ {S P : Type 0} (sim : Simulation S P) (lawful : IsLawful sim) where
       let fresh = sim.fire e.dest there e in
       let kept : Sent P → Bool = λ d. not (key_same d.key e.key) in
       let numbers = lawful.numbered e.dest there e is in
-      distinct-append (filter kept x.pending) fresh.sends (distinct-filter kept x.pending h) (distinct-numbered e.dest there.number fresh.triple.number fresh.sends numbers)
+      rising-append (λ a b. a.key ≡ b.key → ⊥) (filter kept x.pending) fresh.sends (rising-filter (λ a b. a.key ≡ b.key → ⊥) kept x.pending h) (distinct-numbered e.dest there.number fresh.triple.number fresh.sends numbers)
       (λ a b m n same.
       let s = r.made a (inl (filter-among kept a x.pending m).0) in
       let old = numbered-among s.0 0 (after sim s.0 (events_of s.0 x.executed)).number (sends_of sim s.0 (events_of s.0 x.executed)) a (numbered-all sim lawful s.0 s.1 (events_of s.0 x.executed)) s.2 in
@@ -93,7 +76,7 @@ module _ {S P : Type 0} (sim : Simulation S P) (lawful : IsLawful sim) where
       let is : n < sim.lps = omega arith in
       let numbers = lawful.numbered_start n is in
       rw (flat-next (λ p. (sim.start p).sends) n)
-      (distinct-append (flat_map (λ p. (sim.start p).sends) (range_with_len 0 n)) (sim.start n).sends (distinct_opening n (omega arith)) (distinct-numbered n 0 (sim.start n).triple.number (sim.start n).sends numbers)
+      (rising-append (λ a b. a.key ≡ b.key → ⊥) (flat_map (λ p. (sim.start p).sends) (range_with_len 0 n)) (sim.start n).sends (distinct_opening n (omega arith)) (distinct-numbered n 0 (sim.start n).triple.number (sim.start n).sends numbers)
       (λ a b m k same.
       let s = among-below sim lawful (λ p. (sim.start p).sends) n a m in
       let less : s.0 < n = s.1 in
@@ -102,13 +85,6 @@ module _ {S P : Type 0} (sim : Simulation S P) (lawful : IsLawful sim) where
       let source : s.0 ≡ n = sym old.0 ∙ ap (λ (q : Key). q.source) same ∙ new.0 in
       omega arith))
 
-  distinct_step : (x : RunState P) → IsReached sim lawful x → AreDistinct x.pending → AreDistinct (step sim x).pending
-  distinct_step x r h = go (least_event x.pending) refl where
-    go : (o : Option (Sent P)) → least_event x.pending ≡ o → AreDistinct (option_map_or (with_event sim x) o x).pending
-    go None none = h
-    go (Some e) found = distinct_with x e r (least-found x.pending e found).0 h
-
   -- wherever a run is
   pub distinct_pending : (n : ℕ) → AreDistinct (after_steps sim n).pending
-  distinct_pending zero = distinct_opening sim.lps (omega arith)
-  distinct_pending (suc n) = distinct_step (after_steps sim n) (reached sim lawful n) (distinct_pending n)
+  distinct_pending = each_step sim (λ x. AreDistinct x.pending) (distinct_opening sim.lps (omega arith)) (λ n e found h. distinct_with (after_steps sim n) e (reached sim lawful n) (least-found (after_steps sim n).pending e found).0 h)

@@ -90,10 +90,6 @@ module _ {P : Type 0} where
       omega (arith, ih, here, product, sum_by-cons f x xs)
 
 module _ {S P : Type 0} (sim : Simulation S P) (lawful : IsLawful sim) where
-  weight-nil : weight sim [] ≡ 0
-  unfolding weight
-  weight-nil = refl
-
   weight-pos : (x : Sent P) (xs : List (Sent P)) → 1 ≤ weight sim (x ∷ xs)
   unfolding weight
   weight-pos x xs =
@@ -103,10 +99,6 @@ module _ {S P : Type 0} (sim : Simulation S P) (lawful : IsLawful sim) where
   few-fresh : (xs : List (Sent P)) (e : Sent P) → e.dest < sim.lps → length (fired_after sim xs e).sends ≤ MAX_SENDS
   unfolding fired_after
   few-fresh xs e is = lawful.few e.dest (after sim e.dest (events_of e.dest xs)) e is
-
-  fresh-ends : (xs : List (Sent P)) (e d : Sent P) → e.dest < sim.lps → Among d (fired_after sim xs e).sends → d.key.time < sim.end
-  unfolding fired_after
-  fresh-ends xs e d is m = lawful.ends e.dest (after sim e.dest (events_of e.dest xs)) e d is m
 
   -- what an event sends weighs less than the event: it is few events, and those later
   pub sent-lighter : (e : Sent P) (fresh : List (Sent P)) → e.key.time < sim.end → length fresh ≤ MAX_SENDS → ((d : Sent P) → Among d fresh → e.key.time < d.key.time)

@@ -9,7 +9,8 @@ use Rattle.vt_model.specs.declared.settings.Config.{Config}
 use Rattle.vt_stream.specs.Words.{seed_key}
 use Rattle.vt_model.specs.Sends.{SendRequest, sent_event, sent_events, receive_time}
 use Rattle.vt_model.specs.Handler.{Handlers, IsSendable, IsWithinLimits, AreWords}
-use Rattle.vt_model.specs.Simulation.{Triple, words_at, start_of, fire_of, simulation_of, after, after_from}
+use Rattle.vt_model.specs.Simulation.{Triple, words_at, start_of, fire_of, simulation_of, after}
+use Rattle.vt_model.proofs.RunLemmas.{after_from}
 use Rattle.vt_model.specs.Histories.{AreNumbered, IsLawful}
 use Rattle.vt_stream.proofs.WordLemmas.{word_below}
 use Rattle.vt_model.proofs.RowLemmas.{has_rows}

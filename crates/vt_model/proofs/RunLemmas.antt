@@ -1,6 +1,6 @@
 -- The sequential run makes the one history.
 use Rattle.std.proofs.Common.{◌≡◌, ℕ, zero, suc, ◌<◌, ◌≤◌, ◌⊎◌, inl, inr, List, [], ◌∷◌, ◌++◌, Bool, true, false, not, ◌&&◌, filter, find, Option, Some, None, nat_eq, flat_map, if◌then◌else◌, refl, sym, subst, ap, ◌∙◌, arith, append_assoc, append-nil, ◌+◌, map}
-use Rattle.std.specs.List.{list_all, range_with_len}
+use Rattle.std.specs.List.{fold, list_all, range_with_len}
 use Rattle.std.specs.Option.{option_map_or}
 use Rattle.std.proofs.lemmas.Bool.{eqb-true, eq-eqb}
 use Rattle.std.proofs.lemmas.List.Elements.{filter-append}
@@ -12,8 +12,8 @@ use Rattle.vt_key.specs.Lists.{Among}
 use Rattle.vt_key.proofs.OrderLemmas.{key-transitive, key-total, before-key_before, key_same-true, same-key_same}
 use Rattle.vt_key.proofs.ListLemmas.{among-range, range-among, among-flat_map, flat_map-among, among-left, among-right, among-append, among-filter, filter-among, find-among, find-passes, rising-append}
 use Rattle.vt_model.specs.declared.sending.Sent.{Sent}
-use Rattle.vt_model.specs.Simulation.{Simulation, Triple, after, after_from}
-use Rattle.vt_model.specs.Sequential.{RunState, events_of, least_event, fired_after, opening, with_event, step, after_steps}
+use Rattle.vt_model.specs.Simulation.{Simulation, Triple, after}
+use Rattle.vt_model.specs.Sequential.{RunState, events_of, least_event, fired_after, opening, with_event, after_steps}
 use Rattle.vt_model.specs.Histories.{IsRising, AreNumbered, sends_from, sends_of, IsSent, IsLawful}
 
 -- one number more
@@ -127,6 +127,22 @@ module _ {P : Type 0} where
             let u : key_before d.key e.key ≡ true = before-key_before d.key e.key before in
             let v : false ≡ true = sym (ap not u) ∙ t in absurd (cc),
       )
+
+-- where a process stands after these events, from where it stood
+abbrev pub after_from : {S P : Type 0} → Simulation S P → ℕ → Triple S → List (Sent P) → Triple S
+after_from sim p t es = fold (λ t e. (sim.fire p t e).triple) t es
+
+-- what holds at the opening, and after each event if it held before, holds wherever a run stands
+pub each_step : {S P : Type 0} (sim : Simulation S P) (Q : RunState P → Type 0) → Q (opening sim)
+    → ((n : ℕ) (e : Sent P) → least_event (after_steps sim n).pending ≡ Some e → Q (after_steps sim n) → Q (with_event sim (after_steps sim n) e)) → (n : ℕ) → Q (after_steps sim n)
+each_step sim Q opens goes zero = opens
+each_step {P = P} sim Q opens goes (suc n) = go (each_step sim Q opens goes n) (least_event now.pending) refl where
+  now : RunState P
+  now = after_steps sim n
+
+  go : Q now → (o : Option (Sent P)) → least_event now.pending ≡ o → Q (option_map_or (with_event sim now) o now)
+  go held None none = held
+  go held (Some e) found = goes n e found held
 
 module _ {S P : Type 0} (sim : Simulation S P) (lawful : IsLawful sim) where
   -- after and sends, with one more event
@@ -299,13 +315,6 @@ module _ {S P : Type 0} (sim : Simulation S P) (lawful : IsLawful sim) where
     order = λ d e m n. absurd m;
   }
 
-  pub reached_step : (x : RunState P) → IsReached x → IsReached (step sim x)
-  reached_step x r = go (least_event x.pending) refl where
-    go : (o : Option (Sent P)) → least_event x.pending ≡ o → IsReached (option_map_or (with_event sim x) o x)
-    go None h = r
-    go (Some e) h = let l = least-found x.pending e h in reached_with x e r l.0 l.1
-
   -- wherever a run stands
   pub reached : (n : ℕ) → IsReached (after_steps sim n)
-  reached zero = reached_opening
-  reached (suc n) = reached_step (after_steps sim n) (reached n)
+  reached = each_step sim IsReached reached_opening (λ n e found r. let l = least-found (after_steps sim n).pending e found in reached_with (after_steps sim n) e r l.0 l.1)

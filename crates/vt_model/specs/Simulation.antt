@@ -1,6 +1,6 @@
 -- What a model and a config mean: a start for each process, and what each event does.
-use Rattle.std.specs.Prelude.{◌≡◌, ℕ, ◌+◌, ◌%◌, ◌^◌, List, [], ◌∷◌, length, map}
-use Rattle.std.specs.List.{enumerate_from}
+use Rattle.std.specs.Prelude.{◌≡◌, ℕ, ◌+◌, ◌%◌, ◌^◌, List, [], length, map}
+use Rattle.std.specs.List.{enumerate_from, fold}
 use Rattle.vt_key.specs.Times.{Time}
 use Rattle.vt_key.specs.Keys.{Key}
 use Rattle.vt_model.specs.declared.rows.Record.{Record}
@@ -74,14 +74,9 @@ module _ {S P : Type 0} where
     finish = handlers.finish;
   }
 
-  -- where a process stands after these events, from where it stood
-  abbrev pub after_from : Simulation S P → ℕ → Triple S → List (Sent P) → Triple S
-  after_from sim p t [] = t
-  after_from sim p t (e ∷ es) = after_from sim p (sim.fire p t e).triple es
-
   -- where a process stands after its start and these events
   abbrev pub after : Simulation S P → ℕ → List (Sent P) → Triple S
-  after sim p es = after_from sim p (sim.start p).triple es
+  after sim p es = fold (λ t e. (sim.fire p t e).triple) (sim.start p).triple es
 
 -- what a process, its stream and its out are after an event
 pub record IsFiring {S P : Type 0} (f : Fired S P) (key : Key) (s : S) (w : Stream) (o : Outgoing P) : Type 0 where

@@ -1,6 +1,5 @@
 -- The packets of a run are kept.
-use Rattle.std.proofs.Common.{◌≡◌, ℕ, zero, suc, ◌+◌, inl, List, [], ◌∷◌, ◌++◌, false, not, filter, flat_map, nat_eq, sum_by, if◌then◌else◌, Option, Some, None, refl, ap, ◌∙◌, arith, append-nil, append_assoc}
-use Rattle.std.specs.Option.{option_map_or}
+use Rattle.std.proofs.Common.{◌≡◌, ℕ, zero, suc, ◌+◌, inl, List, [], ◌∷◌, ◌++◌, false, not, filter, flat_map, nat_eq, sum_by, if◌then◌else◌, refl, ap, ◌∙◌, arith, append-nil, append_assoc}
 use Rattle.std.specs.List.{range_with_len}
 use Rattle.std.proofs.lemmas.List.{map-append}
 use Rattle.std.proofs.lemmas.List.Sums.{sum_by-append, sum_by_push}
@@ -11,11 +10,11 @@ use Rattle.vt_model.specs.declared.rows.Record.{Record}
 use Rattle.vt_model.specs.declared.sending.Sent.{Sent}
 use Rattle.vt_model.specs.declared.settings.Config.{Config}
 use Rattle.vt_model.specs.Simulation.{Triple, words_at, start_of, fire_of, after}
-use Rattle.vt_model.specs.Sequential.{RunState, events_of, least_event, fired_after, opening, with_event, step, after_steps, rows_after, records_of}
+use Rattle.vt_model.specs.Sequential.{RunState, events_of, fired_after, opening, with_event, after_steps, rows_after, records_of}
 use Rattle.vt_model.specs.Histories.{IsLawful}
 use Rattle.vt_model.specs.Settings.{end_of}
 use Rattle.vt_model.proofs.LawLemmas.{lawful_of, after_state}
-use Rattle.vt_model.proofs.RunLemmas.{after-snoc, events_of-same, events_of-other, known_sent, lists_of, least-found, IsReached, reached, flat-next}
+use Rattle.vt_model.proofs.RunLemmas.{each_step, after-snoc, events_of-same, events_of-other, known_sent, lists_of, least-found, IsReached, reached, flat-next}
 use Rattle.vt_parts.specs.Ring.{item_count}
 use Rattle.vt_model.proofs.DistinctLemmas.{AreDistinct, sum_by-without, distinct_pending}
 use Rattle.vt_model.proofs.SumLemmas.{sum-next, sum_one}
@@ -156,13 +155,6 @@ module _ (m : Network) (c : Config) where
   kept_opening : AreKept (opening (network m c))
   kept_opening = omega (arith, begins c.lps)
 
-  kept_step : (x : RunState NetworkEvent) → IsReached (network m c) lawful x → AreDistinct x.pending → AreKept x → AreKept (step (network m c) x)
-  kept_step x r distinct kept = go (least_event x.pending) refl where
-    go : (o : Option (Sent NetworkEvent)) → least_event x.pending ≡ o → AreKept (option_map_or (with_event (network m c) x) o x)
-    go None none = kept
-    go (Some e) found = kept_with x e r distinct (least-found x.pending e found).0 kept
-
   -- wherever the run is
   pub packets_kept : (n : ℕ) → AreKept (after_steps (network m c) n)
-  packets_kept zero = kept_opening
-  packets_kept (suc n) = kept_step (after_steps (network m c) n) (reached (network m c) lawful n) (distinct_pending (network m c) lawful n) (packets_kept n)
+  packets_kept = each_step (network m c) AreKept kept_opening (λ n e found kept. kept_with (after_steps (network m c) n) e (reached (network m c) lawful n) (distinct_pending (network m c) lawful n) (least-found (after_steps (network m c) n).pending e found).0 kept)

@@ -114,14 +114,6 @@ module _ {X : Type 0} where
   last-with_next a z (b ∷ []) = refl
   last-with_next a z (b ∷ c ∷ bs) = last-with_next (Some b.0) z (c ∷ bs)
 
-  pub first-with_prev : (y a : Option Ptr) (bs : List (NodeAt X)) → first_or y (with_prev a bs) ≡ first_or y bs
-  first-with_prev y a [] = refl
-  first-with_prev y a (b ∷ bs) = refl
-
-  last-with_prev : (y a : Option Ptr) (bs : List (NodeAt X)) → last_or y (with_prev a bs) ≡ last_or y bs
-  last-with_prev y a [] = refl
-  last-with_prev y a (b ∷ bs) = refl
-
   -- writing a link changes no item
   pub items-with_next : (z : Option Ptr) (bs : List (NodeAt X)) → items (with_next z bs) ≡ items bs
   items-with_next z [] = refl

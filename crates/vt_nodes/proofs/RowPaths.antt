@@ -84,11 +84,6 @@ module _ {X : Type 0} where
         none = λ e. absurd (some e);
       } in (on, passed-last head next node.prev (before ++ line) first on some)
 
-  -- where none is the last one, none was passed
-  pub none-passed : (head last next : Option Ptr) (before line : List (NodeAt X)) → ArePassed head last next before line → last ≡ None → (before ≡ []) × (line ≡ [])
-  none-passed head last next before [] passed none = (passed.none refl, refl)
-  none-passed head last next before (b ∷ bs) passed none = absurd (none-some b.0 (sym none ∙ passed.last_is))
-
   -- those that were passed, of which the last one now leads back to the first of other lists, and these
   pub join-passed : (head last next h : Option Ptr) (p : Ptr) (before line more : List (NodeAt X)) → last ≡ Some p → ArePassed head last next before line → h ≡ first_or None more → StandInRow None (lines_of more)
       → (head ≡ first_or None (before ++ (with_prev h line ++ more))) × StandInRow None (lines_of (before ++ (with_prev h line ++ more)))

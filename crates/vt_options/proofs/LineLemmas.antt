@@ -61,9 +61,6 @@ in_order names = ap not (none_early _ names)
 
 -- ---- so the program is simple
 
-abbrev rules_full : List Text → List Rule
-rules_full names = map full names ++ flag ∷ []
-
 module _ (name : Text) (run replay : List Text) where
   abbrev app : App
   app = app_with name (map option_rule run) (map option_rule replay)

@@ -100,11 +100,6 @@ module _ {X : Type 0} (test : X → Bool) where
     filter-never [] = refl
     filter-never (x ∷ xs) = fails test x xs (never x) ∙ filter-never xs
 
-    pub others-never : (xs : List X) → filter (λ (y : X). not (test y)) xs ≡ xs
-    others-never [] = refl
-    others-never (x ∷ xs) =
-        ap (λ (b : Bool). cond (not b) (x ∷ filter (λ (y : X). not (test y)) xs) (filter (λ (y : X). not (test y)) xs)) (never x) ∙ ap (λ ys. x ∷ ys) (others-never xs)
-
   -- a test that all pass
   pub filter-always : ((x : X) → test x ≡ true) → (xs : List X) → filter test xs ≡ xs
   filter-always always [] = refl

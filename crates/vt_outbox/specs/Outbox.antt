@@ -1,5 +1,5 @@
 -- What contracts see of an outbox, and what it keeps in memory.
-use Rattle.std.specs.Prelude.{◌≡◌, ℕ, Bool, nat_eq, ◌%◌, ◌^◌, List, length, Some, slice_get}
+use Rattle.std.specs.Prelude.{◌≡◌, ℕ, ◌%◌, ◌^◌, List, length, Some, slice_get}
 use Rattle.std.specs.List.{filter}
 use Rattle.vt_steps.specs.PartSteps.{is_for}
 use Rattle.vt_key.specs.declared.letter.Letter.{Letter}

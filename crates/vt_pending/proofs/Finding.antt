@@ -18,8 +18,3 @@ module _ {X : Type 0} (test : X → Bool) where
         | true ↦ λ e. absurd (let h : true ≡ false = e in cc)
         | false ↦ λ e. ap (λ l. x ∷ l) (without-none xs e)
       ] none
-
--- a fact for nothing, from one that says that nothing is there
-pub IfNone-from : {X : Type 0} (o : Option X) (Q : Type 0) → (is_some o ≡ false → Q) → IfNone o Q
-IfNone-from None Q q = q refl
-IfNone-from (Some x) Q q = tt

@@ -119,15 +119,6 @@ module _ {P : Type 0} where
       changed mask new (own x) letters after lists marks rises_on (subst (λ ls. IsRow ls after) (sym (put ∙ ap (λ l. put_some l rest) there)) (row-put (own x) rest after rises_on others))
       (subst (λ (l : List (Letter P)). IsBitSet new (own x) ↔ (l ≢ [])) there bit) bits (λ c other. filter-without-other test (in_bucket c) x letters found (not-own c x other))
 
-  -- where list b is empty, the others are all
-  pub all-others : (b : ℕ) (letters : List (Letter P)) → filter (in_bucket b) letters ≡ [] → filter (not_in_bucket b) letters ≡ letters
-  all-others b [] none = refl
-  all-others b (x ∷ xs) none =
-      elim (in_bucket b x) as (λ c. (if c then x ∷ filter (in_bucket b) xs else filter (in_bucket b) xs) ≡ [] → (if not c then x ∷ filter (not_in_bucket b) xs else filter (not_in_bucket b) xs) ≡ x ∷ xs) [
-        | true ↦ λ e. absurd (omega (arith, ap length e))
-        | false ↦ λ e. ap (λ l. x ∷ l) (all-others b xs e)
-      ] none
-
   -- a rank can be in the list of its time alone
   pub holds-own : (r : Rank) (letters : List (Letter P)) → holds_rank r (filter (in_bucket (bucket_of r)) letters) ≡ holds_rank r letters
   holds-own r [] = refl

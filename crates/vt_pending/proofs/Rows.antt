@@ -65,13 +65,6 @@ module _ {P : Type 0} where
   row-empty (list ∷ lists) [] row = absurd row
   row-empty (list ∷ lists) (x ∷ xs) row = ((λ e. absurd (omega (arith, ap length e))), (λ e. absurd (omega (arith, ap length e))))
 
-  -- the first letter of all is the first one of the first list
-  pub row-first : (lists : List (List (Letter P))) (letters : List (Letter P)) → IsRow lists letters → first_item lists ≡ slice_get letters 0
-  row-first [] [] row = refl
-  row-first [] (x ∷ xs) row = absurd row
-  row-first (list ∷ lists) [] row = absurd row
-  row-first (list ∷ lists) (x ∷ xs) row = ap (λ l. slice_get l 0) row.0
-
   -- list b has the letters that belong there
   pub row-list : (b : ℕ) (lists : List (List (Letter P))) (letters : List (Letter P)) → IsRow lists letters → list_at b lists ≡ filter (in_bucket b) letters
   row-list b [] [] row = refl

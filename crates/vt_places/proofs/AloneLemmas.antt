@@ -26,13 +26,14 @@ use Rattle.vt_steps.proofs.steps.CellLemmas.{next-acts_on_one_cell}
 use Rattle.vt_steps.proofs.steps.Outcomes.{unless_closed-shut}
 use Rattle.vt_steps.proofs.book.HeadlineTheorem.{guards-pass}
 use Rattle.vt_steps.proofs.steps.LocalLeads.{local-does}
-use Rattle.vt_steps.proofs.marks.MarkedRuns.{steps-append}
 use Rattle.vt_steps.proofs.lists.Tests.{both_pass}
 use Rattle.vt_kernel.specs.Held.{HeldWorker}
 use Rattle.vt_places.specs.declared.view.View.{View}
 use Rattle.vt_places.specs.Slots.{cell_at}
 use Rattle.vt_places.specs.Calls.{Known, Closes, Reaches, Visited, IsRefusedBy, IsCutRefusal, IsReportRefusal, IsCommitRefusal, IsCloseRefusal, IsRefusedAlone}
 use Rattle.vt_places.proofs.OneList.{steps-own, steps-answered}
+use Rattle.vt_steps.proofs.steps.MemoryLemmas.{run-append}
+use Rattle.vt_steps.proofs.time.Flags.{clear-is}
 
 same-fault : {X : Type 0} (r : Result X Fault) (a b : Fault) → r ≡ Err a → r ≡ Err b → a ≡ b
 same-fault r a b e f = let h : ◌≡◌ {A = Result _ Fault} (Err a) (Err b) = sym e ∙ f in cc
@@ -59,18 +60,13 @@ module _ {S P : Type 0} (sim : Simulation S P) (v : View P) where
 
 -- ---- what a step on a board or a book is answered
 
-clear-tells : (o : Option Bool) → is_clear o ≡ true → o ≡ Some false
-clear-tells None h = absurd (let e : false ≡ true = h in cc)
-clear-tells (Some true) h = absurd (let e : false ≡ true = h in cc)
-clear-tells (Some false) h = refl
-
 -- what a board that takes a report has
 may-tells : (w : ℕ) (value : Time) (board : Board) → may_report w value board ≡ true → (board.is_open ≡ true) × (all_set board.has_cut ≡ true) × (slice_get board.has_reported w ≡ Some false)
 may-tells w value board may =
     let a = both_pass board.is_open _ may in
     let b = both_pass (all_set board.has_cut) _ a.1 in
     let c = both_pass (is_clear (slice_get board.has_reported w)) _ b.1 in
-    (a.0, b.0, clear-tells (slice_get board.has_reported w) c.0)
+    (a.0, b.0, clear-is (slice_get board.has_reported w) c.0)
 
 module _ {S P : Type 0} (sim : Simulation S P) where
   -- a cut whatever the part is
@@ -144,7 +140,7 @@ module _ {S P : Type 0} (sim : Simulation S P) (v : View P) where
     same-world = shown-alone sim v b.log b.mine (b.own one)
 
     passing : IsLawful sim → DoGuardsPass sim refusing
-    passing lawful = subst (DoGuardsPass sim) (steps-append sim (opening_world sim 0) (unmarked b.log) b.steps) (guards-pass sim lawful 0 (unmarked b.log ++ b.steps))
+    passing lawful = subst (DoGuardsPass sim) (run-append sim (opening_world sim 0) (unmarked b.log) b.steps) (guards-pass sim lawful 0 (unmarked b.log ++ b.steps))
 
     -- a guard of the definitions refused it
     by-guard : OfGuard fault → (next sim refusing step).answer ≡ Err fault
@@ -322,7 +318,7 @@ module _ {S P K : Type 0} (handlers : Handlers S P K) (config : Config) (v w : V
           (commit-on_closed sim v.worker book b.before is ∙ sym (commit-on_closed sim v.worker book r.part is))
       by_closed fault f one b no_step false is =
           let own = map (λ (m : Made). m.step) v.mine in
-          let whole : run sim (reached sim 0 own) r.steps ≡ reached sim 0 (own ++ r.steps) = sym (steps-append sim (opening_world sim 0) own r.steps) in
+          let whole : run sim (reached sim 0 own) r.steps ≡ reached sim 0 (own ++ r.steps) = sym (run-append sim (opening_world sim 0) own r.steps) in
           let open_is = ap (λ (n : World P). n.book.is_closed) (sym whole) ∙ ap (λ (k : Book). k.is_closed) (same-book sim v (Commit v.worker) fault one b r.steps r.part r.led refl f no_step) ∙ is in
           not-both (next sim (own_world sim v r.steps) (Commit v.worker)).answer Done f (ap (λ (n : World P). (next sim n (Commit v.worker)).answer) whole ∙ (guards-pass sim lawful 0 (own ++ r.steps)).commits v.worker known open_is) no_step
 

@@ -17,11 +17,11 @@ use Rattle.vt_steps.specs.Next.{reached}
 use Rattle.vt_steps.specs.World.{World, opening_world, process_at, process_count}
 use Rattle.vt_steps.proofs.history.FinalValues.{quiet-at_end, quiet-values}
 use Rattle.vt_steps.proofs.steps.LocalLeads.{local-does}
-use Rattle.vt_steps.proofs.marks.MarkedRuns.{steps-append}
 use Rattle.vt_steps.proofs.lists.Places.{get-map, get-range}
 use Rattle.vt_kernel.specs.Held.{HeldWorker}
 use Rattle.vt_places.specs.declared.view.View.{View}
 use Rattle.vt_places.specs.Calls.{IsShown, Reaches}
+use Rattle.vt_steps.proofs.steps.MemoryLemmas.{run-append}
 
 module _ {S P K : Type 0} (handlers : Handlers S P K) (config : Config) (lawful : IsLawful (simulation_of handlers config)) where
   -- what is made of the states of a kernel whose floor is the end are the final values of its worker
@@ -31,7 +31,7 @@ module _ {S P K : Type 0} (handlers : Handlers S P K) (config : Config) (lawful 
       let sim = simulation_of handlers config in
       let steps : List Step = unmarked known.log ++ r.steps in
       let there = (local-does sim v.worker (shown sim known.log) book_cell r.steps v.part r.part (in_book (shown sim known.log).book) r.led known.part refl).part in
-      let at : slice_get (reached sim 0 steps).parts v.worker ≡ Some r.part = ap (λ (w : World P). slice_get w.parts v.worker) (steps-append sim (opening_world sim 0) (unmarked known.log) r.steps) ∙ there in
+      let at : slice_get (reached sim 0 steps).parts v.worker ≡ Some r.part = ap (λ (w : World P). slice_get w.parts v.worker) (run-append sim (opening_world sim 0) (unmarked known.log) r.steps) ∙ there in
       let floor = r.stands.floor in
       let quiet = quiet-at_end sim lawful 0 steps v.worker r.part at (omega (arith, floor, end)) in
       ap (λ (c : Config). part_values (simulation_of handlers c) k.worker r.part) r.config_is

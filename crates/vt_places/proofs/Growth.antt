@@ -6,12 +6,13 @@ use Rattle.vt_steps.specs.declared.step.Step.{Step}
 use Rattle.vt_model.specs.Simulation.{Simulation}
 use Rattle.vt_steps.specs.World.{opening_world}
 use Rattle.vt_steps.specs.Marked.{Marked, Answered, marked, own_steps_of, shown}
-use Rattle.vt_steps.proofs.marks.MarkedRuns.{each-append, each-weaker, each-marked, own-append, own-others}
+use Rattle.vt_steps.proofs.marks.MarkedRuns.{each-marked, own-append, own-others}
 use Rattle.vt_places.specs.Kept.{HasGrown}
+use Rattle.vt_key.proofs.ListLemmas.{every-append, every-weaker}
 
 -- what one worker has made, another hasn't
 made-by : (w q : ℕ) (steps : List Step) → ¬ (q ≡ w) → AllByRecursion (λ m. ¬ (m.worker ≡ q)) (marked w steps)
-made-by w q steps ne = each-weaker (λ m. m.worker ≡ w) (λ m. ¬ (m.worker ≡ q)) (marked w steps) (λ m is e. ne (sym e ∙ is)) (each-marked w steps)
+made-by w q steps ne = every-weaker (λ m. m.worker ≡ w) (λ m. ¬ (m.worker ≡ q)) (marked w steps) (λ m is e. ne (sym e ∙ is)) (each-marked w steps)
 
 -- a list as a place left it
 pub grown-not : (w : ℕ) (log : List Marked) → HasGrown w log log
@@ -26,7 +27,7 @@ pub grown-more : (w q : ℕ) (former log : List Marked) (steps : List Step) → 
 grown-more w q former log steps ne g = record {
   since = g.since ++ marked w steps;
   whole = ap (λ (l : List Marked). l ++ marked w steps) g.whole ∙ append_assoc former g.since (marked w steps);
-  others = each-append (λ m. ¬ (m.worker ≡ q)) g.since (marked w steps) g.others (made-by w q steps ne);
+  others = every-append (λ m. ¬ (m.worker ≡ q)) g.since (marked w steps) g.others (made-by w q steps ne);
 }
 
 -- the steps of the other workers are in it as before

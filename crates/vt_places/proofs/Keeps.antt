@@ -18,7 +18,7 @@ use Rattle.vt_steps.specs.Cells.{CellName, inbox_of, Cell, in_inbox, content}
 use Rattle.vt_steps.specs.Marked.{Marked, Made, Answered, answered, unmarked, marked, IsMarkedRight, own_steps_of, shown, DoesSo, Leads}
 use Rattle.vt_steps.specs.Next.{run}
 use Rattle.vt_steps.proofs.book.ReachedBooks.{reached-falls}
-use Rattle.vt_steps.proofs.marks.MarkedRuns.{each-append, each-weaker, each-marked, own-append, shown-append, shown-marked}
+use Rattle.vt_steps.proofs.marks.MarkedRuns.{each-marked, own-append, shown-append, shown-marked}
 use Rattle.vt_places.specs.declared.slot.Slot.{Slot}
 use Rattle.vt_places.specs.declared.view.View.{View}
 use Rattle.vt_places.specs.Hands.{empty_hand, holding}
@@ -27,6 +27,7 @@ use Rattle.vt_places.specs.Kept.{Standing, Sat, HasGrown, IsClaimed, Sits, IsAtH
 use Rattle.vt_places.specs.Calls.{IsShown, Known, Took, ShowsFloor}
 use Rattle.vt_places.proofs.Growth.{grown-not, grown-more, own-kept}
 use Rattle.vt_places.proofs.Cells.{not-empty, same-cell_held, same-found, inbox-name, names-apart, words-apart, holds-book}
+use Rattle.vt_key.proofs.ListLemmas.{every-append, every-weaker}
 
 -- what a load tells of the number that it found and the seat after it
 abbrev pub Looked : {P : Type 0} → Sat P → (Sat P → Type 0) → ℕ → Sat P → Type 0
@@ -345,11 +346,11 @@ module _ {S P : Type 0} (sim : Simulation S P) (config : Config) where
       now = ap (λ (n : World P). content n (cell_at sim.workers k)) whole ∙ did.cell
 
       marks : AllByRecursion (λ x. x.worker < r.made) (r.log ++ marked v.worker steps)
-      marks = each-append (λ x. x.worker < r.made) r.log (marked v.worker steps) r.marks
-          (each-weaker (λ x. x.worker ≡ v.worker) (λ x. x.worker < r.made) (marked v.worker steps) (λ x is. subst (λ (n : ℕ). n < r.made) (sym is) t.inside) (each-marked v.worker steps))
+      marks = every-append (λ x. x.worker < r.made) r.log (marked v.worker steps) r.marks
+          (every-weaker (λ x. x.worker ≡ v.worker) (λ x. x.worker < r.made) (marked v.worker steps) (λ x is. subst (λ (n : ℕ). n < r.made) (sym is) t.inside) (each-marked v.worker steps))
 
       rights : AllByRecursion (IsMarkedRight sim) (r.log ++ marked v.worker steps)
-      rights = each-append (IsMarkedRight sim) r.log (marked v.worker steps) r.right goes.own
+      rights = every-append (IsMarkedRight sim) r.log (marked v.worker steps) r.right goes.own
 
       map-append : (f : Made → Answered) (xs ys : List Made) → map f (xs ++ ys) ≡ map f xs ++ map f ys
       map-append f [] ys = refl

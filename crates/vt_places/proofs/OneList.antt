@@ -9,9 +9,10 @@ use Rattle.vt_steps.specs.declared.step.Step.{Step}
 use Rattle.vt_steps.specs.Next.{next}
 use Rattle.vt_steps.specs.World.{World}
 use Rattle.vt_steps.specs.Marked.{Marked, Answered, unmarked, marked, own_steps}
-use Rattle.vt_steps.proofs.marks.MarkedRuns.{each-append, each-weaker, each-marked}
+use Rattle.vt_steps.proofs.marks.MarkedRuns.{each-marked}
 use Rattle.vt_places.specs.Kept.{HasGrown}
 use Rattle.vt_places.proofs.Growth.{grown-not, grown-more}
+use Rattle.vt_key.proofs.ListLemmas.{every-append, every-weaker}
 
 -- the steps of a worker, without their answers
 abbrev pub steps_by : ℕ → List Marked → List Step
@@ -93,7 +94,7 @@ pub list-grows : (workers w : ℕ) (log other : List Marked) (steps : List Step)
 list-grows workers w log other steps few few_other known others own = places-tell workers other (log ++ marked w steps) few_other few_longer same
   where
     few_longer : AllByRecursion (λ m. m.worker < workers) (log ++ marked w steps)
-    few_longer = each-append (λ m. m.worker < workers) log (marked w steps) few (each-weaker (λ m. m.worker ≡ w) (λ m. m.worker < workers) (marked w steps) (λ m is. omega arith) (each-marked w steps))
+    few_longer = every-append (λ m. m.worker < workers) log (marked w steps) few (every-weaker (λ m. m.worker ≡ w) (λ m. m.worker < workers) (marked w steps) (λ m is. omega arith) (each-marked w steps))
 
     same : AreTold workers other (log ++ marked w steps)
     same q less = elim (eqb_tells q w) [

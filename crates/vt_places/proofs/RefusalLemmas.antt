@@ -13,7 +13,6 @@ use Rattle.vt_steps.specs.declared.step.Reply.{Reply}
 use Rattle.vt_steps.specs.World.{Part, Board, Book, World, book_floor, book_records}
 use Rattle.vt_steps.specs.BoardSteps.{cut_board}
 use Rattle.vt_steps.specs.Next.{Outcome, next, run}
-use Rattle.std.specs.Option.{option_map}
 use Rattle.vt_steps.specs.CellSteps.{CellEffect, cut, report}
 use Rattle.vt_steps.specs.Cells.{CellName, board_cell, book_cell, Cell, on_board, in_book, content, worker_of, cell_of, acted_at, act, put_back, local_steps}
 use Rattle.vt_steps.specs.Laws.{IsAny}
@@ -22,7 +21,7 @@ use Rattle.vt_cells.proofs.WorldLemmas.{next-put_back, refused-there}
 use Rattle.vt_steps.specs.Marked.{Marked, unmarked, marked, shown, DoesSo, made_done, has_cut_since, has_closed}
 use Rattle.vt_steps.proofs.time.Floors.{reached-times}
 use Rattle.vt_steps.proofs.steps.LocalLeads.{local-does}
-use Rattle.vt_steps.proofs.marks.MarkedRuns.{steps-append, shown-marked}
+use Rattle.vt_steps.proofs.marks.MarkedRuns.{shown-marked}
 use Rattle.vt_steps.proofs.marks.OwnCloses.{closed-floors, unclosable-floor, closed-known}
 use Rattle.vt_steps.proofs.book.ReachedBooks.{reached-falls, reached-accounted}
 use Rattle.vt_steps.proofs.book.Records.{records-right}
@@ -30,6 +29,8 @@ use Rattle.vt_steps.proofs.marks.OwnCuts.{refused-cut-known}
 use Rattle.vt_kernel.specs.Refusals.{IsStepRefusal}
 use Rattle.vt_places.specs.declared.view.View.{View}
 use Rattle.vt_places.specs.Calls.{Known, IsRefusedBy, IsCutRefusal, IsReportRefusal, IsCommitRefusal, IsCloseRefusal, IsFloorLeft, AreRecordsShown}
+use Rattle.vt_steps.proofs.steps.MemoryLemmas.{run-append}
+use Rattle.vt_steps.proofs.steps.CellLemmas.{map-none}
 
 -- a list of one step
 run-one : {S P : Type 0} (sim : Simulation S P) (world : World P) (step : Step) → run sim world (step ∷ []) ≡ (next sim world step).world
@@ -79,13 +80,9 @@ module _ {S P : Type 0} {sim : Simulation S P} {v : View P} {k : ℕ} {cell : Ce
   acted-none held None fault e = let h : Err NotLawful ≡ Err fault = e in let s : fault ≡ NotLawful = cc in (refl, s)
   acted-none held (Some effect) fault e = absurd (let h : Ok effect.reply ≡ Err fault = e in cc)
 
-  not-mapped : {X Y : Type 0} (f : X → Y) (o : Option X) → option_map f o ≡ None → o ≡ None
-  not-mapped f None e = refl
-  not-mapped f (Some x) e = absurd (let h : Some (f x) ≡ None = e in cc)
-
   uncut : (fault : Fault) → (act sim (Cut v.worker) before (on_board there.board)).answer ≡ Err fault → (cut_board sim.end v.worker there.board ≡ None) × (fault ≡ NotLawful)
   unfolding act cut
-  uncut fault e = let n = acted-none there.board (cut sim v.worker before there.board) fault e in (not-mapped _ (cut_board sim.end v.worker there.board) n.0, n.1)
+  uncut fault e = let n = acted-none there.board (cut sim v.worker before there.board) fault e in (map-none _ (cut_board sim.end v.worker there.board) n.0, n.1)
 
   unreported : (fault : Fault) → (act sim (Report v.worker) before (on_board there.board)).answer ≡ Err fault → fault ≡ NotLawful
   unfolding act
@@ -154,7 +151,7 @@ module _ {S P : Type 0} {sim : Simulation S P} {v : View P} {k : ℕ} {cell : Ce
         let after : (next sim then_there step).world.book ≡ left =
         ap (λ (o : Outcome P). o.world.book) (next-put_back sim then_there step v.worker whose named then-part (ap (λ (b : Book). (let o : Option (Cell P) = Some (in_book b) in o)) then-book) ∙ ap (put_back then_there v.worker book_cell) does) in
         let falls = reached-falls sim lawful 0 (unmarked known.log) (steps ++ step ∷ []) in
-        let same : run sim there (steps ++ step ∷ []) ≡ (next sim then_there step).world = steps-append sim there steps (step ∷ []) ∙ run-one sim then_there step in
+        let same : run sim there (steps ++ step ∷ []) ≡ (next sim then_there step).world = run-append sim there steps (step ∷ []) ∙ run-one sim then_there step in
         let up : TimeAtMost (book_floor sim.end there.book) (book_floor sim.end (next sim then_there step).world.book) =
         subst (λ (n : World P). TimeAtMost (book_floor sim.end there.book) (book_floor sim.end n.book)) same falls.floor in
         let floor_is : floor ≡ book_floor sim.end (next sim then_there step).world.book = is ∙ ap (book_floor sim.end) (sym after) in

@@ -1,25 +1,23 @@
 -- The release after each call, in the words of its contract.
-use Rattle.std.proofs.Common.{◌≡◌, ◌≢◌, ◌⊎◌, inl, inr, ℕ, ◌%◌, ◌<◌, arith, cond, List, [], ◌∷◌, ◌++◌, refl, sym, ◌∙◌, ap, subst, le_refl, nat_eq, Option, Some, None, Result, Ok, Err, MatchResult}
+use Rattle.std.proofs.Common.{◌≡◌, ◌≢◌, ◌⊎◌, inl, inr, ℕ, ◌<◌, arith, List, [], ◌∷◌, ◌++◌, refl, sym, ◌∙◌, subst, le_refl, Option, Some, None, Result, Ok, Err, MatchResult}
 use Rattle.std.proofs.lemmas.List.{append-nil}
-use Rattle.std.proofs.lemmas.Bool.Decides.{eqb_tells}
 use Rattle.atomic_table.specs.Table.{Allows}
 use Rattle.vt_key.specs.Times.{Time, TimeAtMost}
 use Rattle.vt_key.specs.declared.fault.Fault.{Fault}
 use Rattle.vt_model.specs.Handler.{Handlers}
 use Rattle.vt_model.specs.Histories.{IsLawful}
 use Rattle.vt_model.specs.declared.settings.Config.{Config}
-use Rattle.vt_model.specs.Simulation.{Simulation, simulation_of}
+use Rattle.vt_model.specs.Simulation.{simulation_of}
 use Rattle.vt_model.specs.Settings.{end_of}
 use Rattle.vt_steps.specs.declared.step.Step.{Step}
-use Rattle.vt_steps.specs.declared.step.Step.TheVariants.{Execute, Undo, Cancel, Home, Send, Fetch, Accept, Cut, Report, Commit, Close}
+use Rattle.vt_steps.specs.declared.step.Step.TheVariants.{Close}
 use Rattle.vt_steps.specs.declared.step.Reply.{Reply}
 use Rattle.vt_steps.specs.declared.step.Reply.TheVariants.{Done}
 use Rattle.vt_steps.specs.World.{Part}
 use Rattle.vt_steps.specs.PartSteps.{home}
-use Rattle.vt_steps.specs.Cells.{book_cell, Cell, in_inbox, worker_of, cell_of, acted_locally, act, act_locally, local_step, local_steps}
+use Rattle.vt_steps.specs.Cells.{book_cell, Cell, in_inbox, worker_of, cell_of, act}
 use Rattle.vt_steps.specs.Laws.{IsAny}
 use Rattle.vt_steps.specs.Marked.{Made, marked, made_done, Leads}
-use Rattle.vt_steps.proofs.steps.Changes.{chain_has}
 use Rattle.vt_steps.proofs.steps.LocalLeads.{leads, leads-nowhere}
 use Rattle.vt_kernel.specs.Held.{HeldWorker, StandsFor}
 use Rattle.vt_places.specs.declared.view.View.{View}
@@ -36,9 +34,6 @@ use Rattle.vt_places.proofs.Keeps.{releases, Looked, looks}
 -- what the words say are three things
 pub home-not_claimed : home_word ≢ claimed_word
 home-not_claimed e = absurd (omega arith)
-
-pub empty-not_claimed : empty_word ≢ claimed_word
-empty-not_claimed e = absurd (omega arith)
 
 pub home-not_empty : {X : Type 0} → home_word ≡ empty_word → X
 home-not_empty e = absurd (omega arith)

@@ -15,7 +15,7 @@ use Rattle.vt_steps.specs.World.{opening_part, opening_world}
 use Rattle.vt_steps.specs.Cells.{inbox_of, Cell, in_inbox, content}
 use Rattle.vt_steps.specs.Marked.{Marked, own_steps}
 use Rattle.vt_steps.specs.Next.{run}
-use Rattle.vt_steps.proofs.marks.MarkedRuns.{each-weaker, own-others}
+use Rattle.vt_steps.proofs.marks.MarkedRuns.{own-others}
 use Rattle.vt_steps.proofs.steps.LocalLeads.{run-others_part}
 use Rattle.vt_steps.proofs.lists.Places.{get-map_range}
 use Rattle.vt_places.specs.declared.slot.Slot.{Slot}
@@ -25,6 +25,7 @@ use Rattle.vt_places.specs.Slots.{cell_count, word_at, cell_at, held_in, IsSlotO
 use Rattle.vt_places.specs.Kept.{Standing, IsSeated, IsClaimed, Makes, Sits, Kept, first_view, left_view, next_view}
 use Rattle.vt_places.proofs.Cells.{not-empty}
 use Rattle.vt_places.proofs.Growth.{grown-not, grown-before}
+use Rattle.vt_key.proofs.ListLemmas.{every-weaker}
 
 -- ---- lists
 
@@ -87,7 +88,7 @@ module _ {S P : Type 0} (sim : Simulation S P) (config : Config) where
     wide = r.wide;
     deep = r.deep;
     most = (let a = makes.all in omega arith);
-    marks = each-weaker (λ m. m.worker < r.made) (λ m. m.worker < r.made + 1) r.log (λ m l. omega arith) r.marks;
+    marks = every-weaker (λ m. m.worker < r.made) (λ m. m.worker < r.made + 1) r.log (λ m l. omega arith) r.marks;
     right = r.right;
     count = (let a = r.count in omega (arith, length-append (set s.views id (left_view v)) (next_view v ∷ []), length-set s.views id (left_view v)));
     maker_there = (let a = r.maker_there in omega arith);

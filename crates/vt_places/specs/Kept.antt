@@ -1,6 +1,6 @@
 -- What holds of a station between any two atomic steps: there is a list of steps, each marked with its worker, whose run from
 -- the opening world gives the world that the cells and the places show; and each place's own steps are those of its worker.
-use Rattle.std.specs.Prelude.{◌≡◌, ◌≢◌, ℕ, ◌+◌, ◌-◌, ◌<◌, ◌≤◌, List, [], ◌∷◌, ◌++◌, map, length, drop, slice_get, slice_index, slice_index_or, Some}
+use Rattle.std.specs.Prelude.{◌≡◌, ◌≢◌, ℕ, ◌+◌, ◌-◌, ◌<◌, ◌≤◌, List, [], ◌++◌, map, length, drop, slice_get, slice_index, slice_index_or, Some}
 use Rattle.std.specs.List.{range_with_len, AllByRecursion}
 use mathlib.Core.Option.{none, some}
 use lib.ListN.{get_elem?}

@@ -5,7 +5,7 @@ use Rattle.std.specs.Str.{bytes_eq}
 use Rattle.clap.specs.Words.{Text}
 use Rattle.vt_options.specs.Own.{AreInRange, GiveModel, named_in}
 use Rattle.vt_options.specs.Table.{Given}
-use Rattle.vt_command.specs.Table.{twarp_models, hop_table, phold_table, stations_table}
+use Rattle.vt_command.specs.Table.{twarp_models, stations_table}
 
 abbrev names : List Text
 names = codes "hop" ∷ codes "phold" ∷ codes "stations" ∷ []
@@ -27,12 +27,6 @@ third (Some text) k e hop phold =
 module _ (texts : Given) (k : ℕ) (vs : List ℕ) (h : GiveModel twarp_models texts k vs) where
   within : (n : ℕ) → k ≡ n → AreInRange (get_or twarp_models.tables n []) vs
   within n e = subst (λ (m : ℕ). AreInRange (get_or twarp_models.tables m []) vs) e h.within
-
-  pub hop_within : k ≡ 0 → AreInRange hop_table vs
-  hop_within e = within 0 e
-
-  pub phold_within : k ≡ 1 → AreInRange phold_table vs
-  phold_within e = within 1 e
 
   pub is_third : k ≢ 0 → k ≢ 1 → k ≡ 2
   is_third hop phold = third (texts (codes "model")) k h.chosen hop phold

@@ -2,7 +2,7 @@
 use Rattle.std.proofs.Common.{◌≡◌, ℕ, ◌<◌, List, [], ◌++◌, length, Option, Result, Ok, Err, IfErr, ap, sym, subst, ◌∙◌, refl, inl, inr, arith, append_assoc, length-append}
 use Rattle.std.specs.Prelude.{◌⊎◌}
 use Rattle.std.specs.Io.KnownBytes.{Appends}
-use Rattle.std.proofs.KnownBytes.{Keeps-refl, Appends-trans}
+use Rattle.std.proofs.KnownBytes.{Appends-trans}
 use Rattle.vt_key.specs.Times.{Time}
 use Rattle.vt_key.specs.declared.fault.Fault.{Fault}
 use Rattle.vt_key.specs.declared.fault.Fault.TheVariants.{Memory, Output}
@@ -14,7 +14,7 @@ use Rattle.vt_steps.specs.World.{World, opening_world, least, book_floor, book_r
 use Rattle.vt_steps.specs.Next.{reached}
 use Rattle.vt_steps.proofs.book.ReachedBooks.{reached-accounted}
 use Rattle.vt_steps.proofs.book.Records.{records-right}
-use Rattle.vt_world.specs.Answers.{PassesAtStart, IsOpeningRefusal}
+use Rattle.vt_world.specs.Answers.{PassesAtStart}
 use Rattle.vt_text.specs.declared.version.Version.{Version}
 use Rattle.vt_text.specs.Records.{records_text}
 use Rattle.vt_text.specs.Writing.{AppendsAllButHeld, AppendsBeginning}
@@ -40,11 +40,6 @@ state_some version announced floor least records =
 -- all that was gathered was written, and nothing of what the world shows
 pub gathered_alone : (old new : Option (List ℕ)) (held state : List ℕ) → Appends old new held → 0 < length state → AppendsBeginning old new (held ++ state)
 gathered_alone old new held state h some = record { sent = held; unsent = state; whole = refl; short = some; appends = h }
-
--- what was gathered was written, then what the world shows was put and written
-pub shown_whole : (old first put new : Option (List ℕ)) (held none held' state : List ℕ) → Appends old first held → none ≡ [] → AppendsAllButHeld first put held' (none ++ state) → Appends put new held' → Appends old new (held ++ state)
-shown_whole old first put new held none held' state h e k l =
-    Appends-trans old first new held state h (subst (λ (x : List ℕ). Appends first new (x ++ state)) e (written first put new held' (none ++ state) k l))
 
 module _ (old first new : Option (List ℕ)) (held : List ℕ) (h : Appends old first held) where
   later_begun : (text : List ℕ) → AppendsBeginning first new text → AppendsBeginning old new (held ++ text)
@@ -91,11 +86,6 @@ module _ (version : Version) {S P : Type 0} (sim : Simulation S P) (serial : ℕ
     output = record { replies = replies; end = end; answered = h.answered; output = refl };
     exact = h.exact;
   }
-
-  -- no world was made
-  pub opening_stops : (out : Option (List ℕ)) (fault : Fault) → IsOpeningRefusal sim serial fault → StopsReplay (IsReplayText sim version serial steps) (IsRepliesText sim serial steps) (PassesAtStart sim serial) out out fault
-  opening_stops out fault (inl h) = subst (λ (f : Fault). StopsReplay (IsReplayText sim version serial steps) (IsRepliesText sim serial steps) (PassesAtStart sim serial) out out f) (sym h.0) (h.1, Keeps-refl out)
-  opening_stops out fault (inr h) = subst (λ (f : Fault). StopsReplay (IsReplayText sim version serial steps) (IsRepliesText sim serial steps) (PassesAtStart sim serial) out out f) (sym h.0) (inl (Keeps-refl out))
 
   -- the lines of the answers were written in part
   pub replies_begun : (old new : Option (List ℕ)) (none : List ℕ) → none ≡ [] → StopsReplies sim (opening_world sim serial) steps old new none → Begins (IsReplayText sim version serial steps) old new

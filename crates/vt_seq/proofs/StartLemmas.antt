@@ -1,5 +1,7 @@
 -- The processes that have started, and what they sent.
-use Rattle.std.proofs.Common.{◌≡◌, ℕ, ◌+◌, ◌<◌, ◌≤◌, List, [], ◌∷◌, ◌++◌, length, inl, inr, slice_index_or, true, false, nat_eq, zero, suc, refl, sym, ◌∙◌, ap, subst, arith}
+use Rattle.std.proofs.Common.{◌≡◌, ℕ, ◌+◌, ◌<◌, ◌≤◌, List, [], ◌∷◌, ◌++◌, length, inl, inr, slice_index_or, true, false, nat_eq, refl, sym, ◌∙◌, ap, subst, arith}
+use Rattle.std.proofs.Math.Seq.{get_or-append_seam}
+use Rattle.std.proofs.lemmas.List.{get_or_append_left}
 use Rattle.std.proofs.lemmas.Bool.{eqb-true, eq-eqb}
 use Rattle.std.proofs.Common.{length-append}
 use Rattle.vt_key.specs.Lists.{Among}
@@ -18,28 +20,18 @@ use Rattle.vt_seq.specs.Queue.{all_inserted}
 use Rattle.vt_model.specs.declared.process.Process.{Process}
 use Rattle.vt_seq.proofs.InsertedLemmas.{all_inserted-among, among-all_inserted, all_inserted-rising}
 
--- an item of a list with one more
-at-end : {X : Type 0} (xs : List X) (x d : X) → slice_index_or (xs ++ x ∷ []) (length xs) d ≡ x
-at-end [] x d = refl
-at-end (y ∷ ys) x d = at-end ys x d
-
-before-end : {X : Type 0} (xs : List X) (x d : X) (r : ℕ) → r < length xs → slice_index_or (xs ++ x ∷ []) r d ≡ slice_index_or xs r d
-before-end [] x d r l = absurd (omega (arith, l))
-before-end (y ∷ ys) x d zero l = refl
-before-end (y ∷ ys) x d (suc r) l = before-end ys x d r (omega (arith, l))
-
 -- what holds of each item, and of one more
 pub all_more : {X : Type 0} (Q : ℕ → X → Type 0) (xs : List X) (x : X) (n : ℕ) → length xs ≡ n → Q n x → ((r : ℕ) (d : X) → r < n → Q r (slice_index_or xs r d))
     → (r : ℕ) (d : X) → r < n + 1 → Q r (slice_index_or (xs ++ x ∷ []) r d)
 all_more Q xs x n len new old r d l = elim (tested (nat_eq r n)) [
   | inl y ↦
       let at : r ≡ n = eqb-true r n y in
-      let here : slice_index_or (xs ++ x ∷ []) r d ≡ x = ap (λ (i : ℕ). slice_index_or (xs ++ x ∷ []) i d) (at ∙ sym len) ∙ at-end xs x d in
+      let here : slice_index_or (xs ++ x ∷ []) r d ≡ x = ap (λ (i : ℕ). slice_index_or (xs ++ x ∷ []) i d) (at ∙ sym len) ∙ get_or-append_seam xs x [] d in
       subst (Q r) (sym here) (subst (λ (i : ℕ). Q i x) (sym at) new)
   | inr y ↦
       let less : r < n = below r n l (λ at. let w : true ≡ false = sym (eq-eqb r n at) ∙ y in absurd (cc)) in
       let less' : r < length xs = omega arith in
-      subst (Q r) (sym (before-end xs x d r less')) (old r d less)
+      subst (Q r) (sym (get_or_append_left xs (x ∷ []) d r less')) (old r d less)
 ] where
   below : (a b : ℕ) → a < b + 1 → (a ≡ b → ⊥) → a < b
   below a b k never = grind (arith, never)

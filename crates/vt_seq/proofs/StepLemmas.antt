@@ -279,10 +279,6 @@ pub either_way : {V E G A B C D : Type 0} (r : Result V E) → IfOk r (λ v. A) 
 either_way (Ok v) a b c d f h = f a
 either_way (Err e) a b c d f h = h b c d
 
-pub nil_of : {X : Type 0} (xs : List X) → length xs ≡ 0 → xs ≡ []
-nil_of [] h = refl
-nil_of (x ∷ xs) h = absurd (omega (arith, h))
-
 -- what holds of each item holds after one is changed to another of which it holds
 pub set_all : {X : Type 0} (Q : ℕ → X → Type 0) (n : ℕ) (xs : List X) (i : ℕ) (x : X) → i < length xs → Q i x
     → ((r : ℕ) (d : X) → r < n → Q r (slice_index_or xs r d)) → (r : ℕ) (d : X) → r < n → Q r (slice_index_or (slice_set xs i x) r d)

@@ -1,14 +1,12 @@
 -- Steps that are written are read again.
-use Rattle.std.proofs.Common.{◌≡◌, ℕ, ◌+◌, ◌-◌, ◌*◌, ◌^◌, ◌<◌, ◌≤◌, ◌==◌, Bool, true, false, cond, List, [], ◌∷◌, ◌++◌, Option, Some, None, option_map, Ok, ap, ap₂, sym, ◌∙◌, refl, arith, rules, append_assoc, not}
+use Rattle.std.proofs.Common.{◌≡◌, ℕ, ◌+◌, ◌^◌, ◌<◌, ◌≤◌, ◌==◌, Bool, true, false, cond, List, [], ◌∷◌, ◌++◌, Option, Some, None, option_map, Ok, ap, ap₂, sym, ◌∙◌, refl, arith, append_assoc, not}
 use Rattle.std.specs.Prelude.{option_and_then}
-use Rattle.std.specs.List.{slice_split, list_all, AllByRecursion, fold}
+use Rattle.std.specs.List.{slice_split, list_all, AllByRecursion}
 use Rattle.std.specs.Char.{is_ascii_digit}
 use Rattle.std.specs.Fmt.{decimal}
 use Rattle.std.proofs.lemmas.Bool.{lt-ltb}
 use Rattle.std.proofs.lemmas.Fmt.{digits_decimal}
-use Rattle.std.proofs.lemmas.Str.Parse.{IsNumeralModel, numerals_by_fold}
-use Rattle.vt_text.proofs.NumberLemmas.{number_of-decimal}
-use Rattle.vt_text.specs.Numbers.{decimal_value}
+use Rattle.vt_text.proofs.NumberLemmas.{decimal_model, number_of-decimal}
 use Rattle.vt_steps.specs.declared.step.Step.{Step}
 use Rattle.vt_steps.specs.declared.step.Step.TheVariants.{Execute, Undo, Cancel, Home, Send, Fetch, Accept, Cut, Report, Commit, Close}
 use Rattle.vt_key.specs.declared.limits.TheConstants.{MAX_PROCESSES, MAX_WORKERS}
@@ -21,14 +19,8 @@ use Rattle.std.proofs.lemmas.Bool.Decides.{nat_tests}
 use Rattle.std.proofs.lemmas.List.Folds.{list_all-append}
 use Rattle.vt_step_text.specs.Words.{words_of, if_below, number_below, of_both, stamp_of, step_of_name, step_with_one, step_with_two, step_with_three, step_said}
 
-abbrev more : ℕ → ℕ → ℕ
-more n digit = n * 10 + (digit - 48)
-
-own : IsNumeralModel (λ ds. list_all is_ascii_digit ds ≡ true) decimal_value
-own = numerals_by_fold (λ ds. list_all is_ascii_digit ds ≡ true) (search rules) (fold more) (search rules)
-
 digits : (n : ℕ) → n < 2 ^ 64 → list_all is_ascii_digit (decimal n) ≡ true
-digits n h = digits_decimal own n h
+digits n h = digits_decimal decimal_model n h
 
 digit_differs : (x c : ℕ) → c < 48 → is_ascii_digit x ≡ true → (x == c) ≡ false
 digit_differs x c low h = grind (arith, nat_tests)

@@ -1,7 +1,7 @@
 -- The eleven steps of a world, and lists of them.
-use Rattle.std.specs.Prelude.{ℕ, ◌%◌, List, [], ◌∷◌, slice_get, slice_set, Option, Some, None, Result, Ok, Err, ◌/◌}
-use Rattle.std.specs.Option.{option_and_then, option_map}
-use Rattle.std.specs.List.{scan}
+use Rattle.std.specs.Prelude.{ℕ, ◌%◌, List, slice_get, slice_set, Option, Some, Result, Ok, Err, ◌/◌}
+use Rattle.std.specs.Option.{option_and_then, option_map, option_map_or}
+use Rattle.std.specs.List.{fold, scan}
 use Rattle.vt_key.specs.declared.letter.Mail.{Mail}
 use Rattle.vt_key.specs.declared.fault.Fault.{Fault}
 use Rattle.vt_key.specs.declared.fault.Fault.TheVariants.{NotLawful}
@@ -31,8 +31,7 @@ module _ {P : Type 0} where
 
   -- done, with this world after it; or not lawful
   abbrev pub done_or_refused : World P → Option (World P) → Outcome P
-  done_or_refused world None = refused world NotLawful
-  done_or_refused world (Some new) = replied new Done
+  done_or_refused world new = option_map_or (λ after. replied after Done) new (refused world NotLawful)
 
   -- the world with this part of worker w
   abbrev pub with_part : World P → ℕ → Part P → World P
@@ -56,8 +55,7 @@ module _ {P : Type 0} where
 
   -- what a step leaves is put back into the world, if it is done
   abbrev pub effect_in : {C : Type 0} → World P → ℕ → (World P → C → World P) → Option (CellEffect P C) → Outcome P
-  effect_in world w put None = refused world NotLawful
-  effect_in world w put (Some effect) = replied (put (with_part world w effect.part) effect.cell) effect.reply
+  effect_in world w put left = option_map_or (λ effect. replied (put (with_part world w effect.part) effect.cell) effect.reply) left (refused world NotLawful)
 
   -- a step on the part of worker w and on what a cell holds, if both are there
   abbrev pub at_cell : {C : Type 0} → World P → ℕ → (World P → C → World P) → (Part P → C → Option (CellEffect P C)) → Option C → Outcome P
@@ -80,8 +78,7 @@ module _ {S P : Type 0} (sim : Simulation S P) where
 
   -- the world after a list of steps, of which the refused ones change nothing
   unfoldable pub run : World P → List Step → World P
-  run world [] = world
-  run world (step ∷ steps) = run (next world step).world steps
+  run world steps = fold (λ now step. (next now step).world) world steps
 
   -- what the steps of a list are answered, one after the other
   unfoldable pub answers : World P → List Step → List (Result Reply Fault)

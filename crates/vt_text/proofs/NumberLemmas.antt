@@ -38,12 +38,13 @@ pub not_empty : (xs : List ℕ) → false ≡ (length xs == 0) → 0 < length xs
 not_empty [] e = absurd (true≢false (sym e))
 not_empty (x ∷ xs) e = omega arith
 
-own : IsNumeralModel (λ ds. list_all is_ascii_digit ds ≡ true) decimal_value
-own = numerals_by_fold (λ ds. list_all is_ascii_digit ds ≡ true) (search rules) (fold more) (search rules)
+-- decimal digits are read as their number
+pub decimal_model : IsNumeralModel (λ ds. list_all is_ascii_digit ds ≡ true) decimal_value
+decimal_model = numerals_by_fold (λ ds. list_all is_ascii_digit ds ≡ true) (search rules) (fold more) (search rules)
 
 -- the digits of a number are read as that number
 pub number_of-decimal : (n : ℕ) → n < 2 ^ 64 → number_of (decimal n) ≡ Some n
 number_of-decimal n h =
-    let value : decimal_value (decimal n) ≡ n = digits_value-decimal own n h in
+    let value : decimal_value (decimal n) ≡ n = digits_value-decimal decimal_model n h in
     let small : decimal_value (decimal n) < 2 ^ 64 = omega arith in
-    a_number (decimal n) (decimal_nonempty n h) (length-decimal-le 20 n (omega arith) (omega arith) h) (digits_decimal own n h) small ∙ ap Some value
+    a_number (decimal n) (decimal_nonempty n h) (length-decimal-le 20 n (omega arith) (omega arith) h) (digits_decimal decimal_model n h) small ∙ ap Some value

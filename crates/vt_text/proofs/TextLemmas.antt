@@ -41,13 +41,6 @@ made_room old now new held held' text g h = record {
 pub written : (old now new : Option (List ℕ)) (held text : List ℕ) → AppendsAllButHeld old now held text → Appends now new held → Appends old new text
 written old now new held text g h = subst (λ (l : List ℕ). Appends old new l) (sym g.whole) (Appends-trans old now new g.sent held g.appends h)
 
-pub flushed : (old now new : Option (List ℕ)) (held text : List ℕ) → AppendsAllButHeld old now held text → Appends now new held → AppendsAllButHeld old new [] text
-flushed old now new held text g h = record {
-  sent = text;
-  appends = written old now new held text g h;
-  whole = sym (append-nil text);
-}
-
 -- a beginning of the text was written, whatever is held
 pub begun : (old new : Option (List ℕ)) (held text : List ℕ) → AppendsIntoHeld old new held text → AppendsBeginning old new text
 begun old new held text h = record {

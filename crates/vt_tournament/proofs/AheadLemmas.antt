@@ -1,9 +1,9 @@
 -- Being ahead is a strict total order on contestants.
 use Rattle.std.proofs.Common.{◌≡◌, ℕ, ◌<◌, ◌⊎◌, inl, inr, Bool, true, false, not, ◌||◌, ◌&&◌, nat_lt, if◌then◌else◌, Option, Some, None, refl, sym, subst, ap, ◌∙◌, arith}
-use Rattle.std.proofs.lemmas.Bool.{cases_order, lt-ltb, ltb-true}
+use Rattle.std.proofs.lemmas.Bool.{lt-ltb, ltb-true}
 use Rattle.vt_key.specs.declared.order.Rank.{Rank}
 use Rattle.vt_key.specs.Order.{RankBefore, rank_before}
-use Rattle.vt_key.proofs.OrderLemmas.{rank-irreflexive, rank-transitive, rank-total, rank_before-true, before-rank_before}
+use Rattle.vt_key.proofs.OrderLemmas.{rank-irreflexive, rank-transitive, rank-total, rank_before-true, before-rank_before, numbers-apart}
 use Rattle.vt_tournament.specs.Contest.{Contestant, is_ahead_by, is_ahead, winner_of}
 
 -- one contestant is ahead of another, as a fact
@@ -20,9 +20,6 @@ tested false = inr refl
 
 apart : {A : Type 0} → true ≡ false → A
 apart h = absurd (cc)
-
-numbers : (i j : ℕ) → (i < j) ⊎ ((i ≡ j) ⊎ (j < i))
-numbers i j = elim (cases_order i j) [ inl e ↦ inr (inl e) | inr h ↦ elim h [ inl l ↦ inl l | inr l ↦ inr (inr l) ] ]
 
 irreflexive : (a : Option Rank) (i : ℕ) → Ahead a i a i → ⊥
 irreflexive (Some a) i (inl h) = rank-irreflexive a h
@@ -48,12 +45,12 @@ total (Some a) i (Some b) j = elim (rank-total a b) [
   | inr h ↦ elim h [
     | inr l ↦ inr (inr (inl l))
     | inl e ↦
-        elim (numbers i j) [ inl l ↦ inl (inr (e, l)) | inr l ↦ elim l [ inl m ↦ inr (inl (ap Some e, m)) | inr m ↦ inr (inr (inr (sym e, m))) ] ]
+        elim (numbers-apart i j) [ inl l ↦ inl (inr (e, l)) | inr l ↦ elim l [ inl m ↦ inr (inl (ap Some e, m)) | inr m ↦ inr (inr (inr (sym e, m))) ] ]
   ]
 ]
 total (Some a) i None j = inl tt
 total None i (Some b) j = inr (inr tt)
-total None i None j = elim (numbers i j) [ inl l ↦ inl l | inr l ↦ elim l [ inl m ↦ inr (inl (refl, m)) | inr m ↦ inr (inr m) ] ]
+total None i None j = elim (numbers-apart i j) [ inl l ↦ inl l | inr l ↦ elim l [ inl m ↦ inr (inl (refl, m)) | inr m ↦ inr (inr m) ] ]
 
 -- the test decides it
 by_number : (a b : Rank) (i j : ℕ) → (not (rank_before b a) && nat_lt i j) ≡ true → (rank_before a b ≡ false) → RankBefore a b ⊎ ((a ≡ b) × (i < j))

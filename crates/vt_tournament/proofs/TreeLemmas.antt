@@ -80,23 +80,6 @@ winner-own_place ranks number few known =
           subst (λ (n : ℕ). is_ahead (contestant ranks i) (contestant ranks n) ≡ false) (sym its) (not_behind-self (contestant ranks i));
     }
 
--- where the node of who takes no part stands at a contestant's own place, it takes none
-pub own-nobody : (ranks : List (Option Rank)) (number : ℕ) (entry : Option Rank) (w : Node) → length ranks ≤ 2 ^ 23 → number < length ranks → IsWinner ranks (place ranks number) w → w ≡ node_of (record { rank = entry; number = number }) → w.number ≡ nobodys_number → slice_index_or ranks number None ≡ entry
-own-nobody ranks number entry w few known won is nobodys = had (slice_index_or ranks number None) refl ∙ sym (new entry refl) where
-  had : (r : Option Rank) → slice_index_or ranks number None ≡ r → slice_index_or ranks number None ≡ None
-  had None e = e
-  had (Some rank) e =
-      let none : slice_index_or ranks w.number None ≡ None = ap (λ (n : ℕ). slice_index_or ranks n None) nobodys ∙ nobodys_rank ranks few in
-      absurd (behind-none rank w.number number
-      (subst (λ (r : Option Rank). is_ahead_by (Some rank) number r w.number ≡ false) none
-      (subst (λ (r : Option Rank). is_ahead_by r number (slice_index_or ranks w.number None) w.number ≡ false) e (won.least number rank e (above-self (place ranks number))))))
-
-  new : (r : Option Rank) → entry ≡ r → entry ≡ None
-  new None e = e
-  new (Some rank) e =
-      let its : w.number ≡ number = ap (λ (x : Node). x.number) is ∙ ap (λ (r : Option Rank). number_of r number) e in
-      absurd (omega (arith, few, known, its, nobodys))
-
 -- ---- the two below a place
 
 -- a node is one of two, and neither of these is ahead

@@ -1,6 +1,5 @@
 -- The number of cars is kept by a run.
-use Rattle.std.proofs.Common.{◌≡◌, ℕ, zero, suc, ◌+◌, ◌*◌, ◌^◌, ◌<◌, ◌≤◌, inl, List, [], ◌∷◌, ◌++◌, false, not, filter, flat_map, nat_eq, sum_by, Option, Some, None, refl, sym, ap, arith}
-use Rattle.std.specs.Option.{option_map_or}
+use Rattle.std.proofs.Common.{◌≡◌, ℕ, zero, suc, ◌+◌, ◌*◌, ◌^◌, ◌<◌, ◌≤◌, inl, List, [], ◌∷◌, ◌++◌, false, not, filter, flat_map, nat_eq, sum_by, refl, sym, ap, arith}
 use Rattle.std.specs.List.{range_with_len}
 use Rattle.std.proofs.Math.Nat.{mul-le-mul}
 use Rattle.std.proofs.lemmas.List.Sums.{sum_by-append}
@@ -8,11 +7,11 @@ use Rattle.vt_key.specs.Order.{key_same}
 use Rattle.vt_key.specs.Lists.{Among}
 use Rattle.vt_model.specs.declared.sending.Sent.{Sent}
 use Rattle.vt_model.specs.declared.settings.Config.{Config}
-use Rattle.vt_model.specs.Simulation.{Triple, words_at, start_of, fire_of, after, after_from}
-use Rattle.vt_model.specs.Sequential.{RunState, events_of, least_event, fired_after, opening, with_event, step, after_steps}
+use Rattle.vt_model.specs.Simulation.{Triple, words_at, start_of, fire_of, after}
+use Rattle.vt_model.specs.Sequential.{RunState, events_of, fired_after, opening, with_event, after_steps}
 use Rattle.vt_model.specs.Histories.{IsLawful}
 use Rattle.vt_model.proofs.LawLemmas.{lawful_of}
-use Rattle.vt_model.proofs.RunLemmas.{after-snoc, events_of-same, events_of-other, known_sent, lists_of, least-found, IsReached, reached, flat-next}
+use Rattle.vt_model.proofs.RunLemmas.{each_step, after_from, after-snoc, events_of-same, events_of-other, known_sent, lists_of, least-found, IsReached, reached, flat-next}
 use Rattle.vt_model.specs.Settings.{end_of}
 use Rattle.vt_traffic.specs.declared.grid.Traffic.{Traffic}
 use Rattle.vt_traffic.specs.declared.junction.Junction.{Junction}
@@ -114,13 +113,6 @@ module _ (m : Traffic) (c : Config) where
   kept_opening : IsKept (opening (grid m c))
   kept_opening = omega (arith, cars_in_all (opening (grid m c)), begins c.lps)
 
-  kept_step : (x : RunState JunctionEvent) → IsReached (grid m c) lawful x → AreDistinct x.pending → IsKept x → IsKept (step (grid m c) x)
-  kept_step x r distinct kept = go (least_event x.pending) refl where
-    go : (o : Option (Sent JunctionEvent)) → least_event x.pending ≡ o → IsKept (option_map_or (with_event (grid m c) x) o x)
-    go None none = kept
-    go (Some e) found = kept_with x e r distinct (least-found x.pending e found).0 kept
-
   -- wherever the run is
   pub cars_kept : (n : ℕ) → IsKept (after_steps (grid m c) n)
-  cars_kept zero = kept_opening
-  cars_kept (suc n) = kept_step (after_steps (grid m c) n) (reached (grid m c) lawful n) (distinct_pending (grid m c) lawful n) (cars_kept n)
+  cars_kept = each_step (grid m c) IsKept kept_opening (λ n e found kept. kept_with (after_steps (grid m c) n) e (reached (grid m c) lawful n) (distinct_pending (grid m c) lawful n) (least-found (after_steps (grid m c) n).pending e found).0 kept)

@@ -28,7 +28,8 @@ use Rattle.vt_world.specs.Held.{HeldWorld, held_world, world_memory, StandsForWo
 use Rattle.vt_world.proofs.WorldLemmas.{found, part-changed}
 use Rattle.vt_world.proofs.WorldSteps.{who, goes}
 use Rattle.vt_world.proofs.StepLemmas.{step-done, step-refused, inside-stepped, inside-same}
-use Rattle.vt_world.proofs.Places.{some-at, are-workers, inboxes-changed, put-back, mail-back}
+use Rattle.vt_world.proofs.Places.{are-workers, inboxes-changed, put-back, mail-back}
+use Rattle.vt_steps.proofs.lists.Places.{get-within}
 
 module _ {M S P K : Type 0} (handlers : Handlers S P K) (held : HeldWorld M S P K) (w : ℕ) (k new : HeldWorker S P K) where
   -- the world with a new worker w, and with what the cells hold then
@@ -166,7 +167,7 @@ module _ {M S P K : Type 0} (meaning : M → Handlers S P K) {held : HeldWorld M
       (acts : (part : Part P) → act (simulation_of (meaning held.model) held.config) Close part (in_book held.book) ≡ record { part = part; cell = in_book book; answer = result }) (same : IfErr result (λ fault. book ≡ held.book)) where
     -- a close changes no worker, as the first one shows
     first : (k : HeldWorker S P K) × (slice_get held.workers 0 ≡ Some k)
-    first = some-at held.workers 0 (let size = inside.all_workers in let many = held.config.some_worker in omega (arith, size, many))
+    first = get-within held.workers 0 (let size = inside.all_workers in let many = held.config.some_worker in omega (arith, size, many))
 
     put : Puts (meaning held.model) held 0 first.0 first.0 book_cell (in_book held.book) (in_book book) held.inboxes held.board book
     put = book-put inside first.1 first.0 book

@@ -22,12 +22,6 @@ use Rattle.vt_world.proofs.StepLemmas.{inside-stepped}
 pub same-there : {X : Type 0} (xs : List X) (i : ℕ) (x y : X) → slice_get xs i ≡ Some x → slice_get xs i ≡ Some y → x ≡ y
 same-there xs i x y h k = let e : Some x ≡ Some y = sym h ∙ k in let same : x ≡ y = cc in same
 
--- below the length there is an item
-pub some-at : {X : Type 0} (xs : List X) (i : ℕ) → i < length xs → (x : X) × (slice_get xs i ≡ Some x)
-some-at [] i h = absurd (omega (arith, h))
-some-at (y ∷ ys) zero h = (y, refl)
-some-at (y ∷ ys) (suc i) h = some-at ys i (let l : i < length ys = omega (arith, h) in l)
-
 module _ {P : Type 0} (config : Config) where
   -- the inbox at a place holds mail for its worker
   pub inbox-at : (base w : ℕ) (inboxes : List (List (Mail P))) (inbox : List (Mail P)) → AreInboxes config base inboxes → slice_get inboxes w ≡ Some inbox → AllOwnMail config (base + w) inbox

@@ -8,7 +8,7 @@ use Rattle.vt_model.specs.Simulation.{Simulation}
 use Rattle.vt_steps.specs.declared.step.Step.{Step}
 use Rattle.vt_steps.specs.declared.step.Reply.{Reply}
 use Rattle.vt_steps.specs.World.{World}
-use Rattle.vt_steps.specs.Next.{Outcome, next, run, answers}
+use Rattle.vt_steps.specs.Next.{next, run, answers}
 use Rattle.vt_steps.proofs.steps.MemoryLemmas.{run-append}
 use Rattle.vt_steps.proofs.steps.Refusals.{refusals as refusal-laws}
 use Rattle.vt_kernel.specs.Refusals.{PassesLimit, IsSpent, IsStepRefusal}
@@ -53,15 +53,6 @@ module _ {S P : Type 0} (sim : Simulation S P) where
         ∙ ap refusals (sym (answers-more first (take at steps) step)) ∙ ap (λ xs. refusals (answers sim first xs)) (sym here)
 
   module _ (step : Step) (old new : World P) where
-    -- a step that is done
-    pub answered-ok : (reply : Reply) → IsStepOf sim step old new (Ok reply) → IsAnsweredBy sim step old new 0
-    answered-ok reply is = record {
-      goes = ap (λ (o : Outcome P). o.world) (sym is.0);
-      within = (subst (λ (o : Outcome P). OnOk o.answer (PassesLimit sim step o.world → ⊥)) (sym is.0) is.1, tt);
-      counted = ap (λ (o : Outcome P). refusals (o.answer ∷ [])) (sym is.0);
-      one = omega arith;
-    }
-
     -- a step that isn't lawful, or that the closed book refuses
     answered-err : (fault : Fault) → IsStepOf sim step old new (Err fault) → (fault ≡ NotLawful) ⊎ (fault ≡ Closed) → IsAnsweredBy sim step old new 1
     answered-err fault is plain =

@@ -12,7 +12,8 @@ use Rattle.vt_key.specs.declared.letter.Sign.TheVariants.{Plus, Minus}
 use Rattle.vt_key.specs.Lists.{IsRisingBy}
 use Rattle.vt_model.specs.declared.rows.Row.{Row}
 use Rattle.vt_model.specs.declared.sending.Sent.{Sent}
-use Rattle.vt_model.specs.Simulation.{Simulation, Triple, after_from}
+use Rattle.vt_model.specs.Simulation.{Simulation, Triple}
+use Rattle.vt_model.proofs.RunLemmas.{after_from}
 use Rattle.vt_steps.specs.Copies.{process_sum}
 use Rattle.vt_steps.specs.BookSteps.{with_rows}
 use Rattle.vt_steps.specs.Letters.{stamped, unstamped}

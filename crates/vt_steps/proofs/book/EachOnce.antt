@@ -16,13 +16,13 @@ use Rattle.vt_model.specs.declared.sending.Sent.{Sent}
 use Rattle.vt_model.specs.Histories.{IsLawful}
 use Rattle.vt_model.specs.Rows.{RowBefore}
 use Rattle.vt_model.specs.Sequential.{events_before, rows_after, seq_events, seq_rows, whole_run}
-use Rattle.vt_model.specs.Simulation.{Simulation, after_from}
-use Rattle.vt_model.proofs.RunLemmas.{tested}
+use Rattle.vt_model.specs.Simulation.{Simulation}
+use Rattle.vt_model.proofs.RunLemmas.{after_from, tested}
 use Rattle.vt_steps.specs.declared.step.Step.{Step}
 use Rattle.vt_steps.specs.Copies.{as_count}
 use Rattle.vt_steps.specs.Letters.{unstamped}
 use Rattle.vt_steps.specs.Next.{reached}
-use Rattle.vt_steps.specs.Rows.{row_before, rows_from, rows_in_order}
+use Rattle.vt_steps.specs.Rows.{row_before, rows_from, rows_in_order, NoneBefore}
 use Rattle.vt_steps.specs.World.{Entry, LogicalProcess, Part, World, entry_events, process_at}
 use Rattle.vt_steps.proofs.book.BookRows.{committed_rows, part_rows, process_rows, rows_from-append}
 use Rattle.vt_steps.proofs.letters.Entries.{process-at_place}
@@ -32,7 +32,7 @@ use Rattle.vt_steps.proofs.letters.ProcessSums.{over_places, sum_by_place-bound,
 use Rattle.vt_steps.proofs.letters.Ranks.{reached-committed}
 use Rattle.vt_steps.proofs.book.ReachedBooks.{reached-accounted}
 use Rattle.vt_steps.proofs.book.Records.{IsAccounted, floors-right, run_rows, run_rows-before}
-use Rattle.vt_steps.proofs.book.RowOrder.{AreInOrder, NoneBefore, before-row_before, in-order, same-sums-in-order}
+use Rattle.vt_steps.proofs.book.RowOrder.{AreInOrder, before-row_before, in-order, same-sums-in-order}
 use Rattle.vt_steps.proofs.book.SequentialRows.{all-early-rows, early_weight, seq_rows-rise, sum_by-before}
 use Rattle.vt_steps.proofs.steps.Shape.{part-within, process-known}
 use Rattle.vt_steps.proofs.lists.Tests.{both_pass, passes_both}

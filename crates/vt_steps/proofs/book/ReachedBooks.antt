@@ -26,15 +26,8 @@ use Rattle.vt_steps.proofs.history.QuietHistories.{histories_are_right, reached-
 use Rattle.vt_steps.proofs.letters.Ranks.{reached-ranks}
 use Rattle.vt_steps.proofs.book.Records.{IsAccounted, floors-right, records-right}
 use Rattle.vt_steps.proofs.book.SequentialRows.{seq_records-begin}
+use Rattle.vt_steps.proofs.steps.MemoryLemmas.{run-append}
 use Rattle.vt_steps.proofs.steps.Shape.{part-within, reached-shape}
-
--- ---- lists of steps
-
--- one list of steps and then another
-run-append : {S P : Type 0} (sim : Simulation S P) (world : World P) (steps more : List Step) → run sim world (steps ++ more) ≡ run sim (run sim world steps) more
-unfolding run
-run-append sim world [] more = refl
-run-append sim world (step ∷ steps) more = run-append sim (next sim world step).world steps more
 
 module _ {S P : Type 0} (sim : Simulation S P) (lawful : IsLawful sim) (serial : ℕ) where
   -- ---- the book is accounted for

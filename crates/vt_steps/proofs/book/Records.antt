@@ -16,7 +16,7 @@ use Rattle.vt_model.specs.Rows.{RowBefore}
 use Rattle.vt_model.proofs.EndLemmas.{whole_is_history}
 use Rattle.vt_steps.specs.Claims.{AreFloorsRight, AreHistoriesRight, AreRecordsRight, IsProcess}
 use Rattle.vt_steps.specs.Letters.{unstamped}
-use Rattle.vt_steps.specs.Rows.{rows_from, rows_in_order}
+use Rattle.vt_steps.specs.Rows.{rows_from, rows_in_order, AreSameRows}
 use Rattle.vt_steps.specs.World.{Entry, LogicalProcess, Part, World, book_floor, book_rows, entry_events, least, process_at}
 use Rattle.vt_steps.proofs.time.Announced.{announced-least}
 use Rattle.vt_steps.proofs.book.BookRows.{AreNotBefore, IsBooked, part_rows, process_rows}
@@ -27,7 +27,7 @@ use Rattle.vt_key.proofs.ListLemmas.{every-map, every-weaker, rising-left}
 use Rattle.vt_steps.proofs.lists.Places.{get-within}
 use Rattle.vt_steps.proofs.letters.ProcessSums.{over_places, over_processes, sum_by_place-range, whole-rows-by-process}
 use Rattle.vt_steps.proofs.history.QuietHistories.{DoAllRanksRise}
-use Rattle.vt_steps.proofs.book.RowOrder.{HaveSameSums, in-order, rising-in-order, same-list, same-sums-in-order}
+use Rattle.vt_steps.proofs.book.RowOrder.{in-order, rising-in-order, same-list, same-sums-in-order}
 use Rattle.vt_steps.proofs.book.SequentialRows.{early_weight, early-rows, seq_rows-rise, sum_by-before}
 use Rattle.vt_steps.proofs.steps.Shape.{part-within, process-known}
 
@@ -91,7 +91,7 @@ module _ {S P : Type 0} (sim : Simulation S P) (lawful : IsLawful sim) (world : 
       ∙ ap (λ n. sum_by (λ place. run_rows f t (process_at sim w place)) (range_with_len 0 n)) ((known.times.at opening_time).shape.processes w part at)
 
   -- the book's rows below its floor weigh what the sequential run's rows below it weigh
-  same-sums : HaveSameSums (rows_before (book_floor sim.end world.book) world.book.rows) (seq_rows sim (book_floor sim.end world.book))
+  same-sums : AreSameRows (rows_before (book_floor sim.end world.book) world.book.rows) (seq_rows sim (book_floor sim.end world.book))
   same-sums f =
       let t = book_floor sim.end world.book in
       let g = early_weight f t in

@@ -11,7 +11,8 @@ use Rattle.vt_key.specs.declared.letter.Mail.{Mail}
 use Rattle.vt_key.specs.declared.letter.Sign.{Sign}
 use Rattle.vt_key.specs.declared.letter.Sign.TheVariants.{Plus, Minus}
 use Rattle.vt_model.specs.Histories.{sends_from}
-use Rattle.vt_model.specs.Simulation.{Simulation, Triple, after_from}
+use Rattle.vt_model.specs.Simulation.{Simulation, Triple}
+use Rattle.vt_model.proofs.RunLemmas.{after_from}
 use Rattle.vt_model.specs.declared.sending.Sent.{Sent}
 use Rattle.vt_steps.specs.declared.step.Step.{Step}
 use Rattle.vt_steps.specs.Letters.{signed, stamped, unstamped}

@@ -8,16 +8,9 @@ use Rattle.vt_steps.specs.declared.step.Step.{Step}
 use Rattle.vt_steps.specs.Marked.{Marked, Answered, unmarked, marked, IsMarkedRight, own_steps, shown}
 use Rattle.vt_steps.specs.Next.{next, run}
 use Rattle.vt_steps.specs.World.{World, opening_world}
+use Rattle.vt_steps.proofs.steps.MemoryLemmas.{run-append}
 
 -- ---- lists
-
-pub each-append : {X : Type 0} (Q : X → Type 0) (xs ys : List X) → AllByRecursion Q xs → AllByRecursion Q ys → AllByRecursion Q (xs ++ ys)
-each-append Q [] ys a b = b
-each-append Q (x ∷ xs) ys a b = (a.0, each-append Q xs ys a.1 b)
-
-pub each-weaker : {X : Type 0} (Q R : X → Type 0) (xs : List X) → ((x : X) → Q x → R x) → AllByRecursion Q xs → AllByRecursion R xs
-each-weaker Q R [] f a = tt
-each-weaker Q R (x ∷ xs) f a = (f x a.0, each-weaker Q R xs f a.1)
 
 pub unmarked-append : (xs ys : List Marked) → unmarked (xs ++ ys) ≡ unmarked xs ++ unmarked ys
 unmarked-append [] ys = refl
@@ -39,12 +32,6 @@ each-marked w (step ∷ steps) = (refl, each-marked w steps)
 -- ---- runs
 
 module _ {S P : Type 0} (sim : Simulation S P) where
-  -- one list of steps and then another
-  pub steps-append : (world : World P) (steps more : List Step) → run sim world (steps ++ more) ≡ run sim (run sim world steps) more
-  unfolding run
-  steps-append world [] more = refl
-  steps-append world (step ∷ steps) more = steps-append (next sim world step).world steps more
-
   cons-append : (b : Bool) (a : Answered) (xs ys : List Answered) → cond b (a ∷ (xs ++ ys)) (xs ++ ys) ≡ cond b (a ∷ xs) xs ++ ys
   cons-append true a xs ys = refl
   cons-append false a xs ys = refl
@@ -81,7 +68,7 @@ module _ {S P : Type 0} (sim : Simulation S P) where
 
   -- the shown world after more steps
   pub shown-append : (marks more : List Marked) → shown sim (marks ++ more) ≡ run sim (shown sim marks) (unmarked more)
-  shown-append marks more = ap (run sim (opening_world sim 0)) (unmarked-append marks more) ∙ steps-append (opening_world sim 0) (unmarked marks) (unmarked more)
+  shown-append marks more = ap (run sim (opening_world sim 0)) (unmarked-append marks more) ∙ run-append sim (opening_world sim 0) (unmarked marks) (unmarked more)
 
   -- and with more steps of one worker
   pub shown-marked : (marks : List Marked) (w : ℕ) (steps : List Step) → shown sim (marks ++ marked w steps) ≡ run sim (shown sim marks) steps

@@ -16,7 +16,7 @@ use Rattle.vt_steps.specs.Cells.{worker_of}
 use Rattle.vt_steps.specs.Laws.{IsAny}
 use Rattle.vt_steps.specs.Marked.{Marked, Answered, unmarked, IsMarkedRight, own_steps, shown, own_steps_of, cut_by_now, has_cut_since}
 use Rattle.vt_steps.specs.CellSteps.{CellEffect, send, fetch, cut, report, commit, close}
-use Rattle.vt_steps.specs.Next.{Outcome, next, refused, with_part, with_inbox, with_board, with_book, effect_in, at_cell}
+use Rattle.vt_steps.specs.Next.{effect_in, Outcome, next, refused, with_part, with_inbox, with_board, with_book, at_cell}
 use Rattle.vt_steps.specs.PartSteps.{report_sent, report_got, report_least}
 use Rattle.vt_steps.specs.World.{Part, Board, World, opening_world}
 use Rattle.vt_steps.proofs.steps.Changes.{if_has, map_has}

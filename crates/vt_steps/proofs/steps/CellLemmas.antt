@@ -11,7 +11,7 @@ use Rattle.vt_steps.specs.declared.step.Reply.TheVariants.{Done}
 use Rattle.vt_steps.specs.World.{Part, Board, Book, World}
 use Rattle.vt_steps.specs.BookSteps.{unless_closed}
 use Rattle.vt_steps.specs.CellSteps.{CellEffect, send, fetch, cut, report, commit, close}
-use Rattle.vt_steps.specs.Next.{Outcome, refused, replied, done_or_refused, with_part, with_inbox, with_board, with_book, locally, effect_in, at_cell, next}
+use Rattle.vt_steps.specs.Next.{effect_in, Outcome, refused, replied, done_or_refused, with_part, with_inbox, with_board, with_book, locally, at_cell, next}
 use Rattle.vt_steps.specs.Cells.{CellName, inbox_of, board_cell, book_cell, Cell, in_inbox, on_board, in_book, content, with_content, worker_of, cell_of, is_local, Acted, left_alone, acted_locally, acted_at, acted_close, act, put_back, act_locally}
 use Rattle.vt_steps.specs.Laws.{IsAny, IsRefused, ActsOnOneCell, LeavesCells}
 use Rattle.vt_steps.proofs.steps.Changes.{map_has}
@@ -188,7 +188,7 @@ abbrev LacksCell : {P : Type 0} → World P → Option CellName → Type 0
 LacksCell world None = ⊥
 LacksCell world (Some name) = content world name ≡ None
 
-map-none : {X Y : Type 0} (f : X → Y) (o : Option X) → option_map f o ≡ None → o ≡ None
+pub map-none : {X Y : Type 0} (f : X → Y) (o : Option X) → option_map f o ≡ None → o ≡ None
 map-none f None e = refl
 map-none f (Some x) e = absurd (let h : Some (f x) ≡ None = e in cc)
 

@@ -18,8 +18,10 @@ use Rattle.vt_steps.specs.World.{Part, Book, World}
 use Rattle.vt_steps.proofs.steps.CellLemmas.{next-acts_on_one_cell}
 use Rattle.vt_steps.proofs.steps.Changes.{map_has, chain_has}
 use Rattle.vt_steps.proofs.steps.Outcomes.{done_or_refused-either, unless_closed-either}
-use Rattle.vt_steps.proofs.marks.MarkedRuns.{each-append, marked-append, own-append, own-first, steps-append, unmarked-marked}
+use Rattle.vt_steps.proofs.marks.MarkedRuns.{marked-append, own-append, own-first, unmarked-marked}
 use Rattle.vt_steps.proofs.lists.Places.{get-put_same, get-put_other}
+use Rattle.vt_key.proofs.ListLemmas.{every-append}
+use Rattle.vt_steps.proofs.steps.MemoryLemmas.{run-append}
 
 -- ---- cells of one kind
 
@@ -178,7 +180,7 @@ module _ {S P : Type 0} (sim : Simulation S P) (w : ℕ) where
       DoesSo sim w name first world part cell made → DoesSo sim w name more (run sim world first) new left then_made →
       DoesSo sim w name (first ++ more) world new left (made ++ then_made)
   does-append world name first more part new cell left made then_made a b =
-      let whole = steps-append sim world first more in
+      let whole = run-append sim world first more in
       record {
         part = ap (λ (n : World P). slice_get n.parts w) whole ∙ b.part;
         cell = ap (λ (n : World P). content n name) whole ∙ b.cell;
@@ -259,7 +261,7 @@ module _ {S P : Type 0} (sim : Simulation S P) (w : ℕ) where
       IsAny (worker_of sim step) w → IsAny (cell_of step) name → act sim step before cell ≡ record { part = new; cell = left; answer = Ok reply } →
       Leads sim w name part cell (steps ++ step ∷ []) new left (made_done steps ++ record { step = step; reply = reply } ∷ [])
   leads name steps step part before new cell left reply local whose at does = record {
-    own = subst (AllByRecursion (IsMarkedRight sim)) (sym (marked-append w steps (step ∷ []))) (each-append (IsMarkedRight sim) (marked w steps) (marked w (step ∷ [])) (local-right steps part before local) (whose, tt));
+    own = subst (AllByRecursion (IsMarkedRight sim)) (sym (marked-append w steps (step ∷ []))) (every-append (IsMarkedRight sim) (marked w steps) (marked w (step ∷ [])) (local-right steps part before local) (whose, tt));
     does = λ world is holds.
         (let first = local-does world name steps part before cell local is holds in
         does-append world name steps (step ∷ []) before new cell left (made_done steps) (record { step = step; reply = reply } ∷ []) first

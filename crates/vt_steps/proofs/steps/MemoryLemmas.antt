@@ -1,8 +1,10 @@
 -- What a value in memory stands for after one past event more, one less, some forgotten; and after steps.
 use Rattle.std.proofs.Common.{◌≡◌, ℕ, List, [], ◌∷◌, ◌++◌, map, refl, sym, subst, ap, ◌∙◌, Result}
 use Rattle.std.proofs.lemmas.List.{map-append}
+use Rattle.std.proofs.lemmas.List.Sums.{fold-append}
 use Rattle.vt_key.specs.declared.fault.Fault.{Fault}
-use Rattle.vt_model.specs.Simulation.{Simulation, Triple, after_from}
+use Rattle.vt_model.specs.Simulation.{Simulation, Triple}
+use Rattle.vt_model.proofs.RunLemmas.{after_from}
 use Rattle.vt_steps.specs.declared.step.Step.{Step}
 use Rattle.vt_steps.specs.declared.step.Reply.{Reply}
 use Rattle.vt_steps.specs.Letters.{unstamped}
@@ -75,8 +77,7 @@ module _ {S P : Type 0} (sim : Simulation S P) where
   -- a run of one list and then another
   pub run-append : (world : World P) (steps more : List Step) → run sim world (steps ++ more) ≡ run sim (run sim world steps) more
   unfolding run
-  run-append world [] more = refl
-  run-append world (step ∷ steps) more = run-append (next sim world step).world steps more
+  run-append world steps more = fold-append (λ now step. (next sim now step).world) world steps more
 
   pub still_reached_by_run : (serial : ℕ) (steps : List Step) (old new : WorldMemory S P) → RunsTo sim steps old new → StandsForReached sim serial old → StandsForReached sim serial new
   still_reached_by_run serial steps old new runs at =

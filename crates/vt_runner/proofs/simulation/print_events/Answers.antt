@@ -1,8 +1,8 @@
 use Rattle.std.proofs.Common.{rules, arith, refl, ◌∙◌}
+use Rattle.std.proofs.lemmas.List.{nil_from_length}
 use Rattle.std.proofs.lemmas.Result.{on_ok_weaker}
 use Rattle.vt_model.proofs.Sizes.{out_fits, first_out}
 use Rattle.vt_key.proofs.ResultLemmas.{if_err}
-use Rattle.vt_seq.proofs.StepLemmas.{nil_of}
 use Rattle.vt_text.specs.Writing.{AppendsAllButHeld}
 use Rattle.vt_text.proofs.TextLemmas.{begun}
 use Rattle.vt_runner.specs.Runs.{run_text, StopsRun}
@@ -85,7 +85,7 @@ all_put g c =
     let l = c.loop-records.invariant in
     let step = c.in_ok-step_reusing.ensures in
     let is = c.as_slice-2.ensures.value ∙ step.none_added c.if-branch.false in
-    let none = nil_of c.loop-records.execution.pending (search rules) in
+    let none = nil_from_length c.loop-records.execution.pending (search rules) in
     last_put l.printing is (one_run g.M.Model.handlers l.model l.config) none step.whole c.in_ok-put_lines-2.ensures.ok
 
 pub returns-clause-ok : goal.returns-clause-ok

@@ -5,8 +5,9 @@ use Rattle.vt_model.specs.declared.rows.Row.{Row}
 use Rattle.vt_model.specs.Sequential.{rows_before}
 use Rattle.vt_steps.specs.BookSteps.{with_rows}
 use Rattle.vt_steps.specs.Letters.{least_of}
+use Rattle.vt_steps.specs.Rows.{AreSameRows}
 use Rattle.vt_book.specs.Books.{RunBook, may_hand}
-use Rattle.vt_book.specs.Kept.{AreSameRows, IsKept}
+use Rattle.vt_book.specs.Kept.{IsKept}
 use Rattle.vt_steps.proofs.time.Floors.{floor-rises}
 use Rattle.vt_book.proofs.KeptLemmas.{lawful, kept-after, late-after}
 use Rattle.vt_book.proofs.book.Book.take.Goals as goal

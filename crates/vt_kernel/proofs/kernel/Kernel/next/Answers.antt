@@ -9,10 +9,11 @@ use Rattle.vt_kernel.specs.Held.{HeldWorker}
 use Rattle.vt_kernel.proofs.PartLemmas.{stands_along}
 use Rattle.vt_kernel.proofs.LocalLemmas.{view_of}
 use Rattle.vt_kernel.proofs.ChoosingLemmas.{NextIs, next-is}
-use Rattle.vt_kernel.proofs.ReadyLemmas.{none-says, lawful-at, unlawful-at}
+use Rattle.vt_kernel.proofs.ReadyLemmas.{lawful-at, unlawful-at}
 use Rattle.vt_kernel.proofs.kernel.Kernel.next.Given.{Over}
 use Rattle.vt_kernel.proofs.kernel.Kernel.next.Goals.{In_ok-place}
 use Rattle.vt_kernel.proofs.kernel.Kernel.next.Goals as goal
+use Rattle.vt_lp.proofs.CancelLemmas.{IfNone-of}
 
 -- the winner, as one of the worker's processes
 winner : (g : Over) (c : In_ok-place g) → NextIs ready_of (view_of c.self.inside) (c.in_ok-place.place * c.self.inside.config.workers + c.self.inside.worker)
@@ -42,6 +43,6 @@ pub returns-in_err-place-clause-unlawful : goal.returns-in_err-place-clause-unla
 returns-in_err-place-clause-unlawful g c handlers part s =
     let i = c.self.inside in
     let nobody = c.in_err-place.ensures.nobody (entries_of ready_of i.processes.items) c.self.invariant.in_contest.ready in
-    none-says c.from_residual.result _
+    IfNone-of c.from_residual.result _
     (subst (λ (v : HeldWorker _ _ _). (p : ℕ) → local_step (simulation_of handlers v.config) v.worker (step.Execute p) part ≡ None) c.self.view_is
     (unlawful-at handlers (view_of i) c.self.invariant.own_processes part (stands_along c.self.view_is handlers part s) (nobody-there ready_of i.processes.items nobody)))

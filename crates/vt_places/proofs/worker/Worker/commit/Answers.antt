@@ -5,7 +5,7 @@ use Rattle.vt_model.specs.Settings.{end_of}
 use Rattle.vt_steps.specs.declared.step.Step.TheVariants.{Commit}
 use Rattle.vt_steps.specs.declared.step.Reply.TheVariants.{Done}
 use Rattle.vt_places.specs.AtWork.{AtWork}
-use Rattle.vt_places.specs.Calls.{Reaches, Visited, Stays, ShowsFloor, IsFloorLeft}
+use Rattle.vt_places.specs.Calls.{Visited, Stays, ShowsFloor, IsFloorLeft}
 use Rattle.vt_places.proofs.WorkLemmas.{kernel-ready, called-at-work, alone-at-work}
 use Rattle.vt_places.proofs.worker.Worker.commit.Goals as goal
 

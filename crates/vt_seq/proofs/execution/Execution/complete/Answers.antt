@@ -1,4 +1,5 @@
 use Rattle.std.proofs.Common.{rules, arith, refl, ◌≡◌, ℕ, zero, suc, ◌+◌, ◌∙◌, List, [], sym, subst}
+use Rattle.std.proofs.lemmas.List.{nil_from_length}
 use Rattle.vt_model.specs.Simulation.{Simulation, simulation_of}
 use Rattle.vt_model.specs.Sequential.{after_steps}
 use Rattle.vt_model.specs.declared.rows.Record.{Record}
@@ -10,7 +11,7 @@ use Rattle.vt_seq.proofs.GivenLemmas.{counted_whole, whole_records}
 use Rattle.vt_model.proofs.Sizes.{out_fits, first_out}
 use Rattle.vt_seq.proofs.ProgressLemmas.{added_more, added_none, added_rest, seen-on_way}
 use Rattle.vt_key.proofs.ResultLemmas.{if_err}
-use Rattle.vt_seq.proofs.StepLemmas.{none_pending, nil_of}
+use Rattle.vt_seq.proofs.StepLemmas.{none_pending}
 use Rattle.vt_seq.proofs.execution.Execution.complete.Goals as goal
 
 pub new-out-requires : goal.new-out-requires
@@ -74,7 +75,7 @@ returns-clause-whole g c n is =
     let r = c.loop.invariant.steps n is in
     let k : ℕ = r.0 + n in
     let records : c.step_reusing.new.records.items ≡ c.loop.records.items = search rules in
-    let none : before.pending ≡ [] = nil_of before.pending (search rules) in
+    let none : before.pending ≡ [] = nil_from_length before.pending (search rules) in
     added_rest own n r.0 c.args.records.now.items c.step_reusing.new.records.items
     (subst (λ (l : List Record). AddsSteps own n r.0 c.args.records.now.items l) (sym records) r.2)
     (whole_records own lawful k (none_pending (after_steps own k).pending before.pending r.1.had none))
@@ -92,7 +93,7 @@ returns-clause-counted g c n is =
     let k : ℕ = r.0 + n in
     let at : IsAt (simulation_of (g.M.Model.handlers before.model) before.config) k before = subst (λ (s : Simulation _ _). IsAt s k before) (sym same) r.1 in
     let on : IsAt own (suc k) later = subst (λ (s : Simulation _ _). IsAt s (suc k) later) same (c.in_ok-step_reusing.ensures.steps k at) in
-    let none : later.pending ≡ [] = nil_of later.pending (search rules) in
+    let none : later.pending ≡ [] = nil_from_length later.pending (search rules) in
     counted_whole own lawful (suc k) (none_pending (after_steps own (suc k)).pending later.pending on.had none)
     (subst (λ (s : Simulation _ _). IsCounted s (suc k)) same (c.in_ok-step_reusing.ensures.counted k at))
 
