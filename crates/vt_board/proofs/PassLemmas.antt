@@ -1,9 +1,8 @@
 -- A whole pass, report by report.
 use Rattle.std.proofs.Common.{◌≡◌, inl, inr, ℕ, zero, suc, ◌+◌, ◌<◌, Bool, true, false, cond, nat_eq, ◌&&◌, List, [], ◌∷◌, ◌++◌, length, replicate, Option, Some, None, slice_get, slice_set, refl, sym, subst, ap, ◌∙◌, arith}
-use Rattle.std.specs.List.{sum_by}
 use Rattle.std.proofs.lemmas.Bool.Decides.{eqb_tells}
 use Rattle.std.proofs.lemmas.List.{length-set}
-use Rattle.std.proofs.lemmas.List.Sums.{sum_by-append, sum_by-cons}
+use Rattle.std.proofs.lemmas.List.Sums.{sum_by-cons, sum_by_push}
 use Rattle.vt_key.specs.Times.{Time, TimeAtMost, time_at_most, earlier}
 use Rattle.vt_steps.specs.declared.step.Reply.TheVariants.{Waiting, Again, Announced}
 use Rattle.vt_steps.specs.World.{Board}
@@ -123,14 +122,6 @@ least-last : (end : Time) (reports : List WorkerReport) (last : WorkerReport) �
 least-last end [] last = omega arith
 least-last end (report ∷ reports) last = omega (arith, least-last end reports last)
 
--- a sum and one more
-sum-last : (f : WorkerReport → ℕ) (reports : List WorkerReport) (last : WorkerReport) → sum_by f (reports ++ last ∷ []) ≡ sum_by f reports + f last
-sum-last f reports last =
-    let both = sum_by-append f reports (last ∷ []) in
-    let one = sum_by-cons f last [] in
-    let none : sum_by f [] ≡ 0 = refl in
-    omega arith
-
 -- reports that are awaited, and one more
 along-last : (end : Time) (board : Board) (reports : List WorkerReport) (last : WorkerReport) (after : Board) → slice_get after.has_reported last.worker ≡ Some false →
     IsAlong end board reports after → IsAlong end board (reports ++ last ∷ []) (with_one_more after last)
@@ -142,10 +133,10 @@ along-last end board reports last after clear before =
       has_cut = before.has_cut;
       rounds = before.rounds;
       size = length-set after.has_reported last.worker true ∙ before.size;
-      sent = omega (arith, before.sent, sum-last (λ (r : WorkerReport). r.sent) reports last);
-      got = omega (arith, before.got, sum-last (λ (r : WorkerReport). r.got) reports last);
+      sent = omega (arith, before.sent, sum_by_push (λ (r : WorkerReport). r.sent) reports last);
+      got = omega (arith, before.got, sum_by_push (λ (r : WorkerReport). r.got) reports last);
       least = omega (arith, before.least, least-last end reports last);
-      flags = λ w. omega (arith, before.flags w, sum-last (λ (r : WorkerReport). weight (nat_eq r.worker w)) reports last, times-first w last.worker after.has_reported clear);
+      flags = λ w. omega (arith, before.flags w, sum_by_push (λ (r : WorkerReport). weight (nat_eq r.worker w)) reports last, times-first w last.worker after.has_reported clear);
     }
 
 -- where all have reported, equal sums announce the least value and end the round

@@ -5,6 +5,7 @@ use Rattle.std.proofs.lemmas.Bool.Decides.{nat_tests}
 use Rattle.std.proofs.lemmas.List.{map-append}
 use Rattle.std.proofs.lemmas.List.Elements.{filter-append}
 use Rattle.std.proofs.lemmas.List.Sums.{sum_by-cons, sum_by-append}
+use Rattle.std.proofs.lemmas.Bool.{and_parts}
 use Rattle.vt_key.specs.Times.{Time, time_before, time_at_most}
 use Rattle.vt_model.specs.declared.rows.Record.{Record}
 use Rattle.vt_model.specs.declared.rows.Row.{Row}
@@ -12,7 +13,6 @@ use Rattle.vt_model.specs.Sequential.{rows_before, records_of}
 use Rattle.vt_steps.specs.BookSteps.{may_commit}
 use Rattle.vt_steps.specs.Rows.{rows_in_order, NoneBefore, AreSameRows}
 use Rattle.vt_steps.specs.Letters.{least_of}
-use Rattle.vt_steps.proofs.lists.Tests.{both_pass}
 use Rattle.vt_book.specs.Books.{is_within, are_within}
 use Rattle.vt_book.specs.Kept.{IsKept}
 use Rattle.vt_steps.proofs.time.Floors.{floor-at}
@@ -52,8 +52,8 @@ others-left t row start now rest early same h f =
 late-within : (t handed_in floor : Time) (rows : List Row) → t ≤ handed_in → list_all (is_within handed_in floor) rows ≡ true → rows_before t rows ≡ []
 late-within t handed_in floor [] le h = refl
 late-within t handed_in floor (r ∷ rs) le h =
-    let both = both_pass (is_within handed_in floor r) (list_all (is_within handed_in floor) rs) h in
-    let from = (both_pass (time_at_most handed_in r.key.time) (time_before r.key.time floor) both.0).0 in
+    let both = and_parts (is_within handed_in floor r) (list_all (is_within handed_in floor) rs) h in
+    let from = (and_parts (time_at_most handed_in r.key.time) (time_before r.key.time floor) both.0).0 in
     let no : time_before r.key.time t ≡ false = grind (arith, nat_tests) in
     ap (λ b. cond b (r ∷ rows_before t rs) (rows_before t rs)) no ∙ late-within t handed_in floor rs le both.1
 
@@ -70,13 +70,13 @@ lawful end floors w rows floor h = known (slice_get floors w) refl h
     known : (at : Option Time) → slice_get floors w ≡ at → (may_commit at floor && (time_at_most floor end && are_within at floor rows)) ≡ true → IsLawful end floors w rows floor
     known None is k = absurd (let no : false ≡ true = k in cc)
     known (Some handed_in) is k =
-        let both = both_pass (time_at_most handed_in floor) _ k in
+        let both = and_parts (time_at_most handed_in floor) _ k in
         let rises = both.0 in
         record {
           handed_in = handed_in;
           at = is;
           rising = (let l : handed_in ≤ floor = grind (arith, nat_tests) in l);
-          late = late-within (least_of end floors) handed_in floor rows (floor-at end floors w handed_in is) (both_pass (time_at_most floor end) _ both.1).1;
+          late = late-within (least_of end floors) handed_in floor rows (floor-at end floors w handed_in is) (and_parts (time_at_most floor end) _ both.1).1;
         }
 
 -- ---- what is kept after it

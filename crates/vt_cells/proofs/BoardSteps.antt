@@ -1,6 +1,7 @@
 -- Cut and Report on a kernel and the board, by what the kernel's and the board's calls do and refuse.
 use Rattle.std.proofs.Common.{◌≡◌, ℕ, ◌<◌, ◌≤◌, ◌⊎◌, inl, inr, Bool, true, false, ◌&&◌, refl, sym, ◌∙◌, ap, subst, arith, Option, Some, None, Ok, Err, nat_le, if◌then◌else◌}
 use Rattle.std.proofs.lemmas.Bool.Decides.{nat_tests}
+use Rattle.std.proofs.lemmas.Bool.{and_parts}
 use Rattle.vt_key.specs.Letters.{other_colour}
 use Rattle.vt_key.specs.Times.{Time, TimeAtMost, time_at_most, earlier}
 use Rattle.vt_key.specs.declared.fault.Fault.{Fault}
@@ -17,7 +18,6 @@ use Rattle.vt_steps.specs.World.{Part, Board}
 use Rattle.vt_steps.specs.PartSteps.{part_after_cut, report_sent, report_got, report_least}
 use Rattle.vt_steps.specs.BoardSteps.{cut_board, may_report, with_report, after_report}
 use Rattle.vt_steps.specs.Cells.{on_board, Acted}
-use Rattle.vt_steps.proofs.lists.Tests.{both_pass}
 use Rattle.vt_board.specs.Calls.{counted, cut_outcome, takes_report}
 use Rattle.vt_kernel.specs.Held.{HeldWorker, StandsFor}
 use Rattle.vt_kernel.specs.Guards.{held_letters}
@@ -109,7 +109,7 @@ module _ {S P K : Type 0} (handlers : Handlers S P K) (w : ℕ) (old new : HeldW
     report-done takes board_is {reply} reply_is said same_worker same_config stands =
         let sim = simulation_of handlers old.config in
         let with_its = with_report w sent got least board in
-        let may : may_report w least board ≡ true = (both_pass (may_report w least board) (time_at_most least end) takes).0 in
+        let may : may_report w least board ≡ true = (and_parts (may_report w least board) (time_at_most least end) takes).0 in
         let left_is : left ≡ (after_report (end_of old.config) with_its).board = board_is ∙ ap (λ t. (after_report t with_its).board) same_end in
         let replied : reply ≡ (after_report (end_of old.config) with_its).reply = reply_is ∙ ap (λ t. (after_report t with_its).reply) same_end in
         record {

@@ -5,6 +5,7 @@ use Rattle.std.proofs.Math.Logic.{∥∥₁_elim}
 use Rattle.std.proofs.Props.{props}
 use Rattle.std.proofs.lemmas.Bool.Decides.{nat_tests}
 use Rattle.std.proofs.lemmas.Option.{slice_get_within}
+use Rattle.std.proofs.lemmas.Bool.{and_from}
 use Rattle.vt_key.specs.Times.{Time, TimeAtMost, time_at_most, time_before}
 use Rattle.vt_key.specs.declared.fault.Fault.{Fault}
 use Rattle.vt_key.specs.declared.fault.Fault.TheVariants.{Memory, Closed}
@@ -24,7 +25,6 @@ use Rattle.vt_steps.specs.Next.{reached}
 use Rattle.vt_steps.specs.Cells.{Cell, Acted, in_book, left_alone, act}
 use Rattle.vt_steps.proofs.time.Floors.{AreTimesSound, reached-times}
 use Rattle.vt_steps.proofs.lists.Places.{get-within}
-use Rattle.vt_steps.proofs.lists.Tests.{passes_both}
 use Rattle.vt_kernel.specs.Held.{HeldWorker, StandsFor}
 use Rattle.vt_book.specs.Books.{RunBook, may_hand, is_within, are_within, refusal_of_hand, refusal_where}
 use Rattle.vt_book.proofs.CommitRows.{IsBetween, commit-between}
@@ -39,7 +39,7 @@ all-within from to (row ∷ rows) h =
     let high = h.0.1 in
     let late : time_at_most from row.key.time ≡ true = grind (arith, nat_tests) in
     let early : time_before row.key.time to ≡ true = grind (arith, nat_tests) in
-    passes_both (is_within from to row) (list_all (is_within from to) rows) (passes_both (time_at_most from row.key.time) (time_before row.key.time to) late early) (all-within from to rows h.1)
+    and_from (is_within from to row) (list_all (is_within from to) rows) (and_from (time_at_most from row.key.time) (time_before row.key.time to) late early) (all-within from to rows h.1)
 
 -- what is lawful an open book doesn't refuse
 unrefused : (is_closed is_lawful : Bool) → is_closed ≡ false → is_lawful ≡ true → refusal_where is_closed is_lawful ≡ None
@@ -84,8 +84,8 @@ module _ {S P K : Type 0} {handlers : Handlers S P K} {k : HeldWorker S P K} {bo
         let between : AllByRecursion (IsBetween handed_in.0 k.floor) rows =
         subst (λ t. AllByRecursion (IsBetween handed_in.0 t) rows) own
         (subst (AllByRecursion (IsBetween handed_in.0 r.part.floor)) (sym rows_are) (commit-between (sim_of handlers k) lawful r.serial r.steps k.worker r.part handed_in.0 r.there handed_in.1)) in
-        passes_both (may_commit (slice_get book.book.floors k.worker) k.floor) (time_at_most k.floor book.end && are_within (slice_get book.book.floors k.worker) k.floor rows) may-up_to
-        (passes_both (time_at_most k.floor book.end) (are_within (slice_get book.book.floors k.worker) k.floor rows) below
+        and_from (may_commit (slice_get book.book.floors k.worker) k.floor) (time_at_most k.floor book.end && are_within (slice_get book.book.floors k.worker) k.floor rows) may-up_to
+        (and_from (time_at_most k.floor book.end) (are_within (slice_get book.book.floors k.worker) k.floor rows) below
         (ap (λ o. are_within o k.floor rows) floor-there ∙ all-within handed_in.0 k.floor rows between))
 
   module _ (reaches : AreOfOneWorld handlers k book.book) {w : ℕ} (whose : k.worker ≡ w) where

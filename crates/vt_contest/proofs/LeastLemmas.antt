@@ -8,6 +8,7 @@ use Rattle.vt_key.specs.declared.order.Rank.{Rank}
 use Rattle.vt_key.specs.declared.letter.Letter.{Letter}
 use Rattle.vt_model.specs.Settings.{end_of}
 use Rattle.std.specs.List.{last_or}
+use Rattle.std.proofs.lemmas.Option.{same_Some}
 use Rattle.vt_steps.specs.Letters.{letter_time, least_time}
 use Rattle.vt_tournament.specs.Least.{IsLeast}
 use Rattle.vt_lp.specs.Held.{HeldProcess}
@@ -16,9 +17,6 @@ use Rattle.vt_contest.specs.Entries.{TellsLeast, ready_of, earliest_of, unready_
 use Rattle.vt_contest.proofs.Written.{get-all}
 use Rattle.vt_contest.proofs.EntryLemmas.{entered-at}
 use Rattle.vt_steps.proofs.TimeLemmas.{least_time-low, least_time-append, same_low, same_times, at_most_both, earlier_low, earlier_low_right, not_before, at_most_chain}
-
-same_entry : {X : Type 0} (a b : X) → Some a ≡ Some b → a ≡ b
-same_entry a b e = cc
 
 -- a time is at most that of an entry, if it is at most that of its rank
 rank_low : (end t : Time) (o : Option Rank) → TimeAtMost t end → ((rank : Rank) → o ≡ Some rank → TimeAtMost t rank.key.time) → TimeAtMost t (rank_time end o)
@@ -120,7 +118,7 @@ module _ {S P K : Type 0} (end : Time) (processes : List (HeldProcess S P K)) (t
       (i : ℕ) (held : HeldProcess S P K) → slice_get processes i ≡ Some held → IsLeast (entries_of entry processes) i → IsFirst entry (least_time end (kept_letters held))
   winner-first entry sound i held at least =
       let rank = least.rank in
-      let mine : entry held ≡ Some rank = same_entry (entry held) (Some rank) (sym (entered-at entry processes i held at) ∙ least.entered) in
+      let mine : entry held ≡ Some rank = same_Some (entry held) (Some rank) (sym (entered-at entry processes i held at) ∙ least.entered) in
       let first : TimeAtMost (least_time end (kept_letters held)) rank.key.time = sound i held rank at mine in
       record {
         low = flat-at end kept_letters processes i held at;

@@ -4,6 +4,7 @@ use Rattle.std.proofs.Math.ListN.{length-set}
 use Rattle.std.proofs.lemmas.Bool.{eq-eqb}
 use Rattle.std.proofs.lemmas.Bool.Decides.{eqb_tells}
 use Rattle.std.proofs.lemmas.List.{length-map}
+use Rattle.std.proofs.lemmas.Option.{slice_get_past}
 use Rattle.vt_key.specs.declared.limits.TheConstants.{MAX_COUNT}
 use Rattle.vt_key.specs.declared.letter.Letter.{Letter}
 use Rattle.vt_key.specs.declared.letter.Mail.{Mail}
@@ -24,7 +25,7 @@ use Rattle.vt_outbox.specs.Outbox.{HeldOutbox}
 use Rattle.vt_kernel.specs.Held.{HeldWorker, IsWorkerInside, StandsFor, AreProcesses, process_of}
 use Rattle.vt_kernel.specs.Guards.{IsDone}
 use Rattle.vt_kernel.specs.declared.kernel.Kernel.TheInside.{Inside}
-use Rattle.vt_kernel.proofs.ProcessLemmas.{process-at, processes-changed, place-known, place-unknown, get-past}
+use Rattle.vt_kernel.proofs.ProcessLemmas.{process-at, processes-changed, place-known, place-unknown}
 use Rattle.vt_kernel.proofs.OwnSteps.{at_own, not-own, no-process, found, done-at, refused-at, IsFound}
 
 -- what a contract sees of a worker with this inside
@@ -120,7 +121,7 @@ module _ {S P K : Type 0} (handlers : Handlers S P K) (held : HeldWorker S P K) 
       → at_own (simulation_of handlers held.config) held.worker p (at_process step (p / held.config.workers) part) ≡ None
   past-refused p step past =
       let size : length part.processes ≡ length held.processes = stand-length (simulation_of handlers held.config) held.worker 0 (map (process_memory handlers) held.processes) part.processes h.processes ∙ length-map held.processes (process_memory handlers) in
-      no-process (simulation_of handlers held.config) held.worker p step part (get-past part.processes (p / held.config.workers) (omega (arith, size, past)))
+      no-process (simulation_of handlers held.config) held.worker p step part (slice_get_past part.processes (p / held.config.workers) (omega (arith, size, past)))
 
   -- nor is one at a process that is none of the worker's
   pub unknown-refused : (p : ℕ) (step : LogicalProcess P → Option (ProcessEffect P)) → 1 ≤ held.config.workers

@@ -136,9 +136,3 @@ place-unknown lps workers w p some past own less =
     let more : suc (p / workers) * workers ≡ p / workers * workers + workers = suc-mul (p / workers) workers in
     let fits : suc (p / workers) * workers ≤ lps + (workers - 1) - w = (le-div_iff_mul-le {k = workers} {x = suc (p / workers)} {y = lps + (workers - 1) - w} some).0 less in
     omega arith
-
--- what is past the end of a list is not there
-pub get-past : {X : Type 0} (xs : List X) (i : ℕ) → length xs ≤ i → slice_get xs i ≡ None
-get-past [] i h = refl
-get-past (x ∷ xs) zero h = absurd (omega arith)
-get-past (x ∷ xs) (suc i) h = get-past xs i (omega arith)

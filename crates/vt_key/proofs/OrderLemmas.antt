@@ -1,7 +1,7 @@
 -- The orders of keys, stamps and ranks are strict and total, and the tests decide them.
-use Rattle.std.proofs.Common.{◌≡◌, subst, ap, ℕ, ◌<◌, ◌⊎◌, inl, inr, arith, Bool, true, false, ◌||◌, ◌&&◌, sym, ◌∙◌, refl}
+use Rattle.std.proofs.Common.{◌≡◌, subst, ap, ℕ, ◌<◌, ◌⊎◌, inl, inr, arith, Bool, true, false, ◌||◌, ◌&&◌, sym, ◌∙◌}
 use Rattle.std.proofs.lemmas.Bool.Decides.{nat_tests}
-use Rattle.std.proofs.lemmas.Bool.{cases_order}
+use Rattle.std.proofs.lemmas.Bool.{cases_order, cases_Bool}
 use Rattle.vt_key.specs.Keys.{Key}
 use Rattle.vt_key.specs.declared.order.Stamp.{Stamp}
 use Rattle.vt_key.specs.declared.order.Rank.{Rank}
@@ -145,31 +145,25 @@ rank-total a b = elim (key-total a.key b.key) [
 
 pub rank_before-true : (a b : Rank) → rank_before a b ≡ true → RankBefore a b
 unfolding rank_before key_before key_same stamp_before
-rank_before-true a b h = elim (cases (key_before a.key b.key)) [
+rank_before-true a b h = elim (cases_Bool (key_before a.key b.key)) [
   | inl y ↦ inl (key_before-true a.key b.key y)
   | inr y ↦
       let rest : (key_same a.key b.key && stamp_before a.stamp b.stamp) ≡ true = sym (ap (λ (t : Bool). t || (key_same a.key b.key && stamp_before a.stamp b.stamp)) y) ∙ h in
-      elim (cases (key_same a.key b.key)) [
+      elim (cases_Bool (key_same a.key b.key)) [
         | inl z ↦ inr (key_same-true a.key b.key z, stamp_before-true a.stamp b.stamp (sym (ap (λ (t : Bool). t && stamp_before a.stamp b.stamp) z) ∙ rest))
         | inr z ↦ absurd (let w : false ≡ true = sym (ap (λ (t : Bool). t && stamp_before a.stamp b.stamp) z) ∙ rest in cc)
       ]
-] where
-  cases : (t : Bool) → (t ≡ true) ⊎ (t ≡ false)
-  cases true = inl refl
-  cases false = inr refl
+]
 
 pub before-rank_before : (a b : Rank) → RankBefore a b → rank_before a b ≡ true
 unfolding rank_before
 before-rank_before a b (inl h) = ap (λ (t : Bool). t || (key_same a.key b.key && stamp_before a.stamp b.stamp)) (before-key_before a.key b.key h)
-before-rank_before a b (inr h) = elim (cases (key_before a.key b.key)) [
+before-rank_before a b (inr h) = elim (cases_Bool (key_before a.key b.key)) [
   | inl y ↦ ap (λ (t : Bool). t || (key_same a.key b.key && stamp_before a.stamp b.stamp)) y
   | inr y ↦
       let same : key_same a.key b.key ≡ true = subst (λ (k : Key). key_same a.key k ≡ true) h.0 (same-key_same a.key) in
       ap (λ (t : Bool). t || (key_same a.key b.key && stamp_before a.stamp b.stamp)) y ∙ ap (λ (t : Bool). t && stamp_before a.stamp b.stamp) same ∙ before-stamp_before a.stamp b.stamp h.1
-] where
-  cases : (t : Bool) → (t ≡ true) ⊎ (t ≡ false)
-  cases true = inl refl
-  cases false = inr refl
+]
 
 pub rank_same-true : (a b : Rank) → rank_same a b ≡ true → a ≡ b
 unfolding rank_same

@@ -3,6 +3,7 @@ use Rattle.std.proofs.Common.{◌≡◌, ◌||◌, ◌⊎◌, inl, inr, Bool, tr
 use Rattle.std.specs.Prelude.{All}
 use Rattle.std.specs.List.{list_any}
 use Rattle.std.proofs.lemmas.List.Elements.{All-from_recursion, recursion_from_All, All-nil, All-cons, All-head, All-tail}
+use Rattle.std.proofs.lemmas.Bool.{cases_Bool}
 use Rattle.vt_pending.proofs.Rising.{first-false, second-false}
 use Rattle.vt_key.specs.Order.{rank_before, rank_same}
 use Rattle.vt_key.specs.Times.{Time, earlier}
@@ -63,13 +64,10 @@ module _ {P : Type 0} where
 
 -- sameness of ranks goes both ways
 differs : (a b : Rank) → rank_same a b ≡ false → rank_same b a ≡ false
-differs a b other = elim (cases (rank_same b a)) [
+differs a b other = elim (cases_Bool (rank_same b a)) [
   | inl is ↦ absurd (let e : true ≡ false = sym (subst (λ (r : Rank). rank_same r b ≡ true) (rank_same-true b a is) (same-rank_same b)) ∙ other in cc)
   | inr is ↦ is
-] where
-  cases : (t : Bool) → (t ≡ true) ⊎ (t ≡ false)
-  cases true = inl refl
-  cases false = inr refl
+]
 
 module _ {P K : Type 0} where
   -- past events of other ranks stay apart from what is pending

@@ -1,5 +1,6 @@
 -- No letter after a rank has it.
 use Rattle.std.proofs.Common.{◌≡◌, ◌||◌, Bool, true, false, List, [], ◌∷◌, refl, subst, ◌∙◌, ap, ◌⊎◌, inl, inr}
+use Rattle.std.proofs.lemmas.Bool.{cases_Bool}
 use Rattle.vt_key.specs.Order.{RankBefore, rank_same}
 use Rattle.vt_key.specs.Queues.{letter_rank}
 use Rattle.vt_key.specs.declared.order.Rank.{Rank}
@@ -9,13 +10,10 @@ use Rattle.vt_pending.specs.Letters.{holds_rank, AllAfter}
 
 -- a rank that is after another is not the same
 pub after-differs : (a b : Rank) → RankBefore a b → rank_same b a ≡ false
-after-differs a b before = elim (cases (rank_same b a)) [
+after-differs a b before = elim (cases_Bool (rank_same b a)) [
   | inl is ↦ absurd (rank-irreflexive a (subst (RankBefore a) (rank_same-true b a is) before))
   | inr is ↦ is
-] where
-  cases : (t : Bool) → (t ≡ true) ⊎ (t ≡ false)
-  cases true = inl refl
-  cases false = inr refl
+]
 
 module _ {P : Type 0} where
   -- letters after a rank do not have it

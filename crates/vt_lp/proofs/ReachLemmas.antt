@@ -4,6 +4,7 @@ use Rattle.std.proofs.lemmas.List.{reverse-append}
 use Rattle.std.proofs.lemmas.List.Folds.{find-append}
 use Rattle.std.specs.List.{list_any}
 use Rattle.std.specs.Option.{option_or}
+use Rattle.std.proofs.lemmas.Option.{none-some}
 use Rattle.vt_key.specs.Order.{RankBefore, rank_before, rank_same}
 use Rattle.vt_key.specs.declared.order.Rank.{Rank}
 use Rattle.vt_key.proofs.OrderLemmas.{rank-transitive, rank-total, rank_before-true, before-rank_before}
@@ -15,9 +16,6 @@ use Rattle.vt_lp.specs.Held.{AllAfter, IsRisingPast}
 -- the last that passes, of one more in front
 find-back-more : {X : Type 0} (test : X → Bool) (x : X) (xs : List X) → find test (reverse (x ∷ xs)) ≡ option_or (find test (reverse xs)) (if test x then Some x else None)
 find-back-more test x xs = ap (find test) (reverse-append (x ∷ []) xs) ∙ find-append test (reverse xs) (x ∷ [])
-
-none-some : {X : Type 0} (x : X) → None ≡ Some x → ⊥
-none-some x e = absurd (let h : None ≡ Some x = e in cc)
 
 module _ {P K : Type 0} (r : Rank) where
   -- a past event that isn't after the rank

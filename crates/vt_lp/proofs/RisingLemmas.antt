@@ -1,6 +1,7 @@
 -- Letters in rising rank: what is asked of all of them, the least one answers.
 use Rattle.std.proofs.Common.{◌≡◌, ◌||◌, ◌⊎◌, inl, inr, ◌++◌, Bool, true, false, not, List, [], ◌∷◌, Some, None, slice_get, refl, sym, ◌∙◌, ap, arith}
 use Rattle.std.specs.List.{list_any}
+use Rattle.std.proofs.lemmas.Bool.{cases_Bool}
 use Rattle.vt_key.specs.Times.{Time, TimeAtMost, earlier}
 use Rattle.vt_key.specs.Order.{RankBefore, rank_before}
 use Rattle.vt_key.specs.declared.order.Rank.{Rank}
@@ -10,16 +11,11 @@ use Rattle.vt_steps.specs.Letters.{letter_time, least_time}
 use Rattle.vt_steps.proofs.letters.RankTimes.{rank-order-time}
 use Rattle.vt_pending.specs.Letters.{AllAfter, IsRising}
 
--- the first of two ranks is before the other, or it isn't
-cases : (b : Bool) → (b ≡ true) ⊎ (b ≡ false)
-cases true = inl refl
-cases false = inr refl
-
 module _ {P : Type 0} where
   -- where all letters are after a rank, none is before what that rank is not before
   none-before : (a r : Rank) (ls : List (Letter P)) → rank_before a r ≡ false → AllAfter a ls → list_any (λ l. rank_before l.event.rank r) ls ≡ false
   none-before a r [] late all = refl
-  none-before a r (l ∷ ls) late all = elim (cases (rank_before l.event.rank r)) [
+  none-before a r (l ∷ ls) late all = elim (cases_Bool (rank_before l.event.rank r)) [
     | inl is ↦
         absurd (let early = before-rank_before a r (rank-transitive a l.event.rank r all.0 (rank_before-true l.event.rank r is)) in
         let e : true ≡ false = sym early ∙ late in cc)
@@ -35,14 +31,14 @@ module _ {P : Type 0} where
 
   -- some letter is before a rank where the least is
   pub any-before : (r : Rank) (l : Letter P) (ls : List (Letter P)) → IsRising (l ∷ ls) → list_any (λ x. rank_before x.event.rank r) (l ∷ ls) ≡ rank_before l.event.rank r
-  any-before r l ls rises = elim (cases (rank_before l.event.rank r)) [
+  any-before r l ls rises = elim (cases_Bool (rank_before l.event.rank r)) [
     | inl is ↦ ap (λ b. b || list_any (λ (x : Letter P). rank_before x.event.rank r) ls) is ∙ sym is
     | inr is ↦ ap (λ b. b || list_any (λ (x : Letter P). rank_before x.event.rank r) ls) is ∙ none-before l.event.rank r ls is rises.0 ∙ sym is
   ]
 
   -- some letter is not after a rank where the least is not
   pub any-not-after : (r : Rank) (l : Letter P) (ls : List (Letter P)) → IsRising (l ∷ ls) → list_any (λ x. not (rank_before r x.event.rank)) (l ∷ ls) ≡ not (rank_before r l.event.rank)
-  any-not-after r l ls rises = elim (cases (rank_before r l.event.rank)) [
+  any-not-after r l ls rises = elim (cases_Bool (rank_before r l.event.rank)) [
     | inl is ↦
         ap (λ b. not b || list_any (λ (x : Letter P). not (rank_before r x.event.rank)) ls) is ∙ all-after r l.event.rank ls (rank_before-true r l.event.rank is) rises.0
         ∙ sym (ap not is)

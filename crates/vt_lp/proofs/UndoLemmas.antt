@@ -2,7 +2,7 @@
 use Rattle.std.proofs.Common.{◌≡◌, ℕ, suc, ◌+◌, ◌-◌, ◌≤◌, inl, List, [], ◌∷◌, ◌++◌, map, take, length, true, false, Option, Some, None, if◌then◌else◌, refl, sym, subst, ap, ◌∙◌, arith}
 use Rattle.std.specs.List.{All, last_or}
 use Rattle.std.specs.Option.{option_and_then}
-use Rattle.std.proofs.lemmas.List.{map-append}
+use Rattle.std.proofs.lemmas.List.{map-append, length_push}
 use Rattle.std.proofs.lemmas.List.Elements.{All-from_recursion, recursion_from_All, All-head, All-tail, All-cons, All-nil}
 use Rattle.vt_key.specs.Order.{rank_before, rank_same}
 use Rattle.vt_key.specs.Queues.{letter_rank, insert_letter}
@@ -33,10 +33,6 @@ module _ {X : Type 0} where
   last-push o [] x = refl
   last-push o (y ∷ ys) x = last-push (Some y) ys x
 
-  pub length-push : (xs : List X) (x : X) → length (xs ++ x ∷ []) ≡ length xs + 1
-  length-push [] x = refl
-  length-push (y ∷ ys) x = let ih = length-push ys x in omega (arith, ih)
-
   take-front : (n : ℕ) (xs : List X) (x : X) → n ≡ length xs → take n (xs ++ x ∷ []) ≡ xs
   take-front n [] x e = ap (λ k. take k (x ∷ [])) e
   take-front n (y ∷ ys) x e =
@@ -44,7 +40,7 @@ module _ {X : Type 0} where
       ap (λ k. take k (y ∷ ys ++ x ∷ [])) more ∙ ap (λ (zs : List X). y ∷ zs) (take-front (length ys) ys x refl)
 
   front-of : (xs : List X) (x : X) → take (length (xs ++ x ∷ []) - 1) (xs ++ x ∷ []) ≡ xs
-  front-of xs x = let n = length-push xs x in take-front (length (xs ++ x ∷ []) - 1) xs x (omega (arith, n))
+  front-of xs x = let n = length_push xs x in take-front (length (xs ++ x ∷ []) - 1) xs x (omega (arith, n))
 
   pub All-front : (Q : X → Type 0) (xs : List X) (x : X) → All Q (xs ++ x ∷ []) → All Q xs × Q x
   All-front Q xs x a =

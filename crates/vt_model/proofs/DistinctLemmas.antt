@@ -2,6 +2,7 @@
 use Rattle.std.proofs.Common.{◌≡◌, ℕ, zero, suc, ◌+◌, ◌<◌, ◌≤◌, inl, inr, List, [], ◌∷◌, Bool, true, false, not, filter, flat_map, sum_by, refl, sym, subst, ap, ◌∙◌, arith}
 use Rattle.std.specs.List.{range_with_len}
 use Rattle.std.proofs.lemmas.List.Sums.{sum_by-cons}
+use Rattle.std.proofs.lemmas.Bool.{cases_Bool}
 use Rattle.vt_key.specs.Keys.{Key}
 use Rattle.vt_key.specs.Order.{key_same}
 use Rattle.vt_key.specs.Lists.{Among, IsRisingBy}
@@ -11,10 +12,10 @@ use Rattle.vt_model.specs.declared.sending.Sent.{Sent}
 use Rattle.vt_model.specs.Simulation.{Simulation, after}
 use Rattle.vt_model.specs.Sequential.{RunState, events_of, fired_after, with_event, after_steps}
 use Rattle.vt_model.specs.Histories.{AreNumbered, sends_of, IsLawful}
-use Rattle.vt_model.proofs.RunLemmas.{each_step, tested, filter-yes, filter-no, numbered-among, numbered-all, known_sent, lists_of, least-found, IsReached, reached, among-below, flat-next}
+use Rattle.vt_model.proofs.RunLemmas.{each_step, filter-yes, filter-no, numbered-among, numbered-all, known_sent, lists_of, least-found, IsReached, reached, among-below, flat-next}
 
 differs : (a b : Key) → (a ≡ b → ⊥) → key_same a b ≡ false
-differs a b never = elim (tested (key_same a b)) [ inl y ↦ absurd (never (key_same-true a b y)) | inr y ↦ y ]
+differs a b never = elim (cases_Bool (key_same a b)) [ inl y ↦ absurd (never (key_same-true a b y)) | inr y ↦ y ]
 
 module _ {P : Type 0} where
   -- no two of these events have one key

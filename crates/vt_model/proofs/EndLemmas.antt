@@ -2,7 +2,7 @@
 use Rattle.std.proofs.Common.{◌≡◌, ℕ, zero, suc, ◌+◌, ◌*◌, ◌-◌, ◌^◌, ◌<◌, ◌≤◌, ◌⊎◌, inl, inr, List, [], ◌∷◌, ◌++◌, Bool, true, false, not, ◌&&◌, filter, Option, Some, None, nat_eq, length, refl, sym, subst, ap, ◌∙◌, arith}
 use Rattle.std.specs.List.{list_all, sum_by}
 use Rattle.std.specs.Option.{option_map_or}
-use Rattle.std.proofs.lemmas.Bool.{eqb-true, eq-eqb}
+use Rattle.std.proofs.lemmas.Bool.{eqb-true, eq-eqb, cases_Bool}
 use Rattle.std.proofs.lemmas.List.Sums.{sum_by-cons, sum_by-append}
 use Rattle.std.proofs.Math.Nat.{pow-suc, one-le-pow, pow-le-pow_right, mul-le-mul_right}
 use Rattle.vt_key.specs.Order.{KeyBefore, key_before, key_same}
@@ -18,7 +18,7 @@ use Rattle.vt_model.specs.Histories.{IsRising, IsHistory, IsLawful}
 use Rattle.vt_model.specs.Rows.{RowBefore}
 use Rattle.vt_model.proofs.HistoryLemmas.{one_history}
 use Rattle.vt_model.proofs.RowLemmas.{rows_rise}
-use Rattle.vt_model.proofs.RunLemmas.{tested, filter-yes, filter-no, find-none, least-found, known_sent, lists_of, IsReached, reached, fresh-later}
+use Rattle.vt_model.proofs.RunLemmas.{filter-yes, filter-no, find-none, least-found, known_sent, lists_of, IsReached, reached, fresh-later}
 
 module _ {P : Type 0} where
   -- where there is an event, some event has none before it
@@ -26,7 +26,7 @@ module _ {P : Type 0} where
   minimum x [] = (x, inl refl, λ d h b. elim h [ inr never ↦ never | inl at ↦ key-irreflexive x.key (subst (λ (y : Sent P). KeyBefore y.key x.key) at b) ])
   minimum x (y ∷ ys) =
       let r = minimum y ys in
-      elim (tested (key_before x.key r.0.key)) [
+      elim (cases_Bool (key_before x.key r.0.key)) [
         | inl t ↦
             let first : KeyBefore x.key r.0.key = key_before-true x.key r.0.key t in
             (x, inl refl, λ d h b. elim h [ inl at ↦ key-irreflexive x.key (subst (λ (z : Sent P). KeyBefore z.key x.key) at b) | inr m ↦ r.2 d m (key-transitive d.key x.key r.0.key b first) ])
@@ -51,7 +51,7 @@ module _ {P : Type 0} where
   least-none (x ∷ xs) h =
       let r = minimum x xs in
       let found : list_all (λ d. not (key_before d.key r.0.key)) (x ∷ xs) ≡ true =
-      all-true (λ d. not (key_before d.key r.0.key)) (x ∷ xs) (λ d m. elim (tested (key_before d.key r.0.key)) [
+      all-true (λ d. not (key_before d.key r.0.key)) (x ∷ xs) (λ d m. elim (cases_Bool (key_before d.key r.0.key)) [
         | inl t ↦ absurd (r.2 d m (key_before-true d.key r.0.key t))
         | inr t ↦ ap not t
       ]) in
@@ -63,7 +63,7 @@ module _ {P : Type 0} where
   sum_by-filter f test [] = omega arith
   sum_by-filter f test (x ∷ xs) =
       let ih = sum_by-filter f test xs in
-      elim (tested (test x)) [
+      elim (cases_Bool (test x)) [
         | inl y ↦ rw (filter-yes test x xs y) (omega (arith, ih, sum_by-cons f x xs, sum_by-cons f x (filter test xs)))
         | inr y ↦ rw (filter-no test x xs y) (omega (arith, ih, sum_by-cons f x xs))
       ]
@@ -76,7 +76,7 @@ module _ {P : Type 0} where
       rw (filter-no test x xs n) (omega (arith, sum_by-filter f test xs, sum_by-cons f x xs, w))
   sum_by-out f test (x ∷ xs) e (inr h) t =
       let ih = sum_by-out f test xs e h t in
-      elim (tested (test x)) [
+      elim (cases_Bool (test x)) [
         | inl y ↦ rw (filter-yes test x xs y) (omega (arith, ih, sum_by-cons f x xs, sum_by-cons f x (filter test xs)))
         | inr y ↦ rw (filter-no test x xs y) (omega (arith, ih, sum_by-cons f x xs))
       ]
@@ -181,10 +181,10 @@ module _ {S P : Type 0} (sim : Simulation S P) (lawful : IsLawful sim) where
   -- a run that has ended stays as it is
   stays : (m n : ℕ) → n ≤ m → (after_steps sim n).pending ≡ [] → after_steps sim m ≡ after_steps sim n
   stays zero n l h = let z : 0 ≡ n = omega arith in ap (after_steps sim) z
-  stays (suc m) n l h = elim (tested (nat_eq n (suc m))) [
+  stays (suc m) n l h = elim (cases_Bool (nat_eq n (suc m))) [
     | inl y ↦ ap (after_steps sim) (sym (eqb-true n (suc m) y))
     | inr y ↦
-        let less : n ≤ m = elim (tested (nat_eq n (suc m))) [ inl z ↦ absurd (let w : true ≡ false = sym z ∙ y in cc) | inr z ↦ below n m l (λ at. let w : true ≡ false = sym (eq-eqb n (suc m) at) ∙ y in absurd (cc)) ] in
+        let less : n ≤ m = elim (cases_Bool (nat_eq n (suc m))) [ inl z ↦ absurd (let w : true ≡ false = sym z ∙ y in cc) | inr z ↦ below n m l (λ at. let w : true ≡ false = sym (eq-eqb n (suc m) at) ∙ y in absurd (cc)) ] in
         ap (step sim) (stays m n less h) ∙ ap (λ (o : Option (Sent P)). option_map_or (with_event sim (after_steps sim n)) o (after_steps sim n)) (ap least_event h)
   ] where
     below : (a b : ℕ) → a ≤ suc b → (a ≡ suc b → ⊥) → a ≤ b

@@ -1,6 +1,6 @@
 -- There is one history: two of them have the same events below the time.
-use Rattle.std.proofs.Common.{◌≡◌, ℕ, zero, suc, ◌<◌, ◌≤◌, ◌⊎◌, inl, inr, List, [], ◌∷◌, Bool, true, false, nat_lt, if◌then◌else◌, refl, sym, subst, ap, ◌∙◌, arith}
-use Rattle.std.proofs.lemmas.Bool.{lt-ltb, le-ltb, ltb-true, ltb-false}
+use Rattle.std.proofs.Common.{◌≡◌, ℕ, zero, suc, ◌<◌, ◌≤◌, inl, inr, List, [], ◌∷◌, Bool, true, false, nat_lt, if◌then◌else◌, refl, sym, subst, ap, ◌∙◌, arith}
+use Rattle.std.proofs.lemmas.Bool.{lt-ltb, le-ltb, ltb-true, cases_lt}
 use Rattle.vt_key.specs.Keys.{Key}
 use Rattle.vt_key.specs.Order.{KeyBefore}
 use Rattle.vt_key.specs.Times.{time_before}
@@ -11,10 +11,6 @@ use Rattle.vt_model.specs.declared.sending.Sent.{Sent}
 use Rattle.vt_model.specs.Simulation.{Simulation, Triple}
 use Rattle.vt_model.specs.Sequential.{events_before}
 use Rattle.vt_model.specs.Histories.{AllAfter, IsRising, sends_from, sends_of, IsHistory, IsLawful}
-
--- a time is before another or not
-early : (a t : ℕ) → (a < t) ⊎ (t ≤ a)
-early a t = elim (nat_lt a t) as (λ b. nat_lt a t ≡ b → (a < t) ⊎ (t ≤ a)) [ true ↦ λ e. inl (ltb-true a t e) | false ↦ λ e. inr (ltb-false a t e) ] refl
 
 -- what comes after a late key is late
 late_key : (a b : Key) (t : ℕ) → KeyBefore a b → t ≤ a.time → t ≤ b.time
@@ -87,7 +83,7 @@ module _ {S P : Type 0} (sim : Simulation S P) (lawful : IsLawful sim) (p : ℕ)
       → Among e (sends_from sim p s xs) → Among e (sends_from sim p s (events_before t xs))
   sends-before t s [] e r l h = h
   sends-before t s (x ∷ xs) e r l h =
-      elim (early x.key.time t) [
+      elim (cases_lt x.key.time t) [
         | inl b ↦ rw (before-yes t x xs b)
             (elim (among-append e (sim.fire p s x).sends (sends_from sim p (sim.fire p s x).triple xs) h) [
               | inl m ↦ among-left e (sim.fire p s x).sends (sends_from sim p (sim.fire p s x).triple (events_before t xs)) m
@@ -104,7 +100,7 @@ module _ {S P : Type 0} (sim : Simulation S P) (lawful : IsLawful sim) (p : ℕ)
       → Among e (sends_from sim p s (events_before t xs)) → Among e (sends_from sim p s xs)
   before-sends t s [] e r h = h
   before-sends t s (x ∷ xs) e r h =
-      elim (early x.key.time t) [
+      elim (cases_lt x.key.time t) [
         | inl b ↦
             let k : Among e (sends_from sim p s (x ∷ events_before t xs)) = subst (λ (l : List (Sent P)). Among e (sends_from sim p s l)) (before-yes t x xs b) h in
             elim (among-append e (sim.fire p s x).sends (sends_from sim p (sim.fire p s x).triple (events_before t xs)) k) [

@@ -1,8 +1,8 @@
 -- A model's laws make its simulation lawful, and keep its states.
-use Rattle.std.proofs.Common.{◌≡◌, ℕ, suc, ◌+◌, ◌<◌, ◌≤◌, ◌⊎◌, inl, inr, List, [], ◌∷◌, Bool, true, false, map, filter, nat_lt, length, if◌then◌else◌, refl, sym, subst, ap, arith}
+use Rattle.std.proofs.Common.{◌≡◌, ℕ, suc, ◌+◌, ◌<◌, ◌≤◌, inl, inr, List, [], ◌∷◌, Bool, map, filter, nat_lt, length, if◌then◌else◌, refl, sym, subst, ap, arith}
 use Rattle.std.specs.List.{All, enumerate_from}
 use Rattle.std.proofs.lemmas.List.Elements.{All-head, All-tail}
-use Rattle.std.proofs.lemmas.Bool.{lt-ltb, le-ltb, ltb-true, ltb-false}
+use Rattle.std.proofs.lemmas.Bool.{lt-ltb, le-ltb, cases_lt}
 use Rattle.vt_key.specs.Lists.{Among}
 use Rattle.vt_model.specs.declared.sending.Sent.{Sent}
 use Rattle.vt_model.specs.declared.settings.Config.{Config}
@@ -18,9 +18,6 @@ use Rattle.vt_model.specs.Settings.{end_of}
 
 pub are_words : (seed p place : ℕ) → AreWords (words_at seed p place)
 are_words seed p place = λ i. word_below (seed_key seed) p (place + i)
-
-either : (a t : ℕ) → (a < t) ⊎ (t ≤ a)
-either a t = elim (nat_lt a t) as (λ b. nat_lt a t ≡ b → (a < t) ⊎ (t ≤ a)) [ true ↦ λ e. inl (ltb-true a t e) | false ↦ λ e. inr (ltb-false a t e) ] refl
 
 module _ {P : Type 0} (end p now : ℕ) where
   sent-yes : (n : ℕ) (o : SendRequest P) (os : List (SendRequest P)) → receive_time now o < end → sent_events end p now n (o ∷ os) ≡ sent_event p now (n, o) ∷ sent_events end p now (n + 1) os
@@ -46,7 +43,7 @@ module _ {P : Type 0} (end p now : ℕ) where
   sending : (lps n : ℕ) (os : List (SendRequest P)) (d : Sent P) → All (IsSendable lps now) os → Among d (sent_events end p now n os) → IsSending lps d
   sending lps n [] d a m = absurd (subst (Among d) (sent-nil n) m)
   sending lps n (o ∷ os) d a m =
-      elim (either (receive_time now o) end) [
+      elim (cases_lt (receive_time now o) end) [
         | inl l ↦
             elim (let k : Among d (sent_event p now (n, o) ∷ sent_events end p now (n + 1) os) = subst (Among d) (sent-yes n o os l) m in k) [
               | inl at ↦
@@ -66,7 +63,7 @@ module _ {P : Type 0} (end p now : ℕ) where
   numbered n (o ∷ os) =
       let up : (n + 1) + length os ≡ n + length (o ∷ os) = omega arith in
       let rest : AreNumbered p (n + 1) (n + length (o ∷ os)) (sent_events end p now (n + 1) os) = subst (λ (hi : ℕ). AreNumbered p (n + 1) hi (sent_events end p now (n + 1) os)) up (numbered (n + 1) os) in
-      elim (either (receive_time now o) end) [
+      elim (cases_lt (receive_time now o) end) [
         | inl l ↦ rw (sent-yes n o os l) (refl, omega arith, lower (n + 1) (suc n) (n + length (o ∷ os)) (sent_events end p now (n + 1) os) (omega arith) rest)
         | inr l ↦ rw (sent-no n o os l) (lower (n + 1) n (n + length (o ∷ os)) (sent_events end p now (n + 1) os) (omega arith) rest)
       ]
@@ -75,7 +72,7 @@ module _ {P : Type 0} (end p now : ℕ) where
   fewer n [] = rw (sent-nil n) (omega arith)
   fewer n (o ∷ os) =
       let ih = fewer (n + 1) os in
-      elim (either (receive_time now o) end) [ inl l ↦ rw (sent-yes n o os l) (omega (arith, ih)) | inr l ↦ rw (sent-no n o os l) (omega (arith, ih)) ]
+      elim (cases_lt (receive_time now o) end) [ inl l ↦ rw (sent-yes n o os l) (omega (arith, ih)) | inr l ↦ rw (sent-no n o os l) (omega (arith, ih)) ]
 
 module _ {S P K : Type 0} (handlers : Handlers S P K) (c : Config)
     (start_within : (lps lp : ℕ) (words : ℕ → ℕ) → lp < lps → AreWords words → IsWithinLimits lps 0 (handlers.start lps lp words).drawn (handlers.start lps lp words).send_requests [])

@@ -2,7 +2,7 @@
 use Rattle.std.proofs.Common.{◌≡◌, ℕ, zero, suc, ◌<◌, ◌≤◌, ◌⊎◌, inl, inr, List, [], ◌∷◌, ◌++◌, Bool, true, false, not, ◌&&◌, filter, find, Option, Some, None, nat_eq, flat_map, if◌then◌else◌, refl, sym, subst, ap, ◌∙◌, arith, append_assoc, append-nil, ◌+◌, map}
 use Rattle.std.specs.List.{fold, list_all, range_with_len}
 use Rattle.std.specs.Option.{option_map_or}
-use Rattle.std.proofs.lemmas.Bool.{eqb-true, eq-eqb}
+use Rattle.std.proofs.lemmas.Bool.{eqb-true, eq-eqb, cases_Bool}
 use Rattle.std.proofs.lemmas.List.Elements.{filter-append}
 use Rattle.std.proofs.lemmas.Grind.{flat_map-append}
 use Rattle.std.proofs.lemmas.List.FromFn.{map-range_with_len_more}
@@ -32,11 +32,6 @@ range-next n = let same : 0 + n ≡ n = omega arith in range_with_len-next 0 n �
 pub flat-next : {X : Type 0} (f : ℕ → List X) (n : ℕ) → flat_map f (range_with_len 0 (suc n)) ≡ flat_map f (range_with_len 0 n) ++ f n
 flat-next {X} f n =
     ap (flat_map f) (range-next n) ∙ flat_map-append f (range_with_len 0 n) (n ∷ []) ∙ ap (λ (l : List X). flat_map f (range_with_len 0 n) ++ l) (append-nil (f n))
-
--- a test is true or false
-pub tested : (b : Bool) → (b ≡ true) ⊎ (b ≡ false)
-tested true = inl refl
-tested false = inr refl
 
 module _ {P : Type 0} where
   -- numbers
@@ -87,7 +82,7 @@ module _ {P : Type 0} where
   pub find-none : (test : Sent P → Bool) (xs : List (Sent P)) (e : Sent P) → find test xs ≡ None → Among e xs → test e ≡ false
   find-none test [] e h m = absurd m
   find-none test (x ∷ xs) e h m =
-      elim (tested (test x)) [
+      elim (cases_Bool (test x)) [
         | inl y ↦
             let k : Some x ≡ None = sym (ap (λ (b : Bool). if b then Some x else find test xs) y) ∙ h in absurd (cc)
         | inr y ↦
@@ -98,7 +93,7 @@ module _ {P : Type 0} where
   all-among : (test : Sent P → Bool) (xs : List (Sent P)) (e : Sent P) → list_all test xs ≡ true → Among e xs → test e ≡ true
   all-among test [] e h m = absurd m
   all-among test (x ∷ xs) e h m =
-      elim (tested (test x)) [
+      elim (cases_Bool (test x)) [
         | inl y ↦
             let k : list_all test xs ≡ true = sym (ap (λ (b : Bool). b && list_all test xs) y) ∙ h in
             elim m [ inl at ↦ ap test at ∙ y | inr n ↦ all-among test xs e k n ]
@@ -206,7 +201,7 @@ module _ {S P : Type 0} (sim : Simulation S P) (lawful : IsLawful sim) where
 
   sent-more : (xs : List (Sent P)) (e d : Sent P) → IsSent sim (lists_of xs) d → IsSent sim (lists_of (xs ++ e ∷ [])) d
   sent-more xs e d h =
-      elim (tested (nat_eq e.dest h.0)) [
+      elim (cases_Bool (nat_eq e.dest h.0)) [
         | inl y ↦
             let at : e.dest ≡ h.0 = eqb-true e.dest h.0 y in
             (h.0, h.1, subst (Among d) (sym (sends_of-same h.0 xs e at)) (among-left d (sends_of sim h.0 (events_of h.0 xs)) (sim.fire h.0 (after sim h.0 (events_of h.0 xs)) e).sends h.2))
@@ -221,7 +216,7 @@ module _ {S P : Type 0} (sim : Simulation S P) (lawful : IsLawful sim) where
   sent-split : (xs : List (Sent P)) (e d : Sent P) → IsSent sim (lists_of (xs ++ e ∷ [])) d → IsSent sim (lists_of xs) d ⊎ Among d (fired_after sim xs e).sends
   unfolding fired_after
   sent-split xs e d h =
-      elim (tested (nat_eq e.dest h.0)) [
+      elim (cases_Bool (nat_eq e.dest h.0)) [
         | inl y ↦
             let at : e.dest ≡ h.0 = eqb-true e.dest h.0 y in
             elim (among-append d (sends_of sim h.0 (events_of h.0 xs)) (sim.fire h.0 (after sim h.0 (events_of h.0 xs)) e).sends (subst (Among d) (sends_of-same h.0 xs e at) h.2)) [
@@ -254,7 +249,7 @@ module _ {S P : Type 0} (sim : Simulation S P) (lawful : IsLawful sim) where
         ];
         had = λ d m. elim (sent-split x.executed e d m) [
           | inl old ↦ elim (r.had d old) [
-            | inl a ↦ elim (tested (key_same d.key e.key)) [
+            | inl a ↦ elim (cases_Bool (key_same d.key e.key)) [
               | inl y ↦ inr (among-right d x.executed (e ∷ []) (inl (one_sent (lists_of x.executed) d e old (r.made e (inl here)) (key_same-true d.key e.key y))))
               | inr y ↦ inl (among-left d (filter kept x.pending) fresh (among-filter kept d x.pending a (ap not y)))
             ]

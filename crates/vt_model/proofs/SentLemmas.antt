@@ -2,10 +2,10 @@
 use Rattle.std.proofs.Common.{◌≡◌, ℕ, ◌+◌, inl, inr, List, [], ◌∷◌, Bool, true, false, filter, map, if◌then◌else◌, sum_by, refl, ap, ◌∙◌, arith}
 use Rattle.std.specs.List.{enumerate_from}
 use Rattle.std.proofs.lemmas.List.Sums.{sum_by-cons}
+use Rattle.std.proofs.lemmas.Bool.{cases_Bool}
 use Rattle.vt_key.specs.Times.{Time, time_before}
 use Rattle.vt_model.specs.declared.sending.Sent.{Sent}
 use Rattle.vt_model.specs.Sends.{SendRequest, receive_time, sent_event, sent_events}
-use Rattle.vt_model.proofs.RunLemmas.{tested}
 
 module _ {P : Type 0} (end lp : ℕ) (now : Time) where
   -- of the first request and those after it
@@ -41,7 +41,7 @@ module _ {P : Type 0} (brought : P → ℕ) (end lp : ℕ) (now : Time) where
       let rest = sent_or_past (n + 1) rs in
       let later = sent_events end lp now (n + 1) rs in
       ap (λ (es : List (Sent P)). sum_by by_event es + sum_by past_end (r ∷ rs)) (sent-cons end lp now n r rs)
-      ∙ elim (tested (time_before (receive_time now r) end)) [
+      ∙ elim (cases_Bool (time_before (receive_time now r) end)) [
         | inl soon ↦
             ap (λ (b : Bool). sum_by by_event (if b then (sent_event lp now (n, r) ∷ later) else later) + sum_by past_end (r ∷ rs)) soon
             ∙ omega (arith, rest, sum_by-cons by_event (sent_event lp now (n, r)) later, sum_by-cons past_end r rs, sum_by-cons by_request r rs, ap (λ (b : Bool). (if b then 0 else brought r.payload)) soon)

@@ -1,9 +1,9 @@
 -- Sums over the processes of a run.
 use Rattle.std.proofs.Common.{◌≡◌, ℕ, zero, suc, ◌+◌, ◌<◌, ◌≤◌, inl, inr, List, [], ◌∷◌, false, nat_eq, sum_by, refl, subst, ap, arith}
-use Rattle.std.proofs.lemmas.Bool.{eqb-true, eqb-false}
+use Rattle.std.proofs.lemmas.Bool.{eqb-true, eqb-false, cases_Bool}
 use Rattle.std.proofs.lemmas.List.Sums.{sum_by-cons, sum_by-append}
 use Rattle.std.specs.List.{range_with_len}
-use Rattle.vt_model.proofs.RunLemmas.{tested, range-next}
+use Rattle.vt_model.proofs.RunLemmas.{range-next}
 
 is_not : (a b : ℕ) → (a ≡ b → ⊥) → nat_eq a b ≡ false
 is_not a b differ = search (arith)
@@ -28,7 +28,7 @@ sum_same f g (suc n) same =
 pub sum_one : (f g : ℕ → ℕ) (n d x y : ℕ) → d < n → ((p : ℕ) → nat_eq d p ≡ false → f p ≡ g p) → f d + x ≡ g d + y → sum_by f (range_with_len 0 n) + x ≡ sum_by g (range_with_len 0 n) + y
 sum_one f g zero d x y less same here = absurd (omega arith)
 sum_one f g (suc n) d x y less same here =
-    elim (tested (nat_eq d n)) [
+    elim (cases_Bool (nat_eq d n)) [
       | inl y' ↦
           let at : d ≡ n = eqb-true d n y' in
           let before = sum_same f g n (λ p below. same p (is_not d p (λ (is : d ≡ p). let below' : p < n = below in omega arith))) in
@@ -43,7 +43,7 @@ sum_one f g (suc n) d x y less same here =
 pub part-le : (f : ℕ → ℕ) (n d : ℕ) → d < n → f d ≤ sum_by f (range_with_len 0 n)
 part-le f zero d less = absurd (omega arith)
 part-le f (suc n) d less =
-    elim (tested (nat_eq d n)) [
+    elim (cases_Bool (nat_eq d n)) [
       | inl y' ↦ let at : f d ≡ f n = ap f (eqb-true d n y') in omega (arith, sum-next f n, at)
       | inr n' ↦
           let other = eqb-false d n n' in

@@ -2,6 +2,7 @@
 use Rattle.std.proofs.Common.{◌≡◌, refl, sym, ap, ◌∙◌, subst, arith}
 use Rattle.std.specs.Prelude.{◌-◌, ◌<◌, List, [], ◌∷◌, ◌++◌, length, map, take, drop, reverse, Option, Some, None, slice_index_or}
 use Rattle.std.proofs.lemmas.List.{take_at, drop_at, length-append, append_assoc, map-append, reverse-append}
+use Rattle.std.proofs.lemmas.Option.{none-some}
 use denote.RawPtr.{Ptr, null_ptr}
 use Rattle.vt_nodes.specs.Blocks.{places, place_at}
 use Rattle.vt_nodes.specs.declared.node.Node.{Node}
@@ -13,10 +14,6 @@ place_or p None = p
 place_or p (Some q) = q
 
 -- ---- ends
-
--- nothing is not something
-pub none-some : {A : Type 0} (x : A) → None ≡ Some x → ⊥
-none-some x e = absurd (let h : None ≡ Some x = e in cc)
 
 -- nodes have a last one
 last-some : {Y : Type 0} (b : Ptr × Y) (bs : List (Ptr × Y)) → last_or None (b ∷ bs) ≡ None → ⊥

@@ -1,10 +1,11 @@
 -- The first nodes of a trail: one node more, and joined to others.
 use Rattle.std.proofs.Common.{◌≡◌, sym, ap, ◌∙◌, subst}
 use Rattle.std.specs.Prelude.{List, [], ◌∷◌, ◌++◌, take, drop, Option, Some, None, slice_index_or}
+use Rattle.std.proofs.lemmas.Option.{none-some}
 use denote.RawPtr.{Ptr}
 use Rattle.vt_nodes.specs.declared.node.Node.{Node}
 use Rattle.vt_nodes.specs.Linked.{NodeAt, first_or, with_next, LeadOn, IsBeginning, IsPath}
-use Rattle.vt_nodes.proofs.Links.{none-some, first-append, last-append, first-with_next, on-with_next, on-append}
+use Rattle.vt_nodes.proofs.Links.{first-append, last-append, first-with_next, on-with_next, on-append}
 
 module _ {X : Type 0} where
   -- one node further

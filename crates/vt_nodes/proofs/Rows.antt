@@ -1,11 +1,11 @@
 -- Lists in a row: the first one is taken off, and one is put before the others.
 use Rattle.std.proofs.Common.{◌≡◌, ◌≢◌, refl, sym, ap, ◌∙◌, subst, arith}
 use Rattle.std.specs.Prelude.{suc, List, [], ◌∷◌, ◌++◌, length, take, drop, map, Option, Some, None, slice_index_or}
+use Rattle.std.proofs.lemmas.Option.{none-some}
 use denote.RawPtr.{Ptr}
 use Rattle.vt_nodes.specs.declared.node.Node.{Node}
 use Rattle.vt_nodes.specs.Linked.{NodeAt, first_or, with_prev, items, LeadOn}
 use Rattle.vt_nodes.specs.Lines.{put_before, lines_of, first_length, row_head, LeadsBack, StandInRow}
-use Rattle.vt_nodes.proofs.Links.{none-some}
 
 module _ {X : Type 0} where
   -- nodes are the first list and the others

@@ -1,6 +1,6 @@
 -- Whether something is found.
 use Rattle.std.proofs.Common.{Bool, true, false, ◌||◌, if◌then◌else◌, ◌≡◌, refl, ap}
-use Rattle.std.specs.Prelude.{List, [], ◌∷◌, Option, Some, None, IfNone, find, is_some}
+use Rattle.std.specs.Prelude.{List, [], ◌∷◌, Some, find, is_some}
 use Rattle.std.specs.List.{list_any}
 use Rattle.vt_key.specs.Queues.{without_first}
 

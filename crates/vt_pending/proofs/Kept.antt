@@ -2,6 +2,7 @@
 use Rattle.std.proofs.Common.{Bool, true, false, not, ◌||◌, if◌then◌else◌, ◌≡◌, ◌≢◌, ◌↔◌, refl, sym, ap, ◌∙◌, subst, arith}
 use Rattle.std.specs.Prelude.{ℕ, ◌+◌, ◌<◌, nat_eq, IsBitSet, List, [], ◌∷◌, length, drop, filter, find, Some, None}
 use Rattle.std.specs.List.{list_any}
+use Rattle.std.proofs.lemmas.Option.{none-some}
 use Rattle.vt_key.specs.Order.{rank_before}
 use Rattle.vt_key.specs.Queues.{without_first, letter_rank, has_rank, insert_letter}
 use Rattle.vt_key.specs.declared.order.Rank.{Rank}
@@ -165,9 +166,7 @@ module _ {P : Type 0} where
   -- so is the list of one that is found
   pub found-marked : (mask : ℕ) (test : Letter P → Bool) (x : Letter P) (letters : List (Letter P)) → Marks mask letters → find test letters ≡ Some x → own x < 64 → IsBitSet mask (own x)
   found-marked mask test x letters marks found within =
-      (marks (own x) within).1 (λ e. none-found x (sym (ap (find test) e) ∙ find-filter test (in_bucket (own x)) x letters found (in-own x))) where
-        none-found : (z : Letter P) → None ≡ Some z → ⊥
-        none-found z f = absurd (let h : None ≡ Some z = f in cc)
+      (marks (own x) within).1 (λ e. none-some x (sym (ap (find test) e) ∙ find-filter test (in_bucket (own x)) x letters found (in-own x)))
 
   pub length-insert : (x : Letter P) (ls : List (Letter P)) → length (insert_letter x ls) ≡ length ls + 1
   length-insert x [] = omega arith

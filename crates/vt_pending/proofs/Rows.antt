@@ -1,24 +1,19 @@
 -- Lists in a row by their first letters: what list is where, one is taken out, and one is put in its place.
-use Rattle.std.proofs.Common.{Bool, true, false, not, if◌then◌else◌, ◌≡◌, ◌↔◌, refl, sym, ap, ◌∙◌, subst, arith}
+use Rattle.std.proofs.Common.{true, false, not, if◌then◌else◌, ◌≡◌, ◌↔◌, refl, sym, ap, ◌∙◌, subst, arith}
 use Rattle.std.specs.Prelude.{ℕ, nat_eq, List, [], ◌∷◌, length, filter, slice_get}
-use Rattle.std.proofs.lemmas.Bool.{eqb-true, eq-eqb}
+use Rattle.std.proofs.lemmas.Bool.{eqb-true, eq-eqb, not-true}
 use Rattle.vt_key.specs.Order.{rank_before}
 use Rattle.vt_key.specs.Queues.{letter_rank, has_rank, insert_letter}
 use Rattle.vt_key.specs.declared.order.Rank.{Rank}
 use Rattle.vt_key.specs.declared.letter.Letter.{Letter}
 use Rattle.vt_key.proofs.ListLemmas.{every-filter, rising-filter}
 use Rattle.vt_key.proofs.OrderLemmas.{rank_before-true, before-rank_before}
-use Rattle.vt_nodes.specs.Lines.{first_item}
 use Rattle.vt_pending.specs.Letters.{holds_rank, AllAfter, IsRising}
 use Rattle.vt_pending.specs.Buckets.{bucket_of, in_bucket, not_in_bucket, some_in_bucket, list_at, without_list, insert_in, put_list, put_some, merged, letters_of, IsRow}
 use Rattle.vt_pending.proofs.Placing.{not-back, follows}
 use Rattle.vt_pending.proofs.Rising.{first-false, second-false}
 use Rattle.vt_pending.proofs.Holding.{holds-filter}
 use Rattle.vt_pending.proofs.Filters.{filter-swap, filter-within, filter-insert, filter-insert-other, insert-first}
-
-not-true : (c : Bool) → not c ≡ true → c ≡ false
-not-true true e = sym e
-not-true false e = refl
 
 -- equal numbers
 pub same-number : (a b : ℕ) → nat_eq a b ≡ true → a ≡ b
@@ -56,7 +51,7 @@ module _ {P : Type 0} where
         | false ↦ λ e. refl
       ] refl
 
-  -- ---- what is where
+  -- ---- what is
 
   -- there is no list where there is no letter
   pub row-empty : (lists : List (List (Letter P))) (letters : List (Letter P)) → IsRow lists letters → (lists ≡ []) ↔ (letters ≡ [])

@@ -1,5 +1,5 @@
 -- Letters in the order of their ranks.
-use Rattle.std.specs.Prelude.{Bool, false, not, Option, None, Some, List, [], ◌∷◌, find}
+use Rattle.std.specs.Prelude.{Bool, false, not, Option, None, Some, List, find}
 use Rattle.std.specs.List.{list_any, AllByRecursion}
 use Rattle.vt_key.specs.Order.{RankBefore, rank_before}
 use Rattle.vt_key.specs.Queues.{without_first, letter_rank, has_rank, has_stamp}

@@ -3,6 +3,7 @@ use Rattle.std.proofs.Common.{◌≡◌, ℕ, ◌+◌, ◌%◌, ◌<◌, ◌≤�
 use Rattle.std.specs.List.{list_any}
 use Rattle.std.proofs.Math.Nat.{mod-lt}
 use Rattle.std.proofs.lemmas.Bool.Decides.{eqb_tells}
+use Rattle.std.proofs.lemmas.Bool.{and_parts}
 use Rattle.vt_key.specs.declared.limits.TheConstants.{MAX_COUNT}
 use Rattle.vt_key.specs.declared.letter.Letter.{Letter}
 use Rattle.vt_key.specs.declared.letter.Mail.{Mail}
@@ -16,7 +17,6 @@ use Rattle.vt_steps.specs.World.{Part}
 use Rattle.vt_steps.specs.PartSteps.{is_for, part_after_fetch}
 use Rattle.vt_steps.specs.CellSteps.{may_send}
 use Rattle.vt_steps.specs.Cells.{in_inbox}
-use Rattle.vt_steps.proofs.lists.Tests.{both_pass}
 use Rattle.vt_kernel.specs.Held.{HeldWorker, StandsFor}
 use Rattle.vt_places.specs.declared.view.View.{View}
 use Rattle.vt_cells.specs.Calls.{Acts, PassesThere}
@@ -35,7 +35,7 @@ module _ {S P : Type 0} (sim : Simulation S P) where
       ]
 
   pub sent-known : (w v : ℕ) (part : Part P) → 1 ≤ sim.workers → may_send sim.workers w v part.outbox ≡ true → v < sim.workers
-  sent-known w v part some may = any-for v part.outbox some (both_pass (not (nat_eq w v)) (list_any (is_for sim.workers v) part.outbox) may).1
+  sent-known w v part some may = any-for v part.outbox some (and_parts (not (nat_eq w v)) (list_any (is_for sim.workers v) part.outbox) may).1
 
 -- ---- a fetch of nothing
 

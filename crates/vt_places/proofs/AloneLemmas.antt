@@ -2,6 +2,7 @@
 use Rattle.std.proofs.Common.{◌≡◌, ◌⊎◌, inl, inr, ℕ, ◌<◌, Bool, true, false, cond, List, [], ◌∷◌, ◌++◌, map, refl, sym, ◌∙◌, ap, subst, arith, Option, Some, None, Result, Ok, Err, MatchResult, IfErr, slice_get}
 use Rattle.std.specs.Option.{option_map}
 use Rattle.std.specs.List.{AllByRecursion}
+use Rattle.std.proofs.lemmas.Bool.{and_parts}
 use Rattle.vt_key.specs.declared.fault.Fault.{Fault}
 use Rattle.vt_key.specs.declared.fault.Fault.TheVariants.{Memory, NotLawful, Closed, Exhausted}
 use Rattle.vt_key.specs.Times.{Time}
@@ -26,7 +27,6 @@ use Rattle.vt_steps.proofs.steps.CellLemmas.{next-acts_on_one_cell}
 use Rattle.vt_steps.proofs.steps.Outcomes.{unless_closed-shut}
 use Rattle.vt_steps.proofs.book.HeadlineTheorem.{guards-pass}
 use Rattle.vt_steps.proofs.steps.LocalLeads.{local-does}
-use Rattle.vt_steps.proofs.lists.Tests.{both_pass}
 use Rattle.vt_kernel.specs.Held.{HeldWorker}
 use Rattle.vt_places.specs.declared.view.View.{View}
 use Rattle.vt_places.specs.Slots.{cell_at}
@@ -63,9 +63,9 @@ module _ {S P : Type 0} (sim : Simulation S P) (v : View P) where
 -- what a board that takes a report has
 may-tells : (w : ℕ) (value : Time) (board : Board) → may_report w value board ≡ true → (board.is_open ≡ true) × (all_set board.has_cut ≡ true) × (slice_get board.has_reported w ≡ Some false)
 may-tells w value board may =
-    let a = both_pass board.is_open _ may in
-    let b = both_pass (all_set board.has_cut) _ a.1 in
-    let c = both_pass (is_clear (slice_get board.has_reported w)) _ b.1 in
+    let a = and_parts board.is_open _ may in
+    let b = and_parts (all_set board.has_cut) _ a.1 in
+    let c = and_parts (is_clear (slice_get board.has_reported w)) _ b.1 in
     (a.0, b.0, clear-is (slice_get board.has_reported w) c.0)
 
 module _ {S P : Type 0} (sim : Simulation S P) where

@@ -1,6 +1,7 @@
 -- Each step on a station's table keeps the rule.
 use Rattle.std.proofs.Common.{◌≡◌, ◌≢◌, ◌⊎◌, ℕ, zero, suc, ◌<◌, ◌≤◌, List, [], ◌∷◌, ◌++◌, map, length, get_or, set, sym, refl, ap, ◌∙◌, subst, inl, ⊎_elim, arith, le_refl, le_trans, length-set, get_or-set_other, get_or-set_same, Some, slice_get}
 use Rattle.std.specs.List.{AllByRecursion}
+use Rattle.std.proofs.lemmas.List.{map-append}
 use mathlib.Core.Logic.{dite}
 use mathlib.Core.Option.{Option as Maybe, none, some, some-injective, some-ne-none}
 use native.Mathlib.Decide.{ℕ_discrete}
@@ -351,10 +352,6 @@ module _ {S P : Type 0} (sim : Simulation S P) (config : Config) where
 
       rights : AllByRecursion (IsMarkedRight sim) (r.log ++ marked v.worker steps)
       rights = every-append (IsMarkedRight sim) r.log (marked v.worker steps) r.right goes.own
-
-      map-append : (f : Made → Answered) (xs ys : List Made) → map f (xs ++ ys) ≡ map f xs ++ map f ys
-      map-append f [] ys = refl
-      map-append f (x ∷ xs) ys = ap (λ l. f x ∷ l) (map-append f xs ys)
 
   -- a store gives the cell back with what the worker's steps leave in it
   pub releases : IsLawful sim → (slots id k x : ℕ) (m : Sat P) (found : Cell P) (slot : Slot P) (steps : List Step) (new : Part P) (made : List Made) (left : List Marked → List Marked) (seen : Time) (aim : ℕ → Sat P → Type 0) → k < cell_count sim.workers

@@ -13,7 +13,6 @@ use Rattle.vt_steps.specs.declared.step.Step.TheVariants.{Execute, Undo, Cancel,
 use Rattle.vt_steps.specs.Letters.{count_of}
 use Rattle.vt_lp.specs.Guards.{number_of}
 use Rattle.vt_kernel.specs.Refusals.{IsSpent, PassesLimit}
-use Rattle.vt_runner.proofs.RunLemmas.{either}
 use Rattle.vt_steps.specs.declared.step.Reply.{Reply}
 use Rattle.vt_steps.specs.World.{World}
 use Rattle.vt_steps.specs.Next.{Outcome, next}
@@ -27,6 +26,7 @@ use Rattle.vt_runner.specs.Replying.{PutsReplies, StopsReplies}
 use Rattle.vt_text.specs.Writing.{AppendsAllButHeld, AppendsBeginning}
 use Rattle.vt_text.proofs.TextLemmas.{put_on, put_fails, of_longer}
 use Rattle.std.proofs.KnownBytes.{Appends-nil}
+use Rattle.std.proofs.lemmas.Bool.{cases_lt}
 
 -- the answer of a line
 abbrev pub answered : ℕ → Result Reply Fault → Answered
@@ -38,7 +38,7 @@ abbrev Decided : Type 0 → Type 0
 Decided A = A ⊎ (A → ⊥)
 
 past_or_within : (n : ℕ) → Decided (MAX_COUNT < n)
-past_or_within n = elim (either MAX_COUNT n) [ inl past ↦ inl past | inr within ↦ inr (λ past. absurd (omega (arith, past, within))) ]
+past_or_within n = elim (cases_lt MAX_COUNT n) [ inl past ↦ inl past | inr within ↦ inr (λ past. absurd (omega (arith, past, within))) ]
 
 one_or_none : {A B : Type 0} → Decided A → Decided B → Decided (A ⊎ B)
 one_or_none (inl a) b = inl (inl a)

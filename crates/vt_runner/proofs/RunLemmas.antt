@@ -1,7 +1,7 @@
 -- What a run in threads writes that stops: what comes before a time begins the text of the whole run.
 use Rattle.std.proofs.Common.{◌≡◌, ◌∙◌, ◌++◌, ◌<◌, ◌≤◌, ◌⊎◌, ℕ, true, false, refl, List, [], Option, inl, inr, sym, ap, subst, map, nat_lt, append-nil, append_assoc, arith}
 use Rattle.std.specs.Io.KnownBytes.{Appends}
-use Rattle.std.proofs.lemmas.Bool.{ltb-true, ltb-false}
+use Rattle.std.proofs.lemmas.Bool.{ltb-true, ltb-false, cases_lt}
 use Rattle.std.proofs.lemmas.List.Concat.{flat_map-append}
 use Rattle.vt_key.specs.Times.{Time}
 use Rattle.vt_key.specs.declared.fault.Fault.{Fault}
@@ -26,9 +26,6 @@ use Rattle.vt_text.specs.Writing.{AppendsBeginning}
 use Rattle.vt_text.proofs.TextLemmas.{of_longer}
 use Rattle.vt_runner.specs.Runs.{text_below, run_text, WritesBelow, WritesNone, StopsWork}
 
-pub either : (a b : ℕ) → (a < b) ⊎ (b ≤ a)
-either a b = elim (nat_lt a b) as (λ t. nat_lt a b ≡ t → (a < b) ⊎ (b ≤ a)) [ true ↦ λ e. inl (ltb-true a b e) | false ↦ λ e. inr (ltb-false a b e) ] refl
-
 module _ {S P : Type 0} (sim : Simulation S P) (lawful : IsLawful sim) where
   -- each event of the whole run is before the end
   whole-early : (e : Sent P) → Among e (whole_run sim) → e.key.time < sim.end
@@ -47,7 +44,7 @@ module _ {S P : Type 0} (sim : Simulation S P) (lawful : IsLawful sim) where
 
   -- the records before any time begin those of the whole run
   records-begin : (t : Time) → (rest : List Record) × (seq_records sim sim.end ≡ seq_records sim t ++ rest)
-  records-begin t = elim (either t sim.end) [
+  records-begin t = elim (cases_lt t sim.end) [
     | inl soon ↦ seq_records-begin sim lawful t sim.end (omega arith)
     | inr late ↦ ([], sym (append-nil (seq_records sim t) ∙ late-same t late))
   ]

@@ -226,9 +226,6 @@ module _ {P : Type 0} where
       (sym (map-set is_used days day w ∙ ap (λ (m : List (Entry P)). slice_set (map is_used days) day (is_used m)) is), record { list = []; there = there; is = ap (slice_set days day) is })
   put-new days day (y ∷ l) w x there none is = absurd (omega (arith, none))
 
-  pub same-found : (a b : List (Entry P)) → Some a ≡ Some b → a ≡ b
-  same-found a b h = cc
-
   -- ---- the last entry of the present day
 
   pub last-split : (xs : List (Entry P)) (k : ℕ) (x : Entry P) → length xs ≡ k + 1 → x ≡ slice_index_or xs k x → (ys : List (Entry P)) × (xs ≡ ys ++ x ∷ [])

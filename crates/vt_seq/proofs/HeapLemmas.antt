@@ -9,6 +9,7 @@ use Rattle.std.specs.Cmp.{nat_cmp_is}
 use Rattle.std.proofs.lemmas.List.{map-append}
 use Rattle.std.proofs.lemmas.List.Sums.{sum_by-cons}
 use Rattle.std.proofs.lemmas.List.Sorted.{Contains-permutation, IsPermutation-append_left, IsPermutation-append_right, IsPermutation-map, IsPermutation-middle, IsPermutation-refl, IsPermutation-sym, IsPermutation-trans, sum_by-IsPermutation}
+use Rattle.std.proofs.lemmas.Bool.{cases_Bool}
 use Rattle.vt_key.specs.Keys.{Key, key_cmp}
 use Rattle.vt_key.specs.Order.{KeyBefore, key_before, key_same}
 use Rattle.vt_key.specs.Lists.{Among}
@@ -17,7 +18,6 @@ use Rattle.vt_key.proofs.ListLemmas.{among-append}
 use Rattle.vt_model.specs.declared.sending.Sent.{Sent}
 use Rattle.vt_model.specs.Histories.{IsRising}
 use Rattle.vt_model.proofs.HistoryLemmas.{rising-same}
-use Rattle.vt_model.proofs.RunLemmas.{tested}
 use Rattle.vt_seq.specs.declared.entry.Entry.{Entry}
 use Rattle.vt_seq.specs.Queue.{inserted, all_inserted}
 use Rattle.vt_seq.specs.Entries.{entry_cmp, events_in, in_order, held, AreApart, IsLeast, IsQueue}
@@ -36,7 +36,7 @@ less-key a b (inr h) = elim h.1 [
 
 -- a key that is after another isn't before it
 not-before : (a b : Key) → (KeyBefore a b → ⊥) → key_before a b ≡ false
-not-before a b never = elim (tested (key_before a b)) [ inl y ↦ absurd (never (key_before-true a b y)) | inr y ↦ y ]
+not-before a b never = elim (cases_Bool (key_before a b)) [ inl y ↦ absurd (never (key_before-true a b y)) | inr y ↦ y ]
 
 pub not-before-trans : (a b c : Key) → (KeyBefore a b → ⊥) → (KeyBefore b c → ⊥) → KeyBefore a c → ⊥
 not-before-trans a b c ab bc ac = elim (key-total a b) [
@@ -68,11 +68,11 @@ module _ {P : Type 0} where
     go : (xs : List (Sent P)) → inserted e (inserted d xs) ≡ inserted d (inserted e xs)
     go [] = rw y (rw n refl)
     go (x ∷ xs) =
-        elim (tested (key_before d.key x.key)) [
+        elim (cases_Bool (key_before d.key x.key)) [
           | inl z ↦
               let w : key_before e.key x.key ≡ true = before-key_before e.key x.key (key-transitive e.key d.key x.key h (key_before-true d.key x.key z)) in
               rw z (rw w (rw z (rw y (rw n refl))))
-          | inr z ↦ elim (tested (key_before e.key x.key)) [ inl w ↦ rw z (rw w (rw z (rw n refl))) | inr w ↦ rw z (rw w (rw z (ap (λ ys. x ∷ ys) (go xs)))) ]
+          | inr z ↦ elim (cases_Bool (key_before e.key x.key)) [ inl w ↦ rw z (rw w (rw z (rw n refl))) | inr w ↦ rw z (rw w (rw z (ap (λ ys. x ∷ ys) (go xs)))) ]
         ]
 
   -- two events of different keys are inserted in either order
@@ -172,7 +172,7 @@ module _ {P : Type 0} where
   none-held k (e ∷ es) h =
       let rest : held k es ≡ 0 = none-held k es (λ d m. h d (inr m)) in
       let both : held k (e ∷ es) ≡ one_held k e + held k es = sum_by-cons (one_held k) e es in
-      elim (tested (key_same e.key k)) [
+      elim (cases_Bool (key_same e.key k)) [
         | inl y ↦ absurd (h e (inl refl) (key_same-true e.key k y))
         | inr y ↦ let one : one_held k e ≡ 0 = ap (λ (b : Bool). if b then 1 else 0) y in omega (arith, rest, both, one)
       ]
@@ -182,7 +182,7 @@ module _ {P : Type 0} where
   apart-more e es apart new k =
       let both : held k (e ∷ es) ≡ one_held k e + held k es = sum_by-cons (one_held k) e es in
       let few : held k es ≤ 1 = apart k in
-      elim (tested (key_same e.key k)) [
+      elim (cases_Bool (key_same e.key k)) [
         | inl y ↦
             let one : one_held k e ≡ 1 = ap (λ (b : Bool). if b then 1 else 0) y in
             let none : held k es ≡ 0 = none-held k es (λ d m same. new d m (same ∙ sym (key_same-true e.key k y))) in

@@ -1,9 +1,10 @@
 -- What the fields stand for is what a contract sees.
-use Rattle.std.proofs.Common.{◌≡◌, ℕ, zero, suc, ◌+◌, ◌<◌, ◌≤◌, List, [], ◌∷◌, ◌++◌, Bool, true, false, ◌&&◌, map, length, Option, Some, slice_get, slice_index_or, Result, Ok, Err, IfOk, IfErr, IfSome, Vec, Global, vec_len, inl, inr, refl, sym, ap, subst, ◌∙◌, arith, append_assoc, append-nil}
+use Rattle.std.proofs.Common.{◌≡◌, ℕ, zero, suc, ◌+◌, ◌<◌, ◌≤◌, List, [], ◌∷◌, ◌++◌, Bool, true, ◌&&◌, map, length, Option, Some, slice_get, slice_index_or, Result, Ok, Err, IfOk, IfErr, IfSome, Vec, Global, vec_len, inl, inr, refl, sym, ap, subst, ◌∙◌, arith, append_assoc, append-nil}
 use Rattle.std.proofs.Math.Logic.{∥∥₁_map, ∥∥₁_elim}
 use Rattle.std.proofs.Props.{props}
 use Rattle.std.specs.List.{list_all}
 use Rattle.std.specs.Option.{option_map}
+use Rattle.std.proofs.lemmas.Bool.{and_parts}
 use Rattle.vt_key.specs.Keys.{Key}
 use Rattle.vt_key.specs.Order.{KeyBefore, key_before}
 use Rattle.vt_key.specs.Times.{ticks_of}
@@ -27,10 +28,6 @@ use Rattle.vt_seq.specs.StandsFor.{StandsAt}
 
 -- ---- a test of rising keys
 
-both : (a b : Bool) → (a && b) ≡ true → (a ≡ true) × (b ≡ true)
-both true b h = (refl, h)
-both false b h = absurd (let w : false ≡ true = h in cc)
-
 module _ {P : Type 0} where
   -- the keys of the list rise strictly, as a test
   are_rising : List (Sent P) → Bool
@@ -44,7 +41,7 @@ module _ {P : Type 0} where
   tested-after : (k : Key) (es : List (Sent P)) → list_all (λ (d : Sent P). key_before k d.key) es ≡ true → AllAfter k es
   tested-after k [] h = tt
   tested-after k (e ∷ es) h =
-      let r = both (key_before k e.key) (list_all (λ (d : Sent P). key_before k d.key) es) h in
+      let r = and_parts (key_before k e.key) (list_all (λ (d : Sent P). key_before k d.key) es) h in
       (key_before-true k e.key r.0, tested-after k es r.1)
 
   rising-tested : (es : List (Sent P)) → IsRising es → are_rising es ≡ true
@@ -56,7 +53,7 @@ module _ {P : Type 0} where
   unfolding are_rising
   tested-rising [] h = tt
   tested-rising (e ∷ es) h =
-      let r = both (list_all (λ (d : Sent P). key_before e.key d.key) es) (are_rising es) h in
+      let r = and_parts (list_all (λ (d : Sent P). key_before e.key d.key) es) (are_rising es) h in
       (tested-after e.key es r.0, tested-rising es r.1)
 
 -- the first of events in rising order has the least tick
@@ -87,11 +84,6 @@ indexed : {X Y : Type 0} (f : X → Y) (y : Y) (xs : List X) (i : ℕ) (d : X) �
 indexed f y [] i d h = absurd (cc)
 indexed f y (x ∷ xs) zero d h = let e : f x ≡ y = cc in e
 indexed f y (x ∷ xs) (suc i) d h = indexed f y xs i d h
-
--- a fact of each good result, from another
-pub if_ok-map : {V E : Type 0} (A B : V → Type 0) (r : Result V E) → IfOk r A → ((v : V) → A v → B v) → IfOk r B
-if_ok-map A B (Ok v) a f = f v a
-if_ok-map A B (Err e) a f = tt
 
 -- a fact of each good result, from two others
 pub if_ok-both : {V E : Type 0} (A B C : V → Type 0) (r : Result V E) → IfOk r A → IfOk r B → ((v : V) → A v → B v → C v) → IfOk r C

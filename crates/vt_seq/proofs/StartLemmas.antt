@@ -2,7 +2,7 @@
 use Rattle.std.proofs.Common.{◌≡◌, ℕ, ◌+◌, ◌<◌, ◌≤◌, List, [], ◌∷◌, ◌++◌, length, inl, inr, slice_index_or, true, false, nat_eq, refl, sym, ◌∙◌, ap, subst, arith}
 use Rattle.std.proofs.Math.Seq.{get_or-append_seam}
 use Rattle.std.proofs.lemmas.List.{get_or_append_left}
-use Rattle.std.proofs.lemmas.Bool.{eqb-true, eq-eqb}
+use Rattle.std.proofs.lemmas.Bool.{eqb-true, eq-eqb, cases_Bool}
 use Rattle.std.proofs.Common.{length-append}
 use Rattle.vt_key.specs.Lists.{Among}
 use Rattle.vt_model.specs.declared.sending.Sent.{Sent}
@@ -13,7 +13,7 @@ use Rattle.vt_model.specs.Sends.{Outgoing, with_requests}
 use Rattle.vt_model.specs.declared.limits.TheConstants.{MAX_DRAWS}
 use Rattle.vt_stream.specs.Words.{Stream, seed_key, word_of, moved}
 use Rattle.vt_model.proofs.FireLemmas.{IsStart, starts}
-use Rattle.vt_model.proofs.RunLemmas.{numbered-among, among-below, below-among, tested}
+use Rattle.vt_model.proofs.RunLemmas.{numbered-among, among-below, below-among}
 use Rattle.vt_model.specs.Process.{triple_at}
 use Rattle.vt_seq.specs.StandsFor.{StandsAt, HasStarted}
 use Rattle.vt_seq.specs.Queue.{all_inserted}
@@ -23,7 +23,7 @@ use Rattle.vt_seq.proofs.InsertedLemmas.{all_inserted-among, among-all_inserted,
 -- what holds of each item, and of one more
 pub all_more : {X : Type 0} (Q : ℕ → X → Type 0) (xs : List X) (x : X) (n : ℕ) → length xs ≡ n → Q n x → ((r : ℕ) (d : X) → r < n → Q r (slice_index_or xs r d))
     → (r : ℕ) (d : X) → r < n + 1 → Q r (slice_index_or (xs ++ x ∷ []) r d)
-all_more Q xs x n len new old r d l = elim (tested (nat_eq r n)) [
+all_more Q xs x n len new old r d l = elim (cases_Bool (nat_eq r n)) [
   | inl y ↦
       let at : r ≡ n = eqb-true r n y in
       let here : slice_index_or (xs ++ x ∷ []) r d ≡ x = ap (λ (i : ℕ). slice_index_or (xs ++ x ∷ []) i d) (at ∙ sym len) ∙ get_or-append_seam xs x [] d in
@@ -72,7 +72,7 @@ module _ {M S P K : Type 0} (sim : Simulation S P) (lawful : IsLawful sim) where
           | inl a ↦ (p, (let l : p < p + 1 = omega arith in l), a)
           | inr a ↦ let s = h.sent e a in let less : s.0 < p = s.1 in (s.0, (let l : s.0 < p + 1 = omega arith in l), s.2)
         ];
-        had = λ e r l a. subst (Among e) (sym at) (among-all_inserted fresh pending e (elim (tested (nat_eq r p)) [
+        had = λ e r l a. subst (Among e) (sym at) (among-all_inserted fresh pending e (elim (cases_Bool (nat_eq r p)) [
           | inl y ↦ inl (subst (λ (i : ℕ). Among e (sim.start i).sends) (eqb-true r p y) a)
           | inr y ↦ inr (h.had e r (below r p l (λ z. let w : true ≡ false = sym (eq-eqb r p z) ∙ y in absurd (cc))) a)
         ]));

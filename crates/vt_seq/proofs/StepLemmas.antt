@@ -5,7 +5,7 @@ use Rattle.std.specs.Option.{option_map_or}
 use Rattle.std.proofs.lemmas.List.{set-get_or, get_or-set_same, get_or-set_other}
 use Rattle.std.proofs.lemmas.List.Sums.{sum_by-cons}
 use Rattle.std.proofs.lemmas.Option.{slice_get-get_or}
-use Rattle.std.proofs.lemmas.Bool.{eqb-true, eq-eqb, ltb-true}
+use Rattle.std.proofs.lemmas.Bool.{eqb-true, eq-eqb, ltb-true, cases_Bool}
 use Rattle.vt_key.specs.declared.fault.Fault.{Fault}
 use Rattle.vt_key.specs.Times.{time_left}
 use Rattle.vt_key.specs.declared.limits.TheConstants.{MAX_COUNT}
@@ -20,7 +20,7 @@ use Rattle.vt_model.specs.declared.sending.Sent.{Sent}
 use Rattle.vt_model.specs.Simulation.{Simulation, Fired, Triple, after, simulation_of}
 use Rattle.vt_model.specs.Sequential.{RunState, events_of, least_event, fired_after, with_event, after_steps, weight}
 use Rattle.vt_model.specs.Histories.{IsRising, sends_of, IsLawful}
-use Rattle.vt_model.proofs.RunLemmas.{tested, least-found, known_sent, lists_of, IsReached, reached, numbered-all, numbered-among, events_of-same, events_of-other, after-snoc}
+use Rattle.vt_model.proofs.RunLemmas.{least-found, known_sent, lists_of, IsReached, reached, numbered-all, numbered-among, events_of-same, events_of-other, after-snoc}
 use Rattle.vt_model.proofs.EndLemmas.{least-none, sent-lighter, no_step}
 use Rattle.vt_model.proofs.LawLemmas.{after_state}
 use Rattle.vt_model.specs.declared.settings.Config.{Config}
@@ -151,7 +151,7 @@ module _ {M S P K : Type 0} (sim : Simulation S P) (lawful : IsLawful sim) where
             subst (λ (p : ℕ). d.key.number < (after sim p (events_of p x.executed)).number) at b.2);
         sent = λ d m. elim (all_inserted-among fresh rest d m) [
           | inl a ↦ among-right d (filter kept x.pending) fresh a
-          | inr a ↦ among-left d (filter kept x.pending) fresh (among-filter kept d x.pending (st.sent d (inr a)) (elim (tested (key_same d.key e.key)) [
+          | inr a ↦ among-left d (filter kept x.pending) fresh (among-filter kept d x.pending (st.sent d (inr a)) (elim (cases_Bool (key_same d.key e.key)) [
             | inr z ↦ ap not z
             | inl z ↦ absurd (key-irreflexive e.key (subst (λ (k : Key). KeyBefore e.key k) (key_same-true d.key e.key z) (every-among (λ f. KeyBefore e.key f.key) rest d st.rising.0 a)))
           ]))
@@ -167,7 +167,7 @@ module _ {M S P K : Type 0} (sim : Simulation S P) (lawful : IsLawful sim) where
               ]
           | inr a ↦ among-all_inserted fresh rest d (inl a)
         ];
-        triples = λ p d is. elim (tested (nat_eq e.dest p)) [
+        triples = λ p d is. elim (cases_Bool (nat_eq e.dest p)) [
           | inl y ↦
               let at : e.dest ≡ p = eqb-true e.dest p y in
               let inside : e.dest < length processes = omega arith in
@@ -228,7 +228,7 @@ module _ {M S P K : Type 0} (sim : Simulation S P) (lawful : IsLawful sim) where
   -- and so they are after the next event, if its receiver's is
   counted_next : (n : ℕ) {pending : List (Sent P)} {processes : List (Process M S P K)} {e : Sent P} {p : Process M S P K}
       → StandsAt sim n pending processes → IsNext sim.lps sim.end pending processes e p → AreCounted sim.lps processes → (sim.fire e.dest (triple_at p.state p.number p.stream) e).triple.number ≤ MAX_COUNT → IsCounted sim (suc n)
-  counted_next n {pending} {processes} {e} st next numbered fits r is = elim (tested (nat_eq e.dest r)) [
+  counted_next n {pending} {processes} {e} st next numbered fits r is = elim (cases_Bool (nat_eq e.dest r)) [
     | inl y ↦
         subst (λ (i : ℕ). number_after sim (suc n) i ≤ MAX_COUNT) (eqb-true e.dest r y)
         (subst (λ (t : Triple S). t.number ≤ MAX_COUNT) (next_triple n st next) fits)
@@ -282,7 +282,7 @@ either_way (Err e) a b c d f h = h b c d
 -- what holds of each item holds after one is changed to another of which it holds
 pub set_all : {X : Type 0} (Q : ℕ → X → Type 0) (n : ℕ) (xs : List X) (i : ℕ) (x : X) → i < length xs → Q i x
     → ((r : ℕ) (d : X) → r < n → Q r (slice_index_or xs r d)) → (r : ℕ) (d : X) → r < n → Q r (slice_index_or (slice_set xs i x) r d)
-set_all Q n xs i x inside new old r d is = elim (tested (nat_eq i r)) [
+set_all Q n xs i x inside new old r d is = elim (cases_Bool (nat_eq i r)) [
   | inl y ↦
       let at : i ≡ r = eqb-true i r y in
       let here : slice_index_or (slice_set xs i x) i d ≡ x = get_or-set_same xs i x d inside in

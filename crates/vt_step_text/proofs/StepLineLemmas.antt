@@ -4,7 +4,7 @@ use Rattle.std.specs.Prelude.{option_and_then}
 use Rattle.std.specs.List.{slice_split, list_all, AllByRecursion}
 use Rattle.std.specs.Char.{is_ascii_digit}
 use Rattle.std.specs.Fmt.{decimal}
-use Rattle.std.proofs.lemmas.Bool.{lt-ltb}
+use Rattle.std.proofs.lemmas.Bool.{lt-ltb, not-true}
 use Rattle.std.proofs.lemmas.Fmt.{digits_decimal}
 use Rattle.vt_text.proofs.NumberLemmas.{decimal_model, number_of-decimal}
 use Rattle.vt_steps.specs.declared.step.Step.{Step}
@@ -62,16 +62,12 @@ number_line n h = digits_line (decimal n) (digits n h)
 and_more : (n : ℕ) (rest : List ℕ) → n < 2 ^ 64 → is_line rest ≡ true → is_line (decimal n ++ 32 ∷ rest) ≡ true
 and_more n rest h e = rw (list_all-append (λ (byte : ℕ). not (byte == 10)) (decimal n) (32 ∷ rest), number_line n h, e) refl
 
-not_true : (b : Bool) → not b ≡ true → b ≡ false
-not_true true e = cc
-not_true false e = refl
-
 -- a line before a newline
 pub line_cut : (text rest : List ℕ) → is_line text ≡ true → lines_of (text ++ 10 ∷ rest) ≡ text ∷ lines_of rest
 line_cut [] rest h = refl
 line_cut (x ∷ xs) rest h =
     let parts = and_parts (not (x == 10)) (is_line xs) h in
-    let differs : (x == 10) ≡ false = not_true (x == 10) parts.0 in rw (differs, line_cut xs rest parts.1) refl
+    let differs : (x == 10) ≡ false = not-true (x == 10) parts.0 in rw (differs, line_cut xs rest parts.1) refl
 
 below : (limit n : ℕ) → limit ≤ 2 ^ 64 → n < limit → number_below limit (decimal n) ≡ Some n
 below limit n few h = ap (option_and_then (if_below limit)) (number_of-decimal n (omega arith)) ∙ ap (λ b. cond b (Some n) None) (lt-ltb n limit h)

@@ -1,3 +1,2 @@
 pub mod Places
 pub mod Sums
-pub mod Tests

@@ -15,9 +15,6 @@ length_most n h = length-decimal-le 20 n (omega arith) (omega arith) h
 pub length_small : (n : ℕ) → n < 256 → length (decimal n) ≤ 3
 length_small n h = length-decimal-le 3 n (omega arith) (omega arith) (omega arith)
 
-pub rest_is : (i : ℕ) (xs : List ℕ) → take (length xs - i) (drop i xs) ≡ drop i xs
-rest_is i xs = take_all (length xs - i) (drop i xs) (omega (arith, length-drop i xs))
-
 pub nothing_yet : (old : Option (List ℕ)) → AppendsAllButHeld old old [] []
 nothing_yet old = record { sent = []; whole = sym (append-nil []); appends = Appends-nil old }
 

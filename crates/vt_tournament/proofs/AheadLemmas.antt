@@ -1,6 +1,6 @@
 -- Being ahead is a strict total order on contestants.
 use Rattle.std.proofs.Common.{◌≡◌, ℕ, ◌<◌, ◌⊎◌, inl, inr, Bool, true, false, not, ◌||◌, ◌&&◌, nat_lt, if◌then◌else◌, Option, Some, None, refl, sym, subst, ap, ◌∙◌, arith}
-use Rattle.std.proofs.lemmas.Bool.{lt-ltb, ltb-true}
+use Rattle.std.proofs.lemmas.Bool.{lt-ltb, ltb-true, cases_Bool}
 use Rattle.vt_key.specs.declared.order.Rank.{Rank}
 use Rattle.vt_key.specs.Order.{RankBefore, rank_before}
 use Rattle.vt_key.proofs.OrderLemmas.{rank-irreflexive, rank-transitive, rank-total, rank_before-true, before-rank_before, numbers-apart}
@@ -12,11 +12,6 @@ Ahead (Some a) i (Some b) j = RankBefore a b ⊎ ((a ≡ b) × (i < j))
 Ahead (Some a) i None j = Unit {0}
 Ahead None i (Some b) j = ⊥
 Ahead None i None j = i < j
-
--- a test holds or not
-pub tested : (b : Bool) → (b ≡ true) ⊎ (b ≡ false)
-tested true = inl refl
-tested false = inr refl
 
 apart : {A : Type 0} → true ≡ false → A
 apart h = absurd (cc)
@@ -54,7 +49,7 @@ total None i None j = elim (numbers-apart i j) [ inl l ↦ inl l | inr l ↦ eli
 
 -- the test decides it
 by_number : (a b : Rank) (i j : ℕ) → (not (rank_before b a) && nat_lt i j) ≡ true → (rank_before a b ≡ false) → RankBefore a b ⊎ ((a ≡ b) × (i < j))
-by_number a b i j h never = elim (tested (rank_before b a)) [
+by_number a b i j h never = elim (cases_Bool (rank_before b a)) [
   | inl y ↦ apart (sym h ∙ ap (λ (t : Bool). not t && nat_lt i j) y)
   | inr y ↦
       let less : nat_lt i j ≡ true = sym (ap (λ (t : Bool). not t && nat_lt i j) y) ∙ h in
@@ -62,7 +57,7 @@ by_number a b i j h never = elim (tested (rank_before b a)) [
 ]
 
 ahead-true : (a : Option Rank) (i : ℕ) (b : Option Rank) (j : ℕ) → is_ahead_by a i b j ≡ true → Ahead a i b j
-ahead-true (Some a) i (Some b) j h = elim (tested (rank_before a b)) [
+ahead-true (Some a) i (Some b) j h = elim (cases_Bool (rank_before a b)) [
   | inl y ↦ inl (rank_before-true a b y)
   | inr y ↦ by_number a b i j (sym (ap (λ (t : Bool). t || (not (rank_before b a) && nat_lt i j)) y) ∙ h) y
 ]
@@ -71,9 +66,9 @@ ahead-true None i (Some b) j h = apart (sym h)
 ahead-true None i None j h = ltb-true i j h
 
 same_number : (a b : Rank) (i j : ℕ) → a ≡ b → i < j → (rank_before a b || (not (rank_before b a) && nat_lt i j)) ≡ true
-same_number a b i j e l = elim (tested (rank_before a b)) [
+same_number a b i j e l = elim (cases_Bool (rank_before a b)) [
   | inl y ↦ ap (λ (t : Bool). t || (not (rank_before b a) && nat_lt i j)) y
-  | inr y ↦ elim (tested (rank_before b a)) [
+  | inr y ↦ elim (cases_Bool (rank_before b a)) [
     | inl z ↦ absurd (rank-irreflexive b (subst (RankBefore b) e (rank_before-true b a z)))
     | inr z ↦ ap (λ (t : Bool). t || (not (rank_before b a) && nat_lt i j)) y ∙ ap (λ (t : Bool). not t && nat_lt i j) z ∙ lt-ltb i j l
   ]
@@ -93,17 +88,17 @@ abbrev pub NotBehind : Contestant → Contestant → Type 0
 NotBehind a b = is_ahead b a ≡ false
 
 pub not_behind-self : (a : Contestant) → NotBehind a a
-not_behind-self a = elim (tested (is_ahead a a)) [ inl y ↦ absurd (irreflexive a.rank a.number (ahead-true a.rank a.number a.rank a.number y)) | inr y ↦ y ]
+not_behind-self a = elim (cases_Bool (is_ahead a a)) [ inl y ↦ absurd (irreflexive a.rank a.number (ahead-true a.rank a.number a.rank a.number y)) | inr y ↦ y ]
 
 -- who is ahead is not behind
 pub not_behind-ahead : (a b : Contestant) → is_ahead a b ≡ true → NotBehind a b
-not_behind-ahead a b h = elim (tested (is_ahead b a)) [
+not_behind-ahead a b h = elim (cases_Bool (is_ahead b a)) [
   | inl y ↦ absurd (irreflexive a.rank a.number (transitive a.rank a.number b.rank b.number a.rank a.number (ahead-true a.rank a.number b.rank b.number h) (ahead-true b.rank b.number a.rank a.number y)))
   | inr y ↦ y
 ]
 
 pub not_behind-transitive : (a b c : Contestant) → NotBehind a b → NotBehind b c → NotBehind a c
-not_behind-transitive a b c h k = elim (tested (is_ahead c a)) [
+not_behind-transitive a b c h k = elim (cases_Bool (is_ahead c a)) [
   | inr y ↦ y
   | inl y ↦
       let ahead : Ahead c.rank c.number a.rank a.number = ahead-true c.rank c.number a.rank a.number y in

@@ -1,16 +1,13 @@
 -- An entry was changed: from some place on each has its winner anew, and the places before it have the one from before.
-use Rattle.std.proofs.Common.{◌≡◌, ℕ, ◌+◌, ◌*◌, ◌-◌, ◌/◌, ◌^◌, ◌<◌, ◌≤◌, ◌⊎◌, inl, inr, false, List, length, slice_index_or, Option, Some, None, slice_set, refl, sym, subst, ap, ◌∙◌, arith}
+use Rattle.std.proofs.Common.{◌≡◌, ℕ, ◌+◌, ◌*◌, ◌-◌, ◌/◌, ◌^◌, ◌<◌, ◌≤◌, inl, inr, false, List, length, slice_index_or, Option, Some, None, slice_set, refl, sym, subst, ap, ◌∙◌, arith}
 use Rattle.std.proofs.lemmas.List.{get_or-set_other, length-set}
-use Rattle.std.proofs.lemmas.Bool.{cases_order}
+use Rattle.std.proofs.lemmas.Bool.{cases_order, cases_lt}
 use Rattle.vt_key.specs.declared.order.Rank.{Rank}
 use Rattle.vt_tournament.specs.Contest.{Node, is_ahead, is_ahead_by, contestant, node_of, Fits, inner_places, last_place, place, node, IsBelow, IsAbove, IsWinner, IsBest, AreWinners, WasTournamentOf, place_at, IsChanged, IsDecided, IsCarried}
 use Rattle.vt_tournament.proofs.AheadLemmas.{NotBehind, not_behind-transitive, not_behind-same, behind-none}
 use Rattle.vt_tournament.proofs.NodeLemmas.{somebody, ranked-known}
 use Rattle.vt_tournament.proofs.PathLemmas.{above-self, above-low, above-next, above-transitive, between, upward}
 use Rattle.vt_tournament.proofs.TreeLemmas.{IsAheadOfTwo, node-set_same, node-set_other, winner-own_place, winner-best}
-
-order : (a b : ℕ) → (a < b) ⊎ (b ≤ a)
-order a b = elim (cases_order a b) [ inl e ↦ inr (omega (arith, e)) | inr h ↦ elim h [ inl x ↦ inl x | inr x ↦ inr (omega (arith, x)) ] ]
 
 -- ---- places apart from the changed contestant
 
@@ -140,7 +137,7 @@ module _ (ranks : List (Option Rank)) (number : ℕ) (nodes : List Node) (few : 
 
     -- all places after the next one have their winners
     pub after_next : (k : ℕ) → (at - 1) / 2 < k → k ≤ last_place (length ranks) → IsWinner ranks k (node nodes k)
-    after_next k low high = elim (order k at) [
+    after_next k low high = elim (cases_lt k at) [
       | inl l ↦ elsewhere ranks number c.entry known k (node nodes k) (λ path. between k at (place ranks number) path c.path low l) (c.before k l)
       | inr l ↦ c.won k l high
     ]
@@ -216,7 +213,7 @@ module _ (ranks : List (Option Rank)) (number : ℕ) (nodes : List Node) (few : 
               (λ rank is path. not_behind-transitive (contestant ranks (node nodes p).number) (contestant ranks w.number) (contestant ranks number) ahead (here.least number rank is c.path)) had in
               record {
                 full = c.full;
-                won = λ k h. elim (order p k) [
+                won = λ k h. elim (cases_lt p k) [
                   | inl l ↦ after_next k l h
                   | inr l ↦ above_it ranks number c.entry known few p (node nodes p) next_path had another won k (node nodes k) l (c.before k (omega (arith, l, more)))
                 ];

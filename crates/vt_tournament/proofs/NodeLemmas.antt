@@ -1,13 +1,13 @@
 -- What two nodes say of who is ahead.
 use Rattle.std.proofs.Common.{◌≡◌, ℕ, ◌^◌, ◌/◌, ◌%◌, ◌<◌, ◌≤◌, ◌⊎◌, inl, inr, Bool, true, false, not, ◌||◌, ◌&&◌, nat_eq, nat_lt, if◌then◌else◌, List, length, slice_index_or, Option, Some, None, refl, sym, ap, ◌∙◌, arith}
-use Rattle.std.proofs.lemmas.Bool.{cases_order, lt-ltb, le-ltb, eq-eqb, eqb-true}
+use Rattle.std.proofs.lemmas.Bool.{cases_order, lt-ltb, le-ltb, eq-eqb, eqb-true, cases_Bool}
 use Rattle.std.proofs.lemmas.List.{get_or_past}
 use Rattle.vt_key.specs.declared.order.Rank.{Rank}
 use Rattle.vt_key.specs.Order.{rank_before}
 use Rattle.vt_key.specs.Times.{priority_of}
 use Rattle.vt_key.proofs.OrderLemmas.{before-rank_before}
 use Rattle.vt_tournament.specs.Contest.{Node, Contestant, contestant, is_ahead, is_ahead_by, first_time, first_source, nobodys_number, number_of, node_of, packed, unpacked, IsSmall}
-use Rattle.vt_tournament.proofs.AheadLemmas.{tested, not_behind-ahead}
+use Rattle.vt_tournament.proofs.AheadLemmas.{not_behind-ahead}
 
 -- whose time is earlier is ahead
 earlier : (a : Option Rank) (i : ℕ) (b : Option Rank) (j : ℕ) → first_time a < first_time b → first_time b < 2 ^ 72 → is_ahead_by a i b j ≡ true
@@ -99,7 +99,7 @@ pub told_somebody : (n : ℕ) → not (nat_eq n nobodys_number) ≡ true → n �
 told_somebody n told e = absurd (let w : false ≡ true = sym (ap not (eq-eqb n nobodys_number e)) ∙ told in cc)
 
 pub told_nobody : (n : ℕ) → not (nat_eq n nobodys_number) ≡ false → n ≡ nobodys_number
-told_nobody n told = elim (tested (nat_eq n nobodys_number)) [
+told_nobody n told = elim (cases_Bool (nat_eq n nobodys_number)) [
   | inl y ↦ eqb-true n nobodys_number y
   | inr y ↦ absurd (let w : true ≡ false = sym (ap not y) ∙ told in cc)
 ]

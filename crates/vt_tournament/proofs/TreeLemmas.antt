@@ -2,13 +2,13 @@
 use Rattle.std.proofs.Common.{◌≡◌, ℕ, zero, suc, ◌+◌, ◌-◌, ◌/◌, ◌^◌, ◌<◌, ◌≤◌, ◌⊎◌, inl, inr, true, false, List, [], ◌∷◌, length, slice_index_or, Option, Some, None, IfNone, slice_get, slice_set, replicate, refl, sym, subst, ap, ◌∙◌, arith}
 use Rattle.std.specs.Option.{is_some}
 use Rattle.std.proofs.lemmas.List.{get_or-set_same, get_or-set_other, get_or_default, length-replicate}
-use Rattle.std.proofs.lemmas.Bool.{cases_order}
-use Rattle.std.proofs.lemmas.Option.{slice_get-get_or, slice_get_past}
+use Rattle.std.proofs.lemmas.Bool.{cases_order, cases_Bool}
+use Rattle.std.proofs.lemmas.Option.{slice_get-get_or, slice_get_past, same_Some}
 use Rattle.vt_key.specs.declared.order.Rank.{Rank}
 use Rattle.vt_key.specs.Order.{RankBefore}
 use Rattle.vt_tournament.specs.Contest.{Node, is_ahead, is_ahead_by, winner_of, contestant, nobodys_number, number_of, node_of, Fits, inner_places, last_place, place, node, IsBelow, beside, IsAbove, IsWinner, IsBest, AreWinners}
 use Rattle.vt_tournament.specs.Least.{IsLeast}
-use Rattle.vt_tournament.proofs.AheadLemmas.{tested, NotBehind, winner-first, winner-second, not_behind-self, not_behind-ahead, not_behind-transitive, not_behind-rank, behind-none}
+use Rattle.vt_tournament.proofs.AheadLemmas.{NotBehind, winner-first, winner-second, not_behind-self, not_behind-ahead, not_behind-transitive, not_behind-rank, behind-none}
 use Rattle.vt_tournament.proofs.NodeLemmas.{nobodys_rank, node-own, number-one, somebody, ranked-known}
 use Rattle.vt_tournament.proofs.PathLemmas.{above-self, above-first, above-transitive, through, lowest}
 
@@ -90,7 +90,7 @@ pub record IsAheadOfTwo (ranks : List (Option Rank)) (a b w : Node) : Type 0 whe
 
 -- who wins of two nodes is one of them, and neither is ahead
 pub of_two : (ranks : List (Option Rank)) (a b w : Node) → Fits ranks a → Fits ranks b → w ≡ node_of (winner_of (contestant ranks a.number) (contestant ranks b.number)) → IsAheadOfTwo ranks a b w
-of_two ranks a b w fits other_fits is = elim (tested (is_ahead (contestant ranks b.number) (contestant ranks a.number))) [
+of_two ranks a b w fits other_fits is = elim (cases_Bool (is_ahead (contestant ranks b.number) (contestant ranks a.number))) [
   | inl y ↦
       let e : w ≡ b = is ∙ ap node_of (winner-second (contestant ranks a.number) (contestant ranks b.number) y) ∙ sym other_fits in
       subst (IsAheadOfTwo ranks a b) (sym e) (record { one = inr refl; first = not_behind-ahead (contestant ranks b.number) (contestant ranks a.number) y; second = not_behind-self (contestant ranks b.number) })
@@ -148,15 +148,12 @@ module _ (ranks : List (Option Rank)) (w : Node) (few : length ranks ≤ 2 ^ 23)
   entered i r h = elim (cases_order i (length ranks)) [
     | inl x ↦ never (omega (arith, x))
     | inr m ↦ elim m [
-      | inl l ↦ let e : Some (slice_index_or ranks i None) ≡ Some r = sym (slice_get-get_or ranks i None l) ∙ h in inside e
+      | inl l ↦ let e : Some (slice_index_or ranks i None) ≡ Some r = sym (slice_get-get_or ranks i None l) ∙ h in same_Some _ _ e
       | inr x ↦ never (omega (arith, x))
     ]
   ] where
     never : length ranks ≤ i → slice_index_or ranks i None ≡ r
     never past = absurd (let v : None ≡ Some r = sym (slice_get_past ranks i past) ∙ h in cc)
-
-    inside : {x y : Option Rank} → Some x ≡ Some y → x ≡ y
-    inside e = cc
 
   -- who won is not behind a contestant with an entry
   not_behind-entry : (i : ℕ) (r : Rank) → slice_get ranks i ≡ Some (Some r) → is_ahead_by (Some r) i (slice_index_or ranks w.number None) w.number ≡ false

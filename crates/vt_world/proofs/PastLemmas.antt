@@ -38,14 +38,6 @@ pub ok-both : {A E : Type 0} {Q R : A → Type 0} {X : Type 0} (result : Result 
 ok-both (Ok a) more h x = more a h x
 ok-both (Err e) more h x = tt
 
-pub on_ok-more : {A E : Type 0} {X Y : Type 0} (result : Result A E) → (X → Y) → OnOk result X → OnOk result Y
-on_ok-more (Ok a) more h = more h
-on_ok-more (Err e) more h = tt
-
-pub err-more : {A E : Type 0} {Q R : E → Type 0} (result : Result A E) → ((e : E) → Q e → R e) → IfErr result Q → IfErr result R
-err-more (Ok a) more h = tt
-err-more (Err e) more h = more e h
-
 module _ {S P K : Type 0} (handlers : Handlers S P K) where
   -- the events that are remembered
   remembered-events : (lp : ℕ) (past : List (PastEvent P K)) → map (λ (entry : Entry P). entry.event) (map entry_of (map (remembered handlers lp) past)) ≡ map (λ (e : PastEvent P K). e.letter.event) past

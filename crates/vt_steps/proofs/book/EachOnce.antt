@@ -2,7 +2,7 @@
 -- announced time, and below that each process has the sequential run's, whose rows rise strictly.
 use Rattle.std.proofs.Common.{◌≡◌, inl, inr, ℕ, ◌≤◌, true, false, ◌&&◌, List, [], ◌∷◌, ◌++◌, nat_eq, refl, sym, subst, ◌∙◌, ap, arith, Some, slice_get}
 use Rattle.std.specs.List.{sum_by, range_with_len, AllByRecursion}
-use Rattle.std.proofs.lemmas.Bool.{cases_order, eq-eqb, eqb-true}
+use Rattle.std.proofs.lemmas.Bool.{cases_order, eq-eqb, eqb-true, cases_Bool, and_parts, and_from}
 use Rattle.std.proofs.lemmas.List.{map-append}
 use Rattle.std.proofs.lemmas.List.Elements.{filter-append}
 use Rattle.std.proofs.lemmas.List.Sums.{sum_by-cons, sum_by-append}
@@ -17,7 +17,7 @@ use Rattle.vt_model.specs.Histories.{IsLawful}
 use Rattle.vt_model.specs.Rows.{RowBefore}
 use Rattle.vt_model.specs.Sequential.{events_before, rows_after, seq_events, seq_rows, whole_run}
 use Rattle.vt_model.specs.Simulation.{Simulation}
-use Rattle.vt_model.proofs.RunLemmas.{after_from, tested}
+use Rattle.vt_model.proofs.RunLemmas.{after_from}
 use Rattle.vt_steps.specs.declared.step.Step.{Step}
 use Rattle.vt_steps.specs.Copies.{as_count}
 use Rattle.vt_steps.specs.Letters.{unstamped}
@@ -35,7 +35,6 @@ use Rattle.vt_steps.proofs.book.Records.{IsAccounted, floors-right, run_rows, ru
 use Rattle.vt_steps.proofs.book.RowOrder.{AreInOrder, before-row_before, in-order, same-sums-in-order}
 use Rattle.vt_steps.proofs.book.SequentialRows.{all-early-rows, early_weight, seq_rows-rise, sum_by-before}
 use Rattle.vt_steps.proofs.steps.Shape.{part-within, process-known}
-use Rattle.vt_steps.proofs.lists.Tests.{both_pass, passes_both}
 
 -- ---- counting rows of one key and index
 
@@ -45,10 +44,10 @@ is_row key index row = as_count (key_same row.key key && nat_eq row.index index)
 
 -- a row that is after another has another key or index
 not-again : (a b : Row) → RowBefore a b → is_row a.key a.index b ≡ 0
-not-again a b h = elim (tested (key_same b.key a.key && nat_eq b.index a.index)) [
+not-again a b h = elim (cases_Bool (key_same b.key a.key && nat_eq b.index a.index)) [
   | inr is ↦ ap as_count is
   | inl is ↦
-      let both = both_pass (key_same b.key a.key) (nat_eq b.index a.index) is in
+      let both = and_parts (key_same b.key a.key) (nat_eq b.index a.index) is in
       let key = key_same-true b.key a.key both.0 in
       let index = eqb-true b.index a.index both.1 in
       absurd (elim h [ inl k ↦ key-irreflexive a.key (subst (KeyBefore a.key) key k) | inr k ↦ (let less = k.1 in omega arith) ])
@@ -68,9 +67,9 @@ rising-once : (key : Key) (index : ℕ) (rows : List Row) → IsRisingBy RowBefo
 rising-once key index [] h = omega arith
 rising-once key index (r ∷ rs) h =
     let a = sum_by-cons (is_row key index) r rs in
-    elim (tested (key_same r.key key && nat_eq r.index index)) [
+    elim (cases_Bool (key_same r.key key && nat_eq r.index index)) [
       | inl is ↦
-          let both = both_pass (key_same r.key key) (nat_eq r.index index) is in
+          let both = and_parts (key_same r.key key) (nat_eq r.index index) is in
           let same : sum_by (is_row r.key r.index) rs ≡ sum_by (is_row key index) rs = λ i. sum_by (is_row (key_same-true r.key key both.0 i) (eqb-true r.index index both.1 i)) rs in
           let none : sum_by (is_row key index) rs ≡ 0 = sym same ∙ none-again r rs h.0 in
           let one : is_row key index r ≡ 1 = ap as_count is in
@@ -86,7 +85,7 @@ row-after a b h none = elim (key-total a.key b.key) [
     | inr later ↦ absurd (let e : true ≡ false = sym (before-row_before b a (inl later)) ∙ h in cc)
     | inl key ↦ elim (cases_order a.index b.index) [
       | inl index ↦
-          absurd (let is : (key_same b.key a.key && nat_eq b.index a.index) ≡ true = passes_both (key_same b.key a.key) (nat_eq b.index a.index)
+          absurd (let is : (key_same b.key a.key && nat_eq b.index a.index) ≡ true = and_from (key_same b.key a.key) (nat_eq b.index a.index)
           (subst (λ x. key_same x a.key ≡ true) key (same-key_same a.key)) (eq-eqb b.index a.index (sym index)) in
           let one = ap as_count is in omega arith)
       | inr n ↦ elim n [
@@ -105,7 +104,7 @@ once-rising (r ∷ rs) h once = (after rs h.0 none, once-rising rs h.1 fewer)
     none : sum_by (is_row r.key r.index) rs ≡ 0
     none =
         let a = sum_by-cons (is_row r.key r.index) r rs in
-        let b : is_row r.key r.index r ≡ 1 = ap as_count (passes_both (key_same r.key r.key) (nat_eq r.index r.index) (same-key_same r.key) (eq-eqb r.index r.index refl)) in
+        let b : is_row r.key r.index r ≡ 1 = ap as_count (and_from (key_same r.key r.key) (nat_eq r.index r.index) (same-key_same r.key) (eq-eqb r.index r.index refl)) in
         let c = once r.key r.index in
         omega arith
 

@@ -5,6 +5,7 @@ use Rattle.std.specs.List.{sum_by, AllByRecursion}
 use Rattle.std.proofs.lemmas.Bool.Decides.{nat_tests}
 use Rattle.std.proofs.lemmas.List.{map-append}
 use Rattle.std.proofs.lemmas.List.Sums.{sum_by-cons, sum_by-append}
+use Rattle.std.proofs.lemmas.Bool.{cases_Bool}
 use Rattle.vt_key.proofs.ListLemmas.{rising-filter}
 use Rattle.vt_key.specs.Times.{Time, TimeAtMost, TimeBefore, time_before}
 use Rattle.vt_key.specs.Keys.{Key}
@@ -16,7 +17,7 @@ use Rattle.vt_model.specs.Rows.{RowBefore, AreRowsOf}
 use Rattle.vt_model.specs.Simulation.{Simulation, Triple}
 use Rattle.vt_model.specs.Sequential.{rows_before, records_of, events_before, whole_run, rows_after, seq_rows, seq_records}
 use Rattle.vt_model.specs.Histories.{IsLawful}
-use Rattle.vt_model.proofs.RunLemmas.{tested, filter-yes, filter-no}
+use Rattle.vt_model.proofs.RunLemmas.{filter-yes, filter-no}
 use Rattle.vt_model.proofs.EndLemmas.{whole_rows-rise}
 use Rattle.vt_steps.specs.Rows.{rows_from}
 use Rattle.vt_steps.proofs.letters.EventTimes.{AreEventsLate, DoTimesRise, late-events, late-rest}
@@ -48,7 +49,7 @@ late-none t (r ∷ rs) h =
 -- of rising rows, those before a time come first
 pub early-first : (t : Time) (rows : List Row) → IsRisingBy RowBefore rows → (rest : List Row) × (rows ≡ rows_before t rows ++ rest)
 early-first t [] h = ([], refl)
-early-first t (r ∷ rs) h = elim (tested (time_before r.key.time t)) [
+early-first t (r ∷ rs) h = elim (cases_Bool (time_before r.key.time t)) [
   | inl is ↦
       let ih = early-first t rs h.1 in
       (ih.0, ap (λ l. r ∷ l) ih.1 ∙ sym (ap (λ b. cond b (r ∷ rows_before t rs) (rows_before t rs) ++ ih.0) is))
@@ -62,7 +63,7 @@ before-before : (t u : Time) (rows : List Row) → TimeAtMost t u → rows_befor
 before-before t u [] le = refl
 before-before t u (r ∷ rs) le =
     let ih = before-before t u rs le in
-    elim (tested (time_before r.key.time u)) [
+    elim (cases_Bool (time_before r.key.time u)) [
       | inl is ↦ ap (λ b. rows_before t (cond b (r ∷ rows_before u rs) (rows_before u rs))) is
           ∙ ap (λ l. cond (time_before r.key.time t) (r ∷ l) l) ih
       | inr is ↦
@@ -155,7 +156,7 @@ module _ {S P : Type 0} (sim : Simulation S P) (lawful : IsLawful sim) where
   early-rows f t p triple (e ∷ es) rise =
       let fired = sim.fire p triple e in
       let a = sum_by-append (early_weight f t) fired.rows (rows_from sim p fired.triple es) in
-      elim (tested (time_before e.key.time t)) [
+      elim (cases_Bool (time_before e.key.time t)) [
         | inl is ↦
             let first = ap (λ l. sum_by (early_weight f t) (rows_from sim p triple l)) (filter-yes (λ d. time_before d.key.time t) e es is) in
             let b = sum_by-append (early_weight f t) fired.rows (rows_from sim p fired.triple (events_before t es)) in

@@ -2,7 +2,7 @@
 -- processes send to it, in the order of keys. There is one history, so they are the sequential run's.
 use Rattle.std.proofs.Common.{◌≡◌, ℕ, ◌+◌, ◌/◌, ◌%◌, ◌≤◌, ◌<◌, inl, inr, Bool, true, false, cond, List, [], ◌∷◌, ◌++◌, refl, sym, ◌∙◌, ap, subst, arith, filter}
 use Rattle.std.proofs.Math.Nat.{le_refl}
-use Rattle.std.proofs.lemmas.Bool.{ltb-true, ltb-false, lt-ltb}
+use Rattle.std.proofs.lemmas.Bool.{ltb-true, ltb-false, lt-ltb, cases_Bool}
 use Rattle.std.specs.List.{AllByRecursion}
 use Rattle.vt_key.specs.Order.{KeyBefore, RankBefore, StampBefore}
 use Rattle.vt_key.specs.Times.{Time, TimeAtMost, TimeBefore, time_before}
@@ -18,7 +18,7 @@ use Rattle.vt_model.specs.Sequential.{events_before, seq_events}
 use Rattle.vt_model.specs.Simulation.{Simulation, Triple}
 use Rattle.vt_model.specs.declared.sending.Sent.{Sent}
 use Rattle.vt_model.proofs.EndLemmas.{history_is_sequential}
-use Rattle.vt_model.proofs.RunLemmas.{filter-no, filter-yes, tested}
+use Rattle.vt_model.proofs.RunLemmas.{filter-no, filter-yes}
 use Rattle.vt_steps.specs.declared.step.Step.{Step}
 use Rattle.vt_steps.specs.Claims.{AreHistoriesRight, IsProcess}
 use Rattle.vt_steps.specs.Copies.{entry_sum, is_copy, is_event_of, letter_sum, live_count, minus, plus}
@@ -43,7 +43,7 @@ use Rattle.vt_steps.proofs.history.LiveEvents.{IsLiveEvent, first-among, live-co
 before-twice : {P : Type 0} (t : Time) (es : List (Sent P)) → events_before t (events_before t es) ≡ events_before t es
 before-twice t [] = refl
 before-twice t (e ∷ es) =
-    elim (tested (time_before e.key.time t)) [
+    elim (cases_Bool (time_before e.key.time t)) [
       | inl yes_it ↦ ap (events_before t) (filter-yes (λ d. time_before d.key.time t) e es yes_it) ∙ filter-yes (λ d. time_before d.key.time t) e (events_before t es) yes_it
           ∙ ap (λ l. e ∷ l) (before-twice t es) ∙ sym (filter-yes (λ d. time_before d.key.time t) e es yes_it)
       | inr not_it ↦ ap (events_before t) (filter-no (λ d. time_before d.key.time t) e es not_it) ∙ before-twice t es ∙ sym (filter-no (λ d. time_before d.key.time t) e es not_it)
@@ -63,7 +63,7 @@ module _ {S P : Type 0} (sim : Simulation S P) (lawful : IsLawful sim) (p : ℕ)
   early-sends : (triple : Triple S) (es : List (Sent P)) (d : Sent P) → DoTimesRise es → TimeBefore d.key.time t → Among d (sends_from sim p triple es) → Among d (sends_from sim p triple (events_before t es))
   early-sends triple [] d rise early m = m
   early-sends triple (e ∷ es) d rise early m =
-      elim (tested (time_before e.key.time t)) [
+      elim (cases_Bool (time_before e.key.time t)) [
         | inl before ↦
             subst (λ l. Among d (sends_from sim p triple l)) (sym (filter-yes (λ a. time_before a.key.time t) e es before))
             (elim (among-append d (sim.fire p triple e).sends (sends_from sim p (sim.fire p triple e).triple es) m) [
@@ -77,7 +77,7 @@ module _ {S P : Type 0} (sim : Simulation S P) (lawful : IsLawful sim) (p : ℕ)
   sends-early : (triple : Triple S) (es : List (Sent P)) (d : Sent P) → DoTimesRise es → Among d (sends_from sim p triple (events_before t es)) → Among d (sends_from sim p triple es)
   sends-early triple [] d rise m = m
   sends-early triple (e ∷ es) d rise m =
-      elim (tested (time_before e.key.time t)) [
+      elim (cases_Bool (time_before e.key.time t)) [
         | inl before ↦ (
             let here = subst (λ l. Among d (sends_from sim p triple l)) (filter-yes (λ a. time_before a.key.time t) e es before) m in
             elim (among-append d (sim.fire p triple e).sends (sends_from sim p (sim.fire p triple e).triple (events_before t es)) here) [

@@ -1,6 +1,7 @@
 -- A message and its anti-message leave nothing.
-use Rattle.std.proofs.Common.{◌≡◌, ◌||◌, Bool, true, false, cond, List, [], ◌∷◌, refl, ◌∙◌, ap, Some, None}
+use Rattle.std.proofs.Common.{◌≡◌, true, false, cond, List, [], ◌∷◌, ◌∙◌, ap, Some, None}
 use Rattle.std.specs.List.{find, list_any}
+use Rattle.std.proofs.lemmas.Bool.{or_parts}
 use Rattle.vt_key.specs.Order.{rank_before}
 use Rattle.vt_key.specs.Queues.{has_stamp, insert_letter, without_first}
 use Rattle.vt_key.specs.declared.order.Stamp.{Stamp}
@@ -14,17 +15,13 @@ use Rattle.vt_steps.specs.Laws.{IsFreeOf, unchanged, Annihilate}
 use Rattle.vt_key.proofs.OrderLemmas.{same-stamp_same, same-key_same}
 use Rattle.vt_steps.proofs.steps.Changes.{unless_has}
 
-either_false : (a b : Bool) → (a || b) ≡ false → (a ≡ false) × (b ≡ false)
-either_false true b e = absurd (let h : true ≡ false = e in cc)
-either_false false b e = (refl, e)
-
 module _ {P : Type 0} (stamp : Stamp) where
   -- a letter put among letters of other stamps is the one that is found
   find-inserted : (letter : Letter P) (xs : List (Letter P)) → has_stamp stamp letter ≡ true → list_any (has_stamp stamp) xs ≡ false →
       find (has_stamp stamp) (insert_letter letter xs) ≡ Some letter
   find-inserted letter [] own free = ap (λ b. cond b (Some letter) None) own
   find-inserted letter (x ∷ xs) own free =
-      let other = either_false (has_stamp stamp x) (list_any (has_stamp stamp) xs) free in
+      let other = or_parts (has_stamp stamp x) (list_any (has_stamp stamp) xs) free in
       elim (rank_before letter.event.rank x.event.rank) as (λ b. find (has_stamp stamp) (cond b (letter ∷ x ∷ xs) (x ∷ insert_letter letter xs)) ≡ Some letter) [
         | true ↦ ap (λ b. cond b (Some letter) (find (has_stamp stamp) (x ∷ xs))) own
         | false ↦ ap (λ b. cond b (Some x) (find (has_stamp stamp) (insert_letter letter xs))) other.0 ∙ find-inserted letter xs own other.1
@@ -35,7 +32,7 @@ module _ {P : Type 0} (stamp : Stamp) where
       without_first (has_stamp stamp) (insert_letter letter xs) ≡ xs
   without-inserted letter [] own free = ap (λ b. cond b [] (letter ∷ [])) own
   without-inserted letter (x ∷ xs) own free =
-      let other = either_false (has_stamp stamp x) (list_any (has_stamp stamp) xs) free in
+      let other = or_parts (has_stamp stamp x) (list_any (has_stamp stamp) xs) free in
       elim (rank_before letter.event.rank x.event.rank) as (λ b. without_first (has_stamp stamp) (cond b (letter ∷ x ∷ xs) (x ∷ insert_letter letter xs)) ≡ x ∷ xs) [
         | true ↦ ap (λ b. cond b (x ∷ xs) (letter ∷ without_first (has_stamp stamp) (x ∷ xs))) own
         | false ↦

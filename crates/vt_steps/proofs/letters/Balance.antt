@@ -3,7 +3,7 @@
 use Rattle.std.proofs.Common.{◌≡◌, ℕ, ◌+◌, ◌<◌, true, List, [], ◌∷◌, ◌++◌, map, length, take, refl, sym, subst, ◌∙◌, ap, arith, Some, None, slice_get, slice_set, add-zero}
 use Rattle.std.specs.List.{find, last_or, sum_by, filter, prefix_len}
 use Rattle.std.specs.Option.{option_map_or}
-use Rattle.std.proofs.lemmas.List.Sums.{sum_by-cons, sum_by-append}
+use Rattle.std.proofs.lemmas.List.Sums.{sum_by-cons, sum_by-append, sum_by-take-drop}
 use Rattle.std.proofs.lemmas.Option.{slice_get_within}
 use Rattle.std.proofs.Math.ListN.{length-set}
 use Rattle.vt_key.specs.Order.{stamp_same}
@@ -24,7 +24,7 @@ use Rattle.vt_steps.specs.ProcessSteps.{ProcessEffect, effect_of_execute, effect
 use Rattle.vt_steps.specs.World.{Entry, LogicalProcess, Part, World, process_at, triple_after}
 use Rattle.vt_key.proofs.ListLemmas.{find-passes}
 use Rattle.vt_steps.proofs.lists.Places.{get-put_same, get-put_other}
-use Rattle.vt_steps.proofs.lists.Sums.{sum_by-put, sum_by-without_first, sum_by-insert_ordered, sum_by-filters, sum_by-map, sum_by-take-drop, sum_by-before_last, sum_by-remove, sum_by-single}
+use Rattle.vt_steps.proofs.lists.Sums.{sum_by-put, sum_by-without_first, sum_by-insert_ordered, sum_by-filters, sum_by-map, sum_by-before_last, sum_by-remove, sum_by-single}
 use Rattle.vt_steps.proofs.letters.Stamped.{length-stamped}
 use Rattle.vt_steps.proofs.steps.Changes.{Act, executes, undoes, cancels, Leaves, homes, arrives, Local, acts, takes, Change, stays, local, sends, fetches, cuts, reports, commits, closes}
 
@@ -316,7 +316,7 @@ commit-balance part = record {
       (let x = sum_by-map_same (process_entries g) (process_after_commit part.floor)
       (λ process.
       (let n = prefix_len (is_below part.floor) process.past in
-      let a = sum_by-take-drop g n process.past in
+      let a = sum_by-take-drop g process.past n in
       let b = sum_by-append g process.done (take n process.past) in
       omega arith)) part.processes in
       omega arith);

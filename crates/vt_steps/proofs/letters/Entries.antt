@@ -3,6 +3,7 @@
 use Rattle.std.proofs.Common.{◌≡◌, ℕ, ◌+◌, ◌/◌, ◌%◌, ◌≤◌, ◌<◌, inl, inr, Bool, true, false, List, [], ◌++◌, map, refl, sym, ◌∙◌, ap, subst, arith, Option, Some, None, slice_get}
 use Rattle.std.specs.List.{sum_by, flat_map}
 use Rattle.std.specs.Option.{option_and_then}
+use Rattle.std.proofs.lemmas.Bool.{and_parts}
 use Rattle.vt_key.specs.Order.{stamp_same}
 use Rattle.vt_key.proofs.OrderLemmas.{stamp_same-true, same-stamp_same}
 use Rattle.vt_key.specs.declared.letter.Event.{Event}
@@ -16,7 +17,6 @@ use Rattle.vt_steps.specs.Claims.{IsProcess}
 use Rattle.vt_steps.specs.Copies.{letter_weight, mail_weight, process_sum, part_sum, letter_sum, process_entries, part_entries, entry_sum, as_count, is_sign, is_copy, of_stamp}
 use Rattle.vt_steps.specs.World.{Entry, LogicalProcess, Part, World, letters_in, all_letters, process_at}
 use Rattle.vt_key.proofs.ListLemmas.{among-left, among-right, among-append, among-flat_map, among-map, every-among, every-append, every-get}
-use Rattle.vt_steps.proofs.lists.Tests.{both_pass}
 use Rattle.vt_steps.proofs.lists.Sums.{some-at, some-among, some-either, sum-among, sum-at}
 use Rattle.vt_steps.proofs.steps.Changes.{chain_has}
 use Rattle.vt_steps.proofs.steps.Shape.{IsShaped, process-known, part-within, place-of_place, worker-of_place}
@@ -127,7 +127,7 @@ module _ {P : Type 0} where
 
   -- and so has a letter that does
   copy-stamp : (sign own : Sign) (stamp : Stamp) (event : Event P) → 1 ≤ is_copy sign stamp own event → event.rank.stamp ≡ stamp
-  copy-stamp sign own stamp event h = stamp_same-true event.rank.stamp stamp (both_pass (is_sign sign own) (stamp_same event.rank.stamp stamp) (counted-true _ h)).1
+  copy-stamp sign own stamp event h = stamp_same-true event.rank.stamp stamp (and_parts (is_sign sign own) (stamp_same event.rank.stamp stamp) (counted-true _ h)).1
 
   module _ (sign : Sign) (stamp : Stamp) where
     -- a stamp that is counted among the letters of a part is on one of them

@@ -1,7 +1,7 @@
 -- Sums over all processes, worker by worker and place by place; and the rows of the sequential run as such a sum.
 use Rattle.std.proofs.Common.{◌≡◌, ℕ, zero, suc, ◌+◌, ◌/◌, ◌%◌, ◌≤◌, ◌<◌, inl, inr, true, false, cond, List, [], ◌∷◌, ◌++◌, length, Some, None, slice_get, slice_set, nat_eq, refl, sym, subst, ◌∙◌, ap, arith}
 use Rattle.std.specs.List.{sum_by, range_with_len}
-use Rattle.std.proofs.lemmas.Bool.{eqb-true, eq-eqb}
+use Rattle.std.proofs.lemmas.Bool.{eqb-true, eq-eqb, cases_Bool}
 use Rattle.std.proofs.lemmas.Bool.Decides.{nat_tests}
 use Rattle.std.proofs.lemmas.List.Sums.{sum_by-cons, sum_by-append}
 use Rattle.vt_model.specs.declared.rows.Row.{Row}
@@ -9,7 +9,7 @@ use Rattle.vt_model.specs.declared.sending.Sent.{Sent}
 use Rattle.vt_model.specs.Simulation.{Simulation, Triple, after}
 use Rattle.vt_model.specs.Sequential.{opening, weight, whole_run, events_of, rows_after, fired_after}
 use Rattle.vt_model.specs.Histories.{IsLawful}
-use Rattle.vt_model.proofs.RunLemmas.{tested, filter-yes, filter-no, after-snoc, events_of-same, events_of-other, known_sent, lists_of, reached}
+use Rattle.vt_model.proofs.RunLemmas.{filter-yes, filter-no, after-snoc, events_of-same, events_of-other, known_sent, lists_of, reached}
 use Rattle.vt_steps.specs.Rows.{rows_from}
 use Rattle.vt_steps.specs.World.{process_at, process_count}
 use Rattle.std.proofs.Math.Nat.{mod-lt}
@@ -44,7 +44,7 @@ sum_by-range_one : (x j a n : ℕ) → a ≤ j → j < a + n → sum_by (λ i. c
 sum_by-range_one x j a zero low high = absurd (omega arith)
 sum_by-range_one x j a (suc n) low high =
     let first = sum_by-cons (λ i. cond (nat_eq j i) x 0) a (range_with_len (a + 1) n) in
-    elim (tested (nat_eq j a)) [
+    elim (cases_Bool (nat_eq j a)) [
       | inl is ↦
           let here : cond (nat_eq j a) x 0 ≡ x = ap (λ b. cond b x 0) is in
           let at = eqb-true j a is in
@@ -148,11 +148,11 @@ module _ {S P : Type 0} (sim : Simulation S P) where
 
   -- a process of a worker is at a place if it is its own place
   by-place : (p w place : ℕ) → p % sim.workers ≡ w → w < sim.workers → nat_eq p (process_at sim w place) ≡ nat_eq (p / sim.workers) place
-  by-place p w place at within = elim (tested (nat_eq p (process_at sim w place))) [
+  by-place p w place at within = elim (cases_Bool (nat_eq p (process_at sim w place))) [
     | inl is ↦
         let own : p / sim.workers ≡ place = ap (λ q. q / sim.workers) (eqb-true p (process_at sim w place) is) ∙ place-of_place sim w place within in
         is ∙ sym (eq-eqb (p / sim.workers) place own)
-    | inr is ↦ elim (tested (nat_eq (p / sim.workers) place)) [
+    | inr is ↦ elim (cases_Bool (nat_eq (p / sim.workers) place)) [
       | inl also ↦
           let there : p ≡ process_at sim w place = sym (own-place sim p) ∙ (λ i. process_at sim (at i) (eqb-true (p / sim.workers) place also i)) in
           absurd (let h : true ≡ false = sym (eq-eqb p (process_at sim w place) there) ∙ is in cc)
@@ -162,7 +162,7 @@ module _ {S P : Type 0} (sim : Simulation S P) where
 
   -- a process of another worker is at none of a worker's places
   not-there : (p w place : ℕ) → nat_eq (p % sim.workers) w ≡ false → w < sim.workers → nat_eq p (process_at sim w place) ≡ false
-  not-there p w place is within = elim (tested (nat_eq p (process_at sim w place))) [
+  not-there p w place is within = elim (cases_Bool (nat_eq p (process_at sim w place))) [
     | inl at ↦
         let own : p % sim.workers ≡ w = ap (λ q. q % sim.workers) (eqb-true p (process_at sim w place) at) ∙ worker-of_place sim w place within in
         absurd (let h : true ≡ false = sym (eq-eqb (p % sim.workers) w own) ∙ is in cc)
@@ -171,7 +171,7 @@ module _ {S P : Type 0} (sim : Simulation S P) where
 
   -- the place of one process, among the places of a worker
   one-at-worker : (x p w : ℕ) → 1 ≤ sim.workers → p < sim.lps → w < sim.workers → over_places (λ q. cond (nat_eq p q) x 0) w ≡ cond (nat_eq (p % sim.workers) w) x 0
-  one-at-worker x p w some known within = elim (tested (nat_eq (p % sim.workers) w)) [
+  one-at-worker x p w some known within = elim (cases_Bool (nat_eq (p % sim.workers) w)) [
     | inl is ↦
         let at : p % sim.workers ≡ w = eqb-true (p % sim.workers) w is in
         let fits = known-place sim p some known in
@@ -210,7 +210,7 @@ module _ {S P : Type 0} (sim : Simulation S P) (lawful : IsLawful sim) (f : Row 
   rows-next : (executed : List (Sent P)) (e : Sent P) (es : List (Sent P)) (p : ℕ) →
       rows_to_come executed (e ∷ es) p ≡ rows_at executed e p + rows_to_come (executed ++ e ∷ []) es p
   unfolding fired_after
-  rows-next executed e es p = elim (tested (nat_eq e.dest p)) [
+  rows-next executed e es p = elim (cases_Bool (nat_eq e.dest p)) [
     | inl is ↦
         let at : e.dest ≡ p = eqb-true e.dest p is in
         let before : Triple S = after sim p (events_of p executed) in

@@ -1,5 +1,5 @@
 -- Sums over lists: after one edit, of parts, and what a sum that is not 0 tells.
-use Rattle.std.proofs.Common.{◌≡◌, ℕ, zero, suc, ◌+◌, ◌-◌, ◌≤◌, ◌<◌, ◌⊎◌, inl, inr, Bool, true, false, not, cond, List, [], ◌∷◌, map, length, take, drop, refl, ◌∙◌, ap, arith, zero-add, add-zero, Some, None, slice_get, slice_set}
+use Rattle.std.proofs.Common.{◌≡◌, ℕ, zero, suc, ◌+◌, ◌-◌, ◌≤◌, ◌<◌, ◌⊎◌, inl, inr, Bool, true, false, not, cond, List, [], ◌∷◌, map, length, take, refl, ◌∙◌, ap, arith, zero-add, add-zero, Some, None, slice_get, slice_set}
 use Rattle.std.specs.List.{sum_by, find, filter, last_or, range_with_len, remove}
 use Rattle.std.proofs.lemmas.Bool.{cases_lt}
 use Rattle.std.proofs.lemmas.List.Sums.{sum_by-cons, sum_by-append}
@@ -76,16 +76,6 @@ sum_by-filters f test (y ∷ ys) =
       | true ↦ (let ih = sum_by-filters f test ys in let a = sum_by-cons f y ys in let b = sum_by-cons f y (filter test ys) in omega arith)
       | false ↦ (let ih = sum_by-filters f test ys in let a = sum_by-cons f y ys in let b = sum_by-cons f y (filter (λ x. not (test x)) ys) in omega arith)
     ]
-
--- the first n and the others
-pub sum_by-take-drop : {X : Type 0} (f : X → ℕ) (n : ℕ) (xs : List X) → sum_by f (take n xs) + sum_by f (drop n xs) ≡ sum_by f xs
-sum_by-take-drop f zero xs = zero-add (sum_by f xs)
-sum_by-take-drop f (suc n) [] = refl
-sum_by-take-drop f (suc n) (x ∷ xs) =
-    let ih = sum_by-take-drop f n xs in
-    let a = sum_by-cons f x xs in
-    let b = sum_by-cons f x (take n xs) in
-    omega arith
 
 -- one element alone
 pub sum_by-single : {X : Type 0} (f : X → ℕ) (x : X) → sum_by f (x ∷ []) ≡ f x

@@ -6,6 +6,7 @@ use Rattle.std.specs.List.{AllByRecursion}
 use Rattle.std.proofs.lemmas.List.Folds.{list_any-append}
 use Rattle.std.proofs.lemmas.Bool.Decides.{nat_tests}
 use Rattle.std.proofs.lemmas.Option.{slice_get_within}
+use Rattle.std.proofs.lemmas.Bool.{or_cases}
 use Rattle.vt_key.specs.Times.{TimeAtMost, TimeBefore}
 use Rattle.vt_model.specs.Histories.{IsLawful}
 use Rattle.vt_model.specs.Simulation.{Simulation}
@@ -22,7 +23,6 @@ use Rattle.vt_steps.proofs.time.Floors.{reached-times, floor-announced, floor-at
 use Rattle.vt_steps.proofs.marks.MarkedRuns.{own-keeps}
 use Rattle.vt_steps.proofs.lists.Places.{get-within}
 use Rattle.vt_steps.proofs.book.ReachedBooks.{closed-stays}
-use Rattle.vt_steps.proofs.lists.Tests.{either_passes}
 
 module _ {S P : Type 0} (sim : Simulation S P) where
   abbrev Closes : Outcome P → Type 0
@@ -57,7 +57,7 @@ module _ {S P : Type 0} (sim : Simulation S P) where
   unfolding own_steps
   own-closed w world m done =
       elim (nat_eq m.worker w) as (λ b. has_closed (cond b (record { step = m.step; answer = (next sim world m.step).answer } ∷ []) []) ≡ true → is_close_done m.step (next sim world m.step).answer ≡ true) [
-        | true ↦ λ h. elim (either_passes (is_close_done m.step (next sim world m.step).answer) false h) [ inl k ↦ k | inr k ↦ absurd (let e : false ≡ true = k in cc) ]
+        | true ↦ λ h. elim (or_cases (is_close_done m.step (next sim world m.step).answer) false h) [ inl k ↦ k | inr k ↦ absurd (let e : false ≡ true = k in cc) ]
         | false ↦ λ h. absurd (let e : false ≡ true = h in cc)
       ] done
 
@@ -67,7 +67,7 @@ module _ {S P : Type 0} (sim : Simulation S P) where
   closed-step : (w : ℕ) (world : World P) (own : List Answered) (m : Marked) → IsMarkedRight sim m → ClosedKnown world own → ClosedKnown (next sim world m.step).world (own ++ own_steps sim w world (m ∷ []))
   unfolding run
   closed-step w world own m right known done =
-      elim (either_passes (has_closed own) (has_closed (own_steps sim w world (m ∷ []))) (sym (list_any-append (λ a. is_close_done a.step a.answer) own (own_steps sim w world (m ∷ []))) ∙ done)) [
+      elim (or_cases (has_closed own) (has_closed (own_steps sim w world (m ∷ []))) (sym (list_any-append (λ a. is_close_done a.step a.answer) own (own_steps sim w world (m ∷ []))) ∙ done)) [
         | inl before ↦ ap (λ b. b.is_closed) (closed-stays sim world (m.step ∷ []) (known before)) ∙ known before
         | inr now ↦ close-step world m.step (own-closed w world m now)
       ]

@@ -3,6 +3,7 @@ use Rattle.std.proofs.Common.{◌≡◌, inl, inr, ℕ, zero, suc, ◌<◌, Bool
 use Rattle.std.specs.Option.{option_map}
 use Rattle.std.specs.List.{AllByRecursion}
 use Rattle.std.proofs.lemmas.Bool.Decides.{eqb_tells}
+use Rattle.std.proofs.lemmas.Bool.{and_parts}
 use Rattle.vt_key.specs.Times.{Time, opening_time}
 use Rattle.vt_key.specs.declared.fault.Fault.{Fault}
 use Rattle.vt_model.specs.Histories.{IsLawful}
@@ -26,7 +27,6 @@ use Rattle.vt_steps.proofs.time.Floors.{reached-times}
 use Rattle.vt_steps.proofs.steps.Locals.{local-changes_one_part}
 use Rattle.vt_steps.proofs.marks.MarkedRuns.{own-keeps}
 use Rattle.vt_steps.proofs.lists.Places.{get-put_other, get-within}
-use Rattle.vt_steps.proofs.lists.Tests.{both_pass}
 
 -- ---- what a step does to the board
 
@@ -74,7 +74,7 @@ module _ {S P : Type 0} (sim : Simulation S P) where
       let has = if_has (may_report v (report_least sim.end part) world.board) _ effect (ap (report sim v part) same ∙ e) in
       let board = with_report v (report_sent part) (report_got part) (report_least sim.end part) world.board in
       subst (λ (x : CellEffect P Board). OnBoard sim.end world.board (Report v) (effect_in world v with_board (Some x))) (sym has.1)
-      (reports (both_pass world.board.is_open _ has.0).0 (report-has_cut sim.end board) (report-open sim.end board v))))
+      (reports (and_parts world.board.is_open _ has.0).0 (report-has_cut sim.end board) (report-open sim.end board v))))
 
   on-board : (world : World P) (step : Step) → OnBoard sim.end world.board step (next sim world step)
   unfolding next

@@ -3,7 +3,7 @@
 use Rattle.std.proofs.Common.{◌≡◌, inl, inr, ℕ, ◌+◌, ◌/◌, ◌%◌, ◌≤◌, ◌<◌, Bool, true, false, cond, List, [], ◌∷◌, refl, ◌∙◌, ap, arith, Option, Some, None, slice_get, Ok}
 use Rattle.std.specs.List.{sum_by, find, list_any, remove}
 use Rattle.std.specs.Option.{option_map, option_and_then}
-use Rattle.std.proofs.lemmas.Bool.{eqb-true}
+use Rattle.std.proofs.lemmas.Bool.{eqb-true, or_cases, and_parts}
 use Rattle.vt_key.specs.Order.{key_same, rank_same, stamp_same}
 use Rattle.vt_key.specs.Queues.{has_rank, without_first}
 use Rattle.vt_key.proofs.OrderLemmas.{same-stamp_same}
@@ -26,7 +26,6 @@ use Rattle.vt_steps.specs.PartSteps.{accept, deliver, home, is_for, with_effect}
 use Rattle.vt_steps.specs.ProcessSteps.{accept_process, holds, with_letter}
 use Rattle.vt_steps.specs.World.{Entry, LogicalProcess, Part, World, entry_rank}
 use Rattle.vt_key.proofs.ListLemmas.{every-among, every-get, find-among, find-passes, get-among}
-use Rattle.vt_steps.proofs.lists.Tests.{both_pass, either_passes}
 use Rattle.vt_steps.proofs.lists.Sums.{sum-among, sum-at}
 use Rattle.vt_steps.proofs.steps.Shape.{known-process, reached-shape}
 use Rattle.vt_steps.proofs.letters.Stamps.{StampFacts, stamp-facts}
@@ -40,7 +39,7 @@ use Rattle.vt_steps.proofs.steps.Bounds.{IsBounded, reached-bounds}
 any-among : {X : Type 0} (test : X → Bool) (xs : List X) → list_any test xs ≡ true → (x : X) × Among x xs × (test x ≡ true)
 any-among test [] h = absurd (let k : false ≡ true = h in cc)
 any-among test (x ∷ xs) h =
-    elim (either_passes (test x) (list_any test xs) h) [ inl t ↦ (x, inl refl, t) | inr t ↦ (let r = any-among test xs t in (r.0, inr r.1, r.2)) ]
+    elim (or_cases (test x) (list_any test xs) h) [ inl t ↦ (x, inl refl, t) | inr t ↦ (let r = any-among test xs t in (r.0, inr r.1, r.2)) ]
 
 module _ {P : Type 0} where
   -- a letter is a copy of its own stamp
@@ -51,7 +50,7 @@ module _ {P : Type 0} where
   -- one of a rank has its stamp
   rank-stamp : (event : Event P) (rank : Rank) → rank_same event.rank rank ≡ true → stamp_same event.rank.stamp rank.stamp ≡ true
   unfolding rank_same
-  rank-stamp event rank h = (both_pass (key_same event.rank.key rank.key) (stamp_same event.rank.stamp rank.stamp) h).1
+  rank-stamp event rank h = (and_parts (key_same event.rank.key rank.key) (stamp_same event.rank.stamp rank.stamp) h).1
 
   -- so it is a copy of it
   rank-copy : (sign : Sign) (event : Event P) (rank : Rank) → rank_same event.rank rank ≡ true → is_copy sign rank.stamp sign event ≡ 1
@@ -82,7 +81,7 @@ not-held {P = P} sim serial world w place part process Plus rank facts at there 
     let one = facts.at_most_one in
     let whole : plus world rank.stamp ≡ letter_sum f world + entry_sum g world = refl in
     let letters : part_sum f part ≡ sum_by (letter_weight f) part.outbox + (sum_by (mail_weight f) part.arrived + sum_by (process_sum f) part.processes) = refl in
-    elim (either_passes (list_any (has_rank rank) process.pending) (list_any (λ entry. rank_same entry.event.rank rank) process.past) h) [
+    elim (or_cases (list_any (has_rank rank) process.pending) (list_any (λ entry. rank_same entry.event.rank rank) process.past) h) [
       | inl k ↦ (
           let r = any-among (has_rank rank) process.pending k in
           let e = sum-among (λ letter. f Plus letter.event) process.pending r.0 r.1 in

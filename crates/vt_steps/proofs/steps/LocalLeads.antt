@@ -4,6 +4,7 @@ use Rattle.std.proofs.Common.{◌≡◌, inl, inr, ℕ, ◌%◌, true, false, co
 use Rattle.std.specs.Option.{option_map, is_none}
 use Rattle.std.specs.List.{AllByRecursion}
 use Rattle.std.proofs.lemmas.Bool.Decides.{eqb_tells}
+use Rattle.std.proofs.lemmas.List.{map-append}
 use Rattle.vt_model.specs.Simulation.{Simulation}
 use Rattle.vt_steps.specs.declared.step.Step.{Step}
 use Rattle.vt_steps.specs.declared.step.Step.TheVariants.{Execute, Undo, Cancel, Home, Send, Fetch, Accept, Cut, Report, Commit, Close}
@@ -11,7 +12,7 @@ use Rattle.vt_steps.specs.declared.step.Reply.{Reply}
 use Rattle.vt_steps.specs.declared.step.Reply.TheVariants.{Done}
 use Rattle.vt_steps.specs.Cells.{CellName, inbox_of, board_cell, book_cell, Cell, in_inbox, on_board, in_book, content, with_content, worker_of, cell_of, Acted, left_alone, acted_locally, acted_at, acted_close, act_locally, act, put_back, is_local, local_step, local_steps}
 use Rattle.vt_steps.specs.Laws.{IsAny, IsRefused, ActsOnOneCell}
-use Rattle.vt_steps.specs.Marked.{Marked, Made, Answered, answered, unmarked, marked, made_done, IsMarkedRight, own_steps, DoesSo, Leads}
+use Rattle.vt_steps.specs.Marked.{Marked, Made, answered, unmarked, marked, made_done, IsMarkedRight, own_steps, DoesSo, Leads}
 use Rattle.vt_steps.specs.CellSteps.{CellEffect, send, fetch, cut, report, commit, close}
 use Rattle.vt_steps.specs.Next.{next, run, refused, with_book}
 use Rattle.vt_steps.specs.World.{Part, Book, World}
@@ -170,10 +171,6 @@ module _ {S P : Type 0} (sim : Simulation S P) (w : ℕ) where
   pub nothing-done : (world : World P) (name : CellName) (part : Part P) (cell : Cell P) → slice_get world.parts w ≡ Some part → content world name ≡ Some cell → DoesSo sim w name [] world part cell []
   unfolding run own_steps
   nothing-done world name part cell is holds = record { part = is; cell = holds; other_parts = λ v apart. refl; other_cells = λ other apart. refl; answers = refl }
-
-  map-append : (f : Made → Answered) (xs ys : List Made) → map f (xs ++ ys) ≡ map f xs ++ map f ys
-  map-append f [] ys = refl
-  map-append f (x ∷ xs) ys = ap (λ l. f x ∷ l) (map-append f xs ys)
 
   -- some steps and then others
   pub does-append : (world : World P) (name : CellName) (first more : List Step) (part new : Part P) (cell left : Cell P) (made then_made : List Made) →

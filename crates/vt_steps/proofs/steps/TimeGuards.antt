@@ -4,6 +4,7 @@ use Rattle.std.specs.Prelude.{IsTrue}
 use Rattle.std.proofs.Math.Nat.{le_refl}
 use Rattle.std.proofs.lemmas.Bool.Decides.{nat_tests}
 use Rattle.std.proofs.lemmas.Option.{slice_get_within}
+use Rattle.std.proofs.lemmas.Bool.{and_from}
 use Rattle.vt_key.specs.Times.{TimeAtMost, opening_time, time_at_most}
 use Rattle.vt_model.specs.Simulation.{Simulation}
 use Rattle.vt_steps.specs.declared.step.Reply.TheVariants.{Done}
@@ -19,7 +20,6 @@ use Rattle.vt_steps.proofs.time.Early.{early_in, at-most-least, letters-early}
 use Rattle.vt_steps.proofs.time.Floors.{AreTimesSound}
 use Rattle.vt_steps.proofs.lists.Places.{get-within}
 use Rattle.vt_steps.proofs.lists.Sums.{sum-at}
-use Rattle.vt_steps.proofs.lists.Tests.{passes_both}
 
 module _ {S P : Type 0} (sim : Simulation S P) (world : World P) (s : AreTimesSound sim world) where
   -- ---- Report
@@ -43,9 +43,9 @@ module _ {S P : Type 0} (sim : Simulation S P) (world : World P) (s : AreTimesSo
   may-report w part at open_is all clear =
       let value = report-late w part at in
       let late : time_at_most world.board.announced (report_least sim.end part) ≡ true = grind (arith, nat_tests) in
-      passes_both world.board.is_open _ open_is
-      (passes_both (all_set world.board.has_cut) _ all
-      (passes_both (is_clear (slice_get world.board.has_reported w)) _ (ap is_clear clear) late))
+      and_from world.board.is_open _ open_is
+      (and_from (all_set world.board.has_cut) _ all
+      (and_from (is_clear (slice_get world.board.has_reported w)) _ (ap is_clear clear) late))
 
   -- so its report is taken
   pub report-taken : (w : ℕ) → IsTrue world.board.is_open → IsTrue (all_set world.board.has_cut) → slice_get world.board.has_reported w ≡ Some false → IsTaken sim world (Report w)

@@ -6,6 +6,7 @@ use Rattle.std.proofs.lemmas.List.{length-replicate}
 use Rattle.std.proofs.lemmas.List.FromFn.{length-map-range_with_len}
 use Rattle.std.proofs.lemmas.List.Folds.{sum_by-replicate}
 use Rattle.std.proofs.lemmas.List.Sums.{sum_by-cons}
+use Rattle.std.proofs.lemmas.Bool.{and_parts}
 use Rattle.vt_key.specs.Times.{Time, TimeAtMost, opening_time}
 use Rattle.vt_key.specs.declared.letter.Colour.{Colour}
 use Rattle.vt_key.specs.declared.letter.Colour.TheVariants.{White, Red}
@@ -31,7 +32,6 @@ use Rattle.vt_steps.proofs.lists.Places.{get-map}
 use Rattle.vt_steps.proofs.time.Rounds.{IsRoundSound, part-kept, send-kept, fetch-kept}
 use Rattle.vt_steps.proofs.steps.Shape.{IsShaped, shape-kept, opening-shape, process-known}
 use Rattle.vt_steps.proofs.lists.Sums.{sum_by-put, sum_by-map, sum_by-same, sum_by-zero, sum-at}
-use Rattle.vt_steps.proofs.lists.Tests.{both_pass}
 
 -- what holds of a reached world, at any time t: its round of cuts is sound, and all sends are later than their entries
 pub record IsTimeSound {S P : Type 0} (sim : Simulation S P) (t : Time) (world : World P) : Type 0 where
@@ -87,9 +87,9 @@ module _ {S P : Type 0} (sim : Simulation S P) (lawful : IsLawful sim) (t : Time
         shape = shape;
       }
   change-kept (reports w part is may e) g shape =
-      let a = both_pass old.board.is_open _ may in
-      let b = both_pass (all_set old.board.has_cut) _ a.1 in
-      let c = both_pass (is_clear (slice_get old.board.has_reported w)) _ b.1 in
+      let a = and_parts old.board.is_open _ may in
+      let b = and_parts (all_set old.board.has_cut) _ a.1 in
+      let c = and_parts (is_clear (slice_get old.board.has_reported w)) _ b.1 in
       let clear = clear-is (slice_get old.board.has_reported w) c.0 in
       let board = with_report w (report_sent part) (report_got part) (report_least sim.end part) old.board in
       let reported = report-kept sim.end t old.parts old.inboxes old.board w part is a.0 b.0 clear g.round in

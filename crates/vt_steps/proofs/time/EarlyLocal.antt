@@ -4,6 +4,7 @@ use Rattle.std.proofs.Common.{◌≡◌, ℕ, ◌+◌, ◌<◌, inl, inr, Bool, 
 use Rattle.std.specs.List.{sum_by, list_any}
 use Rattle.std.proofs.lemmas.Bool.Decides.{nat_tests}
 use Rattle.std.proofs.lemmas.List.Sums.{sum_by-cons}
+use Rattle.std.proofs.lemmas.Bool.{or_cases}
 use Rattle.vt_key.specs.Order.{rank_before}
 use Rattle.vt_key.specs.Times.{Time, TimeBefore, TimeAtMost, time_at_most}
 use Rattle.vt_key.specs.Queues.{has_stamp, without_first}
@@ -26,7 +27,6 @@ use Rattle.vt_steps.proofs.time.Early.{early, early_in, early_letters, not-early
 use Rattle.vt_steps.proofs.letters.RankTimes.{rank-time, not-after-time}
 use Rattle.vt_steps.proofs.time.Rounds.{SameCounts}
 use Rattle.vt_steps.proofs.lists.Sums.{sum-at, sum_by-single}
-use Rattle.vt_steps.proofs.lists.Tests.{either_passes}
 
 -- where no letter is before t, what is not before one of them is not before t
 any-late : {P : Type 0} (t time : Time) (test : Letter P → Bool) (letters : List (Letter P)) → ((letter : Letter P) → test letter ≡ true → TimeAtMost letter.event.rank.key.time time) →
@@ -34,7 +34,7 @@ any-late : {P : Type 0} (t time : Time) (test : Letter P → Bool) (letters : Li
 any-late t time test [] means none some = absurd (let h : false ≡ true = some in cc)
 any-late t time test (letter ∷ letters) means none some =
     let a = sum_by-cons (letter_weight (early t)) letter letters in
-    elim (either_passes (test letter) (list_any test letters) some) [
+    elim (or_cases (test letter) (list_any test letters) some) [
       | inl here ↦ (let bound = means letter here in let late = not-early t letter.sign letter.event (omega arith) in omega arith)
       | inr there ↦ any-late t time test letters means (omega arith) there
     ]
@@ -132,7 +132,7 @@ module _ {S P : Type 0} (sim : Simulation S P) (lawful : IsLawful sim) (t : Time
             let f = (undo-balance process last last_is).entries hasty in
             let g = sum_by-single hasty last in
             let time : TimeAtMost t last.event.rank.key.time =
-            elim (either_passes _ _ must) [
+            elim (or_cases _ _ must) [
               | inl less ↦ any-late t last.event.rank.key.time (λ letter. rank_before letter.event.rank last.event.rank) process.pending (λ letter h. rank-time letter.event.rank last.event.rank h) (omega arith) less
               | inr most ↦ any-late t last.event.rank.key.time (λ letter. not (rank_before last.event.rank letter.event.rank)) process.waiting (λ letter h. not-after-time last.event.rank letter.event.rank h) (omega arith) most
             ] in

@@ -6,7 +6,7 @@ use Rattle.std.proofs.Math.ListN.{length-set}
 use Rattle.std.proofs.Math.Nat.{le_refl}
 use Rattle.std.proofs.lemmas.List.{length-replicate}
 use Rattle.std.proofs.lemmas.List.FromFn.{length-map-range_with_len}
-use Rattle.std.proofs.lemmas.Bool.{eqb-true}
+use Rattle.std.proofs.lemmas.Bool.{eqb-true, and_parts}
 use Rattle.std.proofs.lemmas.Bool.Decides.{nat_tests}
 use Rattle.vt_key.specs.Times.{Time, TimeAtMost, opening_time, time_at_most}
 use Rattle.vt_model.specs.Simulation.{Simulation}
@@ -23,7 +23,6 @@ use Rattle.vt_steps.proofs.steps.Changes.{homes, arrives, Local, acts, takes, Ch
 use Rattle.vt_steps.proofs.steps.Outcomes.{with_open_round-either, after_report-either}
 use Rattle.vt_steps.proofs.lists.Places.{all-put, get-map, get-replicate, get-within}
 use Rattle.vt_steps.proofs.time.Flags.{put-cases}
-use Rattle.vt_steps.proofs.lists.Tests.{both_pass}
 
 -- ---- the least of a list of floors
 
@@ -167,9 +166,9 @@ module _ {S P : Type 0} (sim : Simulation S P) (old new : World P) (least_end : 
         floor = le_refl _;
       })
   floors-kept (reports w part is may e) =
-      let a = both_pass old.board.is_open _ may in
-      let b = both_pass (all_set old.board.has_cut) _ a.1 in
-      let c = both_pass (is_clear (slice_get old.board.has_reported w)) _ b.1 in
+      let a = and_parts old.board.is_open _ may in
+      let b = and_parts (all_set old.board.has_cut) _ a.1 in
+      let c = and_parts (is_clear (slice_get old.board.has_reported w)) _ b.1 in
       let value : TimeAtMost old.board.announced (report_least sim.end part) = (let t = c.1 in grind (arith, nat_tests)) in
       let board = with_report w (report_sent part) (report_got part) (report_least sim.end part) old.board in
       let least_was = f.least a.0 in

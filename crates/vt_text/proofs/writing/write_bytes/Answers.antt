@@ -1,9 +1,8 @@
 use Rattle.std.proofs.Common.{ℕ, List, [], take, drop, sym, subst, append-nil, arith, length-drop, take-append-drop}
 use Rattle.std.proofs.Math.Seq.{take-add}
-use Rattle.std.proofs.lemmas.List.{take_all}
+use Rattle.std.proofs.lemmas.List.{take_all, take_rest}
 use Rattle.std.specs.Io.KnownBytes.{Appends}
 use Rattle.std.proofs.KnownBytes.{Appends-trans, Appends-kept}
-use Rattle.vt_text.proofs.TextLemmas.{rest_is}
 use Rattle.vt_text.proofs.writing.write_bytes.Goals as goal
 
 pub loop-done-preserved : goal.loop-done-preserved
@@ -12,7 +11,7 @@ loop-done-preserved g c =
     let bytes = c.args.bytes.now in
     let contents = g.W.Write.contents in record {
       within = omega (arith, length-drop l.done bytes, c.in-Ok.ensures.bound);
-      appended = rw (take-add l.done c.in-Ok.count bytes) (Appends-trans (contents c.args.writer.now) (contents l.writer) (contents c.write.new.self) _ _ l.invariant.appended (rw (rest_is l.done bytes) at c.in-Ok.ensures.bytes));
+      appended = rw (take-add l.done c.in-Ok.count bytes) (Appends-trans (contents c.args.writer.now) (contents l.writer) (contents c.write.new.self) _ _ l.invariant.appended (rw (take_rest bytes l.done) at c.in-Ok.ensures.bytes));
     }
 
 pub returns-in-Err-clause-err : goal.returns-in-Err-clause-err

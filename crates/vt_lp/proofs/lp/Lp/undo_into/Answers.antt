@@ -1,6 +1,7 @@
 use Rattle.std.proofs.Common.{◌≡◌, ◌∙◌, ◌+◌, ◌-◌, ◌%◌, ◌^◌, ◌≤◌, List, ◌++◌, suc, length, false, sym, subst, refl, ap, arith}
 use Rattle.std.specs.List.{All}
 use Rattle.std.proofs.lemmas.List.Elements.{All-append}
+use Rattle.std.proofs.lemmas.List.{length_push}
 use Rattle.vt_key.specs.Queues.{insert_letter}
 use Rattle.vt_key.specs.declared.limits.TheConstants.{MAX_COUNT}
 use Rattle.vt_key.specs.declared.letter.Letter.{Letter}
@@ -12,7 +13,7 @@ use Rattle.vt_pending.specs.Letters.{holds_rank}
 use Rattle.vt_past.specs.declared.event.PastEvent.{PastEvent}
 use Rattle.vt_past.specs.declared.event.UndoEntry.{UndoEntry}
 use Rattle.vt_lp.specs.Held.{HeldProcess, StandsFor, AllWithinRun, IsWithinRun, IsOwnEvent, IsNotPending}
-use Rattle.vt_lp.proofs.UndoLemmas.{undo-none, undoes, inside-less, All-front, ready-within, length-push, length-insert}
+use Rattle.vt_lp.proofs.UndoLemmas.{undo-none, undoes, inside-less, All-front, ready-within, length-insert}
 use Rattle.vt_lp.proofs.ProcessView.{process_view}
 use Rattle.vt_lp.proofs.lp.Lp.undo_into.Given.{Over}
 use Rattle.vt_lp.proofs.lp.Lp.undo_into.Goals.{After-take_apart-letter}
@@ -86,7 +87,7 @@ pub returns-clause-shorter : goal.returns-clause-shorter
 returns-clause-shorter g c =
     let l = c.self.inside in
     let letter = c.take_apart-letter.result.0 in
-    let past : length l.past ≡ length c.pop_back.new.self + 1 = ap length c.in-Some.ensures ∙ length-push c.pop_back.new.self c.in-Some.last in
+    let past : length l.past ≡ length c.pop_back.new.self + 1 = ap length c.in-Some.ensures ∙ length_push c.pop_back.new.self c.in-Some.last in
     let pending : length c.insert.new.self ≡ length l.pending + 1 = ap length c.insert.ensures.letters ∙ length-insert letter l.pending in
     subst (λ (v : HeldProcess _ _ _). (suc (length c.pop_back.new.self) ≡ length v.past) × (length c.insert.new.self ≡ suc (length v.pending)) × (l.waiting ≡ v.waiting)) c.self.view_is
     (omega (arith, past), omega (arith, pending), refl)

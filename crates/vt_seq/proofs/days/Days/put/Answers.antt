@@ -1,8 +1,9 @@
 use Rattle.std.proofs.Common.{◌≡◌, ◌<◌, ◌∙◌, List, [], ◌∷◌, ◌++◌, Bool, true, false, map, slice_set, Some, length, IfOk, IfErr, sym, ap, subst, rules, Vec, Global}
 use Rattle.std.proofs.lemmas.List.{map-set}
+use Rattle.std.proofs.lemmas.Option.{same_Some}
 use Rattle.vt_seq.specs.declared.entry.Entry.{Entry}
 use Rattle.vt_seq.specs.Days.{is_used, IsPut}
-use Rattle.vt_seq.proofs.CalendarLemmas.{day-there, same-found, filled-used, items_of, put-more, put-new}
+use Rattle.vt_seq.proofs.CalendarLemmas.{day-there, filled-used, items_of, put-more, put-new}
 use Rattle.vt_seq.proofs.days.Days.put.Given.{Over}
 use Rattle.vt_seq.proofs.days.Days.put.Goals as goal
 
@@ -19,7 +20,7 @@ more g c =
     let there = day-there (λ (v : Vec (Entry _) Global). v.items) vs c.args.day old within ∙ ap (λ (v : Vec (Entry _) Global). Some v.items) (sym c.index_mut.ensures.value) in
     let looked = day-there (λ (v : Vec (Entry _) Global). v.items) vs c.args.day seen within ∙ ap (λ (v : Vec (Entry _) Global). Some v.items) (sym c.index.ensures) in
     let some : length seen.items ≡ 0 → ⊥ = search rules in
-    let used = filled-used old.items (λ none. some (ap length (same-found seen.items old.items (sym looked ∙ there)) ∙ none)) in
+    let used = filled-used old.items (λ none. some (ap length (same_Some seen.items old.items (sym looked ∙ there)) ∙ none)) in
     let set = map-set (λ (v : Vec (Entry _) Global). v.items) vs c.args.day c.push.new.list in
     subst (λ (new : List (List (Entry _))). (map is_used new ≡ map is_used (items_of vs)) × IfOk c.push.result (λ _. IsPut c.args.day x (items_of vs) new) × IfErr c.push.result (λ _. new ≡ items_of vs))
     (sym set) (put-more (items_of vs) c.args.day old.items c.push.new.list.items x c.push.result there used c.push.ensures.items)

@@ -1,9 +1,9 @@
 use Rattle.std.proofs.Common.{◌≡◌, ◌<◌, ◌≤◌, ◌∙◌, ℕ, List, [], Bool, true, false, map, slice_get, slice_set, Some, length, sym, ap, subst, arith, Vec, Global}
 use Rattle.std.proofs.lemmas.List.{map-set, length-map}
-use Rattle.std.proofs.lemmas.Option.{slice_get_within}
+use Rattle.std.proofs.lemmas.Option.{slice_get_within, same_Some}
 use Rattle.vt_seq.specs.declared.entry.Entry.{Entry}
 use Rattle.vt_seq.specs.Days.{is_used, joined, IsTaken}
-use Rattle.vt_seq.proofs.CalendarLemmas.{day-there, same-found, marked-there, unmarked-empty, unmarked-none}
+use Rattle.vt_seq.proofs.CalendarLemmas.{day-there, marked-there, unmarked-empty, unmarked-none}
 use Rattle.vt_seq.proofs.days.Days.take_first.Goals as goal
 
 pub invariant_of-self : goal.invariant_of-self
@@ -48,7 +48,7 @@ returns-clause-taken g c =
     let set : map (λ (v : Vec (Entry _) Global). v.items) (slice_set vs day c.replace-list.new.dest) ≡ slice_set (map (λ (v : Vec (Entry _) Global). v.items) vs) day [] = map-set (λ (v : Vec (Entry _) Global). v.items) vs day c.replace-list.new.dest ∙ ap (slice_set (map (λ (v : Vec (Entry _) Global). v.items) vs) day) empty in
     subst (λ (ds : List (List (Entry _))). IsTaken day list.items ds (map (λ (v : Vec (Entry _) Global). v.items) (slice_set vs day c.replace-list.new.dest))) c.self.view_is (record {
       there = there;
-      used = ap is_used (same-found list.items found.0 (sym there ∙ found.1)) ∙ found.2;
+      used = ap is_used (same_Some list.items found.0 (sym there ∙ found.1)) ∙ found.2;
       first = λ i l less at. unmarked-empty (map (λ (v : Vec (Entry _) Global). v.items) vs) i l at (λ h. c.in-Some.ensures.first i (let z : 0 ≤ i = omega arith in z) less (subst (λ (ms : List Bool). slice_get ms i ≡ Some true) (sym c.self.invariant.0) h));
       is = set;
     })

@@ -1,4 +1,5 @@
 use Rattle.std.proofs.Common.{rules, ◌≡◌, ℕ, suc, ◌≤◌, ◌<◌, ◌↔◌, ◌∙◌, IsTrue, [], length, IfOk, IfErr, ap, subst, arith}
+use Rattle.std.proofs.lemmas.Result.{IfOk-weaker}
 use Rattle.vt_model.specs.Simulation.{simulation_of}
 use Rattle.vt_model.specs.declared.settings.Config.{Config}
 use Rattle.vt_model.proofs.LawLemmas.{lawful_of}
@@ -7,7 +8,7 @@ use Rattle.vt_model.specs.Settings.{end_of}
 use Rattle.vt_seq.specs.Given.{records_to, AddsStep}
 use Rattle.vt_seq.specs.Limits.{IsCounted, IsStepRefusal}
 use Rattle.vt_seq.specs.Standing.{Standing, IsAt}
-use Rattle.vt_seq.proofs.ProgressLemmas.{seen-on_way, seen, stands-after, after-stands, if_ok-map, if_ok-both, if_err-both, seen_same}
+use Rattle.vt_seq.proofs.ProgressLemmas.{seen-on_way, seen, stands-after, after-stands, if_ok-both, if_err-both, seen_same}
 use Rattle.vt_seq.proofs.StepLemmas.{AreCounted, counted_at, none_pending}
 use Rattle.vt_seq.proofs.GivenLemmas.{whole_records}
 use Rattle.vt_seq.proofs.execution.Execution.step_reusing.Goals as goal
@@ -35,8 +36,8 @@ returns g c = record {
       let there : sim.lps ≤ length f.processes.items = search (rules, arith, f.all_there, c.step.ensures.config) in
       subst (λ (v : Standing _ _ _). (n : ℕ) → IsAt (simulation_of (g.M.Model.handlers v.model) v.config) n v → IfOk c.step.result (λ more. IsAt (simulation_of (g.M.Model.handlers v.model) v.config) (suc n) later))
       c.self.view_is
-      (λ n is. if_ok-map _ _ c.step.result (c.step.ensures.steps n (after-stands sim e.model.now e.config n e.pending e.processes.items e.stands is))
-      (λ more st. stands-after sim f.model.now f.config (suc n) f.pending f.processes.items there st));
+      (λ n is. IfOk-weaker c.step.result _ _ (λ more st. stands-after sim f.model.now f.config (suc n) f.pending f.processes.items there st)
+      (c.step.ensures.steps n (after-stands sim e.model.now e.config n e.pending e.processes.items e.stands is)));
   adds =
       let e = c.self.inside.engine in
       let sim = simulation_of (g.M.Model.handlers e.model.now) e.config in
@@ -62,8 +63,8 @@ returns g c = record {
       let lawful = lawful_of (g.M.Model.handlers e.model.now) e.config (g.met.M.Model.start_within e.model.now) (g.met.M.Model.forward_within e.model.now) in
       subst (λ (v : Standing _ _ _). (n : ℕ) → IsAt (simulation_of (g.M.Model.handlers v.model) v.config) n v → IfOk c.step.result (λ more. IsCounted (simulation_of (g.M.Model.handlers v.model) v.config) (suc n)))
       c.self.view_is
-      (λ n is. if_ok-map _ _ c.step.result (c.step.ensures.steps n (after-stands sim e.model.now e.config n e.pending e.processes.items e.stands is))
-      (λ more st. counted_at sim lawful (suc n) f.pending f.processes.items st there numbered));
+      (λ n is. IfOk-weaker c.step.result _ _ (λ more st. counted_at sim lawful (suc n) f.pending f.processes.items st there numbered)
+      (c.step.ensures.steps n (after-stands sim e.model.now e.config n e.pending e.processes.items e.stands is)));
   kept =
       let e = c.self.inside.engine in
       let sim = simulation_of (g.M.Model.handlers e.model.now) e.config in

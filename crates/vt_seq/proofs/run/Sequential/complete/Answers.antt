@@ -1,7 +1,7 @@
 use Rattle.std.proofs.Common.{◌≡◌, ◌∙◌, ℕ, ◌+◌, IfOk, IfErr, subst}
 use Rattle.std.proofs.Math.Logic.{∥∥₁_map, ∥∥₁_elim}
 use Rattle.std.proofs.Props.{props}
-use Rattle.std.proofs.lemmas.Result.{IfErr-weaker}
+use Rattle.std.proofs.lemmas.Result.{IfErr-weaker, IfOk-weaker}
 use Rattle.vt_model.specs.Simulation.{Simulation, simulation_of}
 use Rattle.vt_model.specs.Sequential.{after_steps, seq_records}
 use Rattle.vt_model.specs.Settings.{end_of}
@@ -10,7 +10,7 @@ use Rattle.vt_seq.specs.Limits.{IsCountedWhole, IsStepRefusal}
 use Rattle.vt_seq.specs.Progress.{Progress, IsAfter, IsReached}
 use Rattle.vt_seq.specs.Standing.{with_records}
 use Rattle.vt_seq.proofs.GivenLemmas.{whole_records}
-use Rattle.vt_seq.proofs.ProgressLemmas.{if_ok-map, counted_any, kept_through, same-run, without_records}
+use Rattle.vt_seq.proofs.ProgressLemmas.{counted_any, kept_through, same-run, without_records}
 use Rattle.vt_seq.proofs.StepLemmas.{none_pending}
 use Rattle.vt_seq.proofs.run.Sequential.complete.Goals as goal
 
@@ -23,11 +23,11 @@ returns-clause-whole g c =
     let f = c.complete.new.self in
     subst (λ (v : Progress _ _ _). IfOk c.complete.result (λ x. c.complete.new.records.items ≡ seq_records (simulation_of (g.M.Model.handlers v.model) v.config) (end_of v.config)))
     c.self.view_is
-    (if_ok-map _ _ c.complete.result c.complete.ensures.nothing_left (λ x none.
+    (IfOk-weaker c.complete.result _ _ (λ x none.
     ∥∥₁_elim c.self.invariant (Prim.hlevel props) (λ y.
     let r = c.complete.ensures.steps y.0 (without_records sim y.0 e records y.1) in
     let k : ℕ = r.0 + y.0 in
-    (kept_through sim y.0 r.0 f records c.complete.new.records.items y.1.records r.1 r.2).records ∙ whole_records sim lawful k (none_pending (after_steps sim k).pending f.pending r.1.had none))))
+    (kept_through sim y.0 r.0 f records c.complete.new.records.items y.1.records r.1 r.2).records ∙ whole_records sim lawful k (none_pending (after_steps sim k).pending f.pending r.1.had none))) c.complete.ensures.nothing_left)
 
 pub returns-clause-steps : goal.returns-clause-steps
 returns-clause-steps g c =

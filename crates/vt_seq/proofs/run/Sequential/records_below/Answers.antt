@@ -1,4 +1,5 @@
 use Rattle.std.proofs.Common.{◌≡◌, ◌∙◌, ℕ, [], IfOk, filter, ap, subst}
+use Rattle.std.proofs.lemmas.Result.{IfOk-weaker}
 use Rattle.vt_key.specs.Times.{time_before}
 use Rattle.vt_model.specs.Rows.{record_time}
 use Rattle.vt_model.specs.Simulation.{simulation_of}
@@ -6,7 +7,6 @@ use Rattle.vt_model.specs.Sequential.{after_steps, rows_after, rows_before, reco
 use Rattle.vt_model.proofs.LawLemmas.{lawful_of}
 use Rattle.vt_seq.specs.Progress.{Progress, IsAfter, IsReached}
 use Rattle.vt_seq.proofs.GivenLemmas.{records_before}
-use Rattle.vt_seq.proofs.ProgressLemmas.{if_ok-map}
 use Rattle.vt_seq.proofs.run.Sequential.records_below.Goals as goal
 
 pub returns-clause-rows : goal.returns-clause-rows
@@ -17,8 +17,9 @@ returns-clause-rows g c =
     let lawful = lawful_of (g.M.Model.handlers e.model) e.config (g.met.M.Model.start_within e.model) (g.met.M.Model.forward_within e.model) in
     subst (λ (v : Progress _ _ _). (n : ℕ) → IsAfter (simulation_of (g.M.Model.handlers v.model) v.config) n v → IfOk c.copy_below.result (λ r. r.items ≡ records_of (rows_before c.args.t (rows_after (simulation_of (g.M.Model.handlers v.model) v.config) [] (after_steps (simulation_of (g.M.Model.handlers v.model) v.config) n).executed))))
     c.self.view_is
-    (λ n is. if_ok-map _ _ c.copy_below.result c.copy_below.ensures.before
-    (λ r found. found ∙ ap (filter (λ r. time_before (record_time r) c.args.t)) (c.deref.ensures.value ∙ is.records) ∙ records_before sim lawful n c.args.t))
+    (λ n is. IfOk-weaker c.copy_below.result _ _
+    (λ r found. found ∙ ap (filter (λ r. time_before (record_time r) c.args.t)) (c.deref.ensures.value ∙ is.records) ∙ records_before sim lawful n c.args.t)
+    c.copy_below.ensures.before)
 
 pub returns-clause-reached : goal.returns-clause-reached
 returns-clause-reached g c = subst (λ (v : Progress _ _ _). IsReached (g.M.Model.handlers v.model) v) c.self.view_is c.self.invariant
