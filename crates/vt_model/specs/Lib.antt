@@ -8,3 +8,5 @@ pub mod Rows
 pub mod Process
 pub mod Sequential
 pub mod Histories
+pub mod Counts
+pub mod Flags

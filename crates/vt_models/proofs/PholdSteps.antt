@@ -3,16 +3,17 @@ use Rattle.std.proofs.Common.{◌≡◌, ℕ, ◌+◌, ◌<◌, ◌≤◌, [], �
 use Rattle.std.proofs.lemmas.Bool.{lt-ltb, le-ltb}
 use Rattle.vt_model.specs.Handler.{ForwardResult}
 use Rattle.vt_model.specs.Sends.{Outgoing, with_requests}
+use Rattle.vt_model.specs.Counts.{one_more}
 use Rattle.vt_models.specs.declared.phold.Phold.{Phold}
 use Rattle.vt_models.specs.declared.phold.TheConstants.{PERCENT}
 use Rattle.vt_stream.specs.Drawn.{scaled}
-use Rattle.vt_models.specs.Phold.{phold_forward, forward_remote, forward_local, counted}
+use Rattle.vt_models.specs.Phold.{phold_forward, forward_remote, forward_local}
 
 module _ (m : Phold) (lps lp s : ℕ) (words : ℕ → ℕ) where
   -- an out after one scheduled and the record of the count
   abbrev pub with_event : Outgoing (Unit {0}) → ℕ → ℕ → Outgoing (Unit {0})
   with_event o dest delay =
-      with_requests o (record { dest = dest; delay = delay; priority = 0; payload = tt } ∷ []) (record { kind = 2; value = counted s } ∷ [])
+      with_requests o (record { dest = dest; delay = delay; priority = 0; payload = tt } ∷ []) (record { kind = 2; value = one_more s } ∷ [])
 
   -- an out after what an event gives
   abbrev with_result : Outgoing (Unit {0}) → ForwardResult ℕ (Unit {0}) (Unit {0}) → Outgoing (Unit {0})

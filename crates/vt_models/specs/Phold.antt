@@ -1,7 +1,8 @@
 -- What the handlers of `Phold` give.
-use Rattle.std.specs.Prelude.{ℕ, ◌+◌, ◌-◌, ◌%◌, ◌^◌, List, [], ◌∷◌, Bool, nat_lt, map, if◌then◌else◌}
+use Rattle.std.specs.Prelude.{ℕ, ◌+◌, ◌^◌, List, [], ◌∷◌, Bool, nat_lt, map, if◌then◌else◌}
 use Rattle.std.specs.List.{range_with_len}
 use Rattle.vt_model.specs.Handler.{Handlers, StartResult, ForwardResult}
+use Rattle.vt_model.specs.Counts.{one_more, one_fewer}
 use Rattle.vt_model.specs.Sends.{SendRequest}
 use Rattle.vt_models.specs.declared.phold.Phold.{Phold}
 use Rattle.vt_models.specs.declared.phold.TheConstants.{PERCENT, REMOTE}
@@ -28,30 +29,26 @@ phold_start m lp words = record {
 abbrev pub is_remote : Phold → ℕ → Bool
 is_remote m w = nat_lt (scaled w PERCENT) m.remote
 
--- the count after one more event
-abbrev pub counted : ℕ → ℕ
-counted s = (s + 1) % 2 ^ 64
-
 -- the next event goes to the process that the second word names, after what the third says
 abbrev pub forward_remote : Phold → ℕ → ℕ → (ℕ → ℕ) → ForwardResult ℕ (Unit {0}) (Unit {0})
 forward_remote m lps s words = record {
-  state = counted s;
+  state = one_more s;
   kept = tt;
   bits = record { flags = 2 ^ REMOTE };
   drawn = 3;
   send_requests = scheduled m (scaled (words 1) lps) (words 2) ∷ [];
-  record_requests = record { kind = 2; value = counted s } ∷ [];
+  record_requests = record { kind = 2; value = one_more s } ∷ [];
 }
 
 -- the next event stays at this process, after what the second word says
 abbrev pub forward_local : Phold → ℕ → ℕ → (ℕ → ℕ) → ForwardResult ℕ (Unit {0}) (Unit {0})
 forward_local m lp s words = record {
-  state = counted s;
+  state = one_more s;
   kept = tt;
   bits = record { flags = 0 };
   drawn = 2;
   send_requests = scheduled m lp (words 1) ∷ [];
-  record_requests = record { kind = 2; value = counted s } ∷ [];
+  record_requests = record { kind = 2; value = one_more s } ∷ [];
 }
 
 -- an event schedules the next one, near or far, and is counted
@@ -60,15 +57,11 @@ phold_forward m lps lp s words =
     if is_remote m (words 0) then forward_remote m lps s words
     else forward_local m lp s words
 
--- the count before one more event
-abbrev pub uncounted : ℕ → ℕ
-uncounted s = (s + (2 ^ 64 - 1)) % 2 ^ 64
-
 -- the four handlers
 abbrev pub phold_handlers : Phold → Handlers ℕ (Unit {0}) (Unit {0})
 phold_handlers m = record {
   start = λ lps lp words. phold_start m lp words;
   forward = λ lps lp now p s words. phold_forward m lps lp s words;
-  reverse = λ lp now p s bits kept. uncounted s;
+  reverse = λ lp now p s bits kept. one_fewer s;
   finish = λ lp s. s;
 }

@@ -5,10 +5,11 @@ use Rattle.std.proofs.lemmas.List.{map-append, length-append}
 use Rattle.std.specs.List.{range_with_len}
 use Rattle.vt_model.specs.Handler.{ForwardResult, IsWithinLimits, IsSendable, AreWords}
 use Rattle.vt_model.proofs.RunLemmas.{range-next}
+use Rattle.vt_model.specs.Counts.{one_more, one_fewer}
 use Rattle.vt_models.specs.declared.phold.Phold.{Phold}
 use Rattle.vt_stream.specs.Drawn.{scaled}
 use Rattle.vt_stream.specs.DrawnLaws.{scaled_below}
-use Rattle.vt_models.specs.Phold.{scheduled, first_events, phold_start, phold_forward, forward_remote, forward_local, is_remote, counted, uncounted}
+use Rattle.vt_models.specs.Phold.{scheduled, first_events, phold_start, phold_forward, forward_remote, forward_local, is_remote}
 
 scheduled_ok : (m : Phold) (lps now dest w : ℕ) → dest < lps → IsSendable lps now (scheduled m dest w)
 scheduled_ok m lps now dest w known = record { known = known; some_priority = omega arith; later = omega (arith, m.some_lookahead) }
@@ -65,13 +66,13 @@ forward_within m lps lp now p s words known w =
     [ true ↦ remote_within m lps now lp s words known w | false ↦ local_within m lps now lp s words known ]
 
 -- wherever the next event goes, this one is counted
-one_more : (m : Phold) (lps lp s : ℕ) (words : ℕ → ℕ) → (phold_forward m lps lp s words).state ≡ counted s
-one_more m lps lp s words =
-    elim (is_remote m (words 0)) as (λ b. (if b then forward_remote m lps s words else forward_local m lp s words).state ≡ counted s)
+counts_one : (m : Phold) (lps lp s : ℕ) (words : ℕ → ℕ) → (phold_forward m lps lp s words).state ≡ one_more s
+counts_one m lps lp s words =
+    elim (is_remote m (words 0)) as (λ b. (if b then forward_remote m lps s words else forward_local m lp s words).state ≡ one_more s)
     [ true ↦ refl | false ↦ refl ]
 
 pub forward_state : (m : Phold) (lps lp now : ℕ) (p : Unit {0}) (s : ℕ) (words : ℕ → ℕ) → s < 2 ^ 64 → (phold_forward m lps lp s words).state < 2 ^ 64
-forward_state m lps lp now p s words fits = omega (arith, one_more m lps lp s words)
+forward_state m lps lp now p s words fits = omega (arith, counts_one m lps lp s words)
 
-pub undoes : (m : Phold) (lps lp now : ℕ) (p : Unit {0}) (s : ℕ) (words : ℕ → ℕ) → s < 2 ^ 64 → uncounted (phold_forward m lps lp s words).state ≡ s
-undoes m lps lp now p s words fits = ap uncounted (one_more m lps lp s words) ∙ omega arith
+pub undoes : (m : Phold) (lps lp now : ℕ) (p : Unit {0}) (s : ℕ) (words : ℕ → ℕ) → s < 2 ^ 64 → one_fewer (phold_forward m lps lp s words).state ≡ s
+undoes m lps lp now p s words fits = ap one_fewer (counts_one m lps lp s words) ∙ omega arith

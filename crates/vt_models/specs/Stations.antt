@@ -1,6 +1,7 @@
 -- What the handlers of `Stations` give.
-use Rattle.std.specs.Prelude.{ℕ, ◌+◌, ◌-◌, ◌%◌, ◌^◌, ◌<◌, [], ◌∷◌, Bool, not, nat_eq, bit_and, if◌then◌else◌}
+use Rattle.std.specs.Prelude.{ℕ, ◌+◌, ◌-◌, ◌%◌, ◌^◌, ◌<◌, [], ◌∷◌, nat_eq, if◌then◌else◌}
 use Rattle.vt_model.specs.Handler.{Handlers, StartResult, ForwardResult}
+use Rattle.vt_model.specs.Flags.{has_flag}
 use Rattle.vt_model.specs.Sends.{SendRequest}
 use Rattle.vt_model.specs.declared.flags.Bits.{Bits}
 use Rattle.vt_models.specs.declared.stations.Stations.{Stations}
@@ -125,10 +126,6 @@ stations_forward m lps lp Arrive s words = arrival m lp s words
 stations_forward m lps lp Depart s words =
     if nat_eq s.length 0 then nothing_departs s
     else service_end m lps lp s words
-
--- whether a flag is set
-abbrev pub has_flag : Bits → ℕ → Bool
-has_flag b i = not (nat_eq (bit_and b.flags (2 ^ i)) 0)
 
 -- a station before its last job came
 abbrev pub one_fewer : Server → Server

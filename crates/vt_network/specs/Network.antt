@@ -2,6 +2,7 @@
 use Rattle.std.specs.Prelude.{ℕ, ◌+◌, ◌-◌, ◌%◌, ◌/◌, ◌^◌, ◌<◌, List, [], ◌∷◌, nat_eq, nat_lt, Option, Some, None, is_none, if◌then◌else◌}
 use Rattle.vt_key.specs.Times.{Time, ticks_of}
 use Rattle.vt_model.specs.Handler.{Handlers, StartResult, ForwardResult}
+use Rattle.vt_model.specs.Counts.{one_more, one_fewer}
 use Rattle.vt_model.specs.Sends.{SendRequest, RecordRequest}
 use Rattle.vt_stream.specs.Drawn.{scaled}
 use Rattle.vt_parts.specs.declared.ring.Ring.{Ring}
@@ -29,14 +30,6 @@ hop m lps lp left = if nat_lt (lps / 2) left then (lp + lps - step m (lps - left
 -- the next router on the way to a destination
 abbrev pub next_hop : Network → ℕ → ℕ → ℕ → ℕ
 next_hop m lps lp dest = hop m lps lp (ahead lps lp dest)
-
--- one more
-abbrev pub one_more : ℕ → ℕ
-one_more n = (n + 1) % 2 ^ 64
-
--- one fewer
-abbrev pub one_fewer : ℕ → ℕ
-one_fewer n = (n + (2 ^ 64 - 1)) % 2 ^ 64
 
 -- the host makes its next packet after so many ticks
 abbrev pub next_made : ℕ → ℕ → SendRequest NetworkEvent

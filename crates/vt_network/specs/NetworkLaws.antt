@@ -14,7 +14,8 @@ use Rattle.vt_network.specs.declared.network.Network.{Network}
 use Rattle.vt_network.specs.declared.network.Router.{Router}
 use Rattle.vt_network.specs.declared.network.NetworkEvent.{NetworkEvent}
 use Rattle.vt_network.specs.declared.network.NetworkEvent.TheVariants.{Generate, Arrive, Served}
-use Rattle.vt_network.specs.Network.{ahead, step, hop, one_more, one_fewer, next_made, new_packet, served, forwarded, with_delivery, lost_with, taken, arrived, arrived_kept, arrived_sends, delivery, loss, arrived_records, sent_on, drawn_by, sends_by, records_by, network_start, network_forward, untaken, network_reverse, IsRouter}
+use Rattle.vt_model.specs.Counts.{one_more, one_fewer, fewer-more}
+use Rattle.vt_network.specs.Network.{ahead, step, hop, next_made, new_packet, served, forwarded, with_delivery, lost_with, taken, arrived, arrived_kept, arrived_sends, delivery, loss, arrived_records, sent_on, drawn_by, sends_by, records_by, network_start, network_forward, untaken, network_reverse, IsRouter}
 
 -- few requests, which are sendable
 abbrev AreFew : ℕ → ℕ → ℕ → List (SendRequest NetworkEvent) → Type 0
@@ -119,10 +120,6 @@ pub forward_state : (m : Network) (lps lp now : ℕ) (e : NetworkEvent) (s : Rou
 forward_state m lps lp now Generate s words fits = record { queue = fits.queue; made = omega arith; delivered = fits.delivered; dropped = fits.dropped }
 forward_state m lps lp now (Arrive p) s words fits = arrived_router lp p s fits
 forward_state m lps lp now Served s words fits = record { queue = popped_is s.queue fits.queue; made = fits.made; delivered = fits.delivered; dropped = fits.dropped }
-
--- one more and then one fewer
-fewer-more : (n : ℕ) → n < 2 ^ 64 → one_fewer (one_more n) ≡ n
-fewer-more n fits = omega arith
 
 -- a packet is no longer lost where the push was refused
 lost_undone : (s : Router) → IsRouter s → (if is_none (push_answer s.queue) then one_fewer (lost_with s) else lost_with s) ≡ s.dropped

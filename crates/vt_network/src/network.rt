@@ -72,7 +72,8 @@ pub struct Network {
 }
 
 impl Network {
-    ghost use Rattle.vt_network.specs.Network.{step, next_hop, one_more, made_sends, arrived, arrived_kept, arrived_sends, arrived_records, gone_on, goes_on, gone_sends};
+    ghost use Rattle.vt_model.specs.Counts.{one_more};
+    ghost use Rattle.vt_network.specs.Network.{step, next_hop, made_sends, arrived, arrived_kept, arrived_sends, arrived_records, gone_on, goes_on, gone_sends};
 
     /// The network whose chords lead `columns` (1 to 65,536) routers on, with up to `gap` ticks between two packets of a host,
     /// `service` ticks of work for a packet and `link` ticks on a link (each 1 to 1,000,000).

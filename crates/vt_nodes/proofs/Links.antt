@@ -3,15 +3,11 @@ use Rattle.std.proofs.Common.{◌≡◌, refl, sym, ap, ◌∙◌, subst, arith}
 use Rattle.std.specs.Prelude.{◌-◌, ◌<◌, List, [], ◌∷◌, ◌++◌, length, map, take, drop, reverse, Option, Some, None, slice_index_or}
 use Rattle.std.proofs.lemmas.List.{take_at, drop_at, length-append, append_assoc, map-append, reverse-append}
 use Rattle.std.proofs.lemmas.Option.{none-some}
+use Rattle.std.specs.Option.{unwrap_or}
 use denote.RawPtr.{Ptr, null_ptr}
 use Rattle.vt_nodes.specs.Blocks.{places, place_at}
 use Rattle.vt_nodes.specs.declared.node.Node.{Node}
 use Rattle.vt_nodes.specs.Linked.{NodeAt, first_or, last_or, with_next, with_prev, items, LeadOn, LeadBack, IsChain, IsPlace}
-
--- a place that may be there, or p
-abbrev place_or : Ptr → Option Ptr → Ptr
-place_or p None = p
-place_or p (Some q) = q
 
 -- ---- ends
 
@@ -41,7 +37,7 @@ pub record Last {Y : Type 0} (p : Ptr) (bs : List (Ptr × Y)) : Type 0 where
   pub is : bs ≡ front ++ (p, content) ∷ []
 
 last-of-more : {Y : Type 0} (p : Ptr) (b : Ptr × Y) (bs : List (Ptr × Y)) → last_or None (b ∷ bs) ≡ Some p → Last p (b ∷ bs)
-last-of-more p b [] e = record { front = []; content = b.1; is = ap (λ q. (place_or b.0 q, b.1) ∷ []) e }
+last-of-more p b [] e = record { front = []; content = b.1; is = ap (λ q. (unwrap_or q b.0, b.1) ∷ []) e }
 last-of-more p b (c ∷ bs) e =
     let on = last-of-more p c bs e in record { front = b ∷ on.front; content = on.content; is = ap (λ l. b ∷ l) on.is }
 

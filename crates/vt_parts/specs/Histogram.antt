@@ -1,15 +1,8 @@
 -- What a histogram's calls do.
-use Rattle.std.specs.Prelude.{◌≡◌, ℕ, ◌+◌, ◌-◌, ◌%◌, ◌/◌, ◌^◌, ◌<◌, max, length, replicate, All, slice_index, slice_index_or, slice_set, nat_lt, if◌then◌else◌}
+use Rattle.std.specs.Prelude.{◌≡◌, ℕ, ◌+◌, ◌%◌, ◌/◌, ◌^◌, ◌<◌, max, length, replicate, All, slice_index, slice_index_or, slice_set, nat_lt, if◌then◌else◌}
 use Rattle.std.specs.List.{sum}
+use Rattle.vt_model.specs.Counts.{one_more, one_fewer}
 use Rattle.vt_parts.specs.declared.histogram.Histogram.{Histogram}
-
--- one more
-abbrev pub one_more : ℕ → ℕ
-one_more n = (n + 1) % 2 ^ 64
-
--- one fewer
-abbrev pub one_fewer : ℕ → ℕ
-one_fewer n = (n + (2 ^ 64 - 1)) % 2 ^ 64
 
 -- a count is a 64-bit number
 abbrev pub IsCount : ℕ → Type 0

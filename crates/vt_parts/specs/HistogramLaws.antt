@@ -1,14 +1,11 @@
 -- The laws of a histogram: its calls keep it one, and one of them undoes the other.
-use Rattle.std.proofs.Common.{◌≡◌, ℕ, ◌^◌, ◌<◌, ◌∙◌, true, false, length, slice_index, slice_set, nat_lt, if◌then◌else◌, refl, ap, arith, get_or-set_same}
+use Rattle.std.proofs.Common.{◌≡◌, ℕ, ◌<◌, ◌∙◌, true, false, length, slice_index, slice_set, nat_lt, if◌then◌else◌, refl, ap, arith, get_or-set_same}
 use Rattle.std.proofs.lemmas.Bool.{ltb-true}
 use Rattle.std.proofs.lemmas.List.{set-set, set-get_or, length-set, length-replicate}
 use Rattle.std.proofs.lemmas.List.Elements.{All-set, All-get_or, All-replicate}
+use Rattle.vt_model.specs.Counts.{one_more, one_fewer, fewer-more}
 use Rattle.vt_parts.specs.declared.histogram.Histogram.{Histogram}
-use Rattle.vt_parts.specs.Histogram.{IsHistogram, IsCount, one_more, one_fewer, empty_histogram, bin_of, with_bin, with_beyond, counted, uncounted}
-
--- one more and then one fewer
-fewer-more : (n : ℕ) → n < 2 ^ 64 → one_fewer (one_more n) ≡ n
-fewer-more n fits = omega arith
+use Rattle.vt_parts.specs.Histogram.{IsHistogram, IsCount, empty_histogram, bin_of, with_bin, with_beyond, counted, uncounted}
 
 module _ {N : ℕ} where
   -- an empty histogram is a histogram

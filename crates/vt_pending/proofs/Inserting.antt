@@ -1,6 +1,7 @@
 -- A letter is put into a row at the place where a walk along the lists ends.
 use Rattle.std.proofs.Common.{Bool, true, false, not, ◌||◌, if◌then◌else◌, ◌≡◌, refl, sym, ap, ◌∙◌, subst}
 use Rattle.std.specs.Prelude.{ℕ, List, [], ◌∷◌, ◌++◌, filter, find, slice_get, Option, Some, None}
+use Rattle.std.specs.Option.{unwrap_or}
 use Rattle.vt_key.specs.Order.{rank_before}
 use Rattle.vt_key.specs.Queues.{letter_rank, insert_letter}
 use Rattle.vt_key.specs.declared.order.Rank.{Rank}
@@ -39,16 +40,13 @@ module _ {P : Type 0} where
   between-lists x (z ∷ zs) ([] ∷ lists) is = refl
   between-lists x (z ∷ zs) ((y ∷ ys) ∷ lists) is =
       let test : List (Letter P) → Bool = begins_with (is_reached (letter_rank x)) in
-      let rank_or : Option (Letter P) → Rank = λ o. letter_rank (or_first z o) in
+      let rank_or : Option (Letter P) → Rank = λ o. letter_rank (unwrap_or o z) in
       elim (rank_before (letter_rank y) (letter_rank x)) as (λ t. (if not t then [] else (y ∷ ys) ∷ before_first test lists) ++ ((z ∷ zs) ∷ (if not t then (y ∷ ys) ∷ lists else from_first test lists))
       ≡ (if t then (y ∷ ys) ∷ put_list (z ∷ zs) lists else (z ∷ zs) ∷ (y ∷ ys) ∷ lists)) [
         | true ↦ ap (λ l. (y ∷ ys) ∷ l) (between-lists x (z ∷ zs) lists is)
         | false ↦ refl
       ]
-      ∙ ap (λ (o : Option (Letter P)). if rank_before (letter_rank y) (rank_or o) then (y ∷ ys) ∷ put_list (z ∷ zs) lists else (z ∷ zs) ∷ (y ∷ ys) ∷ lists) (sym is) where
-        or_first : Letter P → Option (Letter P) → Letter P
-        or_first w None = w
-        or_first w (Some v) = v
+      ∙ ap (λ (o : Option (Letter P)). if rank_before (letter_rank y) (rank_or o) then (y ∷ ys) ∷ put_list (z ∷ zs) lists else (z ∷ zs) ∷ (y ∷ ys) ∷ lists) (sym is)
 
   -- a letter in the row from its place on
   pub insert-parted : (x : Letter P) (lists : List (List (Letter P)))

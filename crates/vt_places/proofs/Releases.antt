@@ -1,6 +1,7 @@
 -- The release after each call, in the words of its contract.
 use Rattle.std.proofs.Common.{◌≡◌, ◌≢◌, ◌⊎◌, inl, inr, ℕ, ◌<◌, arith, List, [], ◌∷◌, ◌++◌, refl, sym, ◌∙◌, subst, le_refl, Option, Some, None, Result, Ok, Err, MatchResult}
 use Rattle.std.proofs.lemmas.List.{append-nil}
+use Rattle.std.specs.Option.{unwrap_or}
 use Rattle.atomic_table.specs.Table.{Allows}
 use Rattle.vt_key.specs.Times.{Time, TimeAtMost}
 use Rattle.vt_key.specs.declared.fault.Fault.{Fault}
@@ -25,7 +26,7 @@ use Rattle.vt_places.specs.Hands.{empty_hand}
 use Rattle.vt_places.specs.Slots.{cell_count, word_at, empty_word, claimed_word, home_word, cell_at, held_in}
 use Rattle.vt_places.specs.Kept.{Sat, HasGrown, Kept, Rests}
 use Rattle.vt_cells.specs.Calls.{Acts, PassesThere, IsCellStepOf}
-use Rattle.vt_places.specs.Calls.{seen_or, Unvisited, Closes, Known, Reaches, Visited, Holding, ShowsFloor, MaySee}
+use Rattle.vt_places.specs.Calls.{Unvisited, Closes, Known, Reaches, Visited, Holding, ShowsFloor, MaySee}
 use Rattle.vt_places.proofs.Growth.{grown-not}
 use Rattle.vt_places.proofs.Keeps.{releases, Looked, looks}
 
@@ -42,21 +43,21 @@ home-not_empty e = absurd (omega arith)
 abbrev pub GaveBack : {P : Type 0} → Sat P → Sat P → Type 0
 GaveBack m after = Rests after × (after.0.worker ≡ m.0.worker)
 
-pub may-see : {P : Type 0} (end t : Time) (seen : Option Time) (cell : Cell P) → MaySee end seen cell → TimeAtMost (seen_or t seen) t ⊎ ShowsFloor end (seen_or t seen) cell
+pub may-see : {P : Type 0} (end t : Time) (seen : Option Time) (cell : Cell P) → MaySee end seen cell → TimeAtMost (unwrap_or seen t) t ⊎ ShowsFloor end (unwrap_or seen t) cell
 may-see end t None cell h = inl (le_refl t)
 may-see end t (Some now) cell h = inr h
 
 module _ {S P K : Type 0} (handlers : Handlers S P K) (config : Config) (lawful : IsLawful (simulation_of handlers config)) where
   -- without a step, and with the cell as it was
   pub leaves-unvisited : (slots id k x : ℕ) (m : Sat P) (seen : Option Time) (found : Cell P) → k < cell_count config.workers → x ≢ claimed_word → (x ≡ empty_word → found ≡ in_inbox []) → Holding config m k found found → MaySee (end_of config) seen found
-      → Allows (Kept (simulation_of handlers config) config) slots id m (word_at k) (λ _. x) (λ _. (λ (n : ℕ) (after : Sat P). GaveBack m after × Unvisited m.0 (seen_or m.0.seen seen) after.0) x)
+      → Allows (Kept (simulation_of handlers config) config) slots id m (word_at k) (λ _. x) (λ _. (λ (n : ℕ) (after : Sat P). GaveBack m after × Unvisited m.0 (unwrap_or seen m.0.seen) after.0) x)
   leaves-unvisited slots id k x m seen found near home empty h sees =
       let sim = simulation_of handlers config in
       let same : Leads sim m.0.worker (cell_at sim.workers k) m.0.part found [] m.0.part (held_in h.slot) [] =
       subst (λ (c : Cell P). Leads sim m.0.worker (cell_at sim.workers k) m.0.part found [] m.0.part c []) (sym h.now_is) (leads-nowhere sim m.0.worker (cell_at sim.workers k) m.0.part found) in
-      releases sim config lawful slots id k x m found h.slot [] m.0.part [] (λ _. m.0.log) (seen_or m.0.seen seen) (λ (n : ℕ) (after : Sat P). GaveBack m after × Unvisited m.0 (seen_or m.0.seen seen) after.0) near home (λ e _. h.now_is ∙ empty e) h.carried h.hand h.right same
+      releases sim config lawful slots id k x m found h.slot [] m.0.part [] (λ _. m.0.log) (unwrap_or seen m.0.seen) (λ (n : ℕ) (after : Sat P). GaveBack m after × Unvisited m.0 (unwrap_or seen m.0.seen) after.0) near home (λ e _. h.now_is ∙ empty e) h.carried h.hand h.right same
       (λ log g. subst (HasGrown m.0.worker m.0.log) (sym (append-nil log)) g)
-      (subst (λ (c : Cell P). TimeAtMost (seen_or m.0.seen seen) m.0.seen ⊎ ShowsFloor sim.end (seen_or m.0.seen seen) c) (sym h.now_is) (may-see (end_of config) m.0.seen seen found sees))
+      (subst (λ (c : Cell P). TimeAtMost (unwrap_or seen m.0.seen) m.0.seen ⊎ ShowsFloor sim.end (unwrap_or seen m.0.seen) c) (sym h.now_is) (may-see (end_of config) m.0.seen seen found sees))
       (λ n known. (
         ((refl, refl), refl),
         record {

@@ -35,11 +35,6 @@ use Rattle.vt_places.specs.Hands.{Hand, empty_hand, holding}
 use Rattle.vt_places.specs.Slots.{cell_at, held_in, IsSlotOf}
 use Rattle.vt_places.specs.Kept.{Sat, HasGrown}
 
--- the floor that a place was shown: this one, if one was shown to it now
-abbrev pub seen_or : Time → Option Time → Time
-seen_or before None = before
-seen_or before (Some now) = now
-
 -- an answer as that of a step, by the reply that its value stands for
 abbrev pub answer_as : {X : Type 0} → (X → Reply) → Result X Fault → Result Reply Fault
 answer_as reply (Ok x) = Ok (reply x)

@@ -1,6 +1,6 @@
 //! The station and its places.
 
-ghost use Rattle.std.specs.Prelude.{◌≡◌, ◌≢◌, ◌<◌, ◌≤◌, ◌+◌, [], true, false, Ok, IfOk, MatchResult};
+ghost use Rattle.std.specs.Prelude.{◌≡◌, ◌≢◌, ◌<◌, ◌≤◌, ◌+◌, [], true, false, Ok, IfOk, MatchResult, unwrap_or};
 ghost use Rattle.atomic_table.specs.Table.{Allows};
 ghost use Rattle.vt_model.specs.Histories.{IsLawful};
 ghost use Rattle.vt_model.specs.Simulation.{simulation_of};
@@ -15,7 +15,7 @@ ghost use Rattle.vt_places.specs.Slots.{cell_count, word_at, empty_word, claimed
 ghost use Rattle.vt_places.specs.Kept.{Kept, Rests};
 ghost use Rattle.vt_places.specs.Commits.{Commits};
 ghost use Rattle.vt_cells.specs.Calls.{IsCellStepOf, CommitsTo};
-ghost use Rattle.vt_places.specs.Calls.{Took, TookThere, Holding, MaySee, Reaches, Visited, Unvisited, Closes, ShowsFloor, answer_as, seen_or};
+ghost use Rattle.vt_places.specs.Calls.{Took, TookThere, Holding, MaySee, Reaches, Visited, Unvisited, Closes, ShowsFloor, answer_as};
 
 use crate::rule::{About, Aim, Law, Tell};
 use crate::slot::Slot;
@@ -223,7 +223,7 @@ impl<M: EventModel> Station<M> {
         requires near { cell < cell_count self.now.workers }
         requires held { let key = self.now.table.shared.key in (found : Cell _) × Holding key.config seat.old.me cell found found × MaySee (end_of key.config) seen found }
         ensures same { (seat.new.table_id ≡ seat.old.table_id) × (seat.new.id ≡ seat.old.id) × Rests seat.new.me × (seat.new.me.0.worker ≡ seat.old.me.0.worker) }
-        ensures stays { Unvisited seat.old.me.0 (seen_or seat.old.me.0.seen seen) seat.new.me.0 }
+        ensures stays { Unvisited seat.old.me.0 (unwrap_or seen seat.old.me.0.seen) seat.new.me.0 }
     {
         self.store::<Brand, Option<When>>(seat, cell, HOME, &seen);
     }

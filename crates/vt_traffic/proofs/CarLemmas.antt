@@ -3,13 +3,14 @@ use Rattle.std.proofs.Common.{◌≡◌, ℕ, ◌+◌, ◌*◌, ◌^◌, ◌<◌
 use Rattle.std.proofs.lemmas.Bool.{eqb-false}
 use Rattle.std.proofs.lemmas.List.Sums.{sum_by-cons, sum_by-append}
 use Rattle.vt_model.specs.Sends.{SendRequest}
+use Rattle.vt_model.specs.Counts.{one_more}
 use Rattle.vt_traffic.specs.declared.grid.Traffic.{Traffic}
 use Rattle.vt_traffic.specs.declared.junction.Road.{Road}
 use Rattle.vt_traffic.specs.declared.junction.Junction.{Junction}
 use Rattle.vt_traffic.specs.declared.junction.JunctionEvent.{JunctionEvent}
 use Rattle.vt_traffic.specs.declared.junction.JunctionEvent.TheVariants.{Arrive, Leave, Change}
 use Rattle.vt_stream.specs.Drawn.{scaled}
-use Rattle.vt_traffic.specs.Junction.{is_same_road, one_more, can_enter, with_car, entered, leave, entry, gone}
+use Rattle.vt_traffic.specs.Junction.{is_same_road, can_enter, with_car, entered, leave, entry, gone}
 use Rattle.vt_traffic.specs.Traffic.{change_after, after_event, own_sends, filled, traffic_start, traffic_forward}
 use Rattle.vt_traffic.specs.Cars.{cars_crossing, cars_at, cars_brought, cars_sent}
 

@@ -7,6 +7,7 @@ use Rattle.vt_traffic.specs.declared.junction.JunctionEvent.{JunctionEvent}
 use Rattle.vt_traffic.specs.declared.junction.JunctionEvent.TheVariants.{Leave}
 use Rattle.vt_traffic.specs.declared.junction.TheConstants.{CROSSING}
 use Rattle.vt_model.specs.Sends.{SendRequest}
+use Rattle.vt_model.specs.Counts.{one_more, one_fewer}
 
 -- the road that crosses another
 abbrev pub other_road : Road → Road
@@ -23,14 +24,6 @@ is_same_road Southward Southward = true
 -- how many cars wait at the lights
 abbrev pub waiting : Junction → ℕ
 waiting j = (j.at_green + j.at_red) % 2 ^ 64
-
--- a number of cars with one more
-abbrev pub one_more : ℕ → ℕ
-one_more n = (n + 1) % 2 ^ 64
-
--- with one fewer
-abbrev pub one_fewer : ℕ → ℕ
-one_fewer n = (n + (2 ^ 64 - 1)) % 2 ^ 64
 
 -- a car joins the queue on its road
 abbrev pub joined : Road → Junction → Junction

@@ -1,6 +1,8 @@
 -- What the handlers of `Traffic` give.
-use Rattle.std.specs.Prelude.{ℕ, ◌+◌, ◌%◌, ◌^◌, List, [], ◌∷◌, ◌++◌, Bool, not, nat_eq, bit_and, Option, Some, None, if◌then◌else◌}
+use Rattle.std.specs.Prelude.{ℕ, ◌+◌, ◌%◌, ◌^◌, List, [], ◌∷◌, ◌++◌, Option, Some, None, if◌then◌else◌}
 use Rattle.vt_model.specs.Handler.{Handlers, StartResult, ForwardResult}
+use Rattle.vt_model.specs.Counts.{one_more, one_fewer}
+use Rattle.vt_model.specs.Flags.{has_flag}
 use Rattle.vt_model.specs.Sends.{SendRequest, RecordRequest}
 use Rattle.vt_model.specs.declared.flags.Bits.{Bits}
 use Rattle.vt_traffic.specs.declared.grid.Traffic.{Traffic}
@@ -13,7 +15,7 @@ use Rattle.vt_traffic.specs.declared.junction.JunctionEvent.{JunctionEvent}
 use Rattle.vt_traffic.specs.declared.junction.JunctionEvent.TheVariants.{Arrive, Leave, Change}
 use Rattle.vt_stream.specs.Drawn.{scaled}
 use Rattle.vt_parts.specs.Drawing.{happens}
-use Rattle.vt_traffic.specs.Junction.{other_road, waiting, joined, unjoined, changed, can_enter, entered, entry, gone, one_more, one_fewer}
+use Rattle.vt_traffic.specs.Junction.{other_road, waiting, joined, unjoined, changed, can_enter, entered, entry, gone}
 
 -- the road by which a car goes on: it turns where its word, in percent, is below the share of those that turn
 abbrev pub onward : Traffic → Road → ℕ → Road
@@ -89,10 +91,6 @@ traffic_forward m lps lp p j words = record {
   send_requests = own_sends m lps lp p j.crossing words ++ entry lp (after_event p j);
   record_requests = own_records p j.crossing (after_event p j) ++ record { kind = WAITING; value = waiting (entered (after_event p j)) } ∷ [];
 }
-
--- a flag is set
-abbrev pub has_flag : Bits → ℕ → Bool
-has_flag b i = not (nat_eq (bit_and b.flags (2 ^ i)) 0)
 
 -- a junction before a car entered, if one did, with the car that was crossing then
 abbrev pub before_entry : Bits → Option Road → Junction → Junction

@@ -4,6 +4,7 @@ use Rattle.std.proofs.Math.Nat.{mod-lt}
 use Rattle.std.proofs.lemmas.List.Elements.{All-nil, All-cons, All-append}
 use Rattle.vt_model.specs.Handler.{IsWithinLimits, IsSendable, AreWords}
 use Rattle.vt_model.specs.Sends.{SendRequest}
+use Rattle.vt_model.specs.Counts.{one_more, one_fewer, fewer-more}
 use Rattle.vt_traffic.specs.declared.grid.Traffic.{Traffic}
 use Rattle.vt_traffic.specs.declared.grid.TheConstants.{ENTERED}
 use Rattle.vt_traffic.specs.declared.junction.Junction.{Junction}
@@ -11,7 +12,7 @@ use Rattle.vt_traffic.specs.declared.junction.Road.{Road}
 use Rattle.vt_traffic.specs.declared.junction.Road.TheVariants.{Eastward, Southward}
 use Rattle.vt_traffic.specs.declared.junction.JunctionEvent.{JunctionEvent}
 use Rattle.vt_traffic.specs.declared.junction.JunctionEvent.TheVariants.{Arrive, Leave, Change}
-use Rattle.vt_traffic.specs.Junction.{is_same_road, joined, unjoined, can_enter, with_car, entered, leave, entry, gone, one_more, one_fewer, other_road, AreCounts}
+use Rattle.vt_traffic.specs.Junction.{is_same_road, joined, unjoined, can_enter, with_car, entered, leave, entry, gone, other_road, AreCounts}
 use Rattle.vt_traffic.specs.Traffic.{next_junction, departure, filled, after_event, own_sends, own_records, words_drawn, entry_bits, before_entry, before_leave, before_event, traffic_start, traffic_forward, traffic_reverse}
 
 -- few requests, which are sendable
@@ -103,10 +104,6 @@ event_counts Change j fits = (fits.1, fits.0, fits.2)
 
 pub forward_state : (m : Traffic) (lps lp now : ℕ) (p : JunctionEvent) (j : Junction) (words : ℕ → ℕ) → AreCounts j → AreCounts (traffic_forward m lps lp p j words).state
 forward_state m lps lp now p j words fits = entered_counts (after_event p j) (event_counts p j fits)
-
--- one more and then one fewer, and the other way round
-fewer-more : (n : ℕ) → n < 2 ^ 64 → one_fewer (one_more n) ≡ n
-fewer-more n fits = omega arith
 
 -- where a car can enter, one waits
 some_wait : (n : ℕ) (b : Bool) → (not (nat_eq n 0) && b) ≡ true → n ≡ 0 → ⊥

@@ -1,6 +1,7 @@
-use Rattle.vt_places.specs.Calls.{Unvisited, seen_or}
+use Rattle.std.specs.Option.{unwrap_or}
+use Rattle.vt_places.specs.Calls.{Unvisited}
 use Rattle.vt_places.proofs.Releases.{GaveBack}
 use Rattle.vt_places.proofs.station.Station.release_unchanged.Given as goal
 
 abbrev pub ghosts-store : goal.ghosts-store
-ghosts-store g a = record { after = λ n m. GaveBack a.seat.now.me m × Unvisited a.seat.now.me.0 (seen_or a.seat.now.me.0.seen a._told.now) m.0 }
+ghosts-store g a = record { after = λ n m. GaveBack a.seat.now.me m × Unvisited a.seat.now.me.0 (unwrap_or a._told.now a.seat.now.me.0.seen) m.0 }

@@ -1,0 +1,15 @@
+-- Counts of 64 bits, as a model keeps them.
+use Rattle.std.specs.Prelude.{◌≡◌, ℕ, ◌+◌, ◌-◌, ◌%◌, ◌^◌, ◌<◌}
+use Rattle.std.proofs.Common.{arith}
+
+-- one more
+abbrev pub one_more : ℕ → ℕ
+one_more n = (n + 1) % 2 ^ 64
+
+-- one fewer
+abbrev pub one_fewer : ℕ → ℕ
+one_fewer n = (n + (2 ^ 64 - 1)) % 2 ^ 64
+
+-- one more and then one fewer
+pub fewer-more : (n : ℕ) → n < 2 ^ 64 → one_fewer (one_more n) ≡ n
+fewer-more n fits = omega arith
