@@ -2,11 +2,11 @@
 use Rattle.std.specs.Prelude.{◌≡◌, ℕ, ◌+◌, ◌-◌, ◌%◌, ◌^◌, ◌<◌}
 use Rattle.std.proofs.Common.{arith}
 
--- one more
+-- a count with one more
 abbrev pub one_more : ℕ → ℕ
 one_more n = (n + 1) % 2 ^ 64
 
--- one fewer
+-- a count with one fewer
 abbrev pub one_fewer : ℕ → ℕ
 one_fewer n = (n + (2 ^ 64 - 1)) % 2 ^ 64
 
