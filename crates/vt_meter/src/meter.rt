@@ -8,7 +8,7 @@ use std::sync::atomic::{AtomicBool, AtomicU64, Ordering};
 use std::thread;
 use std::thread::{Parker, Threads};
 use std::time::{Clock, Duration, Instant};
-use vt_station::{Progress, Watch};
+use vt_watch::{Progress, Watch};
 
 /// How many milliseconds a run takes before it is shown. A shorter run shows nothing.
 const LONG: u64 = 2_000;

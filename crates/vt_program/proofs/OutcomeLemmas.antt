@@ -4,7 +4,7 @@ use Rattle.clap.specs.Words.{Text}
 use Rattle.vt_key.specs.declared.fault.Fault.{Fault}
 use Rattle.vt_options.specs.Own.{Models}
 use Rattle.vt_command.specs.Table.{twarp_models}
-use Rattle.vt_runner.specs.Models.{EndsFor}
+use Rattle.vt_tasks.specs.Models.{EndsFor}
 use Rattle.vt_program.specs.Models.{meaning_of, IsMadeOf}
 use Rattle.vt_program.specs.Outcomes.{EndsBy}
 

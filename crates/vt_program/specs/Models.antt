@@ -10,7 +10,7 @@ use Rattle.vt_options.specs.declared.own.Chosen.{Chosen}
 use Rattle.vt_options.specs.Own.{GiveModel}
 use Rattle.vt_options.specs.Table.{Given}
 use Rattle.vt_command.specs.Table.{twarp_models}
-use Rattle.vt_runner.specs.Models.{AnyHandlers, any_handlers}
+use Rattle.vt_tasks.specs.Models.{AnyHandlers, any_handlers}
 use Rattle.vt_program.specs.declared.models.TwarpModel.{TwarpModel}
 use Rattle.vt_program.specs.declared.models.TwarpModel.TheVariants.{Hop, Phold, Stations}
 

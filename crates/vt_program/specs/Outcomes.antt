@@ -3,8 +3,8 @@ use Rattle.std.specs.Prelude.{ℕ, List, Option, codes}
 use Rattle.clap.specs.Words.{Text}
 use Rattle.vt_key.specs.declared.fault.Fault.{Fault}
 use Rattle.vt_command.specs.Table.{twarp_models}
-use Rattle.vt_runner.specs.Outcomes.{Program, IsDoneBy, EndsWith, IsReadBy, AskBadLine}
-use Rattle.vt_runner.specs.Models.{program_of}
+use Rattle.vt_tasks.specs.Outcomes.{Program, IsDoneBy, EndsWith, IsReadBy, AskBadLine}
+use Rattle.vt_tasks.specs.Models.{program_of}
 use Rattle.vt_program.specs.Models.{meaning_of, IsMadeOf}
 
 -- the program of the three models

@@ -15,8 +15,8 @@ ghost use Rattle.vt_command.specs.Requests.{AskHelp, IsRefusedAs};
 ghost use Rattle.vt_program.specs.Refusals.{TellsRefusal, status_of};
 ghost use Rattle.vt_program.specs.Models.{IsChoice, IsMadeOf, meaning_of};
 ghost use Rattle.vt_program.specs.Outcomes.{AskWithBadLine, IsDone, IsRead, EndsBy};
-ghost use Rattle.vt_runner.specs.Models.{CarriesOut};
-ghost use Rattle.vt_runner.specs.Tasks.{IsCounted};
+ghost use Rattle.vt_tasks.specs.Models.{CarriesOut};
+ghost use Rattle.vt_tasks.specs.Tasks.{IsCounted};
 
 pub use models::TwarpModel;
 use models::{carry_out, model_of};
@@ -32,8 +32,8 @@ use vt_key::Fault;
 use vt_options::{Chosen, Task};
 use vt_runner::models_program;
 pub use vt_runner::words_of;
-pub use vt_station::{Progress, Unwatched, Watch};
 pub use vt_text::print_records;
+pub use vt_watch::{Progress, Unwatched, Watch};
 
 /// The whole program: does what the words ask for, and returns the exit status. The first word is the program's name.
 ///

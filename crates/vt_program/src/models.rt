@@ -2,7 +2,7 @@
 
 ghost use Rattle.std.specs.Prelude.{◌≡◌, OnOk, IfErr, Some};
 ghost use Rattle.vt_options.specs.Own.{AreInRange};
-ghost use Rattle.vt_runner.specs.Tasks.{IsCounted, IsTaskDone, TaskEnds, KeepsInput};
+ghost use Rattle.vt_tasks.specs.Tasks.{IsCounted, IsTaskDone, TaskEnds, KeepsInput};
 ghost use Rattle.vt_command.specs.Table.{hop_table, phold_table, stations_table};
 ghost use Rattle.vt_program.specs.Models.{IsChoice, IsMadeOf, hop_values, phold_values, stations_values, meaning_of};
 
@@ -13,7 +13,7 @@ use std::thread::Threads;
 use vt_key::Fault;
 use vt_models::{Hop, Phold, Stations};
 use vt_options::{Chosen, Task};
-use vt_station::Watch;
+use vt_watch::Watch;
 
 /// One of the models of the program, made of the values of its options.
 #[derive(Drop)]

@@ -1,10 +1,2 @@
-pub mod RefusalLemmas
 pub mod RunLemmas
-pub mod PrintLemmas
-pub mod OutcomeLemmas
-pub mod ReplyLemmas
-pub mod ReplayLemmas
-pub mod ModelsLemmas
-pub mod ProgramLemmas
 pub mod OneModelLemmas
-pub mod ShareLemmas

@@ -5,7 +5,7 @@ use Rattle.std.proofs.lemmas.Grind.{get_or_head}
 use Rattle.vt_options.specs.declared.own.OwnOption.{OwnOption}
 use Rattle.vt_options.specs.Own.{only, number_table, number_option, AreInRange, AreWithin, GiveModel}
 use Rattle.vt_options.specs.Table.{Given, NumberOption}
-use Rattle.vt_runner.proofs.ModelsLemmas as models
+use Rattle.vt_tasks.proofs.ModelsLemmas as models
 
 -- they are those of its options
 module _ (given : Given) (own : List OwnOption) (k : ℕ) (vs : List ℕ) (h : GiveModel (only own) given k vs) where

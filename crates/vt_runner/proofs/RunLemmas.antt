@@ -1,8 +1,7 @@
 -- What a run in threads writes that stops: what comes before a time begins the text of the whole run.
-use Rattle.std.proofs.Common.{◌≡◌, ◌∙◌, ◌++◌, ◌<◌, ◌≤◌, ◌⊎◌, ℕ, true, false, refl, List, [], Option, inl, inr, sym, ap, subst, map, nat_lt, append-nil, append_assoc, arith}
+use Rattle.std.proofs.Common.{◌≡◌, ◌∙◌, ◌++◌, ◌<◌, ◌≤◌, ℕ, List, [], Option, inl, inr, sym, ap, subst, map, append-nil, arith}
 use Rattle.std.specs.Io.KnownBytes.{Appends}
-use Rattle.std.proofs.lemmas.Bool.{ltb-true, ltb-false, cases_lt}
-use Rattle.std.proofs.lemmas.List.Concat.{flat_map-append}
+use Rattle.std.proofs.lemmas.Bool.{cases_lt}
 use Rattle.vt_key.specs.Times.{Time}
 use Rattle.vt_key.specs.declared.fault.Fault.{Fault}
 use Rattle.vt_key.specs.declared.fault.Fault.TheVariants.{Output}
@@ -21,10 +20,11 @@ use Rattle.vt_steps.proofs.book.SequentialRows.{seq_records-begin}
 use Rattle.vt_station.specs.Crew.{IsStop}
 use Rattle.vt_station.proofs.CrewLemmas.{none-at-first}
 use Rattle.vt_text.specs.declared.version.Version.{Version}
-use Rattle.vt_text.specs.Records.{first_line, record_text, record_lines, records_text}
+use Rattle.vt_text.specs.Records.{record_lines, records_text}
 use Rattle.vt_text.specs.Writing.{AppendsBeginning}
 use Rattle.vt_text.proofs.TextLemmas.{of_longer}
-use Rattle.vt_runner.specs.Runs.{text_below, run_text, WritesBelow, WritesNone, StopsWork}
+use Rattle.vt_tasks.specs.Runs.{text_below, run_text, WritesBelow, WritesNone, StopsWork}
+use Rattle.vt_tasks.proofs.PrintLemmas.{records_text-append}
 
 module _ {S P : Type 0} (sim : Simulation S P) (lawful : IsLawful sim) where
   -- each event of the whole run is before the end
@@ -48,11 +48,6 @@ module _ {S P : Type 0} (sim : Simulation S P) (lawful : IsLawful sim) where
     | inl soon ↦ seq_records-begin sim lawful t sim.end (omega arith)
     | inr late ↦ ([], sym (append-nil (seq_records sim t) ∙ late-same t late))
   ]
-
--- the text of records begins that of more records
-pub records_text-append : (version : Version) (records more : List Record) → records_text version (records ++ more) ≡ records_text version records ++ record_lines version more
-records_text-append version records more =
-    ap (λ l. first_line version ++ l) (flat_map-append (record_text version) records more) ∙ sym (append_assoc (first_line version) (record_lines version records) (record_lines version more))
 
 module _ (version : Version) {S P K : Type 0} (handlers : Handlers S P K) (config : Config) (lawful : IsLawful (simulation_of handlers config)) where
   -- the text below any time begins that of the whole run

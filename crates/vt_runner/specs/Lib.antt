@@ -1,10 +1,1 @@
-pub mod Refusals
-pub mod Runs
-pub mod Replays
-pub mod Replying
-pub mod Tasks
-pub mod Outcomes
-pub mod Programs
-pub mod Models
 pub mod OneModel
-pub mod Shares

@@ -10,7 +10,7 @@ use Rattle.vt_options.specs.declared.own.Chosen.{Chosen}
 use Rattle.vt_options.specs.declared.own.OwnOption.{OwnOption}
 use Rattle.vt_options.specs.Own.{only}
 use Rattle.vt_options.specs.Taken.{own_names, taken_in}
-use Rattle.vt_runner.specs.Models.{AnyHandlers, any_handlers, IsDoneFor, EndsFor, IsReadFor, AskBadLineFor}
+use Rattle.vt_tasks.specs.Models.{AnyHandlers, any_handlers, IsDoneFor, EndsFor, IsReadFor, AskBadLineFor}
 
 -- a model with these handlers, which values of its options may make, or nothing, under a name and with a table of options
 module _ {M S P K : Type 0} (handlers : M → Handlers S P K) (Makes : List ℕ → Option M → Type 0) (name : Text) (own : List OwnOption) where

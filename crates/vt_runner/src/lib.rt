@@ -5,21 +5,14 @@
 //! models: it is handed their table, and a closure that carries a task out on the one that the words choose.
 #![tactic(auto)]
 
-mod counting;
 mod one_model;
-mod printing;
 mod process;
-mod program;
-mod refusal;
-mod replaying;
 mod simulation;
 mod task;
 
 pub use one_model::{Streams, model_program};
 pub use process::{hint_of_process, run_program, words_of};
-pub use program::models_program;
-pub use refusal::tell_refusal;
-pub use replaying::replay;
 pub use simulation::simulate;
 pub use task::carry_out;
-pub use vt_station::{Progress, Unwatched, Watch};
+pub use vt_tasks::{models_program, replay, tell_refusal};
+pub use vt_watch::{Progress, Unwatched, Watch};

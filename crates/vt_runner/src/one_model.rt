@@ -7,12 +7,12 @@ ghost use Rattle.clap.specs.Words.{Text};
 ghost use Rattle.vt_key.specs.declared.fault.Fault.{Fault};
 ghost use Rattle.vt_options.specs.Own.{HaveDefaults, AreWithin, own_app, own_line};
 ghost use Rattle.vt_options.specs.Requests.{AskHelpOf, IsRefusedAsOf};
-ghost use Rattle.vt_runner.specs.Refusals.{TellsRefusalOf, status_of};
-ghost use Rattle.vt_runner.specs.Tasks.{IsCounted};
-ghost use Rattle.vt_runner.specs.Models.{any_handlers, CarriesOut};
+ghost use Rattle.vt_tasks.specs.Refusals.{TellsRefusalOf, status_of};
+ghost use Rattle.vt_tasks.specs.Tasks.{IsCounted};
+ghost use Rattle.vt_tasks.specs.Models.{any_handlers, CarriesOut};
 ghost use Rattle.vt_runner.specs.OneModel.{IsDoneOf, EndsOf, IsReadOf, AskBadLineOf};
 
-use crate::{carry_out, models_program};
+use crate::carry_out;
 use std::alloc::Global;
 use std::convert::AsStr;
 use std::io::{Read, Write};
@@ -21,7 +21,8 @@ use std::thread::Threads;
 use vt_key::Fault;
 use vt_model::Model as EventModel;
 use vt_options::{Chosen, ModelOptions, ModelTable, OwnOption, ProgramTexts, Task};
-use vt_station::Watch;
+use vt_tasks::models_program;
+use vt_watch::Watch;
 
 /// The heading of the options of a model that is the only one.
 pub(crate) const OWN_HEADING: &str = "Options of the model";

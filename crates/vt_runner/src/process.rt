@@ -9,11 +9,10 @@ ghost use Rattle.vt_key.specs.declared.fault.Fault.{Fault};
 ghost use Rattle.vt_key.specs.declared.fault.Fault.TheVariants.{Memory};
 ghost use Rattle.vt_options.specs.Own.{HaveDefaults, AreWithin};
 ghost use Rattle.vt_options.specs.Taken.{own_names, taken_in};
-ghost use Rattle.vt_runner.specs.Refusals.{TellsRefusalOf, status_of};
+ghost use Rattle.vt_tasks.specs.Refusals.{TellsRefusalOf, status_of};
 ghost use Rattle.vt_runner.specs.OneModel.{IsDoneOf, EndsOf, IsReadOf, IsRefusedUnasked};
 
 use crate::one_model::{OWN_HEADING, Streams, model_program};
-use crate::tell_refusal;
 use std::alloc::Global;
 use std::env;
 use std::env::Env;
@@ -23,7 +22,8 @@ use std::thread::Threads;
 use vt_key::Fault;
 use vt_model::Model as EventModel;
 use vt_options::{ModelOptions, ModelTable, OwnOption, ProgramTexts, hint, taken_name};
-use vt_station::Watch;
+use vt_tasks::tell_refusal;
+use vt_watch::Watch;
 
 /// The words of the process, the program's name first. No contract says so: the library's `env::args` has none.
 ///

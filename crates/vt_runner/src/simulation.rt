@@ -2,71 +2,19 @@
 
 ghost use Rattle.std.specs.Prelude.{◌≡◌, OnOk, IfErr};
 ghost use Rattle.std.specs.Io.KnownBytes.{Appends};
-ghost use Rattle.vt_model.specs.Simulation.{simulation_of};
-ghost use Rattle.vt_seq.specs.Standing.{IsAt};
-ghost use Rattle.vt_runner.specs.Runs.{run_text, text_below, PassesInRun, StopsRun, StopsWork, StopsBy};
+ghost use Rattle.vt_tasks.specs.Runs.{run_text, text_below, PassesInRun, StopsWork, StopsBy};
 
-use crate::counting::EventCount;
-use crate::printing::print_in_threads;
 use std::alloc::Global;
 use std::io::Write;
 use std::sync::Wait;
 use std::thread::Threads;
-use vt_key::{Fault, When};
-use vt_model::{Model as EventModel, Out};
+use vt_key::Fault;
+use vt_model::Model as EventModel;
 use vt_options::{RunSettings, Synch};
-use vt_seq::Execution;
-use vt_station::{Watch, run_workers};
-use vt_text::{TextBuffer, print_records, put_lines};
-
-/// How many records are gathered before their lines are written.
-const GROUP: usize = 1_024;
-
-/// Simulates a model in this thread, and writes the records of the run while it goes on, in the version that the options
-/// name. If the run stops, what was gathered and not yet written is lost.
-fn print_run<M: EventModel, W: Watch, O: Write>(
-    alloc: Global,
-    model: &M,
-    options: &RunSettings,
-    watch: &W,
-    out: &mut O,
-) -> Result<(), Fault>
-    ensures ok { OnOk result (Appends (O.contents out.old) (O.contents out.new) (run_text options.now.text (M.handlers model.now) options.now.config)) }
-    ensures err { IfErr result (StopsRun (PassesInRun (M.handlers model.now) options.now.config) (O.contents out.old) (O.contents out.new) (run_text options.now.text (M.handlers model.now) options.now.config)) }
-{
-    let mut execution = Execution::new(alloc, model, options.config)?;
-    print_events(alloc, &mut execution, options, watch, out)
-}
-
-/// Brings an execution from its beginning to its end, and writes the records of its events as [`print_run`] does.
-fn print_events<M: EventModel, W: Watch, O: Write>(
-    alloc: Global,
-    execution: &mut Execution<'_, M>,
-    options: &RunSettings,
-    watch: &W,
-    out: &mut O,
-) -> Result<(), Fault>
-    requires config { execution.old.config ≡ options.now.config }
-    requires opening { IsAt (simulation_of (M.handlers execution.old.model) options.now.config) 0 execution.old }
-    ensures ok { OnOk result (Appends (O.contents out.old) (O.contents out.new) (run_text options.now.text (M.handlers execution.old.model) options.now.config)) }
-    ensures err { IfErr result (StopsRun (PassesInRun (M.handlers execution.old.model) options.now.config) (O.contents out.old) (O.contents out.new) (run_text options.now.text (M.handlers execution.old.model) options.now.config)) }
-{
-    let mut records = Vec::new(alloc);
-    let mut text = TextBuffer::new();
-    let mut handler_out = Out::new(options.config, 0, When::tick(0), 0);
-    let mut count = EventCount::new(watch, options.config.end().ticks());
-    text.put_bytes(out, options.text.first_line())?;
-    while execution.step_reusing(&mut records, &mut handler_out)? {
-        count.add(execution);
-        if records.len() >= GROUP {
-            put_lines(&mut text, out, records.as_slice(), options.text)?;
-            records.clear();
-        }
-    }
-    count.end(options.config.end().ticks());
-    put_lines(&mut text, out, records.as_slice(), options.text)?;
-    text.flush(out)
-}
+use vt_station::run_workers;
+use vt_tasks::{print_in_threads, print_run};
+use vt_text::print_records;
+use vt_watch::Watch;
 
 /// Simulates a model by Time Warp, in a thread for each worker, and writes the records of the run, in the version that
 /// the options name. If the run stops, it writes the committed records in that version before it returns the fault.

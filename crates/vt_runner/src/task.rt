@@ -1,9 +1,9 @@
 //! A run or a replay of a model, whichever is asked for.
 
 ghost use Rattle.std.specs.Prelude.{OnOk, IfErr};
-ghost use Rattle.vt_runner.specs.Tasks.{IsCounted, IsTaskDone, TaskEnds, KeepsInput};
+ghost use Rattle.vt_tasks.specs.Tasks.{IsCounted, IsTaskDone, TaskEnds, KeepsInput};
 
-use crate::{replay, simulate};
+use crate::simulate;
 use std::alloc::Global;
 use std::io::{Read, Write};
 use std::sync::Wait;
@@ -11,9 +11,10 @@ use std::thread::Threads;
 use vt_key::Fault;
 use vt_model::Model as EventModel;
 use vt_options::Task;
-use vt_station::Watch;
+use vt_tasks::replay;
+use vt_watch::Watch;
 
-/// Does a task with a model: runs it as [`simulate`] does, or replays steps on it as [`replay`] does. A run reads nothing. The first
+/// Does a task with a model: runs it as [`simulate`] does, or replays steps on it as [`replay`](vt_tasks::replay) does. A run reads nothing. The first
 /// serial of a replay is at most 2^63. Each fault is one of that call, and leaves what is said there.
 pub fn carry_out<
     H: Threads + Wait + Sync,

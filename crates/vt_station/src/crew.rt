@@ -16,7 +16,6 @@ ghost use Rattle.vt_station.specs.Crew.{IsSameJob, IsSameWork, AllAt, AreInOrder
 
 use crate::bell::{Bells, Start};
 use crate::driver::{Driver, Outcome, Wanted};
-use crate::watch::Watch;
 use std::alloc::Global;
 use std::marker::Model;
 use std::sync::Wait;
@@ -26,6 +25,7 @@ use vt_kernel::Kernel;
 use vt_key::Fault;
 use vt_model::{Config, Model as EventModel, Record};
 use vt_places::{Place, Station};
+use vt_watch::Watch;
 
 /// A run that stopped before its end: why, and the records that were committed, a beginning of all.
 #[derive(Drop)]

@@ -9,7 +9,6 @@ ghost use Rattle.vt_station.specs.Turns.{IsLasting, IsPassedOver, IsPartOfTurn, 
 
 use crate::bell::Bells;
 use crate::pace::Pace;
-use crate::watch::{Progress, Watch};
 use std::alloc::Global;
 use std::hint::spin_loop;
 use std::marker::Model;
@@ -20,6 +19,7 @@ use vt_kernel::Kernel;
 use vt_key::{Fault, When};
 use vt_model::{Config, Model as EventModel, Out};
 use vt_places::{Place, Station};
+use vt_watch::{Progress, Watch};
 
 /// How often in a row a worker tries again at once after it found a cell claimed by another place. Then it yields its
 /// processor.

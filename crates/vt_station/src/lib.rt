@@ -5,8 +5,7 @@ mod bell;
 mod crew;
 mod driver;
 mod pace;
-mod watch;
 
 pub use crew::{Finished, Stopped, run_workers, run_workers_to_finals};
 pub use vt_places::{NotMade, Place, Station, Worker, places_tell_the_list};
-pub use watch::{Progress, Unwatched, Watch};
+pub use vt_watch::{Progress, Unwatched, Watch};

@@ -2,10 +2,10 @@ use Rattle.std.proofs.Common.{codes, map, rules}
 use Rattle.vt_options.specs.Own.{models_of}
 use Rattle.vt_command.specs.Line.{given_in}
 use Rattle.vt_command.specs.Table.{twarp_models}
-use Rattle.vt_runner.specs.Programs.{IsTaskOf}
-use Rattle.vt_runner.specs.Refusals.{TellsRefusalOf}
-use Rattle.vt_runner.proofs.ModelsLemmas.{task_given}
-use Rattle.vt_runner.proofs.ProgramLemmas.{carried, EndsAs, ends_as, untouched, unrun}
+use Rattle.vt_tasks.specs.Programs.{IsTaskOf}
+use Rattle.vt_tasks.specs.Refusals.{TellsRefusalOf}
+use Rattle.vt_tasks.proofs.ModelsLemmas.{task_given}
+use Rattle.vt_tasks.proofs.ProgramLemmas.{carried, EndsAs, ends_as, untouched, unrun}
 use Rattle.vt_program.specs.Models.{meaning_of, IsMadeOf}
 use Rattle.vt_program.specs.Refusals.{TellsRefusal}
 use Rattle.vt_program.proofs.OutcomeLemmas.{ends_by, at_twarp}

@@ -4,11 +4,11 @@ use denote.Exit.{unseen}
 use denote.Param.Send.{Quiet-if}
 use Rattle.vt_options.specs.Line.{given_by}
 use Rattle.vt_options.specs.Own.{AreWithin, only, own_app}
-use Rattle.vt_runner.specs.Models.{any_handlers}
-use Rattle.vt_runner.specs.Refusals.{TellsRefusalOf}
-use Rattle.vt_runner.proofs.ModelsLemmas.{task_given}
+use Rattle.vt_tasks.specs.Models.{any_handlers}
+use Rattle.vt_tasks.specs.Refusals.{TellsRefusalOf}
+use Rattle.vt_tasks.proofs.ModelsLemmas.{task_given}
 use Rattle.vt_runner.proofs.OneModelLemmas.{values_are, within_are}
-use Rattle.vt_runner.proofs.ProgramLemmas.{carried, EndsAs, ends_as, untouched, unrun}
+use Rattle.vt_tasks.proofs.ProgramLemmas.{carried, EndsAs, ends_as, untouched, unrun}
 use Rattle.vt_runner.proofs.one_model.model_program.Given.{Over}
 use Rattle.vt_runner.proofs.one_model.model_program.Goals as goal
 

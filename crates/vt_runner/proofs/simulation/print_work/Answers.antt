@@ -5,7 +5,7 @@ use Rattle.vt_model.specs.Simulation.{simulation_of}
 use Rattle.vt_model.proofs.LawLemmas.{lawful_of}
 use Rattle.vt_key.proofs.ResultLemmas.{if_err}
 use Rattle.vt_station.specs.Crew.{IsStop}
-use Rattle.vt_runner.specs.Runs.{text_below, run_text, StopsWork}
+use Rattle.vt_tasks.specs.Runs.{text_below, run_text, StopsWork}
 use Rattle.vt_runner.proofs.RunLemmas.{part_begun, work_stops, output_begun}
 use Rattle.vt_runner.proofs.simulation.print_work.Given.{Over}
 use Rattle.vt_runner.proofs.simulation.print_work.Goals as goal
