@@ -24,6 +24,9 @@ impl<N> Model for Blocks<N> {
     ghost also_shares = { λ b _ κ. blocks_lent N.row b.owned κ };
 }
 
+// Blocks of the allocator belong to no thread, so they may go to another one if their contents may.
+unsafe impl<N: Send> Send for Blocks<N> {}
+
 impl<N> Blocks<N> {
     /// No block.
     pub(crate) fn none() -> Blocks<N>

@@ -34,6 +34,9 @@ impl Model for Link {
     ghost inverse_ok = { λ l h. ap (λ p. record { at = p }) (pointer_of-place l.at) };
 }
 
+// It owns nothing, so it may go to another thread.
+unsafe impl Send for Link {}
+
 impl Link {
     /// Nothing.
     pub fn none() -> Link
