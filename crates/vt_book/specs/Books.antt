@@ -8,10 +8,11 @@ use Rattle.vt_model.specs.declared.rows.Row.{Row}
 use Rattle.vt_steps.specs.World.{Book}
 use Rattle.vt_steps.specs.BookSteps.{may_commit, may_close}
 
--- the end of a run, and its book as the steps of a world know it
+-- the end of a run, its book as the steps of a world know it, and how many of the records that it shows were handed out
 pub record RunBook : Type 0 where
   pub end : Time
   pub book : Book
+  pub handed_out : ℕ
 
 -- ---- what a worker may hand in
 

@@ -1,9 +1,10 @@
 //! The book.
 
-ghost use Rattle.std.specs.Prelude.{◌≡◌, ◌≤◌, ◌<◌, ◌+◌, ◌^◌, ◌++◌, List, length, true, None, Ok, Err, IfOk, IfErr, IfSome, OnOk, MatchOption, MatchResult, vec_len, vec_capacity};
+ghost use Rattle.std.specs.Prelude.{◌≡◌, ◌≤◌, ◌<◌, ◌+◌, ◌^◌, ◌++◌, List, length, drop, true, None, Ok, Err, IfOk, IfErr, IfSome, OnOk, MatchOption, MatchResult, vec_len, vec_capacity};
 ghost use Rattle.std.specs.List.{list_all};
-ghost use Rattle.vt_key.specs.declared.fault.Fault.TheVariants.{Memory};
+ghost use Rattle.vt_key.specs.declared.fault.Fault.TheVariants.{Memory, Exhausted};
 ghost use Rattle.vt_key.specs.declared.limits.TheConstants.{MAX_WORKERS};
+ghost use Rattle.vt_model.specs.declared.rows.Record.{Record as RecordValue};
 ghost use Rattle.vt_model.specs.declared.rows.Row.{Row as RowValue};
 ghost use Rattle.vt_steps.specs.World.{opening_book, book_floor, book_records};
 ghost use Rattle.vt_steps.specs.Letters.{least_of};
@@ -15,19 +16,25 @@ use crate::floors::Floors;
 use crate::waiting::{add, show_between};
 use std::alloc::Global;
 use std::marker::Model;
+use std::mem;
 use vt_key::{Fault, Seen, When};
 use vt_model::{Record, Row};
 
 /// The rows that the workers of a run have handed in, and the floor up to which each has.
 ///
 /// The book's floor is the least of the workers'. Contracts see the end of the run and the book of the definitions: the rows in
-/// the order in which they were handed in, the floors by worker, and whether it is closed.
+/// the order in which they were handed in, the floors by worker, and whether it is closed. They also see how many records were
+/// handed out, which the book no longer keeps.
 #[derive(Drop)]
 pub struct Book {
     end: When,
     floors: Floors,
     // All rows, in the order in which they were handed in.
     history: Seen<Row>,
+    // The records that were handed out, and how many they are.
+    gone: Seen<Record>,
+    handed_out: usize,
+    // The other records of rows below the floor.
     shown: Vec<Record>,
     waiting: Vec<Row>,
     closed: bool,
@@ -36,16 +43,17 @@ pub struct Book {
 impl Model for Book {
     ghost use Rattle.vt_steps.specs.Letters.{least_of};
     ghost use Rattle.vt_book.specs.Books.{RunBook};
-    ghost use Rattle.vt_book.specs.Kept.{IsKept};
+    ghost use Rattle.vt_book.specs.Kept.{IsBookInside};
 
     ghost Value = { RunBook };
 
     ghost view = { λ b. record {
       end = b.end;
       book = record { rows = b.history.items; floors = b.floors; is_closed = b.closed };
+      handed_out = b.handed_out;
     } };
 
-    ghost invariant = { λ b. IsKept (least_of b.end b.floors) b.history.items b.shown.items b.waiting.items };
+    ghost invariant = { λ b. IsBookInside (least_of b.end b.floors) b.history.items b.gone.items b.handed_out b.shown.items b.waiting.items };
 }
 
 impl Book {
@@ -54,11 +62,14 @@ impl Book {
         requires { workers ≤ MAX_WORKERS }
         ensures end { result.end ≡ end }
         ensures book { result.book ≡ opening_book workers }
+        ensures whole { result.handed_out ≡ 0 }
     {
         Book {
             end,
             floors: Floors::new(workers),
             history: Seen::picked(),
+            gone: Seen::picked(),
+            handed_out: 0,
             shown: Vec::new(alloc),
             waiting: Vec::new(alloc),
             closed: false,
@@ -146,11 +157,11 @@ impl Book {
         self.floors.least(self.end)
     }
 
-    /// Copies of the records of the rows below the book's floor, in the order of the rows.
+    /// Copies of the records of the rows below the book's floor, in the order of the rows, but for those that were handed out.
     ///
     /// [`Fault::Memory`]: memory was refused.
     pub fn records(&self, alloc: Global) -> Result<Vec<Record>, Fault>
-        ensures records { IfOk result (λ records. records.items ≡ book_records self.now.end self.now.book) }
+        ensures records { IfOk result (λ records. records.items ≡ drop self.now.handed_out (book_records self.now.end self.now.book)) }
         ensures refused { IfErr result (λ fault. fault ≡ Memory) }
     {
         Vec::from_slice(alloc, &self.shown).map_err(|_| Fault::Memory)
@@ -158,9 +169,48 @@ impl Book {
 
     /// The same records, taken out of the book. It takes no memory.
     pub fn into_records(self) -> Vec<Record>
-        ensures { result.items ≡ book_records self.end self.book }
+        ensures { result.items ≡ drop self.handed_out (book_records self.end self.book) }
     {
         self.shown
+    }
+
+    /// How many records were handed out.
+    pub fn handed_out(&self) -> usize
+        ensures { result ≡ self.now.handed_out }
+    {
+        self.handed_out
+    }
+
+    /// Hands out the records that [`Book::records`] copies, in place of those in `records`, and keeps none of them. It uses the
+    /// memory of `records` from then on, and takes no other.
+    ///
+    /// [`Fault::Exhausted`]: with them it would have handed out 2^64 or more. Then nothing has changed.
+    pub fn hand_out(&mut self, records: &mut Vec<Record>) -> Result<(), Fault>
+        ensures few { IfOk result (λ _. length (book_records self.old.end self.old.book) < 2 ^ 64) }
+        ensures beginning { self.old.handed_out ≤ length (book_records self.old.end self.old.book) }
+        ensures handed { IfOk result (λ _. (records.new.items ≡ drop self.old.handed_out (book_records self.old.end self.old.book)) × (self.new ≡ record self.old { handed_out = length (book_records self.old.end self.old.book) })) }
+        ensures refused { IfErr result (λ fault. (fault ≡ Exhausted) × (2 ^ 64 ≤ length (book_records self.old.end self.old.book))) }
+        ensures unchanged { IfErr result (λ _. (self.new ≡ self.old) × (records.new.items ≡ records.old.items)) }
+    {
+        let Some(handed_out) = self.handed_out.checked_add(self.shown.len()) else {
+            return Err(Fault::Exhausted);
+        };
+        self.give(handed_out, records);
+        Ok(())
+    }
+
+    /// Hands its records out, which makes so many that were handed out. The caller picks the list of these.
+    fn give(&mut self, handed_out: usize, records: &mut Vec<Record>)
+        ghost all: { List RecordValue }
+        requires all { all ≡ book_records self.old.end self.old.book }
+        requires count { handed_out ≡ length all }
+        ensures handed { records.new.items ≡ drop self.old.handed_out all }
+        ensures counted { self.new ≡ record self.old { handed_out = handed_out } }
+    {
+        self.gone = Seen::picked();
+        self.handed_out = handed_out;
+        records.clear();
+        mem::swap(&mut self.shown, records);
     }
 
     /// Closes the book, which takes nothing more then. It takes no memory.

@@ -53,7 +53,7 @@ unrefused false false h k = absurd (let e : false ≡ true = k in cc)
 abbrev sim_of : {S P K : Type 0} → Handlers S P K → HeldWorker S P K → Simulation S P
 sim_of handlers k = simulation_of handlers k.config
 
-module _ {S P K : Type 0} {handlers : Handlers S P K} {k : HeldWorker S P K} {book : RunBook} (ends : book.end ≡ end_of k.config) where
+module _ {S P K : Type 0} {handlers : Handlers S P K} {k : HeldWorker S P K} (book : RunBook) (ends : book.end ≡ end_of k.config) where
   module _ (lawful : IsLawful (sim_of handlers k)) (r : AreReached handlers k book.book) where
     sound : AreTimesSound (sim_of handlers k) (reached (sim_of handlers k) r.serial r.steps)
     sound = reached-times (sim_of handlers k) lawful r.serial r.steps

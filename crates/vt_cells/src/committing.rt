@@ -46,6 +46,7 @@ pub fn hand_in<M: EventModel>(
     requires reached { (handlers : Handlers _ _ _) × AreOfOneWorld handlers kernel.now book.old.book }
     ensures step { (handlers : Handlers _ _ _) → IsHandInOf handlers kernel.now.config w kernel.now book.old.book book.new.book result }
     ensures end { book.new.end ≡ book.old.end }
+    ensures kept { book.new.handed_out ≡ book.old.handed_out }
     ensures why { MatchResult result (λ _. book.old.book.is_closed ≡ false) (IsHandInRefusal book.old.book) }
 {
     if book.is_closed() {
@@ -75,6 +76,7 @@ pub fn commit<M: EventModel>(
     requires reached { (handlers : Handlers _ _ _) × AreOfOneWorld handlers kernel.old book.old.book }
     ensures step { (handlers : Handlers _ _ _) → IsCellStepOf handlers kernel.old.config (step.Commit w) kernel.old kernel.new (in_book book.old.book) (in_book book.new.book) result }
     ensures end { book.new.end ≡ book.old.end }
+    ensures kept { book.new.handed_out ≡ book.old.handed_out }
 {
     let batch = batch_of(alloc, kernel);
     match hand_in(kernel, w, batch, book) {
@@ -95,6 +97,7 @@ pub fn close<M: EventModel>(book: &mut Book) -> Result<Reply, Fault>
     ensures unchanged { IfErr result (λ _. book.new.book ≡ book.old.book) }
     ensures why { MatchResult result (λ _. (book.old.book.is_closed ≡ false) × (book_floor book.new.end book.new.book ≡ book.new.end)) (IsClosingRefusal book.old) }
     ensures end { book.new.end ≡ book.old.end }
+    ensures kept { book.new.handed_out ≡ book.old.handed_out }
 {
     match book.close() {
         Ok(()) => Ok(Reply::Done),

@@ -31,14 +31,22 @@ module _ {S P : Type 0} {sim : Simulation S P} {config : Config} {m after : Sat 
 
   -- and of this run
   pub book-ends : book.end ≡ end_of config
-  book-ends = found-right t.holds value is
+  book-ends = (found-right t.holds value is).0
 
-  pub run-book : book ≡ record { end = end_of config; book = (shown sim t.known.log).book }
-  run-book = λ i. record { end = book-ends i; book = sym book-is i }
+  -- where there is one worker it has handed no record out
+  pub book-whole : config.workers ≡ 1 → book.handed_out ≡ 0
+  book-whole = (found-right t.holds value is).1
+
+  pub run-book : book ≡ record { end = end_of config; book = (shown sim t.known.log).book; handed_out = book.handed_out }
+  run-book = λ i. record { end = book-ends i; book = sym book-is i; handed_out = book.handed_out }
 
   -- what the seat holds once that is another
-  pub book-put : (new : RunBook) {left : Book} → new.book ≡ left → new.end ≡ book.end → Holding config (after.0, (k, slot.Book new) ∷ rest after.1) k (in_book book.book) (in_book left)
-  book-put new now same_end = puts t.holds value is (slot.Book new) (ap in_book now) (same_end ∙ book-ends)
+  pub book-put : (new : RunBook) {left : Book} → new.book ≡ left → new.end ≡ book.end → (config.workers ≡ 1 → new.handed_out ≡ 0) → Holding config (after.0, (k, slot.Book new) ∷ rest after.1) k (in_book book.book) (in_book left)
+  book-put new now same_end whole = puts t.holds value is (slot.Book new) (ap in_book now) (same_end ∙ book-ends, whole)
+
+  -- the same, where it has handed out no other records
+  pub book-kept : (new : RunBook) {left : Book} → new.book ≡ left → new.end ≡ book.end → new.handed_out ≡ book.handed_out → Holding config (after.0, (k, slot.Book new) ∷ rest after.1) k (in_book book.book) (in_book left)
+  book-kept new now same_end same_count = book-put new now same_end (λ one. same_count ∙ book-whole one)
 
   -- where the place has closed it, it is closed
   closed-is : has_closed (map answered m.0.mine) ≡ true → book.book.is_closed ≡ true

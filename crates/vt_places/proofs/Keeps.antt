@@ -1,5 +1,5 @@
 -- Each step on a station's table keeps the rule.
-use Rattle.std.proofs.Common.{◌≡◌, ◌≢◌, ◌⊎◌, ℕ, zero, suc, ◌<◌, ◌≤◌, List, [], ◌∷◌, ◌++◌, map, length, get_or, set, sym, refl, ap, ◌∙◌, subst, inl, ⊎_elim, arith, le_refl, le_trans, length-set, get_or-set_other, get_or-set_same, Some, slice_get}
+use Rattle.std.proofs.Common.{◌≡◌, ◌≢◌, ◌⊎◌, ℕ, zero, suc, ◌<◌, ◌≤◌, List, [], ◌∷◌, ◌++◌, length, get_or, set, sym, refl, ap, ◌∙◌, subst, inl, ⊎_elim, arith, le_refl, le_trans, length-set, get_or-set_other, get_or-set_same, Some, slice_get}
 use Rattle.std.specs.List.{AllByRecursion}
 use Rattle.std.proofs.lemmas.List.{map-append}
 use mathlib.Core.Logic.{dite}
@@ -16,7 +16,7 @@ use Rattle.vt_model.specs.Simulation.{Simulation}
 use Rattle.vt_steps.specs.declared.step.Step.{Step}
 use Rattle.vt_steps.specs.World.{Part, World, book_floor, opening_world}
 use Rattle.vt_steps.specs.Cells.{CellName, inbox_of, Cell, in_inbox, content}
-use Rattle.vt_steps.specs.Marked.{Marked, Made, Answered, answered, unmarked, marked, IsMarkedRight, own_steps_of, shown, DoesSo, Leads}
+use Rattle.vt_steps.specs.Marked.{Marked, Made, answered, unmarked, marked, IsMarkedRight, own_steps_of, shown, DoesSo, Leads}
 use Rattle.vt_steps.specs.Next.{run}
 use Rattle.vt_steps.proofs.book.ReachedBooks.{reached-falls}
 use Rattle.vt_steps.proofs.marks.MarkedRuns.{each-marked, own-append, shown-append, shown-marked}

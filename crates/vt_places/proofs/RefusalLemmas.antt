@@ -134,8 +134,8 @@ module _ {S P : Type 0} {sim : Simulation S P} {v : View P} {k : ℕ} {cell : Ce
           ],
         )
 
-    pub close-refused : (fault : Fault) → IsClosingRefusal (record { end = sim.end; book = there.book }) fault → (act sim Close before (in_book there.book)).answer ≡ Err fault → IsCloseRefusal sim v fault
-    close-refused fault why at =
+    pub close-refused : (fault : Fault) (handed_out : ℕ) → IsClosingRefusal (record { end = sim.end; book = there.book; handed_out = handed_out }) fault → (act sim Close before (in_book there.book)).answer ≡ Err fault → IsCloseRefusal sim v fault
+    close-refused fault handed_out why at =
         inr (
           refused-at-book Close tt refl (inl at),
           elim why [

@@ -1,5 +1,5 @@
 -- What the calls of a station answer and leave.
-use Rattle.std.specs.Prelude.{◌≡◌, ℕ, ◌+◌, ◌<◌, ◌≤◌, ◌⊎◌, true, false, List, [], ◌∷◌, ◌++◌, map, length, Option, Some, None, Result, Ok, Err, slice_get, IfSome}
+use Rattle.std.specs.Prelude.{◌≡◌, ℕ, ◌+◌, ◌^◌, ◌<◌, ◌≤◌, ◌⊎◌, true, false, List, [], ◌∷◌, ◌++◌, map, length, drop, Option, Some, Result, Ok, Err, slice_get, IfSome}
 use Rattle.std.specs.Result.{IsErrAnd}
 use Rattle.std.specs.List.{AllByRecursion}
 use Rattle.vt_key.specs.Times.{Time, TimeAtMost, TimeBefore}
@@ -280,9 +280,23 @@ module _ {S P : Type 0} (sim : Simulation S P) where
     pub rises : TimeAtMost v.seen floor
     pub closed : has_closed (map answered v.mine) ≡ true → floor ≡ sim.end
 
-  -- why a call that shows records is refused: the book was claimed by another place, or memory was refused
+  -- records that are handed out behind the first so many: with these, all that the place is shown. They can be counted
+  pub record AreHandedOut (v : View P) (floor : Time) (from : ℕ) (records : List Record) : Type 0 where
+    pub all : List Record
+    pub shown : AreRecordsShown v floor all
+    pub beginning : from ≤ length all
+    pub few : length all < 2 ^ 64
+    pub rest : records ≡ drop from all
+
+  -- why a call that shows records is refused: the book was claimed by another place, or has handed records out; or memory was refused
   abbrev pub IsRecordsRefusal : Fault → Type 0
   IsRecordsRefusal fault = ((fault ≡ Busy) × (1 < sim.workers)) ⊎ (fault ≡ Memory)
+
+  -- why a call that hands records out is refused: there is one worker; or the book was claimed by another place, or has not handed
+  -- out so many; or the sequential run has more of them than can be counted
+  abbrev pub IsHandOutRefusal : Fault → Type 0
+  IsHandOutRefusal fault =
+      ((fault ≡ NotLawful) × (sim.workers ≡ 1)) ⊎ ((fault ≡ Busy) × (1 < sim.workers)) ⊎ ((fault ≡ Exhausted) × ((t : Time) × (2 ^ 64 ≤ length (seq_records sim t))))
 
 -- a place that has closed the book is refused, as busy or as closed
 abbrev pub IsRefusedOnceClosed : {X P : Type 0} → View P → Result X Fault → Type 0

@@ -36,8 +36,9 @@ held_in (Inbox mails) = in_inbox mails.items
 held_in (Board board) = on_board board.board
 held_in (Book book) = in_book book.book
 
--- what is known of the slot of cell k beside: its mail is for worker k, and its board or book is of the run
+-- what is known of the slot of cell k beside: its mail is for worker k, and its board or book is of the run. Where there is one
+-- worker, the book has handed no record out
 abbrev pub IsSlotOf : {P : Type 0} → Config → ℕ → Slot P → Type 0
 IsSlotOf config k (Inbox mails) = AllOwnMail config k mails.items
 IsSlotOf config k (Board board) = board.end ≡ (end_of config)
-IsSlotOf config k (Book book) = book.end ≡ (end_of config)
+IsSlotOf config k (Book book) = (book.end ≡ (end_of config)) × (config.workers ≡ 1 → book.handed_out ≡ 0)

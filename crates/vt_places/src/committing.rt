@@ -8,7 +8,7 @@ ghost use Rattle.vt_model.specs.Settings.{end_of};
 ghost use Rattle.vt_steps.specs.declared.step.Step.TheVariants as step;
 ghost use Rattle.vt_steps.specs.declared.step.Reply.TheVariants as reply;
 ghost use Rattle.vt_places.specs.Told.{station_model, station_config, station_table, place_table, place_worker, place_view};
-ghost use Rattle.vt_places.specs.Calls.{Reaches, Visited, Closes, Unvisited, Stays, ShowsFloor, IsCommitRefusal, IsCloseRefusal, IsRecordsRefusal, IsFloorLeft, AreRecordsShown, IsRefusedOnceClosed, IsRefusedAlone};
+ghost use Rattle.vt_places.specs.Calls.{Reaches, Visited, Closes, Unvisited, Stays, ShowsFloor, IsCommitRefusal, IsCloseRefusal, IsRecordsRefusal, IsHandOutRefusal, IsFloorLeft, AreRecordsShown, AreHandedOut, IsRefusedOnceClosed, IsRefusedAlone};
 
 use crate::place::Place;
 use crate::slot::Slot;
@@ -109,8 +109,8 @@ impl<M: EventModel> Station<M> {
     /// Copies of the records that the book shows: exactly the sequential run's below some floor. That floor is at least
     /// each floor that this place was shown before.
     ///
-    /// [`Fault::Busy`]: another place has claimed the book. [`Fault::Memory`]: memory was refused. After either the
-    /// place is unchanged.
+    /// [`Fault::Busy`]: another place has claimed the book, or some of its records were handed out. [`Fault::Memory`]: memory
+    /// was refused. After either the place is unchanged.
     pub fn records(
         &self,
         alloc: Global,
@@ -131,6 +131,10 @@ impl<M: EventModel> Station<M> {
         let Slot::Book(book) = held else {
             unreachable!()
         };
+        if book.handed_out() > 0 {
+            self.release_unchanged(seat, self.workers + 1, None);
+            return Err(Fault::Busy);
+        }
         match book.records(alloc) {
             Ok(records) => {
                 let floor = book.floor();
@@ -146,9 +150,63 @@ impl<M: EventModel> Station<M> {
 }
 
 impl<M: EventModel> Station<M> {
+    /// Hands out the records that the book shows but for the first `from`, which must be those that it has handed out before.
+    /// They take the place of those in `records`, and the book keeps none of them. It uses the memory of `records` from then on,
+    /// and takes no other.
+    ///
+    /// All that it has handed out then are exactly the sequential run's records below some floor. That floor is at least each
+    /// floor that this place was shown before.
+    ///
+    /// [`Fault::NotLawful`]: there is one worker, whose book keeps its records. [`Fault::Busy`]: another place has claimed the
+    /// book, or not `from` records were handed out. [`Fault::Exhausted`]: with these 2^64 records or more would have been handed
+    /// out. After each of them the place and `records` are unchanged.
+    pub fn hand_out(
+        &self,
+        place: &mut Place<M::Payload>,
+        from: usize,
+        records: &mut Vec<Record>,
+    ) -> Result<(), Fault>
+        requires own { place_table place.old ≡ station_table self.now }
+        ensures same { (place_table place.new ≡ place_table place.old) × (place_worker place.new ≡ place_worker place.old) }
+        ensures done { let handlers = M.handlers (station_model self.now) in let config = station_config self.now in MatchResult result
+            (λ _. (floor : TimeValue) × AreHandedOut (simulation_of handlers config) (place_view place.old) floor from records.new.items × Unvisited (place_view place.old) floor (place_view place.new))
+            (λ _. Stays (place_view place.old) (place_view place.new)) }
+        ensures unchanged { IfErr result (λ _. records.new.items ≡ records.old.items) }
+        ensures refused { IfErr result (λ fault. IsHandOutRefusal (simulation_of (M.handlers (station_model self.now)) (station_config self.now)) fault) }
+    {
+        if self.workers == 1 {
+            return Err(Fault::NotLawful);
+        }
+        let seat = &mut place.seat;
+        if !self.claim_book(seat) {
+            return Err(Fault::Busy);
+        }
+        let held = seat.slot_mut(&self.table.shared, self.workers + 1);
+        let Slot::Book(book) = held else {
+            unreachable!()
+        };
+        if book.handed_out() != from {
+            self.release_unchanged(seat, self.workers + 1, None);
+            return Err(Fault::Busy);
+        }
+        match book.hand_out(records) {
+            Ok(()) => {
+                let floor = book.floor();
+                self.release_unchanged(seat, self.workers + 1, Some(floor));
+                Ok(())
+            }
+            Err(fault) => {
+                self.release_unchanged(seat, self.workers + 1, None);
+                Err(fault)
+            }
+        }
+    }
+}
+
+impl<M: EventModel> Station<M> {
     /// The records that the book shows, taken out of it. The book stays claimed: no place gets at it any more. It takes no memory.
     ///
-    /// [`Fault::Busy`]: another place had claimed the book.
+    /// [`Fault::Busy`]: another place had claimed the book, or some of its records were handed out. Then the book is as it was.
     pub fn take_out(&self, alloc: Global, place: Place<M::Payload>) -> Result<Vec<Record>, Fault>
         requires own { place_table place ≡ station_table self.now }
         ensures shown { let sim = simulation_of (M.handlers (station_model self.now)) (station_config self.now) in IfOk result (λ v. (floor : TimeValue) × AreRecordsShown sim (place_view place) floor v.items) }
@@ -159,6 +217,13 @@ impl<M: EventModel> Station<M> {
             return Err(Fault::Busy);
         }
         let held = seat.slot_mut(&self.table.shared, self.workers + 1);
+        let Slot::Book(book) = held else {
+            unreachable!()
+        };
+        if book.handed_out() > 0 {
+            self.release_unchanged(&mut seat, self.workers + 1, None);
+            return Err(Fault::Busy);
+        }
         let Slot::Book(book) = mem::replace(held, Slot::Inbox(Vec::new(alloc))) else {
             unreachable!()
         };
@@ -167,7 +232,7 @@ impl<M: EventModel> Station<M> {
 
     /// The same records, taken out of the book and not copied, with the end of the station. It takes no memory.
     ///
-    /// [`Fault::Busy`]: another place had claimed the book.
+    /// [`Fault::Busy`]: another place had claimed the book, or some of its records were handed out.
     pub fn into_records(self, alloc: Global, place: Place<M::Payload>) -> Result<Vec<Record>, Fault>
         requires own { place_table place ≡ station_table self }
         ensures shown { let sim = simulation_of (M.handlers (station_model self)) (station_config self) in IfOk result (λ v. (floor : TimeValue) × AreRecordsShown sim (place_view place) floor v.items) }

@@ -17,7 +17,7 @@ ghost use Rattle.vt_kernel.specs.Held.{StandsFor};
 ghost use Rattle.vt_kernel.specs.Guards.{IsDone, AreWithinLimits, IsExecuteRefusal, IsAcceptRefusal, SettlesTo};
 ghost use Rattle.vt_places.specs.Told.{station_model, station_config, station_table, place_table, place_view};
 ghost use Rattle.vt_places.specs.Making.{IsNew};
-ghost use Rattle.vt_places.specs.Calls.{Reaches, Visited, Closes, Unvisited, Stays, ShowsFloor, IsPostRefusal, IsFetchRefusal, IsCutRefusal, IsReportRefusal, IsCommitRefusal, IsCloseRefusal, IsRecordsRefusal, IsFloorLeft, AreRecordsShown, IsRefusedOnceClosed, IsRefusedAlone};
+ghost use Rattle.vt_places.specs.Calls.{Reaches, Visited, Closes, Unvisited, Stays, ShowsFloor, IsPostRefusal, IsFetchRefusal, IsCutRefusal, IsReportRefusal, IsCommitRefusal, IsCloseRefusal, IsRecordsRefusal, IsHandOutRefusal, IsFloorLeft, AreRecordsShown, AreHandedOut, IsRefusedOnceClosed, IsRefusedAlone};
 ghost use Rattle.vt_places.specs.AtWork.{IsAtSamePlace, IsAtSameStation};
 
 use crate::place::Place;
@@ -309,6 +309,21 @@ impl<'a, M: EventModel> Worker<'a, M> {
         ensures refused { IfErr result (λ fault. IsRecordsRefusal (simulation_of (M.handlers self.old.model) self.old.config) fault) }
     {
         self.station.records(self.alloc, &mut self.place)
+    }
+
+    /// Hands out the records that the book shows but for the first `from`, in place of those in `records`.
+    ///
+    /// [`Fault`]: as [`Station::hand_out`] says; the worker and `records` are unchanged.
+    pub fn hand_out(&mut self, from: usize, records: &mut Vec<Record>) -> Result<(), Fault>
+        ensures station { IsAtSameStation self.old self.new }
+        ensures kernel { self.new.kernel ≡ self.old.kernel }
+        ensures done { MatchResult result
+            (λ _. (floor : Time) × AreHandedOut (simulation_of (M.handlers self.old.model) self.old.config) self.old.view floor from records.new.items × Unvisited self.old.view floor self.new.view)
+            (λ _. Stays self.old.view self.new.view) }
+        ensures unchanged { IfErr result (λ _. records.new.items ≡ records.old.items) }
+        ensures refused { IfErr result (λ fault. IsHandOutRefusal (simulation_of (M.handlers self.old.model) self.old.config) fault) }
+    {
+        self.station.hand_out(&mut self.place, from, records)
     }
 
     /// The final value of each process of this worker, in rising order of processes.

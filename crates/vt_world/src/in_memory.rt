@@ -29,6 +29,7 @@ pub(crate) struct InMemory<'m, M: EventModel> {
     pub(crate) inboxes: Vec<Inbox<M::Payload>>,
     pub(crate) board: Board,
     pub(crate) book: Book,
+    ghost whole: { book.handed_out ≡ 0 },
 }
 
 impl<'m, M: EventModel> Model for InMemory<'m, M> {

@@ -1,7 +1,8 @@
 //! Two workers that exchange a straggler: the stretches of a run that the examples share.
 
-use crate::tests::hand::{do_step, is_answered, reads, reports, shows};
+use crate::tests::hand::{do_step, hands_out, is_answered, is_unread, reads, reports, shows};
 use crate::tests::told::holds;
+use std::alloc::AllocGlobal;
 use std::process::Abort;
 use vt_board::Report;
 use vt_kernel::Kernel;
@@ -68,6 +69,52 @@ impl<'a> Crew<'a> {
     pub(crate) fn reads(&mut self, rt: &impl Abort, w: usize, want: &[Record]) {
         let is_read = reads(self.workers.get_mut(w).expect(rt, "a worker"), want);
         holds(rt, is_read, "records");
+    }
+
+    /// The book must hand exactly these records out to worker `w`, where so many were handed out before.
+    pub(crate) fn is_handed(
+        &mut self,
+        rt: &(impl Abort + AllocGlobal),
+        w: usize,
+        from: usize,
+        want: &[Record],
+    ) {
+        let mut records = Vec::new(rt.alloc());
+        let answer = hands_out(
+            self.workers.get_mut(w).expect(rt, "a worker"),
+            from,
+            &mut records,
+        );
+        holds(
+            rt,
+            answer == Ok(()) && records.as_slice() == want,
+            "records that are handed out",
+        );
+    }
+
+    /// Worker `w` must be refused records behind so many, and keep those that it had.
+    pub(crate) fn is_refused_behind(
+        &mut self,
+        rt: &(impl Abort + AllocGlobal),
+        w: usize,
+        from: usize,
+        want: Fault,
+    ) {
+        let mut records = Vec::new(rt.alloc());
+        records.push(record(9, 0, 9)).expect(rt, "memory");
+        let answer = hands_out(
+            self.workers.get_mut(w).expect(rt, "a worker"),
+            from,
+            &mut records,
+        );
+        let is_kept = records.as_slice() == &[record(9, 0, 9)][..];
+        holds(rt, answer == Err(want) && is_kept, "refused records");
+    }
+
+    /// Worker `w` must be refused copies of the records.
+    pub(crate) fn reads_nothing(&mut self, rt: &impl Abort, w: usize) {
+        let is_refused = is_unread(self.workers.get_mut(w).expect(rt, "a worker"));
+        holds(rt, is_refused, "records that were handed out");
     }
 
     /// Process `lp` must be one of worker `w`, and have this state.

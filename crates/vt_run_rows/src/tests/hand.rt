@@ -64,6 +64,20 @@ pub(crate) fn reads(worker: &mut Worker<'_, Hop>, want: &[Record]) -> bool {
     }
 }
 
+/// Whether copies of the records are refused as busy.
+pub(crate) fn is_unread(worker: &mut Worker<'_, Hop>) -> bool {
+    matches!(records(worker), Err(Fault::Busy))
+}
+
+/// What the book answers where it is asked to hand out to the worker what it shows but for the first `from` records.
+pub(crate) fn hands_out(
+    worker: &mut Worker<'_, Hop>,
+    from: usize,
+    records: &mut Vec<Record>,
+) -> Result<(), Fault> {
+    worker.hand_out(from, records)
+}
+
 /// Whether process `lp` is one of the worker's own, and has this state.
 pub(crate) fn shows(kernel: &Kernel<Hop>, lp: u32, want: u64) -> bool {
     kernel.state(lp).copied() == Some(want)

@@ -1,11 +1,12 @@
-use Rattle.std.proofs.Common.{◌≡◌, ◌≤◌, ◌++◌, [], true, List, sym, ap, ◌∙◌, subst, slice_set}
+use Rattle.std.proofs.Common.{append_assoc, ◌≡◌, ◌≤◌, ◌++◌, [], true, List, sym, ap, ◌∙◌, subst, slice_set}
 use Rattle.std.specs.List.{sum_by}
 use Rattle.vt_key.specs.Times.{Time}
+use Rattle.vt_model.specs.declared.rows.Record.{Record}
 use Rattle.vt_model.specs.declared.rows.Row.{Row}
-use Rattle.vt_model.specs.Sequential.{rows_before}
+use Rattle.vt_model.specs.Sequential.{rows_before, records_of}
 use Rattle.vt_steps.specs.BookSteps.{with_rows}
 use Rattle.vt_steps.specs.Letters.{least_of}
-use Rattle.vt_steps.specs.Rows.{AreSameRows}
+use Rattle.vt_steps.specs.Rows.{AreSameRows, rows_in_order}
 use Rattle.vt_book.specs.Books.{RunBook, may_hand}
 use Rattle.vt_book.specs.Kept.{IsKept}
 use Rattle.vt_steps.proofs.time.Floors.{floor-rises}
@@ -22,7 +23,7 @@ show_between-requires-clause-late g c =
     let added : c.add.new.waiting.items ≡ waiting ++ rows = c.in_ok-add.ensures.rows ∙ ap (λ (rs : List Row). waiting ++ rs) c.into_rows.ensures in
     let same : AreSameRows c.add.new.waiting.items (waiting ++ rows) = λ f. ap (sum_by f) added in
     subst (λ (t : Time). rows_before t c.add.new.waiting.items ≡ []) (sym c.least-shown_to.ensures)
-    (late-after (least_of end floors) c.self.inside.history.items rows c.self.inside.shown.items waiting c.add.new.waiting.items c.self.invariant is.late same)
+    (late-after (least_of end floors) c.self.inside.history.items rows (c.self.inside.gone.items ++ c.self.inside.shown.items) waiting c.add.new.waiting.items c.self.invariant.kept is.late same)
 
 pub invariant_of-self-2 : goal.invariant_of-self-2
 invariant_of-self-2 g c =
@@ -36,17 +37,24 @@ invariant_of-self-2 g c =
     let is = lawful end floors w rows floor (subst (λ (b : RunBook). may_hand b w rows floor ≡ true) (sym c.self.view_is) c.requires.0) in
     let after = subst (λ (fs : List Time). least_of end floors ≤ least_of end fs) (sym c.set.ensures) (floor-rises end floors w is.handed_in floor is.at is.rising) in
     let rises = subst (λ (t : Time). least_of end floors ≤ t) (sym c.least-risen_to.ensures) after in
-    let kept : IsKept (least_of end floors) history c.make_room.new.shown.items waiting = record {
-      in_order = c.in_ok-make_room.ensures.shown ∙ c.self.invariant.in_order;
-      all_there = c.self.invariant.all_there;
+    let gone = c.self.inside.gone.items in
+    let kept : IsKept (least_of end floors) history (gone ++ c.make_room.new.shown.items) waiting = record {
+      in_order = ap (λ (rs : List Record). gone ++ rs) c.in_ok-make_room.ensures.shown ∙ c.self.invariant.kept.in_order;
+      all_there = c.self.invariant.kept.all_there;
     } in
     let added : c.add.new.waiting.items ≡ waiting ++ rows = c.in_ok-add.ensures.rows ∙ ap (λ (rs : List Row). waiting ++ rs) c.into_rows.ensures in
     let same : AreSameRows c.add.new.waiting.items (waiting ++ rows) = λ f. ap (sum_by f) added in
-    let new = kept-after (least_of end floors) c.least-risen_to.result history rows c.make_room.new.shown.items waiting c.add.new.waiting.items
-    c.show_between.new.waiting.items rises kept is.late same c.show_between.new.shown.items c.show_between.ensures.shown c.show_between.ensures.waiting in
+    let more = records_of (rows_in_order (rows_before c.least-risen_to.result c.add.new.waiting.items)) in
+    let shown : gone ++ c.show_between.new.shown.items ≡ (gone ++ c.make_room.new.shown.items) ++ more =
+    ap (λ (rs : List Record). gone ++ rs) c.show_between.ensures.shown ∙ sym (append_assoc gone c.make_room.new.shown.items more) in
+    let new = kept-after (least_of end floors) c.least-risen_to.result history rows (gone ++ c.make_room.new.shown.items) waiting c.add.new.waiting.items
+    c.show_between.new.waiting.items rises kept is.late same (gone ++ c.show_between.new.shown.items) shown c.show_between.ensures.waiting in
     let handed : c.picked.result.items ≡ history ++ rows = c.picked.ensures ∙ c.requires.1 ∙ ap (λ (b : RunBook). b.book.rows ++ rows) (sym c.self.view_is) in
-    subst (λ (t : Time). IsKept t c.picked.result.items c.show_between.new.shown.items c.show_between.new.waiting.items) c.least-risen_to.ensures
-    (subst (λ (rs : List Row). IsKept c.least-risen_to.result rs c.show_between.new.shown.items c.show_between.new.waiting.items) (sym handed) new)
+    record {
+      kept = subst (λ (t : Time). IsKept t c.picked.result.items (gone ++ c.show_between.new.shown.items) c.show_between.new.waiting.items) c.least-risen_to.ensures
+          (subst (λ (rs : List Row). IsKept c.least-risen_to.result rs (gone ++ c.show_between.new.shown.items) c.show_between.new.waiting.items) (sym handed) new);
+      counted = c.self.invariant.counted;
+    }
 
 pub returns-clause-taken : goal.returns-clause-taken
 unfolding with_rows
@@ -54,6 +62,6 @@ returns-clause-taken g c =
     let history = c.self.inside.history.items in
     let rows : c.picked.result.items ≡ history ++ c.args.batch = c.picked.ensures ∙ c.requires.1 ∙ ap (λ (b : RunBook). b.book.rows ++ c.args.batch) (sym c.self.view_is) in
     let floors : c.set.new.self ≡ slice_set c.self.inside.floors c.args.worker c.args.floor = c.set.ensures in
-    let made : RunBook = record { end = c.self.inside.end; book = record { rows = c.picked.result.items; floors = c.set.new.self; is_closed = c.self.inside.closed } } in
+    let made : RunBook = record { end = c.self.inside.end; book = record { rows = c.picked.result.items; floors = c.set.new.self; is_closed = c.self.inside.closed }; handed_out = c.self.inside.handed_out } in
     subst (λ (b : RunBook). made ≡ record b { book = with_rows c.args.worker c.args.batch c.args.floor b.book }) c.self.view_is
-    (λ i. record { end = c.self.inside.end; book = record { rows = rows i; floors = floors i; is_closed = c.self.inside.closed } })
+    (λ i. record { end = c.self.inside.end; book = record { rows = rows i; floors = floors i; is_closed = c.self.inside.closed }; handed_out = c.self.inside.handed_out })

@@ -7,7 +7,7 @@ use Rattle.vt_steps.specs.Cells.{Acted, in_book, act}
 use Rattle.vt_book.specs.Books.{RunBook}
 use Rattle.vt_cells.specs.Calls.{IsClosingRefusal}
 use Rattle.vt_places.proofs.CallLemmas.{closes-there}
-use Rattle.vt_places.proofs.BookAt.{book-ends, run-book, book-put, not-open, refused-once}
+use Rattle.vt_places.proofs.BookAt.{book-ends, run-book, book-kept, not-open, refused-once}
 use Rattle.vt_places.proofs.AloneLemmas.{close-alone}
 use Rattle.vt_places.proofs.RefusalLemmas as refusal
 use Rattle.vt_places.proofs.PlaceLemmas.{refused, released}
@@ -23,7 +23,7 @@ release_close-requires-clause-held g c κs within =
     let new = c.close.new.book in (
       in_book c.in-Book.book.book,
       in_book new.book,
-      book-put t c.slot_mut-held.ensures.value c.in-Book.is new refl ok.end,
+      book-kept t c.slot_mut-held.ensures.value c.in-Book.is new refl ok.end ok.kept,
       (λ part. ok.step sim (sym ends) part ∙ ap (λ r. (let a : Acted _ = record { part = part; cell = in_book new.book; answer = Ok r } in a)) ok.reply),
       c.floor-floor.ensures ∙ ap (λ e. book_floor e new.book) (ok.end ∙ ends),
     )
@@ -50,7 +50,7 @@ returns-in-Err-clause-refused g c =
     let part = c.args.place.now.seat.me.0.part in
     let fault = c.in-Err.fault in
     let why = c.in-Err.ensures in
-    refusal.close-refused t.known [] part refl t.lawful fault (subst (λ (b : RunBook). IsClosingRefusal b fault) is why.why)
+    refusal.close-refused t.known [] part refl t.lawful fault c.in-Book.book.handed_out (subst (λ (b : RunBook). IsClosingRefusal b fault) is why.why)
     (subst (λ (b : RunBook). (act sim Close part (in_book b.book)).answer ≡ Err fault) is (ap (λ (x : Acted _). x.answer) (why.step sim (ap (λ (b : RunBook). b.end) (sym is)) part)))
 
 pub returns-in-Err-clause-closed : goal.returns-in-Err-clause-closed

@@ -11,7 +11,7 @@ use Rattle.vt_kernel.specs.Held.{HeldWorker, StandsFor}
 use Rattle.vt_cells.specs.Calls.{IsCellRefusal, IsHandInRefusal, AreOfOneWorld, CommitsTo}
 use Rattle.vt_places.specs.Calls.{Visited, ShowsFloor}
 use Rattle.vt_places.proofs.CommitRelease.{committed-visited}
-use Rattle.vt_places.proofs.BookAt.{book-is, book-ends, book-put, not-open, refused-once, one-world}
+use Rattle.vt_places.proofs.BookAt.{book-is, book-ends, book-kept, not-open, refused-once, one-world}
 use Rattle.vt_places.proofs.ReachLemmas.{reaches-visited}
 use Rattle.vt_places.proofs.AloneLemmas.{commit-alone}
 use Rattle.vt_places.proofs.RefusalLemmas as refusal
@@ -34,7 +34,7 @@ release_commit-requires-clause-held g c κs within =
     let ok = c.in-Ok.ensures in (
       in_book old.book,
       in_book new.book,
-      book-put t c.slot_mut-held.ensures.value c.in-Book.is new refl ok.end,
+      book-kept t c.slot_mut-held.ensures.value c.in-Book.is new refl ok.end ok.kept,
       subst (λ (x : Config × HeldWorker _ _ _). CommitsTo H x.0 c.args.place.now.worker x.1 (in_book old.book) (in_book new.book)) (λ i. (c.requires.kernel.config_is i, sym c.of.ensures i)) (ok.step H).done.1,
       c.floor-seen.ensures ∙ ap (λ e. book_floor e new.book) (ok.end ∙ book-ends t c.slot_mut-held.ensures.value c.in-Book.is),
     )
@@ -42,7 +42,7 @@ release_commit-requires-clause-held g c κs within =
 pub release_unchanged-requires-clause-held : goal.release_unchanged-requires-clause-held
 release_unchanged-requires-clause-held g c κs within =
     let H = g.M.Model.handlers c.args.self.now.table.shared.key.model.value in
-    (in_book c.in-Book.book.book, book-put (c.if-not-claim_book.ensures.claimed refl) c.slot_mut-held.ensures.value c.in-Book.is c.hand_in.new.book (c.in-Err.ensures.step H).unchanged c.in-Err.ensures.end, tt)
+    (in_book c.in-Book.book.book, book-kept (c.if-not-claim_book.ensures.claimed refl) c.slot_mut-held.ensures.value c.in-Book.is c.hand_in.new.book (c.in-Err.ensures.step H).unchanged c.in-Err.ensures.end c.in-Err.ensures.kept, tt)
 
 pub returns-in-Ok-clause-done : goal.returns-in-Ok-clause-done
 returns-in-Ok-clause-done g c =

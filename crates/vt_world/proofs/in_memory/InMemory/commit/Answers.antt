@@ -1,4 +1,5 @@
 use Rattle.std.proofs.Common.{◌∙◌, ap, sym, refl}
+use Rattle.std.proofs.Math.Nat.{ℕ_set}
 use Rattle.vt_key.specs.declared.fault.Fault.TheVariants.{NotLawful, Closed}
 use Rattle.vt_model.specs.declared.settings.Config.{Config}
 use Rattle.vt_model.specs.Settings.{end_of}
@@ -42,3 +43,9 @@ returns g c =
     let m = c.self.inside.model.now in
     let at = worker-there c.self.invariant c.if-w-self.false c.index_mut.ensures.value in
     cell-step g.M.Model.handlers c.self.invariant (λ u. Commit c.args.w) refl refl at (book-put c.self.invariant at c.commit.new.kernel c.commit.new.book.book) (c.commit.ensures.step (g.M.Model.handlers m)) c.self.view_is
+
+pub same-self : goal.same-self
+same-self g c = (let i = c.self.inside in λ j. record { model = i.model; config = i.config; kernels = i.kernels; inboxes = i.inboxes; board = i.board; book = i.book; whole = ℕ_set i.book.handed_out 0 c.self-1.given.0 i.whole j })
+
+pub same-self-then-w-self : goal.same-self-then-w-self
+same-self-then-w-self g c = (let i = c.self.inside in λ j. record { model = i.model; config = i.config; kernels = i.kernels; inboxes = i.inboxes; board = i.board; book = i.book; whole = ℕ_set i.book.handed_out 0 c.self-then-w-self-1.given.0 i.whole j })

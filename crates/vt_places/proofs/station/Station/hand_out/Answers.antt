@@ -1,0 +1,41 @@
+use Rattle.std.proofs.Common.{◌≡◌, ◌≤◌, ◌^◌, List, [], refl, ap, sym, subst, ◌∙◌, drop, length, inr}
+use Rattle.vt_model.specs.declared.rows.Record.{Record}
+use Rattle.vt_steps.specs.World.{book_floor, book_records}
+use Rattle.vt_book.specs.Books.{RunBook}
+use Rattle.vt_places.proofs.CallLemmas.{unvisited-held}
+use Rattle.vt_places.proofs.BookAt.{run-book}
+use Rattle.vt_places.proofs.RefusalLemmas as refusal
+use Rattle.vt_places.proofs.station.Station.hand_out.Goals as goal
+
+pub returns-in-Ok-clause-done : goal.returns-in-Ok-clause-done
+returns-in-Ok-clause-done g c =
+    let t = c.if-not-claim_book.ensures.claimed refl in
+    let v = c.args.place.now.seat.me.0 in
+    let book = c.in-Book.book in
+    let is = run-book t c.slot_mut-held.ensures.value c.in-Book.is in
+    let all = book_records book.end book.book in
+    let ok = c.in-Ok.ensures in
+    let so_many : book.handed_out ≡ c.args.from = sym c.handed_out.ensures ∙ c.if-handed_out-from.false in (
+      c.floor-floor.result,
+      record {
+        all = all;
+        shown = refusal.records-shown t.known [] v.part refl t.lawful c.floor-floor.result all
+            (c.floor-floor.ensures ∙ ap (λ (b : RunBook). book_floor b.end b.book) ok.handed.1 ∙ ap (λ (b : RunBook). book_floor b.end b.book) is) (ap (λ (b : RunBook). book_records b.end b.book) is);
+        beginning = subst (λ n. n ≤ length all) so_many ok.beginning;
+        few = ok.few;
+        rest = ok.handed.0 ∙ ap (λ n. drop n all) so_many;
+      },
+      unvisited-held v c.claim_book.new.seat.me.0 c.floor-floor.result c.release_unchanged-in-Ok.new.seat.me.0 t.place c.release_unchanged-in-Ok.ensures.stays,
+    )
+
+pub returns-in-Err-clause-refused : goal.returns-in-Err-clause-refused
+returns-in-Err-clause-refused g c =
+    let t = c.if-not-claim_book.ensures.claimed refl in
+    let v = c.args.place.now.seat.me.0 in
+    let book = c.in-Book.book in
+    let is = run-book t c.slot_mut-held.ensures.value c.in-Book.is in
+    let floor = book_floor book.end book.book in
+    let all = book_records book.end book.book in
+    let shown = refusal.records-shown t.known [] v.part refl t.lawful floor all (ap (λ (b : RunBook). book_floor b.end b.book) is) (ap (λ (b : RunBook). book_records b.end b.book) is) in
+    let why = c.in-Err.ensures.refused in
+    inr (inr (why.0, (floor, subst (λ (l : List Record). 2 ^ 64 ≤ length l) shown.records_are why.1)))

@@ -1,0 +1,12 @@
+use Rattle.vt_model.specs.Simulation.{simulation_of}
+use Rattle.vt_places.specs.Calls.{AreHandedOut}
+use Rattle.vt_places.proofs.ReachLemmas.{reaches-shown}
+use Rattle.vt_places.proofs.WorkLemmas.{stays-at-work}
+use Rattle.vt_places.proofs.worker.Worker.hand_out.Goals as goal
+
+pub invariant_of-self : goal.invariant_of-self
+invariant_of-self g c =
+    let i = c.self.inside in
+    let after = c.hand_out in
+    stays-at-work c.self.invariant after.ensures.same.0
+    (reaches-shown (g.M.Model.handlers i.model.now) i.station.now.table.shared.key.config i.place.seat.me.0 after.new.place.seat.me.0 i.kernel c.self.invariant.reaches (λ floor v. AreHandedOut (simulation_of (g.M.Model.handlers i.station.now.table.shared.key.model.value) i.station.now.table.shared.key.config) i.place.seat.me.0 floor c.args.from after.new.records.items) after.result after.ensures.done)
