@@ -1,5 +1,5 @@
 -- The book, once a place has claimed it.
-use Rattle.std.proofs.Common.{◌≡◌, ◌⊎◌, inl, inr, ℕ, true, false, ◌∷◌, map, sym, ◌∙◌, ap, subst, Some, slice_get}
+use Rattle.std.proofs.Common.{◌≡◌, ◌⊎◌, inl, inr, ℕ, true, false, [], ◌∷◌, refl, map, sym, ◌∙◌, ap, subst, Some, slice_get}
 use Rattle.atomic_table.specs.Table.{rest}
 use Rattle.vt_key.specs.declared.fault.Fault.{Fault}
 use Rattle.vt_key.specs.declared.fault.Fault.TheVariants.{Busy, Closed}
@@ -8,7 +8,7 @@ use Rattle.vt_model.specs.Handler.{Handlers}
 use Rattle.vt_model.specs.Histories.{IsLawful}
 use Rattle.vt_model.specs.Simulation.{Simulation, simulation_of}
 use Rattle.vt_model.specs.Settings.{end_of}
-use Rattle.vt_steps.specs.World.{Book}
+use Rattle.vt_steps.specs.World.{Book, book_floor, book_records}
 use Rattle.vt_steps.specs.Cells.{in_book}
 use Rattle.vt_steps.specs.Next.{reached}
 use Rattle.vt_steps.specs.Marked.{unmarked, answered, has_closed, shown}
@@ -19,9 +19,9 @@ use Rattle.vt_cells.specs.Calls.{AreOfOneWorld}
 use Rattle.vt_places.specs.declared.slot.Slot.{Slot}
 use Rattle.vt_places.specs.declared.slot.Slot.TheVariants as slot
 use Rattle.vt_places.specs.Kept.{Sat}
-use Rattle.vt_places.specs.Calls.{Holding, TookThere, Reaches}
+use Rattle.vt_places.specs.Calls.{Holding, TookThere, Reaches, AreRecordsShown}
 use Rattle.vt_places.proofs.HeldLemmas.{same-book, found-is, found-right, puts}
-use Rattle.vt_places.proofs.RefusalLemmas.{marks, part-there, book-there}
+use Rattle.vt_places.proofs.RefusalLemmas.{marks, part-there, book-there, records-shown}
 
 module _ {S P : Type 0} {sim : Simulation S P} {config : Config} {m after : Sat P} {k : ℕ} (t : TookThere sim config (λ world. in_book world.book) m k after)
     {held : Slot P} {book : RunBook} (value : after.1 ≡ (k, held) ∷ rest after.1) (is : held ≡ slot.Book book) where
@@ -39,6 +39,13 @@ module _ {S P : Type 0} {sim : Simulation S P} {config : Config} {m after : Sat 
 
   pub run-book : book ≡ record { end = end_of config; book = (shown sim t.known.log).book; handed_out = book.handed_out }
   run-book = λ i. record { end = book-ends i; book = sym book-is i; handed_out = book.handed_out }
+
+  -- the records that it shows
+  pub shown-there : end_of config ≡ sim.end → AreRecordsShown sim m.0 (book_floor book.end book.book) (book_records book.end book.book)
+  shown-there ends =
+      let is : book ≡ record { end = sim.end; book = (shown sim t.known.log).book; handed_out = book.handed_out } = λ i. record { end = (book-ends ∙ ends) i; book = sym book-is i; handed_out = book.handed_out } in
+      records-shown t.known [] m.0.part refl t.lawful (book_floor book.end book.book) (book_records book.end book.book)
+      (ap (λ (b : RunBook). book_floor b.end b.book) is) (ap (λ (b : RunBook). book_records b.end b.book) is)
 
   -- what the seat holds once that is another
   pub book-put : (new : RunBook) {left : Book} → new.book ≡ left → new.end ≡ book.end → (config.workers ≡ 1 → new.handed_out ≡ 0) → Holding config (after.0, (k, slot.Book new) ∷ rest after.1) k (in_book book.book) (in_book left)
