@@ -1,4 +1,5 @@
 mod Boxes
+mod Crossing
 mod Further
 mod Lending
 pub mod Links
