@@ -5,6 +5,7 @@ mod driving;
 mod finals;
 mod hand;
 mod lines;
+mod pieces;
 mod refusals;
 mod replay;
 mod running;

@@ -1,8 +1,10 @@
 -- What the records of a place say of the run, once its worker's work has ended.
-use Rattle.std.proofs.Common.{ℕ, List, [], ◌∷◌, map, Bool, true, false, cond, Option, Some, Result, Ok, Err, inl, inr, subst, ap, refl, sym, ◌∙◌, arith, Vec, Global}
+use Rattle.std.proofs.Common.{ℕ, List, [], ◌∷◌, ◌++◌, length, take, drop, map, Bool, true, false, cond, Option, Some, None, IfSome, IfNone, slice_index_or, Result, Ok, Err, inl, inr, subst, ap, refl, sym, ◌∙◌, arith, Vec, Global}
+use Rattle.std.proofs.Math.Seq.{take-append_seam}
 use Rattle.std.proofs.lemmas.Bool.{le-ltb}
+use Rattle.std.proofs.lemmas.Option.{slice_get_within, get_or_from_slice_get}
+use Rattle.std.specs.Option.{unwrap_or}
 use Rattle.std.specs.Prelude.{◌≡◌, ◌<◌, ◌⊎◌, IfOk, IfErr, MatchResult}
-use Rattle.atomic_table.specs.Seated.{TableId}
 use Rattle.vt_key.specs.Times.{Time, opening_time, time_before}
 use Rattle.vt_key.specs.declared.fault.Fault.{Fault}
 use Rattle.vt_model.specs.declared.rows.Record.{Record}
@@ -11,7 +13,6 @@ use Rattle.vt_model.specs.Simulation.{Simulation}
 use Rattle.vt_model.specs.Sequential.{rows_before, records_of, rows_after, whole_run, seq_records}
 use Rattle.vt_steps.specs.Marked.{answered, has_closed}
 use Rattle.vt_places.specs.declared.view.View.{View}
-use Rattle.vt_places.specs.declared.place.Place.{Place}
 use Rattle.vt_station.specs.declared.crew.Stopped.{Stopped}
 use Rattle.vt_station.specs.declared.crew.Finished.{Finished}
 use Rattle.vt_station.specs.declared.driver.Outcome.{Outcome}
@@ -19,21 +20,20 @@ use Rattle.vt_station.specs.declared.driver.Outcome.TheVariants.{Closed}
 use Rattle.vt_places.specs.Calls.{AreRecordsShown}
 use Rattle.vt_key.specs.declared.fault.Fault.TheVariants.{Busy, TurnsSpent}
 use Rattle.vt_model.specs.declared.settings.Config.{Config}
-use Rattle.vt_station.specs.Crew.{AtJob, IsLeft, IsStop, IsToldBy, NoneClosed, first_fault}
+use Rattle.vt_station.specs.Crew.{AtJob, IsLeftBy, IsStop, IsToldBy, IsClosedAt, NoneClosed, first_fault}
 use Rattle.vt_station.specs.Turns.{IsLasting}
 
-module _ {S P : Type 0} (sim : Simulation S P) where
-  -- the worker closed the book, and its place knows it
-  pub closed-left : (table : TableId) (w : ℕ) (outcome : Option Outcome) (place : Place P) → IsLeft sim table w outcome place → outcome ≡ Some Closed → has_closed (map answered place.seat.me.0.mine) ≡ true
-  closed-left table w outcome place left is = subst (λ (o : Option Outcome). IsLeft sim table w o place) is left
+-- the worker closed the book, and its place knows it
+pub closed-left : {P : Type 0} (view : View P) (outcome : Option Outcome) → IsLeftBy view outcome → outcome ≡ Some Closed → has_closed (map answered view.mine) ≡ true
+closed-left view outcome left is = subst (λ (o : Option Outcome). IsLeftBy view o) is left
 
-  -- the records are those before some time, and where the worker closed the book all
-  pub records-left : {X : Type 0} (items : X → List Record) (result : Result X Fault) (v : View P) (outcome : Option Outcome)
-      → (outcome ≡ Some Closed → has_closed (map answered v.mine) ≡ true)
-      → IfOk result (λ x. (floor : Time) × AreRecordsShown sim v floor (items x))
-      → IfOk result (λ x. (floor : Time) × (items x ≡ seq_records sim floor) × (outcome ≡ Some Closed → floor ≡ sim.end))
-  records-left items (Ok x) v outcome closed done = (done.0, done.1.records_are, λ is. done.1.closed (closed is))
-  records-left items (Err fault) v outcome closed done = tt
+-- the records are those before some time, and where the worker closed the book all
+pub records-left : {S P X : Type 0} (sim : Simulation S P) (items : X → List Record) (result : Result X Fault) (v : View P) (outcome : Option Outcome)
+    → (outcome ≡ Some Closed → has_closed (map answered v.mine) ≡ true)
+    → IfOk result (λ x. (floor : Time) × AreRecordsShown sim v floor (items x))
+    → IfOk result (λ x. (floor : Time) × (items x ≡ seq_records sim floor) × (outcome ≡ Some Closed → floor ≡ sim.end))
+records-left sim items (Ok x) v outcome closed done = (done.0, done.1.records_are, λ is. done.1.closed (closed is))
+records-left sim items (Err fault) v outcome closed done = tt
 
 -- nothing is before the opening
 rows-none : (rows : List Row) → rows_before opening_time rows ≡ []
@@ -60,7 +60,7 @@ stop-fault config items (Ok x) fault told records (inr spent) busy stops = inr (
 stop-fault config items (Err refused) fault told records ended busy stops = inr (inr (stops.0 ∙ busy.0, busy.1, stops.1))
 
 -- and what it is told by: that fault, since no worker closed the book, or that the book was claimed
-pub stop-told : {M P X : Type 0} (config : Config) (jobs : List (AtJob M P)) (items : X → List Record) (result : Result X Fault) (fault told : Fault) (records : List Record) → NoneClosed jobs → fault ≡ first_fault jobs
+pub stop-told : {M X : Type 0} (config : Config) (jobs : List (AtJob M)) (items : X → List Record) (result : Result X Fault) (fault told : Fault) (records : List Record) → NoneClosed jobs → fault ≡ first_fault jobs
     → IfErr result (λ refused. (refused ≡ Busy) × (1 < config.workers)) → MatchResult result (λ x. (told ≡ fault) × (records ≡ items x)) (λ refused. (told ≡ refused) × (records ≡ [])) → IsToldBy jobs told records
 stop-told config jobs items (Ok x) fault told records none first busy stops = inl (none, stops.0 ∙ first)
 stop-told config jobs items (Err refused) fault told records none first busy stops = inr (stops.0 ∙ busy.0, stops.1)
@@ -82,3 +82,17 @@ module _ (records : Result (Vec Record Global) Stopped) (finals : Result (Vec �
   finish-stopped B Told (Ok v) is told all refused then = tt
   finish-stopped B Told (Err stopped) (inl is) told all refused then = subst (λ r. IfErr r (λ s. Told s.fault s.records.items)) is told
   finish-stopped B Told (Err stopped) (inr is) told all refused then = then stopped.records stopped.fault (subst (λ r. IfOk r A) is.0 all) (subst (λ r. IfErr r B) is.1 refused)
+
+-- a list that was lent to a call, which kept its length
+pub whole-again : {X : Type 0} (n : ℕ) (new old : List X) → length new ≡ n → take n (new ++ drop (length new) old) ≡ new
+whole-again n new old count = ap (λ m. take m (new ++ drop (length new) old)) (sym count) ∙ take-append_seam new (drop (length new) old)
+
+-- the job whose place is read: that of the worker that closed the book, if there is one, else the first
+module _ {M : Type 0} (jobs : List (AtJob M)) (some : 0 < length jobs) where
+  pub reader-there : (closer : Option ℕ) → IfSome closer (IsClosedAt jobs) → unwrap_or closer 0 < length jobs
+  reader-there (Some i) closed = slice_get_within jobs i closed.0 closed.1
+  reader-there None closed = some
+
+  pub reader-closed : (closer : Option ℕ) → IfSome closer (IsClosedAt jobs) → IfNone closer (NoneClosed jobs) → (NoneClosed jobs → ⊥) → (d : AtJob M) → (slice_index_or jobs (unwrap_or closer 0) d).outcome ≡ Some Closed
+  reader-closed (Some i) closed none some-closed d = ap (λ (j : AtJob M). j.outcome) (get_or_from_slice_get jobs i closed.0 d closed.1) ∙ closed.2
+  reader-closed None closed none some-closed d = absurd (some-closed none)

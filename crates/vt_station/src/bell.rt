@@ -122,9 +122,9 @@ impl Bell {
     }
 }
 
-/// The bells of all workers, by number, and what the workers count together.
+/// The bells of all workers, by number, and what the workers count together. By them a worker that can't go on is woken.
 #[derive(Drop)]
-pub(crate) struct Bells {
+pub struct Bells {
     bells: Vec<Bell>,
     // How many workers have begun.
     begun: Word,
@@ -137,7 +137,10 @@ pub(crate) struct Bells {
 }
 
 impl Bells {
-    pub(crate) fn new(alloc: Global, workers: u32) -> Result<Bells, Fault>
+    /// The bells of so many workers.
+    ///
+    /// [`Fault::Memory`]: memory was refused.
+    pub fn new(alloc: Global, workers: u32) -> Result<Bells, Fault>
         ensures refused { IfErr result (λ fault. fault ≡ Memory) }
     {
         let mut bells = Vec::new(alloc);
@@ -153,6 +156,12 @@ impl Bells {
             moves: Word::new(),
             stopped: AtomicBool::new(false),
         })
+    }
+
+    /// Forgets who has begun and who has left, before the next piece of a run.
+    pub(crate) fn reopen(&self) {
+        self.begun.value.store(0, Ordering::SeqCst);
+        self.stopped.store(false, Ordering::SeqCst);
     }
 
     /// How often the bell of worker `w` was rung. A worker reads it before it tries, and waits for more if nothing

@@ -9,22 +9,19 @@ ghost use Rattle.vt_key.specs.declared.fault.Fault.TheVariants.{Memory, Busy, Tu
 ghost use Rattle.vt_steps.specs.Finals.{final_value};
 ghost use Rattle.vt_station.specs.declared.driver.Outcome.TheVariants.{Closed};
 ghost use Rattle.vt_station.specs.declared.driver.Wanted.TheVariants.{Finals, Records};
-ghost use Rattle.vt_places.specs.Told.{station_model, station_config, station_table};
-ghost use Rattle.vt_places.specs.Making.{IsNew, AreNew};
 ghost use Rattle.vt_station.specs.Turns.{IsLasting};
 ghost use Rattle.vt_station.specs.Crew.{IsSameJob, IsSameWork, AllAt, AreInOrder, IsClosedAt, NoneClosed, NoneClosedBefore, first_fault, IsToldBy, IsStop};
 
-use crate::bell::{Bells, Start};
-use crate::driver::{Driver, Outcome, Wanted};
+use crate::bell::Bells;
+use crate::driver::{Outcome, Wanted};
+use crate::job::{Job, Task, jobs_at};
 use std::alloc::Global;
-use std::marker::Model;
 use std::sync::Wait;
 use std::thread;
 use std::thread::Threads;
-use vt_kernel::Kernel;
 use vt_key::Fault;
 use vt_model::{Config, Model as EventModel, Record};
-use vt_places::{Place, Station};
+use vt_places::Station;
 use vt_watch::Watch;
 
 /// A run that stopped before its end: why, and the records that were committed, a beginning of all.
@@ -47,178 +44,6 @@ pub struct Finished {
     pub records: Vec<Record>,
     /// What the model's `finish` makes of the state of each process after the whole run.
     pub finals: Vec<u64>,
-}
-
-/// What is asked of all workers of a run, and what watches them.
-#[derive(Drop)]
-struct Task<'a, W> {
-    watch: &'a W,
-    max_turns: u64,
-    wanted: Wanted,
-}
-
-/// The work of one worker: what it begins with, and how it ended.
-#[derive(Drop)]
-pub(crate) struct Job<'a, M: EventModel> {
-    station: &'a Station<M>,
-    model: &'a M,
-    config: Config,
-    worker: u32,
-    place: Option<Place<M::Payload>>,
-    outcome: Option<Outcome>,
-    // The final values of the worker's processes, once they are made.
-    finals: Option<Vec<u64>>,
-}
-
-impl<'a, M: EventModel> Model for Job<'a, M> {
-    ghost use Rattle.std.specs.Option.{option_map};
-    ghost use Rattle.vt_places.specs.Told.{station_model, station_config, station_table};
-    ghost use Rattle.vt_station.specs.Crew.{AtJob, IsJob};
-
-    ghost Value = { AtJob M M.Payload };
-
-    ghost view = { λ j. record {
-      model = j.model.now;
-      config = j.config;
-      table = station_table j.station.now;
-      worker = j.worker;
-      place = j.place;
-      outcome = j.outcome;
-      finals = option_map (λ v. v.items) j.finals;
-    } };
-
-    ghost invariant = { λ j. IsJob M.handlers (station_model j.station.now) (station_config j.station.now) (station_table j.station.now) j.model.now j.config j.worker j.place j.outcome (option_map (λ v. v.items) j.finals) };
-}
-
-impl<'a, M: EventModel> Job<'a, M> {
-    /// Makes the kernel and all turns of the worker, and the final values if they are wanted.
-    fn work<R: Wait, W: Watch>(&mut self, rt: &R, alloc: Global, bells: &Bells, task: &Task<'_, W>)
-        requires begins { self.old.outcome ≡ None }
-        ensures same { IsSameJob self.old self.new }
-    {
-        let Some(place) = self.place.take() else {
-            return;
-        };
-        match Kernel::new(alloc, self.model, self.config, self.worker) {
-            Ok(kernel) => {
-                let mut driver = Driver::new(
-                    alloc,
-                    self.station,
-                    self.model,
-                    self.config,
-                    place,
-                    kernel,
-                    bells,
-                );
-                self.outcome = Some(driver.run(rt, task.watch, task.max_turns));
-                driver.tell(task.watch);
-                self.finals = driver.finals(task.wanted);
-                self.place = Some(driver.leave());
-            }
-            Err(fault) => {
-                self.outcome = Some(Outcome::Refused(fault));
-                self.place = Some(place);
-            }
-        }
-    }
-}
-
-impl<'a, M: EventModel> Job<'a, M> {
-    /// All of the worker's work, once all workers have begun. It lets the others know how it ends.
-    fn run<R: Wait, W: Watch>(&mut self, rt: &R, alloc: Global, bells: &Bells, task: &Task<'_, W>)
-        ensures same { IsSameJob self.old self.new }
-    {
-        if self.outcome.is_some() {
-            return;
-        }
-        match bells.begin(rt) {
-            Start::Whole => self.work(rt, alloc, bells, task),
-            Start::Short => self.outcome = Some(Outcome::Refused(Fault::Memory)),
-            Start::Over => self.outcome = Some(Outcome::Spent),
-        }
-        match self.outcome {
-            Some(Outcome::Closed) => bells.ring_others(self.worker),
-            Some(Outcome::Ended) => {}
-            _ => bells.stop(self.worker),
-        }
-    }
-}
-
-impl<'a, M: EventModel> Job<'a, M> {
-    /// The records that the worker's place shows, taken out of the book.
-    fn into_records(self, alloc: Global) -> Result<Vec<Record>, Fault>
-        ensures shown { IfOk result (λ v. (floor : TimeValue) × (v.items ≡ seq_records (simulation_of (M.handlers self.entry.model) self.entry.config) floor) × (self.entry.outcome ≡ Some Closed → floor ≡ (end_of self.entry.config))) }
-        ensures refused { IfErr result (λ fault. (fault ≡ Busy) × (1 < self.entry.config.workers)) }
-    {
-        let Job { station, place, .. } = self;
-        let Some(place) = place else { unreachable!() };
-        station.take_out(alloc, place)
-    }
-
-    /// The final value of the worker's process at this index, if it is made.
-    fn final_at(&self, place: usize) -> Option<u64>
-        ensures { IfSome result (λ value. value ≡ final_value (simulation_of (M.handlers self.now.model) self.now.config) (place * self.now.config.workers + self.now.worker)) }
-    {
-        let Some(finals) = &self.finals else {
-            return None;
-        };
-        let Some(value) = finals.get(place) else {
-            return None;
-        };
-        Some(*value)
-    }
-}
-
-/// The work of worker `worker`, which has not begun.
-fn job_of<'a, M: EventModel>(
-    station: &'a Station<M>,
-    model: &'a M,
-    config: Config,
-    worker: u32,
-    place: Place<M::Payload>,
-) -> Job<'a, M>
-    requires known { worker < config.workers }
-    requires told { (station_model station.now ≡ model.now) × (station_config station.now ≡ config) }
-    requires place { IsNew (simulation_of (M.handlers model.now) config) (station_table station.now) worker place }
-    ensures told { (result.model ≡ model.now) × (result.config ≡ config) }
-    ensures worker { result.worker ≡ worker }
-    ensures begins { (result.outcome ≡ None) × (result.finals ≡ None) }
-{
-    Job {
-        station,
-        model,
-        config,
-        worker,
-        place: Some(place),
-        outcome: None,
-        finals: None,
-    }
-}
-
-/// The work of all workers, in order.
-fn jobs_at<'a, M: EventModel>(
-    alloc: Global,
-    station: &'a Station<M>,
-    model: &'a M,
-    config: Config,
-    places: Vec<Place<M::Payload>>,
-) -> Result<Vec<Job<'a, M>>, Fault>
-    requires told { (station_model station.now ≡ model.now) × (station_config station.now ≡ config) }
-    requires count { length places.items ≡ config.workers }
-    requires places { AreNew (simulation_of (M.handlers model.now) config) (station_table station.now) 0 places.items }
-    ensures told { IfOk result (λ v. AllAt model.now config v.items × (length v.items ≡ config.workers)) }
-    ensures order { IfOk result (λ v. AreInOrder v.items) }
-    ensures refused { IfErr result (λ fault. fault ≡ Memory) }
-{
-    let mut places = places;
-    let mut jobs = Vec::new(alloc);
-    for worker in 0..config.workers {
-        let place = places.remove(0);
-        let Ok(()) = jobs.push(job_of(station, model, config, worker, place)) else {
-            return Err(Fault::Memory);
-        };
-    }
-    Ok(jobs)
 }
 
 /// A run that stopped with these records, or without any where they were refused.
@@ -246,7 +71,7 @@ fn has_closed_book(outcome: Option<Outcome>) -> bool
 }
 
 /// The first job whose worker closed the book, if there is one.
-fn closer_of<M: EventModel>(jobs: &[Job<'_, M>]) -> Option<usize>
+pub(crate) fn closer_of<M: EventModel>(jobs: &[Job<'_, M>]) -> Option<usize>
     ensures some { IfSome result (IsClosedAt jobs.now) }
     ensures first { IfSome result (NoneClosedBefore jobs.now) }
     ensures none { IfNone result (NoneClosed jobs.now) }
@@ -263,7 +88,7 @@ fn closer_of<M: EventModel>(jobs: &[Job<'_, M>]) -> Option<usize>
 }
 
 /// Why the run stopped: the fault of the first worker that had one, else all turns were made.
-fn fault_of<M: EventModel>(jobs: &[Job<'_, M>]) -> Fault
+pub(crate) fn fault_of<M: EventModel>(jobs: &[Job<'_, M>]) -> Fault
     ensures first { result ≡ first_fault jobs.now }
     ensures stop { IsLasting result ⊎ (result ≡ TurnsSpent) }
 {
@@ -381,10 +206,9 @@ fn finish_with(
 }
 
 /// Does all workers' work, each worker's in a thread of its own.
-fn work_all<R: Threads + Wait + Sync, M: EventModel + Sync, W: Watch + Sync>(
+pub(crate) fn work_all<R: Threads + Wait + Sync, M: EventModel + Sync, W: Watch + Sync>(
     rt: &R,
     alloc: Global,
-    bells: &Bells,
     task: &Task<'_, W>,
     jobs: &mut [Job<'_, M>],
 )
@@ -401,7 +225,7 @@ where
         threads,
         &|_, job: &mut Job<'_, M>|
             ensures { IsSameJob job.entry.now job.exit.now }
-        { job.run(rt, alloc, bells, task) },
+        { job.run(rt, alloc, task) },
     );
 }
 
@@ -426,15 +250,15 @@ where
         Ok(made) => made,
         Err(fault) => return Err(stop_with(alloc, fault, Err(fault))),
     };
-    let mut jobs = match jobs_at(alloc, &station, model, config, places) {
-        Ok(jobs) => jobs,
-        Err(fault) => return Err(stop_with(alloc, fault, Err(fault))),
-    };
     let bells = match Bells::new(alloc, config.workers) {
         Ok(bells) => bells,
         Err(fault) => return Err(stop_with(alloc, fault, Err(fault))),
     };
-    work_all(rt, alloc, &bells, task, jobs.as_mut_slice());
+    let mut jobs = match jobs_at(alloc, &station, &bells, model, config, places) {
+        Ok(jobs) => jobs,
+        Err(fault) => return Err(stop_with(alloc, fault, Err(fault))),
+    };
+    work_all(rt, alloc, task, jobs.as_mut_slice());
     let finals = finals_of(alloc, model, config, jobs.as_slice(), task.wanted);
     finish_with(answer_of(alloc, model, config, jobs), finals)
 }
@@ -467,7 +291,7 @@ where
 {
     let task = Task {
         watch,
-        max_turns,
+        turns: max_turns,
         wanted: Wanted::Records,
     };
     match run_crew(rt, alloc, config, model, &task) {
@@ -498,7 +322,7 @@ where
 {
     let task = Task {
         watch,
-        max_turns,
+        turns: max_turns,
         wanted: Wanted::Finals,
     };
     run_crew(rt, alloc, config, model, &task)

@@ -1,9 +1,11 @@
 //! The turns of a worker.
 
-ghost use Rattle.std.specs.Prelude.{◌≡◌, IfErr, IfSome};
+ghost use Rattle.std.specs.Prelude.{◌≡◌, IfErr, IfSome, MatchResult};
+ghost use Rattle.vt_key.specs.Times.{Time as TimeValue};
 ghost use Rattle.vt_model.specs.Simulation.{simulation_of};
 ghost use Rattle.vt_steps.specs.Finals.{worker_finals};
 ghost use Rattle.vt_places.specs.Told.{station_model, place_table, place_view};
+ghost use Rattle.vt_places.specs.Calls.{AreHandedOut, Unvisited, Stays, IsHandOutRefusal};
 ghost use Rattle.vt_places.specs.AtWork.{IsAtWork, IsAtSamePlace, IsAtSameStation, at_work};
 ghost use Rattle.vt_station.specs.Turns.{IsLasting, IsPassedOver, IsPartOfTurn, HasEnded};
 
@@ -17,7 +19,7 @@ use std::thread::yield_now;
 use vt_board::Report;
 use vt_kernel::Kernel;
 use vt_key::{Fault, When};
-use vt_model::{Config, Model as EventModel, Out};
+use vt_model::{Config, Model as EventModel, Out, Record};
 use vt_places::{Place, Station};
 use vt_watch::{Progress, Watch};
 
@@ -90,6 +92,8 @@ pub(crate) struct Driver<'a, M: EventModel> {
     idle: bool,
     // How many times in a row the worker has tried again at once.
     spins: u32,
+    // How many turns it has begun.
+    turns: u64,
     // How often the worker looks at its bell before it sleeps: halved after each sleep, doubled after each wait without one.
     looks: u32,
     // How many events were executed, and how many undone, since the worker last told of it.
@@ -141,6 +145,7 @@ impl<'a, M: EventModel> Driver<'a, M> {
             busy: false,
             idle: false,
             spins: 0,
+            turns: 0,
             looks: MOST_LOOKS,
             executed: 0,
             undone: 0,
@@ -160,6 +165,21 @@ impl<'a, M: EventModel> Driver<'a, M> {
         self.station
             .finals(self.alloc, self.model, self.config, place, &self.kernel)
             .ok()
+    }
+
+    /// Hands out the records that the book shows but for the first `from`, in place of those in `records`.
+    ///
+    /// [`Fault`]: as [`Station::hand_out`] says; all is unchanged.
+    pub(crate) fn hand_out(&mut self, from: usize, records: &mut Vec<Record>) -> Result<(), Fault>
+        ensures station { IsAtSameStation self.old self.new }
+        ensures kernel { self.new.kernel ≡ self.old.kernel }
+        ensures done { MatchResult result
+            (λ _. (floor : TimeValue) × AreHandedOut (simulation_of (M.handlers self.old.model) self.old.config) self.old.view floor from records.new.items × Unvisited self.old.view floor self.new.view)
+            (λ _. Stays self.old.view self.new.view) }
+        ensures unchanged { IfErr result (λ _. records.new.items ≡ records.old.items) }
+        ensures refused { IfErr result (λ fault. IsHandOutRefusal (simulation_of (M.handlers self.old.model) self.old.config) fault) }
+    {
+        self.station.hand_out(&mut self.place, from, records)
     }
 
     /// Gives up the worker, and returns its place.
@@ -495,15 +515,18 @@ impl<'a, M: EventModel> Driver<'a, M> {
         self.pace.goes_on(self.bells.is_stopped())
     }
 
-    /// Makes turn after turn, until the book is closed, a call is refused for good, or all turns are made.
-    pub(crate) fn run<R: Wait, W: Watch>(&mut self, rt: &R, watch: &W, max_turns: u64) -> Outcome
+    /// Makes turn after turn, until the book is closed, a call is refused for good, or the worker has made so many turns since it
+    /// began.
+    pub(crate) fn run<R: Wait, W: Watch>(&mut self, rt: &R, watch: &W, turns: u64) -> Outcome
         ensures same { IsAtSameStation self.old self.new }
         ensures ended { HasEnded self.new.view result }
     {
-        for turn in 0..max_turns {
+        self.pace.resume();
+        for turn in self.turns..turns {
             if !self.begins() {
                 break;
             }
+            self.turns = turn + 1;
             if let Err(fault) = self.turn(watch, turn + 1) {
                 return Outcome::Refused(fault);
             }

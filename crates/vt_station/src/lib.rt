@@ -4,8 +4,12 @@
 mod bell;
 mod crew;
 mod driver;
+mod job;
 mod pace;
+mod pieces;
 
+pub use bell::Bells;
 pub use crew::{Finished, Stopped, run_workers, run_workers_to_finals};
+pub use pieces::{Crew, Standing};
 pub use vt_places::{NotMade, Place, Station, Worker, places_tell_the_list};
 pub use vt_watch::{Progress, Unwatched, Watch};

@@ -130,6 +130,11 @@ impl Pace {
         }
     }
 
+    /// Forgets that another worker had left, before the next piece of a run.
+    pub(crate) fn resume(&mut self) {
+        self.last_turns = 0;
+    }
+
     /// Whether another turn may do something. After another worker has left before the end of the run, only a few may.
     pub(crate) fn goes_on(&mut self, is_stopped: bool) -> bool
         ensures running { IsFalse is_stopped → IsTrue result × (self.new ≡ self.old) }

@@ -18,7 +18,7 @@ use Rattle.vt_station.proofs.crew.answer_of.Goals.{In-Some, in-Ok, in-Err}
 within : (g : Over) (c : In-Some g) → c.in-Some.closer < length c.args.jobs.items
 within g c =
     let closed = c.in-Some.ensures.some in
-    subst (λ (l : List (AtJob g.row.M.Denot g.row.M-Payload.Denot)). c.in-Some.closer < length l) c.as_slice.ensures.value (slice_get_within c.as_slice.result.now c.in-Some.closer closed.0 closed.1)
+    subst (λ (l : List (AtJob g.row.M.Denot)). c.in-Some.closer < length l) c.as_slice.ensures.value (slice_get_within c.as_slice.result.now c.in-Some.closer closed.0 closed.1)
 
 pub remove-requires : goal.remove-requires
 remove-requires g c = subst (λ n. c.in-Some.closer < n) (sym c.args.jobs.ok.0) (within g (goal.at.remove-requires g c).In-Some)
@@ -44,10 +44,10 @@ returns-in-Some-clause-whole g c =
     let closed = c.in-Some.ensures.some in
     let is = c.remove.ensures.value in
     let told = c.requires.told closer job (within g (goal.at.returns-in-Some-clause-whole g c).In-Some) in
-    let model : job.model ≡ c.args.model.now = ap (λ (j : AtJob g.row.M.Denot g.row.M-Payload.Denot). j.model) is ∙ told.0 in
-    let config : job.config ≡ c.args.config = ap (λ (j : AtJob g.row.M.Denot g.row.M-Payload.Denot). j.config) is ∙ told.1 in
-    let found : slice_get jobs closer ≡ Some closed.0 = subst (λ (l : List (AtJob g.row.M.Denot g.row.M-Payload.Denot)). slice_get l closer ≡ Some closed.0) c.as_slice.ensures.value closed.1 in
-    let done : job.outcome ≡ Some Closed = ap (λ (j : AtJob g.row.M.Denot g.row.M-Payload.Denot). j.outcome) (is ∙ get_or_from_slice_get jobs closer closed.0 job found) ∙ closed.2 in
+    let model : job.model ≡ c.args.model.now = ap (λ (j : AtJob g.row.M.Denot). j.model) is ∙ told.0 in
+    let config : job.config ≡ c.args.config = ap (λ (j : AtJob g.row.M.Denot). j.config) is ∙ told.1 in
+    let found : slice_get jobs closer ≡ Some closed.0 = subst (λ (l : List (AtJob g.row.M.Denot)). slice_get l closer ≡ Some closed.0) c.as_slice.ensures.value closed.1 in
+    let done : job.outcome ≡ Some Closed = ap (λ (j : AtJob g.row.M.Denot). j.outcome) (is ∙ get_or_from_slice_get jobs closer closed.0 job found) ∙ closed.2 in
     elim c.match-into_records.branch [
       | in-Ok w ↦
           let shown = w.in-Ok.ensures.shown in
@@ -84,7 +84,7 @@ pub returns-in-Some-clause-fault : goal.returns-in-Some-clause-fault
 returns-in-Some-clause-fault g c =
     let job = c.remove.result in
     let told = c.requires.told c.in-Some.closer job (within g (goal.at.returns-in-Some-clause-fault g c).In-Some) in
-    let known : job.config ≡ c.args.config = ap (λ (j : AtJob g.row.M.Denot g.row.M-Payload.Denot). j.config) c.remove.ensures.value ∙ told.1 in
+    let known : job.config ≡ c.args.config = ap (λ (j : AtJob g.row.M.Denot). j.config) c.remove.ensures.value ∙ told.1 in
     elim c.match-into_records.branch [
       | in-Ok w ↦ subst (λ r. IfErr r (λ stopped. IsStop c.args.config stopped.fault stopped.records.items)) (sym w.result-is) tt
       | in-Err w ↦

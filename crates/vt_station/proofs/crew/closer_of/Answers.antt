@@ -11,7 +11,7 @@ returns-then-has_closed_book-clause-some g c =
     let jobs = c.args.jobs.now in (
       c.in-Some.job.now,
       slice_get_read jobs (length jobs) c.loop-i.i c.in-Some.job.now refl (ltb-true c.loop-i.i (length jobs) (sym lookup.0)) lookup.1,
-      ap (λ (j : AtJob g.row.M.Denot g.row.M-Payload.Denot). j.outcome) (sym c.job.view_is) ∙ c.has_closed_book.ensures.closed c.if-has_closed_book.true,
+      ap (λ (j : AtJob g.row.M.Denot). j.outcome) (sym c.job.view_is) ∙ c.has_closed_book.ensures.closed c.if-has_closed_book.true,
     )
 
 pub returns-then-has_closed_book-clause-first : goal.returns-then-has_closed_book-clause-first
@@ -30,5 +30,5 @@ loop-i-preserved g c = λ k d below closed.
           let here : k ≡ i = omega (arith, below, after) in
           let same : slice_index_or jobs i d ≡ job = get_or_from_slice_get jobs i job d read in
           c.has_closed_book.ensures.open c.if-has_closed_book.false
-          (ap (λ (j : AtJob g.row.M.Denot g.row.M-Payload.Denot). j.outcome) (c.job.view_is ∙ sym same) ∙ ap (λ n. (slice_index_or jobs n d).outcome) (sym here) ∙ closed)
+          (ap (λ (j : AtJob g.row.M.Denot). j.outcome) (c.job.view_is ∙ sym same) ∙ ap (λ n. (slice_index_or jobs n d).outcome) (sym here) ∙ closed)
     ]

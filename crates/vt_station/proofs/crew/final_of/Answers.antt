@@ -18,8 +18,8 @@ returns g c =
     let inside : w < length jobs = ltb-true w (length jobs) (sym lookup.0) in
     let same : job ≡ slice_index_or jobs w job = lookup.1 in
     let told = c.requires.told w job inside in
-    let model = ap (λ (j : AtJob g.row.M.Denot g.row.M-Payload.Denot). j.model) same ∙ told.0 in
-    let of : job.config ≡ config = ap (λ (j : AtJob g.row.M.Denot g.row.M-Payload.Denot). j.config) same ∙ told.1 in
-    let worker = ap (λ (j : AtJob g.row.M.Denot g.row.M-Payload.Denot). j.worker) same ∙ c.requires.order w job inside ∙ c.owner.ensures.value in
+    let model = ap (λ (j : AtJob g.row.M.Denot). j.model) same ∙ told.0 in
+    let of : job.config ≡ config = ap (λ (j : AtJob g.row.M.Denot). j.config) same ∙ told.1 in
+    let worker = ap (λ (j : AtJob g.row.M.Denot). j.worker) same ∙ c.requires.order w job inside ∙ c.owner.ensures.value in
     let process : lp / config.workers * job.config.workers + job.worker ≡ lp = (λ j. lp / config.workers * (of j).workers + worker j) ∙ div-add-mod' lp config.workers in
     subst (λ n. IfSome c.final_at.result (λ v. v ≡ n)) (λ j. final_value (simulation_of (g.M.Model.handlers (model j)) (of j)) (process j)) c.final_at.ensures

@@ -1,12 +1,11 @@
-use Rattle.std.proofs.Common.{◌≡◌, ℕ, List, sym, ◌∙◌, subst, ap, inl, length, take, drop, ◌++◌}
-use Rattle.std.proofs.Math.Seq.{take-append_seam}
+use Rattle.std.proofs.Common.{◌≡◌, List, sym, ◌∙◌, subst, ap, inl, length, take, drop, ◌++◌}
 use Rattle.vt_key.specs.Times.{Time, opening_time}
 use Rattle.vt_key.specs.declared.fault.Fault.TheVariants.{Memory}
 use Rattle.vt_model.specs.Simulation.{simulation_of}
 use Rattle.vt_model.specs.Sequential.{seq_records}
 use Rattle.vt_model.specs.Settings.{end_of}
 use Rattle.vt_station.specs.Crew.{AtJob, AllAt, AreInOrder, IsStop}
-use Rattle.vt_station.proofs.CrewLemmas.{none-at-first, finished-records, finished-finals, finish-stopped}
+use Rattle.vt_station.proofs.CrewLemmas.{none-at-first, finished-records, finished-finals, finish-stopped, whole-again}
 use Rattle.vt_station.proofs.crew.run_crew.Given.{Over}
 use Rattle.vt_station.proofs.crew.run_crew.Goals.{After-work_all}
 use Rattle.vt_station.proofs.crew.run_crew.Goals as goal
@@ -19,10 +18,6 @@ returns-in-Err-jobs_at-clause-begun g c = (opening_time, c.stop_with-in-Err-jobs
 
 pub returns-in-Err-new-clause-begun : goal.returns-in-Err-new-clause-begun
 returns-in-Err-new-clause-begun g c = (opening_time, c.stop_with-in-Err-new.ensures.1 ∙ none-at-first (simulation_of (g.M.Model.handlers c.args.model.now) c.args.config))
-
--- a list that was lent to a call, which kept its length
-whole-again : {X : Type 0} (n : ℕ) (new old : List X) → length new ≡ n → take n (new ++ drop (length new) old) ≡ new
-whole-again n new old count = ap (λ m. take m (new ++ drop (length new) old)) (sym count) ∙ take-append_seam new (drop (length new) old)
 
 -- the jobs after the work, as they stand in their list
 again : (g : Over) (c : After-work_all g) → take c.in-Ok-jobs_at.jobs.len (c.work_all.new.jobs ++ drop (length c.work_all.new.jobs) c.in-Ok-jobs_at.jobs.items) ≡ c.work_all.new.jobs
@@ -41,8 +36,8 @@ finals_of-finals-requires-clause-told g c κs within =
 
 pub finals_of-finals-requires-clause-order : goal.finals_of-finals-requires-clause-order
 finals_of-finals-requires-clause-order g c κs within =
-    let order = c.work_all.ensures.order (subst (λ (jobs : List (AtJob g.row.M.Denot g.row.M-Payload.Denot)). AreInOrder jobs) (sym c.as_mut_slice.ensures.value) c.in-Ok-jobs_at.ensures.order) in
-    subst (λ (jobs : List (AtJob g.row.M.Denot g.row.M-Payload.Denot)). AreInOrder jobs) (sym (c.as_slice.ensures.value ∙ again g (goal.at.finals_of-finals-requires-clause-order g c).After-work_all)) order
+    let order = c.work_all.ensures.order (subst (λ (jobs : List (AtJob g.row.M.Denot)). AreInOrder jobs) (sym c.as_mut_slice.ensures.value) c.in-Ok-jobs_at.ensures.order) in
+    subst (λ (jobs : List (AtJob g.row.M.Denot)). AreInOrder jobs) (sym (c.as_slice.ensures.value ∙ again g (goal.at.finals_of-finals-requires-clause-order g c).After-work_all)) order
 
 pub answer_of-requires-clause-told : goal.answer_of-requires-clause-told
 answer_of-requires-clause-told g c κs within =

@@ -5,7 +5,7 @@ use Rattle.vt_model.specs.Simulation.{simulation_of}
 use Rattle.vt_steps.specs.Finals.{final_value}
 use Rattle.vt_station.specs.Crew.{AtJob}
 use Rattle.vt_places.proofs.FinalLemmas.{final-at, finals-there}
-use Rattle.vt_station.proofs.crew.Job.final_at.Goals as goal
+use Rattle.vt_station.proofs.job.Job.final_at.Goals as goal
 
 pub returns : goal.returns
 returns g c =
@@ -18,4 +18,4 @@ returns g c =
     let at : slice_get lent place ≡ Some value = slice_get_read lent (length lent) place value refl inside lookup.1 in
     let are = finals-there (λ v. v.items) i.finals c.in-Some.finals _ c.in-Some.is c.self.invariant.finals_are in
     let right = final-at (simulation_of (g.M.Model.handlers i.model.now) i.config) i.worker place value c.in-Some.finals.items are (ap (λ l. slice_get l place) (sym c.deref.ensures.value) ∙ at) in
-    subst (λ (j : AtJob g.row.M.Denot g.row.M-Payload.Denot). value ≡ final_value (simulation_of (g.M.Model.handlers j.model) j.config) (place * j.config.workers + j.worker)) c.self.view_is right
+    subst (λ (j : AtJob g.row.M.Denot). value ≡ final_value (simulation_of (g.M.Model.handlers j.model) j.config) (place * j.config.workers + j.worker)) c.self.view_is right

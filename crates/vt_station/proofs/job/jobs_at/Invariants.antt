@@ -2,7 +2,7 @@ use Rattle.std.proofs.Common.{◌≡◌, length, ◌+◌}
 use Rattle.vt_model.specs.Simulation.{simulation_of}
 use Rattle.vt_places.specs.Making.{AreNew}
 use Rattle.vt_station.specs.Crew.{AllAt, AreInOrder}
-use Rattle.vt_station.proofs.crew.jobs_at.Given as goal
+use Rattle.vt_station.proofs.job.jobs_at.Given as goal
 
 abbrev pub invariant-loop-worker : goal.invariant-loop-worker
 invariant-loop-worker g l =

@@ -3,7 +3,7 @@ use Rattle.vt_model.specs.Simulation.{simulation_of}
 use Rattle.vt_places.specs.Making.{AreNew}
 use Rattle.vt_station.specs.Crew.{AtJob, AllAt, AreInOrder}
 use Rattle.vt_station.proofs.JobLemmas.{next-new, more-in-order, more-at}
-use Rattle.vt_station.proofs.crew.jobs_at.Goals as goal
+use Rattle.vt_station.proofs.job.jobs_at.Goals as goal
 
 pub loop-worker-preserved : goal.loop-worker-preserved
 loop-worker-preserved g c =
@@ -15,7 +15,7 @@ loop-worker-preserved g c =
     record {
       left = omega (arith, l.invariant.left, next.2, ap length c.remove-place.ensures.items);
       made = omega (arith, l.invariant.made, more);
-      order = subst (λ (jobs : List (AtJob g.row.M.Denot g.row.M-Payload.Denot)). AreInOrder jobs) (sym is) (more-in-order l.jobs.items job l.invariant.order (c.job_of.ensures.worker ∙ sym l.invariant.made));
+      order = subst (λ (jobs : List (AtJob g.row.M.Denot)). AreInOrder jobs) (sym is) (more-in-order l.jobs.items job l.invariant.order (c.job_of.ensures.worker ∙ sym l.invariant.made));
       told = subst (AllAt c.args.model.now c.args.config) (sym is) (more-at c.args.model.now c.args.config l.jobs.items job l.invariant.told c.job_of.ensures.told);
       new = subst (AreNew (simulation_of (g.M.Model.handlers c.args.model.now) c.args.config) c.args.station.now.table.shared.table_id (l.worker + 1)) (sym c.remove-place.ensures.items) next.1;
     }

@@ -1,0 +1,31 @@
+use Rattle.std.proofs.Common.{◌<◌, length, sym, ◌∙◌, ap, subst}
+use Rattle.vt_station.specs.declared.pieces.Crew.TheInside.{Inside}
+use Rattle.vt_station.specs.Crew.{AllAt, NoneClosed, IsCrew}
+use Rattle.vt_station.proofs.CrewLemmas.{whole-again}
+use Rattle.vt_station.proofs.pieces.Crew.work.Given.{Over}
+use Rattle.vt_station.proofs.pieces.Crew.work.Goals.{in-GoesOn, in_default}
+use Rattle.vt_station.proofs.pieces.Crew.work.Goals as goal
+
+-- what holds of the fields of a crew
+abbrev Holds : (g : Over) → Inside g.row.M.Denot g.row.M-State.Denot g.row.M-Payload.Denot g.row.M-Kept.Denot → Type 0
+Holds g i = IsCrew i.model.now i.config i.standing i.jobs.items
+
+pub invariant_of-self : goal.invariant_of-self
+invariant_of-self g c =
+    let i = c.self.inside in
+    let inv = c.self.invariant in
+    elim c.match-self.branch [
+      | in-GoesOn w ↦
+          let old = i.jobs in
+          let new = w.work_all.new.jobs in
+          let count = w.work_all.ensures.count ∙ ap length w.as_mut_slice.ensures.value in
+          let again = whole-again old.len new old.items (count ∙ sym old.ok.0) in
+          let told = w.work_all.ensures.told i.model.now i.config (subst (AllAt i.model.now i.config) (sym w.as_mut_slice.ensures.value) inv.told) in
+          subst (Holds g) (sym w.self-inside-is) (record {
+            told = subst (AllAt i.model.now i.config) (sym again) told;
+            some = subst (λ n. 0 < n) (sym (ap length again ∙ count)) inv.some;
+            whole = λ is none. w.standing_of-self-inside.ensures.whole is (subst NoneClosed (sym w.as_slice.ensures.value) none);
+            stops = w.standing_of-self-inside.ensures.told;
+          })
+      | in_default w ↦ subst (Holds g) (sym w.self-inside-is) inv
+    ]
