@@ -1,10 +1,12 @@
 -- What a run in threads writes that stops: what comes before a time begins the text of the whole run.
-use Rattle.std.proofs.Common.{◌≡◌, ◌∙◌, ◌++◌, ◌<◌, ◌≤◌, ℕ, List, [], Option, inl, inr, sym, ap, subst, map, append-nil, arith}
+use Rattle.std.proofs.Common.{◌≡◌, ◌∙◌, ◌++◌, ◌<◌, ◌≤◌, ◌+◌, ◌⊎◌, ℕ, List, [], ◌∷◌, length, drop, Option, inl, inr, sym, ap, subst, map, append-nil, length-append, arith}
 use Rattle.std.specs.Io.KnownBytes.{Appends}
+use Rattle.std.proofs.Math.Seq.{drop-append_seam}
+use Rattle.std.proofs.lemmas.List.{nil_from_length}
 use Rattle.std.proofs.lemmas.Bool.{cases_lt}
-use Rattle.vt_key.specs.Times.{Time}
+use Rattle.vt_key.specs.Times.{Time, opening_time}
 use Rattle.vt_key.specs.declared.fault.Fault.{Fault}
-use Rattle.vt_key.specs.declared.fault.Fault.TheVariants.{Output}
+use Rattle.vt_key.specs.declared.fault.Fault.TheVariants.{Busy, Exhausted, NotLawful, Output, TurnsSpent}
 use Rattle.vt_key.specs.Lists.{Among}
 use Rattle.vt_model.specs.declared.rows.Row.{Row}
 use Rattle.vt_model.specs.declared.rows.Record.{Record}
@@ -17,14 +19,16 @@ use Rattle.vt_model.specs.Sequential.{opening, weight, after_steps, whole_run, r
 use Rattle.vt_model.proofs.RowLemmas.{all_before}
 use Rattle.vt_model.proofs.RunLemmas.{known_sent, lists_of, reached}
 use Rattle.vt_steps.proofs.book.SequentialRows.{seq_records-begin}
-use Rattle.vt_station.specs.Crew.{IsStop}
+use Rattle.vt_station.specs.Crew.{IsStop, IsPieceOf, IsHandOutRefusal}
+use Rattle.vt_station.specs.Turns.{IsLasting}
 use Rattle.vt_station.proofs.CrewLemmas.{none-at-first}
 use Rattle.vt_text.specs.declared.version.Version.{Version}
 use Rattle.vt_text.specs.Records.{record_lines, records_text}
-use Rattle.vt_text.specs.Writing.{AppendsBeginning}
-use Rattle.vt_text.proofs.TextLemmas.{of_longer}
+use Rattle.vt_text.specs.Writing.{AppendsBeginning, AppendsAllButHeld}
+use Rattle.vt_text.proofs.TextLemmas.{written, flush_fails, of_longer}
 use Rattle.vt_tasks.specs.Runs.{text_below, run_text, WritesBelow, WritesNone, StopsWork}
 use Rattle.vt_tasks.proofs.PrintLemmas.{records_text-append}
+use Rattle.vt_runner.specs.Pieces.{AreWritten, IsUnread}
 
 module _ {S P : Type 0} (sim : Simulation S P) (lawful : IsLawful sim) where
   -- each event of the whole run is before the end
@@ -96,3 +100,110 @@ module _ (version : Version) {S P K : Type 0} (handlers : Handlers S P K) (confi
 -- where the writer failed, a beginning of the text was written
 pub output_begun : (workers : ℕ) (below : Time → List ℕ) (whole : List ℕ) (old new : Option (List ℕ)) (fault : Fault) → fault ≡ Output → AppendsBeginning old new whole → StopsWork workers below whole old new fault
 output_begun workers below whole old new fault is h = subst (StopsWork workers below whole old new) (sym is) h
+
+-- ---- a run in pieces
+
+-- the beginning of one list is the other
+joined : {X : Type 0} (n : ℕ) (before all rest : List X) → n ≡ length before → all ≡ before ++ rest → all ≡ before ++ drop n all
+joined n before all rest count is =
+    is ∙ ap (λ l. before ++ l) (sym (drop-append_seam before rest) ∙ ap (λ k. drop k (before ++ rest)) (sym count) ∙ ap (drop n) (sym is))
+
+-- a longer list that begins a list is that list
+no-longer : {X : Type 0} (before all rest : List X) → before ≡ all ++ rest → length before ≤ length all → all ≡ before ++ []
+no-longer before all [] is few = sym (append-nil all) ∙ sym is ∙ sym (append-nil before)
+no-longer before all (x ∷ rest) is few = absurd (omega (arith, ap length is, length-append all (x ∷ rest), few))
+
+-- only where other workers' places may hold the book, it is busy
+busy-many : {S P : Type 0} (sim : Simulation S P) (refusal : Fault) → IsHandOutRefusal sim refusal → refusal ≡ Busy → 1 < sim.workers
+busy-many sim refusal (inl e) is = absurd (let no : NotLawful ≡ Busy = sym e.0 ∙ is in cc)
+busy-many sim refusal (inr (inl busy)) is = busy.1
+busy-many sim refusal (inr (inr e)) is = absurd (let no : Exhausted ≡ Busy = sym e.0 ∙ is in cc)
+
+module _ {S P : Type 0} (sim : Simulation S P) (lawful : IsLawful sim) where
+  -- the records below a time, and then a piece that begins behind them, are those below a later one
+  pub piece-joins : (t floor : Time) (from : ℕ) (records : List Record) → from ≡ length (seq_records sim t) → IsPieceOf sim from records floor → seq_records sim floor ≡ seq_records sim t ++ records
+  piece-joins t floor from records count piece =
+      let before = seq_records sim t in
+      let all = seq_records sim floor in
+      let whole : all ≡ before ++ drop from all = elim (cases_lt floor t) [
+        | inl sooner ↦
+            let begins = seq_records-begin sim lawful floor t (omega arith) in
+            joined from before all [] count (no-longer before all begins.0 begins.1 (omega (arith, piece.beginning, count)))
+        | inr later ↦
+            let begins = seq_records-begin sim lawful t floor (omega arith) in
+            joined from before all begins.0 count begins.1
+      ] in
+      whole ∙ ap (λ l. before ++ l) (sym piece.rest)
+
+module _ {version : Version} {S P K : Type 0} {handlers : Handlers S P K} {config : Config} where
+  -- before the first piece nothing is written
+  pub none-written : (old now : Option (List ℕ)) → Appends old now (records_text version []) → AreWritten version handlers config old now 0
+  none-written old now h =
+      let none = none-at-first (simulation_of handlers config) in
+      record { time = opening_time; count = ap length none; text = subst (λ (l : List Record). Appends old now (records_text version l)) none h }
+
+  module _ (lawful : IsLawful (simulation_of handlers config)) {old now : Option (List ℕ)} {n : ℕ} (before : AreWritten version handlers config old now n) where
+    -- what was written is the text below some time
+    pub written-below : WritesBelow (text_below version handlers config) (run_text version handlers config) old now
+    written-below =
+        let begins = text-begins version handlers config lawful before.time in
+        record { time = before.time; written = before.text; rest = begins.0; begins = begins.1 }
+
+    -- a run stops for what no later turn mends, or since all turns were made
+    pub stops-lasting : (fault : Fault) → IsLasting fault ⊎ (fault ≡ TurnsSpent) → StopsWork config.workers (text_below version handlers config) (run_text version handlers config) old now fault
+    stops-lasting fault why = elim why [
+      | inl (inl e) ↦ subst (StopsWork config.workers (text_below version handlers config) (run_text version handlers config) old now) (sym e) written-below
+      | inl (inr e) ↦ subst (StopsWork config.workers (text_below version handlers config) (run_text version handlers config) old now) (sym e) written-below
+      | inr e ↦ subst (StopsWork config.workers (text_below version handlers config) (run_text version handlers config) old now) (sym e) written-below
+    ]
+
+    -- no record was written
+    none-below : n ≡ 0 → Appends old now (text_below version handlers config opening_time)
+    none-below none =
+        let empty = nil_from_length (seq_records (simulation_of handlers config) before.time) (sym before.count ∙ none) in
+        subst (λ (l : List Record). Appends old now (records_text version l)) (empty ∙ none-at-first (simulation_of handlers config)) before.text
+
+    -- or since the records couldn't be read
+    pub stops-unread : (refusal fault : Fault) → IsHandOutRefusal (simulation_of handlers config) refusal → IsUnread refusal n fault → StopsWork config.workers (text_below version handlers config) (run_text version handlers config) old now fault
+    stops-unread refusal fault refused why = elim why [
+      | inl lasting ↦ stops-lasting fault (inl lasting)
+      | inr (inl spent) ↦ stops-lasting fault (inr spent)
+      | inr (inr busy) ↦
+          subst (StopsWork config.workers (text_below version handlers config) (run_text version handlers config) old now) (sym busy.0)
+          (record { others = busy-many (simulation_of handlers config) refusal refused busy.1; written = none-below busy.2 })
+    ]
+
+    -- a crew hands out a piece of this run, of which these records are given to be written
+    module _ {own : Simulation S P} {floor : Time} {records given : List Record} (same : own ≡ simulation_of handlers config) (handed : IsPieceOf own n records floor) (is : given ≡ records) where
+      piece : IsPieceOf (simulation_of handlers config) n given floor
+      piece = subst (λ (r : List Record). IsPieceOf (simulation_of handlers config) n r floor) (sym is) (subst (λ (s : Simulation S P). IsPieceOf s n records floor) same handed)
+
+      joins : seq_records (simulation_of handlers config) floor ≡ seq_records (simulation_of handlers config) before.time ++ given
+      joins = piece-joins (simulation_of handlers config) lawful before.time floor n given before.count piece
+
+      -- its lines are left to be written
+      held : AppendsAllButHeld old now (record_lines version given) (text_below version handlers config floor)
+      held = record {
+        sent = text_below version handlers config before.time;
+        whole = ap (records_text version) joins ∙ records_text-append version (seq_records (simulation_of handlers config) before.time) given;
+        appends = before.text;
+      }
+
+      -- they are written
+      pub all-written : (new : Option (List ℕ)) → Appends now new (record_lines version given) → Appends old new (text_below version handlers config floor)
+      all-written new h = written old now new (record_lines version given) (text_below version handlers config floor) held h
+
+      pub piece-written : (new : Option (List ℕ)) → Appends now new (record_lines version given) → AreWritten version handlers config old new (n + length records)
+      piece-written new h = record {
+        time = floor;
+        count = ap (λ k. k + length records) before.count ∙ ap (λ r. length (seq_records (simulation_of handlers config) before.time) + length r) (sym is)
+            ∙ sym (length-append (seq_records (simulation_of handlers config) before.time) given) ∙ ap length (sym joins);
+        text = all-written new h;
+      }
+
+      -- or a beginning of them
+      pub piece-stops : {new : Option (List ℕ)} → AppendsBeginning now new (record_lines version given) → AppendsBeginning old new (run_text version handlers config)
+      piece-stops {new} h =
+          let begins = text-begins version handlers config lawful floor in
+          subst (λ (l : List ℕ). AppendsBeginning old new l) (sym begins.1)
+          (of_longer old new (text_below version handlers config floor) begins.0 (flush_fails old now new (record_lines version given) (text_below version handlers config floor) held h))

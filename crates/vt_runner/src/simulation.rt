@@ -2,6 +2,10 @@
 
 ghost use Rattle.std.specs.Prelude.{◌≡◌, OnOk, IfErr};
 ghost use Rattle.std.specs.Io.KnownBytes.{Appends};
+ghost use Rattle.vt_model.specs.Histories.{IsLawful};
+ghost use Rattle.vt_model.specs.Simulation.{simulation_of};
+ghost use Rattle.vt_station.specs.Crew.{IsTold};
+ghost use Rattle.vt_runner.specs.Pieces.{AreWritten, IsUnread};
 ghost use Rattle.vt_tasks.specs.Runs.{run_text, text_below, PassesInRun, StopsWork, StopsBy};
 
 use std::alloc::Global;
@@ -11,13 +15,117 @@ use std::thread::Threads;
 use vt_key::Fault;
 use vt_model::Model as EventModel;
 use vt_options::{RunSettings, Synch};
-use vt_station::run_workers;
-use vt_tasks::{print_in_threads, print_run};
+use vt_station::{Bells, Crew, Standing, Station, run_workers};
+use vt_tasks::{Shares, print_run};
 use vt_text::print_records;
 use vt_watch::Watch;
 
+/// How many turns all workers together make in the first piece of a run.
+const FIRST_TURNS: u32 = 65_536;
+
+/// After a piece of a run with fewer records, the next one has twice as many turns.
+const FEW_RECORDS: usize = 131_072;
+
+/// After a piece of a run with more records, the next one has half as many turns.
+const MANY_RECORDS: usize = 1_048_576;
+
+/// How many turns the next piece of a run has, after one of so many turns with so many records.
+fn next_turns(turns: u64, records: usize) -> u64 {
+    if records < FEW_RECORDS {
+        turns.saturating_mul(2)
+    } else if records > MANY_RECORDS {
+        (turns / 2).max(1)
+    } else {
+        turns
+    }
+}
+
+/// Makes a run of which all records are kept to its end, and then writes its text in the version that the options name. If the
+/// run stops, it writes the committed records before it returns the fault.
+fn print_kept<H: Threads + Wait + Sync, M: EventModel + Sync, W: Watch + Sync, O: Write>(
+    rt: &H,
+    alloc: Global,
+    model: &M,
+    options: &RunSettings,
+    watch: &W,
+    out: &mut O,
+) -> Result<(), Fault>
+where
+    M::State: Send,
+    M::Kept: Send,
+    requires lawful { IsLawful (simulation_of (M.handlers model.now) options.now.config) }
+    ensures ok { OnOk result (Appends (O.contents out.old) (O.contents out.new) (run_text options.now.text (M.handlers model.now) options.now.config)) }
+    ensures err { IfErr result (StopsWork options.now.config.workers (text_below options.now.text (M.handlers model.now) options.now.config) (run_text options.now.text (M.handlers model.now) options.now.config) (O.contents out.old) (O.contents out.new)) }
+{
+    match run_workers(rt, alloc, options.config, model, watch, options.turns) {
+        Ok(records) => print_records(out, records.as_slice(), options.text),
+        Err(stopped) => {
+            print_records(out, stopped.records.as_slice(), options.text)?;
+            Err(stopped.fault)
+        }
+    }
+}
+
+/// The fault that a run is told by whose records couldn't be read for this refusal, when so many had been written.
+fn fault_unread(standing: Standing, refusal: Fault, written: usize) -> Fault
+    requires told { IsTold standing }
+    ensures { IsUnread refusal written result }
+{
+    match (standing, refusal) {
+        (Standing::Stopped(fault), _) => fault,
+        (_, Fault::Exhausted) => Fault::Exhausted,
+        (_, Fault::Busy) if written == 0 => Fault::Busy,
+        _ => Fault::TurnsSpent,
+    }
+}
+
+/// Makes a run in pieces, and writes the lines of each piece's records after it. The first line of the text is there already.
+fn print_pieces<H: Threads + Wait + Sync, M: EventModel + Sync, W: Watch + Sync, O: Write>(
+    rt: &H,
+    alloc: Global,
+    crew: &mut Crew<'_, M>,
+    options: &RunSettings,
+    watch: &W,
+    out: &mut O,
+) -> Result<(), Fault>
+where
+    M::State: Send,
+    M::Kept: Send,
+    requires config { crew.old.config ≡ options.now.config }
+    requires lawful { IsLawful (simulation_of (M.handlers crew.old.model) options.now.config) }
+    ensures ok { (start : _) → AreWritten options.now.text (M.handlers crew.old.model) options.now.config start (O.contents out.old) 0
+        → OnOk result (Appends start (O.contents out.new) (run_text options.now.text (M.handlers crew.old.model) options.now.config)) }
+    ensures err { (start : _) → AreWritten options.now.text (M.handlers crew.old.model) options.now.config start (O.contents out.old) 0
+        → IfErr result (StopsWork options.now.config.workers (text_below options.now.text (M.handlers crew.old.model) options.now.config) (run_text options.now.text (M.handlers crew.old.model) options.now.config) start (O.contents out.new)) }
+{
+    let mut shares = Shares::new(alloc, options.config.workers as usize);
+    let mut records = Vec::new(alloc);
+    let mut written = 0;
+    let mut turns = 0;
+    let mut more = u64::from(FIRST_TURNS / options.config.workers);
+    for _ in 0..options.turns {
+        turns = options.turns.min(more.saturating_add(turns));
+        let standing = crew.work(rt, alloc, watch, turns);
+        if let Err(refusal) = crew.hand_out(written, &mut records) {
+            return Err(fault_unread(standing, refusal, written));
+        }
+        shares.print(rt, out, records.as_slice(), options.text)?;
+        written += records.len();
+        match standing {
+            Standing::Whole => return Ok(()),
+            Standing::Stopped(fault) => return Err(fault),
+            Standing::GoesOn => {}
+        }
+        if turns == options.turns {
+            break;
+        }
+        more = next_turns(more, records.len());
+    }
+    Err(Fault::TurnsSpent)
+}
+
 /// Simulates a model by Time Warp, in a thread for each worker, and writes the records of the run, in the version that
-/// the options name. If the run stops, it writes the committed records in that version before it returns the fault.
+/// the options name, as they are committed. If the run stops, it writes the committed records in that version before it returns the fault.
 fn print_work<H: Threads + Wait + Sync, M: EventModel + Sync, W: Watch + Sync, O: Write>(
     rt: &H,
     alloc: Global,
@@ -32,20 +140,16 @@ where
     ensures ok { OnOk result (Appends (O.contents out.old) (O.contents out.new) (run_text options.now.text (M.handlers model.now) options.now.config)) }
     ensures err { IfErr result (StopsWork options.now.config.workers (text_below options.now.text (M.handlers model.now) options.now.config) (run_text options.now.text (M.handlers model.now) options.now.config) (O.contents out.old) (O.contents out.new)) }
 {
-    match run_workers(rt, alloc, options.config, model, watch, options.turns) {
-        Ok(records) => print_in_threads(
-            rt,
-            alloc,
-            out,
-            records.as_slice(),
-            options.text,
-            options.config.workers as usize,
-        ),
-        Err(stopped) => {
-            print_records(out, stopped.records.as_slice(), options.text)?;
-            Err(stopped.fault)
-        }
+    let config = options.config;
+    if config.workers == 1 {
+        return print_kept(rt, alloc, model, options, watch, out);
     }
+    watch.begin(config.end().ticks(), Some(config.workers));
+    print_records(out, &[], options.text)?;
+    let (station, places) = Station::new(alloc, model, config)?;
+    let bells = Bells::new(alloc, config.workers)?;
+    let mut crew = Crew::new(alloc, &station, &bells, model, config, places)?;
+    print_pieces(rt, alloc, &mut crew, options, watch, out)
 }
 
 /// Simulates a model with the kind of run that the settings name, and writes the records of the run, in the version that
@@ -54,8 +158,8 @@ where
 /// In a sequential run, [`Fault::Memory`] means that memory was refused, and [`Fault::Exhausted`] that a send number
 /// would pass 2^63. A beginning of the text was written, which may be nothing or all.
 ///
-/// In a run in threads, the committed records, which are those below some time, are written in that version before each
-/// of these faults: [`Fault::Memory`], also if a thread wasn't started; [`Fault::Exhausted`] if a counter would pass 2^63;
+/// In a run in threads, records are written as they are committed; with one worker, at the end. All committed records, which are
+/// those below some time, are written in that version before each of these faults: [`Fault::Memory`], also if a thread wasn't started; [`Fault::Exhausted`] if a counter would pass 2^63;
 /// and [`Fault::TurnsSpent`] if a worker made all its turns before the end of the run. [`Fault::Busy`]: the records couldn't
 /// be read, and the text of none was written. One worker alone never has it.
 ///

@@ -1,6 +1,7 @@
 -- Lines of records that are written share by share.
 use Rattle.std.proofs.Common.{◌≡◌, ◌∙◌, ap, sym, subst, ℕ, ◌+◌, ◌≤◌, min, List, [], ◌∷◌, ◌++◌, length, take, drop, Option, append-nil, take-append-drop, arith}
 use Rattle.std.specs.Io.KnownBytes.{Appends}
+use Rattle.std.proofs.KnownBytes.{Appends-nil}
 use Rattle.std.proofs.lemmas.List.{drop_min, drop-drop, take_min}
 use Rattle.std.proofs.lemmas.Grind.{flat_map-append}
 use Rattle.vt_model.specs.declared.rows.Record.{Record}
@@ -31,6 +32,10 @@ module _ (version : Version) (old now new : Option (List ℕ)) (rest share more 
   share_stops h =
       flush_fails old now new (record_lines version rest) text so_far
       (subst (λ (l : List ℕ). AppendsBeginning now new l) (sym lines) (of_longer now new (record_lines version share) (record_lines version more) h))
+
+-- before the first share nothing is written
+pub none_yet : (old : Option (List ℕ)) {held text : List ℕ} → text ≡ held → AppendsAllButHeld old old held text
+none_yet old is = record { sent = []; whole = is; appends = Appends-nil old }
 
 -- nothing is left
 pub all_written : (version : Version) (old new : Option (List ℕ)) (rest : List Record) (text : List ℕ) → length rest ≤ 0 → AppendsAllButHeld old new (record_lines version rest) text → Appends old new text

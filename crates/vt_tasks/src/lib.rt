@@ -11,7 +11,7 @@ mod refusal;
 mod replaying;
 mod running;
 
-pub use printing::print_in_threads;
+pub use printing::Shares;
 pub use program::models_program;
 pub use refusal::tell_refusal;
 pub use replaying::replay;

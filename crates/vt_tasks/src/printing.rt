@@ -2,7 +2,7 @@
 
 ghost use Rattle.std.specs.Prelude.{◌≡◌, ◌*◌, take, drop, OnOk, IfErr, OnErr};
 ghost use Rattle.std.specs.Io.KnownBytes.{Appends};
-ghost use Rattle.vt_text.specs.Records.{record_lines, records_text};
+ghost use Rattle.vt_text.specs.Records.{record_lines};
 ghost use Rattle.vt_text.specs.Writing.{AppendsBeginning};
 ghost use Rattle.vt_tasks.specs.Shares.{HasLines};
 
@@ -76,17 +76,6 @@ impl Share {
     }
 }
 
-/// As many shares, or fewer if memory was refused.
-fn make_shares(alloc: Global, count: usize) -> Vec<Share> {
-    let mut shares = Vec::new(alloc);
-    for _ in 0..count {
-        let Ok(()) = shares.push(Share::new(alloc)) else {
-            break;
-        };
-    }
-    shares
-}
-
 /// The records of share `k`, from 0.
 fn records_of(records: &[Record], k: usize) -> &[Record]
     ensures { result.now ≡ take SHARE (drop (k * SHARE) records.now) }
@@ -127,27 +116,42 @@ fn print_group<R: Threads + Sync, W: Write>(
     print_lines(writer, rest, version)
 }
 
-/// Writes the text of records in a version, as [`print_records`](vt_text::print_records) does. Up to `threads` threads make
-/// it, and no more than sixteen. At a time there is memory for the lines of 16,384 records for each; where it is refused, this
-/// thread makes those lines alone.
-///
-/// [`Fault::Output`] where the writer failed: then a beginning of the text was written.
-pub fn print_in_threads<R: Threads + Sync, W: Write>(
-    rt: &R,
-    alloc: Global,
-    writer: &mut W,
-    records: &[Record],
-    version: Version,
-    threads: usize,
-) -> Result<(), Fault>
-    ensures ok { OnOk result (Appends (W.contents writer.old) (W.contents writer.new) (records_text version records.now)) }
-    ensures err { OnErr result (AppendsBeginning (W.contents writer.old) (W.contents writer.new) (records_text version records.now)) }
-    ensures fault { IfErr result (λ fault. fault ≡ Fault.Output) }
-{
-    write_bytes(writer, version.first_line())?;
-    let mut shares = make_shares(alloc, threads.clamp(1, MOST_THREADS));
-    for group in records.chunks(SHARE.saturating_mul(shares.len().max(1))) {
-        print_group(rt, writer, group, version, shares.as_mut_slice())?;
+/// The memory in which several threads make the lines of records. Later lines take the memory of earlier ones.
+#[derive(Drop)]
+pub struct Shares {
+    shares: Vec<Share>,
+}
+
+impl Shares {
+    /// Memory for up to `threads` threads, and no more than sixteen; for fewer if memory was refused.
+    pub fn new(alloc: Global, threads: usize) -> Shares {
+        let mut shares = Vec::new(alloc);
+        for _ in 0..threads.clamp(1, MOST_THREADS) {
+            let Ok(()) = shares.push(Share::new(alloc)) else {
+                break;
+            };
+        }
+        Shares { shares }
     }
-    Ok(())
+
+    /// Writes the lines of records in a version, as [`put_lines`] does. The threads make them. At a time each has memory for the
+    /// lines of 16,384 records; where it is refused, this thread makes those lines alone.
+    ///
+    /// [`Fault::Output`] where the writer failed: then a beginning of the lines was written.
+    pub fn print<R: Threads + Sync, W: Write>(
+        &mut self,
+        rt: &R,
+        writer: &mut W,
+        records: &[Record],
+        version: Version,
+    ) -> Result<(), Fault>
+        ensures ok { OnOk result (Appends (W.contents writer.old) (W.contents writer.new) (record_lines version records.now)) }
+        ensures err { OnErr result (AppendsBeginning (W.contents writer.old) (W.contents writer.new) (record_lines version records.now)) }
+        ensures fault { IfErr result (λ fault. fault ≡ Fault.Output) }
+    {
+        for group in records.chunks(SHARE.saturating_mul(self.shares.len().max(1))) {
+            print_group(rt, writer, group, version, self.shares.as_mut_slice())?;
+        }
+        Ok(())
+    }
 }

@@ -1,0 +1,78 @@
+use Rattle.std.proofs.Common.{◌+◌, sym, ◌∙◌, ap, subst, inl}
+use Rattle.std.specs.Io.KnownBytes.{Appends}
+use Rattle.vt_key.specs.Times.{Time}
+use Rattle.vt_key.proofs.ResultLemmas.{if_err}
+use Rattle.vt_model.specs.declared.settings.Config.{Config}
+use Rattle.vt_model.specs.Settings.{end_of}
+use Rattle.vt_station.specs.Crew.{IsHandOutRefusal, IsTold}
+use Rattle.vt_tasks.specs.Runs.{text_below, run_text, StopsWork, WritesBelow}
+use Rattle.vt_tasks.proofs.PrintLemmas.{one_run}
+use Rattle.vt_runner.specs.Pieces.{AreWritten}
+use Rattle.vt_runner.proofs.RunLemmas.{written-below, stops-lasting, stops-unread, all-written, piece-written, piece-stops, output_begun}
+use Rattle.vt_runner.proofs.simulation.print_pieces.Goals.{else-loop-test, then-loop-test+in_default+in_ok-print+in-GoesOn+then-turns-options}
+use Rattle.vt_runner.proofs.simulation.print_pieces.Goals as goal
+
+pub returns-in-Err-clause-err : goal.returns-in-Err-clause-err
+returns-in-Err-clause-err g c = λ start written.
+    let l = c.loop.invariant in
+    let same = one_run g.M.Model.handlers (c.work-standing.ensures.same.0 ∙ l.model) (c.work-standing.ensures.same.1 ∙ l.config ∙ c.requires.config) in
+    stops-unread c.requires.lawful (l.written start written) c.in-Err.refusal c.fault_unread.result (subst (λ s. IsHandOutRefusal s c.in-Err.refusal) same c.in-Err.ensures.refused) c.fault_unread.ensures
+
+pub returns-in_err-print-clause-err : goal.returns-in_err-print-clause-err
+returns-in_err-print-clause-err g c = λ start written.
+    let o = c.args.options.now in
+    let H = g.M.Model.handlers c.args.crew.now.model in
+    let l = c.loop.invariant in
+    let same = one_run g.M.Model.handlers (c.work-standing.ensures.same.0 ∙ l.model) (c.work-standing.ensures.same.1 ∙ l.config ∙ c.requires.config) in
+    let fault = c.in_err-print.field-0.0 in
+    if_err (StopsWork o.config.workers (text_below o.text H o.config) (run_text o.text H o.config) _ _) c.from_residual.result fault c.from_residual.ensures.1
+    (output_begun o.config.workers (text_below o.text H o.config) (run_text o.text H o.config) _ _ fault c.in_err-print.ensures.fault
+    (piece-stops c.requires.lawful (l.written start written) same c.in_default.ensures.piece.1 c.as_slice.ensures.value c.in_err-print.ensures.err))
+
+pub returns-in-Whole-clause-ok : goal.returns-in-Whole-clause-ok
+returns-in-Whole-clause-ok g c = λ start written.
+    let o = c.args.options.now in
+    let H = g.M.Model.handlers c.args.crew.now.model in
+    let l = c.loop.invariant in
+    let config = c.work-standing.ensures.same.1 ∙ l.config ∙ c.requires.config in
+    let same = one_run g.M.Model.handlers (c.work-standing.ensures.same.0 ∙ l.model) config in
+    let piece = c.in_default.ensures.piece in
+    let end = piece.2 (sym c.work-standing.ensures.told.0 ∙ c.in-Whole.is) ∙ ap (λ (k : Config). end_of k) config in
+    let new = g.O.Write.contents c.print.new.writer in
+    subst (λ (t : Time). Appends start new (text_below o.text H o.config t)) end (all-written c.requires.lawful (l.written start written) same piece.1 c.as_slice.ensures.value new c.in_ok-print.ensures.ok)
+
+pub returns-in-Stopped-clause-err : goal.returns-in-Stopped-clause-err
+returns-in-Stopped-clause-err g c = λ start written.
+    let l = c.loop.invariant in
+    let same = one_run g.M.Model.handlers (c.work-standing.ensures.same.0 ∙ l.model) (c.work-standing.ensures.same.1 ∙ l.config ∙ c.requires.config) in
+    stops-lasting c.requires.lawful (piece-written c.requires.lawful (l.written start written) same c.in_default.ensures.piece.1 c.as_slice.ensures.value _ c.in_ok-print.ensures.ok)
+    c.in-Stopped.fault (inl (subst IsTold c.in-Stopped.is c.work-standing.ensures.told.1))
+
+pub loop-preserved : goal.loop-preserved
+loop-preserved g c =
+    let o = c.args.options.now in
+    let H = g.M.Model.handlers c.args.crew.now.model in
+    let l = c.loop.invariant in
+    let model = c.work-standing.ensures.same.0 ∙ l.model in
+    let config = c.work-standing.ensures.same.1 ∙ l.config in
+    let same = one_run g.M.Model.handlers model (config ∙ c.requires.config) in record {
+      model = ap (λ k. k.model) c.hand_out.ensures.same ∙ model;
+      config = ap (λ k. k.config) c.hand_out.ensures.same ∙ config;
+      written = λ start written.
+          subst (λ k. AreWritten o.text H o.config start (g.O.Write.contents c.print.new.writer) (c.loop.written + k)) (sym (c.len-written.ensures ∙ c.hand_out.new.records.ok.0))
+          (piece-written c.requires.lawful (l.written start written) same c.in_default.ensures.piece.1 c.as_slice.ensures.value _ c.in_ok-print.ensures.ok);
+    }
+
+pub returns-clause-err : goal.returns-clause-err
+returns-clause-err g c = λ start written.
+    let o = c.args.options.now in
+    let H = g.M.Model.handlers c.args.crew.now.model in
+    let l = c.loop.invariant in
+    elim c.loop-test.branch [
+      | else-loop-test w ↦
+          subst (λ out. WritesBelow (text_below o.text H o.config) (run_text o.text H o.config) start (g.O.Write.contents out)) (sym w.out-is) (written-below c.requires.lawful (l.written start written))
+      | then-loop-test+in_default+in_ok-print+in-GoesOn+then-turns-options w ↦
+          let same = one_run g.M.Model.handlers (w.work-standing.ensures.same.0 ∙ l.model) (w.work-standing.ensures.same.1 ∙ l.config ∙ c.requires.config) in
+          subst (λ out. WritesBelow (text_below o.text H o.config) (run_text o.text H o.config) start (g.O.Write.contents out)) (sym w.out-is)
+          (written-below c.requires.lawful (piece-written c.requires.lawful (l.written start written) same w.in_default.ensures.piece.1 w.as_slice.ensures.value _ w.in_ok-print.ensures.ok))
+    ]

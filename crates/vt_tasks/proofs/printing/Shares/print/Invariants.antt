@@ -1,0 +1,9 @@
+use Rattle.std.specs.Slice.Iter.{chunks_rest}
+use Rattle.vt_text.specs.Records.{record_lines}
+use Rattle.vt_text.specs.Writing.{AppendsAllButHeld}
+use Rattle.vt_tasks.proofs.printing.Shares.print.Given as goal
+
+-- the lines were written but for those of the groups that are left
+abbrev pub invariant-loop-group : goal.invariant-loop-group
+invariant-loop-group g l =
+    AppendsAllButHeld (g.W.Write.contents l.fn.writer) (g.W.Write.contents l.writer) (record_lines l.version (chunks_rest l.group-iterator)) (record_lines l.version l.records)
