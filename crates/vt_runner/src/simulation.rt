@@ -125,7 +125,8 @@ where
 }
 
 /// Simulates a model by Time Warp, in a thread for each worker, and writes the records of the run, in the version that
-/// the options name, as they are committed. If the run stops, it writes the committed records in that version before it returns the fault.
+/// the options name, as they are committed. If the run stops, it writes the committed records in that version before it returns
+/// the fault.
 fn print_work<H: Threads + Wait + Sync, M: EventModel + Sync, W: Watch + Sync, O: Write>(
     rt: &H,
     alloc: Global,
@@ -158,10 +159,12 @@ where
 /// In a sequential run, [`Fault::Memory`] means that memory was refused, and [`Fault::Exhausted`] that a send number
 /// would pass 2^63. A beginning of the text was written, which may be nothing or all.
 ///
-/// In a run in threads, records are written as they are committed; with one worker, at the end. All committed records, which are
-/// those below some time, are written in that version before each of these faults: [`Fault::Memory`], also if a thread wasn't started; [`Fault::Exhausted`] if a counter would pass 2^63;
-/// and [`Fault::TurnsSpent`] if a worker made all its turns before the end of the run. [`Fault::Busy`]: the records couldn't
-/// be read, and the text of none was written. One worker alone never has it.
+/// In a run in threads, records are written as they are committed; with one worker, at the end. The committed records, which are
+/// those below some time, are written in that version before each of these faults: [`Fault::Memory`], also if a thread wasn't
+/// started; [`Fault::Exhausted`] if a counter would pass 2^63; and [`Fault::TurnsSpent`] if a worker made all its turns before the
+/// end of the run. [`Fault::Busy`]: the records couldn't be read, and the text of none was written. One worker alone never has it.
+/// If they couldn't be read after some were written, the fault is one of the other three, and only those below some earlier time
+/// were written.
 ///
 /// In both, [`Fault::Output`] means that the writer failed. A beginning of the text was written.
 ///
