@@ -35,11 +35,7 @@ receive_time now request = at (ticks_of now + request.delay) request.priority
 
 -- the event of a request with its send number
 abbrev pub sent_event : {P : Type 0} → ℕ → Time → ℕ × SendRequest P → Sent P
-sent_event lp now q = record {
-  key = record { time = receive_time now q.1; source = lp; number = q.0 };
-  dest = q.1.dest;
-  payload = q.1.payload;
-}
+sent_event lp now q = record { key = record { time = receive_time now q.1; source = lp; number = q.0 }; dest = q.1.dest; payload = q.1.payload }
 
 -- the events of these requests: each request takes the next send number, and those at or past the end are left out
 unfoldable pub sent_events : {P : Type 0} → Time → ℕ → Time → ℕ → List (SendRequest P) → List (Sent P)

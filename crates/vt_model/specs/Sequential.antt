@@ -48,10 +48,7 @@ module _ {S P : Type 0} (sim : Simulation S P) where
 
   -- an event is executed: it is taken out of the pending ones, and what it sends is put in
   abbrev pub with_event : RunState P → Sent P → RunState P
-  with_event x e = record {
-    pending = filter (λ d. not (key_same d.key e.key)) x.pending ++ (fired_after x.executed e).sends;
-    executed = x.executed ++ e ∷ [];
-  }
+  with_event x e = record { pending = filter (λ d. not (key_same d.key e.key)) x.pending ++ (fired_after x.executed e).sends; executed = x.executed ++ e ∷ [] }
 
   -- one step executes the least event; where nothing is pending it changes nothing
   abbrev pub step : RunState P → RunState P

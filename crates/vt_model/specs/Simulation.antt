@@ -54,11 +54,7 @@ module _ {S P : Type 0} where
   -- an event at a process, by what its handler gives
   unfoldable pub fire_of : {K : Type 0} → Time → ℕ → Triple S → Sent P → ForwardResult S P K → Fired S P
   fire_of end p t e forwarded = record {
-    triple = record {
-      state = forwarded.state;
-      number = t.number + length forwarded.send_requests;
-      place = (t.place + forwarded.drawn) % 2 ^ 64;
-    };
+    triple = record { state = forwarded.state; number = t.number + length forwarded.send_requests; place = (t.place + forwarded.drawn) % 2 ^ 64 };
     sends = sent_events end p e.key.time t.number forwarded.send_requests;
     rows = rows_of e.key (requested_records p e.key.time forwarded.record_requests);
   }

@@ -51,12 +51,7 @@ may_report w value board =
 -- the board with a worker's report: its counts enter the sums, its value the least so far
 unfoldable pub with_report : ℕ → ℕ → ℕ → Time → Board → Board
 with_report w sent got value board =
-    record board {
-      has_reported = slice_set board.has_reported w true;
-      sent = board.sent + sent;
-      got = board.got + got;
-      least = earlier board.least value;
-    }
+    record board { has_reported = slice_set board.has_reported w true; sent = board.sent + sent; got = board.got + got; least = earlier board.least value }
 
 -- what a report leaves: the board and the reply
 pub record BoardEffect : Type 0 where

@@ -24,11 +24,8 @@ module _ {P : Type 0} where
   abbrev pub stamped : ℕ → ℕ → List (Sent P) → List (Event P)
   stamped w serial [] = []
   stamped w serial (send ∷ sends) =
-      record {
-        rank = record { key = send.key; stamp = record { worker = w; serial = serial } };
-        dest = send.dest;
-        payload = send.payload;
-      } ∷ stamped w (serial + 1) sends
+      record { rank = record { key = send.key; stamp = record { worker = w; serial = serial } }; dest = send.dest; payload = send.payload }
+      ∷ stamped w (serial + 1) sends
 
   -- the letter of an event with this sign: its message, or its anti-message
   abbrev pub signed : Sign → Event P → Letter P

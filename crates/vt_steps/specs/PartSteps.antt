@@ -22,11 +22,7 @@ module _ {P : Type 0} where
   -- the part after a step at the process of this index
   abbrev pub with_effect : Part P → ℕ → ProcessEffect P → Part P
   with_effect part place effect =
-      record part {
-        processes = slice_set part.processes place effect.process;
-        outbox = part.outbox ++ effect.letters;
-        serial = part.serial + effect.serials;
-      }
+      record part { processes = slice_set part.processes place effect.process; outbox = part.outbox ++ effect.letters; serial = part.serial + effect.serials }
 
   -- a step at the process of this index, if there is one
   abbrev pub at_process : (LogicalProcess P → Option (ProcessEffect P)) → ℕ → Part P → Option (Part P)
@@ -85,10 +81,7 @@ module _ {S P : Type 0} (sim : Simulation S P) where
 -- Fetch: what was in the inbox has arrived, and is counted by colour
 unfoldable pub part_after_fetch : {P : Type 0} → List (Mail P) → Part P → Part P
 part_after_fetch inbox part =
-    record part {
-      arrived = inbox;
-      got = raised (raised part.got White (count_colour White inbox)) Red (count_colour Red inbox);
-    }
+    record part { arrived = inbox; got = raised (raised part.got White (count_colour White inbox)) Red (count_colour Red inbox) }
 
 -- Cut: the worker takes the other colour, has sent nothing in it, and learns the announced time
 unfoldable pub part_after_cut : Time → Time → {P : Type 0} → Part P → Part P
@@ -123,10 +116,7 @@ module _ {P : Type 0} where
   -- a process after it commits below a floor: its past entries before the floor are done
   abbrev pub process_after_commit : Time → LogicalProcess P → LogicalProcess P
   process_after_commit floor process =
-      record process {
-        done = process.done ++ ripe floor process;
-        past = drop (prefix_len (is_below floor) process.past) process.past;
-      }
+      record process { done = process.done ++ ripe floor process; past = drop (prefix_len (is_below floor) process.past) process.past }
 
   -- the part after it commits below its floor
   unfoldable pub part_after_commit : Part P → Part P

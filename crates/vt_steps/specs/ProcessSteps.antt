@@ -62,10 +62,7 @@ module _ {P : Type 0} where
   unfoldable pub effect_of_undo : LogicalProcess P → Entry P → ProcessEffect P
   effect_of_undo process last =
       record {
-        process = record process {
-          past = take (length process.past - 1) process.past;
-          pending = insert_letter (signed Plus last.event) process.pending;
-        };
+        process = record process { past = take (length process.past - 1) process.past; pending = insert_letter (signed Plus last.event) process.pending };
         letters = map (signed Minus) last.sent;
         serials = 0;
       }
@@ -90,10 +87,7 @@ module _ {P : Type 0} where
   cancel_process stamp process =
       if can_annihilate stamp process.pending process.waiting
       then Some (record {
-        process = record process {
-          pending = without_first (has_stamp stamp) process.pending;
-          waiting = without_first (has_stamp stamp) process.waiting;
-        };
+        process = record process { pending = without_first (has_stamp stamp) process.pending; waiting = without_first (has_stamp stamp) process.waiting };
         letters = [];
         serials = 0;
       })
