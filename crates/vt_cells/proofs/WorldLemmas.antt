@@ -49,7 +49,7 @@ module _ {S P : Type 0} (sim : Simulation S P) where
   passes-cut world v w part =
       of-rounds (with_part world w (act sim (Cut v) part (on_board world.board)).part) v part (act sim (Cut v) part (on_board world.board)).part world.board (cut sim v part world.board)
 
-  passes : (world : World P) (step : Step) (w : ℕ) (name : CellName) (part : Part P) (cell : Cell P) → IsAny (worker_of sim step) w → cell_of step ≡ Some name
+  passes : (world : World P) (step : Step) (w : ℕ) (name : CellName) (part : Part P) (cell : Cell P) → IsAny (worker_of sim step) w → cell_of sim step ≡ Some name
       → slice_get world.parts w ≡ Some part → content world name ≡ Some cell → PassesBoth world step w name part cell
   passes world (Send v u) w name part cell whose named there holds =
       of-part world v w name part (act sim (Send v u) part cell) (λ q. MAX_COUNT < count_of q.sent q.colour) whose there
@@ -70,7 +70,7 @@ module _ {S P : Type 0} (sim : Simulation S P) where
   passes world (Accept v i) w name part cell whose named there holds = absurd (let h : None ≡ Some name = named in cc)
 
 module _ {S P : Type 0} (sim : Simulation S P) (world : World P) (step : Step) (w : ℕ) {name : CellName} {part : Part P} {cell : Cell P}
-    (whose : IsAny (worker_of sim step) w) (named : cell_of step ≡ Some name) (there : slice_get world.parts w ≡ Some part) (holds : content world name ≡ Some cell) where
+    (whose : IsAny (worker_of sim step) w) (named : cell_of sim step ≡ Some name) (there : slice_get world.parts w ≡ Some part) (holds : content world name ≡ Some cell) where
   -- the step of the world is that on the part and the cell, put back
   pub next-put_back : next sim world step ≡ put_back world w name (act sim step part cell)
   next-put_back =

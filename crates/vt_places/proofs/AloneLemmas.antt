@@ -53,7 +53,7 @@ module _ {S P : Type 0} (sim : Simulation S P) (v : View P) where
 
   -- after local steps a step is answered by the part and what its cell held before them
   module _ (world : World P) (is : slice_get world.parts v.worker ≡ Some v.part) (steps : List Step) (part : Part P) (led : local_steps sim v.worker steps v.part ≡ Some part) where
-    answered-there : (name : CellName) (cell : Cell P) (step : Step) → content world name ≡ Some cell → IsAny (worker_of sim step) v.worker → IsAny (cell_of step) name → (next sim (run sim world steps) step).answer ≡ (act sim step part cell).answer
+    answered-there : (name : CellName) (cell : Cell P) (step : Step) → content world name ≡ Some cell → IsAny (worker_of sim step) v.worker → IsAny (cell_of sim step) name → (next sim (run sim world steps) step).answer ≡ (act sim step part cell).answer
     answered-there name cell step holds whose at =
         let d = local-does sim v.worker world name steps v.part part cell led is holds in
         ap (λ (o : Outcome P). o.answer) ((next-acts_on_one_cell sim (run sim world steps) step).acts v.worker name part cell whose at d.part d.cell)
@@ -150,12 +150,12 @@ module _ {S P : Type 0} (sim : Simulation S P) (v : View P) where
     ]
 
     -- after these local steps it is refused as it was there, where the answer is the same whatever the local steps were
-    refused-here : (name : CellName) (cell : Cell P) (f : Fault) → content (shown sim b.log) name ≡ Some cell → IsAny (cell_of step) name
+    refused-here : (name : CellName) (cell : Cell P) (f : Fault) → content (shown sim b.log) name ≡ Some cell → IsAny (cell_of sim step) name
         → (act sim step part cell).answer ≡ Err f → (next sim (own_world steps) step).answer ≡ Err f
     refused-here name cell f holds at refused =
         ap (λ (n : World P). (next sim (run sim n steps) step).answer) (sym same-world) ∙ answered-there sim v (shown sim b.log) b.part steps part led name cell step holds whose at ∙ refused
 
-    guarded-here : (name : CellName) (cell : Cell P) → content (shown sim b.log) name ≡ Some cell → IsAny (cell_of step) name
+    guarded-here : (name : CellName) (cell : Cell P) → content (shown sim b.log) name ≡ Some cell → IsAny (cell_of sim step) name
         → (act sim step b.before cell).answer ≡ (act sim step part cell).answer → OfGuard fault → (next sim (own_world steps) step).answer ≡ Err fault
     guarded-here name cell holds at same guard =
         refused-here name cell fault holds at (sym same ∙ sym (answered-there sim v (shown sim b.log) b.part b.steps b.before b.led name cell step holds whose at) ∙ by-guard guard)
@@ -166,7 +166,7 @@ module _ {S P : Type 0} (sim : Simulation S P) (v : View P) where
       no-step = ap (λ (n : World P). (next sim (run sim n steps) step).answer) same-world ∙ no_step
 
       -- they are one where the answer is the same whatever the local steps were
-      same-refusal : (name : CellName) (cell : Cell P) → content (shown sim b.log) name ≡ Some cell → IsAny (cell_of step) name
+      same-refusal : (name : CellName) (cell : Cell P) → content (shown sim b.log) name ≡ Some cell → IsAny (cell_of sim step) name
           → (act sim step b.before cell).answer ≡ (act sim step part cell).answer → fault ≡ f
       same-refusal name cell holds at same =
           let there = answered-there sim v (shown sim b.log) b.part b.steps b.before b.led name cell step holds whose at in
@@ -202,7 +202,7 @@ module _ {S P : Type 0} (sim : Simulation S P) (v : View P) where
 
   -- what was done was not refused
   done-alone : (steps : List Step) (part : Part P) (step : Step) (reply : Reply) (cell : ℕ) (found : Cell P) (known : Known sim v cell found) → sim.workers ≡ 1 → local_steps sim v.worker steps v.part ≡ Some part
-      → IsAny (worker_of sim step) v.worker → IsAny (cell_of step) (cell_at sim.workers cell) → (act sim step part found).answer ≡ Ok reply → (next sim (own_world steps) step).answer ≡ Ok reply
+      → IsAny (worker_of sim step) v.worker → IsAny (cell_of sim step) (cell_at sim.workers cell) → (act sim step part found).answer ≡ Ok reply → (next sim (own_world steps) step).answer ≡ Ok reply
   done-alone steps part step reply cell found known one led whose at does =
       ap (λ (n : World P). (next sim (run sim n steps) step).answer) (sym (shown-alone sim v known.log known.mine (known.own one)))
       ∙ answered-there sim v (shown sim known.log) known.part steps part led (cell_at sim.workers cell) found step known.shows whose at ∙ does

@@ -66,13 +66,13 @@ module _ {S P : Type 0} {sim : Simulation S P} {v : View P} {k : ℕ} {cell : Ce
 
   -- a step that is refused on the place's part and on what a cell held
   module _ (step : Step) (whose : IsAny (worker_of sim step) v.worker) {fault : Fault} where
-    refused-at : (name : CellName) (held : Cell P) → cell_of step ≡ Some name → content then_there name ≡ Some held → IsCellRefusal sim step before held fault → IsRefusedBy sim v step fault
+    refused-at : (name : CellName) (held : Cell P) → cell_of sim step ≡ Some name → content then_there name ≡ Some held → IsCellRefusal sim step before held fault → IsRefusedBy sim v step fault
     refused-at name held named holds why = refused-by step fault (refused-there sim then_there step v.worker whose named then-part holds why)
 
-    refused-at-board : cell_of step ≡ Some board_cell → IsCellRefusal sim step before (on_board there.board) fault → IsRefusedBy sim v step fault
+    refused-at-board : cell_of sim step ≡ Some board_cell → IsCellRefusal sim step before (on_board there.board) fault → IsRefusedBy sim v step fault
     refused-at-board named = refused-at board_cell (on_board there.board) named (ap (λ (b : Board). (let o : Option (Cell P) = Some (on_board b) in o)) then-board)
 
-    refused-at-book : cell_of step ≡ Some book_cell → IsCellRefusal sim step before (in_book there.book) fault → IsRefusedBy sim v step fault
+    refused-at-book : cell_of sim step ≡ Some book_cell → IsCellRefusal sim step before (in_book there.book) fault → IsRefusedBy sim v step fault
     refused-at-book named = refused-at book_cell (in_book there.book) named (ap (λ (b : Book). (let o : Option (Cell P) = Some (in_book b) in o)) then-book)
 
   -- where the definitions refuse it, it is not lawful
@@ -145,7 +145,7 @@ module _ {S P : Type 0} {sim : Simulation S P} {v : View P} {k : ℕ} {cell : Ce
         )
 
     -- the floor that a step at the book leaves
-    pub floor-left : (step : Step) → IsAny (worker_of sim step) v.worker → cell_of step ≡ Some book_cell → {new : Part P} {left : Book} {reply : Reply}
+    pub floor-left : (step : Step) → IsAny (worker_of sim step) v.worker → cell_of sim step ≡ Some book_cell → {new : Part P} {left : Book} {reply : Reply}
         → act sim step before (in_book there.book) ≡ record { part = new; cell = in_book left; answer = Ok reply } → (floor : Time) → floor ≡ book_floor sim.end left → IsFloorLeft sim v step floor
     floor-left step whose named {left = left} does floor is =
         let after : (next sim then_there step).world.book ≡ left =

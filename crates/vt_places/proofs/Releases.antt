@@ -72,7 +72,7 @@ module _ {S P K : Type 0} (handlers : Handlers S P K) (config : Config) (lawful 
   AreWithin step before found left now = (part new : Part P) → StandsFor handlers before part → StandsFor handlers left new → PassesThere step new now → PassesThere step part found
 
   -- what local steps and then one step at the cell leave of the view, where the cell had this in it
-  visited-at : (k : ℕ) (v : View P) (found now : Cell P) (before left : HeldWorker S P K) (step : Step) (reply : Reply) → IsAny (cell_of step) (cell_at config.workers k)
+  visited-at : (k : ℕ) (v : View P) (found now : Cell P) (before left : HeldWorker S P K) (step : Step) (reply : Reply) → IsAny (cell_of (simulation_of handlers config) step) (cell_at config.workers k)
       → (does : Acts handlers config step reply before found left now) → AreWithin step before found left now → (way : Reaches handlers config v before) (known : Known (simulation_of handlers config) v k found)
       → Visited handlers config v before step reply left v.seen (record v {
         part = (does.acts way.part way.stands).0;
@@ -102,7 +102,7 @@ module _ {S P K : Type 0} (handlers : Handlers S P K) (config : Config) (lawful 
   -- after local steps and one step at the cell
   pub leaves-visited : (slots id k x : ℕ) (m : Sat P) (found now : Cell P) (before left : HeldWorker S P K) (step : Step) (reply : Reply) → k < cell_count config.workers
       → x ≢ claimed_word → (x ≡ empty_word → now ≡ in_inbox [])
-      → IsAny (worker_of (simulation_of handlers config) step) m.0.worker → IsAny (cell_of step) (cell_at config.workers k)
+      → IsAny (worker_of (simulation_of handlers config) step) m.0.worker → IsAny (cell_of (simulation_of handlers config) step) (cell_at config.workers k)
       → Holding config m k found now → Acts handlers config step reply before found left now → AreWithin step before found left now → Reaches handlers config m.0 before
       → Allows (Kept (simulation_of handlers config) config) slots id m (word_at k) (λ _. x) (λ _. (λ (n : ℕ) (after : Sat P). GaveBack m after × Visited handlers config m.0 before step reply left m.0.seen after.0) x)
   leaves-visited slots id k x m found now before left step reply near home empty whose at h does within way =
@@ -119,7 +119,7 @@ module _ {S P K : Type 0} (handlers : Handlers S P K) (config : Config) (lawful 
   -- after local steps and one step at the cell that was done or refused
   pub leaves-tried : (slots id k x : ℕ) (m : Sat P) (found now : Cell P) (before left : HeldWorker S P K) (step : Step) (answer : Result Reply Fault) → k < cell_count config.workers
       → x ≢ claimed_word → (x ≡ empty_word → now ≡ in_inbox [])
-      → IsAny (worker_of (simulation_of handlers config) step) m.0.worker → IsAny (cell_of step) (cell_at config.workers k)
+      → IsAny (worker_of (simulation_of handlers config) step) m.0.worker → IsAny (cell_of (simulation_of handlers config) step) (cell_at config.workers k)
       → Holding config m k found now → IsCellStepOf handlers config step before left found now answer → Reaches handlers config m.0 before
       → Allows (Kept (simulation_of handlers config) config) slots id m (word_at k) (λ _. x)
       (λ _. (λ (n : ℕ) (after : Sat P). GaveBack m after × MatchResult answer (λ reply. Visited handlers config m.0 before step reply left m.0.seen after.0) (λ _. Unvisited m.0 m.0.seen after.0)) x)
@@ -131,7 +131,7 @@ module _ {S P K : Type 0} (handlers : Handlers S P K) (config : Config) (lawful 
 
   -- at a load that finds an inbox empty, after local steps and one step that finds it so and leaves it so
   pub leaves-looked : (slots id k : ℕ) (m : Sat P) (before left : HeldWorker S P K) (step : Step) (reply : Reply) → k < config.workers → Rests m
-      → IsAny (worker_of (simulation_of handlers config) step) m.0.worker → IsAny (cell_of step) (cell_at config.workers k)
+      → IsAny (worker_of (simulation_of handlers config) step) m.0.worker → IsAny (cell_of (simulation_of handlers config) step) (cell_at config.workers k)
       → Acts handlers config step reply before (in_inbox []) left (in_inbox []) → AreWithin step before (in_inbox []) left (in_inbox []) → Reaches handlers config m.0 before
       → Allows (Kept (simulation_of handlers config) config) slots id m (word_at k) (λ n. n) (Looked m (λ after. (after.1 ≡ []) × Visited handlers config m.0 before step reply left m.0.seen after.0))
   leaves-looked slots id k m before left step reply near rests whose at does within way =

@@ -89,7 +89,7 @@ module _ {S P : Type 0} (sim : Simulation S P) where
   -- that the place leaves is that one with local steps and step right behind it
   pub record IsDoneAt (v : View P) (steps : List Step) (part : Part P) (step : Step) (reply : Reply) (w : View P) : Type 0 where
     pub cell : ℕ
-    pub about : IsAny (cell_of step) (cell_at sim.workers cell)
+    pub about : IsAny (cell_of sim step) (cell_at sim.workers cell)
     pub found : Cell P
     pub now : Cell P
     pub known : Known v cell found

@@ -204,7 +204,7 @@ impl<M: EventModel> Station<M> {
         requires table { seat.old.table_id ≡ self.now.table.shared.table_id }
         requires near { cell < cell_count self.now.workers }
         requires free { word ≢ claimed_word }
-        requires marks { let key = self.now.table.shared.key in IsAny (worker_of (simulation_of (M.handlers key.model.value) key.config) visit.now.step) seat.old.me.0.worker × IsAny (cell_of visit.now.step) (cell_at key.config.workers cell) }
+        requires marks { let key = self.now.table.shared.key in IsAny (worker_of (simulation_of (M.handlers key.model.value) key.config) visit.now.step) seat.old.me.0.worker × IsAny (cell_of (simulation_of (M.handlers key.model.value) key.config) visit.now.step) (cell_at key.config.workers cell) }
         requires held { let key = self.now.table.shared.key in (found : Cell _) × (now : Cell _) × Holding key.config seat.old.me cell found now × (word ≡ empty_word → now ≡ in_inbox [])
             × IsCellStepOf (M.handlers key.model.value) key.config visit.now.step visit.now.before.value visit.now.left.value found now visit.now.answer }
         requires kernel { let key = self.now.table.shared.key in Reaches (M.handlers key.model.value) key.config seat.old.me.0 visit.now.before.value }

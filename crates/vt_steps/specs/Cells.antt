@@ -1,20 +1,19 @@
 -- What each step reads and changes: the part of one worker, and the content of at most one cell, which is an inbox, the
 -- board or the book. `act` is a step on these two alone.
-use Rattle.std.specs.Prelude.{ℕ, nat_eq, ◌%◌, Bool, List, [], ◌∷◌, if◌then◌else◌, slice_get, Option, Some, None, Result, Ok, Err, ◌/◌}
+use Rattle.std.specs.Prelude.{ℕ, nat_eq, Bool, List, [], ◌∷◌, if◌then◌else◌, slice_get, Option, Some, None, Result, Ok, Err}
 use Rattle.std.specs.Option.{option_map, option_and_then, is_none}
 use Rattle.vt_key.specs.declared.letter.Mail.{Mail}
 use Rattle.vt_key.specs.declared.fault.Fault.{Fault}
 use Rattle.vt_key.specs.declared.fault.Fault.TheVariants.{NotLawful}
 use Rattle.vt_model.specs.Simulation.{Simulation}
 use Rattle.vt_steps.specs.declared.step.Step.{Step}
-use Rattle.vt_steps.specs.declared.step.Step.TheVariants.{Execute, Undo, Cancel, Home, Send, Fetch, Accept, Cut, Report, Commit, Close}
 use Rattle.vt_steps.specs.declared.step.Reply.{Reply}
 use Rattle.vt_steps.specs.declared.step.Reply.TheVariants.{Done}
 use Rattle.vt_steps.specs.World.{Part, Board, Book, World}
 use Rattle.vt_steps.specs.BookSteps.{unless_closed}
-use Rattle.vt_steps.specs.CellSteps.{CellEffect, send, fetch, cut, report, commit, close}
+use Rattle.vt_steps.specs.CellSteps.{CellEffect}
+use Rattle.vt_steps.specs.Actions.{Action, on_part, at_inbox, at_board, at_book, on_book, action_of}
 use Rattle.vt_steps.specs.Next.{Outcome, with_part, with_inbox, with_board, with_book}
-use Rattle.vt_steps.specs.PartSteps.{execute, undo, cancel, home, accept}
 
 -- the name of a cell
 pub data CellName : Type 0 where
@@ -44,33 +43,33 @@ module _ {P : Type 0} where
 
 -- ---- whose part and which cell a step is about
 
+-- the worker whose part it is about
+abbrev pub action_worker : {P : Type 0} → Action P → Option ℕ
+action_worker (on_part w step) = Some w
+action_worker (at_inbox w v step) = Some w
+action_worker (at_board w step) = Some w
+action_worker (at_book w step) = Some w
+action_worker (on_book step) = None
+
 -- the worker whose part a step reads and changes; Close is about no part
 abbrev pub worker_of : {S P : Type 0} → Simulation S P → Step → Option ℕ
-worker_of sim (Execute p) = Some (p % sim.workers)
-worker_of sim (Undo p) = Some (p % sim.workers)
-worker_of sim (Cancel p stamp) = Some (p % sim.workers)
-worker_of sim (Home w) = Some w
-worker_of sim (Send w v) = Some w
-worker_of sim (Fetch w) = Some w
-worker_of sim (Accept w i) = Some w
-worker_of sim (Cut w) = Some w
-worker_of sim (Report w) = Some w
-worker_of sim (Commit w) = Some w
-worker_of sim Close = None
+worker_of sim step = action_worker (action_of sim step)
+
+-- the cell that it is about
+abbrev pub action_cell : {P : Type 0} → Action P → Option CellName
+action_cell (on_part w step) = None
+action_cell (at_inbox w v step) = Some (inbox_of v)
+action_cell (at_board w step) = Some board_cell
+action_cell (at_book w step) = Some book_cell
+action_cell (on_book step) = Some book_cell
 
 -- the cell that a step reads and changes; a local step is about none
-abbrev pub cell_of : Step → Option CellName
-cell_of (Send w v) = Some (inbox_of v)
-cell_of (Fetch w) = Some (inbox_of w)
-cell_of (Cut w) = Some board_cell
-cell_of (Report w) = Some board_cell
-cell_of (Commit w) = Some book_cell
-cell_of Close = Some book_cell
-cell_of _ = None
+abbrev pub cell_of : {S P : Type 0} → Simulation S P → Step → Option CellName
+cell_of sim step = action_cell (action_of sim step)
 
 -- a local step is about one part alone
-abbrev pub is_local : Step → Bool
-is_local step = is_none (cell_of step)
+abbrev pub is_local : {S P : Type 0} → Simulation S P → Step → Bool
+is_local sim step = is_none (cell_of sim step)
 
 -- ---- a step on a part and a cell
 
@@ -85,14 +84,14 @@ module _ {P : Type 0} where
   abbrev pub left_alone : Part P → Cell P → Fault → Acted P
   left_alone part cell fault = record { part = part; cell = cell; answer = Err fault }
 
+  -- what is done to a part alone
+  abbrev pub local_rule : Action P → Part P → Option (Part P)
+  local_rule (on_part w step) part = step part
+  local_rule _ part = None
+
   -- a local step on the part of its worker; no other step is on a part alone
   abbrev pub act_locally : {S : Type 0} → Simulation S P → Step → Part P → Option (Part P)
-  act_locally sim (Execute p) part = execute sim (p % sim.workers) (p / sim.workers) part
-  act_locally sim (Undo p) part = undo (p / sim.workers) part
-  act_locally sim (Cancel p stamp) part = cancel (p / sim.workers) stamp part
-  act_locally sim (Home w) part = home sim w part
-  act_locally sim (Accept w i) part = accept sim i part
-  act_locally sim _ part = None
+  act_locally sim step = local_rule (action_of sim step)
 
   -- a local step leaves the cell
   abbrev pub acted_locally : Part P → Cell P → Option (Part P) → Acted P
@@ -109,16 +108,18 @@ module _ {P : Type 0} where
   acted_close part book None = left_alone part (in_book book) NotLawful
   acted_close part book (Some new) = record { part = part; cell = in_book new; answer = Ok Done }
 
-  -- one step, of a part and the content of a cell; at a cell of another kind than its own it is refused
+  -- what is done to a part and the content of a cell; at a cell of another kind it is refused
+  abbrev pub done_at : Action P → Part P → Cell P → Acted P
+  done_at (on_part w step) part cell = acted_locally part cell (step part)
+  done_at (at_inbox w v step) part (in_inbox inbox) = acted_at part in_inbox inbox (step part inbox)
+  done_at (at_board w step) part (on_board board) = acted_at part on_board board (step part board)
+  done_at (at_book w step) part (in_book book) = unless_closed book (left_alone part (in_book book)) (acted_at part in_book book (step part book))
+  done_at (on_book step) part (in_book book) = unless_closed book (left_alone part (in_book book)) (acted_close part book (step book))
+  done_at _ part cell = left_alone part cell NotLawful
+
+  -- one step, of a part and the content of a cell
   unfoldable pub act : {S : Type 0} → Simulation S P → Step → Part P → Cell P → Acted P
-  act sim (Send w v) part (in_inbox inbox) = acted_at part in_inbox inbox (send sim w v part inbox)
-  act sim (Fetch w) part (in_inbox inbox) = acted_at part in_inbox inbox (fetch part inbox)
-  act sim (Cut w) part (on_board board) = acted_at part on_board board (cut sim w part board)
-  act sim (Report w) part (on_board board) = acted_at part on_board board (report sim w part board)
-  act sim (Commit w) part (in_book book) =
-      unless_closed book (left_alone part (in_book book)) (acted_at part in_book book (commit sim w part book))
-  act sim Close part (in_book book) = unless_closed book (left_alone part (in_book book)) (acted_close part book (close sim book))
-  act sim step part cell = acted_locally part cell (act_locally sim step part)
+  act sim step part cell = done_at (action_of sim step) part cell
 
   -- what was done to the part of w and to the cell of this name is put back into the world
   abbrev pub put_back : World P → ℕ → CellName → Acted P → Outcome P

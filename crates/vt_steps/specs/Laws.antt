@@ -98,8 +98,8 @@ module _ {S P : Type 0} (sim : Simulation S P) where
   -- as not lawful
   pub record IsRefusalRight (world : World P) (step : Step) : Type 0 where
     pub keeps : (fault : Fault) → (next sim world step).answer ≡ Err fault → (next sim world step).world ≡ world
-    pub closed : IsTrue world.book.is_closed → cell_of step ≡ Some book_cell → (next sim world step).answer ≡ Err Closed
-    pub not_closed : (next sim world step).answer ≡ Err Closed → IsTrue world.book.is_closed × (cell_of step ≡ Some book_cell)
+    pub closed : IsTrue world.book.is_closed → cell_of sim step ≡ Some book_cell → (next sim world step).answer ≡ Err Closed
+    pub not_closed : (next sim world step).answer ≡ Err Closed → IsTrue world.book.is_closed × (cell_of sim step ≡ Some book_cell)
     pub other : (fault : Fault) → (next sim world step).answer ≡ Err fault → (fault ≡ NotLawful) ⊎ (fault ≡ Closed)
 
   -- a local step changes the part of its worker alone
@@ -131,10 +131,10 @@ module _ {S P : Type 0} (sim : Simulation S P) where
   -- a step does to a world what `act` does to the part of its worker and to its cell; where one of the two is not there, it
   -- is refused
   pub record ActsOnOneCell (world : World P) (step : Step) : Type 0 where
-    pub acts : (w : ℕ) (name : CellName) (part : Part P) (cell : Cell P) → IsAny (worker_of sim step) w → IsAny (cell_of step) name →
+    pub acts : (w : ℕ) (name : CellName) (part : Part P) (cell : Cell P) → IsAny (worker_of sim step) w → IsAny (cell_of sim step) name →
         slice_get world.parts w ≡ Some part → content world name ≡ Some cell → next sim world step ≡ put_back world w name (act sim step part cell)
     pub no_worker : (w : ℕ) → worker_of sim step ≡ Some w → slice_get world.parts w ≡ None → IsRefused world step
-    pub no_cell : (name : CellName) → cell_of step ≡ Some name → content world name ≡ None → IsRefused world step
+    pub no_cell : (name : CellName) → cell_of sim step ≡ Some name → content world name ≡ None → IsRefused world step
 
   -- a local step leaves the cell as it is, whatever cell it is paired with, and does the same with each
   pub record LeavesCells (step : Step) (part : Part P) : Type 0 where

@@ -6,6 +6,7 @@ pub mod PartSteps
 pub mod BoardSteps
 pub mod BookSteps
 pub mod CellSteps
+pub mod Actions
 pub mod Next
 pub mod Copies
 pub mod Cells

@@ -1,5 +1,5 @@
 -- The eleven steps of a world, and lists of them.
-use Rattle.std.specs.Prelude.{ℕ, ◌%◌, List, slice_get, slice_set, Option, Some, Result, Ok, Err, ◌/◌}
+use Rattle.std.specs.Prelude.{ℕ, List, slice_get, slice_set, Option, Some, Result, Ok, Err}
 use Rattle.std.specs.Option.{option_and_then, option_map, option_map_or}
 use Rattle.std.specs.List.{fold, scan}
 use Rattle.vt_key.specs.declared.letter.Mail.{Mail}
@@ -7,13 +7,12 @@ use Rattle.vt_key.specs.declared.fault.Fault.{Fault}
 use Rattle.vt_key.specs.declared.fault.Fault.TheVariants.{NotLawful}
 use Rattle.vt_model.specs.Simulation.{Simulation}
 use Rattle.vt_steps.specs.declared.step.Step.{Step}
-use Rattle.vt_steps.specs.declared.step.Step.TheVariants.{Execute, Undo, Cancel, Home, Send, Fetch, Accept, Cut, Report, Commit, Close}
 use Rattle.vt_steps.specs.declared.step.Reply.{Reply}
 use Rattle.vt_steps.specs.declared.step.Reply.TheVariants.{Done}
 use Rattle.vt_steps.specs.World.{Part, Board, Book, World, opening_world}
 use Rattle.vt_steps.specs.BookSteps.{unless_closed}
-use Rattle.vt_steps.specs.CellSteps.{CellEffect, send, fetch, cut, report, commit, close}
-use Rattle.vt_steps.specs.PartSteps.{execute, undo, cancel, home, accept}
+use Rattle.vt_steps.specs.CellSteps.{CellEffect}
+use Rattle.vt_steps.specs.Actions.{Action, on_part, at_inbox, at_board, at_book, on_book, action_of}
 
 -- the world after a step, and what the step was answered
 pub record Outcome (P : Type 0) : Type 0 where
@@ -61,20 +60,18 @@ module _ {P : Type 0} where
   abbrev pub at_cell : {C : Type 0} → World P → ℕ → (World P → C → World P) → (Part P → C → Option (CellEffect P C)) → Option C → Outcome P
   at_cell world w put step cell = effect_in world w put (option_and_then (λ part. option_and_then (step part) cell) (slice_get world.parts w))
 
+  -- what is done to a world, and what it is answered
+  abbrev pub done_in : World P → Action P → Outcome P
+  done_in world (on_part w step) = locally world w step
+  done_in world (at_inbox w v step) = at_cell world w (with_inbox v) step (slice_get world.inboxes v)
+  done_in world (at_board w step) = at_cell world w with_board step (Some world.board)
+  done_in world (at_book w step) = unless_closed world.book (refused world) (at_cell world w with_book step (Some world.book))
+  done_in world (on_book step) = unless_closed world.book (refused world) (done_or_refused world (option_map (with_book world) (step world.book)))
+
 module _ {S P : Type 0} (sim : Simulation S P) where
   -- one step of a world
   unfoldable pub next : World P → Step → Outcome P
-  next world (Execute p) = locally world (p % sim.workers) (execute sim (p % sim.workers) (p / sim.workers))
-  next world (Undo p) = locally world (p % sim.workers) (undo (p / sim.workers))
-  next world (Cancel p stamp) = locally world (p % sim.workers) (cancel (p / sim.workers) stamp)
-  next world (Home w) = locally world w (home sim w)
-  next world (Accept w i) = locally world w (accept sim i)
-  next world (Send w v) = at_cell world w (with_inbox v) (send sim w v) (slice_get world.inboxes v)
-  next world (Fetch w) = at_cell world w (with_inbox w) fetch (slice_get world.inboxes w)
-  next world (Cut w) = at_cell world w with_board (cut sim w) (Some world.board)
-  next world (Report w) = at_cell world w with_board (report sim w) (Some world.board)
-  next world (Commit w) = unless_closed world.book (refused world) (at_cell world w with_book (commit sim w) (Some world.book))
-  next world Close = unless_closed world.book (refused world) (done_or_refused world (option_map (with_book world) (close sim world.book)))
+  next world step = done_in world (action_of sim step)
 
   -- the world after a list of steps, of which the refused ones change nothing
   unfoldable pub run : World P → List Step → World P

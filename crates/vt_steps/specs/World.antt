@@ -169,16 +169,7 @@ module _ {S P : Type 0} (sim : Simulation S P) where
 -- the board at the opening: no round was ever open
 abbrev pub opening_board : ℕ → Time → Board
 opening_board workers end =
-    record {
-      announced = opening_time;
-      is_open = false;
-      has_cut = replicate workers false;
-      has_reported = replicate workers false;
-      sent = 0;
-      got = 0;
-      least = end;
-      rounds = 0;
-    }
+    record { announced = opening_time; is_open = false; has_cut = replicate workers false; has_reported = replicate workers false; sent = 0; got = 0; least = end; rounds = 0 }
 
 -- the book at the opening: empty and open
 abbrev pub opening_book : ℕ → Book

@@ -19,7 +19,7 @@ pub fn refused_steps_change_nothing<S, P>()
 /// A local step (execute, undo, cancel, home or accept) changes the part of one worker alone.
 pub fn local_steps_change_one_part<S, P>()
     ghost sim: { Simulation S P }
-    ensures { (world : World P) (step : Step) → IsTrue (is_local step) → ChangesOnePart sim world step }
+    ensures { (world : World P) (step : Step) → IsTrue (is_local sim step) → ChangesOnePart sim world step }
 {}
 
 /// A report is answered `Waiting`, `Again`, or with the new announced time, which changes only in that case. Every
@@ -57,5 +57,5 @@ pub fn mail_is_kept<S, P>()
 pub fn steps_act_on_one_cell<S, P>()
     ghost sim: { Simulation S P }
     ensures acts { (world : World P) (step : Step) → ActsOnOneCell sim world step }
-    ensures leaves { (step : Step) (part : Part P) → IsTrue (is_local step) → LeavesCells sim step part }
+    ensures leaves { (step : Step) (part : Part P) → IsTrue (is_local sim step) → LeavesCells sim step part }
 {}

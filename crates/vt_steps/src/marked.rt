@@ -22,7 +22,7 @@ ghost use Rattle.vt_steps.specs.Marked.{Marked, made_done, IsMarkedRight, own_st
 pub fn own_steps_may_come_last<S, P>()
     ghost sim: { Simulation S P }
     ensures { (w : ℕ) (name : CellName) (steps : List Step) (step : Step) (part before new : Part P) (cell left : Cell P) (reply : Reply) → local_steps sim w steps part ≡ Some before →
-        IsAny (worker_of sim step) w → IsAny (cell_of step) name → act sim step before cell ≡ record { part = new; cell = left; answer = Ok reply } →
+        IsAny (worker_of sim step) w → IsAny (cell_of sim step) name → act sim step before cell ≡ record { part = new; cell = left; answer = Ok reply } →
         Leads sim w name part cell (steps ++ step ∷ []) new left (made_done steps ++ record { step = step; reply = reply } ∷ []) }
 {}
 

@@ -78,7 +78,7 @@ module _ {M S P K : Type 0} {handlers : Handlers S P K} {held : HeldWorld M S P 
   }
 
 module _ {M S P K : Type 0} (meaning : M → Handlers S P K) {held : HeldWorld M S P K} {board_end book_end : Time} (inside : IsWorldInside (meaning held.model) held board_end book_end)
-    (step_of : ℕ → Step) {w : ℕ} {name : CellName} (whose : IsAny (worker_of (simulation_of (meaning held.model) held.config) (step_of w)) w) (named : cell_of (step_of w) ≡ Some name)
+    (step_of : ℕ → Step) {w : ℕ} {name : CellName} (whose : IsAny (worker_of (simulation_of (meaning held.model) held.config) (step_of w)) w) (named : cell_of (simulation_of (meaning held.model) held.config) (step_of w) ≡ Some name)
     {k new : HeldWorker S P K} (at : slice_get held.workers w ≡ Some k) {cell left : Cell P} {inboxes : List (List (Mail P))} {board : Board} {book : Book}
     (p : Puts (meaning held.model) held w k new name cell left inboxes board book) where
   abbrev sim : Simulation S P

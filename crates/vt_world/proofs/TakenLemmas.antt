@@ -31,7 +31,7 @@ pub closed-answer : {S P : Type 0} (sim : Simulation S P) (step : Step) (old new
 closed-answer sim step old new result is shut on_book = go result is
   where
     closed : (next sim old step).answer ≡ Err Closed
-    closed = (refusal-laws sim old step).closed shut (elim on_book [ inl e ↦ ap cell_of e | inr e ↦ ap cell_of e.1 ])
+    closed = (refusal-laws sim old step).closed shut (elim on_book [ inl e ↦ ap (cell_of sim) e | inr e ↦ ap (cell_of sim) e.1 ])
 
     go : (result : Result Reply Fault) → IsStepOf sim step old new result → result ≡ Err Closed
     go (Ok reply) is = ap (λ o. o.answer) (sym is.0) ∙ closed

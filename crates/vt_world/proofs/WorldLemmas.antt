@@ -1,5 +1,5 @@
 -- A part of a world looked up and changed, and the steps of a part as steps of the world.
-use Rattle.std.proofs.Common.{◌≡◌, ℕ, zero, suc, ◌+◌, ◌%◌, inl, inr, Bool, List, [], ◌∷◌, map, refl, sym, ◌∙◌, ap, subst, arith, Some, None, Ok, Err, slice_get, slice_set, if◌then◌else◌}
+use Rattle.std.proofs.Common.{◌≡◌, ℕ, zero, suc, ◌+◌, inl, inr, Bool, List, [], ◌∷◌, map, refl, sym, ◌∙◌, ap, subst, arith, Some, None, Ok, Err, slice_get, slice_set, if◌then◌else◌}
 use Rattle.std.specs.Option.{option_and_then, option_map}
 use Rattle.std.proofs.lemmas.Bool.Decides.{eqb_tells}
 use Rattle.vt_key.specs.Times.{Time}
@@ -8,12 +8,12 @@ use Rattle.vt_model.specs.declared.settings.Config.{Config}
 use Rattle.vt_model.specs.Handler.{Handlers}
 use Rattle.vt_model.specs.Simulation.{Simulation, simulation_of}
 use Rattle.vt_steps.specs.declared.step.Step.{Step}
-use Rattle.vt_steps.specs.declared.step.Step.TheVariants.{Execute, Undo, Cancel, Home, Send, Fetch, Accept, Cut, Report, Commit, Close}
 use Rattle.vt_steps.specs.declared.step.Reply.TheVariants.{Done}
 use Rattle.vt_steps.specs.World.{Part, World}
-use Rattle.vt_steps.specs.Next.{Outcome, next, with_part, done_or_refused, locally}
+use Rattle.vt_steps.specs.Actions.{Action, on_part, at_inbox, at_board, at_book, on_book, action_of}
+use Rattle.vt_steps.specs.Next.{Outcome, done_in, next, with_part, done_or_refused, locally}
 use Rattle.vt_steps.specs.StandsFor.{PartMemory, StandsForPart, StandForParts, GoesOn}
-use Rattle.vt_steps.specs.Cells.{act_locally, if_own, local_step}
+use Rattle.vt_steps.specs.Cells.{action_worker, local_rule, if_own, local_step}
 use Rattle.vt_kernel.specs.Held.{HeldWorker, part_memory, StandsFor as WorkerStandsFor}
 use Rattle.vt_kernel.specs.Guards.{IsDone}
 use Rattle.vt_kernel.proofs.ProcessLemmas.{map-put, get-map_of}
@@ -61,38 +61,31 @@ module _ {S P : Type 0} (sim : Simulation S P) where
 
   -- ---- local steps
 
-  -- whose step it is
-  abbrev pub IsLocalAt : ℕ → Step → Type 0
-  IsLocalAt w (Execute p) = p % sim.workers ≡ w
-  IsLocalAt w (Undo p) = p % sim.workers ≡ w
-  IsLocalAt w (Cancel p stamp) = p % sim.workers ≡ w
-  IsLocalAt w (Home v) = v ≡ w
-  IsLocalAt w (Accept v i) = v ≡ w
-  IsLocalAt w _ = ⊥
+  -- it is done to the part of w alone
+  abbrev IsOnPart : ℕ → Action P → Type 0
+  IsOnPart w (on_part v step) = v ≡ w
+  IsOnPart w _ = ⊥
 
-  -- a local step of v is one of w, if they are one
-  locally-own : (world : World P) (v w : ℕ) (step : Step) (part : Part P) → v ≡ w → slice_get world.parts w ≡ Some part
-      → locally world v (act_locally sim step) ≡ done_or_refused world (option_map (with_part world w) (if_own sim w (Some v) (act_locally sim step part)))
-  locally-own world v w step part is there =
-      ap (λ u. locally world u (act_locally sim step)) is
-      ∙ ap (λ q. done_or_refused world (option_map (with_part world w) (option_and_then (act_locally sim step) q))) there
-      ∙ ap (λ s. done_or_refused world (option_map (with_part world w) s)) (sym (elim (eqb_tells v w) [ inl e ↦ ap (λ (b : Bool). if b then act_locally sim step part else None) e.0 | inr e ↦ absurd (e.1 is) ]))
+  -- it is a local step of w
+  abbrev pub IsLocalAt : ℕ → Step → Type 0
+  IsLocalAt w step = IsOnPart w (action_of sim step)
+
+  done-locally : (world : World P) (w : ℕ) (action : Action P) (part : Part P) → IsOnPart w action → slice_get world.parts w ≡ Some part
+      → done_in world action ≡ done_or_refused world (option_map (with_part world w) (if_own sim w (action_worker action) (local_rule action part)))
+  done-locally world w (on_part v step) part is there =
+      ap (λ u. locally world u step) is
+      ∙ ap (λ q. done_or_refused world (option_map (with_part world w) (option_and_then step q))) there
+      ∙ ap (λ s. done_or_refused world (option_map (with_part world w) s)) (sym (elim (eqb_tells v w) [ inl e ↦ ap (λ (b : Bool). if b then step part else None) e.0 | inr e ↦ absurd (e.1 is) ]))
+  done-locally world w (at_inbox v u step) part is there = absurd is
+  done-locally world w (at_board v step) part is there = absurd is
+  done-locally world w (at_book v step) part is there = absurd is
+  done-locally world w (on_book step) part is there = absurd is
 
   -- what a local step does to the part it does to the world
   pub next-locally : (world : World P) (w : ℕ) (step : Step) (part : Part P) → IsLocalAt w step → slice_get world.parts w ≡ Some part
       → next sim world step ≡ done_or_refused world (option_map (with_part world w) (local_step sim w step part))
   unfolding next
-  next-locally world w (Execute p) part is there = locally-own world (p % sim.workers) w (Execute p) part is there
-  next-locally world w (Undo p) part is there = locally-own world (p % sim.workers) w (Undo p) part is there
-  next-locally world w (Cancel p stamp) part is there = locally-own world (p % sim.workers) w (Cancel p stamp) part is there
-  next-locally world w (Home v) part is there = locally-own world v w (Home v) part is there
-  next-locally world w (Accept v i) part is there = locally-own world v w (Accept v i) part is there
-  next-locally world w (Send v u) part is there = absurd is
-  next-locally world w (Fetch v) part is there = absurd is
-  next-locally world w (Cut v) part is there = absurd is
-  next-locally world w (Report v) part is there = absurd is
-  next-locally world w (Commit v) part is there = absurd is
-  next-locally world w Close part is there = absurd is
+  next-locally world w step part is there = done-locally world w (action_of sim step) part is there
 
 -- ---- which worker is at a place
 

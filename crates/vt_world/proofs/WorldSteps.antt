@@ -1,5 +1,5 @@
 -- Steps of a world whose worker or inbox isn't there, and commits at a closed book.
-use Rattle.std.proofs.Common.{◌≡◌, ℕ, zero, suc, ◌+◌, ◌≤◌, true, false, List, [], ◌∷◌, map, refl, sym, ◌∙◌, ap, subst, arith, Some, None, Result, Err, slice_get}
+use Rattle.std.proofs.Common.{◌≡◌, ℕ, zero, suc, ◌+◌, ◌≤◌, true, List, [], ◌∷◌, map, refl, sym, ◌∙◌, ap, subst, arith, Some, None, Result, Err, slice_get}
 use Rattle.std.proofs.lemmas.Option.{slice_get_past}
 use Rattle.vt_key.specs.Times.{Time}
 use Rattle.vt_key.specs.declared.fault.Fault.{Fault}
@@ -7,15 +7,15 @@ use Rattle.vt_key.specs.declared.fault.Fault.TheVariants.{NotLawful, Closed}
 use Rattle.vt_model.specs.Handler.{Handlers}
 use Rattle.vt_model.specs.Simulation.{simulation_of}
 use Rattle.vt_steps.specs.declared.step.Step.{Step}
-use Rattle.vt_steps.specs.declared.step.Step.TheVariants.{Home, Accept, Send, Fetch, Cut, Report, Commit}
+use Rattle.vt_steps.specs.declared.step.Step.TheVariants.{Send, Commit}
 use Rattle.vt_steps.specs.declared.step.Reply.{Reply}
 use Rattle.vt_steps.specs.World.{World, Book}
-use Rattle.std.specs.Option.{option_and_then, option_map}
-use Rattle.vt_steps.specs.PartSteps.{home, accept}
-use Rattle.vt_steps.specs.Next.{Outcome, next, refused, with_part, done_or_refused}
+use Rattle.vt_steps.specs.Next.{Outcome, next, refused}
 use Rattle.vt_steps.specs.StandsFor.{GoesOn}
 use Rattle.vt_kernel.specs.Held.{HeldWorker, part_memory}
-use Rattle.vt_steps.proofs.steps.CellSteps.{next-report_nobody, next-commit_closed, next-commit_nobody, next-send_nobody, next-send_nowhere, next-fetch_nobody, next-cut_nobody}
+use Rattle.vt_steps.specs.Cells.{worker_of, cell_of}
+use Rattle.vt_steps.proofs.steps.CellSteps.{next-commit_closed, next-send_nowhere}
+use Rattle.vt_steps.proofs.steps.CellLemmas.{IsOpenAt, next-nobody}
 use Rattle.vt_world.specs.Held.{HeldWorld, world_memory, StandsForWorld, IsWorldInside}
 use Rattle.vt_world.proofs.WorldLemmas.{nobody-at, worker-at}
 
@@ -52,10 +52,11 @@ module _ {M S P K : Type 0} {handlers : Handlers S P K} {held : HeldWorld M S P 
 
 module _ {M S P K : Type 0} {handlers : Handlers S P K} {held : HeldWorld M S P K} {board_end book_end : Time} (inside : IsWorldInside handlers held board_end book_end)
     {w : ℕ} (past : held.config.workers ≤ w) where
-  -- where a world refuses a step of a worker that isn't there
-  pub of-nobody : (step : Step) → ((world : World P) → StandsForWorld handlers held world → slice_get world.parts w ≡ None → next (simulation_of handlers held.config) world step ≡ refused world NotLawful)
+  pub of-nobody : (step : Step) → worker_of (simulation_of handlers held.config) step ≡ Some w → IsOpenAt (cell_of (simulation_of handlers held.config) step) held.book
       → GoesOn (simulation_of handlers held.config) step (Err NotLawful) (world_memory handlers held) (world_memory handlers held)
-  of-nobody step refuses world h = goes handlers held world step (refused world NotLawful) (Err NotLawful) held (refuses world h gone) refl refl h
+  of-nobody step whose is_open world h =
+      goes handlers held world step (refused world NotLawful) (Err NotLawful) held
+      (next-nobody (simulation_of handlers held.config) world step w whose gone (subst (IsOpenAt (cell_of (simulation_of handlers held.config) step)) (sym h.book) is_open)) refl refl h
     where
       no-image : (xs : List (HeldWorker S P K)) (i : ℕ) → slice_get xs i ≡ None → slice_get (map (part_memory handlers) xs) i ≡ None
       no-image [] i is = refl
@@ -66,26 +67,3 @@ module _ {M S P K : Type 0} {handlers : Handlers S P K} {held : HeldWorld M S P 
       gone =
           let none = slice_get_past held.workers w (let size = inside.all_workers in omega (arith, size, past)) in
           nobody-at (simulation_of handlers held.config) 0 w (map (part_memory handlers) held.workers) world.parts h.parts (no-image held.workers w none)
-
-  pub send-nobody : (v : ℕ) → GoesOn (simulation_of handlers held.config) (Send w v) (Err NotLawful) (world_memory handlers held) (world_memory handlers held)
-  send-nobody v = of-nobody (Send w v) (λ world h gone. next-send_nobody (simulation_of handlers held.config) world w v gone)
-
-  pub fetch-nobody : GoesOn (simulation_of handlers held.config) (Fetch w) (Err NotLawful) (world_memory handlers held) (world_memory handlers held)
-  fetch-nobody = of-nobody (Fetch w) (λ world h gone. next-fetch_nobody (simulation_of handlers held.config) world w gone)
-
-  pub cut-nobody : GoesOn (simulation_of handlers held.config) (Cut w) (Err NotLawful) (world_memory handlers held) (world_memory handlers held)
-  cut-nobody = of-nobody (Cut w) (λ world h gone. next-cut_nobody (simulation_of handlers held.config) world w gone)
-
-  pub report-nobody : GoesOn (simulation_of handlers held.config) (Report w) (Err NotLawful) (world_memory handlers held) (world_memory handlers held)
-  report-nobody = of-nobody (Report w) (λ world h gone. next-report_nobody (simulation_of handlers held.config) world w gone)
-
-  pub commit-nobody : held.book.is_closed ≡ false → GoesOn (simulation_of handlers held.config) (Commit w) (Err NotLawful) (world_memory handlers held) (world_memory handlers held)
-  commit-nobody is_open = of-nobody (Commit w) (λ world h gone. next-commit_nobody (simulation_of handlers held.config) world w gone (ap (λ (b : Book). b.is_closed) h.book ∙ is_open))
-
-  pub home-nobody : GoesOn (simulation_of handlers held.config) (Home w) (Err NotLawful) (world_memory handlers held) (world_memory handlers held)
-  unfolding next
-  home-nobody = of-nobody (Home w) (λ world h gone. ap (λ q. done_or_refused world (option_map (with_part world w) (option_and_then (home (simulation_of handlers held.config) w) q))) gone)
-
-  pub accept-nobody : (i : ℕ) → GoesOn (simulation_of handlers held.config) (Accept w i) (Err NotLawful) (world_memory handlers held) (world_memory handlers held)
-  unfolding next
-  accept-nobody i = of-nobody (Accept w i) (λ world h gone. ap (λ q. done_or_refused world (option_map (with_part world w) (option_and_then (accept (simulation_of handlers held.config) i) q))) gone)

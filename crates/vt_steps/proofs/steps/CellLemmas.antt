@@ -1,22 +1,21 @@
 -- A step of a world is a step of one part and one cell, put back.
-use Rattle.std.proofs.Common.{◌≡◌, ℕ, zero, suc, ◌%◌, Bool, true, false, cond, List, [], ◌∷◌, refl, sym, subst, ◌∙◌, ap, Option, Some, None, slice_get, slice_set, IsTrue}
-use Rattle.std.specs.Option.{option_map, option_and_then}
+use Rattle.std.proofs.Common.{◌≡◌, ℕ, zero, suc, true, false, cond, List, [], ◌∷◌, refl, sym, subst, ◌∙◌, ap, Option, Some, None, slice_get, slice_set, IsTrue}
+use Rattle.std.specs.Option.{option_map, option_and_then, is_none}
 use Rattle.vt_key.specs.declared.letter.Mail.{Mail}
 use Rattle.vt_key.specs.declared.fault.Fault.{Fault}
 use Rattle.vt_key.specs.declared.fault.Fault.TheVariants.{NotLawful, Closed}
 use Rattle.vt_model.specs.Simulation.{Simulation}
 use Rattle.vt_steps.specs.declared.step.Step.{Step}
-use Rattle.vt_steps.specs.declared.step.Step.TheVariants.{Execute, Undo, Cancel, Home, Send, Fetch, Accept, Cut, Report, Commit, Close}
 use Rattle.vt_steps.specs.declared.step.Reply.TheVariants.{Done}
 use Rattle.vt_steps.specs.World.{Part, Board, Book, World}
 use Rattle.vt_steps.specs.BookSteps.{unless_closed}
-use Rattle.vt_steps.specs.CellSteps.{CellEffect, send, fetch, cut, report, commit, close}
-use Rattle.vt_steps.specs.Next.{effect_in, Outcome, refused, replied, done_or_refused, with_part, with_inbox, with_board, with_book, locally, at_cell, next}
-use Rattle.vt_steps.specs.Cells.{CellName, inbox_of, board_cell, book_cell, Cell, in_inbox, on_board, in_book, content, with_content, worker_of, cell_of, is_local, Acted, left_alone, acted_locally, acted_at, acted_close, act, put_back, act_locally}
-use Rattle.vt_steps.specs.Laws.{IsAny, IsRefused, ActsOnOneCell, LeavesCells}
+use Rattle.vt_steps.specs.CellSteps.{CellEffect}
+use Rattle.vt_steps.specs.Actions.{Action, on_part, at_inbox, at_board, at_book, on_book, action_of}
+use Rattle.vt_steps.specs.Next.{effect_in, Outcome, refused, replied, done_or_refused, with_part, with_inbox, with_board, with_book, locally, at_cell, done_in, next}
+use Rattle.vt_steps.specs.Cells.{CellName, inbox_of, board_cell, book_cell, Cell, in_inbox, on_board, in_book, content, with_content, action_worker, action_cell, worker_of, cell_of, is_local, Acted, left_alone, acted_locally, acted_at, acted_close, done_at, act, put_back}
+use Rattle.vt_steps.specs.Laws.{IsAny, ActsOnOneCell, LeavesCells}
 use Rattle.vt_steps.proofs.steps.Changes.{map_has}
-use Rattle.vt_steps.proofs.steps.CellSteps.{next-send_nobody, next-send_nowhere, next-fetch_nobody, next-fetch_nowhere, next-cut_nobody, next-report_nobody, next-commit_nobody, next-commit_closed}
-use Rattle.vt_steps.proofs.steps.Outcomes.{at_cell-found}
+use Rattle.vt_steps.proofs.steps.Outcomes.{at_cell-found, at_cell-nobody, at_cell-nowhere, unless_closed-either, unless_closed-open}
 
 -- ---- what is put back as it was
 
@@ -99,63 +98,52 @@ close-acts world w part (Some new) is = ap (λ (parts : List (Part _)). replied 
 
 -- ---- the factoring
 
-abbrev Acts : {S P : Type 0} → Simulation S P → World P → Step → ℕ → CellName → Type 0
-Acts {P = P} sim world step w name =
-    (part : Part P) (cell : Cell P) → slice_get world.parts w ≡ Some part → content world name ≡ Some cell → next sim world step ≡ put_back world w name (act sim step part cell)
+abbrev Acts : {P : Type 0} → World P → Action P → ℕ → CellName → Type 0
+Acts {P} world action w name =
+    (part : Part P) (cell : Cell P) → slice_get world.parts w ≡ Some part → content world name ≡ Some cell → done_in world action ≡ put_back world w name (done_at action part cell)
 
 -- along the equations that say which worker and which cell it is
-at_named : {S P : Type 0} (sim : Simulation S P) (world : World P) (step : Step) (v w : ℕ) (own name : CellName) →
-    v ≡ w → own ≡ name → Acts sim world step v own → Acts sim world step w name
-at_named sim world step v w own name same same_name acts =
-    subst (λ n. Acts sim world step w n) same_name (subst (λ u. Acts sim world step u own) same acts)
+at_named : {P : Type 0} (world : World P) (action : Action P) (v w : ℕ) (own name : CellName) →
+    v ≡ w → own ≡ name → Acts world action v own → Acts world action w name
+at_named world action v w own name same same_name acts =
+    subst (λ n. Acts world action w n) same_name (subst (λ u. Acts world action u own) same acts)
 
-inbox_acts : {S P : Type 0} (sim : Simulation S P) (world : World P) (step : Step) (w v : ℕ) →
-    ((part : Part P) (inbox : List (Mail P)) → slice_get world.parts w ≡ Some part → slice_get world.inboxes v ≡ Some inbox → next sim world step ≡ put_back world w (inbox_of v) (act sim step part (in_inbox inbox))) →
-    Acts sim world step w (inbox_of v)
-inbox_acts sim world step w v acts part cell is holds =
+inbox_acts : {P : Type 0} (world : World P) (action : Action P) (w v : ℕ) →
+    ((part : Part P) (inbox : List (Mail P)) → slice_get world.parts w ≡ Some part → slice_get world.inboxes v ≡ Some inbox → done_in world action ≡ put_back world w (inbox_of v) (done_at action part (in_inbox inbox))) →
+    Acts world action w (inbox_of v)
+inbox_acts world action w v acts part cell is holds =
     let has = map_has in_inbox (slice_get world.inboxes v) cell holds in
-    subst (λ c. next sim world step ≡ put_back world w (inbox_of v) (act sim step part c)) (sym has.2) (acts part has.0 is has.1)
+    subst (λ c. done_in world action ≡ put_back world w (inbox_of v) (done_at action part c)) (sym has.2) (acts part has.0 is has.1)
 
-board_acts : {S P : Type 0} (sim : Simulation S P) (world : World P) (step : Step) (w : ℕ) →
-    ((part : Part P) → slice_get world.parts w ≡ Some part → next sim world step ≡ put_back world w board_cell (act sim step part (on_board world.board))) →
-    Acts sim world step w board_cell
-board_acts sim world step w acts part cell is holds =
+board_acts : {P : Type 0} (world : World P) (action : Action P) (w : ℕ) →
+    ((part : Part P) → slice_get world.parts w ≡ Some part → done_in world action ≡ put_back world w board_cell (done_at action part (on_board world.board))) →
+    Acts world action w board_cell
+board_acts world action w acts part cell is holds =
     let same : on_board world.board ≡ cell = cc in
-    subst (λ c. next sim world step ≡ put_back world w board_cell (act sim step part c)) same (acts part is)
+    subst (λ c. done_in world action ≡ put_back world w board_cell (done_at action part c)) same (acts part is)
 
-book_cell_acts : {S P : Type 0} (sim : Simulation S P) (world : World P) (step : Step) (w : ℕ) →
-    ((part : Part P) → slice_get world.parts w ≡ Some part → next sim world step ≡ put_back world w book_cell (act sim step part (in_book world.book))) →
-    Acts sim world step w book_cell
-book_cell_acts sim world step w acts part cell is holds =
+book_cell_acts : {P : Type 0} (world : World P) (action : Action P) (w : ℕ) →
+    ((part : Part P) → slice_get world.parts w ≡ Some part → done_in world action ≡ put_back world w book_cell (done_at action part (in_book world.book))) →
+    Acts world action w book_cell
+book_cell_acts world action w acts part cell is holds =
     let same : in_book world.book ≡ cell = cc in
-    subst (λ c. next sim world step ≡ put_back world w book_cell (act sim step part c)) same (acts part is)
+    subst (λ c. done_in world action ≡ put_back world w book_cell (done_at action part c)) same (acts part is)
 
-next-acts : {S P : Type 0} (sim : Simulation S P) (world : World P) (step : Step) (w : ℕ) (name : CellName) →
-    IsAny (worker_of sim step) w → IsAny (cell_of step) name → Acts sim world step w name
-unfolding next act
-next-acts sim world (Execute p) w name whose at = at_named sim world (Execute p) _ w name name whose refl (locally-acts world (p % sim.workers) (act_locally sim (Execute p)) name)
-next-acts sim world (Undo p) w name whose at = at_named sim world (Undo p) _ w name name whose refl (locally-acts world (p % sim.workers) (act_locally sim (Undo p)) name)
-next-acts sim world (Cancel p stamp) w name whose at = at_named sim world (Cancel p stamp) _ w name name whose refl (locally-acts world (p % sim.workers) (act_locally sim (Cancel p stamp)) name)
-next-acts sim world (Home v) w name whose at = at_named sim world (Home v) v w name name whose refl (locally-acts world v (act_locally sim (Home v)) name)
-next-acts sim world (Accept v i) w name whose at = at_named sim world (Accept v i) v w name name whose refl (locally-acts world v (act_locally sim (Accept v i)) name)
-next-acts sim world (Send v u) w name whose at =
-    at_named sim world (Send v u) v w (inbox_of u) name whose at (inbox_acts sim world (Send v u) v u (λ part inbox is there.
-    cell-acts world v (inbox_of u) (with_inbox u) in_inbox (send sim v u) (slice_get world.inboxes u) part inbox (λ new c. refl) is there (ap (option_map in_inbox) there)))
-next-acts sim world (Fetch v) w name whose at =
-    at_named sim world (Fetch v) v w (inbox_of v) name whose at (inbox_acts sim world (Fetch v) v v (λ part inbox is there.
-    cell-acts world v (inbox_of v) (with_inbox v) in_inbox fetch (slice_get world.inboxes v) part inbox (λ new c. refl) is there (ap (option_map in_inbox) there)))
-next-acts sim world (Cut v) w name whose at =
-    at_named sim world (Cut v) v w board_cell name whose at (board_acts sim world (Cut v) v (λ part is.
-    cell-acts world v board_cell with_board on_board (cut sim v) (Some world.board) part world.board (λ new c. refl) is refl refl))
-next-acts sim world (Report v) w name whose at =
-    at_named sim world (Report v) v w board_cell name whose at (board_acts sim world (Report v) v (λ part is.
-    cell-acts world v board_cell with_board on_board (report sim v) (Some world.board) part world.board (λ new c. refl) is refl refl))
-next-acts sim world (Commit v) w name whose at =
-    at_named sim world (Commit v) v w book_cell name whose at (book_cell_acts sim world (Commit v) v (λ part is.
-    book-acts world v part _ _ is (cell-acts world v book_cell with_book in_book (commit sim v) (Some world.book) part world.book (λ new c. refl) is refl refl)))
-next-acts sim world Close w name whose at =
-    at_named sim world Close w w book_cell name refl at (book_cell_acts sim world Close w (λ part is.
-    book-acts world w part _ _ is (close-acts world w part (close sim world.book) is)))
+done-acts : {P : Type 0} (world : World P) (action : Action P) (w : ℕ) (name : CellName) →
+    IsAny (action_worker action) w → IsAny (action_cell action) name → Acts world action w name
+done-acts world (on_part v step) w name whose at = at_named world (on_part v step) v w name name whose refl (locally-acts world v step name)
+done-acts world (at_inbox v u step) w name whose at =
+    at_named world (at_inbox v u step) v w (inbox_of u) name whose at (inbox_acts world (at_inbox v u step) v u (λ part inbox is there.
+    cell-acts world v (inbox_of u) (with_inbox u) in_inbox step (slice_get world.inboxes u) part inbox (λ new c. refl) is there (ap (option_map in_inbox) there)))
+done-acts world (at_board v step) w name whose at =
+    at_named world (at_board v step) v w board_cell name whose at (board_acts world (at_board v step) v (λ part is.
+    cell-acts world v board_cell with_board on_board step (Some world.board) part world.board (λ new c. refl) is refl refl))
+done-acts world (at_book v step) w name whose at =
+    at_named world (at_book v step) v w book_cell name whose at (book_cell_acts world (at_book v step) v (λ part is.
+    book-acts world v part _ _ is (cell-acts world v book_cell with_book in_book step (Some world.book) part world.book (λ new c. refl) is refl refl)))
+done-acts world (on_book step) w name whose at =
+    at_named world (on_book step) w w book_cell name refl at (book_cell_acts world (on_book step) w (λ part is.
+    book-acts world w part _ _ is (close-acts world w part (step world.book) is)))
 
 -- ---- a worker or a cell that is not there
 
@@ -166,23 +154,37 @@ abbrev Lacks : {P : Type 0} → World P → Option ℕ → Type 0
 Lacks world None = ⊥
 Lacks world (Some w) = slice_get world.parts w ≡ None
 
-without-worker : {S P : Type 0} (sim : Simulation S P) (world : World P) (step : Step) → Lacks world (worker_of sim step) → IsRefused sim world step
+-- where a step is about the book, that is open
+abbrev pub IsOpenAt : Option CellName → Book → Type 0
+IsOpenAt (Some book_cell) book = book.is_closed ≡ false
+IsOpenAt _ book = Unit {0}
+
+done-nobody : {P : Type 0} (world : World P) (action : Action P) → Lacks world (action_worker action) → IsOpenAt (action_cell action) world.book → done_in world action ≡ refused world NotLawful
+done-nobody world (on_part w step) none is_open = locally-none world w step none
+done-nobody world (at_inbox w v step) none is_open = at_cell-nobody world w (with_inbox v) step (slice_get world.inboxes v) none
+done-nobody world (at_board w step) none is_open = at_cell-nobody world w with_board step (Some world.board) none
+done-nobody world (at_book w step) none is_open =
+    unless_closed-open world.book (refused world) (at_cell world w with_book step (Some world.book)) is_open ∙ at_cell-nobody world w with_book step (Some world.book) none
+done-nobody world (on_book step) none is_open = absurd none
+
+-- a step of a worker that is not there
+pub next-nobody : {S P : Type 0} (sim : Simulation S P) (world : World P) (step : Step) (w : ℕ) → worker_of sim step ≡ Some w → slice_get world.parts w ≡ None → IsOpenAt (cell_of sim step) world.book →
+    next sim world step ≡ refused world NotLawful
 unfolding next
-without-worker sim world (Execute p) none = (NotLawful, locally-none world _ _ none)
-without-worker sim world (Undo p) none = (NotLawful, locally-none world _ _ none)
-without-worker sim world (Cancel p stamp) none = (NotLawful, locally-none world _ _ none)
-without-worker sim world (Home w) none = (NotLawful, locally-none world _ _ none)
-without-worker sim world (Accept w i) none = (NotLawful, locally-none world _ _ none)
-without-worker sim world (Send w v) none = (NotLawful, next-send_nobody sim world w v none)
-without-worker sim world (Fetch w) none = (NotLawful, next-fetch_nobody sim world w none)
-without-worker sim world (Cut w) none = (NotLawful, next-cut_nobody sim world w none)
-without-worker sim world (Report w) none = (NotLawful, next-report_nobody sim world w none)
-without-worker sim world (Commit w) none = commit-refused world.book.is_closed refl
-  where
-    commit-refused : (b : Bool) → world.book.is_closed ≡ b → IsRefused sim world (Commit w)
-    commit-refused true shut = (Closed, next-commit_closed sim world w shut)
-    commit-refused false is_open = (NotLawful, next-commit_nobody sim world w none is_open)
-without-worker sim world Close none = absurd none
+next-nobody sim world step w whose none is_open = done-nobody world (action_of sim step) (subst (λ o. Lacks world o) (sym whose) none) is_open
+
+-- a refusal of the action, and nothing else
+abbrev IsRefusedIn : {P : Type 0} → World P → Outcome P → Type 0
+IsRefusedIn world outcome = (fault : Fault) × (outcome ≡ refused world fault)
+
+without-worker : {P : Type 0} (world : World P) (action : Action P) → Lacks world (action_worker action) → IsRefusedIn world (done_in world action)
+without-worker world (on_part w step) none = (NotLawful, done-nobody world (on_part w step) none tt)
+without-worker world (at_inbox w v step) none = (NotLawful, done-nobody world (at_inbox w v step) none tt)
+without-worker world (at_board w step) none = (NotLawful, done-nobody world (at_board w step) none tt)
+without-worker world (at_book w step) none =
+    let open_step = at_cell world w with_book step (Some world.book) in
+    unless_closed-either world.book (refused world) open_step (IsRefusedIn world) (λ shut. (Closed, refl)) (λ is_open. (NotLawful, at_cell-nobody world w with_book step (Some world.book) none))
+without-worker world (on_book step) none = absurd none
 
 abbrev LacksCell : {P : Type 0} → World P → Option CellName → Type 0
 LacksCell world None = ⊥
@@ -192,24 +194,20 @@ pub map-none : {X Y : Type 0} (f : X → Y) (o : Option X) → option_map f o �
 map-none f None e = refl
 map-none f (Some x) e = absurd (let h : Some (f x) ≡ None = e in cc)
 
-without-cell : {S P : Type 0} (sim : Simulation S P) (world : World P) (step : Step) → LacksCell world (cell_of step) → IsRefused sim world step
-without-cell sim world (Send w v) lacks = (NotLawful, next-send_nowhere sim world w v (map-none in_inbox (slice_get world.inboxes v) lacks))
-without-cell sim world (Fetch w) lacks = (NotLawful, next-fetch_nowhere sim world w (map-none in_inbox (slice_get world.inboxes w) lacks))
-without-cell sim world (Cut w) lacks = absurd (let h : Some (on_board world.board) ≡ None = lacks in cc)
-without-cell sim world (Report w) lacks = absurd (let h : Some (on_board world.board) ≡ None = lacks in cc)
-without-cell sim world (Commit w) lacks = absurd (let h : Some (in_book world.book) ≡ None = lacks in cc)
-without-cell sim world Close lacks = absurd (let h : Some (in_book world.book) ≡ None = lacks in cc)
-without-cell sim world (Execute p) lacks = absurd lacks
-without-cell sim world (Undo p) lacks = absurd lacks
-without-cell sim world (Cancel p stamp) lacks = absurd lacks
-without-cell sim world (Home w) lacks = absurd lacks
-without-cell sim world (Accept w i) lacks = absurd lacks
+without-cell : {P : Type 0} (world : World P) (action : Action P) → LacksCell world (action_cell action) → IsRefusedIn world (done_in world action)
+without-cell world (on_part w step) lacks = absurd lacks
+without-cell world (at_inbox w v step) lacks =
+    (NotLawful, at_cell-nowhere world w (with_inbox v) step (slice_get world.inboxes v) (map-none in_inbox (slice_get world.inboxes v) lacks))
+without-cell world (at_board w step) lacks = absurd (let h : Some (on_board world.board) ≡ None = lacks in cc)
+without-cell world (at_book w step) lacks = absurd (let h : Some (in_book world.book) ≡ None = lacks in cc)
+without-cell world (on_book step) lacks = absurd (let h : Some (in_book world.book) ≡ None = lacks in cc)
 
 pub next-acts_on_one_cell : {S P : Type 0} (sim : Simulation S P) (world : World P) (step : Step) → ActsOnOneCell sim world step
+unfolding next act
 next-acts_on_one_cell sim world step = record {
-  acts = λ w name part cell whose at. next-acts sim world step w name whose at part cell;
-  no_worker = λ w is none. without-worker sim world step (subst (λ o. Lacks world o) (sym is) none);
-  no_cell = λ name is none. without-cell sim world step (subst (λ o. LacksCell world o) (sym is) none);
+  acts = λ w name part cell whose at. done-acts world (action_of sim step) w name whose at part cell;
+  no_worker = λ w is none. without-worker world (action_of sim step) (subst (λ o. Lacks world o) (sym is) none);
+  no_cell = λ name is none. without-cell world (action_of sim step) (subst (λ o. LacksCell world o) (sym is) none);
 }
 
 -- ---- local steps leave cells
@@ -221,16 +219,16 @@ locally-leaves : {P : Type 0} (part : Part P) (o : Option (Part P)) →
 locally-leaves part None = (λ cell. refl, λ a b. refl, λ a b. refl)
 locally-leaves part (Some new) = (λ cell. refl, λ a b. refl, λ a b. refl)
 
-pub local-leaves_cells : {S P : Type 0} (sim : Simulation S P) (step : Step) (part : Part P) → IsTrue (is_local step) → LeavesCells sim step part
+done-leaves : {P : Type 0} (action : Action P) (part : Part P) → IsTrue (is_none (action_cell action)) →
+    ((cell : Cell P) → (done_at action part cell).cell ≡ cell)
+    × ((a b : Cell P) → (done_at action part a).part ≡ (done_at action part b).part)
+    × ((a b : Cell P) → (done_at action part a).answer ≡ (done_at action part b).answer)
+done-leaves (on_part w step) part local = locally-leaves part (step part)
+done-leaves (at_inbox w v step) part local = absurd (let h : false ≡ true = local in cc)
+done-leaves (at_board w step) part local = absurd (let h : false ≡ true = local in cc)
+done-leaves (at_book w step) part local = absurd (let h : false ≡ true = local in cc)
+done-leaves (on_book step) part local = absurd (let h : false ≡ true = local in cc)
+
+pub local-leaves_cells : {S P : Type 0} (sim : Simulation S P) (step : Step) (part : Part P) → IsTrue (is_local sim step) → LeavesCells sim step part
 unfolding act
-local-leaves_cells sim (Execute p) part local = let l = locally-leaves part (act_locally sim (Execute p) part) in record { same_cell = l.0; same_part = l.1; same_answer = l.2 }
-local-leaves_cells sim (Undo p) part local = let l = locally-leaves part (act_locally sim (Undo p) part) in record { same_cell = l.0; same_part = l.1; same_answer = l.2 }
-local-leaves_cells sim (Cancel p stamp) part local = let l = locally-leaves part (act_locally sim (Cancel p stamp) part) in record { same_cell = l.0; same_part = l.1; same_answer = l.2 }
-local-leaves_cells sim (Home w) part local = let l = locally-leaves part (act_locally sim (Home w) part) in record { same_cell = l.0; same_part = l.1; same_answer = l.2 }
-local-leaves_cells sim (Accept w i) part local = let l = locally-leaves part (act_locally sim (Accept w i) part) in record { same_cell = l.0; same_part = l.1; same_answer = l.2 }
-local-leaves_cells sim (Send w v) part local = absurd (let h : false ≡ true = local in cc)
-local-leaves_cells sim (Fetch w) part local = absurd (let h : false ≡ true = local in cc)
-local-leaves_cells sim (Cut w) part local = absurd (let h : false ≡ true = local in cc)
-local-leaves_cells sim (Report w) part local = absurd (let h : false ≡ true = local in cc)
-local-leaves_cells sim (Commit w) part local = absurd (let h : false ≡ true = local in cc)
-local-leaves_cells sim Close part local = absurd (let h : false ≡ true = local in cc)
+local-leaves_cells sim step part local = let l = done-leaves (action_of sim step) part local in record { same_cell = l.0; same_part = l.1; same_answer = l.2 }

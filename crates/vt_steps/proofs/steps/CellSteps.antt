@@ -3,41 +3,25 @@ use Rattle.std.proofs.Common.{◌≡◌, ℕ, true, false, cond, refl, ◌∙◌
 use Rattle.std.specs.Option.{option_map}
 use Rattle.vt_key.specs.declared.fault.Fault.TheVariants.{NotLawful, Closed}
 use Rattle.vt_model.specs.Simulation.{Simulation}
-use Rattle.vt_steps.specs.declared.step.Step.TheVariants.{Send, Fetch, Cut, Report, Commit, Close}
+use Rattle.vt_steps.specs.declared.step.Step.TheVariants.{Send, Report, Commit, Close}
 use Rattle.vt_steps.specs.declared.step.Reply.TheVariants.{Done}
 use Rattle.vt_steps.specs.World.{Part, World}
 use Rattle.vt_steps.specs.PartSteps.{report_sent, report_got, report_least, part_after_commit, rows_of_commit}
 use Rattle.vt_steps.specs.BoardSteps.{may_report, with_report, after_report}
 use Rattle.vt_steps.specs.BookSteps.{may_commit, with_rows}
-use Rattle.vt_steps.specs.CellSteps.{send, fetch, cut, reported, report, commit, close}
+use Rattle.vt_steps.specs.CellSteps.{send, reported, report, commit, close}
 use Rattle.vt_steps.specs.Next.{effect_in, next, refused, replied, done_or_refused, with_inbox, with_board, with_book, at_cell}
 use Rattle.vt_steps.proofs.steps.Changes.{with_reported}
-use Rattle.vt_steps.proofs.steps.Outcomes.{at_cell-found, at_cell-nobody, at_cell-nowhere, unless_closed-open, unless_closed-shut}
+use Rattle.vt_steps.proofs.steps.Outcomes.{at_cell-found, at_cell-nowhere, unless_closed-open, unless_closed-shut}
 
 module _ {S P : Type 0} (sim : Simulation S P) (world : World P) where
   -- ---- an inbox
-
-  pub next-send_nobody : (w v : ℕ) → slice_get world.parts w ≡ None → next sim world (Send w v) ≡ refused world NotLawful
-  unfolding next
-  next-send_nobody w v gone = at_cell-nobody world w (with_inbox v) (send sim w v) (slice_get world.inboxes v) gone
 
   pub next-send_nowhere : (w v : ℕ) → slice_get world.inboxes v ≡ None → next sim world (Send w v) ≡ refused world NotLawful
   unfolding next
   next-send_nowhere w v gone = at_cell-nowhere world w (with_inbox v) (send sim w v) (slice_get world.inboxes v) gone
 
-  pub next-fetch_nobody : (w : ℕ) → slice_get world.parts w ≡ None → next sim world (Fetch w) ≡ refused world NotLawful
-  unfolding next
-  next-fetch_nobody w gone = at_cell-nobody world w (with_inbox w) fetch (slice_get world.inboxes w) gone
-
-  pub next-fetch_nowhere : (w : ℕ) → slice_get world.inboxes w ≡ None → next sim world (Fetch w) ≡ refused world NotLawful
-  unfolding next
-  next-fetch_nowhere w gone = at_cell-nowhere world w (with_inbox w) fetch (slice_get world.inboxes w) gone
-
   -- ---- the board
-
-  pub next-cut_nobody : (w : ℕ) → slice_get world.parts w ≡ None → next sim world (Cut w) ≡ refused world NotLawful
-  unfolding next
-  next-cut_nobody w gone = at_cell-nobody world w with_board (cut sim w) (Some world.board) gone
 
   pub next-report : (w : ℕ) (part : Part P) → slice_get world.parts w ≡ Some part → may_report w (report_least sim.end part) world.board ≡ true
       → (let board = with_report w (report_sent part) (report_got part) (report_least sim.end part) world.board in
@@ -46,10 +30,6 @@ module _ {S P : Type 0} (sim : Simulation S P) (world : World P) where
   next-report w part there may =
       at_cell-found world w with_board (report sim w) (Some world.board) part world.board there refl
       ∙ ap (λ b. effect_in world w with_board (cond b (Some (reported sim part (with_report w (report_sent part) (report_got part) (report_least sim.end part) world.board))) None)) may
-
-  pub next-report_nobody : (w : ℕ) → slice_get world.parts w ≡ None → next sim world (Report w) ≡ refused world NotLawful
-  unfolding next
-  next-report_nobody w gone = at_cell-nobody world w with_board (report sim w) (Some world.board) gone
 
   -- ---- the book
 
@@ -64,9 +44,6 @@ module _ {S P : Type 0} (sim : Simulation S P) (world : World P) where
   next-commit w part there is_open may =
       commit-open w is_open ∙ at_cell-found world w with_book (commit sim w) (Some world.book) part world.book there refl
       ∙ ap (λ b. effect_in world w with_book (cond b (Some (record { part = part_after_commit part; cell = with_rows w (rows_of_commit sim w part) part.floor world.book; reply = Done })) None)) may
-
-  pub next-commit_nobody : (w : ℕ) → slice_get world.parts w ≡ None → world.book.is_closed ≡ false → next sim world (Commit w) ≡ refused world NotLawful
-  next-commit_nobody w gone is_open = commit-open w is_open ∙ at_cell-nobody world w with_book (commit sim w) (Some world.book) gone
 
   pub next-commit_closed : (w : ℕ) → world.book.is_closed ≡ true → next sim world (Commit w) ≡ refused world Closed
   unfolding next

@@ -1,20 +1,20 @@
 -- What the steps of one worker do to its part and to one cell they do in every world that has these two: local steps, and then
 -- one step at the cell. So they may stand last, whatever the other workers did since the first of them.
-use Rattle.std.proofs.Common.{◌≡◌, inl, inr, ℕ, ◌%◌, true, false, cond, nat_eq, List, [], ◌∷◌, ◌++◌, map, refl, sym, ◌∙◌, ap, subst, Option, Some, None, Ok, slice_get, slice_set}
+use Rattle.std.proofs.Common.{◌≡◌, inl, inr, ℕ, true, false, cond, nat_eq, List, [], ◌∷◌, ◌++◌, map, refl, sym, ◌∙◌, ap, subst, Option, Some, None, Ok, slice_get, slice_set}
 use Rattle.std.specs.Option.{option_map, is_none}
 use Rattle.std.specs.List.{AllByRecursion}
 use Rattle.std.proofs.lemmas.Bool.Decides.{eqb_tells}
 use Rattle.std.proofs.lemmas.List.{map-append}
 use Rattle.vt_model.specs.Simulation.{Simulation}
 use Rattle.vt_steps.specs.declared.step.Step.{Step}
-use Rattle.vt_steps.specs.declared.step.Step.TheVariants.{Execute, Undo, Cancel, Home, Send, Fetch, Accept, Cut, Report, Commit, Close}
 use Rattle.vt_steps.specs.declared.step.Reply.{Reply}
 use Rattle.vt_steps.specs.declared.step.Reply.TheVariants.{Done}
-use Rattle.vt_steps.specs.Cells.{CellName, inbox_of, board_cell, book_cell, Cell, in_inbox, on_board, in_book, content, with_content, worker_of, cell_of, Acted, left_alone, acted_locally, acted_at, acted_close, act_locally, act, put_back, is_local, local_step, local_steps}
+use Rattle.vt_steps.specs.Cells.{CellName, inbox_of, board_cell, book_cell, Cell, in_inbox, on_board, in_book, content, with_content, action_worker, action_cell, worker_of, cell_of, is_local, Acted, left_alone, acted_locally, acted_at, acted_close, local_rule, done_at, act, put_back, if_own, local_step, local_steps}
 use Rattle.vt_steps.specs.Laws.{IsAny, IsRefused, ActsOnOneCell}
 use Rattle.vt_steps.specs.Marked.{Marked, Made, answered, unmarked, marked, made_done, IsMarkedRight, own_steps, DoesSo, Leads}
-use Rattle.vt_steps.specs.CellSteps.{CellEffect, send, fetch, cut, report, commit, close}
-use Rattle.vt_steps.specs.Next.{next, run, refused, with_book}
+use Rattle.vt_steps.specs.CellSteps.{CellEffect}
+use Rattle.vt_steps.specs.Actions.{Action, on_part, at_inbox, at_board, at_book, on_book, action_of}
+use Rattle.vt_steps.specs.Next.{done_in, next, run, refused, with_book}
 use Rattle.vt_steps.specs.World.{Part, Book, World}
 use Rattle.vt_steps.proofs.steps.CellLemmas.{next-acts_on_one_cell}
 use Rattle.vt_steps.proofs.steps.Changes.{map_has, chain_has}
@@ -38,7 +38,7 @@ same-kind (in_inbox a) = tt
 same-kind (on_board a) = tt
 same-kind (in_book a) = tt
 
-module _ {S P : Type 0} (sim : Simulation S P) where
+module _ {P : Type 0} where
   locally-kind : (part : Part P) (cell : Cell P) (o : Option (Part P)) → AreOneKind cell (acted_locally part cell o).cell
   locally-kind part cell None = same-kind cell
   locally-kind part cell (Some new) = same-kind cell
@@ -51,34 +51,27 @@ module _ {S P : Type 0} (sim : Simulation S P) where
   close-kind part book None = tt
   close-kind part book (Some new) = tt
 
-  -- a step leaves an inbox an inbox, the board the board, and the book the book
-  pub act-kind : (step : Step) (part : Part P) (cell : Cell P) → AreOneKind cell (act sim step part cell).cell
-  unfolding act
-  act-kind (Execute p) part cell = locally-kind part cell _
-  act-kind (Undo p) part cell = locally-kind part cell _
-  act-kind (Cancel p stamp) part cell = locally-kind part cell _
-  act-kind (Home w) part cell = locally-kind part cell _
-  act-kind (Accept w i) part cell = locally-kind part cell _
-  act-kind (Send w v) part (in_inbox inbox) = cell-kind part in_inbox inbox (send sim w v part inbox) (λ a b. tt)
-  act-kind (Send w v) part (on_board board) = tt
-  act-kind (Send w v) part (in_book book) = tt
-  act-kind (Fetch w) part (in_inbox inbox) = cell-kind part in_inbox inbox (fetch part inbox) (λ a b. tt)
-  act-kind (Fetch w) part (on_board board) = tt
-  act-kind (Fetch w) part (in_book book) = tt
-  act-kind (Cut w) part (in_inbox inbox) = tt
-  act-kind (Cut w) part (on_board board) = cell-kind part on_board board (cut sim w part board) (λ a b. tt)
-  act-kind (Cut w) part (in_book book) = tt
-  act-kind (Report w) part (in_inbox inbox) = tt
-  act-kind (Report w) part (on_board board) = cell-kind part on_board board (report sim w part board) (λ a b. tt)
-  act-kind (Report w) part (in_book book) = tt
-  act-kind (Commit w) part (in_inbox inbox) = tt
-  act-kind (Commit w) part (on_board board) = tt
-  act-kind (Commit w) part (in_book book) =
-      unless_closed-either book (left_alone part (in_book book)) _ (λ a. AreOneKind (in_book book) a.cell) (λ shut. tt) (λ is_open. cell-kind part in_book book (commit sim w part book) (λ a b. tt))
-  act-kind Close part (in_inbox inbox) = tt
-  act-kind Close part (on_board board) = tt
-  act-kind Close part (in_book book) =
-      unless_closed-either book (left_alone part (in_book book)) _ (λ a. AreOneKind (in_book book) a.cell) (λ shut. tt) (λ is_open. close-kind part book (close sim book))
+  done-kind : (action : Action P) (part : Part P) (cell : Cell P) → AreOneKind cell (done_at action part cell).cell
+  done-kind (on_part w step) part cell = locally-kind part cell (step part)
+  done-kind (at_inbox w v step) part (in_inbox inbox) = cell-kind part in_inbox inbox (step part inbox) (λ a b. tt)
+  done-kind (at_inbox w v step) part (on_board board) = tt
+  done-kind (at_inbox w v step) part (in_book book) = tt
+  done-kind (at_board w step) part (in_inbox inbox) = tt
+  done-kind (at_board w step) part (on_board board) = cell-kind part on_board board (step part board) (λ a b. tt)
+  done-kind (at_board w step) part (in_book book) = tt
+  done-kind (at_book w step) part (in_inbox inbox) = tt
+  done-kind (at_book w step) part (on_board board) = tt
+  done-kind (at_book w step) part (in_book book) =
+      unless_closed-either book (left_alone part (in_book book)) _ (λ a. AreOneKind (in_book book) a.cell) (λ shut. tt) (λ is_open. cell-kind part in_book book (step part book) (λ a b. tt))
+  done-kind (on_book step) part (in_inbox inbox) = tt
+  done-kind (on_book step) part (on_board board) = tt
+  done-kind (on_book step) part (in_book book) =
+      unless_closed-either book (left_alone part (in_book book)) _ (λ a. AreOneKind (in_book book) a.cell) (λ shut. tt) (λ is_open. close-kind part book (step book))
+
+-- a step leaves an inbox an inbox, the board the board, and the book the book
+pub act-kind : {S P : Type 0} (sim : Simulation S P) (step : Step) (part : Part P) (cell : Cell P) → AreOneKind cell (act sim step part cell).cell
+unfolding act
+act-kind sim step part cell = done-kind (action_of sim step) part cell
 
 -- ---- a cell that is put back
 
@@ -148,7 +141,7 @@ module _ {S P : Type 0} (sim : Simulation S P) (w : ℕ) where
   some-any (Some y) x e = let h : Some y ≡ Some x = e in cc
 
   -- one step, at a cell
-  pub step-does : (world : World P) (name : CellName) (step : Step) (part new : Part P) (cell left : Cell P) (reply : Reply) → IsAny (worker_of sim step) w → IsAny (cell_of step) name →
+  pub step-does : (world : World P) (name : CellName) (step : Step) (part new : Part P) (cell left : Cell P) (reply : Reply) → IsAny (worker_of sim step) w → IsAny (cell_of sim step) name →
       act sim step part cell ≡ record { part = new; cell = left; answer = Ok reply } → slice_get world.parts w ≡ Some part → content world name ≡ Some cell →
       DoesSo sim w name (step ∷ []) world new left (record { step = step; reply = reply } ∷ [])
   unfolding run own_steps
@@ -204,32 +197,20 @@ module _ {S P : Type 0} (sim : Simulation S P) (w : ℕ) where
   -- a local step that is done is its worker's, is about no cell, and does so whatever a cell holds
   record LeadsLocally (step : Step) (part new : Part P) : Type 0 where
     pub own : worker_of sim step ≡ Some w
-    pub local : is_local step ≡ true
+    pub local : is_local sim step ≡ true
     pub done : (cell : Cell P) → act sim step part cell ≡ record { part = new; cell = cell; answer = Ok Done }
+
+  action-leads : (action : Action P) (part new : Part P) → if_own sim w (action_worker action) (local_rule action part) ≡ Some new →
+      (action_worker action ≡ Some w) × (is_none (action_cell action) ≡ true) × ((cell : Cell P) → done_at action part cell ≡ record { part = new; cell = cell; answer = Ok Done })
+  action-leads (on_part v step) part new e = let h = if-own v (step part) new e in (ap (λ n. Some n) h.0, refl, λ cell. ap (acted_locally part cell) h.1)
+  action-leads (at_inbox v u step) part new e = absurd (let h : None ≡ Some new = (if-own v None new e).1 in cc)
+  action-leads (at_board v step) part new e = absurd (let h : None ≡ Some new = (if-own v None new e).1 in cc)
+  action-leads (at_book v step) part new e = absurd (let h : None ≡ Some new = (if-own v None new e).1 in cc)
+  action-leads (on_book step) part new e = absurd (let h : None ≡ Some new = e in cc)
 
   step-leads : (step : Step) (part new : Part P) → local_step sim w step part ≡ Some new → LeadsLocally step part new
   unfolding act
-  step-leads (Execute p) part new e =
-      let h = if-own (p % sim.workers) (act_locally sim (Execute p) part) new e in
-      record { own = ap (λ n. Some n) h.0; local = refl; done = λ cell. ap (acted_locally part cell) h.1 }
-  step-leads (Undo p) part new e =
-      let h = if-own (p % sim.workers) (act_locally sim (Undo p) part) new e in
-      record { own = ap (λ n. Some n) h.0; local = refl; done = λ cell. ap (acted_locally part cell) h.1 }
-  step-leads (Cancel p stamp) part new e =
-      let h = if-own (p % sim.workers) (act_locally sim (Cancel p stamp) part) new e in
-      record { own = ap (λ n. Some n) h.0; local = refl; done = λ cell. ap (acted_locally part cell) h.1 }
-  step-leads (Home v) part new e =
-      let h = if-own v (act_locally sim (Home v) part) new e in
-      record { own = ap (λ n. Some n) h.0; local = refl; done = λ cell. ap (acted_locally part cell) h.1 }
-  step-leads (Accept v i) part new e =
-      let h = if-own v (act_locally sim (Accept v i) part) new e in
-      record { own = ap (λ n. Some n) h.0; local = refl; done = λ cell. ap (acted_locally part cell) h.1 }
-  step-leads (Send v u) part new e = absurd (let h : None ≡ Some new = (if-own v None new e).1 in cc)
-  step-leads (Fetch v) part new e = absurd (let h : None ≡ Some new = (if-own v None new e).1 in cc)
-  step-leads (Cut v) part new e = absurd (let h : None ≡ Some new = (if-own v None new e).1 in cc)
-  step-leads (Report v) part new e = absurd (let h : None ≡ Some new = (if-own v None new e).1 in cc)
-  step-leads (Commit v) part new e = absurd (let h : None ≡ Some new = (if-own v None new e).1 in cc)
-  step-leads Close part new e = absurd (let h : None ≡ Some new = e in cc)
+  step-leads step part new e = let l = action-leads (action_of sim step) part new e in record { own = l.0; local = l.1; done = l.2 }
 
   -- local steps
   pub local-does : (world : World P) (name : CellName) (steps : List Step) (part new : Part P) (cell : Cell P) → local_steps sim w steps part ≡ Some new →
@@ -238,7 +219,7 @@ module _ {S P : Type 0} (sim : Simulation S P) (w : ℕ) where
   local-does world name (step ∷ steps) part new cell led is holds =
       let between = chain_has (local_steps sim w steps) (local_step sim w step part) new led in
       let first = step-leads step part between.0 between.1 in
-      let one = step-does world name step part between.0 cell cell Done (some-any (worker_of sim step) w first.own) (none-any (cell_of step) name first.local) (first.done cell) is holds in
+      let one = step-does world name step part between.0 cell cell Done (some-any (worker_of sim step) w first.own) (none-any (cell_of sim step) name first.local) (first.done cell) is holds in
       does-append world name (step ∷ []) steps between.0 new cell cell (record { step = step; reply = Done } ∷ []) (made_done steps) one
       (local-does (run sim world (step ∷ [])) name steps between.0 new cell between.2 one.part one.cell)
 
@@ -255,7 +236,7 @@ module _ {S P : Type 0} (sim : Simulation S P) (w : ℕ) where
 
   -- local steps, and one step at the cell
   pub leads : (name : CellName) (steps : List Step) (step : Step) (part before new : Part P) (cell left : Cell P) (reply : Reply) → local_steps sim w steps part ≡ Some before →
-      IsAny (worker_of sim step) w → IsAny (cell_of step) name → act sim step before cell ≡ record { part = new; cell = left; answer = Ok reply } →
+      IsAny (worker_of sim step) w → IsAny (cell_of sim step) name → act sim step before cell ≡ record { part = new; cell = left; answer = Ok reply } →
       Leads sim w name part cell (steps ++ step ∷ []) new left (made_done steps ++ record { step = step; reply = reply } ∷ [])
   leads name steps step part before new cell left reply local whose at does = record {
     own = subst (AllByRecursion (IsMarkedRight sim)) (sym (marked-append w steps (step ∷ []))) (every-append (IsMarkedRight sim) (marked w steps) (marked w (step ∷ [])) (local-right steps part before local) (whose, tt));
@@ -268,25 +249,20 @@ module _ {S P : Type 0} (sim : Simulation S P) (w : ℕ) where
 -- ---- the parts of the others
 
 module _ {S P : Type 0} (sim : Simulation S P) where
-  no-worker_close : (step : Step) → worker_of sim step ≡ None → step ≡ Close
-  no-worker_close Close none = refl
-  no-worker_close (Execute p) none = absurd (let h : Some (p % sim.workers) ≡ None = none in cc)
-  no-worker_close (Undo p) none = absurd (let h : Some (p % sim.workers) ≡ None = none in cc)
-  no-worker_close (Cancel p stamp) none = absurd (let h : Some (p % sim.workers) ≡ None = none in cc)
-  no-worker_close (Home w) none = absurd (let h : Some w ≡ None = none in cc)
-  no-worker_close (Accept w i) none = absurd (let h : Some w ≡ None = none in cc)
-  no-worker_close (Send w v) none = absurd (let h : Some w ≡ None = none in cc)
-  no-worker_close (Fetch w) none = absurd (let h : Some w ≡ None = none in cc)
-  no-worker_close (Cut w) none = absurd (let h : Some w ≡ None = none in cc)
-  no-worker_close (Report w) none = absurd (let h : Some w ≡ None = none in cc)
-  no-worker_close (Commit w) none = absurd (let h : Some w ≡ None = none in cc)
-
-  close-parts : (world : World P) → (next sim world Close).world.parts ≡ world.parts
-  unfolding next
-  close-parts world =
+  -- an action that is about no part changes none
+  no-worker-parts : (world : World P) (action : Action P) → action_worker action ≡ None → (done_in world action).world.parts ≡ world.parts
+  no-worker-parts world (on_book step) none =
       unless_closed-either world.book (refused world) _ (λ o. o.world.parts ≡ world.parts) (λ shut. refl)
-      (λ is_open. done_or_refused-either world (option_map (with_book world) (close sim world.book)) (λ o. o.world.parts ≡ world.parts) refl (λ new e.
-      ap (λ (n : World P). n.parts) (map_has (with_book world) (close sim world.book) new e).2))
+      (λ is_open. done_or_refused-either world (option_map (with_book world) (step world.book)) (λ o. o.world.parts ≡ world.parts) refl (λ new e.
+      ap (λ (n : World P). n.parts) (map_has (with_book world) (step world.book) new e).2))
+  no-worker-parts world (on_part w step) none = absurd (let h : Some w ≡ None = none in cc)
+  no-worker-parts world (at_inbox w v step) none = absurd (let h : Some w ≡ None = none in cc)
+  no-worker-parts world (at_board w step) none = absurd (let h : Some w ≡ None = none in cc)
+  no-worker-parts world (at_book w step) none = absurd (let h : Some w ≡ None = none in cc)
+
+  next-no_worker : (world : World P) (step : Step) → worker_of sim step ≡ None → (next sim world step).world.parts ≡ world.parts
+  unfolding next
+  next-no_worker world step none = no-worker-parts world (action_of sim step) none
 
   -- a step changes no part but that of the worker that makes it
   pub others-part : (world : World P) (step : Step) (w q : ℕ) → IsAny (worker_of sim step) w → ¬ (q ≡ w) → slice_get (next sim world step).world.parts q ≡ slice_get world.parts q
@@ -304,21 +280,20 @@ module _ {S P : Type 0} (sim : Simulation S P) where
           ∙ ap (λ (ps : List (Part P)). slice_get ps q) (parts-put (record world { parts = slice_set world.parts w acted.part }) name acted.cell)
           ∙ get-put_other world.parts w q acted.part apart
 
-      by_content : (name : CellName) (part : Part P) (o : Option (Cell P)) → cell_of step ≡ Some name → slice_get world.parts w ≡ Some part → content world name ≡ o → slice_get (next sim world step).world.parts q ≡ slice_get world.parts q
+      by_content : (name : CellName) (part : Part P) (o : Option (Cell P)) → cell_of sim step ≡ Some name → slice_get world.parts w ≡ Some part → content world name ≡ o → slice_get (next sim world step).world.parts q ≡ slice_get world.parts q
       by_content name part None at is holds = refused-same (laws.no_cell name at holds)
-      by_content name part (Some cell) at is holds = acted-same name (act sim step part cell) (laws.acts w name part cell whose (some-any sim w (cell_of step) name at) is holds)
+      by_content name part (Some cell) at is holds = acted-same name (act sim step part cell) (laws.acts w name part cell whose (some-any sim w (cell_of sim step) name at) is holds)
 
-      by_cell : (part : Part P) (o : Option CellName) → cell_of step ≡ o → slice_get world.parts w ≡ Some part → slice_get (next sim world step).world.parts q ≡ slice_get world.parts q
+      by_cell : (part : Part P) (o : Option CellName) → cell_of sim step ≡ o → slice_get world.parts w ≡ Some part → slice_get (next sim world step).world.parts q ≡ slice_get world.parts q
       by_cell part None at is = acted-same board_cell (act sim step part (on_board world.board)) (laws.acts w board_cell part (on_board world.board) whose (subst (λ o. IsAny o board_cell) (sym at) tt) is refl)
       by_cell part (Some name) at is = by_content name part (content world name) at is refl
 
       by_part : (o : Option (Part P)) → worker_of sim step ≡ Some w → slice_get world.parts w ≡ o → slice_get (next sim world step).world.parts q ≡ slice_get world.parts q
       by_part None mine is = refused-same (laws.no_worker w mine is)
-      by_part (Some part) mine is = by_cell part (cell_of step) refl is
+      by_part (Some part) mine is = by_cell part (cell_of sim step) refl is
 
       by_worker : (o : Option ℕ) → worker_of sim step ≡ o → IsAny o w → slice_get (next sim world step).world.parts q ≡ slice_get world.parts q
-      by_worker None mine any =
-          subst (λ s. slice_get (next sim world s).world.parts q ≡ slice_get world.parts q) (sym (no-worker_close step mine)) (ap (λ (ps : List (Part P)). slice_get ps q) (close-parts world))
+      by_worker None mine any = ap (λ (ps : List (Part P)). slice_get ps q) (next-no_worker world step mine)
       by_worker (Some u) mine any = by_part (slice_get world.parts w) (mine ∙ ap (λ n. Some n) any) refl
 
   -- nor do steps of other workers

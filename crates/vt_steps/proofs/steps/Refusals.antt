@@ -76,9 +76,9 @@ report-ends {P = P} sim world w =
 
 -- each step, by how it ends
 data StepEnds {S P : Type 0} (sim : Simulation S P) (world : World P) (step : Step) : Type 0 where
-  plain : ((w : ℕ) → step ≡ Report w → ⊥) → (cell_of step ≡ Some book_cell → ⊥) → Ends world (next sim world step) → StepEnds sim world step
+  plain : ((w : ℕ) → step ≡ Report w → ⊥) → (cell_of sim step ≡ Some book_cell → ⊥) → Ends world (next sim world step) → StepEnds sim world step
   report_step : (w : ℕ) → step ≡ Report w → Reports sim world (next sim world step) → StepEnds sim world step
-  book_step : ((w : ℕ) → step ≡ Report w → ⊥) → cell_of step ≡ Some book_cell → (outcome : Outcome P) → next sim world step ≡ unless_closed world.book (refused world) outcome → Ends world outcome → StepEnds sim world step
+  book_step : ((w : ℕ) → step ≡ Report w → ⊥) → cell_of sim step ≡ Some book_cell → (outcome : Outcome P) → next sim world step ≡ unless_closed world.book (refused world) outcome → Ends world outcome → StepEnds sim world step
 
 next-ends : {S P : Type 0} (sim : Simulation S P) (world : World P) (step : Step) → StepEnds sim world step
 unfolding next
@@ -144,18 +144,18 @@ report-never_closed : {S P : Type 0} (sim : Simulation S P) (world : World P) (o
 report-never_closed sim world outcome (not_reported is) e = never_closed world outcome (not_lawful is) e
 report-never_closed sim world outcome (reports new board kept after is) e = not_both outcome new (after_report sim.end board).reply Closed is e
 
-closed-closes : {S P : Type 0} (sim : Simulation S P) (world : World P) (step : Step) → StepEnds sim world step → world.book.is_closed ≡ true → cell_of step ≡ Some book_cell → (next sim world step).answer ≡ Err Closed
+closed-closes : {S P : Type 0} (sim : Simulation S P) (world : World P) (step : Step) → StepEnds sim world step → world.book.is_closed ≡ true → cell_of sim step ≡ Some book_cell → (next sim world step).answer ≡ Err Closed
 closed-closes sim world step (plain apart off ends) closed on = absurd (off on)
 closed-closes sim world step (report_step w is ends) closed on =
-    absurd (let h : Some board_cell ≡ Some book_cell = ap cell_of (sym is) ∙ on in cc)
+    absurd (let h : Some board_cell ≡ Some book_cell = ap (cell_of sim) (sym is) ∙ on in cc)
 closed-closes sim world step (book_step apart on outcome is ends) closed also =
     ap (λ o. o.answer) (is ∙ unless_closed-shut world.book (refused world) outcome closed)
 
-closed-only : {S P : Type 0} (sim : Simulation S P) (world : World P) (step : Step) → StepEnds sim world step → (next sim world step).answer ≡ Err Closed → (world.book.is_closed ≡ true) × (cell_of step ≡ Some book_cell)
+closed-only : {S P : Type 0} (sim : Simulation S P) (world : World P) (step : Step) → StepEnds sim world step → (next sim world step).answer ≡ Err Closed → (world.book.is_closed ≡ true) × (cell_of sim step ≡ Some book_cell)
 closed-only sim world step (plain apart off ends) e = absurd (never_closed world (next sim world step) ends e)
 closed-only sim world step (report_step w is ends) e = absurd (report-never_closed sim world (next sim world step) ends e)
 closed-only sim world step (book_step apart on outcome is ends) e =
-    unless_closed-either world.book (refused world) outcome (λ o. o.answer ≡ Err Closed → (world.book.is_closed ≡ true) × (cell_of step ≡ Some book_cell))
+    unless_closed-either world.book (refused world) outcome (λ o. o.answer ≡ Err Closed → (world.book.is_closed ≡ true) × (cell_of sim step ≡ Some book_cell))
     (λ shut h. (shut, on)) (λ is_open h. absurd (never_closed world outcome ends h)) (ap (λ o. o.answer) (sym is) ∙ e)
 
 pub refusals : {S P : Type 0} (sim : Simulation S P) (world : World P) (step : Step) → IsRefusalRight sim world step

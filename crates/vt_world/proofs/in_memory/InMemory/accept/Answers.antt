@@ -5,11 +5,11 @@ use Rattle.vt_kernel.specs.Guards.{IsDone}
 use Rattle.vt_world.proofs.StepLemmas.{step-refused, step-left}
 use Rattle.vt_world.proofs.Places.{worker-there, put-back}
 use Rattle.vt_world.proofs.LocalLemmas.{accept-why, does-locally, inside-local, inside-kept, at-place}
-use Rattle.vt_world.proofs.WorldSteps.{accept-nobody}
+use Rattle.vt_world.proofs.WorldSteps.{of-nobody}
 use Rattle.vt_world.proofs.in_memory.InMemory.accept.Goals as goal
 
 pub returns-then-w-self : goal.returns-then-w-self
-returns-then-w-self g c = step-left g.M.Model.handlers c.self.view_is (Accept c.args.w c.args.i) NotLawful (accept-nobody c.self.invariant c.if-w-self.true c.args.i)
+returns-then-w-self g c = step-left g.M.Model.handlers c.self.view_is (Accept c.args.w c.args.i) NotLawful (of-nobody c.self.invariant c.if-w-self.true (Accept c.args.w c.args.i) refl tt)
 
 pub invariant_of-self : goal.invariant_of-self
 invariant_of-self g c =

@@ -8,7 +8,7 @@ use Rattle.vt_steps.specs.declared.step.Step.TheVariants.{Commit}
 use Rattle.vt_world.proofs.StepLemmas.{step-left}
 use Rattle.vt_world.proofs.Places.{worker-there}
 use Rattle.vt_world.proofs.CellLemmas.{book-put, cell-step, cell-inside, one-world}
-use Rattle.vt_world.proofs.WorldSteps.{who, commit-nobody, commit-closed}
+use Rattle.vt_world.proofs.WorldSteps.{who, of-nobody, commit-closed}
 use Rattle.vt_world.proofs.in_memory.InMemory.commit.Goals as goal
 
 pub returns-then-is_closed : goal.returns-then-is_closed
@@ -17,7 +17,7 @@ returns-then-is_closed g c =
 
 pub returns-then-w-self : goal.returns-then-w-self
 returns-then-w-self g c =
-    step-left g.M.Model.handlers c.self.view_is (Commit c.args.w) NotLawful (commit-nobody c.self.invariant c.if-w-self.true (sym c.is_closed.ensures ∙ c.if-is_closed.false))
+    step-left g.M.Model.handlers c.self.view_is (Commit c.args.w) NotLawful (of-nobody c.self.invariant c.if-w-self.true (Commit c.args.w) refl (sym c.is_closed.ensures ∙ c.if-is_closed.false))
 
 pub commit-requires-clause-worker : goal.commit-requires-clause-worker
 commit-requires-clause-worker g c κs within = (who c.self.invariant (worker-there c.self.invariant c.if-w-self.false c.index_mut.ensures.value)).0

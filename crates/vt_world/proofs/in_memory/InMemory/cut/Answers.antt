@@ -6,11 +6,11 @@ use Rattle.vt_model.specs.Settings.{end_of}
 use Rattle.vt_world.proofs.StepLemmas.{step-left}
 use Rattle.vt_world.proofs.Places.{worker-there}
 use Rattle.vt_world.proofs.CellLemmas.{board-put, cell-step, cell-inside}
-use Rattle.vt_world.proofs.WorldSteps.{who, cut-nobody}
+use Rattle.vt_world.proofs.WorldSteps.{who, of-nobody}
 use Rattle.vt_world.proofs.in_memory.InMemory.cut.Goals as goal
 
 pub returns-then-w-self : goal.returns-then-w-self
-returns-then-w-self g c = step-left g.M.Model.handlers c.self.view_is (Cut c.args.w) NotLawful (cut-nobody c.self.invariant c.if-w-self.true)
+returns-then-w-self g c = step-left g.M.Model.handlers c.self.view_is (Cut c.args.w) NotLawful (of-nobody c.self.invariant c.if-w-self.true (Cut c.args.w) refl tt)
 
 pub cut-requires-clause-end : goal.cut-requires-clause-end
 cut-requires-clause-end g c κs within =

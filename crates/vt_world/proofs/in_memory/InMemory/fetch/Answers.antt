@@ -6,11 +6,11 @@ use Rattle.vt_kernel.specs.Held.{AllOwnMail}
 use Rattle.vt_world.proofs.StepLemmas.{step-left}
 use Rattle.vt_world.proofs.Places.{own-mail, worker-there, inbox-there}
 use Rattle.vt_world.proofs.CellLemmas.{inbox-put, cell-step, cell-inside}
-use Rattle.vt_world.proofs.WorldSteps.{who, fetch-nobody}
+use Rattle.vt_world.proofs.WorldSteps.{who, of-nobody}
 use Rattle.vt_world.proofs.in_memory.InMemory.fetch.Goals as goal
 
 pub returns-then-w-self : goal.returns-then-w-self
-returns-then-w-self g c = step-left g.M.Model.handlers c.self.view_is (Fetch c.args.w) NotLawful (fetch-nobody c.self.invariant c.if-w-self.true)
+returns-then-w-self g c = step-left g.M.Model.handlers c.self.view_is (Fetch c.args.w) NotLawful (of-nobody c.self.invariant c.if-w-self.true (Fetch c.args.w) refl tt)
 
 pub fetch-requires-clause-own : goal.fetch-requires-clause-own
 fetch-requires-clause-own g c κs within =

@@ -5,11 +5,11 @@ use Rattle.vt_kernel.specs.Guards.{IsDone}
 use Rattle.vt_world.proofs.StepLemmas.{step-left}
 use Rattle.vt_world.proofs.Places.{worker-there}
 use Rattle.vt_world.proofs.LocalLemmas.{does-locally, refuses-locally, inside-local, inside-kept, at-place}
-use Rattle.vt_world.proofs.WorldSteps.{home-nobody}
+use Rattle.vt_world.proofs.WorldSteps.{of-nobody}
 use Rattle.vt_world.proofs.in_memory.InMemory.home.Goals as goal
 
 pub returns-then-w-self : goal.returns-then-w-self
-returns-then-w-self g c = step-left g.M.Model.handlers c.self.view_is (Home c.args.w) NotLawful (home-nobody c.self.invariant c.if-w-self.true)
+returns-then-w-self g c = step-left g.M.Model.handlers c.self.view_is (Home c.args.w) NotLawful (of-nobody c.self.invariant c.if-w-self.true (Home c.args.w) refl tt)
 
 pub invariant_of-self : goal.invariant_of-self
 invariant_of-self g c =

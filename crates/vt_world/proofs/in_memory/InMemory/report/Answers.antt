@@ -7,12 +7,12 @@ use Rattle.vt_cells.specs.Calls.{answer_of}
 use Rattle.vt_world.proofs.StepLemmas.{step-left}
 use Rattle.vt_world.proofs.Places.{worker-there}
 use Rattle.vt_world.proofs.CellLemmas.{board-put, cell-answers, cell-inside}
-use Rattle.vt_world.proofs.WorldSteps.{who, report-nobody}
+use Rattle.vt_world.proofs.WorldSteps.{who, of-nobody}
 use Rattle.vt_world.proofs.in_memory.InMemory.report.Goals.{in-Ok, in-Err}
 use Rattle.vt_world.proofs.in_memory.InMemory.report.Goals as goal
 
 pub returns-then-w-self : goal.returns-then-w-self
-returns-then-w-self g c = step-left g.M.Model.handlers c.self.view_is (Report c.args.w) NotLawful (report-nobody c.self.invariant c.if-w-self.true)
+returns-then-w-self g c = step-left g.M.Model.handlers c.self.view_is (Report c.args.w) NotLawful (of-nobody c.self.invariant c.if-w-self.true (Report c.args.w) refl tt)
 
 pub report-requires-clause-end : goal.report-requires-clause-end
 report-requires-clause-end g c κs within =

@@ -6,7 +6,7 @@ use Rattle.vt_kernel.specs.Held.{AllOwnMail}
 use Rattle.vt_world.proofs.StepLemmas.{step-left}
 use Rattle.vt_world.proofs.Places.{own-mail, worker-there, inbox-there}
 use Rattle.vt_world.proofs.CellLemmas.{inbox-put, cell-step, cell-inside}
-use Rattle.vt_world.proofs.WorldSteps.{who, send-nobody, send-nowhere}
+use Rattle.vt_world.proofs.WorldSteps.{who, of-nobody, send-nowhere}
 use Rattle.vt_world.proofs.in_memory.InMemory.send.Goals.{then-w-self-via-then-w-self, then-w-self-via-else-w-self+then-v-self}
 use Rattle.vt_world.proofs.in_memory.InMemory.send.Goals as goal
 
@@ -14,7 +14,7 @@ pub returns-then-w-self : goal.returns-then-w-self
 returns-then-w-self g c =
     let left = step-left g.M.Model.handlers c.self.view_is (Send c.args.w c.args.v) NotLawful in
     elim c.then-w-self.branch [
-      | then-w-self-via-then-w-self w ↦ left (send-nobody c.self.invariant w.if-w-self.true c.args.v)
+      | then-w-self-via-then-w-self w ↦ left (of-nobody c.self.invariant w.if-w-self.true (Send c.args.w c.args.v) refl tt)
       | then-w-self-via-else-w-self+then-v-self w ↦ left (send-nowhere c.self.invariant c.args.w w.if-v-self.true)
     ]
 
