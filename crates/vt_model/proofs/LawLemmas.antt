@@ -8,7 +8,8 @@ use Rattle.vt_model.specs.declared.sending.Sent.{Sent}
 use Rattle.vt_model.specs.declared.settings.Config.{Config}
 use Rattle.vt_stream.specs.Words.{seed_key}
 use Rattle.vt_model.specs.Sends.{SendRequest, sent_event, sent_events, receive_time}
-use Rattle.vt_model.specs.Handler.{Handlers, IsSendable, IsWithinLimits, AreWords}
+use Rattle.vt_model.specs.Handler.{Handlers, IsSendable, AreWords}
+use Rattle.vt_model.specs.Within.{IsStartWithin, IsEventWithin}
 use Rattle.vt_model.specs.Simulation.{Triple, words_at, start_of, fire_of, simulation_of, after}
 use Rattle.vt_model.proofs.RunLemmas.{after_from}
 use Rattle.vt_model.specs.Histories.{AreNumbered, IsLawful}
@@ -75,10 +76,10 @@ module _ {P : Type 0} (end p now : ℕ) where
       elim (cases_lt (receive_time now o) end) [ inl l ↦ rw (sent-yes n o os l) (omega (arith, ih)) | inr l ↦ rw (sent-no n o os l) (omega (arith, ih)) ]
 
 module _ {S P K : Type 0} (handlers : Handlers S P K) (c : Config)
-    (start_within : (lps lp : ℕ) (words : ℕ → ℕ) → lp < lps → AreWords words → IsWithinLimits lps 0 (handlers.start lps lp words).drawn (handlers.start lps lp words).send_requests [])
+    (start_within : (lps lp : ℕ) (words : ℕ → ℕ) → lp < lps → AreWords words → IsStartWithin lps (handlers.start lps lp words))
     (forward_within : (lps lp now : ℕ) (p : P) (s : S) (words : ℕ → ℕ) → lp < lps → AreWords words
-    → IsWithinLimits lps now (handlers.forward lps lp now p s words).drawn (handlers.forward lps lp now p s words).send_requests (handlers.forward lps lp now p s words).record_requests) where
-  started : (p : ℕ) → p < c.lps → IsWithinLimits c.lps 0 (handlers.start c.lps p (words_at c.seed p 0)).drawn (handlers.start c.lps p (words_at c.seed p 0)).send_requests []
+    → IsEventWithin lps now (handlers.forward lps lp now p s words)) where
+  started : (p : ℕ) → p < c.lps → IsStartWithin c.lps (handlers.start c.lps p (words_at c.seed p 0))
   started p is = start_within c.lps p (words_at c.seed p 0) is (are_words c.seed p 0)
 
   pub lawful_of : IsLawful (simulation_of handlers c)

@@ -10,3 +10,4 @@ pub mod Sequential
 pub mod Histories
 pub mod Counts
 pub mod Flags
+pub mod Within

@@ -1,27 +1,21 @@
 -- The laws of `Hop`.
-use Rattle.std.proofs.Common.{◌≡◌, ℕ, ◌+◌, ◌%◌, if◌then◌else◌, ◌^◌, ◌<◌, ◌≤◌, [], ◌∷◌, length, All, true, false, ◌&&◌, nat_eq, nat_lt, Some, None, refl, ap, ◌∙◌, arith}
+use Rattle.std.proofs.Common.{◌≡◌, ℕ, ◌+◌, ◌%◌, if◌then◌else◌, ◌^◌, ◌<◌, true, false, ◌&&◌, nat_eq, nat_lt, Some, None, refl, ap, ◌∙◌, arith}
 use Rattle.std.proofs.lemmas.Nat.{xor_lt}
 use Rattle.std.proofs.lemmas.Bool.{ltb-true}
 use Rattle.std.proofs.Math.Nat.{mod-lt}
-use Rattle.std.proofs.lemmas.List.Elements.{All-nil, All-cons}
 use Rattle.std.specs.Int.{w64, rotate_left, rotate_right}
 use Rattle.vt_key.specs.Times.{priority_of}
-use Rattle.vt_model.specs.Handler.{IsWithinLimits, IsSendable, AreWords}
-use Rattle.vt_model.specs.declared.limits.TheConstants.{MAX_SENDS}
-use Rattle.vt_model.specs.Sends.{SendRequest}
+use Rattle.vt_model.specs.Handler.{IsSendable, AreWords}
+use Rattle.vt_model.specs.Within.{IsStartWithin, IsEventWithin, none_few, one_few, either_few, few_within}
 use Rattle.vt_models.specs.declared.hop.Hop.{Hop}
 use Rattle.vt_models.specs.declared.hop.Token.{Token}
-use Rattle.vt_models.specs.Hop.{mixed, risen, onward, first_token, next_hop, hop_start, hop_forward, hop_reverse}
+use Rattle.vt_models.specs.Hop.{mixed, risen, onward, first_token, hop_start, hop_forward, hop_reverse}
 use Rattle.vt_models.specs.Rotation.{left_lt, right-left, xor-xor}
 
-pub start_within : (m : Hop) (lps lp : ℕ) (words : ℕ → ℕ) → lp < lps → AreWords words
-    → IsWithinLimits lps 0 (hop_start m lp).drawn (hop_start m lp).send_requests []
-start_within m lps lp words known w = record {
-  few_words = omega arith;
-  few_sends = omega arith;
-  few_records = omega arith;
-  sendable = All-cons (IsSendable lps 0) (first_token m lp) [] (record { known = known; some_priority = omega arith; later = omega arith }) (All-nil (IsSendable lps 0));
-}
+pub start_within : (m : Hop) (lps lp : ℕ) (words : ℕ → ℕ) → lp < lps → AreWords words → IsStartWithin lps (hop_start m lp)
+start_within m lps lp words known w =
+    let ok : IsSendable lps 0 (first_token m lp) = record { known = known; some_priority = omega arith; later = omega arith } in
+    few_within (one_few ok (omega arith)) (omega arith) (omega arith)
 
 -- wherever a token goes on to, it is a later time
 onward_ok : (m : Hop) (lps lp now : ℕ) (p : Token) → lp < lps → IsSendable lps now (onward m lps lp p (risen m now))
@@ -36,20 +30,9 @@ onward_ok m lps lp now p known =
     ]
     refl
 
-next_hop_within : (m : Hop) (lps lp now : ℕ) (p : Token) → lp < lps → (length (next_hop m lps lp now p) ≤ MAX_SENDS) × All (IsSendable lps now) (next_hop m lps lp now p)
-next_hop_within m lps lp now p known =
-    let next = onward m lps lp p (risen m now) in
-    elim (nat_eq p.left 0) as (λ b. (length {A = SendRequest Token} (if b then [] else (next ∷ [])) ≤ MAX_SENDS) × All {X = SendRequest Token} (IsSendable lps now) (if b then [] else (next ∷ [])))
-    [ true ↦ (omega arith, All-nil {X = SendRequest Token} (IsSendable lps now)) | false ↦ (omega arith, All-cons (IsSendable lps now) next [] (onward_ok m lps lp now p known) (All-nil (IsSendable lps now))) ]
-
-pub forward_within : (m : Hop) (lps lp now : ℕ) (p : Token) (s : ℕ) (words : ℕ → ℕ) → lp < lps → AreWords words
-    → IsWithinLimits lps now (hop_forward m lps lp now p s).drawn (hop_forward m lps lp now p s).send_requests (hop_forward m lps lp now p s).record_requests
-forward_within m lps lp now p s words known w = record {
-  few_words = omega arith;
-  few_sends = (next_hop_within m lps lp now p known).0;
-  few_records = omega arith;
-  sendable = (next_hop_within m lps lp now p known).1;
-}
+pub forward_within : (m : Hop) (lps lp now : ℕ) (p : Token) (s : ℕ) (words : ℕ → ℕ) → lp < lps → AreWords words → IsEventWithin lps now (hop_forward m lps lp now p s)
+forward_within m lps lp now p s words known w =
+    few_within (either_few (nat_eq p.left 0) none_few (one_few (onward_ok m lps lp now p known) (omega arith))) (omega arith) (omega arith)
 
 pub forward_state : (m : Hop) (lps lp now : ℕ) (p : Token) (s : ℕ) (words : ℕ → ℕ) → s < 2 ^ 64 → mixed s p.tag < 2 ^ 64
 forward_state m lps lp now p s words fits =

@@ -1,9 +1,9 @@
 -- The laws of `Stations`.
-use Rattle.std.proofs.Common.{◌≡◌, ℕ, ◌+◌, ◌-◌, ◌%◌, if◌then◌else◌, ◌^◌, ◌<◌, [], ◌∷◌, All, true, false, nat_eq, refl, sym, subst, ap, ◌∙◌, arith}
-use Rattle.std.proofs.lemmas.List.Elements.{All-nil, All-cons}
+use Rattle.std.proofs.Common.{◌≡◌, ℕ, ◌+◌, ◌-◌, ◌%◌, if◌then◌else◌, ◌^◌, ◌<◌, true, false, nat_eq, refl, sym, subst, ap, ◌∙◌, arith}
 use Rattle.std.proofs.lemmas.Bool.{eqb-false}
-use Rattle.vt_model.specs.Handler.{StartResult, ForwardResult, IsWithinLimits, IsSendable, AreWords}
-use Rattle.vt_model.specs.Sends.{SendRequest}
+use Rattle.vt_model.specs.Handler.{IsSendable, AreWords}
+use Rattle.vt_model.specs.Counts.{fewer-more}
+use Rattle.vt_model.specs.Within.{IsStartWithin, IsEventWithin, none_few, one_few, two_few, few_within}
 use Rattle.vt_models.specs.declared.stations.Stations.{Stations}
 use Rattle.vt_models.specs.declared.stations.Server.{Server}
 use Rattle.vt_models.specs.declared.stations.JobEvent.{JobEvent}
@@ -11,56 +11,39 @@ use Rattle.vt_models.specs.declared.stations.JobEvent.TheVariants.{Arrive, Depar
 use Rattle.vt_stream.specs.DrawnLaws.{scaled_below}
 use Rattle.vt_models.specs.Stations.{departure, passage, start_idle, start_busy, stations_start, one_more, arrival_begins, arrival_waits, arrival, one_served, nothing_departs, last_departs, next_follows, service_end, stations_forward, one_fewer, one_back, stations_reverse, AreSums}
 
-no_sends : (lps now : ℕ) → All {X = SendRequest JobEvent} (IsSendable lps now) []
-no_sends lps now = All-nil (IsSendable lps now)
-
 departure_ok : (m : Stations) (lps now lp w : ℕ) → lp < lps → IsSendable lps now (departure m lp w)
 departure_ok m lps now lp w known = record { known = known; some_priority = omega arith; later = omega arith }
 
 passage_ok : (m : Stations) (lps now w : ℕ) → 0 < lps → w < 2 ^ 32 → IsSendable lps now (passage m lps w)
 passage_ok m lps now w some small = record { known = scaled_below w lps small some; some_priority = omega arith; later = omega (arith, m.some_travel) }
 
-one_departure : (m : Stations) (lps now lp w : ℕ) → lp < lps → All (IsSendable lps now) (departure m lp w ∷ [])
-one_departure m lps now lp w known = All-cons (IsSendable lps now) (departure m lp w) [] (departure_ok m lps now lp w known) (no_sends lps now)
-
--- a start is within the limits
-abbrev StartsWithin : ℕ → StartResult Server JobEvent → Type 0
-StartsWithin lps f = IsWithinLimits lps 0 f.drawn f.send_requests []
-
-pub start_within : (m : Stations) (lps lp : ℕ) (words : ℕ → ℕ) → lp < lps → AreWords words
-    → IsWithinLimits lps 0 (stations_start m lp words).drawn (stations_start m lp words).send_requests []
+pub start_within : (m : Stations) (lps lp : ℕ) (words : ℕ → ℕ) → lp < lps → AreWords words → IsStartWithin lps (stations_start m lp words)
 start_within m lps lp words known w =
-    elim (nat_eq m.jobs 0) as (λ b. StartsWithin lps (if b then start_idle m else start_busy m lp words)) [
-      | true ↦ record { few_words = omega arith; few_sends = omega arith; few_records = omega arith; sendable = no_sends lps 0 }
-      | false ↦ record { few_words = omega arith; few_sends = omega arith; few_records = omega arith; sendable = one_departure m lps 0 lp (words 0) known }
+    elim (nat_eq m.jobs 0) as (λ b. IsStartWithin lps (if b then start_idle m else start_busy m lp words)) [
+      | true ↦ few_within none_few (omega arith) (omega arith)
+      | false ↦ few_within (one_few (departure_ok m lps 0 lp (words 0) known) (omega arith)) (omega arith) (omega arith)
     ]
 
--- what an event gives is within the limits
-abbrev AreWithin : ℕ → ℕ → ForwardResult Server JobEvent (Unit {0}) → Type 0
-AreWithin lps now f = IsWithinLimits lps now f.drawn f.send_requests f.record_requests
-
-arrival_within : (m : Stations) (lps now lp : ℕ) (s : Server) (words : ℕ → ℕ) → lp < lps → AreWithin lps now (arrival m lp s words)
+arrival_within : (m : Stations) (lps now lp : ℕ) (s : Server) (words : ℕ → ℕ) → lp < lps → IsEventWithin lps now (arrival m lp s words)
 arrival_within m lps now lp s words known =
-    elim (nat_eq (one_more s).length 1) as (λ b. AreWithin lps now (if b then arrival_begins m lp s words else arrival_waits s)) [
-      | true ↦ record { few_words = omega arith; few_sends = omega arith; few_records = omega arith; sendable = one_departure m lps now lp (words 0) known }
-      | false ↦ record { few_words = omega arith; few_sends = omega arith; few_records = omega arith; sendable = no_sends lps now }
+    elim (nat_eq (one_more s).length 1) as (λ b. IsEventWithin lps now (if b then arrival_begins m lp s words else arrival_waits s)) [
+      | true ↦ few_within (one_few (departure_ok m lps now lp (words 0) known) (omega arith)) (omega arith) (omega arith)
+      | false ↦ few_within none_few (omega arith) (omega arith)
     ]
 
-service_end_within : (m : Stations) (lps now lp : ℕ) (s : Server) (words : ℕ → ℕ) → lp < lps → AreWords words → AreWithin lps now (service_end m lps lp s words)
+service_end_within : (m : Stations) (lps now lp : ℕ) (s : Server) (words : ℕ → ℕ) → lp < lps → AreWords words → IsEventWithin lps now (service_end m lps lp s words)
 service_end_within m lps now lp s words known w =
-    let some : 0 < lps = omega arith in
-    let leaves = passage_ok m lps now (words 0) some (w 0) in
-    elim (nat_eq (one_served s).length 0) as (λ b. AreWithin lps now (if b then last_departs m lps s words else next_follows m lps lp s words)) [
-      | true ↦ record { few_words = omega arith; few_sends = omega arith; few_records = omega arith; sendable = All-cons (IsSendable lps now) (passage m lps (words 0)) [] leaves (no_sends lps now) }
-      | false ↦ record { few_words = omega arith; few_sends = omega arith; few_records = omega arith; sendable = All-cons (IsSendable lps now) (passage m lps (words 0)) (departure m lp (words 1) ∷ []) leaves (one_departure m lps now lp (words 1) known) }
+    let leaves = passage_ok m lps now (words 0) (omega arith) (w 0) in
+    elim (nat_eq (one_served s).length 0) as (λ b. IsEventWithin lps now (if b then last_departs m lps s words else next_follows m lps lp s words)) [
+      | true ↦ few_within (one_few leaves (omega arith)) (omega arith) (omega arith)
+      | false ↦ few_within (two_few leaves (departure_ok m lps now lp (words 1) known) (omega arith)) (omega arith) (omega arith)
     ]
 
-pub forward_within : (m : Stations) (lps lp now : ℕ) (p : JobEvent) (s : Server) (words : ℕ → ℕ) → lp < lps → AreWords words
-    → IsWithinLimits lps now (stations_forward m lps lp p s words).drawn (stations_forward m lps lp p s words).send_requests (stations_forward m lps lp p s words).record_requests
+pub forward_within : (m : Stations) (lps lp now : ℕ) (p : JobEvent) (s : Server) (words : ℕ → ℕ) → lp < lps → AreWords words → IsEventWithin lps now (stations_forward m lps lp p s words)
 forward_within m lps lp now Arrive s words known w = arrival_within m lps now lp s words known
 forward_within m lps lp now Depart s words known w =
-    elim (nat_eq s.length 0) as (λ b. AreWithin lps now (if b then nothing_departs s else service_end m lps lp s words)) [
-      | true ↦ record { few_words = omega arith; few_sends = omega arith; few_records = omega arith; sendable = no_sends lps now }
+    elim (nat_eq s.length 0) as (λ b. IsEventWithin lps now (if b then nothing_departs s else service_end m lps lp s words)) [
+      | true ↦ few_within none_few (omega arith) (omega arith)
       | false ↦ service_end_within m lps now lp s words known w
     ]
 
@@ -87,18 +70,11 @@ forward_state m lps lp now Depart s words fits =
       | false ↦ subst AreSums (sym (departed m lps lp s words)) (omega (arith, fits.0), omega arith)
     ]
 
--- a job more and then one less
-fewer-more : (s : Server) → AreSums s → one_fewer (one_more s) ≡ s
-fewer-more s fits =
-    let length : ((s.length + 1) % 2 ^ 64 + (2 ^ 64 - 1)) % 2 ^ 64 ≡ s.length = omega (arith, fits.0) in
-    λ j. record s { length = length j }
-
 -- a job served and then given back
 back-served : (s : Server) → AreSums s → (s.length ≡ 0 → ⊥) → one_back (one_served s) ≡ s
 back-served s fits some =
     let length : (s.length - 1 + 1) % 2 ^ 64 ≡ s.length = omega (arith, fits.0) in
-    let served : ((s.served + 1) % 2 ^ 64 + (2 ^ 64 - 1)) % 2 ^ 64 ≡ s.served = omega (arith, fits.1) in
-    λ j. record { length = length j; served = served j }
+    λ j. record { length = length j; served = fewer-more s.served fits.1 j }
 
 -- a service's end leaves the flag of an empty station clear
 service_end_undone : (m : Stations) (lps lp : ℕ) (s : Server) (words : ℕ → ℕ) → AreSums s → (s.length ≡ 0 → ⊥)
@@ -109,7 +85,7 @@ service_end_undone m lps lp s words fits some =
 
 pub undoes : (m : Stations) (lps lp now : ℕ) (p : JobEvent) (s : Server) (words : ℕ → ℕ) → AreSums s
     → stations_reverse p (stations_forward m lps lp p s words).state (stations_forward m lps lp p s words).bits ≡ s
-undoes m lps lp now Arrive s words fits = ap one_fewer (arrived m lp s words) ∙ fewer-more s fits
+undoes m lps lp now Arrive s words fits = ap one_fewer (arrived m lp s words) ∙ (λ j. record s { length = fewer-more s.length fits.0 j })
 undoes m lps lp now Depart s words fits =
     elim (nat_eq s.length 0) as (λ b. nat_eq s.length 0 ≡ b → stations_reverse Depart (if b then nothing_departs s else service_end m lps lp s words).state (if b then nothing_departs s else service_end m lps lp s words).bits ≡ s) [
       | true ↦ λ e. refl

@@ -1,9 +1,9 @@
 -- The laws of `Network`.
-use Rattle.std.proofs.Common.{◌≡◌, ℕ, ◌+◌, ◌-◌, ◌%◌, ◌/◌, ◌^◌, ◌<◌, ◌≤◌, [], ◌∷◌, List, length, All, true, false, nat_eq, nat_lt, if◌then◌else◌, Option, Some, None, is_none, refl, ◌∙◌, arith}
+use Rattle.std.proofs.Common.{◌≡◌, ℕ, ◌+◌, ◌-◌, ◌%◌, ◌/◌, ◌^◌, ◌<◌, ◌≤◌, [], ◌∷◌, length, true, false, nat_eq, nat_lt, if◌then◌else◌, Option, Some, None, is_none, refl, ◌∙◌, arith}
 use Rattle.std.proofs.Math.Nat.{mod-lt}
-use Rattle.std.proofs.lemmas.List.Elements.{All-nil, All-cons}
-use Rattle.vt_model.specs.Handler.{IsWithinLimits, IsSendable, AreWords}
-use Rattle.vt_model.specs.Sends.{SendRequest}
+use Rattle.vt_model.specs.Handler.{IsSendable, AreWords}
+use Rattle.vt_model.specs.Within.{AreFew, IsStartWithin, IsEventWithin, none_few, one_few, two_few, either_few, few_within}
+use Rattle.vt_model.specs.declared.limits.TheConstants.{MAX_SENDS}
 use Rattle.vt_stream.specs.Drawn.{scaled}
 use Rattle.vt_parts.specs.declared.ring.Ring.{Ring}
 use Rattle.vt_parts.specs.Ring.{is_empty, is_full, push_answer, first, popped}
@@ -17,19 +17,6 @@ use Rattle.vt_network.specs.declared.network.NetworkEvent.TheVariants.{Generate,
 use Rattle.vt_model.specs.Counts.{one_more, one_fewer, fewer-more}
 use Rattle.vt_network.specs.Network.{ahead, step, hop, next_made, new_packet, served, forwarded, with_delivery, lost_with, taken, arrived, arrived_kept, arrived_sends, delivery, loss, arrived_records, sent_on, drawn_by, sends_by, records_by, network_start, network_forward, untaken, network_reverse, IsRouter}
 
--- few requests, which are sendable
-abbrev AreFew : ℕ → ℕ → ℕ → List (SendRequest NetworkEvent) → Type 0
-AreFew lps now most xs = (length xs ≤ most) × All (IsSendable lps now) xs
-
-none_ok : (lps now most : ℕ) → AreFew lps now most []
-none_ok lps now most = (omega arith, All-nil (IsSendable lps now))
-
-one_ok : (lps now most : ℕ) (x : SendRequest NetworkEvent) → 0 < most → IsSendable lps now x → AreFew lps now most (x ∷ [])
-one_ok lps now most x some ok = (omega (arith, some), All-cons (IsSendable lps now) x [] ok (All-nil (IsSendable lps now)))
-
-two_ok : (lps now : ℕ) (x y : SendRequest NetworkEvent) → IsSendable lps now x → IsSendable lps now y → AreFew lps now 2 (x ∷ y ∷ [])
-two_ok lps now x y ok too = (omega arith, All-cons (IsSendable lps now) x (y ∷ []) ok (All-cons (IsSendable lps now) y [] too (All-nil (IsSendable lps now))))
-
 served_ok : (m : Network) (lps lp now : ℕ) → lp < lps → IsSendable lps now (served m lp)
 served_ok m lps lp now known = record { known = known; some_priority = omega arith; later = omega (arith, m.some_service) }
 
@@ -41,46 +28,38 @@ hop_known m lps lp left some =
 forwarded_ok : (m : Network) (lps lp now : ℕ) (p : Packet) → lp < lps → IsSendable lps now (forwarded m lps lp p)
 forwarded_ok m lps lp now p known = record { known = hop_known m lps lp (ahead lps lp p.dest) (omega (arith, known)); some_priority = omega arith; later = omega (arith, m.some_link) }
 
-pub start_within : (m : Network) (lps lp : ℕ) (words : ℕ → ℕ) → lp < lps → AreWords words
-    → IsWithinLimits lps 0 (network_start m lp words).drawn (network_start m lp words).send_requests []
+pub start_within : (m : Network) (lps lp : ℕ) (words : ℕ → ℕ) → lp < lps → AreWords words → IsStartWithin lps (network_start m lp words)
 start_within m lps lp words known w =
-    let ok = one_ok lps 0 1 (next_made lp (1 + scaled (words 0) m.gap)) (omega arith) (record { known = known; some_priority = omega arith; later = omega arith }) in
-    record { few_words = omega arith; few_sends = omega (arith, ok.0); few_records = omega arith; sendable = ok.1 }
+    let ok : IsSendable lps 0 (next_made lp (1 + scaled (words 0) m.gap)) = record { known = known; some_priority = omega arith; later = omega arith } in
+    few_within (one_few ok (omega arith)) (omega arith) (omega arith)
 
-arrived_ok : (m : Network) (lps lp now : ℕ) (p : Packet) (s : Router) → lp < lps → AreFew lps now 2 (arrived_sends m lp p s)
-arrived_ok m lps lp now p s known =
-    elim (nat_eq p.dest lp) as (λ b. AreFew lps now 2 (if b then [] else (if is_full s.queue then [] else (if is_empty s.queue then (served m lp ∷ []) else [])))) [
-      | true ↦ none_ok lps now 2
-      | false ↦ elim (is_full s.queue) as (λ b. AreFew lps now 2 (if b then [] else (if is_empty s.queue then (served m lp ∷ []) else []))) [
-        | true ↦ none_ok lps now 2
-        | false ↦ elim (is_empty s.queue) as (λ b. AreFew lps now 2 (if b then (served m lp ∷ []) else [])) [
-          | true ↦ one_ok lps now 2 (served m lp) (omega arith) (served_ok m lps lp now known)
-          | false ↦ none_ok lps now 2
-        ]
-      ]
-    ]
+arrived_few : (m : Network) (lps lp now : ℕ) (p : Packet) (s : Router) → lp < lps → AreFew lps now MAX_SENDS (arrived_sends m lp p s)
+arrived_few m lps lp now p s known =
+    let serves = one_few (served_ok m lps lp now known) (omega arith) in
+    either_few (nat_eq p.dest lp) none_few (either_few (is_full s.queue) none_few (either_few (is_empty s.queue) serves none_few))
 
-gone_ok : (m : Network) (lps lp now : ℕ) (q : Ring Packet ROOM) (p : Option Packet) → lp < lps → AreFew lps now 2 (sent_on m lps lp q p)
-gone_ok m lps lp now q None known = none_ok lps now 2
-gone_ok m lps lp now q (Some p) known =
-    elim (is_empty q) as (λ b. AreFew lps now 2 (forwarded m lps lp p ∷ (if b then [] else (served m lp ∷ [])))) [
-      | true ↦ one_ok lps now 2 (forwarded m lps lp p) (omega arith) (forwarded_ok m lps lp now p known)
-      | false ↦ two_ok lps now (forwarded m lps lp p) (served m lp) (forwarded_ok m lps lp now p known) (served_ok m lps lp now known)
-    ]
+gone_few : (m : Network) (lps lp now : ℕ) (q : Ring Packet ROOM) (p : Option Packet) → lp < lps → AreFew lps now MAX_SENDS (sent_on m lps lp q p)
+gone_few m lps lp now q None known = none_few
+gone_few m lps lp now q (Some p) known =
+    let goes = forwarded_ok m lps lp now p known in
+    elim (is_empty q) as (λ b. AreFew lps now MAX_SENDS (forwarded m lps lp p ∷ (if b then [] else (served m lp ∷ []))))
+    [ true ↦ one_few goes (omega arith) | false ↦ two_few goes (served_ok m lps lp now known) (omega arith) ]
 
-sends_ok : (m : Network) (lps lp now : ℕ) (e : NetworkEvent) (s : Router) (words : ℕ → ℕ) → lp < lps → AreFew lps now 2 (sends_by m lps lp now e s words)
-sends_ok m lps lp now Generate s words known =
-    two_ok lps now (next_made lp (1 + scaled (words 0) m.gap)) (new_packet lp now (scaled (words 1) lps)) (record { known = known; some_priority = omega arith; later = omega arith }) (record { known = known; some_priority = omega arith; later = omega arith })
-sends_ok m lps lp now (Arrive p) s words known = arrived_ok m lps lp now p s known
-sends_ok m lps lp now Served s words known = gone_ok m lps lp now (popped s.queue) (first s.queue) known
+sends_few : (m : Network) (lps lp now : ℕ) (e : NetworkEvent) (s : Router) (words : ℕ → ℕ) → lp < lps → AreFew lps now MAX_SENDS (sends_by m lps lp now e s words)
+sends_few m lps lp now Generate s words known =
+    let next : IsSendable lps now (next_made lp (1 + scaled (words 0) m.gap)) = record { known = known; some_priority = omega arith; later = omega arith } in
+    let packet : IsSendable lps now (new_packet lp now (scaled (words 1) lps)) = record { known = known; some_priority = omega arith; later = omega arith } in
+    two_few next packet (omega arith)
+sends_few m lps lp now (Arrive p) s words known = arrived_few m lps lp now p s known
+sends_few m lps lp now Served s words known = gone_few m lps lp now (popped s.queue) (first s.queue) known
 
 few_words : (e : NetworkEvent) → drawn_by e ≤ 2
 few_words Generate = omega arith
 few_words (Arrive p) = omega arith
 few_words Served = omega arith
 
-arrived_few : (lp now : ℕ) (p : Packet) (s : Router) → length (arrived_records lp now p s) ≤ 1
-arrived_few lp now p s =
+arrived_records_few : (lp now : ℕ) (p : Packet) (s : Router) → length (arrived_records lp now p s) ≤ 1
+arrived_records_few lp now p s =
     elim (nat_eq p.dest lp) as (λ b. length (if b then (delivery now p ∷ []) else (if is_full s.queue then (loss p ∷ []) else [])) ≤ 1) [
       | true ↦ omega arith
       | false ↦ elim (is_full s.queue) as (λ b. length (if b then (loss p ∷ []) else []) ≤ 1) [ true ↦ omega arith | false ↦ omega arith ]
@@ -88,19 +67,11 @@ arrived_few lp now p s =
 
 few_records : (lp now : ℕ) (e : NetworkEvent) (s : Router) → length (records_by lp now e s) ≤ 1
 few_records lp now Generate s = omega arith
-few_records lp now (Arrive p) s = arrived_few lp now p s
+few_records lp now (Arrive p) s = arrived_records_few lp now p s
 few_records lp now Served s = omega arith
 
-pub forward_within : (m : Network) (lps lp now : ℕ) (e : NetworkEvent) (s : Router) (words : ℕ → ℕ) → lp < lps → AreWords words
-    → IsWithinLimits lps now (network_forward m lps lp now e s words).drawn (network_forward m lps lp now e s words).send_requests (network_forward m lps lp now e s words).record_requests
-forward_within m lps lp now e s words known w =
-    let ok = sends_ok m lps lp now e s words known in
-    record {
-      few_words = omega (arith, few_words e);
-      few_sends = omega (arith, ok.0);
-      few_records = omega (arith, few_records lp now e s);
-      sendable = ok.1;
-    }
+pub forward_within : (m : Network) (lps lp now : ℕ) (e : NetworkEvent) (s : Router) (words : ℕ → ℕ) → lp < lps → AreWords words → IsEventWithin lps now (network_forward m lps lp now e s words)
+forward_within m lps lp now e s words known w = few_within (sends_few m lps lp now e s words known) (omega (arith, few_words e)) (omega (arith, few_records lp now e s))
 
 pub start_state : (m : Network) (lps lp : ℕ) (words : ℕ → ℕ) → IsRouter (network_start m lp words).state
 start_state m lps lp words =

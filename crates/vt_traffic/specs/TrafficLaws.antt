@@ -1,9 +1,9 @@
 -- The laws of `Traffic`.
-use Rattle.std.proofs.Common.{◌≡◌, ℕ, ◌+◌, ◌-◌, ◌^◌, ◌<◌, ◌≤◌, [], ◌∷◌, List, length, length-append, All, Bool, true, false, not, ◌&&◌, nat_eq, if◌then◌else◌, Option, Some, None, is_none, refl, sym, subst, ap, ◌∙◌, arith}
+use Rattle.std.proofs.Common.{◌≡◌, ℕ, ◌+◌, ◌-◌, ◌^◌, ◌<◌, ◌≤◌, [], ◌∷◌, length, length-append, Bool, true, false, not, ◌&&◌, nat_eq, if◌then◌else◌, Option, Some, None, is_none, refl, sym, subst, ap, ◌∙◌, arith}
 use Rattle.std.proofs.Math.Nat.{mod-lt}
-use Rattle.std.proofs.lemmas.List.Elements.{All-nil, All-cons, All-append}
-use Rattle.vt_model.specs.Handler.{IsWithinLimits, IsSendable, AreWords}
-use Rattle.vt_model.specs.Sends.{SendRequest}
+use Rattle.vt_model.specs.Handler.{IsSendable, AreWords}
+use Rattle.vt_model.specs.Within.{AreFew, IsStartWithin, IsEventWithin, none_few, one_few, both_few, either_few, few_within}
+use Rattle.vt_stream.specs.Drawn.{scaled}
 use Rattle.vt_model.specs.Counts.{one_more, one_fewer, fewer-more}
 use Rattle.vt_traffic.specs.declared.grid.Traffic.{Traffic}
 use Rattle.vt_traffic.specs.declared.grid.TheConstants.{ENTERED}
@@ -13,36 +13,22 @@ use Rattle.vt_traffic.specs.declared.junction.Road.TheVariants.{Eastward, Southw
 use Rattle.vt_traffic.specs.declared.junction.JunctionEvent.{JunctionEvent}
 use Rattle.vt_traffic.specs.declared.junction.JunctionEvent.TheVariants.{Arrive, Leave, Change}
 use Rattle.vt_traffic.specs.Junction.{is_same_road, joined, unjoined, can_enter, with_car, entered, leave, entry, gone, other_road, AreCounts}
-use Rattle.vt_traffic.specs.Traffic.{next_junction, departure, filled, after_event, own_sends, own_records, words_drawn, entry_bits, before_entry, before_leave, before_event, traffic_start, traffic_forward, traffic_reverse}
-
--- few requests, which are sendable
-abbrev AreFew : ℕ → ℕ → ℕ → List (SendRequest JunctionEvent) → Type 0
-AreFew lps now most xs = (length xs ≤ most) × All (IsSendable lps now) xs
-
-none_ok : (lps now : ℕ) → All {X = SendRequest JunctionEvent} (IsSendable lps now) []
-none_ok lps now = All-nil (IsSendable lps now)
-
-one_ok : (lps now : ℕ) (x : SendRequest JunctionEvent) → IsSendable lps now x → All (IsSendable lps now) (x ∷ [])
-one_ok lps now x ok = All-cons (IsSendable lps now) x [] ok (none_ok lps now)
+use Rattle.vt_traffic.specs.Traffic.{next_junction, departure, change_after, filled, after_event, own_sends, own_records, words_drawn, entry_bits, before_entry, before_leave, before_event, traffic_start, traffic_forward, traffic_reverse}
 
 -- a car that enters asks for one send at most
-entry_ok : (lps lp now : ℕ) (j : Junction) → lp < lps → AreFew lps now 1 (entry lp j)
-entry_ok lps lp now j known =
-    elim (can_enter j) as (λ b. AreFew lps now 1 (if b then (leave lp ∷ []) else [])) [
-      | true ↦ (omega arith, one_ok lps now (leave lp) (record { known = known; some_priority = omega arith; later = omega arith }))
-      | false ↦ (omega arith, none_ok lps now)
-    ]
+entry_few : (lps lp now : ℕ) (j : Junction) → lp < lps → AreFew lps now 1 (entry lp j)
+entry_few lps lp now j known =
+    let ok : IsSendable lps now (leave lp) = record { known = known; some_priority = omega arith; later = omega arith } in
+    either_few (can_enter j) (one_few ok (omega arith)) none_few
 
-pub start_within : (m : Traffic) (lps lp : ℕ) (words : ℕ → ℕ) → lp < lps → AreWords words
-    → IsWithinLimits lps 0 (traffic_start m lp words).drawn (traffic_start m lp words).send_requests []
+-- the lights change again at the same junction, and later
+change_ok : (lps lp now delay : ℕ) → lp < lps → 0 < delay → IsSendable lps now (change_after lp delay)
+change_ok lps lp now delay known some = record { known = known; some_priority = omega arith; later = omega (arith, some) }
+
+pub start_within : (m : Traffic) (lps lp : ℕ) (words : ℕ → ℕ) → lp < lps → AreWords words → IsStartWithin lps (traffic_start m lp words)
 start_within m lps lp words known w =
-    let enters = entry_ok lps lp 0 (filled m) known in
-    record {
-      few_words = omega arith;
-      few_sends = omega (arith, enters.0);
-      few_records = omega arith;
-      sendable = All-cons (IsSendable lps 0) _ _ (record { known = known; some_priority = omega arith; later = omega arith }) enters.1;
-    }
+    let changes : AreFew lps 0 1 (change_after lp (1 + scaled (words 0) m.green) ∷ []) = one_few (change_ok lps lp 0 (1 + scaled (words 0) m.green) known (omega arith)) (omega arith) in
+    few_within (both_few changes (entry_few lps lp 0 (filled m) known) (omega arith)) (omega arith) (omega arith)
 
 -- roads lead to known junctions
 next_known : (m : Traffic) (lps lp : ℕ) (r : Road) → 0 < lps → next_junction m lps lp r < lps
@@ -53,11 +39,11 @@ departure_ok : (m : Traffic) (lps lp now : ℕ) (r : Road) (words : ℕ → ℕ)
 departure_ok m lps lp now r words some = record { known = next_known m lps lp _ some; some_priority = omega arith; later = omega (arith, m.some_travel) }
 
 -- an event asks for one send of its own at most
-own_ok : (m : Traffic) (lps lp now : ℕ) (p : JunctionEvent) (k : Option Road) (words : ℕ → ℕ) → lp < lps → AreFew lps now 1 (own_sends m lps lp p k words)
-own_ok m lps lp now (Arrive r) k words known = (omega arith, none_ok lps now)
-own_ok m lps lp now Leave None words known = (omega arith, none_ok lps now)
-own_ok m lps lp now Leave (Some r) words known = (omega arith, one_ok lps now _ (departure_ok m lps lp now r words (omega arith)))
-own_ok m lps lp now Change k words known = (omega arith, one_ok lps now _ (record { known = known; some_priority = omega arith; later = omega (arith, m.some_green) }))
+own_few : (m : Traffic) (lps lp now : ℕ) (p : JunctionEvent) (k : Option Road) (words : ℕ → ℕ) → lp < lps → AreFew lps now 1 (own_sends m lps lp p k words)
+own_few m lps lp now (Arrive r) k words known = none_few
+own_few m lps lp now Leave None words known = none_few
+own_few m lps lp now Leave (Some r) words known = one_few (departure_ok m lps lp now r words (omega arith)) (omega arith)
+own_few m lps lp now Change k words known = one_few (change_ok lps lp now m.green known m.some_green) (omega arith)
 
 few_words : (p : JunctionEvent) (k : Option Road) → words_drawn p k ≤ 2
 few_words (Arrive r) k = omega arith
@@ -71,17 +57,10 @@ few_records Leave None j = omega arith
 few_records Leave (Some r) j = omega arith
 few_records Change k j = omega arith
 
-pub forward_within : (m : Traffic) (lps lp now : ℕ) (p : JunctionEvent) (j : Junction) (words : ℕ → ℕ) → lp < lps → AreWords words
-    → IsWithinLimits lps now (traffic_forward m lps lp p j words).drawn (traffic_forward m lps lp p j words).send_requests (traffic_forward m lps lp p j words).record_requests
+pub forward_within : (m : Traffic) (lps lp now : ℕ) (p : JunctionEvent) (j : Junction) (words : ℕ → ℕ) → lp < lps → AreWords words → IsEventWithin lps now (traffic_forward m lps lp p j words)
 forward_within m lps lp now p j words known w =
-    let own = own_ok m lps lp now p j.crossing words known in
-    let enters = entry_ok lps lp now (after_event p j) known in
-    record {
-      few_words = omega (arith, few_words p j.crossing);
-      few_sends = simp length-append (omega (arith, own.0, enters.0));
-      few_records = simp length-append (omega (arith, few_records p j.crossing (after_event p j)));
-      sendable = All-append (IsSendable lps now) (own_sends m lps lp p j.crossing words) (entry lp (after_event p j)) own.1 enters.1;
-    }
+    let sends = both_few (own_few m lps lp now p j.crossing words known) (entry_few lps lp now (after_event p j) known) (omega arith) in
+    few_within sends (omega (arith, few_words p j.crossing)) (simp length-append (omega (arith, few_records p j.crossing (after_event p j))))
 
 -- numbers stay below 2 ^ 64 where a car enters
 entered_counts : (j : Junction) → AreCounts j → AreCounts (entered j)

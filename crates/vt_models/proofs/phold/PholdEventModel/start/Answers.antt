@@ -2,7 +2,7 @@ use Rattle.std.proofs.Common.{◌≡◌, ◌+◌, List, [], ◌∷◌, ◌++◌,
 use Rattle.vt_model.specs.Sends.{SendRequest, Outgoing, with_requests}
 use Rattle.vt_stream.specs.Words.{Stream, word_of, moved}
 use Rattle.vt_models.specs.Phold.{scheduled, first_events}
-use Rattle.vt_models.specs.PholdLaws.{first_events_ok, first_events-suc}
+use Rattle.vt_models.specs.PholdLaws.{first_events_few, first_events-suc}
 use Rattle.vt_stream.proofs.DrawLemmas.{moved-zero, moved-moved, word_after}
 use Rattle.vt_model.proofs.RequestLemmas.{no_requests, sent_after}
 use Rattle.vt_models.proofs.phold.PholdEventModel.start.Goals as goal
@@ -18,7 +18,7 @@ events-init c = record {
 pub send-requires : goal.send-requires
 send-requires c =
     let words = word_of c.args.draws.now.stream.now in
-    let many = (first_events_ok c.args.self.now c.args.out.now.lps 0 c.args.lp words c.events._event c.requires.fresh.known).0 in
+    let many = (first_events_few c.args.self.now c.args.out.now.lps 0 c.args.lp words c.events._event c.requires.fresh.known).few in
     let lps : c.events.out.lps ≡ c.args.out.now.lps = ap (λ (o : Outgoing (Unit {0})). o.lps) c.events.invariant.out in
     let first : c.events.out.first ≡ c.args.out.now.first = ap (λ (o : Outgoing (Unit {0})). o.first) c.events.invariant.out in
     let number : c.events.out.number ≡ c.args.out.now.number + length (first_events c.args.self.now c.args.lp words c.events._event) = ap (λ (o : Outgoing (Unit {0})). o.number) c.events.invariant.out in
