@@ -24,7 +24,7 @@ ghost use Rattle.vt_lp.specs.Past.{ready_event, IsAdvanceRefusal};
 
 use crate::letters::ends_before;
 use crate::lp::Lp;
-use crate::making::{is_counted, letters};
+use crate::making::{is_counted, letters, unstamped};
 use std::alloc::Global;
 use vt_key::{Event, Fault, Letter, MAX_COUNT, Sign, When};
 use vt_list::List;
@@ -123,11 +123,7 @@ impl<M: EventModel> Lp<M> {
             undo_entry,
             out.records(),
         ) {
-            let sent = Sent {
-                key: event.rank.key,
-                dest: event.dest,
-                payload: event.payload,
-            };
+            let sent = unstamped(&event);
             self.process.undo(model, sent, bits, kept, drawn, number);
             return Err(fault);
         }
@@ -190,11 +186,7 @@ fn advance<M: EventModel>(
     spare.read_ahead();
     let event = &event;
     let number = process.number;
-    let sent = Sent {
-        key: event.rank.key,
-        dest: event.dest,
-        payload: event.payload,
-    };
+    let sent = unstamped(event);
     out.renew(config, event.dest, event.rank.key.when(), number);
     let Undo { bits, kept, drawn } = process.execute_into(model, config, sent, out);
     if out.number() > MAX_COUNT || !is_counted(serial, out.sends()) {

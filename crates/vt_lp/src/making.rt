@@ -1,8 +1,8 @@
-//! Letters for what an event sends.
+//! Letters for what an event sends, and an event without its stamp.
 
 ghost use Rattle.std.specs.Prelude.{◌≡◌, ◌+◌, ◌-◌, ◌≤◌, ◌↔◌, length, map, IsTrue, IfOk, IfErr};
 ghost use Rattle.vt_key.specs.declared.fault.Fault.TheVariants.{Memory};
-ghost use Rattle.vt_steps.specs.Letters.{stamped, signed};
+ghost use Rattle.vt_steps.specs.Letters.{unstamped, stamped, signed};
 
 use std::alloc::Global;
 use vt_key::{Event, Fault, Letter, MAX_COUNT, Rank, Sign, Stamp};
@@ -49,6 +49,19 @@ pub(crate) fn letters<P: Copy, K: Copy>(
         serial += 1;
     }
     Ok(letters)
+}
+
+/// An event as the model knows it: without its stamp.
+// A call would copy it once more.
+#[inline(always)]
+pub(crate) fn unstamped<P: Copy>(event: &Event<P>) -> Sent<P>
+    ensures { result ≡ unstamped event.now }
+{
+    Sent {
+        key: event.rank.key,
+        dest: event.dest,
+        payload: event.payload,
+    }
 }
 
 /// Whether the serial stays at most 2^63 after these sends.

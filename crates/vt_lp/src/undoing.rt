@@ -13,9 +13,10 @@ ghost use Rattle.vt_lp.specs.Guards.{IsDone};
 ghost use Rattle.vt_lp.specs.Past.{must_undo_last};
 
 use crate::lp::Lp;
+use crate::making::unstamped;
 use vt_key::{Fault, Letter, Rank};
 use vt_list::List;
-use vt_model::{Model as EventModel, Sent};
+use vt_model::Model as EventModel;
 use vt_past::{Past, Spare, UndoEntry};
 use vt_pending::Pending;
 
@@ -72,12 +73,7 @@ impl<M: EventModel> Lp<M> {
             number,
             mut anti_messages,
         } = undo_entry;
-        let event = letter.get().event;
-        let sent = Sent {
-            key: event.rank.key,
-            dest: event.dest,
-            payload: event.payload,
-        };
+        let sent = unstamped(&letter.get().event);
         self.process.undo(model, sent, bits, kept, drawn, number);
         outbox.append(&mut anti_messages);
         self.pending.insert(letter);

@@ -7,6 +7,7 @@ use Rattle.vt_key.specs.declared.letter.Letter.{Letter}
 use Rattle.vt_key.specs.declared.letter.Sign.TheVariants.{Plus, Minus}
 use Rattle.vt_stream.specs.Words.{Stream}
 use Rattle.vt_model.specs.declared.rows.Record.{Record}
+use Rattle.vt_model.specs.declared.sending.Sent.{Sent}
 use Rattle.vt_model.specs.Process.{triple_at}
 use Rattle.vt_model.specs.Simulation.{Triple, simulation_of}
 use Rattle.vt_model.proofs.LawLemmas.{after_state}
@@ -25,6 +26,8 @@ use Rattle.vt_lp.proofs.Advancing.{place-back}
 use Rattle.vt_lp.proofs.Stamping.{length-letters}
 use Rattle.vt_lp.proofs.ExecuteLemmas.{sends-told, ready-some, ready-own, execute-none, executes, refuses, came-back, inside-at, inside-more}
 use Rattle.vt_lp.proofs.ProcessView.{process_view}
+use Rattle.vt_lp.proofs.lp.Lp.execute_reusing.Given.{Over}
+use Rattle.vt_lp.proofs.lp.Lp.execute_reusing.Goals.{After-undo}
 use Rattle.vt_lp.proofs.lp.Lp.execute_reusing.Goals as goal
 
 pub returns-in_default-clause-refused : goal.returns-in_default-clause-refused
@@ -115,21 +118,32 @@ returns-in-Err-keep-clause-refused g c h s =
     (refuses handlers held w c.args.serial.now h event.dest event c.in-Err-keep.fault now c.in-Some.ensures.event own.0
     (inr (c.in-Err-keep.ensures.refused, subst (λ (t : Triple _). t.number ≤ MAX_COUNT) c.in-Ok.ensures.triple c.advance.ensures.numbered, c.in-Ok.ensures.counted)))
 
+-- where the event is undone, the process is as it was
+undone : (g : Over) (c : After-undo g) → let l = c.self.inside in g.M.Model.IsState c.args.model.now l.process.state
+    → process_view l.lp l.config c.undo.new.self.state c.undo.new.self.number c.undo.new.self.stream c.keep.new.past c.keep.new.pending l.waiting
+    ≡ process_view l.lp l.config l.process.state l.process.number l.process.stream l.past l.pending l.waiting
+undone g c ok =
+    let handlers = g.M.Model.handlers c.args.model.now in
+    let l = c.self.inside in
+    let event = c.in-Some.event in
+    let entry = c.in-Ok.advanced.0 in
+    let left = c.in-Err-keep.ensures.unchanged in
+    let after = c.advance.new.process in
+    let state = c.undo.ensures.state ∙ ap (λ (sent : Sent _). handlers.reverse sent.dest sent.key.time sent.payload after.state entry.bits entry.kept) c.unstamped-sent.ensures in
+    let back : triple_at c.undo.new.self.state c.undo.new.self.number c.undo.new.self.stream ≡ triple_at l.process.state l.process.number l.process.stream =
+    (λ j. record { state = state j; number = c.undo.ensures.number j; place = (c.undo.ensures.stream j).place })
+    ∙ came-back handlers l.config event.dest (triple_at l.process.state l.process.number l.process.stream) (triple_at after.state after.number after.stream) event entry c.advance.new.out.records c.in-Ok.ensures.triple (c.in-Ok.ensures.remembered ok) in
+    λ j. record { lp = l.lp; config = l.config; triple = back j; past = left.1 j; pending = left.0 j; waiting = l.waiting }
+
 pub returns-in-Err-keep-clause-unchanged : goal.returns-in-Err-keep-clause-unchanged
 returns-in-Err-keep-clause-unchanged g c h s =
     let handlers = g.M.Model.handlers c.args.model.now in
     let l = c.self.inside in
     let held = process_view l.lp l.config l.process.state l.process.number l.process.stream l.past l.pending l.waiting in
-    let event = c.in-Some.event in
     let now = subst (λ (v : HeldProcess _ _ _). StandsFor handlers v h) (sym c.self.view_is) s in
     let ok = subst (λ (t : Triple _). g.M.Model.IsState c.args.model.now t.state) (is_where (simulation_of handlers l.config) l.lp (process_memory handlers held) h now)
     (after_state handlers l.config (g.M.Model.IsState c.args.model.now) (g.met.M.Model.start_state c.args.model.now) (g.met.M.Model.forward_state c.args.model.now) l.lp (entry_events (h.done ++ h.past))) in
-    let left = c.in-Err-keep.ensures.unchanged in
-    let after = c.advance.new.process in
-    let back : triple_at c.undo.new.self.state c.undo.new.self.number c.undo.new.self.stream ≡ held.triple =
-    (λ j. record { state = c.undo.ensures.state j; number = c.undo.ensures.number j; place = (c.undo.ensures.stream j).place })
-    ∙ came-back handlers l.config event.dest held.triple (triple_at after.state after.number after.stream) event c.in-Ok.advanced.0 c.advance.new.out.records c.in-Ok.ensures.triple (c.in-Ok.ensures.remembered ok) in
-    (λ j. record { lp = l.lp; config = l.config; triple = back j; past = left.1 j; pending = left.0 j; waiting = l.waiting }) ∙ c.self.view_is
+    undone g (goal.at.returns-in-Err-keep-clause-unchanged g c).After-undo ok ∙ c.self.view_is
 
 pub invariant_of-self-in_default-keep : goal.invariant_of-self-in_default-keep
 invariant_of-self-in_default-keep g c =
@@ -219,17 +233,8 @@ returns-in-Err-clause-but_state g c =
 
 pub returns-in-Err-keep-clause-restored : goal.returns-in-Err-keep-clause-restored
 returns-in-Err-keep-clause-restored g c is_state =
-    let handlers = g.M.Model.handlers c.args.model.now in
-    let l = c.self.inside in
-    let held = process_view l.lp l.config l.process.state l.process.number l.process.stream l.past l.pending l.waiting in
-    let event = c.in-Some.event in
     let ok = subst (λ (v : HeldProcess _ _ _). g.M.Model.IsState c.args.model.now v.triple.state) (sym c.self.view_is) is_state in
-    let left = c.in-Err-keep.ensures.unchanged in
-    let after = c.advance.new.process in
-    let back : triple_at c.undo.new.self.state c.undo.new.self.number c.undo.new.self.stream ≡ held.triple =
-    (λ j. record { state = c.undo.ensures.state j; number = c.undo.ensures.number j; place = (c.undo.ensures.stream j).place })
-    ∙ came-back handlers l.config event.dest held.triple (triple_at after.state after.number after.stream) event c.in-Ok.advanced.0 c.advance.new.out.records c.in-Ok.ensures.triple (c.in-Ok.ensures.remembered ok) in
-    (λ j. record { lp = l.lp; config = l.config; triple = back j; past = left.1 j; pending = left.0 j; waiting = l.waiting }) ∙ c.self.view_is
+    undone g (goal.at.returns-in-Err-keep-clause-restored g c).After-undo ok ∙ c.self.view_is
 
 pub returns-in-Err-keep-clause-but_state : goal.returns-in-Err-keep-clause-but_state
 returns-in-Err-keep-clause-but_state g c =

@@ -9,6 +9,7 @@ use Rattle.vt_stream.specs.Words.{Stream}
 use Rattle.vt_model.specs.declared.limits.TheConstants.{MAX_DRAWS}
 use Rattle.vt_model.specs.Process.{triple_at}
 use Rattle.vt_model.specs.Settings.{end_of}
+use Rattle.vt_steps.specs.Letters.{unstamped}
 use Rattle.vt_pending.specs.Letters.{holds_rank}
 use Rattle.vt_past.specs.declared.event.PastEvent.{PastEvent}
 use Rattle.vt_past.specs.declared.event.UndoEntry.{UndoEntry}
@@ -65,7 +66,8 @@ returns-clause-done g c h s =
     let held = process_view l.lp l.config l.process.state l.process.number l.process.stream l.past l.pending l.waiting in
     let now = subst (λ (v : HeldProcess _ _ _). StandsFor handlers v h) (sym c.self.view_is) s in
     let got : c.get.result.now ≡ e.letter = c.get.ensures ∙ parts.0 in
-    let state = c.undo.ensures.state ∙ (λ j. handlers.reverse (got j).event.dest (got j).event.rank.key.time (got j).event.payload l.process.state (parts.1 j).bits (parts.1 j).kept) in
+    let sent = c.unstamped-sent.ensures ∙ ap (λ (letter : Letter _). unstamped letter.event) got in
+    let state = c.undo.ensures.state ∙ (λ j. handlers.reverse (sent j).dest (sent j).key.time (sent j).payload l.process.state (parts.1 j).bits (parts.1 j).kept) in
     let number = c.undo.ensures.number ∙ ap (λ (entry : UndoEntry _ _). entry.number) parts.1 in
     let place = ap (λ (v : Stream). v.place) c.undo.ensures.stream ∙ ap (λ (entry : UndoEntry _ _). (l.process.stream.place + (2 ^ 64 - entry.drawn)) % 2 ^ 64) parts.1 in
     undoes handlers held h c.pop_back.new.self e e.letter.event.dest (triple_at c.undo.new.self.state c.undo.new.self.number c.undo.new.self.stream) c.insert.new.self c.args.outbox.now c.append.new.self
