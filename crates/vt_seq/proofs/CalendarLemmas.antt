@@ -13,7 +13,7 @@ use Rattle.std.proofs.lemmas.List.Sorted.{IsPermutation-refl, IsPermutation-sym,
 use Rattle.vt_key.specs.Order.{KeyBefore}
 use Rattle.vt_key.specs.Times.{ticks_of}
 use Rattle.vt_key.specs.Lists.{Among}
-use Rattle.vt_key.proofs.ListLemmas.{among-append, among-left, among-right}
+use Rattle.vt_key.proofs.ListLemmas.{every-weaker, among-append, among-left, among-right, map-among, rising-left, rising-across}
 use Rattle.vt_model.specs.declared.sending.Sent.{Sent}
 use Rattle.vt_seq.specs.declared.entry.Entry.{Entry}
 use Rattle.vt_seq.specs.Entries.{entry_cmp, events_in, IsLeast, IsFalling}
@@ -44,7 +44,7 @@ module _ {P : Type 0} where
 
   pub sorted-falling : (xs : List (Entry P)) → IsSorted entry_cmp xs → IsFalling xs
   sorted-falling [] s = tt
-  sorted-falling (x ∷ []) s = ((λ d m before. absurd m), tt)
+  sorted-falling (x ∷ []) s = (tt, tt)
   sorted-falling (x ∷ y ∷ ys) s =
       let rest : IsFalling (y ∷ ys) = sorted-falling (y ∷ ys) (λ k d z l.
       let next : suc k + 1 ≡ suc (k + 1) = omega arith in
@@ -52,13 +52,8 @@ module _ {P : Type 0} where
       let first : KeyBefore x.event.key y.event.key → ⊥ = λ h.
       let less : is_lt (entry_cmp y x) ≡ true = ap is_lt (less-key x.event.key y.event.key h) in
       let never : is_lt (entry_cmp y x) ≡ false = s 0 x (let z : 0 ≤ 0 = omega arith in z) (let z : 0 + 1 < length (x ∷ y ∷ ys) = omega arith in z) in
-      let both : true ≡ false = sym less ∙ never in absurd (cc) in (
-        (λ d m before. elim m [
-          | inl at ↦ first (subst (λ (e : Sent P). KeyBefore x.event.key e.key) at before)
-          | inr n ↦ not-before-trans x.event.key y.event.key d.key first (rest.0 d n) before
-        ]),
-        rest,
-      )
+      let both : true ≡ false = sym less ∙ never in absurd (cc) in
+      ((first, every-weaker _ _ ys (λ z. not-before-trans x.event.key y.event.key z.event.key first) rest.0), rest)
 
   with-last : (d : Sent P) (ys : List (Entry P)) (x : Entry P) → Among d (events_in ys) ⊎ (d ≡ x.event) → Among d (events_in (ys ++ x ∷ []))
   with-last d ys x m = subst (Among d) (sym (map-append (λ (e : Entry P). e.event) ys (x ∷ []))) (elim m [
@@ -67,15 +62,12 @@ module _ {P : Type 0} where
   ])
 
   pub falling-last : (ys : List (Entry P)) (x : Entry P) → IsFalling (ys ++ x ∷ []) → IsFalling ys × IsLeast x ys
-  falling-last [] x f = (tt, (λ d m before. absurd m))
-  falling-last (y ∷ ys) x f =
-      let r = falling-last ys x f.1 in (
-        ((λ d m. f.0 d (with-last d ys x (inl m))), r.0),
-        (λ d m before. elim m [
-          | inl at ↦ f.0 x.event (with-last x.event ys x (inr refl)) (subst (λ (e : Sent P). KeyBefore e.key x.event.key) at before)
-          | inr n ↦ r.1 d n before
-        ]),
-      )
+  falling-last ys x f = (
+    rising-left _ ys (x ∷ []) f,
+    (λ d m before.
+        let r = map-among (λ (e : Entry P). e.event) d ys m in
+        rising-across _ ys (x ∷ []) f r.0 x r.1 (inl refl) (subst (λ (e : Sent P). KeyBefore e.key x.event.key) (sym r.2) before)),
+  )
 
   pub just-last : (ys : List (Entry P)) (x : Entry P) (scale day : ℕ) → AreJustBefore scale day (ys ++ x ∷ []) → AreJustBefore scale day ys × (day_of scale (ticks_of x.event.key.time) + 1 ≡ day)
   just-last ys x scale day h = ((λ d m. h d (with-last d ys x (inl m))), h x.event (with-last x.event ys x (inr refl)))
