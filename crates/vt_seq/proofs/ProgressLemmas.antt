@@ -22,8 +22,8 @@ use Rattle.vt_model.specs.Histories.{AllAfter, IsRising}
 use Rattle.vt_model.specs.Process.{triple_at}
 use Rattle.vt_seq.specs.Limits.{IsCountedWhole}
 use Rattle.vt_seq.specs.Given.{records_to, AddsStep, AddsSteps, AddsRest}
-use Rattle.vt_seq.specs.Progress.{Progress, IsAfter}
-use Rattle.vt_seq.specs.Standing.{Standing, IsAt, IsOnWay, with_records}
+use Rattle.vt_seq.specs.Progress.{Progress, IsAfter, with_records}
+use Rattle.vt_seq.specs.Standing.{Standing, IsAt, IsOnWay}
 use Rattle.vt_seq.specs.StandsFor.{StandsAt}
 
 -- ---- a test of rising keys
@@ -178,29 +178,13 @@ module _ {S P : Type 0} (sim : Simulation S P) (n : ℕ) where
 -- ---- an execution and the records that were kept of it
 
 module _ {M S P : Type 0} (sim : Simulation S P) (n : ℕ) where
-  pub without_records : (now : Standing M S P) (records : List Record) → IsAfter sim n (with_records now records) → IsAt sim n now
-  without_records now records is = record { sent = is.sent; had = is.had; triples = is.triples }
-
-  pub together : (now : Standing M S P) (records : List Record) → IsAt sim n now → records ≡ records_to sim n → IsAfter sim n (with_records now records)
-  together now records is all = record { sent = is.sent; had = is.had; triples = is.triples; records = all }
-
   -- some steps of the execution whose records are kept
   pub kept_through : (k : ℕ) (now : Standing M S P) (old new : List Record) → old ≡ records_to sim n → IsAt sim (k + n) now → AddsSteps sim n k old new → IsAfter sim (k + n) (with_records now new)
-  kept_through k now old new all is adds = record {
-    sent = is.sent;
-    had = is.had;
-    triples = is.triples;
-    records = adds.added ∙ ap (λ (l : List Record). l ++ adds.fresh) all ∙ sym adds.next;
-  }
+  kept_through k now old new all is adds = record { at = is; records = adds.added ∙ ap (λ (l : List Record). l ++ adds.fresh) all ∙ sym adds.next }
 
   -- a step of the execution whose records are kept
   pub kept_on : (now : Standing M S P) (old new : List Record) → old ≡ records_to sim n → IsAt sim (suc n) now → AddsStep sim n old new → IsAfter sim (suc n) (with_records now new)
-  kept_on now old new all is adds = record {
-    sent = is.sent;
-    had = is.had;
-    triples = is.triples;
-    records = adds.added ∙ ap (λ (l : List Record). l ++ adds.fresh) all ∙ sym adds.next;
-  }
+  kept_on now old new all is adds = record { at = is; records = adds.added ∙ ap (λ (l : List Record). l ++ adds.fresh) all ∙ sym adds.next }
 
 -- what is told of a process's place in the run
 pub kept-told : {M S P K : Type 0} (handlers : M → Handlers S P K) (now : Standing M S P) (records : List Record) (field : Triple S → ℕ) (p : ℕ) (r : Option ℕ)
@@ -209,7 +193,7 @@ pub kept-told : {M S P K : Type 0} (handlers : M → Handlers S P K) (now : Stan
     → (n : ℕ) → IsAfter (simulation_of (handlers v.model) v.config) n v → IfSome r (λ x. (p < v.config.lps) × (x ≡ field (place_of (simulation_of (handlers v.model) v.config) p n)))
 kept-told handlers now records field p r told v is =
     subst (λ (v : Progress _ _ _). (n : ℕ) → IsAfter (simulation_of (handlers v.model) v.config) n v → IfSome r (λ x. (p < v.config.lps) × (x ≡ field (place_of (simulation_of (handlers v.model) v.config) p n))))
-    is (λ n at. told n (without_records (simulation_of (handlers now.model) now.config) n now records at))
+    is (λ n is. told n is.at)
 
 -- where all send numbers are counted after any number of steps, they are
 pub counted_any : {S P V E : Type 0} (sim : Simulation S P) (In : ℕ → Type 0) (r : Result V E) → ∥ ((n : ℕ) × In n) ∥₁ → ((n : ℕ) → In n → IfOk r (λ v. IsCountedWhole sim)) → IfOk r (λ v. IsCountedWhole sim)

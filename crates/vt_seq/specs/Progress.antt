@@ -1,12 +1,12 @@
--- What a contract sees of the sequential simulator.
-use Rattle.std.specs.Prelude.{◌≡◌, ℕ, ◌<◌, List, [], Some, slice_get}
-use Rattle.vt_key.specs.Lists.{Among}
+-- What a contract sees of the sequential simulator: an execution with the records that were kept of it.
+use Rattle.std.specs.Prelude.{◌≡◌, ℕ, List}
 use Rattle.vt_model.specs.declared.rows.Record.{Record}
 use Rattle.vt_model.specs.declared.sending.Sent.{Sent}
 use Rattle.vt_model.specs.declared.settings.Config.{Config}
 use Rattle.vt_model.specs.Handler.{Handlers}
-use Rattle.vt_model.specs.Simulation.{Simulation, Triple, after, simulation_of}
-use Rattle.vt_model.specs.Sequential.{RunState, after_steps, events_of, rows_after, records_of}
+use Rattle.vt_model.specs.Simulation.{Simulation, Triple, simulation_of}
+use Rattle.vt_seq.specs.Given.{records_to}
+use Rattle.vt_seq.specs.Standing.{Standing, IsAt}
 
 -- a run on its way: its model and config, the events that are pending, in an order that does not matter, where each
 -- process stands, and the records so far
@@ -17,18 +17,18 @@ pub record Progress (M S P : Type 0) : Type 0 where
   pub triples : List (Triple S)
   pub records : List Record
 
-module _ {M S P : Type 0} (sim : Simulation S P) where
-  -- the run has come to this state: the same events are pending, each process stands where its executed events lead, and
-  -- the records are theirs
-  pub record IsIn (x : RunState P) (now : Progress M S P) : Type 0 where
-    pub sent : (e : Sent P) → Among e now.pending → Among e x.pending
-    pub had : (e : Sent P) → Among e x.pending → Among e now.pending
-    pub triples : (p : ℕ) → p < sim.lps → slice_get now.triples p ≡ Some (after sim p (events_of p x.executed))
-    pub records : now.records ≡ records_of (rows_after sim [] x.executed)
+-- the execution, without its records
+abbrev pub execution_of : {M S P : Type 0} → Progress M S P → Standing M S P
+execution_of now = record { model = now.model; config = now.config; pending = now.pending; triples = now.triples }
 
-  -- the run has made n steps
-  abbrev pub IsAfter : ℕ → Progress M S P → Type 0
-  IsAfter n now = IsIn (after_steps sim n) now
+-- an execution with the records that were kept of it
+abbrev pub with_records : {M S P : Type 0} → Standing M S P → List Record → Progress M S P
+with_records now records = record { model = now.model; config = now.config; pending = now.pending; triples = now.triples; records = records }
+
+-- the run has made n steps: its execution has, and the records are theirs
+pub record IsAfter {M S P : Type 0} (sim : Simulation S P) (n : ℕ) (now : Progress M S P) : Type 0 where
+  pub at : IsAt sim n (execution_of now)
+  pub records : now.records ≡ records_to sim n
 
 -- the run of its model and config has made some number of steps
 abbrev pub IsReached : {M S P K : Type 0} → Handlers S P K → Progress M S P → Type 0

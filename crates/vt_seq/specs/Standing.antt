@@ -1,13 +1,11 @@
 -- What a contract sees of an execution, which keeps no records.
 use Rattle.std.specs.Prelude.{◌≡◌, ℕ, ◌<◌, List, Some, slice_get}
 use Rattle.vt_key.specs.Lists.{Among}
-use Rattle.vt_model.specs.declared.rows.Record.{Record}
 use Rattle.vt_model.specs.declared.sending.Sent.{Sent}
 use Rattle.vt_model.specs.declared.settings.Config.{Config}
 use Rattle.vt_model.specs.Handler.{Handlers}
 use Rattle.vt_model.specs.Simulation.{Simulation, Triple, after, simulation_of}
 use Rattle.vt_model.specs.Sequential.{RunState, after_steps, events_of}
-use Rattle.vt_seq.specs.Progress.{Progress}
 
 -- an execution on its way: its model and config, the events that are pending, in an order that does not matter, and where
 -- each process stands
@@ -32,13 +30,3 @@ module _ {M S P : Type 0} (sim : Simulation S P) where
 -- the execution of its model and config has made some number of steps
 abbrev pub IsOnWay : {M S P K : Type 0} → Handlers S P K → Standing M S P → Type 0
 IsOnWay handlers now = ∥ ((n : ℕ) × IsAt (simulation_of handlers now.config) n now) ∥₁
-
--- an execution with the records that were kept of it
-abbrev pub with_records : {M S P : Type 0} → Standing M S P → List Record → Progress M S P
-with_records now records = record {
-  model = now.model;
-  config = now.config;
-  pending = now.pending;
-  triples = now.triples;
-  records = records;
-}

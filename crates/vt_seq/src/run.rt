@@ -27,8 +27,7 @@ pub struct Sequential<'m, M: EventModel> {
 }
 
 impl<'m, M: EventModel> Model for Sequential<'m, M> {
-    ghost use Rattle.vt_seq.specs.Progress.{Progress, IsReached};
-    ghost use Rattle.vt_seq.specs.Standing.{with_records};
+    ghost use Rattle.vt_seq.specs.Progress.{Progress, IsReached, with_records};
 
     ghost Value = { Progress M M.State M.Payload };
 

@@ -16,4 +16,4 @@ returns-in_default-clause-refused g c n is =
     let r = c.complete.ensures.steps n is in
     let k : ℕ = r.0 + n in
     let none : later.pending ≡ [] = search rules in
-    (r.0, r.1, inr (refl, counted_on own lawful k (none_pending (after_steps own k).pending later.pending r.1.had none) (search rules)))
+    (r.0, r.1, inr (refl, counted_on own lawful k (none_pending (after_steps own k).pending later.pending r.1.at.had none) (search rules)))
