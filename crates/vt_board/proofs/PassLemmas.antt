@@ -1,14 +1,14 @@
 -- A whole pass, report by report.
-use Rattle.std.proofs.Common.{◌≡◌, inl, inr, ℕ, zero, suc, ◌+◌, ◌<◌, Bool, true, false, cond, nat_eq, ◌&&◌, List, [], ◌∷◌, ◌++◌, length, replicate, Option, Some, None, slice_get, slice_set, refl, sym, subst, ap, ◌∙◌, arith}
+use Rattle.std.proofs.Common.{◌≡◌, inl, inr, ℕ, zero, suc, ◌+◌, ◌<◌, Bool, true, false, cond, nat_eq, List, [], ◌∷◌, ◌++◌, length, replicate, Option, Some, None, slice_get, slice_set, refl, sym, subst, ap, ◌∙◌, arith}
 use Rattle.std.proofs.lemmas.Bool.Decides.{eqb_tells}
 use Rattle.std.proofs.lemmas.List.{length-set}
 use Rattle.std.proofs.lemmas.List.Sums.{sum_by-cons, sum_by_push}
-use Rattle.vt_key.specs.Times.{Time, TimeAtMost, time_at_most, earlier}
+use Rattle.vt_key.specs.Times.{Time, TimeAtMost, earlier}
 use Rattle.vt_steps.specs.declared.step.Reply.TheVariants.{Waiting, Again, Announced}
 use Rattle.vt_steps.specs.World.{Board}
-use Rattle.vt_steps.specs.BoardSteps.{all_set, is_clear, with_new_pass, with_announcement, with_report, BoardEffect, after_report}
+use Rattle.vt_steps.specs.BoardSteps.{all_set, with_new_pass, with_announcement, with_report, BoardEffect, after_report}
 use Rattle.vt_steps.proofs.steps.Outcomes.{after_report-either}
-use Rattle.vt_steps.proofs.time.Flags.{set-at}
+use Rattle.vt_steps.proofs.time.Flags.{set-at, may-tells}
 use Rattle.vt_steps.proofs.lists.Places.{get-put_same, get-put_other, get-within}
 use Rattle.vt_board.specs.Passes.{WorkerReport, with_one_more, heard, board_after_all, AreAwaited, least_reported, times_reported, all_sent, all_got, ArePassesClosedBySums}
 
@@ -19,14 +19,6 @@ goes_on : (end : Time) (board : Board) (report : WorkerReport) → (heard end bo
 goes_on end board report =
     after_report-either end (with_one_more board report) (λ effect. effect.reply ≡ Waiting → effect.board ≡ with_one_more board report)
     (λ some e. refl) (λ all same e. absurd (let h : Announced _ ≡ Waiting = e in cc)) (λ all apart e. absurd (let h : Again ≡ Waiting = e in cc))
-
--- a report that is taken is its worker's first one in the pass
-first : (is_open all : Bool) (flag : Option Bool) (late : Bool) → (is_open && (all && (is_clear flag && late))) ≡ true → flag ≡ Some false
-first true true None late e = absurd (let h : false ≡ true = e in cc)
-first true true (Some true) late e = absurd (let h : false ≡ true = e in cc)
-first true true (Some false) late e = refl
-first true false flag late e = absurd (let h : false ≡ true = e in cc)
-first false all flag late e = absurd (let h : false ≡ true = e in cc)
 
 -- ---- whose flag is set
 
@@ -109,7 +101,7 @@ along end board [] in_time awaited =
       flags = λ w. omega arith;
     }
 along end board (report ∷ reports) in_time awaited =
-    let clear = first board.is_open (all_set board.has_cut) (slice_get board.has_reported report.worker) (time_at_most board.announced report.least) awaited.0 in
+    let clear = (may-tells report.worker report.least board awaited.0).2 in
     let same = goes_on end board report awaited.1 in
     along-cons end board report reports (board_after_all end (heard end board report).board reports) clear
     (subst (λ (next : Board). IsAlong end next reports (board_after_all end (heard end board report).board reports)) same
@@ -200,7 +192,7 @@ closed_by_sums end board reports last pass =
     let sent : board.sent ≡ 0 = ap (λ (b : Board). b.sent) pass.begun in
     let got : board.got ≡ 0 = ap (λ (b : Board). b.got) pass.begun in
     let flags : board.has_reported ≡ replicate (length board.has_reported) false = ap (λ (b : Board). b.has_reported) pass.begun in
-    let clear = first before.is_open (all_set before.has_cut) (slice_get before.has_reported last.worker) (time_at_most before.announced last.least) pass.taken in
+    let clear = (may-tells last.worker last.least before pass.taken).2 in
     let whole : IsAlong end board all after = along-last end board reports last before clear (along end board reports (omega (arith, least)) pass.awaited) in
     let full : all_set after.has_reported ≡ true = full-by end before last pass.closing in
     let time : after.least ≡ least_reported end all = omega (arith, whole.least, least, least-most end all) in

@@ -2,7 +2,6 @@
 use Rattle.std.proofs.Common.{◌≡◌, ◌⊎◌, inl, inr, ℕ, ◌<◌, Bool, true, false, cond, List, [], ◌∷◌, ◌++◌, map, refl, sym, ◌∙◌, ap, subst, arith, Option, Some, None, Result, Ok, Err, MatchResult, IfErr, slice_get}
 use Rattle.std.specs.Option.{option_map}
 use Rattle.std.specs.List.{AllByRecursion}
-use Rattle.std.proofs.lemmas.Bool.{and_parts}
 use Rattle.vt_key.specs.declared.fault.Fault.{Fault}
 use Rattle.vt_key.specs.declared.fault.Fault.TheVariants.{Memory, NotLawful, Closed, Exhausted}
 use Rattle.vt_key.specs.Times.{Time}
@@ -14,7 +13,7 @@ use Rattle.vt_steps.specs.declared.step.Step.{Step}
 use Rattle.vt_steps.specs.declared.step.Step.TheVariants.{Cut, Report, Commit, Close}
 use Rattle.vt_steps.specs.declared.step.Reply.{Reply}
 use Rattle.vt_steps.specs.declared.step.Reply.TheVariants.{Done}
-use Rattle.vt_steps.specs.BoardSteps.{all_set, is_clear, cut_board, may_report, with_report}
+use Rattle.vt_steps.specs.BoardSteps.{all_set, cut_board, may_report, with_report}
 use Rattle.vt_steps.specs.PartSteps.{part_after_cut, report_sent, report_got, report_least}
 use Rattle.vt_steps.specs.World.{Part, Board, Book, World, opening_world}
 use Rattle.vt_steps.specs.Cells.{board_cell, book_cell, CellName, Cell, on_board, in_book, content, worker_of, cell_of, Acted, left_alone, acted_at, acted_close, act, local_steps}
@@ -33,7 +32,7 @@ use Rattle.vt_places.specs.Slots.{cell_at}
 use Rattle.vt_places.specs.Calls.{Known, Closes, Reaches, Visited, IsRefusedBy, IsCutRefusal, IsReportRefusal, IsCommitRefusal, IsCloseRefusal, IsRefusedAlone}
 use Rattle.vt_places.proofs.OneList.{steps-own, steps-answered}
 use Rattle.vt_steps.proofs.steps.MemoryLemmas.{run-append}
-use Rattle.vt_steps.proofs.time.Flags.{clear-is}
+use Rattle.vt_steps.proofs.time.Flags.{may-tells}
 
 same-fault : {X : Type 0} (r : Result X Fault) (a b : Fault) → r ≡ Err a → r ≡ Err b → a ≡ b
 same-fault r a b e f = let h : ◌≡◌ {A = Result _ Fault} (Err a) (Err b) = sym e ∙ f in cc
@@ -59,14 +58,6 @@ module _ {S P : Type 0} (sim : Simulation S P) (v : View P) where
         ap (λ (o : Outcome P). o.answer) ((next-acts_on_one_cell sim (run sim world steps) step).acts v.worker name part cell whose at d.part d.cell)
 
 -- ---- what a step on a board or a book is answered
-
--- what a board that takes a report has
-may-tells : (w : ℕ) (value : Time) (board : Board) → may_report w value board ≡ true → (board.is_open ≡ true) × (all_set board.has_cut ≡ true) × (slice_get board.has_reported w ≡ Some false)
-may-tells w value board may =
-    let a = and_parts board.is_open _ may in
-    let b = and_parts (all_set board.has_cut) _ a.1 in
-    let c = and_parts (is_clear (slice_get board.has_reported w)) _ b.1 in
-    (a.0, b.0, clear-is (slice_get board.has_reported w) c.0)
 
 module _ {S P : Type 0} (sim : Simulation S P) where
   -- a cut whatever the part is

@@ -4,12 +4,14 @@ use Rattle.std.proofs.Math.Logic.{∥∥₁_map, ∥∥₁_elim}
 use Rattle.std.proofs.Props.{props}
 use Rattle.std.specs.List.{list_all}
 use Rattle.std.specs.Option.{option_map}
-use Rattle.std.proofs.lemmas.Bool.{and_parts}
+use Rattle.std.proofs.lemmas.Bool.{and_parts, and_from}
+use Rattle.std.proofs.lemmas.List.Elements.{All-from_recursion, recursion_from_All}
+use Rattle.std.proofs.lemmas.List.Sums.{AllPass-from_list_all, list_all-from_AllPass}
 use Rattle.vt_key.specs.Keys.{Key}
 use Rattle.vt_key.specs.Order.{KeyBefore, key_before}
 use Rattle.vt_key.specs.Times.{ticks_of}
 use Rattle.vt_key.specs.Lists.{Among}
-use Rattle.vt_key.proofs.ListLemmas.{every-among}
+use Rattle.vt_key.proofs.ListLemmas.{every-among, every-weaker}
 use Rattle.vt_key.proofs.OrderLemmas.{key_before-true, before-key_before}
 use Rattle.vt_model.specs.declared.process.Process.{Process}
 use Rattle.vt_model.specs.declared.rows.Record.{Record}
@@ -35,19 +37,15 @@ module _ {P : Type 0} where
   are_rising (e ∷ es) = list_all (λ d. key_before e.key d.key) es && are_rising es
 
   after-tested : (k : Key) (es : List (Sent P)) → AllAfter k es → list_all (λ (d : Sent P). key_before k d.key) es ≡ true
-  after-tested k [] h = refl
-  after-tested k (e ∷ es) h = ap (λ (b : Bool). b && list_all (λ (d : Sent P). key_before k d.key) es) (before-key_before k e.key h.0) ∙ after-tested k es h.1
+  after-tested k es h = list_all-from_AllPass _ es (All-from_recursion _ es (every-weaker _ _ es (λ d. before-key_before k d.key) h))
 
   tested-after : (k : Key) (es : List (Sent P)) → list_all (λ (d : Sent P). key_before k d.key) es ≡ true → AllAfter k es
-  tested-after k [] h = tt
-  tested-after k (e ∷ es) h =
-      let r = and_parts (key_before k e.key) (list_all (λ (d : Sent P). key_before k d.key) es) h in
-      (key_before-true k e.key r.0, tested-after k es r.1)
+  tested-after k es h = every-weaker _ _ es (λ d. key_before-true k d.key) (recursion_from_All _ es (AllPass-from_list_all _ es h))
 
   rising-tested : (es : List (Sent P)) → IsRising es → are_rising es ≡ true
   unfolding are_rising
   rising-tested [] h = refl
-  rising-tested (e ∷ es) h = ap (λ (b : Bool). b && are_rising es) (after-tested e.key es h.0) ∙ rising-tested es h.1
+  rising-tested (e ∷ es) h = and_from _ _ (after-tested e.key es h.0) (rising-tested es h.1)
 
   tested-rising : (es : List (Sent P)) → are_rising es ≡ true → IsRising es
   unfolding are_rising

@@ -6,7 +6,6 @@ use Rattle.std.proofs.lemmas.List.{length-replicate}
 use Rattle.std.proofs.lemmas.List.FromFn.{length-map-range_with_len}
 use Rattle.std.proofs.lemmas.List.Folds.{sum_by-replicate}
 use Rattle.std.proofs.lemmas.List.Sums.{sum_by-cons}
-use Rattle.std.proofs.lemmas.Bool.{and_parts}
 use Rattle.vt_key.specs.Times.{Time, TimeAtMost, opening_time}
 use Rattle.vt_key.specs.declared.letter.Colour.{Colour}
 use Rattle.vt_key.specs.declared.letter.Colour.TheVariants.{White, Red}
@@ -15,7 +14,7 @@ use Rattle.vt_key.specs.declared.letter.Mail.{Mail}
 use Rattle.vt_key.specs.declared.letter.Sign.TheVariants.{Plus}
 use Rattle.vt_model.specs.Simulation.{Simulation}
 use Rattle.vt_model.specs.Histories.{IsLawful}
-use Rattle.vt_steps.specs.BoardSteps.{all_set, is_clear, with_open_round, with_report, after_report}
+use Rattle.vt_steps.specs.BoardSteps.{is_clear, with_open_round, with_report, after_report}
 use Rattle.vt_steps.specs.Copies.{letter_weight, part_entries, letter_sum, entry_sum}
 use Rattle.vt_steps.specs.Letters.{signed, count_colour}
 use Rattle.vt_steps.specs.PartSteps.{part_after_send, part_after_fetch, part_after_cut, part_after_commit, report_sent, report_got, report_least}
@@ -25,7 +24,7 @@ use Rattle.vt_steps.proofs.steps.Changes.{Change, stays, local, sends, fetches, 
 use Rattle.vt_steps.proofs.letters.Colours.{sent_in, got_in}
 use Rattle.vt_steps.proofs.time.Early.{early, early_letters, all_early, late-none, at-most-least, everywhere-early}
 use Rattle.vt_steps.proofs.time.EarlyLocal.{hasty, local-early, local-same}
-use Rattle.vt_steps.proofs.time.Flags.{clear-is}
+use Rattle.vt_steps.proofs.time.Flags.{clear-is, may-tells}
 use Rattle.vt_steps.proofs.letters.OpeningSums.{opening-letters, opening-entries}
 use Rattle.vt_steps.proofs.time.Passes.{open-kept, open-round_is_open, cut-kept, report-kept, report-is_open, pass-kept}
 use Rattle.vt_steps.proofs.lists.Places.{get-map}
@@ -87,13 +86,10 @@ module _ {S P : Type 0} (sim : Simulation S P) (lawful : IsLawful sim) (t : Time
         shape = shape;
       }
   change-kept (reports w part is may e) g shape =
-      let a = and_parts old.board.is_open _ may in
-      let b = and_parts (all_set old.board.has_cut) _ a.1 in
-      let c = and_parts (is_clear (slice_get old.board.has_reported w)) _ b.1 in
-      let clear = clear-is (slice_get old.board.has_reported w) c.0 in
+      let told = may-tells w (report_least sim.end part) old.board may in
       let board = with_report w (report_sent part) (report_got part) (report_least sim.end part) old.board in
-      let reported = report-kept sim.end t old.parts old.inboxes old.board w part is a.0 b.0 clear g.round in
-      let passed = pass-kept sim.end t old.parts old.inboxes board (report-is_open w (report_sent part) (report_got part) (report_least sim.end part) old.board a.0) reported in
+      let reported = report-kept sim.end t old.parts old.inboxes old.board w part is told.0 told.1 told.2 g.round in
+      let passed = pass-kept sim.end t old.parts old.inboxes board (report-is_open w (report_sent part) (report_got part) (report_least sim.end part) old.board told.0) reported in
       let after : Part P = record part { floor = (after_report sim.end board).board.announced } in
       record {
         round = subst (λ n. IsRoundSound sim.end t n.parts n.inboxes n.board) (sym e)

@@ -1,9 +1,12 @@
 -- Sums over the workers whose flag is set, flags, and what stands at a place after a write.
 use Rattle.std.proofs.Common.{◌≡◌, ◌⊎◌, inl, inr, ℕ, zero, suc, ◌+◌, ◌≤◌, Bool, true, false, cond, List, [], ◌∷◌, length, replicate, refl, sym, ◌∙◌, ap, arith, Option, Some, None, slice_get, slice_set}
 use Rattle.std.specs.List.{sum_by}
-use Rattle.std.proofs.lemmas.Bool.Decides.{eqb_tells}
+use Rattle.std.proofs.lemmas.Bool.{and_parts}
+use Rattle.std.proofs.lemmas.Bool.Decides.{eqb_tells, nat_tests}
 use Rattle.std.proofs.lemmas.List.Sums.{sum_by-cons}
-use Rattle.vt_steps.specs.BoardSteps.{all_set, is_clear}
+use Rattle.vt_key.specs.Times.{Time, TimeAtMost, time_at_most}
+use Rattle.vt_steps.specs.World.{Board}
+use Rattle.vt_steps.specs.BoardSteps.{all_set, is_clear, may_report}
 use Rattle.vt_steps.proofs.lists.Places.{get-put_same, get-put_other}
 
 -- ---- sums over those whose flag is set
@@ -120,6 +123,16 @@ pub clear-is : (o : Option Bool) → is_clear o ≡ true → o ≡ Some false
 clear-is None e = absurd (let h : false ≡ true = e in cc)
 clear-is (Some true) e = absurd (let h : false ≡ true = e in cc)
 clear-is (Some false) e = refl
+
+-- a board that takes a report has an open pass to which all have cut, and the report is its worker's first one, and not late
+pub may-tells : (w : ℕ) (value : Time) (board : Board) → may_report w value board ≡ true
+    → (board.is_open ≡ true) × (all_set board.has_cut ≡ true) × (slice_get board.has_reported w ≡ Some false) × TimeAtMost board.announced value
+may-tells w value board may =
+    let a = and_parts board.is_open _ may in
+    let b = and_parts (all_set board.has_cut) _ a.1 in
+    let c = and_parts (is_clear (slice_get board.has_reported w)) _ b.1 in
+    let late : time_at_most board.announced value ≡ true = c.1 in
+    (a.0, b.0, clear-is (slice_get board.has_reported w) c.0, grind (arith, nat_tests))
 
 -- ---- an element after a write
 

@@ -6,13 +6,13 @@ use Rattle.std.proofs.Math.ListN.{length-set}
 use Rattle.std.proofs.Math.Nat.{le_refl}
 use Rattle.std.proofs.lemmas.List.{length-replicate}
 use Rattle.std.proofs.lemmas.List.FromFn.{length-map-range_with_len}
-use Rattle.std.proofs.lemmas.Bool.{eqb-true, and_parts}
+use Rattle.std.proofs.lemmas.Bool.{eqb-true}
 use Rattle.std.proofs.lemmas.Bool.Decides.{nat_tests}
 use Rattle.vt_key.specs.Times.{Time, TimeAtMost, opening_time, time_at_most}
 use Rattle.vt_model.specs.Simulation.{Simulation}
 use Rattle.vt_model.specs.Histories.{IsLawful}
 use Rattle.vt_steps.specs.declared.step.Step.{Step}
-use Rattle.vt_steps.specs.BoardSteps.{all_set, is_clear, with_open_round, with_report, after_report}
+use Rattle.vt_steps.specs.BoardSteps.{is_clear, with_open_round, with_report, after_report}
 use Rattle.vt_steps.specs.BookSteps.{may_commit, with_rows}
 use Rattle.vt_steps.specs.Next.{next, run, reached}
 use Rattle.vt_steps.specs.PartSteps.{part_after_send, part_after_fetch, part_after_cut, part_after_commit, report_sent, report_got, report_least}
@@ -22,7 +22,7 @@ use Rattle.vt_steps.proofs.time.Announced.{IsTimeSound, time-kept, opening-time-
 use Rattle.vt_steps.proofs.steps.Changes.{homes, arrives, Local, acts, takes, Change, stays, local, sends, fetches, cuts, reports, commits, closes, next_changes, run_keeps, if_has}
 use Rattle.vt_steps.proofs.steps.Outcomes.{with_open_round-either, after_report-either}
 use Rattle.vt_steps.proofs.lists.Places.{all-put, get-map, get-replicate, get-within}
-use Rattle.vt_steps.proofs.time.Flags.{put-cases}
+use Rattle.vt_steps.proofs.time.Flags.{put-cases, may-tells}
 
 -- ---- the least of a list of floors
 
@@ -166,12 +166,10 @@ module _ {S P : Type 0} (sim : Simulation S P) (old new : World P) (least_end : 
         floor = le_refl _;
       })
   floors-kept (reports w part is may e) =
-      let a = and_parts old.board.is_open _ may in
-      let b = and_parts (all_set old.board.has_cut) _ a.1 in
-      let c = and_parts (is_clear (slice_get old.board.has_reported w)) _ b.1 in
-      let value : TimeAtMost old.board.announced (report_least sim.end part) = (let t = c.1 in grind (arith, nat_tests)) in
+      let told = may-tells w (report_least sim.end part) old.board may in
+      let value : TimeAtMost old.board.announced (report_least sim.end part) = told.3 in
       let board = with_report w (report_sent part) (report_got part) (report_least sim.end part) old.board in
-      let least_was = f.least a.0 in
+      let least_was = f.least told.0 in
       let bounded = f.bounded in
       let rises = pass-rises sim.end board (omega arith) bounded (omega arith) in
       let up = rises.announced in
