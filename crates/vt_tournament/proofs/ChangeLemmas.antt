@@ -3,11 +3,11 @@ use Rattle.std.proofs.Common.{◌≡◌, ℕ, ◌+◌, ◌*◌, ◌-◌, ◌/◌
 use Rattle.std.proofs.lemmas.List.{get_or-set_other, length-set}
 use Rattle.std.proofs.lemmas.Bool.{cases_order, cases_lt}
 use Rattle.vt_key.specs.declared.order.Rank.{Rank}
-use Rattle.vt_tournament.specs.Contest.{Node, is_ahead, is_ahead_by, contestant, node_of, Fits, inner_places, last_place, place, node, IsBelow, IsAbove, IsWinner, IsBest, AreWinners, WasTournamentOf, place_at, IsChanged, IsDecided, IsCarried}
+use Rattle.vt_tournament.specs.Contest.{Node, is_ahead, is_ahead_by, winner_of, contestant, node_of, Fits, inner_places, last_place, place, node, IsBelow, IsAbove, IsWinner, IsBest, AreWinners, WasTournamentOf, place_at, IsChanged, IsDecided, IsCarried}
 use Rattle.vt_tournament.proofs.AheadLemmas.{NotBehind, not_behind-transitive, not_behind-same, behind-none}
 use Rattle.vt_tournament.proofs.NodeLemmas.{somebody, ranked-known}
 use Rattle.vt_tournament.proofs.PathLemmas.{above-self, above-low, above-next, above-transitive, between, upward}
-use Rattle.vt_tournament.proofs.TreeLemmas.{IsAheadOfTwo, node-set_same, node-set_other, winner-own_place, winner-best}
+use Rattle.vt_tournament.proofs.TreeLemmas.{IsAheadOfTwo, of_two, read, node-set_same, node-set_other, winner-own_place, winner-best}
 
 -- ---- places apart from the changed contestant
 
@@ -159,15 +159,9 @@ module _ (ranks : List (Option Rank)) (number : ℕ) (nodes : List Node) (few : 
       had : IsWinner (slice_set ranks number c.entry) ((at - 1) / 2) (node nodes ((at - 1) / 2))
       had = c.before ((at - 1) / 2) (omega (arith, more))
 
-      pub held_fits : Fits ranks (node nodes ((at - 1) / 2))
-      held_fits = fits-set ranks number c.entry known (node nodes ((at - 1) / 2)) another had.fits
-
       module _ (w : Node) (own : w ≡ node nodes at) where
         here : IsWinner ranks at w
         here = subst (IsWinner ranks at) (sym own) (c.won at (omega arith) c.high)
-
-        pub carried_fits : Fits ranks w
-        carried_fits = here.fits
 
         -- who isn't behind that one wins there
         wins : NotBehind (contestant ranks w.number) (contestant ranks (node nodes ((at - 1) / 2)).number) → IsWinner ranks ((at - 1) / 2) w
@@ -184,13 +178,21 @@ module _ (ranks : List (Option Rank)) (number : ℕ) (nodes : List Node) (few : 
           ];
         }
 
-        -- a node is the better of the two
-        module _ (best : Node) (of : IsAheadOfTwo ranks w (node nodes ((at - 1) / 2)) best) where
+        -- a node is the better of the two, of which that one was read
+        module _ (held best : Node) (was_read : held ≡ slice_index_or nodes ((at - 1) / 2) held) (better : best ≡ node_of (winner_of (contestant ranks w.number) (contestant ranks held.number))) where
+          held-is : held ≡ node nodes ((at - 1) / 2)
+          held-is = read nodes ((at - 1) / 2) held (omega (arith, next_inner, c.full)) was_read
+
+          of : IsAheadOfTwo ranks w (node nodes ((at - 1) / 2)) best
+          of =
+              of_two ranks w (node nodes ((at - 1) / 2)) best here.fits (fits-set ranks number c.entry known (node nodes ((at - 1) / 2)) another had.fits)
+              (subst (λ (v : Node). best ≡ node_of (winner_of (contestant ranks w.number) (contestant ranks v.number))) held-is better)
+
           -- where it isn't who had won there, the winner is carried on
-          pub gone_up : (best.number ≡ (node nodes ((at - 1) / 2)).number → ⊥) → IsCarried ranks ((at - 1) / 2) (slice_set nodes ((at - 1) / 2) w) w
+          pub gone_up : (best.number ≡ held.number → ⊥) → IsCarried ranks ((at - 1) / 2) (slice_set nodes ((at - 1) / 2) w) w
           gone_up new =
               let p : ℕ = (at - 1) / 2 in
-              let is : best ≡ w = elim of.one [ inl e ↦ e | inr e ↦ absurd (new (ap (λ (n : Node). n.number) e)) ] in
+              let is : best ≡ w = elim of.one [ inl e ↦ e | inr e ↦ absurd (new (ap (λ (n : Node). n.number) (e ∙ sym held-is))) ] in
               let ahead : NotBehind (contestant ranks w.number) (contestant ranks (node nodes p).number) = subst (λ (n : Node). NotBehind (contestant ranks n.number) (contestant ranks (node nodes p).number)) is of.second in
               record {
                 number = number;
@@ -204,9 +206,10 @@ module _ (ranks : List (Option Rank)) (number : ℕ) (nodes : List Node) (few : 
               }
 
           -- and where it is, all above stays
-          pub stayed : best.number ≡ (node nodes ((at - 1) / 2)).number → AreWinners ranks nodes
-          stayed as_before =
+          pub stayed : best.number ≡ held.number → AreWinners ranks nodes
+          stayed same_number =
               let p : ℕ = (at - 1) / 2 in
+              let as_before : best.number ≡ (node nodes p).number = same_number ∙ ap (λ (n : Node). n.number) held-is in
               let ahead : NotBehind (contestant ranks (node nodes p).number) (contestant ranks w.number) = subst (λ (n : ℕ). NotBehind (contestant ranks n) (contestant ranks w.number)) as_before of.first in
               let won : IsWinner ranks p (node nodes p) =
               kept ranks number c.entry known p (node nodes p) another

@@ -4,10 +4,12 @@ use Rattle.std.proofs.lemmas.Bool.{cases_order, lt-ltb, le-ltb, eq-eqb, eqb-true
 use Rattle.std.proofs.lemmas.List.{get_or_past}
 use Rattle.vt_key.specs.declared.order.Rank.{Rank}
 use Rattle.vt_key.specs.Order.{rank_before}
-use Rattle.vt_key.specs.Times.{priority_of}
+use Rattle.vt_key.specs.Times.{at, priority_of}
 use Rattle.vt_key.proofs.OrderLemmas.{before-rank_before}
-use Rattle.vt_tournament.specs.Contest.{Node, Contestant, contestant, is_ahead, is_ahead_by, first_time, first_source, nobodys_number, number_of, node_of, packed, unpacked, IsSmall}
-use Rattle.vt_tournament.proofs.AheadLemmas.{not_behind-ahead}
+use Rattle.vt_tournament.specs.Contest.{Node, Contestant, contestant, is_ahead, is_ahead_by, first_time, first_source, nobodys_number, number_of, node_of, winner_of, Fits, packed, unpacked, IsSmall}
+use Rattle.vt_tournament.specs.Fields.{node_in}
+use Rattle.vt_tournament.specs.declared.node.Node.TheInside.{Inside}
+use Rattle.vt_tournament.proofs.AheadLemmas.{not_behind-ahead, winner-first, winner-second}
 
 -- whose time is earlier is ahead
 earlier : (a : Option Rank) (i : ℕ) (b : Option Rank) (j : ℕ) → first_time a < first_time b → first_time b < 2 ^ 72 → is_ahead_by a i b j ≡ true
@@ -63,12 +65,16 @@ pub decided : (a b : Contestant) (x y : Node) → x ≡ node_of a → y ≡ node
 decided a b x y fits other_fits alike small other_small =
     by_packed a b x y (ap (λ (n : Node). n.time) fits) (ap (λ (n : Node). n.time) other_fits) (ap (λ (n : Node). n.source) fits) (ap (λ (n : Node). n.source) other_fits) alike small other_small
 
--- whose node has an earlier time is ahead
-pub early : (a b : Contestant) (x y : Node) → x ≡ node_of a → y ≡ node_of b → x.time < y.time → y.time < 2 ^ 72 → is_ahead a b ≡ true
-early a b x y fits other_fits less small =
-    let at : x.time ≡ first_time a.rank = ap (λ (n : Node). n.time) fits in
-    let other_at : y.time ≡ first_time b.rank = ap (λ (n : Node). n.time) other_fits in
-    earlier a.rank a.number b.rank b.number (omega (arith, less, at, other_at)) (omega (arith, small, other_at))
+-- whose node has the earlier ticks wins, against the other and where the other is tried against it
+pub early-wins : (ranks : List (Option Rank)) (x y : Node) → Fits ranks x → Fits ranks y → (m n : Inside) → node_in m.ticks m.rest ≡ x → node_in n.ticks n.rest ≡ y → (m.rest < 2 ^ 64) × (n.ticks < 2 ^ 64) × (n.rest < 2 ^ 64) → m.ticks < n.ticks
+    → (x ≡ node_of (winner_of (contestant ranks x.number) (contestant ranks y.number))) × (x ≡ node_of (winner_of (contestant ranks y.number) (contestant ranks x.number)))
+early-wins ranks x y fits other_fits m n x-is y-is small less =
+    let a : Contestant = contestant ranks x.number in
+    let b : Contestant = contestant ranks y.number in
+    let from : at m.ticks (m.rest / 2 ^ 56) ≡ first_time a.rank = ap (λ (v : Node). v.time) x-is ∙ ap (λ (v : Node). v.time) fits in
+    let other_from : at n.ticks (n.rest / 2 ^ 56) ≡ first_time b.rank = ap (λ (v : Node). v.time) y-is ∙ ap (λ (v : Node). v.time) other_fits in
+    let ahead : is_ahead a b ≡ true = earlier a.rank a.number b.rank b.number (omega (arith, less, from, other_from, small.0, small.2)) (omega (arith, other_from, small.1, small.2)) in
+    (fits ∙ ap node_of (sym (winner-first a b (not_behind-ahead a b ahead))), fits ∙ ap node_of (sym (winner-second b a ahead)))
 
 -- what was packed is unpacked
 repacked : (n : Node) → IsSmall n → unpacked (packed n) ≡ n

@@ -6,7 +6,7 @@ use Rattle.std.proofs.lemmas.Bool.{cases_order, cases_Bool}
 use Rattle.std.proofs.lemmas.Option.{slice_get-get_or, slice_get_past, same_Some}
 use Rattle.vt_key.specs.declared.order.Rank.{Rank}
 use Rattle.vt_key.specs.Order.{RankBefore}
-use Rattle.vt_tournament.specs.Contest.{Node, is_ahead, is_ahead_by, winner_of, contestant, nobodys_number, number_of, node_of, Fits, inner_places, last_place, place, node, IsBelow, beside, IsAbove, IsWinner, IsBest, AreWinners}
+use Rattle.vt_tournament.specs.Contest.{Node, is_ahead, is_ahead_by, winner_of, contestant, nobodys_number, number_of, node_of, Fits, inner_places, last_place, place, node, IsBelow, beside, IsAbove, IsWinner, IsBest, AreWinners, IsTournamentOf}
 use Rattle.vt_tournament.specs.Least.{IsLeast}
 use Rattle.vt_tournament.proofs.AheadLemmas.{NotBehind, winner-first, winner-second, not_behind-self, not_behind-ahead, not_behind-transitive, not_behind-rank, behind-none}
 use Rattle.vt_tournament.proofs.NodeLemmas.{nobodys_rank, node-own, number-one, somebody, ranked-known}
@@ -142,7 +142,11 @@ winner-best ranks nodes at w high below best =
 
 -- ---- the first place
 
-module _ (ranks : List (Option Rank)) (w : Node) (few : length ranks ≤ 2 ^ 23) (won : IsWinner ranks 0 w) where
+module _ (ranks : List (Option Rank)) (nodes : List Node) (of : IsTournamentOf ranks nodes) (w : Node) (there : 0 < length nodes) (was_read : w ≡ slice_index_or nodes 0 w) where
+  -- what was read there is its winner's
+  won : IsWinner ranks 0 w
+  won = subst (IsWinner ranks 0) (sym (read nodes 0 w there was_read)) (of.tree.won 0 (omega arith))
+
   -- an entry that there is
   entered : (i : ℕ) (r : Option Rank) → slice_get ranks i ≡ Some r → slice_index_or ranks i None ≡ r
   entered i r h = elim (cases_order i (length ranks)) [
@@ -182,7 +186,7 @@ module _ (ranks : List (Option Rank)) (w : Node) (few : length ranks ≤ 2 ^ 23)
   -- where nobody won, nobody has a rank
   pub nobody : w.number ≡ nobodys_number → (i : ℕ) (other : Rank) → slice_get ranks i ≡ Some (Some other) → ⊥
   nobody is i other h =
-      let none : slice_index_or ranks w.number None ≡ None = ap (λ (n : ℕ). slice_index_or ranks n None) is ∙ nobodys_rank ranks few in
+      let none : slice_index_or ranks w.number None ≡ None = ap (λ (n : ℕ). slice_index_or ranks n None) is ∙ nobodys_rank ranks of.few in
       behind-none other w.number i
       (subst (λ (r : Option Rank). is_ahead_by (Some other) i r w.number ≡ false) none (not_behind-entry i other h))
 
