@@ -5,21 +5,12 @@ use Rattle.vt_text.proofs.printing.put_records.Goals as goal
 
 pub returns-in_err-put_bytes-clause-err : goal.returns-in_err-put_bytes-clause-err
 returns-in_err-put_bytes-clause-err g c =
-    let a = c.args in
-    let first = first_line a.version in
-    let lines = record_lines a.version a.records.now in
-    on_err c.from_residual.result (first_stops _ _ c.put_bytes.new.self a.text.now first lines (rw c.first_line.ensures at c.in_err-put_bytes.ensures.err))
+    on_err c.from_residual.result (first_stops _ _ c.put_bytes.new.self c.args.text.now (first_line c.args.version) (record_lines c.args.version c.args.records.now) (rw c.first_line.ensures at c.in_err-put_bytes.ensures.err))
 
 pub returns-clause-ok : goal.returns-clause-ok
 returns-clause-ok g c =
-    let a = c.args in
-    let first = first_line a.version in
-    let lines = record_lines a.version a.records.now in
-    on_ok_weaker c.put_lines.result (then_put _ _ _ _ _ a.text.now first lines (rw c.first_line.ensures at c.in_ok-put_bytes.ensures.ok)) c.put_lines.ensures.ok
+    on_ok_weaker c.put_lines.result (then_put _ _ _ _ _ c.args.text.now (first_line c.args.version) (record_lines c.args.version c.args.records.now) (rw c.first_line.ensures at c.in_ok-put_bytes.ensures.ok)) c.put_lines.ensures.ok
 
 pub returns-clause-err : goal.returns-clause-err
 returns-clause-err g c =
-    let a = c.args in
-    let first = first_line a.version in
-    let lines = record_lines a.version a.records.now in
-    on_err_weaker c.put_lines.result (then_stops _ _ _ _ _ a.text.now first lines (rw c.first_line.ensures at c.in_ok-put_bytes.ensures.ok)) c.put_lines.ensures.err
+    on_err_weaker c.put_lines.result (then_stops _ _ _ _ _ c.args.text.now (first_line c.args.version) (record_lines c.args.version c.args.records.now) (rw c.first_line.ensures at c.in_ok-put_bytes.ensures.ok)) c.put_lines.ensures.err
