@@ -1,5 +1,5 @@
 -- Lists in a row by their first letters: what list is where, one is taken out, and one is put in its place.
-use Rattle.std.proofs.Common.{true, false, not, if◌then◌else◌, ◌≡◌, ◌↔◌, refl, sym, ap, ◌∙◌, subst, arith}
+use Rattle.std.proofs.Common.{Bool, true, false, not, if◌then◌else◌, ◌≡◌, ◌↔◌, refl, sym, ap, ◌∙◌, subst, arith}
 use Rattle.std.specs.Prelude.{ℕ, nat_eq, List, [], ◌∷◌, length, filter, slice_get}
 use Rattle.std.proofs.lemmas.Bool.{eqb-true, eq-eqb, not-true}
 use Rattle.vt_key.specs.Order.{rank_before}
@@ -22,6 +22,11 @@ same-number a b e = eqb-true a b e
 pub number-same : (a : ℕ) → nat_eq a a ≡ true
 number-same a = eq-eqb a a refl
 
+-- a test that isn't so fails
+not-so : (t : Bool) → (t ≡ true → ⊥) → not t ≡ true
+not-so true wrong = absurd (wrong refl)
+not-so false wrong = refl
+
 module _ {P : Type 0} where
   -- the number of a letter's list
   abbrev pub own : Letter P → ℕ
@@ -31,25 +36,17 @@ module _ {P : Type 0} where
   in-own x = number-same (own x)
 
   -- what is in one list isn't in another
+  in-neither : (b : ℕ) (x : Letter P) → in_bucket b x ≡ false → (y : Letter P) → in_bucket b y ≡ true → in_bucket (own x) y ≡ true → ⊥
+  in-neither b x other y here there =
+      let at : own y ≡ own x = same-number (own y) (own x) there in
+      let wrong : true ≡ false = sym (ap (λ n. nat_eq n b) (sym at) ∙ here) ∙ other in
+      cc
+
   pub apart : (b : ℕ) (x : Letter P) → in_bucket b x ≡ false → (y : Letter P) → in_bucket b y ≡ true → not_in_bucket (own x) y ≡ true
-  apart b x other y here =
-      elim (in_bucket (own x) y) as (λ c. in_bucket (own x) y ≡ c → not c ≡ true) [
-        | true ↦ λ e.
-            let at : own y ≡ own x = same-number (own y) (own x) e in
-            let wrong : true ≡ false = sym (ap (λ n. nat_eq n b) (sym at) ∙ here) ∙ other in
-            absurd (let h : true ≡ false = wrong in cc)
-        | false ↦ λ e. refl
-      ] refl
+  apart b x other y here = not-so (in_bucket (own x) y) (in-neither b x other y here)
 
   apart-back : (b : ℕ) (x : Letter P) → in_bucket b x ≡ false → (y : Letter P) → in_bucket (own x) y ≡ true → not_in_bucket b y ≡ true
-  apart-back b x other y here =
-      elim (in_bucket b y) as (λ c. in_bucket b y ≡ c → not c ≡ true) [
-        | true ↦ λ e.
-            let at : own y ≡ own x = same-number (own y) (own x) here in
-            let wrong : true ≡ false = sym (ap (λ n. nat_eq n b) (sym at) ∙ e) ∙ other in
-            absurd (let h : true ≡ false = wrong in cc)
-        | false ↦ λ e. refl
-      ] refl
+  apart-back b x other y there = not-so (in_bucket b y) (λ here. in-neither b x other y here there)
 
   -- ---- what is
 

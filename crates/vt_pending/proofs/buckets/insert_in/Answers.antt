@@ -4,6 +4,8 @@ use Rattle.vt_pending.specs.Letters.{holds_rank}
 use Rattle.vt_pending.specs.Buckets.{list_at, first_holds, insert_here, insert_in, letters_of}
 use Rattle.vt_pending.proofs.Rows.{own}
 use Rattle.vt_pending.proofs.Inserting.{insert-parted, list-ahead, held-ahead}
+use Rattle.vt_pending.proofs.buckets.insert_in.Given.{Over}
+use Rattle.vt_pending.proofs.buckets.insert_in.Goals.{After-pass-passed}
 use Rattle.vt_pending.proofs.buckets.insert_in.Goals as goal
 
 if_ok : {A B P Q : Type 0} (r : Result A B) → (P → Q) → IfOk r (λ _. P) → IfOk r (λ _. Q)
@@ -28,18 +30,16 @@ returns-clause-put g c =
     c.join.ensures ∙ (λ i. parts.passed i ++ (e ∙ (λ j. insert_here (own_is j) (sym c.get.ensures j) (parts.others j))) i)
     ∙ insert-parted y lists ∙ (λ i. insert_in (sym own_is i) (c.get.ensures i) lists)) c.insert_here-put.ensures.put
 
-pub returns-clause-new : goal.returns-clause-new
-returns-clause-new g c =
+-- whether its list has the letter's rank tells whether any has it
+held : (g : Over) (c : After-pass-passed g) → first_holds c.args.number (letter_rank c.args.letter) c.pass-passed.new.self ≡ holds_rank (letter_rank c.args.letter) (letters_of c.args.lists.now)
+held g c =
     let lists = c.args.lists.now in let y = c.get.result.now in
     let own_is : c.args.number ≡ own y = c.requires.own ∙ ap own (sym c.get.ensures) in
-    let held = (λ i. first_holds (own_is i) (letter_rank (sym c.get.ensures i)) (c.pass-passed.ensures.others i))
-    ∙ held-ahead (letter_rank y) lists (letters_of lists) c.requires.row.1 c.requires.row.0 ∙ ap (λ z. holds_rank (letter_rank z) (letters_of lists)) c.get.ensures in
-    if_ok c.insert_here-put.result (λ e. sym held ∙ e) c.insert_here-put.ensures.new
+    (λ i. first_holds (own_is i) (letter_rank (sym c.get.ensures i)) (c.pass-passed.ensures.others i))
+    ∙ held-ahead (letter_rank y) lists (letters_of lists) c.requires.row.1 c.requires.row.0 ∙ ap (λ z. holds_rank (letter_rank z) (letters_of lists)) c.get.ensures
+
+pub returns-clause-new : goal.returns-clause-new
+returns-clause-new g c = if_ok c.insert_here-put.result (λ e. sym (held g (goal.at.returns-clause-new g c).After-pass-passed) ∙ e) c.insert_here-put.ensures.new
 
 pub returns-clause-held : goal.returns-clause-held
-returns-clause-held g c =
-    let lists = c.args.lists.now in let y = c.get.result.now in
-    let own_is : c.args.number ≡ own y = c.requires.own ∙ ap own (sym c.get.ensures) in
-    let held = (λ i. first_holds (own_is i) (letter_rank (sym c.get.ensures i)) (c.pass-passed.ensures.others i))
-    ∙ held-ahead (letter_rank y) lists (letters_of lists) c.requires.row.1 c.requires.row.0 ∙ ap (λ z. holds_rank (letter_rank z) (letters_of lists)) c.get.ensures in
-    if_err c.insert_here-put.result (λ e. sym held ∙ e) c.insert_here-put.ensures.held
+returns-clause-held g c = if_err c.insert_here-put.result (λ e. sym (held g (goal.at.returns-clause-held g c).After-pass-passed) ∙ e) c.insert_here-put.ensures.held
