@@ -1,5 +1,5 @@
 -- A message and its anti-message leave nothing.
-use Rattle.std.proofs.Common.{◌≡◌, true, false, cond, List, [], ◌∷◌, ◌∙◌, ap, Some, None}
+use Rattle.std.proofs.Common.{◌≡◌, refl, true, false, cond, List, [], ◌∷◌, ◌∙◌, ap, Some, None}
 use Rattle.std.specs.List.{find, list_any}
 use Rattle.std.proofs.lemmas.Bool.{or_parts}
 use Rattle.vt_key.specs.Order.{rank_before}
@@ -7,10 +7,11 @@ use Rattle.vt_key.specs.Queues.{has_stamp, insert_letter, without_first}
 use Rattle.vt_key.specs.declared.order.Stamp.{Stamp}
 use Rattle.vt_key.specs.declared.letter.Event.{Event}
 use Rattle.vt_key.specs.declared.letter.Letter.{Letter}
+use Rattle.vt_key.specs.declared.letter.Sign.{Sign}
 use Rattle.vt_key.specs.declared.letter.Sign.TheVariants.{Plus, Minus}
 use Rattle.vt_steps.specs.Letters.{signed}
 use Rattle.vt_steps.specs.World.{LogicalProcess, entry_rank}
-use Rattle.vt_steps.specs.ProcessSteps.{ProcessEffect, holds, are_opposite, accept_process, cancel_process}
+use Rattle.vt_steps.specs.ProcessSteps.{ProcessEffect, holds, are_opposite, with_letter, accept_process, cancel_process}
 use Rattle.vt_steps.specs.Laws.{IsFreeOf, unchanged, Annihilate}
 use Rattle.vt_key.proofs.OrderLemmas.{same-stamp_same, same-key_same}
 use Rattle.vt_steps.proofs.steps.Changes.{unless_has}
@@ -65,26 +66,17 @@ module _ {P : Type 0} (event : Event P) (process : LogicalProcess P) (free : IsF
       ∙ ap (λ (xs : List (Letter P)). Some (unchanged (record process { waiting = xs })))
       (without-inserted stamp (signed Minus event) process.waiting (same-stamp_same stamp) free.waiting)
 
-  message_first : (with_one both : ProcessEffect P) → accept_process (signed Plus event) process ≡ Some with_one → accept_process (signed Minus event) with_one.process ≡ Some both →
+  -- whichever of the two came first
+  either_first : (first second : Sign) → with_letter (with_letter process first (signed first event)) second (signed second event) ≡ with_both →
+      (with_one both : ProcessEffect P) → accept_process (signed first event) process ≡ Some with_one → accept_process (signed second event) with_one.process ≡ Some both →
       cancel_process event.rank.stamp both.process ≡ Some (unchanged process)
-  unfolding accept_process with_both
-  message_first with_one both first second =
-      let one = unless_has (holds entry_rank process.pending process.waiting process.past Plus event.rank) _ with_one first in
-      let two = unless_has (holds entry_rank with_one.process.pending with_one.process.waiting with_one.process.past Minus event.rank) _ both second in
-      let is : both.process ≡ with_both = ap (λ e. e.process) two.1 ∙ ap (λ (e : ProcessEffect P). record (e.process) { waiting = insert_letter (signed Minus event) e.process.waiting }) one.1 in
-      ap (λ q. cancel_process event.rank.stamp q) is ∙ cancel-both
-
-  anti_message_first : (with_one both : ProcessEffect P) → accept_process (signed Minus event) process ≡ Some with_one → accept_process (signed Plus event) with_one.process ≡ Some both →
-      cancel_process event.rank.stamp both.process ≡ Some (unchanged process)
-  unfolding accept_process with_both
-  anti_message_first with_one both first second =
-      let one = unless_has (holds entry_rank process.pending process.waiting process.past Minus event.rank) _ with_one first in
-      let two = unless_has (holds entry_rank with_one.process.pending with_one.process.waiting with_one.process.past Plus event.rank) _ both second in
-      let is : both.process ≡ with_both = ap (λ e. e.process) two.1 ∙ ap (λ (e : ProcessEffect P). record (e.process) { pending = insert_letter (signed Plus event) e.process.pending }) one.1 in
+  unfolding accept_process
+  either_first first second together with_one both came followed =
+      let one = unless_has (holds entry_rank process.pending process.waiting process.past first event.rank) _ with_one came in
+      let two = unless_has (holds entry_rank with_one.process.pending with_one.process.waiting with_one.process.past second event.rank) _ both followed in
+      let is : both.process ≡ with_both = ap (λ e. e.process) two.1 ∙ ap (λ (e : ProcessEffect P). with_letter e.process second (signed second event)) one.1 ∙ together in
       ap (λ q. cancel_process event.rank.stamp q) is ∙ cancel-both
 
 pub annihilate : {P : Type 0} (event : Event P) (process : LogicalProcess P) → IsFreeOf event.rank.stamp process → Annihilate event process
-annihilate event process free = record {
-  message_first = message_first event process free;
-  anti_message_first = anti_message_first event process free;
-}
+unfolding with_both
+annihilate event process free = record { message_first = either_first event process free Plus Minus refl; anti_message_first = either_first event process free Minus Plus refl }

@@ -7,7 +7,7 @@ use Rattle.std.proofs.lemmas.List.Sums.{sum_by-cons, sum_by-append, sum_by-take-
 use Rattle.std.proofs.lemmas.Option.{slice_get_within}
 use Rattle.std.proofs.Math.ListN.{length-set}
 use Rattle.vt_key.specs.Order.{stamp_same}
-use Rattle.vt_key.specs.Queues.{has_stamp, without_first}
+use Rattle.vt_key.specs.Queues.{has_stamp, insert_letter, without_first}
 use Rattle.vt_key.specs.declared.letter.Event.{Event}
 use Rattle.vt_key.specs.declared.letter.Letter.{Letter}
 use Rattle.vt_key.specs.declared.letter.Mail.{Mail}
@@ -81,23 +81,16 @@ cancel-balance old stamp minus plus waits pends = record {
 pub letter-balance : {P : Type 0} (old : LogicalProcess P) (letter : Letter P) → ProcessBalance old (with_letter old letter.sign letter) (letter ∷ []) [] [] []
 letter-balance {P = P} old letter = by_sign letter.sign refl
   where
+    come : (sign : Sign) → letter.sign ≡ sign → (f : Sign → Event P → ℕ) (letters : List (Letter P)) → sum_by (λ l. f sign l.event) (insert_letter letter letters) ≡ sum_by (λ l. f sign l.event) letters + sum_by (letter_weight f) (letter ∷ [])
+    come sign is f letters =
+        let a = sum_by-insert_ordered (λ l. f sign l.event) letter letters in
+        let b = sum_by-single (letter_weight f) letter in
+        let c = ap (λ s. f s letter.event) is in
+        omega arith
+
     by_sign : (sign : Sign) → letter.sign ≡ sign → ProcessBalance old (with_letter old sign letter) (letter ∷ []) [] [] []
-    by_sign Plus is = record {
-      letters = λ f.
-          (let a = sum_by-insert_ordered (λ l. f Plus l.event) letter old.pending in
-          let b = sum_by-single (letter_weight f) letter in
-          let c = ap (λ s. f s letter.event) is in
-          omega arith);
-      entries = λ g. refl;
-    }
-    by_sign Minus is = record {
-      letters = λ f.
-          (let a = sum_by-insert_ordered (λ l. f Minus l.event) letter old.waiting in
-          let b = sum_by-single (letter_weight f) letter in
-          let c = ap (λ s. f s letter.event) is in
-          omega arith);
-      entries = λ g. refl;
-    }
+    by_sign Plus is = record { letters = λ f. (let a = come Plus is f old.pending in omega arith); entries = λ g. refl }
+    by_sign Minus is = record { letters = λ f. (let a = come Minus is f old.waiting in omega arith); entries = λ g. refl }
 
 -- ---- a part and a world
 

@@ -17,19 +17,23 @@ get-put_other (z ∷ zs) zero (suc j) y apart = refl
 get-put_other (z ∷ zs) (suc i) zero y apart = refl
 get-put_other (z ∷ zs) (suc i) (suc j) y apart = get-put_other zs i j y (λ e. apart (ap suc e))
 
--- what holds at each place holds at each after a write of what has it there
-pub all-put : {X : Type 0} (Q : ℕ → X → Type 0) (xs : List X) (i : ℕ) (x y : X) → slice_get xs i ≡ Some x → ((j : ℕ) (z : X) → slice_get xs j ≡ Some z → Q j z) → (Q i x → Q i y) →
+-- what holds at each other place, and of what was written at this one, holds at each
+pub all-written : {X : Type 0} (Q : ℕ → X → Type 0) (xs : List X) (i : ℕ) (x y : X) → slice_get xs i ≡ Some x → Q i y → ((j : ℕ) (z : X) → (j ≡ i → ⊥) → slice_get xs j ≡ Some z → Q j z) →
     (j : ℕ) (z : X) → slice_get (slice_set xs i y) j ≡ Some z → Q j z
-all-put Q xs i x y is all kept j z at =
+all-written Q xs i x y is here others j z at =
     elim (eqb_tells j i) [
       | inl e ↦
           (let there : slice_get (slice_set xs i y) i ≡ Some z = ap (λ k. slice_get (slice_set xs i y) k) (sym e.1) ∙ at in
-          let here : slice_get (slice_set xs i y) i ≡ Some y = get-put_same xs i x y is in
+          let put : slice_get (slice_set xs i y) i ≡ Some y = get-put_same xs i x y is in
           let same : y ≡ z = cc in
-          let q : Q i z = subst (λ u. Q i u) same (kept (all i x is)) in
-          subst (λ k. Q k z) (sym e.1) q)
-      | inr e ↦ all j z (sym (get-put_other xs i j y e.1) ∙ at)
+          subst (λ k. Q k z) (sym e.1) (subst (λ u. Q i u) same here))
+      | inr e ↦ others j z e.1 (sym (get-put_other xs i j y e.1) ∙ at)
     ]
+
+-- what holds at each place holds at each after a write of what has it there
+pub all-put : {X : Type 0} (Q : ℕ → X → Type 0) (xs : List X) (i : ℕ) (x y : X) → slice_get xs i ≡ Some x → ((j : ℕ) (z : X) → slice_get xs j ≡ Some z → Q j z) → (Q i x → Q i y) →
+    (j : ℕ) (z : X) → slice_get (slice_set xs i y) j ≡ Some z → Q j z
+all-put Q xs i x y is all kept = all-written Q xs i x y is (kept (all i x is)) (λ j z apart at. all j z at)
 
 -- and what holds at each place after a write held at each before it
 pub all-unput : {X : Type 0} (Q : ℕ → X → Type 0) (xs : List X) (i : ℕ) (x y : X) → slice_get xs i ≡ Some x → ((j : ℕ) (z : X) → slice_get (slice_set xs i y) j ≡ Some z → Q j z) → (Q i y → Q i x) →

@@ -115,19 +115,13 @@ inbox_acts world action w v acts part cell is holds =
     let has = map_has in_inbox (slice_get world.inboxes v) cell holds in
     subst (λ c. done_in world action ≡ put_back world w (inbox_of v) (done_at action part c)) (sym has.2) (acts part has.0 is has.1)
 
-board_acts : {P : Type 0} (world : World P) (action : Action P) (w : ℕ) →
-    ((part : Part P) → slice_get world.parts w ≡ Some part → done_in world action ≡ put_back world w board_cell (done_at action part (on_board world.board))) →
-    Acts world action w board_cell
-board_acts world action w acts part cell is holds =
-    let same : on_board world.board ≡ cell = cc in
-    subst (λ c. done_in world action ≡ put_back world w board_cell (done_at action part c)) same (acts part is)
-
-book_cell_acts : {P : Type 0} (world : World P) (action : Action P) (w : ℕ) →
-    ((part : Part P) → slice_get world.parts w ≡ Some part → done_in world action ≡ put_back world w book_cell (done_at action part (in_book world.book))) →
-    Acts world action w book_cell
-book_cell_acts world action w acts part cell is holds =
-    let same : in_book world.book ≡ cell = cc in
-    subst (λ c. done_in world action ≡ put_back world w book_cell (done_at action part c)) same (acts part is)
+-- at a cell whose content is known
+known_acts : {P : Type 0} (world : World P) (action : Action P) (w : ℕ) (name : CellName) (there : Cell P) → content world name ≡ Some there →
+    ((part : Part P) → slice_get world.parts w ≡ Some part → done_in world action ≡ put_back world w name (done_at action part there)) →
+    Acts world action w name
+known_acts world action w name there found acts part cell is holds =
+    let same : there ≡ cell = cc in
+    subst (λ c. done_in world action ≡ put_back world w name (done_at action part c)) same (acts part is)
 
 done-acts : {P : Type 0} (world : World P) (action : Action P) (w : ℕ) (name : CellName) →
     IsAny (action_worker action) w → IsAny (action_cell action) name → Acts world action w name
@@ -136,13 +130,13 @@ done-acts world (at_inbox v u step) w name whose at =
     at_named world (at_inbox v u step) v w (inbox_of u) name whose at (inbox_acts world (at_inbox v u step) v u (λ part inbox is there.
     cell-acts world v (inbox_of u) (with_inbox u) in_inbox step (slice_get world.inboxes u) part inbox (λ new c. refl) is there (ap (option_map in_inbox) there)))
 done-acts world (at_board v step) w name whose at =
-    at_named world (at_board v step) v w board_cell name whose at (board_acts world (at_board v step) v (λ part is.
+    at_named world (at_board v step) v w board_cell name whose at (known_acts world (at_board v step) v board_cell (on_board world.board) refl (λ part is.
     cell-acts world v board_cell with_board on_board step (Some world.board) part world.board (λ new c. refl) is refl refl))
 done-acts world (at_book v step) w name whose at =
-    at_named world (at_book v step) v w book_cell name whose at (book_cell_acts world (at_book v step) v (λ part is.
+    at_named world (at_book v step) v w book_cell name whose at (known_acts world (at_book v step) v book_cell (in_book world.book) refl (λ part is.
     book-acts world v part _ _ is (cell-acts world v book_cell with_book in_book step (Some world.book) part world.book (λ new c. refl) is refl refl)))
 done-acts world (on_book step) w name whose at =
-    at_named world (on_book step) w w book_cell name refl at (book_cell_acts world (on_book step) w (λ part is.
+    at_named world (on_book step) w w book_cell name refl at (known_acts world (on_book step) w book_cell (in_book world.book) refl (λ part is.
     book-acts world w part _ _ is (close-acts world w part (step world.book) is)))
 
 -- ---- a worker or a cell that is not there
