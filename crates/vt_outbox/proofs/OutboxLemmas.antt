@@ -1,7 +1,8 @@
 -- An outbox's letters, sorted by the workers of their receivers.
-use Rattle.std.proofs.Common.{◌≡◌, ◌∙◌, ℕ, ◌+◌, ◌-◌, ◌%◌, ◌^◌, ◌<◌, ◌≤◌, append-nil, Bool, true, false, not, cond, nat_eq, nat_lt, ◌||◌, if◌then◌else◌, List, [], ◌∷◌, ◌++◌, length, drop, replicate, Option, Some, None, IfNone, IsTrue, slice_get, slice_set, refl, sym, ap, subst, inl, inr, arith}
+use Rattle.std.proofs.Common.{◌≡◌, ◌∙◌, ℕ, ◌+◌, ◌-◌, ◌%◌, ◌^◌, ◌<◌, ◌≤◌, append-nil, Bool, true, false, not, cond, nat_eq, nat_lt, ◌||◌, if◌then◌else◌, List, [], ◌∷◌, ◌++◌, length, drop, replicate, Option, Some, None, IfNone, IsTrue, slice_get, slice_set, slice_index_or, refl, sym, ap, subst, inl, inr, arith}
 use native.Mathlib.Nat.{mod-lt}
 use Rattle.std.specs.List.{filter, find, list_any}
+use Rattle.std.proofs.lemmas.Option.{slice_get_read}
 use Rattle.std.proofs.lemmas.Bool.Decides.{eqb_tells, nat_tests}
 use Rattle.std.proofs.lemmas.List.{length-append, length-replicate, length-set}
 use Rattle.std.proofs.lemmas.List.Elements.{filter-append}
@@ -12,7 +13,7 @@ use Rattle.vt_key.specs.declared.letter.Letter.{Letter}
 use Rattle.vt_model.specs.declared.settings.Config.{Config}
 use Rattle.vt_steps.specs.Letters.{least_time}
 use Rattle.vt_steps.specs.PartSteps.{is_for}
-use Rattle.vt_steps.proofs.lists.Places.{get-put_same, get-put_other, get-replicate}
+use Rattle.vt_steps.proofs.lists.Places.{all-written, get-replicate}
 use Rattle.vt_outbox.specs.Outbox.{HeldOutbox, IsSorted}
 use Rattle.vt_outbox.proofs.PartingLemmas.{passes, fails}
 
@@ -124,18 +125,11 @@ module _ {X : Type 0} (test : X → Bool) where
           | false ↦ λ e. ap (λ (ys : List X). cond (other x) (x ∷ ys) ys) (filter-others_other xs)
         ] refl
 
--- what holds at each other place, and of what was written at this one
-pub all-written : {X : Type 0} (Q : ℕ → X → Type 0) (xs : List X) (i : ℕ) (x y : X) → slice_get xs i ≡ Some x → Q i y → ((j : ℕ) (z : X) → (j ≡ i → ⊥) → slice_get xs j ≡ Some z → Q j z)
-    → (j : ℕ) (z : X) → slice_get (slice_set xs i y) j ≡ Some z → Q j z
-all-written Q xs i x y is here others j z at =
-    elim (eqb_tells j i) [
-      | inl e ↦
-          (let there : slice_get (slice_set xs i y) i ≡ Some z = ap (λ k. slice_get (slice_set xs i y) k) (sym e.1) ∙ at in
-          let put : slice_get (slice_set xs i y) i ≡ Some y = get-put_same xs i x y is in
-          let same : y ≡ z = cc in
-          subst (λ k. Q k z) (sym e.1) (subst (λ u. Q i u) same here))
-      | inr e ↦ others j z e.1 (sym (get-put_other xs i j y e.1) ∙ at)
-    ]
+-- the list that was read at the number of a worker of what a contract sees is there
+pub list-read : {P : Type 0} {config : Config} {lists : List (List (Letter P))} {count : ℕ} {letters : List (Letter P)} → IsSorted config lists count letters
+    → (outbox : HeldOutbox P) → record { config = config; letters = letters } ≡ outbox → (v : ℕ) → v < outbox.config.workers → (list : List (Letter P)) → list ≡ slice_index_or lists v list → slice_get lists v ≡ Some list
+list-read {config = config} {lists = lists} sorted outbox is v known list was_read =
+    slice_get_read lists config.workers v list (sym sorted.all_there) (subst (λ (o : HeldOutbox _). v < o.config.workers) (sym is) known) was_read
 
 -- what holds where an index finds nothing
 pub if-none : {X : Type 0} (found : Option X) (v n : ℕ) (Q : Type 0) → is_some found ≡ nat_lt v n → (n ≤ v → Q) → IfNone found Q

@@ -1,10 +1,9 @@
-use Rattle.std.proofs.Common.{◌≡◌, ◌∙◌, ◌<◌, slice_set, Some, ap, subst, sym, refl}
+use Rattle.std.proofs.Common.{◌≡◌, ◌∙◌, slice_set, Some, ap, subst, sym, refl}
 use Rattle.std.specs.List.{find}
-use Rattle.std.proofs.lemmas.Option.{slice_get_read}
 use Rattle.vt_steps.specs.PartSteps.{is_for}
 use Rattle.vt_key.specs.Queues.{without_first}
 use Rattle.vt_outbox.specs.Outbox.{HeldOutbox, IsSorted}
-use Rattle.vt_outbox.proofs.OutboxLemmas.{sorted-back}
+use Rattle.vt_outbox.proofs.OutboxLemmas.{list-read, sorted-back}
 use Rattle.vt_outbox.proofs.outbox.Outbox.put_back.Goals as goal
 
 pub invariant_of-self : goal.invariant_of-self
@@ -12,10 +11,8 @@ invariant_of-self g c =
     let i = c.self.inside in
     let v = c.args.v in
     let before = c.args.before.now.value.letters in
-    let all = c.self.invariant.all_there in
     let same : i.config ≡ c.args.self.now.config = ap (λ (o : HeldOutbox _). o.config) c.self.view_is in
-    let known : v < i.config.workers = subst (λ (o : HeldOutbox _). v < o.config.workers) (sym c.self.view_is) c.requires.1.0 in
-    let there = slice_get_read i.lists.items i.config.workers v c.index_mut.result.now (sym all) known c.index_mut.ensures.value in
+    let there = list-read c.self.invariant c.args.self.now c.self.view_is v c.requires.1.0 c.index_mut.result.now c.index_mut.ensures.value in
     let found = subst (λ (o : HeldOutbox _). find (is_for o.config.workers v) before ≡ Some c.args.letter) (sym c.self.view_is) c.requires.1.1.1.0 in
     let left : i.all.items ≡ without_first (is_for i.config.workers v) before =
     ap (λ (o : HeldOutbox _). o.letters) (c.self.view_is ∙ c.requires.1.1.1.1) ∙ ap (λ (o : HeldOutbox _). without_first (is_for o.config.workers v) before) (sym c.self.view_is) in
