@@ -120,6 +120,15 @@ module _ {X : Type 0} where
   pub items-append : (bs cs : List (NodeAt X)) → items (bs ++ cs) ≡ items bs ++ items cs
   items-append bs cs = map-append (λ b. b.1.item) bs cs
 
+  -- where there is no last node, no items are seen
+  pub no-items : (last : Option Ptr) (bs : List (NodeAt X)) (seen : List X) → items bs ≡ seen → last ≡ last_or None bs → last ≡ None → seen ≡ []
+  no-items last bs seen view is none = sym view ∙ ap items (no-last bs (sym is ∙ none))
+
+  -- the items of nodes of which the last one now leads on, and of those behind them
+  pub items-joined : (z : Option Ptr) (bs cs all : List (NodeAt X)) (front behind : List X) → all ≡ with_next z bs ++ cs → items bs ≡ front → items cs ≡ behind → items all ≡ front ++ behind
+  items-joined z bs cs all front behind is first rest =
+      ap items is ∙ items-append (with_next z bs) cs ∙ (λ i. (items-with_next z bs ∙ first) i ++ rest i)
+
   -- after a link is written, all nodes lead on and back as before, but for that link
   pub on-with_next : (y z : Option Ptr) (bs : List (NodeAt X)) → LeadOn bs y → LeadOn (with_next z bs) z
   on-with_next y z [] on = tt
@@ -187,14 +196,15 @@ module _ {X : Type 0} where
   join-chain h t n l p q (b ∷ bs) [] one other t_is n_is = absurd (none-some q (sym other.head_is ∙ n_is))
   join-chain h t n l p q (b ∷ bs) (c ∷ cs) one other t_is n_is = join-more h t n l b c bs cs one other
 
-  -- nodes of a chain lead on to others where the last link is written
-  pub chain-leads : (h t n : Option Ptr) (p : Ptr) (bs cs : List (NodeAt X)) → t ≡ Some p → IsChain h t bs → n ≡ first_or None cs → LeadOn cs None
-      → (h ≡ first_or None (with_next n bs ++ cs)) × LeadOn (with_next n bs ++ cs) None
-  chain-leads h t n p [] cs is chain next on = absurd (none-some p (sym chain.tail_is ∙ is))
-  chain-leads h t n p (b ∷ bs) cs is chain next on =
-      let front : List (NodeAt X) = with_next n (b ∷ bs) in (
-        chain.head_is ∙ sym (first-append None front cs ∙ first-with_next (first_or None cs) n (b ∷ bs)),
-        on-append None front cs (subst (LeadOn front) next (on-with_next None n (b ∷ bs) chain.on)) on,
+  -- nodes lead on to others where the link of the last one is written
+  pub leads-joined : (head last next z : Option Ptr) (p : Ptr) (bs cs all : List (NodeAt X)) → all ≡ with_next z bs ++ cs → last ≡ Some p → head ≡ first_or next bs → last ≡ last_or None bs → LeadOn bs next
+      → z ≡ first_or None cs → LeadOn cs None → (head ≡ first_or None all) × LeadOn all None
+  leads-joined head last next z p [] cs all is ends head_is last_is on at behind = absurd (none-some p (sym last_is ∙ ends))
+  leads-joined head last next z p (b ∷ bs) cs all is ends head_is last_is on at behind =
+      let front : List (NodeAt X) = with_next z (b ∷ bs) in
+      subst (λ (xs : List (NodeAt X)). (head ≡ first_or None xs) × LeadOn xs None) (sym is) (
+        head_is ∙ sym (first-append None front cs ∙ first-with_next (first_or None cs) z (b ∷ bs)),
+        on-append None front cs (subst (LeadOn front) at (on-with_next next z (b ∷ bs) on)) behind,
       )
 
   front-more : (h t last next : Option Ptr) (b : NodeAt X) (bs ahead : List (NodeAt X)) → IsPlace h t last next (b ∷ bs) ahead → IsChain h last (with_next None (b ∷ bs))

@@ -1,11 +1,11 @@
--- The first nodes of a trail: one node more, and joined to others.
+-- The first nodes of a trail: one node more.
 use Rattle.std.proofs.Common.{◌≡◌, sym, ap, ◌∙◌, subst}
 use Rattle.std.specs.Prelude.{List, [], ◌∷◌, ◌++◌, take, drop, Option, Some, None, slice_index_or}
 use Rattle.std.proofs.lemmas.Option.{none-some}
 use denote.RawPtr.{Ptr}
 use Rattle.vt_nodes.specs.declared.node.Node.{Node}
-use Rattle.vt_nodes.specs.Linked.{NodeAt, first_or, with_next, LeadOn, IsBeginning, IsPath}
-use Rattle.vt_nodes.proofs.Links.{first-append, last-append, first-with_next, on-with_next, on-append}
+use Rattle.vt_nodes.specs.Linked.{NodeAt, first_or, LeadOn, IsPath}
+use Rattle.vt_nodes.proofs.Links.{first-append, last-append, on-append}
 
 module _ {X : Type 0} where
   -- one node further
@@ -23,13 +23,3 @@ module _ {X : Type 0} where
         next_is = after ∙ path.on.0;
         on = path.on.1;
       }
-
-  -- the first nodes, where the last one now leads on to the first of other nodes, and these
-  pub join-beginning : (head last next h : Option Ptr) (p : Ptr) (bs cs : List (NodeAt X)) → last ≡ Some p → IsBeginning head last next bs → h ≡ first_or None cs → LeadOn cs None
-      → (head ≡ first_or None (with_next h bs ++ cs)) × LeadOn (with_next h bs ++ cs) None
-  join-beginning head last next h p [] cs is begun at on = absurd (none-some p (sym begun.last_is ∙ is))
-  join-beginning head last next h p (b ∷ bs) cs is begun at on =
-      let front : List (NodeAt X) = with_next h (b ∷ bs) in (
-        begun.head_is ∙ sym (first-append None front cs ∙ first-with_next (first_or None cs) h (b ∷ bs)),
-        on-append None front cs (subst (LeadOn front) at (on-with_next next h (b ∷ bs) begun.on)) on,
-      )

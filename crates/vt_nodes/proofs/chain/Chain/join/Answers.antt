@@ -1,15 +1,13 @@
 use Rattle.std.proofs.Common.{◌++◌, sym, ap, ◌∙◌, subst}
-use Rattle.vt_nodes.specs.Linked.{IsChain, items, with_next, with_prev}
-use Rattle.vt_nodes.proofs.Links.{join-chain, no-last, items-append, items-with_next, items-with_prev}
+use Rattle.vt_nodes.specs.Linked.{IsChain, with_prev}
+use Rattle.vt_nodes.proofs.Links.{join-chain, no-items, items-joined, items-with_prev}
 use Rattle.vt_nodes.proofs.chain.Chain.join.Goals as goal
 
 pub end-requires : goal.end-requires
-end-requires g c = sym c.self.view_is ∙ ap items (no-last c.self.inside.nodes.owned (sym c.self.invariant.tail_is ∙ sym c.place.ensures ∙ c.in_default.is))
+end-requires g c = no-items _ c.self.inside.nodes.owned _ c.self.view_is c.self.invariant.tail_is (sym c.place.ensures ∙ c.in_default.is)
 
 pub returns-in_default : goal.returns-in_default
-returns-in_default g c =
-    let none = sym c.self.view_is ∙ ap items (no-last c.self.inside.nodes.owned (sym c.self.invariant.tail_is ∙ sym c.place.ensures ∙ c.in_default.is)) in
-    c.other.view_is ∙ ap (λ xs. xs ++ c.args.other) (sym none)
+returns-in_default g c = c.other.view_is ∙ ap (λ xs. xs ++ c.args.other) (sym (no-items _ c.self.inside.nodes.owned _ c.self.view_is c.self.invariant.tail_is (sym c.place.ensures ∙ c.in_default.is)))
 
 pub invariant_of-result-2 : goal.invariant_of-result-2
 invariant_of-result-2 g c =
@@ -20,6 +18,5 @@ invariant_of-result-2 g c =
 pub returns : goal.returns
 returns g c =
     let s = c.self.inside in let o = c.other.inside in
-    ap items (c.append.ensures ∙ (λ i. c.set_last_next-front.ensures i ++ c.set_first_prev-back.ensures i))
-    ∙ items-append (with_next o.head s.nodes.owned) (with_prev s.tail o.nodes.owned)
-    ∙ (λ i. items-with_next o.head s.nodes.owned i ++ items-with_prev s.tail o.nodes.owned i) ∙ (λ i. c.self.view_is i ++ c.other.view_is i)
+    items-joined o.head s.nodes.owned (with_prev s.tail o.nodes.owned) _ _ _ (c.append.ensures ∙ (λ i. c.set_last_next-front.ensures i ++ c.set_first_prev-back.ensures i)) c.self.view_is
+    (items-with_prev s.tail o.nodes.owned ∙ c.other.view_is)

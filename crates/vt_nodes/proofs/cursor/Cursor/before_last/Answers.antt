@@ -1,12 +1,11 @@
 use Rattle.std.proofs.Common.{rules, [], ◌-◌, length, take, drop, sym, ap, ◌∙◌, arith}
 use Rattle.vt_nodes.specs.Blocks.{place_at}
-use Rattle.vt_nodes.specs.Linked.{items}
-use Rattle.vt_nodes.proofs.Links.{last-of, drop-last, last-place, no-last}
+use Rattle.vt_nodes.proofs.Links.{last-of, drop-last, last-place, no-items}
 use Rattle.vt_nodes.proofs.cursor.Cursor.before_last.Goals as goal
 
 pub returns-in_default : goal.returns-in_default
 returns-in_default g c =
-    let none = sym c.chain.view_is ∙ ap items (no-last c.chain.inside.nodes.owned (sym c.chain.invariant.tail_is ∙ sym c.place.ensures ∙ c.in_default.is)) in
+    let none = no-items _ c.chain.inside.nodes.owned _ c.chain.view_is c.chain.invariant.tail_is (sym c.place.ensures ∙ c.in_default.is) in
     c.at_front.ensures ∙ (λ i. ([], none i)) ∙ sym (λ i. (take (length (none i) - 1) (none i), drop (length (none i) - 1) (none i)))
 
 pub get-requires : goal.get-requires
