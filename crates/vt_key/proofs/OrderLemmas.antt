@@ -22,33 +22,26 @@ key-asymmetric a b h k = grind arith
 pub numbers-apart : (a b : ℕ) → (a < b) ⊎ ((a ≡ b) ⊎ (b < a))
 numbers-apart a b = elim (cases_order a b) [ inl e ↦ inr (inl e) | inr h ↦ elim h [ inl l ↦ inl l | inr l ↦ inr (inr l) ] ]
 
+-- by a first part, and where that is one by a second, one comes before, or both parts are one
+parts-apart : {X L M P Q E : Type 0} {x y : X} → L ⊎ ((x ≡ y) ⊎ M) → P ⊎ (E ⊎ Q) → (L ⊎ ((x ≡ y) × P)) ⊎ (((x ≡ y) × E) ⊎ (M ⊎ ((y ≡ x) × Q)))
+parts-apart first second = elim first [
+  | inl l ↦ inl (inl l)
+  | inr h ↦ elim h [
+    | inr m ↦ inr (inr (inl m))
+    | inl e ↦ elim second [ inl p ↦ inl (inr (e, p)) | inr k ↦ elim k [ inl f ↦ inr (inl (e, f)) | inr q ↦ inr (inr (inr (sym e, q))) ] ]
+  ]
+]
+
+-- what is one by its parts is one
+one-by : {L M E F : Type 0} → (E → F) → L ⊎ (E ⊎ M) → L ⊎ (F ⊎ M)
+one-by f order = elim order [ inl l ↦ inl l | inr h ↦ elim h [ inl e ↦ inr (inl (f e)) | inr m ↦ inr (inr m) ] ]
+
 same_fields : (a b : Key) → a.time ≡ b.time → a.source ≡ b.source → a.number ≡ b.number → a ≡ b
 same_fields a b e f g = λ i. record { time = e i; source = f i; number = g i }
 
 pub key-total : (a b : Key) → KeyBefore a b ⊎ ((a ≡ b) ⊎ KeyBefore b a)
 key-total a b =
-    elim (numbers-apart a.time b.time) [
-      | inl h ↦ inl (inl h)
-      | inr h ↦ elim h [
-        | inr k ↦ inr (inr (inl k))
-        | inl e ↦
-            elim (numbers-apart a.source b.source) [
-              | inl h ↦ inl (inr (e, inl h))
-              | inr h ↦ elim h [
-                | inr k ↦ inr (inr (inr (sym e, inl k)))
-                | inl f ↦
-                    elim (numbers-apart a.number b.number) [
-                      | inl h ↦ inl (inr (e, inr (f, h)))
-                      | inr h ↦ elim h [
-                        | inr k ↦ inr (inr (inr (sym e, inr (sym f, k))))
-                        | inl g ↦
-                            inr (inl (same_fields a b e f g))
-                      ]
-                    ]
-              ]
-            ]
-      ]
-    ]
+    one-by (λ e. same_fields a b e.0 e.1.0 e.1.1) (parts-apart (numbers-apart a.time b.time) (parts-apart (numbers-apart a.source b.source) (numbers-apart a.number b.number)))
 
 pub key_before-true : (a b : Key) → key_before a b ≡ true → KeyBefore a b
 unfolding key_before
@@ -80,21 +73,7 @@ stamp-transitive a b c h k = grind arith
 
 pub stamp-total : (a b : Stamp) → StampBefore a b ⊎ ((a ≡ b) ⊎ StampBefore b a)
 stamp-total a b =
-    elim (numbers-apart a.worker b.worker) [
-      | inl h ↦ inl (inl h)
-      | inr h ↦ elim h [
-        | inr k ↦ inr (inr (inl k))
-        | inl e ↦
-            elim (numbers-apart a.serial b.serial) [
-              | inl h ↦ inl (inr (e, h))
-              | inr h ↦ elim h [
-                | inr k ↦ inr (inr (inr (sym e, k)))
-                | inl f ↦
-                    inr (inl (λ i. record { worker = e i; serial = f i }))
-              ]
-            ]
-      ]
-    ]
+    one-by (λ e. (let w = e.0 in let s = e.1 in λ i. record { worker = w i; serial = s i })) (parts-apart (numbers-apart a.worker b.worker) (numbers-apart a.serial b.serial))
 
 pub stamp_before-true : (a b : Stamp) → stamp_before a b ≡ true → StampBefore a b
 unfolding stamp_before
@@ -127,21 +106,8 @@ rank-transitive a b c h k = elim h [
 ]
 
 pub rank-total : (a b : Rank) → RankBefore a b ⊎ ((a ≡ b) ⊎ RankBefore b a)
-rank-total a b = elim (key-total a.key b.key) [
-  | inl h ↦ inl (inl h)
-  | inr h ↦ elim h [
-    | inr k ↦ inr (inr (inl k))
-    | inl e ↦
-        elim (stamp-total a.stamp b.stamp) [
-          | inl l ↦ inl (inr (e, l))
-          | inr l ↦ elim l [
-            | inr m ↦ inr (inr (inr (sym e, m)))
-            | inl f ↦
-                inr (inl (λ i. record { key = e i; stamp = f i }))
-          ]
-        ]
-  ]
-]
+rank-total a b =
+    one-by (λ e. (let k = e.0 in let s = e.1 in λ i. record { key = k i; stamp = s i })) (parts-apart (key-total a.key b.key) (stamp-total a.stamp b.stamp))
 
 pub rank_before-true : (a b : Rank) → rank_before a b ≡ true → RankBefore a b
 unfolding rank_before key_before key_same stamp_before
