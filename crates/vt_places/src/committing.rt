@@ -1,8 +1,8 @@
 //! The book: commit, close and what it shows.
 
-ghost use Rattle.std.specs.Prelude.{◌≡◌, ◌<◌, [], IfOk, IfErr, MatchResult};
+ghost use Rattle.std.specs.Prelude.{◌≡◌, ◌<◌, [], Err, IfOk, IfErr, MatchResult};
 ghost use Rattle.vt_key.specs.Times.{Time as TimeValue};
-ghost use Rattle.vt_key.specs.declared.fault.Fault.TheVariants.{Busy};
+ghost use Rattle.vt_key.specs.declared.fault.Fault.TheVariants.{Busy, NotLawful};
 ghost use Rattle.vt_model.specs.Simulation.{simulation_of};
 ghost use Rattle.vt_model.specs.Settings.{end_of};
 ghost use Rattle.vt_steps.specs.declared.step.Step.TheVariants as step;
@@ -173,6 +173,7 @@ impl<M: EventModel> Station<M> {
             (λ _. Stays (place_view place.old) (place_view place.new)) }
         ensures unchanged { IfErr result (λ _. records.new.items ≡ records.old.items) }
         ensures refused { IfErr result (λ fault. IsHandOutRefusal (simulation_of (M.handlers (station_model self.now)) (station_config self.now)) fault) }
+        ensures alone { (station_config self.now).workers ≡ 1 → result ≡ Err NotLawful }
     {
         if self.workers == 1 {
             return Err(Fault::NotLawful);

@@ -322,6 +322,7 @@ impl<'a, M: EventModel> Worker<'a, M> {
             (λ _. Stays self.old.view self.new.view) }
         ensures unchanged { IfErr result (λ _. records.new.items ≡ records.old.items) }
         ensures refused { IfErr result (λ fault. IsHandOutRefusal (simulation_of (M.handlers self.old.model) self.old.config) fault) }
+        ensures alone { self.old.config.workers ≡ 1 → result ≡ Err NotLawful }
     {
         self.station.hand_out(&mut self.place, from, records)
     }

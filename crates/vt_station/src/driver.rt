@@ -1,6 +1,7 @@
 //! The turns of a worker.
 
-ghost use Rattle.std.specs.Prelude.{◌≡◌, IfErr, IfSome, MatchResult};
+ghost use Rattle.std.specs.Prelude.{◌≡◌, Err, IfErr, IfSome, MatchResult};
+ghost use Rattle.vt_key.specs.declared.fault.Fault.TheVariants.{NotLawful};
 ghost use Rattle.vt_key.specs.Times.{Time as TimeValue};
 ghost use Rattle.vt_model.specs.Simulation.{simulation_of};
 ghost use Rattle.vt_steps.specs.Finals.{worker_finals};
@@ -178,6 +179,7 @@ impl<'a, M: EventModel> Driver<'a, M> {
             (λ _. Stays self.old.view self.new.view) }
         ensures unchanged { IfErr result (λ _. records.new.items ≡ records.old.items) }
         ensures refused { IfErr result (λ fault. IsHandOutRefusal (simulation_of (M.handlers self.old.model) self.old.config) fault) }
+        ensures alone { self.old.config.workers ≡ 1 → result ≡ Err NotLawful }
     {
         self.station.hand_out(&mut self.place, from, records)
     }

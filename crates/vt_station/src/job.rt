@@ -121,6 +121,7 @@ fn hand_out_none(config: Config, from: usize, records: &mut Vec<Record>) -> Resu
     ensures none { IfOk result (λ _. (from ≡ 0) × (records.new.items ≡ [])) }
     ensures unchanged { IfErr result (λ _. records.new.items ≡ records.old.items) }
     ensures refused { IfErr result (λ fault. ((fault ≡ NotLawful) × (config.workers ≡ 1)) ⊎ ((fault ≡ Busy) × (1 < config.workers))) }
+    ensures alone { config.workers ≡ 1 → result ≡ Err NotLawful }
 {
     if config.workers == 1 {
         return Err(Fault::NotLawful);
@@ -204,6 +205,7 @@ impl<'a, M: EventModel> Job<'a, M> {
         ensures piece { IfOk result (λ _. (floor : TimeValue) × IsPieceOf (simulation_of (M.handlers self.old.model) self.old.config) from records.new.items floor × (self.old.outcome ≡ Some Closed → floor ≡ end_of self.old.config)) }
         ensures unchanged { IfErr result (λ _. records.new.items ≡ records.old.items) }
         ensures refused { IfErr result (λ fault. IsHandOutRefusal (simulation_of (M.handlers self.old.model) self.old.config) fault) }
+        ensures alone { self.old.config.workers ≡ 1 → result ≡ Err NotLawful }
     {
         match &mut self.post {
             Some(Post::Begun(driver)) => driver.hand_out(from, records),

@@ -1,8 +1,8 @@
 //! A run in pieces, after each of which its records are handed out.
 
-ghost use Rattle.std.specs.Prelude.{◌≡◌, length, IfOk, IfErr};
+ghost use Rattle.std.specs.Prelude.{◌≡◌, length, Err, IfOk, IfErr};
 ghost use Rattle.vt_key.specs.Times.{Time as TimeValue};
-ghost use Rattle.vt_key.specs.declared.fault.Fault.TheVariants.{Memory};
+ghost use Rattle.vt_key.specs.declared.fault.Fault.TheVariants.{Memory, NotLawful};
 ghost use Rattle.vt_model.specs.Simulation.{simulation_of};
 ghost use Rattle.vt_model.specs.Settings.{end_of};
 ghost use Rattle.vt_places.specs.Told.{station_model, station_config, station_table};
@@ -127,6 +127,7 @@ impl<'a, M: EventModel> Crew<'a, M> {
         ensures piece { IfOk result (λ _. (floor : TimeValue) × IsPieceOf (simulation_of (M.handlers self.old.model) self.old.config) from records.new.items floor × (self.old.standing ≡ Whole → floor ≡ end_of self.old.config)) }
         ensures unchanged { IfErr result (λ _. records.new.items ≡ records.old.items) }
         ensures refused { IfErr result (λ fault. IsHandOutRefusal (simulation_of (M.handlers self.old.model) self.old.config) fault) }
+        ensures alone { self.old.config.workers ≡ 1 → result ≡ Err NotLawful }
     {
         let reader = closer_of(self.jobs.as_slice()).unwrap_or(0);
         let Some(job) = self.jobs.get_mut(reader) else {
