@@ -29,7 +29,7 @@
 //! A list may be longer than a counter can tell. So no call relies on the count: a missing neighbour marks an end, and
 //! [`List::len`] is exact modulo 2^64. A [`Predicate`] chooses what comes out of the middle of a list, in one walk.
 //!
-//! Lists, lines, stacks and parcels stay in the thread that made them: they hold raw pointers, and are not `Send`.
+//! Lists, lines, stacks and parcels belong to no thread: each may go to another one if its items may.
 //!
 //! Nodes, their links and who owns them are in `vt_nodes`. The types here add an allocator, a count and iterators.
 #![tactic(auto)]
