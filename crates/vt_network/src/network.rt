@@ -7,6 +7,7 @@ ghost use Rattle.vt_key.specs.declared.limits.TheConstants.{MAX_PROCESSES};
 ghost use Rattle.vt_model.specs.declared.limits.TheConstants.{MAX_SENDS, MAX_RECORDS};
 ghost use Rattle.vt_model.specs.Sends.{with_requests};
 ghost use Rattle.vt_parts.specs.Ring.{first};
+ghost use Rattle.vt_network.specs.declared.network.TheConstants.{MAX_TICKS};
 ghost use Rattle.vt_network.specs.Options.{first_bad_option};
 
 use crate::packet::{BLANK, Buffer, Packet, ROOM};
@@ -66,9 +67,14 @@ pub struct Network {
     pub service: u32,
     /// The ticks that a packet needs on a link, from 1 to 1,000,000.
     pub link: u32,
+    ghost some_columns: { 1 ≤ columns },
+    ghost few_columns: { columns ≤ MAX_PROCESSES },
     ghost some_gap: { 1 ≤ gap },
+    ghost short_gap: { gap ≤ MAX_TICKS },
     ghost some_service: { 1 ≤ service },
+    ghost short_service: { service ≤ MAX_TICKS },
     ghost some_link: { 1 ≤ link },
+    ghost short_link: { link ≤ MAX_TICKS },
 }
 
 impl Network {

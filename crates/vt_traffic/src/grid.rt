@@ -58,6 +58,7 @@ pub struct Traffic {
     pub travel: u32,
     /// The percentage of cars that turn, from 0 to 100.
     pub turning: u32,
+    ghost some_columns: { 1 ≤ columns },
     ghost few_columns: { columns ≤ MAX_PROCESSES },
     ghost few_cars: { cars ≤ MAX_CARS },
     ghost some_green: { 1 ≤ green },
