@@ -4,7 +4,8 @@
 ghost use Rattle.std.specs.Prelude.{◌≡◌, ◌+◌, ◌-◌, ◌%◌, ◌<◌, ◌≤◌, ◌^◌, []};
 ghost use Rattle.vt_stream.specs.Words.{moved};
 ghost use Rattle.vt_model.specs.Handler.{IsFresh};
-ghost use Rattle.vt_model.specs.Simulation.{simulation_of, IsFiring};
+ghost use Rattle.vt_model.specs.Sends.{with_requests};
+ghost use Rattle.vt_model.specs.Simulation.{simulation_of, words_at, IsFiring};
 ghost use Rattle.vt_model.specs.Process.{triple_at, IsProcessStream};
 ghost use Rattle.vt_model.specs.Settings.{end_of};
 
@@ -36,11 +37,15 @@ pub struct Undo<M: EventModel> {
 impl<M: EventModel> Process<M> {
     /// Starts logical process `lp`, which is below `config.lps`, by the model's `start`. What it sends goes into `out`, which
     /// is as [`Out::new`] gives it for this config and process at time 0, with 0 as the next send number.
+    ///
+    /// Afterwards the next send number in `out` is the number of events that `start` asks to be sent, and its sends are those
+    /// of them that would be received before the end. All else in it is as before, so it holds no record.
     pub fn start(model: &M, config: Config, lp: u32, out: &mut Out<M::Payload>) -> Process<M>
         requires known { lp < config.lps }
         requires fresh { out.old ≡ record { lps = config.lps; end = (end_of config); lp = lp; time = 0; first = 0; number = 0; sends = []; records = [] } }
         ensures triple { triple_at result.state result.number result.stream ≡ ((simulation_of (M.handlers model.now) config).start lp).triple }
         ensures sends { out.new.sends ≡ ((simulation_of (M.handlers model.now) config).start lp).sends }
+        ensures out { out.new ≡ with_requests out.old ((M.handlers model.now).start config.lps lp (words_at config.seed lp 0)).send_requests [] }
         ensures stream { IsProcessStream config.seed lp result.stream }
         ensures few { result.number ≤ MAX_SENDS }
     {

@@ -33,6 +33,12 @@ returns-clause-sends g c =
     w.few_words
     (c.start-state.ensures.out ∙ (λ j. with_requests c.args.out.now (gives (out j).lps c.args.lp (word_of c.new-draws.result.stream.now)).send_requests []))).sends
 
+pub returns-clause-out : goal.returns-clause-out
+returns-clause-out g c =
+    let gives = (g.M.Model.handlers c.args.model.now).start in
+    c.start-state.ensures.out
+    ∙ (λ j. with_requests c.args.out.now (gives (c.requires.fresh j).lps c.args.lp (word_of ((c.new-draws.ensures.stream ∙ c.new-stream.ensures) j))).send_requests [])
+
 pub returns-clause-stream : goal.returns-clause-stream
 returns-clause-stream g c =
     let key : c.start-state.new.draws.stream.now.key ≡ seed_key c.args.config.seed =
