@@ -1,6 +1,6 @@
 //! How a process with rollback undoes its last past event.
 
-ghost use Rattle.std.specs.Prelude.{◌≡◌, suc, true, not, None, length, IfOk, IfErr};
+ghost use Rattle.std.specs.Prelude.{◌≡◌, suc, true, false, not, None, length, IfOk, IfErr};
 ghost use Rattle.std.specs.List.{last_or, list_any};
 ghost use Rattle.vt_key.specs.Order.{rank_before};
 ghost use Rattle.vt_key.specs.declared.fault.Fault.TheVariants.{NotLawful};
@@ -30,6 +30,8 @@ impl<M: EventModel> Lp<M> {
     pub fn undo(&mut self, model: &M, outbox: &mut List<Letter<M::Payload>>) -> Result<(), Fault>
         ensures done { (h : LogicalProcess _) → StandsFor (M.handlers model.now) self.old h → IfOk result (λ _. IsDone (M.handlers model.now) self.new (undo_process h) outbox.old outbox.new 0 0) }
         ensures refused { (h : LogicalProcess _) → StandsFor (M.handlers model.now) self.old h → IfErr result (λ fault. undo_process h ≡ None) }
+        ensures lawful { IfOk result (λ done. must_undo_last self.old.pending self.old.waiting (last_or None self.old.past) ≡ true) }
+        ensures unlawful { IfErr result (λ fault. must_undo_last self.old.pending self.old.waiting (last_or None self.old.past) ≡ false) }
         ensures kept { IfErr result (λ fault. (fault ≡ NotLawful) × (self.new ≡ self.old) × (outbox.new ≡ outbox.old)) }
         ensures within { AllWithinRun self.old.config outbox.old → AllWithinRun self.old.config outbox.new }
         ensures same { (self.new.lp ≡ self.old.lp) × (self.new.config ≡ self.old.config) }
@@ -53,6 +55,8 @@ impl<M: EventModel> Lp<M> {
     ) -> Result<(), Fault>
         ensures done { (h : LogicalProcess _) → StandsFor (M.handlers model.now) self.old h → IfOk result (λ _. IsDone (M.handlers model.now) self.new (undo_process h) outbox.old outbox.new 0 0) }
         ensures refused { (h : LogicalProcess _) → StandsFor (M.handlers model.now) self.old h → IfErr result (λ fault. undo_process h ≡ None) }
+        ensures lawful { IfOk result (λ done. must_undo_last self.old.pending self.old.waiting (last_or None self.old.past) ≡ true) }
+        ensures unlawful { IfErr result (λ fault. must_undo_last self.old.pending self.old.waiting (last_or None self.old.past) ≡ false) }
         ensures kept { IfErr result (λ fault. (fault ≡ NotLawful) × (self.new ≡ self.old) × (outbox.new ≡ outbox.old) × (spare.new ≡ spare.old)) }
         ensures freed { IfOk result (λ done. TookEvent spare.old spare.new) }
         ensures within { AllWithinRun self.old.config outbox.old → AllWithinRun self.old.config outbox.new }
