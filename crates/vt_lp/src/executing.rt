@@ -1,6 +1,6 @@
 //! How a process with rollback executes its least pending event.
 
-ghost use Rattle.std.specs.Prelude.{◌≡◌, ◌+◌, ◌%◌, ◌^◌, ◌<◌, ◌≤◌, ◌⊎◌, [], ◌∷◌, ◌++◌, length, map, All, IfOk, IfErr};
+ghost use Rattle.std.specs.Prelude.{◌≡◌, ◌+◌, ◌%◌, ◌^◌, ◌<◌, ◌≤◌, ◌⊎◌, [], ◌∷◌, ◌++◌, length, map, All, None, Err, IfOk, IfErr};
 ghost use Rattle.vt_key.specs.Times.{TimeBefore};
 ghost use Rattle.vt_key.specs.declared.fault.Fault.TheVariants.{Memory, NotLawful, Exhausted};
 ghost use Rattle.vt_key.specs.declared.letter.Letter.{Letter};
@@ -52,6 +52,8 @@ impl<M: EventModel> Lp<M> {
     ) -> Result<(), Fault>
         ensures done { let sim = simulation_of (M.handlers model.now) self.old.config in (h : LogicalProcess _) → StandsFor (M.handlers model.now) self.old h → IfOk result (λ _. IsDone (M.handlers model.now) self.new (execute_process sim self.old.lp (self.old.lp % self.old.config.workers) serial.old h) outbox.old outbox.new serial.old serial.new) }
         ensures refused { let sim = simulation_of (M.handlers model.now) self.old.config in (h : LogicalProcess _) → StandsFor (M.handlers model.now) self.old h → IfErr result (λ fault. IsExecuteRefusal sim self.old.lp serial.old (execute_process sim self.old.lp (self.old.lp % self.old.config.workers) serial.old h) fault) }
+        ensures faults { IfErr result (λ fault. (fault ≡ NotLawful) ⊎ ((fault ≡ Exhausted) ⊎ (fault ≡ Memory))) }
+        ensures no_event { ready_event self.old.pending self.old.past ≡ None → result ≡ Err NotLawful }
         ensures unchanged { (h : LogicalProcess _) → StandsFor (M.handlers model.now) self.old h → IfErr result (λ fault. self.new ≡ self.old) }
         ensures restored { M.IsState model.now self.old.triple.state → IfErr result (λ fault. self.new ≡ self.old) }
         ensures not_lawful { IfErr result (λ fault. fault ≡ NotLawful → self.new ≡ self.old) }
@@ -84,6 +86,8 @@ impl<M: EventModel> Lp<M> {
     ) -> Result<(), Fault>
         ensures done { let sim = simulation_of (M.handlers model.now) self.old.config in (h : LogicalProcess _) → StandsFor (M.handlers model.now) self.old h → IfOk result (λ _. IsDone (M.handlers model.now) self.new (execute_process sim self.old.lp (self.old.lp % self.old.config.workers) serial.old h) outbox.old outbox.new serial.old serial.new) }
         ensures refused { let sim = simulation_of (M.handlers model.now) self.old.config in (h : LogicalProcess _) → StandsFor (M.handlers model.now) self.old h → IfErr result (λ fault. IsExecuteRefusal sim self.old.lp serial.old (execute_process sim self.old.lp (self.old.lp % self.old.config.workers) serial.old h) fault) }
+        ensures faults { IfErr result (λ fault. (fault ≡ NotLawful) ⊎ ((fault ≡ Exhausted) ⊎ (fault ≡ Memory))) }
+        ensures no_event { ready_event self.old.pending self.old.past ≡ None → result ≡ Err NotLawful }
         ensures unchanged { (h : LogicalProcess _) → StandsFor (M.handlers model.now) self.old h → IfErr result (λ fault. self.new ≡ self.old) }
         ensures restored { M.IsState model.now self.old.triple.state → IfErr result (λ fault. self.new ≡ self.old) }
         ensures not_lawful { IfErr result (λ fault. fault ≡ NotLawful → self.new ≡ self.old) }

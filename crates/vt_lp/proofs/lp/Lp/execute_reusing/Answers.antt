@@ -217,6 +217,12 @@ returns-in-Err-clause-restored g c is_state =
     let same = c.in-Err.ensures.unchanged ok in
     (λ j. process_view l.lp l.config (same j).state (same j).number (same j).stream l.past l.pending l.waiting) ∙ c.self.view_is
 
+pub returns-in-Err-clause-faults : goal.returns-in-Err-clause-faults
+returns-in-Err-clause-faults g c = elim c.in-Err.ensures.refused [
+  | inl w ↦ inr (inl w.0)
+  | inr w ↦ inr (inr w.0)
+]
+
 pub returns-in-Err-clause-not_lawful : goal.returns-in-Err-clause-not_lawful
 returns-in-Err-clause-not_lawful g c is = elim c.in-Err.ensures.refused [
   | inl w ↦ absurd (let h : Exhausted ≡ NotLawful = sym w.0 ∙ is in cc)
