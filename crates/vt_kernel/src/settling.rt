@@ -4,7 +4,7 @@ ghost use Rattle.std.specs.Prelude.{◌≡◌, IsFalse};
 ghost use Rattle.vt_model.specs.Simulation.{simulation_of};
 ghost use Rattle.vt_steps.specs.World.{LogicalProcess, Part};
 ghost use Rattle.vt_lp.specs.Held.{StandsFor as ProcessStandsFor, AllWithinRun};
-ghost use Rattle.vt_kernel.specs.Held.{StandsFor};
+ghost use Rattle.vt_kernel.specs.Held.{StandsFor, IsProcessOf};
 ghost use Rattle.vt_kernel.specs.Guards.{SettlesTo};
 ghost use Rattle.vt_kernel.specs.Settled.{IsSettledTo};
 
@@ -20,6 +20,7 @@ impl<M: EventModel> Kernel<M> {
     /// 2^64. If the process isn't this worker's, nothing changes, and the answer is 0. It takes no memory.
     pub fn settle(&mut self, model: &M, lp: u32) -> u64
         ensures settles { (part : Part _) → StandsFor (M.handlers model.now) self.old part → (new : Part _) × SettlesTo (simulation_of (M.handlers model.now) self.old.config) self.old.worker lp part new result × StandsFor (M.handlers model.now) self.new new }
+        ensures other { (IsProcessOf self.old.config self.old.worker lp → ⊥) → (result ≡ 0) × (self.new ≡ self.old) }
         ensures same { (self.new.worker ≡ self.old.worker) × (self.new.config ≡ self.old.config) }
     {
         let Some(place) = place_of(self.config, self.worker, lp) else {

@@ -3,7 +3,7 @@ use Rattle.vt_model.specs.Simulation.{simulation_of}
 use Rattle.vt_steps.specs.World.{Part}
 use Rattle.vt_lp.specs.Held.{HeldProcess}
 use Rattle.vt_outbox.specs.Outbox.{HeldOutbox}
-use Rattle.vt_kernel.specs.Held.{HeldWorker, IsWorkerInside, StandsFor}
+use Rattle.vt_kernel.specs.Held.{HeldWorker, IsWorkerInside, IsProcessOf, StandsFor}
 use Rattle.vt_kernel.specs.Guards.{SettlesTo}
 use Rattle.vt_kernel.proofs.PartLemmas.{stands_along}
 use Rattle.vt_kernel.proofs.LocalLemmas.{view_of, place-within, written-same}
@@ -66,3 +66,15 @@ invariant_of-self-else-settling g c =
 
 pub returns-else-settling-clause-settles : goal.returns-else-settling-clause-settles
 returns-else-settling-clause-settles g c part s = settled g (goal.at.returns-else-settling-clause-settles g c).After-put part s
+
+-- a place is that of a process of the worker
+own-place : (g : Over) (c : After-index_mut g) → IsProcessOf c.args.self.now.config c.args.self.now.worker c.args.lp
+own-place g c =
+    subst (λ (v : HeldWorker _ _ _). IsProcessOf v.config v.worker c.args.lp) c.self.view_is
+    (record { known = c.in-Some.ensures.own.2; own = c.in-Some.ensures.own.1 })
+
+pub returns-then-settling-clause-other : goal.returns-then-settling-clause-other
+returns-then-settling-clause-other g c other = absurd (other (own-place g (goal.at.returns-then-settling-clause-other g c).After-index_mut))
+
+pub returns-else-settling-clause-other : goal.returns-else-settling-clause-other
+returns-else-settling-clause-other g c other = absurd (other (own-place g (goal.at.returns-else-settling-clause-other g c).After-index_mut))
