@@ -1,6 +1,7 @@
 -- A local step at one process: what stays of how a worker's fields go together, and what the step does to the part.
-use Rattle.std.proofs.Common.{◌≡◌, ℕ, Bool, zero, suc, ◌+◌, ◌-◌, ◌/◌, ◌%◌, ◌<◌, ◌≤◌, inl, inr, List, [], ◌∷◌, ◌++◌, append-nil, map, length, refl, sym, ◌∙◌, ap, subst, arith, Option, Some, None, Result, Ok, Err, IfOk, IfErr, if◌then◌else◌, slice_get, slice_set, slice_index_or}
+use Rattle.std.proofs.Common.{◌≡◌, ℕ, Bool, nat_eq, zero, suc, ◌+◌, ◌-◌, ◌*◌, ◌/◌, ◌%◌, ◌<◌, ◌≤◌, inl, inr, List, [], ◌∷◌, ◌++◌, append-nil, map, length, refl, sym, ◌∙◌, ap, subst, arith, Option, Some, None, Result, Ok, Err, IfOk, IfErr, if◌then◌else◌, slice_get, slice_set, slice_index_or}
 use Rattle.std.proofs.Math.ListN.{length-set}
+use Rattle.std.proofs.Math.Nat.{div-add-mod}
 use Rattle.std.proofs.lemmas.Bool.{eq-eqb}
 use Rattle.std.proofs.lemmas.Bool.Decides.{eqb_tells}
 use Rattle.std.proofs.lemmas.List.{length-map}
@@ -18,6 +19,7 @@ use Rattle.vt_steps.specs.PartSteps.{at_process}
 use Rattle.vt_steps.specs.StandsFor.{ProcessMemory, StandForProcesses}
 use Rattle.vt_lp.specs.Held.{HeldProcess, process_memory, AllWithinRun, StandsFor as ProcessStandsFor}
 use Rattle.vt_lp.specs.Guards.{IsDone as ProcessIsDone}
+use Rattle.vt_steps.proofs.lists.Places.{get-put_other}
 use Rattle.vt_contest.specs.declared.contest.Contest.{Contest}
 use Rattle.vt_contest.specs.Contest.{IsContestOf}
 use Rattle.vt_contest.proofs.Written.{put-there}
@@ -181,6 +183,23 @@ pub own-process : {S P K : Type 0} (held : HeldWorker S P K) {p place : ℕ} {q 
 own-process held {p} own there =
     ap (λ (b : Bool). if b then slice_get held.processes (p / held.config.workers) else None) (eq-eqb (p % held.config.workers) held.worker own.1)
     ∙ ap (λ k. slice_get held.processes k) (sym own.0) ∙ there
+
+-- two numbers with one remainder and one quotient are one
+one-number : (k p q : ℕ) → p % k ≡ q % k → p / k ≡ q / k → p ≡ q
+one-number k p q rest times = sym (div-add-mod p k) ∙ (λ j. k * times j + rest j) ∙ div-add-mod q k
+
+-- a write at the place of one process leaves the process of each other number
+pub other-process : {S P K : Type 0} (held : HeldWorker S P K) {lp place : ℕ} (new : HeldProcess S P K) (letters : List (Letter P)) (serial p : ℕ) → IsOwnPlace held.config held.worker lp place → (p ≡ lp → ⊥)
+    → process_of (record held { processes = slice_set held.processes place new; outbox = letters; serial = serial }) p ≡ process_of held p
+other-process held {lp} {place} new letters serial p own apart =
+    elim (eqb_tells (p % held.config.workers) held.worker) [
+      | inl e ↦
+          ap (λ (o : Option (HeldProcess _ _ _)). if nat_eq (p % held.config.workers) held.worker then o else None)
+          (get-put_other held.processes place (p / held.config.workers) new (λ same. apart (one-number held.config.workers p lp (e.1 ∙ sym own.1) (same ∙ own.0))))
+      | inr e ↦
+          ap (λ (b : Bool). if b then slice_get (slice_set held.processes place new) (p / held.config.workers) else None) e.0
+          ∙ ap (λ (b : Bool). if b then slice_get held.processes (p / held.config.workers) else None) (sym e.0)
+    ]
 
 -- ---- results
 

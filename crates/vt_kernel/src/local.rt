@@ -1,7 +1,7 @@
 //! Local steps at one process: Execute, Undo and Cancel.
 
-ghost use Rattle.std.specs.Prelude.{◌≡◌, ◌%◌, ◌/◌, ◌<◌, ◌≤◌, IfSome, IfNone, IfOk, IfErr, None};
-ghost use Rattle.vt_key.specs.declared.fault.Fault.TheVariants.{NotLawful};
+ghost use Rattle.std.specs.Prelude.{ℕ, ◌≡◌, ◌%◌, ◌/◌, ◌<◌, ◌≤◌, ◌⊎◌, IfSome, IfNone, IfOk, IfErr, None};
+ghost use Rattle.vt_key.specs.declared.fault.Fault.TheVariants.{Memory, NotLawful, Exhausted};
 ghost use Rattle.vt_model.specs.Handler.{Handlers};
 ghost use Rattle.vt_model.specs.Simulation.{simulation_of};
 ghost use Rattle.vt_steps.specs.World.{Part};
@@ -30,10 +30,12 @@ impl<M: EventModel> Kernel<M> {
         ensures done { (part : Part _) → StandsFor (M.handlers model.now) self.old part → IfOk result (λ done. IsDone (M.handlers model.now) self.new (local_step (simulation_of (M.handlers model.now) self.old.config) self.old.worker (step.Execute lp) part)) }
         ensures counted { (part : Part _) → StandsFor (M.handlers model.now) self.new part → IfOk result (λ done. AreWithinLimits (simulation_of (M.handlers model.now) self.old.config) lp part) }
         ensures refused { (part : Part _) → StandsFor (M.handlers model.now) self.old part → IfErr result (λ fault. IsExecuteRefusal (simulation_of (M.handlers model.now) self.old.config) lp (local_step (simulation_of (M.handlers model.now) self.old.config) self.old.worker (step.Execute lp) part) fault) }
+        ensures faults { IfErr result (λ fault. (fault ≡ NotLawful) ⊎ ((fault ≡ Exhausted) ⊎ (fault ≡ Memory))) }
         ensures unchanged { (part : Part _) → StandsFor (M.handlers model.now) self.old part → IfErr result (λ fault. self.new ≡ self.old) }
         ensures restored { IfSome (process_of self.old lp) (λ process. M.IsState model.now process.triple.state) → IfErr result (λ fault. self.new ≡ self.old) }
         ensures not_lawful { IfErr result (λ fault. fault ≡ NotLawful → self.new ≡ self.old) }
         ensures but_processes { IfErr result (λ fault. self.new ≡ record self.old { processes = self.new.processes }) }
+        ensures others { (p : ℕ) → (p ≡ lp → ⊥) → process_of self.new p ≡ process_of self.old p }
         ensures same { (self.new.worker ≡ self.old.worker) × (self.new.config ≡ self.old.config) }
     {
         let mut out = Out::new(self.config, 0, When::tick(0), 0);
@@ -52,10 +54,12 @@ impl<M: EventModel> Kernel<M> {
         ensures done { (part : Part _) → StandsFor (M.handlers model.now) self.old part → IfOk result (λ done. IsDone (M.handlers model.now) self.new (local_step (simulation_of (M.handlers model.now) self.old.config) self.old.worker (step.Execute lp) part)) }
         ensures counted { (part : Part _) → StandsFor (M.handlers model.now) self.new part → IfOk result (λ done. AreWithinLimits (simulation_of (M.handlers model.now) self.old.config) lp part) }
         ensures refused { (part : Part _) → StandsFor (M.handlers model.now) self.old part → IfErr result (λ fault. IsExecuteRefusal (simulation_of (M.handlers model.now) self.old.config) lp (local_step (simulation_of (M.handlers model.now) self.old.config) self.old.worker (step.Execute lp) part) fault) }
+        ensures faults { IfErr result (λ fault. (fault ≡ NotLawful) ⊎ ((fault ≡ Exhausted) ⊎ (fault ≡ Memory))) }
         ensures unchanged { (part : Part _) → StandsFor (M.handlers model.now) self.old part → IfErr result (λ fault. self.new ≡ self.old) }
         ensures restored { IfSome (process_of self.old lp) (λ process. M.IsState model.now process.triple.state) → IfErr result (λ fault. self.new ≡ self.old) }
         ensures not_lawful { IfErr result (λ fault. fault ≡ NotLawful → self.new ≡ self.old) }
         ensures but_processes { IfErr result (λ fault. self.new ≡ record self.old { processes = self.new.processes }) }
+        ensures others { (p : ℕ) → (p ≡ lp → ⊥) → process_of self.new p ≡ process_of self.old p }
         ensures same { (self.new.worker ≡ self.old.worker) × (self.new.config ≡ self.old.config) }
     {
         let Some(place) = place_of(self.config, self.worker, lp) else {

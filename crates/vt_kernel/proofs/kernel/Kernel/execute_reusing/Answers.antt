@@ -1,4 +1,4 @@
-use Rattle.std.proofs.Common.{rules, ◌≡◌, ◌%◌, ◌≤◌, ◌∙◌, IfOk, IfErr, IfSome, Some, slice_get, slice_set, sym, subst, refl}
+use Rattle.std.proofs.Common.{rules, ◌≡◌, ◌%◌, ◌≤◌, ◌∙◌, IfOk, IfErr, IfSome, Some, slice_get, slice_set, ap, sym, subst, refl}
 use Rattle.std.proofs.lemmas.Result.{IfErr-weaker, IfOk-weaker}
 use Rattle.vt_key.specs.declared.fault.Fault.TheVariants.{NotLawful}
 use Rattle.vt_key.specs.declared.limits.TheConstants.{MAX_COUNT}
@@ -17,7 +17,7 @@ use Rattle.vt_model.proofs.Sizes.{out_fits}
 use Rattle.vt_kernel.proofs.PartLemmas.{stands_along}
 use Rattle.vt_kernel.proofs.ProcessLemmas.{process-at, processes-changed}
 use Rattle.vt_kernel.proofs.OwnSteps.{own-execute, IsFound, within-limits, same-execute, refusal-at, own-step}
-use Rattle.vt_kernel.proofs.LocalLemmas.{view_of, place-within, unknown-refused, either-way, found-at, at-found-done, execute-step, both-errors, own-process}
+use Rattle.vt_kernel.proofs.LocalLemmas.{view_of, place-within, unknown-refused, either-way, found-at, at-found-done, execute-step, both-errors, own-process, other-process}
 use Rattle.vt_kernel.proofs.PutLemmas.{put-done, put-kept, put-seen, inside-put}
 use Rattle.vt_kernel.proofs.ReentryLemmas.{process-there, may-enter}
 use Rattle.vt_kernel.proofs.kernel.Kernel.execute_reusing.Given.{Over}
@@ -154,3 +154,9 @@ returns-clause-but_processes g c =
     let processes = slice_set i.processes.items c.in-Some.place done.new.self in
     subst (λ (v : HeldWorker _ _ _). IfErr done.result (λ _. record (view_of i) { processes = processes; outbox = c.put.new.self.letters; serial = done.new.serial } ≡ record v { processes = processes })) c.self.view_is
     (IfErr-weaker done.result _ _ (λ _ kept j. record (view_of i) { processes = processes; outbox = put-kept i.outbox done.new.outbox c.new-sent.ensures c.put.ensures kept.0 j; serial = kept.1 j }) done.ensures.kept)
+
+pub returns-clause-others : goal.returns-clause-others
+returns-clause-others g c p apart =
+    let done = c.execute_reusing-result in
+    other-process (view_of c.self.inside) done.new.self c.put.new.self.letters done.new.serial p c.in-Some.ensures.own apart
+    ∙ ap (λ (v : HeldWorker _ _ _). process_of v p) c.self.view_is
