@@ -109,6 +109,7 @@ pub fn put_reply<W: Write>(
 ) -> Result<(), Fault>
     ensures ok { OnOk result (AppendsAllButHeld (W.contents writer.old) (W.contents writer.new) text.new (text.old ++ reply_text line answer.now)) }
     ensures err { OnErr result (AppendsIntoHeld (W.contents writer.old) (W.contents writer.new) text.new (text.old ++ reply_text line answer.now)) }
+    ensures begun { OnErr result (AppendsBeginning (W.contents writer.old) (W.contents writer.new) text.old) }
     ensures kept { OnErr result (text.new ≡ text.old) }
     ensures fault { IfErr result (λ fault. fault ≡ Fault.Output) }
 {
