@@ -1,5 +1,7 @@
 //! A writer to the terminal on which a meter shows its line.
 
+ghost use Rattle.std.specs.Prelude.{◌≡◌};
+
 use crate::meter::Meter;
 use std::io::{self, Write};
 
@@ -15,7 +17,10 @@ pub struct Clearing<'m, W, E> {
 
 impl<'m, W: Write, E: Write> Clearing<'m, W, E> {
     /// The writer, which writes to the meter's terminal where `line` is given: what the meter writes its line to.
-    pub fn new(meter: &'m Meter, writer: W, line: Option<E>) -> Clearing<'m, W, E> {
+    /// Nothing is written yet: what was written to it so far is what its own writer took.
+    pub fn new(meter: &'m Meter, writer: W, line: Option<E>) -> Clearing<'m, W, E>
+        ensures writes { ⟦<Clearing<'m, W, E> as Write>⟧.contents result ≡ W.contents writer }
+    {
         Clearing {
             meter,
             writer,

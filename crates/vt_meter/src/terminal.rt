@@ -1,5 +1,8 @@
 //! The terminal of a program, or none.
 
+ghost use Rattle.std.specs.Prelude.{◌≡◌};
+ghost use Rattle.vt_meter.specs.Writers.{terminal_errors};
+
 use crate::clearing::Clearing;
 use crate::meter::Meter;
 use std::alloc::Global;
@@ -22,7 +25,9 @@ pub struct Terminal<E> {
 
 impl<E: Write + IsTerminal + Copy + Send + Drop> Terminal<E> {
     /// The terminal to which this stream of errors leads, if it does.
-    pub fn new<R: Clock>(rt: &R, errors: E) -> Terminal<E> {
+    pub fn new<R: Clock>(rt: &R, errors: E) -> Terminal<E>
+        ensures errors { terminal_errors result ≡ errors }
+    {
         let shown = errors.is_terminal();
         Terminal {
             meter: Meter::new(rt, shown),
@@ -37,7 +42,10 @@ impl<E: Write + IsTerminal + Copy + Send + Drop> Terminal<E> {
     }
 
     /// The program's output. Where it leads to a terminal too, the line of a run is taken away before it is written to.
-    pub fn output<O: Write + IsTerminal>(&self, output: O) -> Clearing<'_, O, E> {
+    /// Nothing is written to it yet.
+    pub fn output<O: Write + IsTerminal>(&self, output: O) -> Clearing<'_, O, E>
+        ensures writes { ⟦<Clearing<'static, O, E> as Write>⟧.contents result ≡ O.contents output }
+    {
         let line = if self.shown && output.is_terminal() {
             Some(self.errors)
         } else {
@@ -47,7 +55,10 @@ impl<E: Write + IsTerminal + Copy + Send + Drop> Terminal<E> {
     }
 
     /// The program's stream of errors. The line of a run is taken away before it is written to.
-    pub fn errors(&self) -> Clearing<'_, E, E> {
+    /// Nothing is written to it yet.
+    pub fn errors(&self) -> Clearing<'_, E, E>
+        ensures writes { ⟦<Clearing<'static, E, E> as Write>⟧.contents result ≡ E.contents (terminal_errors self.now) }
+    {
         let line = if self.shown { Some(self.errors) } else { None };
         Clearing::new(&self.meter, self.errors, line)
     }
