@@ -11,8 +11,8 @@ pub record BoardOfRun : Type 0 where
   pub board : Board
 
 -- the same run, with this board
-abbrev pub with_board : BoardOfRun → Board → BoardOfRun
-with_board run board = record run { board = board }
+abbrev pub run_with_board : BoardOfRun → Board → BoardOfRun
+run_with_board run board = record run { board = board }
 
 -- the board of a run at its opening: so many workers, and this end
 abbrev pub opening_run : ℕ → Time → BoardOfRun

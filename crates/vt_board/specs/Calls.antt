@@ -12,13 +12,13 @@ use Rattle.vt_board.specs.declared.board.Report.{Report}
 use Rattle.vt_board.specs.declared.board.Report.TheVariants.{Waiting, Again, Announced}
 
 -- a board after a cut, if the cut is lawful and the rounds can be counted
-abbrev pub counted : Option Board → Result Board Fault
-counted None = Err NotLawful
-counted (Some board) = if nat_le board.rounds MAX_COUNT then Ok board else Err Exhausted
+abbrev pub round_counted : Option Board → Result Board Fault
+round_counted None = Err NotLawful
+round_counted (Some board) = if nat_le board.rounds MAX_COUNT then Ok board else Err Exhausted
 
 -- what a cut of worker w comes to: the board after it, or why it is refused
 abbrev pub cut_outcome : Time → ℕ → Board → Result Board Fault
-cut_outcome end w board = counted (cut_board end w board)
+cut_outcome end w board = round_counted (cut_board end w board)
 
 -- the board takes this value of worker w: the report is lawful, and the value isn't after the end of the run
 abbrev pub takes_report : Time → ℕ → Time → Board → Bool

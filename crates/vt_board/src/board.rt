@@ -5,7 +5,7 @@ ghost use Rattle.vt_key.specs.Times.{TimeAtMost, at};
 ghost use Rattle.vt_key.specs.declared.fault.Fault.TheVariants.{NotLawful};
 ghost use Rattle.vt_key.specs.declared.limits.TheConstants.{MAX_COUNT, MAX_END, MAX_WORKERS};
 ghost use Rattle.vt_steps.specs.BoardSteps.{all_set, is_clear, with_new_pass, with_open_round, with_report, after_report};
-ghost use Rattle.vt_board.specs.BoardOfRun.{with_board, opening_run, after_rounds};
+ghost use Rattle.vt_board.specs.BoardOfRun.{run_with_board, opening_run, after_rounds};
 ghost use Rattle.vt_board.specs.Calls.{cut_outcome, takes_report, reply_of};
 
 use crate::worker_set::WorkerSet;
@@ -129,7 +129,7 @@ impl Board {
     /// Enters the cut of a worker that hasn't cut in the open round. Returns the announced time.
     fn mark_cut(&mut self, w: u32) -> When
         requires { is_clear (slice_get self.old.board.has_cut w) ≡ true }
-        ensures cut { self.new ≡ with_board self.old (record self.old.board { has_cut = slice_set self.old.board.has_cut w true }) }
+        ensures cut { self.new ≡ run_with_board self.old (record self.old.board { has_cut = slice_set self.old.board.has_cut w true }) }
         ensures announced { result ≡ self.old.board.announced }
         ensures in_time { TimeAtMost result self.old.end }
     {
@@ -146,7 +146,7 @@ impl Board {
     /// nothing.
     pub fn report(&mut self, w: u32, sent: u64, got: u64, least: When) -> Result<Report, Fault>
         ensures lawful { is_ok result ≡ takes_report self.old.end w least self.old.board }
-        ensures reported { OnOk result (self.new ≡ with_board self.old (after_report self.old.end (with_report w sent got least self.old.board)).board) }
+        ensures reported { OnOk result (self.new ≡ run_with_board self.old (after_report self.old.end (with_report w sent got least self.old.board)).board) }
         ensures answer { IfOk result (λ report. reply_of report ≡ (after_report self.old.end (with_report w sent got least self.old.board)).reply) }
         ensures never_falls { TimeAtMost self.old.board.announced self.new.board.announced }
         ensures refused { IfErr result (λ fault. fault ≡ NotLawful) }
@@ -178,7 +178,7 @@ impl Board {
     fn open_round(&mut self)
         requires none_open { self.old.board.is_open ≡ false }
         requires countable { self.old.board.rounds < MAX_COUNT }
-        ensures { self.new ≡ with_board self.old (with_open_round self.old.end self.old.board) }
+        ensures { self.new ≡ run_with_board self.old (with_open_round self.old.end self.old.board) }
     {
         self.is_open = true;
         self.has_cut.clear();
@@ -188,7 +188,7 @@ impl Board {
 
     /// Begins a pass, in which nobody has reported yet.
     fn begin_pass(&mut self)
-        ensures { self.new ≡ with_board self.old (with_new_pass self.old.end self.old.board) }
+        ensures { self.new ≡ run_with_board self.old (with_new_pass self.old.end self.old.board) }
     {
         self.has_reported.clear();
         self.sent = 0;
@@ -202,7 +202,7 @@ impl Board {
         requires first { is_clear (slice_get self.old.board.has_reported w) ≡ true }
         requires not_past { TimeAtMost self.old.board.announced least }
         requires in_time { TimeAtMost least self.old.end }
-        ensures { self.new ≡ with_board self.old (with_report w sent got least self.old.board) }
+        ensures { self.new ≡ run_with_board self.old (with_report w sent got least self.old.board) }
     {
         self.has_reported.insert(w);
         self.sent += u128::from(sent);
@@ -214,7 +214,7 @@ impl Board {
     /// Closes a pass in which all have reported.
     fn close_pass(&mut self) -> Report
         requires all { all_set self.old.board.has_reported ≡ true }
-        ensures closed { self.new ≡ with_board self.old (after_report self.old.end self.old.board).board }
+        ensures closed { self.new ≡ run_with_board self.old (after_report self.old.end self.old.board).board }
         ensures answer { reply_of result ≡ (after_report self.old.end self.old.board).reply }
         ensures never_falls { TimeAtMost self.old.board.announced self.new.board.announced }
     {

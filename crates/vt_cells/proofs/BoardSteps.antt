@@ -18,7 +18,7 @@ use Rattle.vt_steps.specs.World.{Part, Board}
 use Rattle.vt_steps.specs.PartSteps.{part_after_cut, report_sent, report_got, report_least}
 use Rattle.vt_steps.specs.BoardSteps.{cut_board, may_report, with_report, after_report}
 use Rattle.vt_steps.specs.Cells.{on_board, Acted}
-use Rattle.vt_board.specs.Calls.{counted, cut_outcome, takes_report}
+use Rattle.vt_board.specs.Calls.{round_counted, cut_outcome, takes_report}
 use Rattle.vt_kernel.specs.Held.{HeldWorker, StandsFor}
 use Rattle.vt_kernel.specs.Guards.{held_letters}
 use Rattle.vt_kernel.proofs.ReportLemmas.{same-report}
@@ -27,9 +27,9 @@ use Rattle.vt_cells.specs.Calls.{IsCellStepOf, PassesThere}
 use Rattle.vt_cells.proofs.ActLemmas.{act-cut, act-not_cut, act_report, act-report, act-not_report}
 
 -- what a cut comes to, by what the board says: it is counted, and its rounds are within their limit
-counted-ok : (o : Option Board) (new : Board) → counted o ≡ Ok new → (o ≡ Some new) × (new.rounds ≤ MAX_COUNT)
-counted-ok None new h = absurd (let k : Err NotLawful ≡ Ok new = h in cc)
-counted-ok (Some board) new h =
+round_counted-ok : (o : Option Board) (new : Board) → round_counted o ≡ Ok new → (o ≡ Some new) × (new.rounds ≤ MAX_COUNT)
+round_counted-ok None new h = absurd (let k : Err NotLawful ≡ Ok new = h in cc)
+round_counted-ok (Some board) new h =
     elim (nat_le board.rounds MAX_COUNT) as (λ b. nat_le board.rounds MAX_COUNT ≡ b → ((if b then Ok board else Err Exhausted) ≡ Ok new) → (Some board ≡ Some new) × (new.rounds ≤ MAX_COUNT)) [
       | true ↦ λ is k.
           (let e : Ok board ≡ Ok new = k in
@@ -40,10 +40,10 @@ counted-ok (Some board) new h =
     ] refl h
 
 -- or it isn't
-counted-err : (o : Option Board) (fault : Fault) → counted o ≡ Err fault
+round_counted-err : (o : Option Board) (fault : Fault) → round_counted o ≡ Err fault
     → ((o ≡ None) × (fault ≡ NotLawful)) ⊎ ((new : Board) × (o ≡ Some new) × (fault ≡ Exhausted) × (MAX_COUNT < new.rounds))
-counted-err None fault h = let k : Err NotLawful ≡ Err fault = h in let same : fault ≡ NotLawful = cc in inl (refl, same)
-counted-err (Some board) fault h =
+round_counted-err None fault h = let k : Err NotLawful ≡ Err fault = h in let same : fault ≡ NotLawful = cc in inl (refl, same)
+round_counted-err (Some board) fault h =
     elim (nat_le board.rounds MAX_COUNT) as (λ b. nat_le board.rounds MAX_COUNT ≡ b → ((if b then Ok board else Err Exhausted) ≡ Err fault)
     → ((Some board ≡ None) × (fault ≡ NotLawful)) ⊎ ((new : Board) × (Some board ≡ Some new) × (fault ≡ Exhausted) × (MAX_COUNT < new.rounds))) [
       | true ↦ λ is k. absurd (let e : Ok board ≡ Err fault = k in cc)
@@ -65,7 +65,7 @@ module _ {S P K : Type 0} (handlers : Handlers S P K) (w : ℕ) (old new : HeldW
       → ((part : Part P) → StandsFor handlers old part → StandsFor handlers new (part_after_cut (end_of old.config) announced part))
       → IsCellStepOf handlers old.config (Cut w) old new (on_board board) (on_board left) (Ok Done)
   cut-done counts said same_worker same_config stands =
-      let c = counted-ok (cut_board (end_of old.config) w board) left (ap (λ t. cut_outcome t w board) (sym same_end) ∙ counts) in
+      let c = round_counted-ok (cut_board (end_of old.config) w board) left (ap (λ t. cut_outcome t w board) (sym same_end) ∙ counts) in
       record {
         done = record {
           acts = λ part s. (
@@ -90,7 +90,7 @@ module _ {S P K : Type 0} (handlers : Handlers S P K) (w : ℕ) (old new : HeldW
         done = tt;
         within = λ part s. tt;
         refused = λ part s.
-            elim (counted-err (cut_board (end_of old.config) w board) fault (ap (λ t. cut_outcome t w board) (sym same_end) ∙ counts)) [
+            elim (round_counted-err (cut_board (end_of old.config) w board) fault (ap (λ t. cut_outcome t w board) (sym same_end) ∙ counts)) [
               | inl a ↦ inl (ap (λ (x : Acted P). x.answer) (act-not_cut sim w part board a.0) ∙ ap Err (sym a.1))
               | inr a ↦
                   (let is = act-cut sim w part board a.0 a.1 in

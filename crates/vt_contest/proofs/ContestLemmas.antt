@@ -17,7 +17,7 @@ use Rattle.vt_lp.specs.Guards.{TellsSame}
 use Rattle.vt_past.specs.declared.event.PastEvent.{PastEvent}
 use Rattle.vt_contest.specs.declared.contest.Contest.{Contest}
 use Rattle.vt_contest.specs.Entries.{entries_of, ready_of, unready_of, other_rank, earliest_of, rank_time, has_past, AreMarked, TellsLeast}
-use Rattle.vt_contest.specs.Contest.{IsContestOf, WasContestOf, AreReady, AreUnready, marks_of}
+use Rattle.vt_contest.specs.Contest.{IsContestOf, WasContestOf, AreReady, AreUnready, past_marks}
 use Rattle.vt_contest.proofs.Written.{put-back, get-all}
 use Rattle.vt_contest.proofs.EntryLemmas.{entered-changed, entries-kept}
 
@@ -40,7 +40,7 @@ module _ {S P K : Type 0} where
 
     module _ (now : HeldProcess S P K) (at : slice_get processes place ≡ Some now) where
       -- its mark is renewed
-      pub marks-anew : (marks : List Bool) → marks ≡ slice_set (marks_of contest) place (has_past now) → AreMarked marks processes
+      pub marks-anew : (marks : List Bool) → marks ≡ slice_set (past_marks contest) place (has_past now) → AreMarked marks processes
       marks-anew marks is =
           is ∙ ap (λ bs. slice_set bs place (has_past now)) was.was.marked
           ∙ sym (map-set has_past (slice_set processes place was.process) place now)
@@ -75,14 +75,14 @@ module _ {S P K : Type 0} where
 
   module _ {processes : List (HeldProcess S P K)} {contest : Contest} (of : IsContestOf processes contest) (place : ℕ) where
     -- only a process is marked
-    pub marked-within : (b : Bool) → slice_get (marks_of contest) place ≡ Some b → place < length processes
+    pub marked-within : (b : Bool) → slice_get (past_marks contest) place ≡ Some b → place < length processes
     marked-within b at =
         let less = slice_get_within (map has_past processes) place b (ap (λ bs. slice_get bs place) (sym of.marked) ∙ at) in
         let long = length-map processes has_past in
         omega (arith, less, long)
 
     -- a process that is not marked has no past event
-    pub unmarked-past : (q : HeldProcess S P K) → (slice_get (marks_of contest) place ≡ Some true → ⊥) → slice_get processes place ≡ Some q → q.past ≡ []
+    pub unmarked-past : (q : HeldProcess S P K) → (slice_get (past_marks contest) place ≡ Some true → ⊥) → slice_get processes place ≡ Some q → q.past ≡ []
     unmarked-past q off at = go q.past (λ e. off (ap (λ bs. slice_get bs place) of.marked ∙ slice_get-map has_past processes place ∙ ap (option_map has_past) at ∙ ap Some e))
       where
         go : (es : List (PastEvent P K)) → (not (is_empty es) ≡ true → ⊥) → es ≡ []

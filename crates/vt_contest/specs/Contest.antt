@@ -16,8 +16,8 @@ abbrev pub AreUnready : List (Option Rank) → Contest → Type 0
 AreUnready entries contest = IsTournamentOf entries contest.unready
 
 -- the marks of who has past events
-abbrev pub marks_of : Contest → List Bool
-marks_of contest = contest.marked
+abbrev pub past_marks : Contest → List Bool
+past_marks contest = contest.marked
 
 module _ {S P K : Type 0} where
   -- a contest is that of these processes: both tournaments are of their entries, those with past events are marked, and the
@@ -25,7 +25,7 @@ module _ {S P K : Type 0} where
   pub record IsContestOf (processes : List (HeldProcess S P K)) (contest : Contest) : Type 0 where
     pub ready : AreReady (entries_of ready_of processes) contest
     pub unready : AreUnready (entries_of unready_of processes) contest
-    pub marked : AreMarked (marks_of contest) processes
+    pub marked : AreMarked (past_marks contest) processes
     pub told : All TellsLeast processes
 
   -- a contest was that of these processes, except that the one at this index was another

@@ -6,7 +6,7 @@ ghost use Rattle.vt_model.specs.Settings.{end_of};
 ghost use Rattle.vt_steps.specs.Letters.{least_time};
 ghost use Rattle.vt_tournament.specs.Least.{IsLeast};
 ghost use Rattle.vt_lp.specs.Held.{HeldProcess};
-ghost use Rattle.vt_contest.specs.Contest.{IsContestOf, AreReady, marks_of};
+ghost use Rattle.vt_contest.specs.Contest.{IsContestOf, AreReady, past_marks};
 
 use crate::contest::Contest;
 use vt_key::When;
@@ -36,9 +36,9 @@ impl Contest {
 
     /// The first index from `place` on of a process that has past events; None if there is none.
     pub fn first_with_past(&self, place: usize) -> Option<usize>
-        ensures marked { IfSome result (λ first. (place ≤ first) × (slice_get (marks_of self.now) first ≡ Some true)) }
-        ensures first { IfSome result (λ first. (other : ℕ) → place ≤ other → other < first → slice_get (marks_of self.now) other ≡ Some true → ⊥) }
-        ensures nowhere { IfNone result ((other : ℕ) → place ≤ other → slice_get (marks_of self.now) other ≡ Some true → ⊥) }
+        ensures marked { IfSome result (λ first. (place ≤ first) × (slice_get (past_marks self.now) first ≡ Some true)) }
+        ensures first { IfSome result (λ first. (other : ℕ) → place ≤ other → other < first → slice_get (past_marks self.now) other ≡ Some true → ⊥) }
+        ensures nowhere { IfNone result ((other : ℕ) → place ≤ other → slice_get (past_marks self.now) other ≡ Some true → ⊥) }
     {
         self.marked.first_from(place)
     }

@@ -36,7 +36,7 @@ use Rattle.vt_lp.specs.Held.{HeldProcess, StandsFor, process_memory, remembered,
 use Rattle.vt_lp.specs.Guards.{IsDone, IsExecuteRefusal, may_come_after}
 use Rattle.vt_past.specs.Events.{past_event}
 use Rattle.vt_lp.specs.Past.{ready_event, IsAdvanceRefusal}
-use Rattle.vt_lp.specs.Used.{sends_by, sends_of}
+use Rattle.vt_lp.specs.Used.{count_sends_by, count_sends}
 use Rattle.vt_lp.proofs.Ends.{none-after}
 use Rattle.vt_lp.proofs.Advancing.{events-signed}
 
@@ -105,10 +105,10 @@ module _ {S P K : Type 0} (handlers : Handlers S P K) where
 
   -- how many events Execute sends, by the event that is ready
   pub sends-told : (held : HeldProcess S P K) (event : Event P) → event.dest ≡ held.lp → Some event ≡ ready_event held.pending held.past →
-      length ((simulation_of handlers held.config).fire event.dest held.triple (unstamped event)).sends ≡ sends_of (simulation_of handlers held.config) held
+      length ((simulation_of handlers held.config).fire event.dest held.triple (unstamped event)).sends ≡ count_sends (simulation_of handlers held.config) held
   sends-told held event own ready =
       (λ j. length ((simulation_of handlers held.config).fire (own j) held.triple (unstamped event)).sends)
-      ∙ ap (sends_by (simulation_of handlers held.config) held) ready
+      ∙ ap (count_sends_by (simulation_of handlers held.config) held) ready
 
   -- a process that an event took on and back stands where it stood
   pub came-back : (config : Config) (p : ℕ) (before now : Triple S) (event : Event P) (undo_entry : UndoEntry P K) (records : List Record) →

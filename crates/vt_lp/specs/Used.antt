@@ -11,13 +11,13 @@ use Rattle.vt_lp.specs.Past.{ready_event}
 
 module _ {S P K : Type 0} (sim : Simulation S P) (held : HeldProcess S P K) where
   -- how many events this one would send, if there is one
-  abbrev pub sends_by : Option (Event P) → ℕ
-  sends_by None = 0
-  sends_by (Some event) = length (sim.fire held.lp held.triple (unstamped event)).sends
+  abbrev pub count_sends_by : Option (Event P) → ℕ
+  count_sends_by None = 0
+  count_sends_by (Some event) = length (sim.fire held.lp held.triple (unstamped event)).sends
 
   -- how many events Execute would send
-  abbrev pub sends_of : ℕ
-  sends_of = sends_by (ready_event held.pending held.past)
+  abbrev pub count_sends : ℕ
+  count_sends = count_sends_by (ready_event held.pending held.past)
 
 -- what is left once so many messages and as many anti-messages took a node each, as long as there was one
 abbrev pub after_letters : ℕ → KeptNodes → KeptNodes

@@ -19,7 +19,7 @@ ghost use Rattle.vt_lp.specs.Held.{StandsFor, AllWithinRun, IsReady, remembered}
 ghost use Rattle.vt_lp.specs.Guards.{IsDone, IsExecuteRefusal};
 ghost use Rattle.vt_past.specs.Events.{past_event};
 ghost use Rattle.vt_past.specs.Kept.{GaveEvent};
-ghost use Rattle.vt_lp.specs.Used.{sends_of, after_letters, IsLeft};
+ghost use Rattle.vt_lp.specs.Used.{count_sends, after_letters, IsLeft};
 ghost use Rattle.vt_lp.specs.Past.{ready_event, IsAdvanceRefusal};
 
 use crate::letters::ends_before;
@@ -96,8 +96,8 @@ impl<M: EventModel> Lp<M> {
         ensures counted { IfOk result (λ _. (self.new.triple.number ≤ MAX_COUNT) × (serial.new ≤ MAX_COUNT)) }
         ensures within { AllWithinRun self.old.config outbox.old → AllWithinRun self.old.config outbox.new }
         ensures same { (self.new.lp ≡ self.old.lp) × (self.new.config ≡ self.old.config) }
-        ensures used { let sent = sends_of (simulation_of (M.handlers model.now) self.old.config) self.old in IfOk result (λ _. GaveEvent (after_letters sent spare.old) spare.new) }
-        ensures left { let sent = sends_of (simulation_of (M.handlers model.now) self.old.config) self.old in IfErr result (IsLeft sent spare.old spare.new) }
+        ensures used { let sent = count_sends (simulation_of (M.handlers model.now) self.old.config) self.old in IfOk result (λ _. GaveEvent (after_letters sent spare.old) spare.new) }
+        ensures left { let sent = count_sends (simulation_of (M.handlers model.now) self.old.config) self.old in IfErr result (IsLeft sent spare.old spare.new) }
     {
         let Some(event) = ready_event(&self.pending, &self.past) else {
             return Err(Fault::NotLawful);

@@ -4,7 +4,7 @@ use Rattle.vt_models.specs.declared.stations.Stations.{Stations}
 use Rattle.vt_models.specs.declared.stations.Server.{Server}
 use Rattle.vt_models.specs.declared.stations.JobEvent.{JobEvent}
 use Rattle.vt_models.specs.declared.stations.JobEvent.TheVariants.{Arrive, Depart}
-use Rattle.vt_models.specs.Stations.{start_idle, start_busy, stations_start, one_more, arrival_begins, arrival_waits, one_served, nothing_departs, last_departs, next_follows, service_end, stations_forward}
+use Rattle.vt_models.specs.Stations.{start_idle, start_busy, stations_start, one_job_more, arrival_begins, arrival_waits, one_served, nothing_departs, last_departs, next_follows, service_end, stations_forward}
 
 is_not : (a b : ℕ) → (a ≡ b → ⊥) → nat_eq a b ≡ false
 is_not a b differ = search (arith)
@@ -20,10 +20,10 @@ module _ (m : Stations) (lps lp : ℕ) (words : ℕ → ℕ) where
 
   module _ (s : Server) where
     -- the first job at a station is served at once
-    pub served_at_once : (p : JobEvent) → p ≡ Arrive → (one_more s).length ≡ 1 → stations_forward m lps lp p s words ≡ arrival_begins m lp s words
+    pub served_at_once : (p : JobEvent) → p ≡ Arrive → (one_job_more s).length ≡ 1 → stations_forward m lps lp p s words ≡ arrival_begins m lp s words
     served_at_once p arrives first =
         ap (λ (e : JobEvent). stations_forward m lps lp e s words) arrives
-        ∙ ap (λ (b : Bool). (if b then arrival_begins m lp s words else arrival_waits s)) (eq-eqb (one_more s).length 1 first)
+        ∙ ap (λ (b : Bool). (if b then arrival_begins m lp s words else arrival_waits s)) (eq-eqb (one_job_more s).length 1 first)
 
     -- nothing departs from an empty station
     pub departs_from_none : (p : JobEvent) → p ≡ Depart → s.length ≡ 0 → stations_forward m lps lp p s words ≡ nothing_departs s

@@ -1,6 +1,7 @@
 -- What the handlers of `Stations` give.
-use Rattle.std.specs.Prelude.{ℕ, ◌+◌, ◌-◌, ◌%◌, ◌^◌, ◌<◌, [], ◌∷◌, nat_eq, if◌then◌else◌}
+use Rattle.std.specs.Prelude.{ℕ, ◌+◌, ◌-◌, ◌^◌, ◌<◌, [], ◌∷◌, nat_eq, if◌then◌else◌}
 use Rattle.vt_model.specs.Handler.{Handlers, StartResult, ForwardResult}
+use Rattle.vt_model.specs.Counts.{one_more, one_fewer}
 use Rattle.vt_model.specs.Flags.{has_flag}
 use Rattle.vt_model.specs.Sends.{SendRequest}
 use Rattle.vt_model.specs.declared.flags.Bits.{Bits}
@@ -46,40 +47,40 @@ stations_start m lp words =
     else start_busy m lp words
 
 -- a station with one job more
-abbrev pub one_more : Server → Server
-one_more s = record s { length = (s.length + 1) % 2 ^ 64 }
+abbrev pub one_job_more : Server → Server
+one_job_more s = record s { length = one_more s.length }
 
 -- a job that finds its station idle is served at once
 abbrev pub arrival_begins : Stations → ℕ → Server → (ℕ → ℕ) → ForwardResult Server JobEvent (Unit {0})
 arrival_begins m lp s words = record {
-  state = one_more s;
+  state = one_job_more s;
   kept = tt;
   bits = record { flags = 2 ^ BEGAN };
   drawn = 1;
   send_requests = departure m lp (words 0) ∷ [];
-  record_requests = record { kind = 3; value = (one_more s).length } ∷ [];
+  record_requests = record { kind = 3; value = (one_job_more s).length } ∷ [];
 }
 
 -- another waits
 abbrev pub arrival_waits : Server → ForwardResult Server JobEvent (Unit {0})
 arrival_waits s = record {
-  state = one_more s;
+  state = one_job_more s;
   kept = tt;
   bits = record { flags = 0 };
   drawn = 0;
   send_requests = [];
-  record_requests = record { kind = 3; value = (one_more s).length } ∷ [];
+  record_requests = record { kind = 3; value = (one_job_more s).length } ∷ [];
 }
 
 -- a job arrives
 abbrev pub arrival : Stations → ℕ → Server → (ℕ → ℕ) → ForwardResult Server JobEvent (Unit {0})
 arrival m lp s words =
-    if nat_eq (one_more s).length 1 then arrival_begins m lp s words
+    if nat_eq (one_job_more s).length 1 then arrival_begins m lp s words
     else arrival_waits s
 
 -- a station with one job less, which it has served
 abbrev pub one_served : Server → Server
-one_served s = record { length = s.length - 1; served = (s.served + 1) % 2 ^ 64 }
+one_served s = record { length = s.length - 1; served = one_more s.served }
 
 -- no job departs from an empty station: nothing happens
 abbrev pub nothing_departs : Server → ForwardResult Server JobEvent (Unit {0})
@@ -128,16 +129,16 @@ stations_forward m lps lp Depart s words =
     else service_end m lps lp s words
 
 -- a station before its last job came
-abbrev pub one_fewer : Server → Server
-one_fewer s = record s { length = (s.length + (2 ^ 64 - 1)) % 2 ^ 64 }
+abbrev pub one_job_fewer : Server → Server
+one_job_fewer s = record s { length = one_fewer s.length }
 
 -- a station before it had served its last job
 abbrev pub one_back : Server → Server
-one_back s = record { length = (s.length + 1) % 2 ^ 64; served = (s.served + (2 ^ 64 - 1)) % 2 ^ 64 }
+one_back s = record { length = one_more s.length; served = one_fewer s.served }
 
 -- what takes an event back: a job more goes, and a job served comes back unless none departed
 abbrev pub stations_reverse : JobEvent → Server → Bits → Server
-stations_reverse Arrive s bits = one_fewer s
+stations_reverse Arrive s bits = one_job_fewer s
 stations_reverse Depart s bits = if has_flag bits EMPTY then s else one_back s
 
 -- the four handlers
@@ -150,5 +151,5 @@ stations_handlers m = record {
 }
 
 -- both sums of a station are 64-bit numbers
-abbrev pub AreSums : Server → Type 0
-AreSums s = (s.length < 2 ^ 64) × (s.served < 2 ^ 64)
+abbrev pub IsServer : Server → Type 0
+IsServer s = (s.length < 2 ^ 64) × (s.served < 2 ^ 64)

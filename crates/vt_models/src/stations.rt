@@ -121,12 +121,12 @@ impl EventModel for Stations {
     type Kept = ();
 
     ghost use Rattle.std.proofs.Common.{lit<, lit≤};
-    ghost use Rattle.vt_models.specs.Stations.{stations_handlers, AreSums};
+    ghost use Rattle.vt_models.specs.Stations.{stations_handlers, IsServer};
     ghost use Rattle.vt_models.specs.StationsLaws.{start_within, forward_within, start_state, forward_state, undoes};
 
     ghost handlers = { stations_handlers };
 
-    ghost IsState = { λ m s. AreSums s };
+    ghost IsState = { λ m s. IsServer s };
 
     fn start(&self, lp: u32, draws: &mut Draws<'_>, out: &mut Out<JobEvent>) -> Server {
         if self.jobs != 0 {

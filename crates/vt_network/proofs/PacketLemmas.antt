@@ -19,7 +19,7 @@ use Rattle.vt_network.specs.declared.network.Router.{Router}
 use Rattle.vt_network.specs.declared.network.NetworkEvent.{NetworkEvent}
 use Rattle.vt_network.specs.declared.network.NetworkEvent.TheVariants.{Generate, Arrive, Served}
 use Rattle.vt_network.specs.declared.network.TheConstants.{DELIVERED, DROPPED}
-use Rattle.vt_network.specs.Network.{served, forwarded, with_delivery, taken, arrived, arrived_sends, arrived_records, delivery, loss, after, sent_on, gone_sends, sends_by, records_by, IsRouter}
+use Rattle.vt_network.specs.Network.{served, forwarded, with_delivery, taken, arrived, arrived_sends, arrived_records, delivery, loss, router_after, sent_on, gone_sends, sends_by, records_by, IsRouter}
 use Rattle.vt_network.specs.Packets.{packets_made_at, packets_brought, records_of_kind}
 
 -- the packets that these requests send
@@ -91,7 +91,7 @@ counted-rows kind lp now key rs = counted-from kind lp 0 now key rs
 
 -- the packets that an event leaves, sends on and records are those that were there, the one that it brought and the one that a host made
 pub forward-packets : (m : Network) (lps lp : ℕ) (now : Time) (e : NetworkEvent) (s : Router) (words : ℕ → ℕ) → IsRouter s
-    → item_count (after lp e s).queue + packets_sent (sends_by m lps lp now e s words) + packets_recorded (records_by lp now e s)
+    → item_count (router_after lp e s).queue + packets_sent (sends_by m lps lp now e s words) + packets_recorded (records_by lp now e s)
     ≡ item_count s.queue + packets_brought e + packets_made_at e
 forward-packets m lps lp now Generate s words fits = omega arith
 forward-packets m lps lp now (Arrive p) s words fits = omega (arith, arrived-packets m lp now p s)

@@ -20,12 +20,12 @@ abbrev pub ahead : ℕ → ℕ → ℕ → ℕ
 ahead lps lp dest = (dest % lps + lps - lp) % lps
 
 -- the longest link that doesn't lead too far
-abbrev pub step : Network → ℕ → ℕ
-step m left = if nat_lt left m.columns then 1 else m.columns
+abbrev pub longest_link : Network → ℕ → ℕ
+longest_link m left = if nat_lt left m.columns then 1 else m.columns
 
 -- the next router from this one, by how far ahead the destination is
 abbrev pub hop : Network → ℕ → ℕ → ℕ → ℕ
-hop m lps lp left = if nat_lt (lps / 2) left then (lp + lps - step m (lps - left)) % lps else (lp + step m left) % lps
+hop m lps lp left = if nat_lt (lps / 2) left then (lp + lps - longest_link m (lps - left)) % lps else (lp + longest_link m left) % lps
 
 -- the next router on the way to a destination
 abbrev pub next_hop : Network → ℕ → ℕ → ℕ → ℕ
@@ -103,10 +103,10 @@ abbrev pub gone_sends : Network → ℕ → ℕ → Router → List (SendRequest
 gone_sends m lps lp s = sent_on m lps lp (popped s.queue) (first s.queue)
 
 -- a router after an event
-abbrev pub after : ℕ → NetworkEvent → Router → Router
-after lp Generate s = record s { made = one_more s.made }
-after lp (Arrive p) s = arrived lp p s
-after lp Served s = gone_on s
+abbrev pub router_after : ℕ → NetworkEvent → Router → Router
+router_after lp Generate s = record s { made = one_more s.made }
+router_after lp (Arrive p) s = arrived lp p s
+router_after lp Served s = gone_on s
 
 -- what is kept
 abbrev pub kept_by : ℕ → NetworkEvent → Router → Option Packet
@@ -147,7 +147,7 @@ network_start m lp words = record { state = empty; drawn = 1; send_requests = ne
 -- an event
 abbrev pub network_forward : Network → ℕ → ℕ → Time → NetworkEvent → Router → (ℕ → ℕ) → ForwardResult Router NetworkEvent (Option Packet)
 network_forward m lps lp now e s words = record {
-  state = after lp e s;
+  state = router_after lp e s;
   kept = kept_by lp e s;
   bits = record { flags = 0 };
   drawn = drawn_by e;

@@ -15,15 +15,15 @@ use Rattle.vt_network.specs.declared.network.Router.{Router}
 use Rattle.vt_network.specs.declared.network.NetworkEvent.{NetworkEvent}
 use Rattle.vt_network.specs.declared.network.NetworkEvent.TheVariants.{Generate, Arrive, Served}
 use Rattle.vt_model.specs.Counts.{one_more, one_fewer, fewer-more}
-use Rattle.vt_network.specs.Network.{ahead, step, hop, next_made, new_packet, served, forwarded, with_delivery, lost_with, taken, arrived, arrived_kept, arrived_sends, delivery, loss, arrived_records, sent_on, drawn_by, sends_by, records_by, network_start, network_forward, untaken, network_reverse, IsRouter}
+use Rattle.vt_network.specs.Network.{ahead, longest_link, hop, next_made, new_packet, served, forwarded, with_delivery, lost_with, taken, arrived, arrived_kept, arrived_sends, delivery, loss, arrived_records, sent_on, drawn_by, sends_by, records_by, network_start, network_forward, untaken, network_reverse, IsRouter}
 
 served_ok : (m : Network) (lps lp now : ℕ) → lp < lps → IsSendable lps now (served m lp)
 served_ok m lps lp now known = record { known = known; some_priority = omega arith; later = omega (arith, m.some_service) }
 
 hop_known : (m : Network) (lps lp left : ℕ) → 0 < lps → hop m lps lp left < lps
 hop_known m lps lp left some =
-    elim (nat_lt (lps / 2) left) as (λ b. (if b then (lp + lps - step m (lps - left)) % lps else (lp + step m left) % lps) < lps)
-    [ true ↦ mod-lt (lp + lps - step m (lps - left)) some | false ↦ mod-lt (lp + step m left) some ]
+    elim (nat_lt (lps / 2) left) as (λ b. (if b then (lp + lps - longest_link m (lps - left)) % lps else (lp + longest_link m left) % lps) < lps)
+    [ true ↦ mod-lt (lp + lps - longest_link m (lps - left)) some | false ↦ mod-lt (lp + longest_link m left) some ]
 
 forwarded_ok : (m : Network) (lps lp now : ℕ) (p : Packet) → lp < lps → IsSendable lps now (forwarded m lps lp p)
 forwarded_ok m lps lp now p known = record { known = hop_known m lps lp (ahead lps lp p.dest) (omega (arith, known)); some_priority = omega arith; later = omega (arith, m.some_link) }

@@ -79,7 +79,7 @@ pub struct Network {
 
 impl Network {
     ghost use Rattle.vt_model.specs.Counts.{one_more};
-    ghost use Rattle.vt_network.specs.Network.{step, next_hop, made_sends, arrived, arrived_kept, arrived_sends, arrived_records, gone_on, goes_on, gone_sends};
+    ghost use Rattle.vt_network.specs.Network.{longest_link, next_hop, made_sends, arrived, arrived_kept, arrived_sends, arrived_records, gone_on, goes_on, gone_sends};
 
     /// The network whose chords lead `columns` (1 to 65,536) routers on, with up to `gap` ticks between two packets of a host,
     /// `service` ticks of work for a packet and `link` ticks on a link (each 1 to 1,000,000).
@@ -119,15 +119,15 @@ impl Network {
     {
         let ahead = (dest % lps + lps - lp) % lps;
         if ahead <= lps / 2 {
-            (lp + self.step(ahead)) % lps
+            (lp + self.longest_link(ahead)) % lps
         } else {
-            (lp + lps - self.step(lps - ahead)) % lps
+            (lp + lps - self.longest_link(lps - ahead)) % lps
         }
     }
 
     // The longest link that doesn't lead too far.
-    fn step(&self, left: u32) -> u32
-        ensures { result ≡ step self.now left }
+    fn longest_link(&self, left: u32) -> u32
+        ensures { result ≡ longest_link self.now left }
     {
         if left < self.columns { 1 } else { self.columns }
     }

@@ -16,7 +16,7 @@ use Rattle.vt_models.specs.declared.hop.Token.{Token}
 use Rattle.vt_models.specs.Hop.{hop_handlers}
 use Rattle.vt_models.specs.HopLaws.{start_within, forward_within}
 use Rattle.vt_model.specs.Settings.{end_of}
-use Rattle.vt_replays.specs.Replays.{tick, HasRecords, EndsWith, two_hops, one_hop, two_further, one_worker, one_worker_to_4, two_workers, three_processes, two_hops_run, two_hops_run_to_4, three_processes_run, replayed, six_records, three_records, four_records, three_processes_records, below_3, two_rises, two_rises_run, risen_records, three_rises, one_process, one_process_to_2, three_rises_run, three_rises_run_to_2, records_to_2, records_to_10}
+use Rattle.vt_replays.specs.Replays.{tick, HasRecords, ProcessEndsWith, two_hops, one_hop, two_further, one_worker, one_worker_to_4, two_workers, three_processes, two_hops_run, two_hops_run_to_4, three_processes_run, replayed, six_records, three_records, four_records, three_processes_records, below_3, two_rises, two_rises_run, risen_records, three_rises, one_process, one_process_to_2, three_rises_run, three_rises_run_to_2, records_to_2, records_to_10}
 
 hop_lawful : (hop : Hop) (config : Config) → IsLawful (simulation_of (hop_handlers hop) config)
 hop_lawful hop config = lawful_of (hop_handlers hop) config (start_within hop) (forward_within hop)
@@ -34,7 +34,7 @@ module _ (hop : Hop) (config : Config) (n : ℕ) (ended : (after_steps (simulati
   ends_with : (p state number : ℕ) →
       (after (simulation_of (hop_handlers hop) config) p (events_before (end_of config) (events_of p (after_steps (simulation_of (hop_handlers hop) config) n).executed))).state ≡ state →
       (after (simulation_of (hop_handlers hop) config) p (events_before (end_of config) (events_of p (after_steps (simulation_of (hop_handlers hop) config) n).executed))).number ≡ number →
-      EndsWith (simulation_of (hop_handlers hop) config) p state number
+      ProcessEndsWith (simulation_of (hop_handlers hop) config) p state number
   ends_with p state number state_is number_is = record {
     state_is = of_whole (λ es. (after (simulation_of (hop_handlers hop) config) p (events_before (end_of config) (events_of p es))).state ≡ state) state_is;
     number_is = of_whole (λ es. (after (simulation_of (hop_handlers hop) config) p (events_before (end_of config) (events_of p es))).number ≡ number) number_is;
@@ -42,19 +42,19 @@ module _ (hop : Hop) (config : Config) (n : ℕ) (ended : (after_steps (simulati
 
 pub computed :
     HasRecords two_hops_run (tick 10) six_records
-    × EndsWith two_hops_run 0 66049 3
-    × EndsWith two_hops_run 1 131330 3
+    × ProcessEndsWith two_hops_run 0 66049 3
+    × ProcessEndsWith two_hops_run 1 131330 3
     × HasRecords two_hops_run_to_4 (tick 4) three_records
-    × EndsWith two_hops_run_to_4 0 1 2
-    × EndsWith two_hops_run_to_4 1 513 3
+    × ProcessEndsWith two_hops_run_to_4 0 1 2
+    × ProcessEndsWith two_hops_run_to_4 1 513 3
     × HasRecords replayed (tick 10) four_records
     × HasRecords replayed (tick 3) below_3
     × HasRecords three_processes_run (tick 3) three_processes_records
     × HasRecords two_rises_run (tick 10) risen_records
     × HasRecords three_rises_run (tick 10) records_to_10
-    × EndsWith three_rises_run 0 16843009 4
+    × ProcessEndsWith three_rises_run 0 16843009 4
     × HasRecords three_rises_run_to_2 (tick 2) records_to_2
-    × EndsWith three_rises_run_to_2 0 65793 4
+    × ProcessEndsWith three_rises_run_to_2 0 65793 4
 unfolding fired_after key_before key_same sent_events requested_records start_of fire_of rows_of
 computed = (
   has_records two_hops one_worker 6 refl (tick 10) six_records refl,

@@ -1,9 +1,8 @@
 -- Worked replays: lists of steps of the hop model, each step with its answer, and what the world shows after them.
-use Rattle.std.specs.Prelude.{◌≡◌, ◌≤◌, ℕ, List, [], ◌∷◌, ◌++◌, map, Result, Ok, Err}
+use Rattle.std.specs.Prelude.{◌≡◌, ◌≤◌, ℕ, List, [], ◌∷◌, ◌++◌, map, Ok, Err}
 use Rattle.std.proofs.Common.{lit≤}
 use Rattle.vt_key.specs.Times.{Time, at}
 use Rattle.vt_key.specs.declared.order.Stamp.{Stamp}
-use Rattle.vt_key.specs.declared.fault.Fault.{Fault}
 use Rattle.vt_key.specs.declared.fault.Fault.TheVariants.{NotLawful, Closed}
 use Rattle.vt_model.specs.declared.rows.Record.{Record}
 use Rattle.vt_model.specs.declared.settings.Config.{Config}
@@ -20,6 +19,7 @@ use Rattle.vt_steps.specs.declared.step.Reply.{Reply}
 use Rattle.vt_steps.specs.declared.step.Reply.TheVariants.{Done, Waiting, Again, Announced}
 use Rattle.vt_steps.specs.World.{World, opening_world, least, book_floor, book_records}
 use Rattle.vt_steps.specs.Next.{run, answers}
+use Rattle.vt_steps.specs.Marked.{Answered}
 
 -- the first time of a tick
 abbrev pub tick : ℕ → Time
@@ -27,25 +27,20 @@ tick t = at t 0
 
 -- ---- what a replay says
 
--- a step, and the answer that is listed for it
-pub record Line : Type 0 where
-  pub step : Step
-  pub answer : Result Reply Fault
-
 -- the step is done
-abbrev pub ok : Step → Line
+abbrev pub ok : Step → Answered
 ok step = record { step = step; answer = Ok Done }
 
 -- a report is answered so
-abbrev pub replies : Step → Reply → Line
+abbrev pub replies : Step → Reply → Answered
 replies step reply = record { step = step; answer = Ok reply }
 
 -- the step is refused, since its guard fails
-abbrev pub not_lawful : Step → Line
+abbrev pub not_lawful : Step → Answered
 not_lawful step = record { step = step; answer = Err NotLawful }
 
 -- the step is refused, since the book is closed
-abbrev pub closed : Step → Line
+abbrev pub closed : Step → Answered
 closed step = record { step = step; answer = Err Closed }
 
 -- what a world shows: the announced time, the floor of its book, its least time, and the book's records
@@ -65,7 +60,7 @@ shown_by end world = record {
 }
 
 -- from the opening world with serials from 0, the steps are answered as listed, and then the world shows this
-pub record Replays {S P : Type 0} (sim : Simulation S P) (lines : List Line) (shown : Shown) : Type 0 where
+pub record Replays {S P : Type 0} (sim : Simulation S P) (lines : List Answered) (shown : Shown) : Type 0 where
   pub answered : answers sim (opening_world sim 0) (map (λ line. line.step) lines) ≡ map (λ line. line.answer) lines
   pub shows : shown_by sim.end (run sim (opening_world sim 0) (map (λ line. line.step) lines)) ≡ shown
 
@@ -136,31 +131,31 @@ stamp w serial = record { worker = w; serial = serial }
 
 -- process 1 executes its own event at 2 before the one that process 0 sends it for 2, whose source is lower: so the letter
 -- comes as a straggler, the event is undone, and both are executed in order
-abbrev pub until_straggler : List Line
+abbrev pub until_straggler : List Answered
 until_straggler =
     ok (Home 0) ∷ ok (Home 1) ∷ ok (Execute 1) ∷ ok (Execute 0) ∷ ok (Send 0 1) ∷ ok (Fetch 1) ∷ ok (Accept 1 0)
     ∷ ok (Undo 1) ∷ ok (Execute 1) ∷ ok (Execute 1) ∷ []
 
 -- worker 0 fetches the event that process 1 first sent, its anti-message, and the event that was sent again
-abbrev pub until_fetched : List Line
+abbrev pub until_fetched : List Answered
 until_fetched = until_straggler ++ ok (Send 1 0) ∷ ok (Fetch 0) ∷ []
 
 -- the three are accepted in the order in which they were sent
-abbrev pub in_order : List Line
-in_order =
+abbrev pub accepted_in_order : List Answered
+accepted_in_order =
     until_fetched ++ ok (Accept 0 0) ∷ ok (Accept 0 0) ∷ ok (Accept 0 0) ∷ ok (Cancel 0 (stamp 1 1)) ∷ ok (Execute 0) ∷ []
 
 -- a round, in which worker 1 reports last
-abbrev pub a_round : List Line
+abbrev pub a_round : List Answered
 a_round = ok (Cut 0) ∷ ok (Cut 1) ∷ replies (Report 0) Waiting ∷ replies (Report 1) (Announced (tick 10)) ∷ []
 
 -- worker 0 learns the announced time by a cut, both commit, and the book is closed
-abbrev pub to_the_close : List Line
+abbrev pub to_the_close : List Answered
 to_the_close = a_round ++ ok (Cut 0) ∷ ok (Commit 0) ∷ ok (Commit 1) ∷ ok Close ∷ []
 
 -- all of it
-abbrev pub straggler : List Line
-straggler = in_order ++ to_the_close
+abbrev pub straggler : List Answered
+straggler = accepted_in_order ++ to_the_close
 
 -- the four records of the whole run
 abbrev pub four_records : List Record
@@ -173,7 +168,7 @@ whole_run_shown = record { announced = tick 10; floor = tick 10; least = tick 10
 -- ---- an anti-message before its event
 
 -- the anti-message is accepted first: it waits, and there is nothing yet to cancel
-abbrev pub anti_message_first : List Line
+abbrev pub anti_message_first : List Answered
 anti_message_first =
     until_fetched
     ++ ok (Accept 0 1) ∷ not_lawful (Cancel 0 (stamp 1 1)) ∷ ok (Accept 0 0) ∷ ok (Cancel 0 (stamp 1 1)) ∷ ok (Accept 0 0)
@@ -184,7 +179,7 @@ anti_message_first =
 
 -- the new event is accepted first and has the key of the old one: the anti-message must not cancel it, since its stamp is
 -- another
-abbrev pub new_event_first : List Line
+abbrev pub new_event_first : List Answered
 new_event_first =
     until_fetched
     ++ ok (Accept 0 2) ∷ ok (Accept 0 1) ∷ not_lawful (Cancel 0 (stamp 1 1)) ∷ ok (Accept 0 0) ∷ ok (Cancel 0 (stamp 1 1))
@@ -194,7 +189,7 @@ new_event_first =
 -- ---- unequal counts
 
 -- a letter travels across the cut, so the counts differ and nothing is announced; once it is fetched, they are equal
-abbrev pub unequal_counts : List Line
+abbrev pub unequal_counts : List Answered
 unequal_counts =
     ok (Home 0) ∷ ok (Home 1) ∷ ok (Execute 0) ∷ ok (Send 0 1) ∷ ok (Cut 0) ∷ ok (Cut 1) ∷ replies (Report 0) Waiting
     ∷ replies (Report 1) Again ∷ ok (Fetch 1) ∷ replies (Report 0) Waiting ∷ replies (Report 1) (Announced (tick 2)) ∷ []
@@ -206,7 +201,7 @@ unequal_counts_shown = record { announced = tick 2; floor = tick 0; least = tick
 -- ---- a travelling letter of the new colour is the least
 
 -- worker 1 sends after its cut: nothing is pending anywhere, and the red minimum holds the announced time back
-abbrev pub travelling_least : List Line
+abbrev pub travelling_least : List Answered
 travelling_least =
     until_straggler
     ++ ok (Cut 0) ∷ ok (Cut 1) ∷ ok (Send 1 0) ∷ replies (Report 0) Waiting ∷ replies (Report 1) (Announced (tick 3))
@@ -224,7 +219,7 @@ travelling_least_shown = record { announced = tick 3; floor = tick 3; least = ti
 
 -- worker 1 has fetched the straggler and not accepted it: nothing else is as early. What it executed at that very time is
 -- not committed, and can still be undone
-abbrev pub fetched_least : List Line
+abbrev pub fetched_least : List Answered
 fetched_least =
     ok (Home 0) ∷ ok (Home 1) ∷ ok (Execute 1) ∷ ok (Execute 0) ∷ ok (Send 0 1) ∷ ok (Fetch 1)
     ∷ not_lawful (Fetch 1) ∷ ok (Cut 0) ∷ ok (Cut 1) ∷ replies (Report 0) Waiting ∷ replies (Report 1) (Announced (tick 2))
@@ -237,7 +232,7 @@ fetched_least_shown = record { announced = tick 2; floor = tick 0; least = tick 
 -- ---- an anti-message of an executed event
 
 -- process 0 has executed the event when its anti-message comes: the event is undone first, and then the two annihilate
-abbrev pub anti_message_last : List Line
+abbrev pub anti_message_last : List Answered
 anti_message_last =
     until_fetched
     ++ ok (Accept 0 0) ∷ ok (Execute 0) ∷ not_lawful (Undo 0) ∷ ok (Accept 0 0) ∷ not_lawful (Cancel 0 (stamp 1 1))
@@ -248,7 +243,7 @@ anti_message_last =
 
 -- after a second round worker 0 hands in its event at 3, and worker 1 has handed in up to 3 alone: the book shows what is
 -- before 3
-abbrev pub row_at_floor : List Line
+abbrev pub row_at_floor : List Answered
 row_at_floor =
     until_straggler
     ++ ok (Cut 0) ∷ ok (Cut 1) ∷ ok (Send 1 0) ∷ replies (Report 0) Waiting ∷ replies (Report 1) (Announced (tick 3))
@@ -261,14 +256,14 @@ abbrev pub row_at_floor_shown : Shown
 row_at_floor_shown = record { announced = tick 10; floor = tick 3; least = tick 10; records = below_3 }
 
 -- worker 1 then learns the second announced time by a cut and commits: the whole run is in the book, and it is closed
-abbrev pub second_round_closes : List Line
+abbrev pub second_round_closes : List Answered
 second_round_closes = row_at_floor ++ ok (Cut 1) ∷ ok (Commit 1) ∷ ok Close ∷ []
 
 -- ---- what a round refuses
 
 -- nobody cuts twice in a round, reports before all have cut, or reports twice; nobody sends where nothing is for the other;
 -- and there are two workers and two processes
-abbrev pub one_round : List Line
+abbrev pub one_round : List Answered
 one_round =
     not_lawful (Send 0 1) ∷ not_lawful (Report 0) ∷ ok (Cut 0) ∷ not_lawful (Cut 0) ∷ not_lawful (Report 0) ∷ not_lawful (Cut 2) ∷ ok (Cut 1)
     ∷ replies (Report 0) Waiting ∷ not_lawful (Report 0) ∷ not_lawful (Report 2) ∷ replies (Report 1) (Announced (tick 1))
@@ -281,7 +276,7 @@ one_round_shown = record { announced = tick 1; floor = tick 0; least = tick 1; r
 -- ---- what one worker alone refuses
 
 -- it sends nothing to itself, and nothing has arrived; an empty inbox may be fetched, and what is below the floor 0 committed
-abbrev pub alone : List Line
+abbrev pub alone : List Answered
 alone =
     ok (Fetch 0) ∷ not_lawful (Accept 0 0) ∷ not_lawful (Send 0 0) ∷ not_lawful (Report 0) ∷ ok (Commit 0)
     ∷ not_lawful Close ∷ ok (Cut 0) ∷ not_lawful (Cut 0) ∷ replies (Report 0) (Announced (tick 1)) ∷ not_lawful (Report 0) ∷ []
@@ -293,7 +288,7 @@ abbrev pub until_one : Simulation ℕ Token
 until_one = simulation_of (hop_handlers two_hops) (config_of 2 1 1 (lit≤ tt) (lit≤ tt) (lit≤ tt) (lit≤ tt) (lit≤ tt) (lit≤ tt))
 
 -- one round, a commit and the close
-abbrev pub no_events : List Line
+abbrev pub no_events : List Answered
 no_events = ok (Cut 0) ∷ replies (Report 0) (Announced (tick 1)) ∷ ok (Commit 0) ∷ ok Close ∷ []
 
 -- the end of the run is reached
@@ -303,7 +298,7 @@ no_events_shown = record { announced = tick 1; floor = tick 1; least = tick 1; r
 -- ---- an undo without a cause
 
 -- no earlier event and no anti-message has come, so nothing is undone
-abbrev pub undo_without_cause : List Line
+abbrev pub undo_without_cause : List Answered
 undo_without_cause = ok (Home 0) ∷ ok (Execute 0) ∷ not_lawful (Undo 0) ∷ []
 
 -- what process 0 sent and process 1 begins with, both at 2 or later, are left
@@ -314,7 +309,7 @@ undo_without_cause_shown = record { announced = tick 0; floor = tick 0; least = 
 
 -- an event at the same time but of greater rank, an anti-message that waits for a later event, and a later event: none of
 -- them makes an undo lawful
-abbrev pub undo_without_cause_of_its_own : List Line
+abbrev pub undo_without_cause_of_its_own : List Answered
 undo_without_cause_of_its_own =
     ok (Home 0) ∷ ok (Home 1) ∷ ok (Execute 1) ∷ ok (Execute 0) ∷ ok (Send 0 1) ∷ ok (Fetch 1) ∷ ok (Accept 1 0)
     ∷ ok (Undo 1) ∷ ok (Execute 1) ∷ not_lawful (Undo 1) ∷ ok (Execute 1) ∷ ok (Send 1 0) ∷ ok (Fetch 0)
@@ -326,8 +321,8 @@ undo_without_cause_of_its_own_shown = record { announced = tick 0; floor = tick 
 -- ---- one worker commits alone
 
 -- the floor of the book is the least floor up to which a worker has handed in, so nothing is shown yet
-abbrev pub one_commits : List Line
-one_commits = in_order ++ a_round ++ ok (Commit 1) ∷ []
+abbrev pub one_commits : List Answered
+one_commits = accepted_in_order ++ a_round ++ ok (Commit 1) ∷ []
 
 -- worker 0 has handed in nothing
 abbrev pub one_commits_shown : Shown
@@ -336,7 +331,7 @@ one_commits_shown = record { announced = tick 10; floor = tick 0; least = tick 1
 -- ---- a closed book
 
 -- it takes nothing more
-abbrev pub after_the_close : List Line
+abbrev pub after_the_close : List Answered
 after_the_close = straggler ++ closed (Commit 0) ∷ closed Close ∷ []
 
 -- ---- a straggler within a tick
@@ -346,12 +341,12 @@ abbrev pub one_rise : Hop
 one_rise = hop_of 1 1 2 100 (lit≤ tt) (lit≤ tt) (lit≤ tt) (lit≤ tt) (lit≤ tt)
 
 -- one hop within the tick, on two workers
-abbrev pub risen : Simulation ℕ Token
-risen = simulation_of (hop_handlers one_rise) two_workers
+abbrev pub one_rise_on_two : Simulation ℕ Token
+one_rise_on_two = simulation_of (hop_handlers one_rise) two_workers
 
 -- process 1 executes its own event at (2, 0) before the one that process 0 sends it for (1, 100): so this comes as a straggler.
 -- The announced time is that pair, and what is before it is committed
-abbrev pub straggler_within_a_tick : List Line
+abbrev pub straggler_within_a_tick : List Answered
 straggler_within_a_tick =
     ok (Home 0) ∷ ok (Home 1) ∷ ok (Execute 1) ∷ ok (Execute 0) ∷ ok (Send 0 1) ∷ ok (Fetch 1) ∷ ok (Accept 1 0) ∷ ok (Undo 1)
     ∷ ok (Cut 0) ∷ ok (Cut 1) ∷ replies (Report 0) Waiting ∷ replies (Report 1) (Announced (at 1 100))
@@ -367,7 +362,7 @@ abbrev pub HasRecords : {S P : Type 0} → Simulation S P → Time → List Reco
 HasRecords sim t shown = seq_records sim t ≡ shown
 
 -- after the whole run, a process has this state and has taken so many send numbers
-pub record EndsWith {P : Type 0} (sim : Simulation ℕ P) (p state number : ℕ) : Type 0 where
+pub record ProcessEndsWith {P : Type 0} (sim : Simulation ℕ P) (p state number : ℕ) : Type 0 where
   pub state_is : (after sim p (seq_events sim p sim.end)).state ≡ state
   pub number_is : (after sim p (seq_events sim p sim.end)).number ≡ number
 

@@ -6,7 +6,8 @@ use Rattle.vt_model.specs.declared.sending.Sent.{Sent}
 use Rattle.vt_model.specs.Simulation.{Simulation, Triple, Fired}
 use Rattle.vt_steps.specs.declared.step.Step.TheVariants.{Execute, Undo, Cancel, Home, Send, Fetch, Accept, Cut, Report}
 use Rattle.vt_steps.specs.declared.step.Reply.TheVariants.{Waiting, Announced}
-use Rattle.vt_replays.specs.Replays.{Line, Shown, tick, ok, replies, stamp}
+use Rattle.vt_steps.specs.Marked.{Answered}
+use Rattle.vt_replays.specs.Replays.{Shown, tick, ok, replies, stamp}
 
 -- a send of a process with this number, to a process, which tells by its payload what to do
 abbrev pub send_of : ℕ → ℕ → Time → ℕ → ℕ → Sent ℕ
@@ -38,7 +39,7 @@ resending = record {
 -- process 0 has executed the event for 4 that process 1 sent at first, when the anti-message comes, with the event for 13 that
 -- process 1 sent anew. Nothing else is before 13, but the anti-message waits: so 4 is announced. The event is undone then, and
 -- the two annihilate
-abbrev pub waiting_least : List Line
+abbrev pub waiting_least : List Answered
 waiting_least =
     ok (Home 0) ∷ ok (Home 1) ∷ ok (Execute 1) ∷ ok (Send 1 0) ∷ ok (Fetch 0) ∷ ok (Accept 0 0) ∷ ok (Execute 0) ∷ ok (Execute 0)
     ∷ ok (Send 0 1) ∷ ok (Fetch 1) ∷ ok (Accept 1 0) ∷ ok (Undo 1) ∷ ok (Execute 1) ∷ ok (Execute 1)

@@ -8,8 +8,8 @@
 mod hop_runs;
 mod resending;
 
-ghost use Rattle.vt_replays.specs.Replays.{Replays, replayed, two_hops_run, straggler, whole_run_shown, anti_message_first, new_event_first, unequal_counts, unequal_counts_shown, travelling_least, travelling_least_shown, fetched_least, fetched_least_shown, anti_message_last, row_at_floor, row_at_floor_shown, second_round_closes, one_round, one_round_shown, alone, until_one, no_events, no_events_shown, undo_without_cause, undo_without_cause_shown, undo_without_cause_of_its_own, undo_without_cause_of_its_own_shown, one_commits, one_commits_shown, after_the_close, risen, straggler_within_a_tick, straggler_within_a_tick_shown};
-ghost use Rattle.vt_replays.specs.Replays.{tick, HasRecords, EndsWith, two_hops_run_to_4, three_processes_run, six_records, three_records, four_records, three_processes_records, below_3, two_rises_run, risen_records, three_rises_run, three_rises_run_to_2, records_to_2, records_to_10};
+ghost use Rattle.vt_replays.specs.Replays.{Replays, replayed, two_hops_run, straggler, whole_run_shown, anti_message_first, new_event_first, unequal_counts, unequal_counts_shown, travelling_least, travelling_least_shown, fetched_least, fetched_least_shown, anti_message_last, row_at_floor, row_at_floor_shown, second_round_closes, one_round, one_round_shown, alone, until_one, no_events, no_events_shown, undo_without_cause, undo_without_cause_shown, undo_without_cause_of_its_own, undo_without_cause_of_its_own_shown, one_commits, one_commits_shown, after_the_close, one_rise_on_two, straggler_within_a_tick, straggler_within_a_tick_shown};
+ghost use Rattle.vt_replays.specs.Replays.{tick, HasRecords, ProcessEndsWith, two_hops_run_to_4, three_processes_run, six_records, three_records, four_records, three_processes_records, below_3, two_rises_run, risen_records, three_rises_run, three_rises_run_to_2, records_to_2, records_to_10};
 
 pub use hop_runs::hop_histories;
 pub use resending::waiting_anti_message_is_the_least;
@@ -33,23 +33,23 @@ pub fn replays_as_worked()
     ensures undo_without_cause_of_its_own { Replays replayed undo_without_cause_of_its_own undo_without_cause_of_its_own_shown }
     ensures one_worker_commits { Replays replayed one_commits one_commits_shown }
     ensures closed_book { Replays replayed after_the_close whole_run_shown }
-    ensures straggler_within_a_tick { Replays risen straggler_within_a_tick straggler_within_a_tick_shown }
+    ensures straggler_within_a_tick { Replays one_rise_on_two straggler_within_a_tick straggler_within_a_tick_shown }
 {}
 
 /// Worked sequential runs: their records before a time, and where they leave the processes.
 pub fn sequential_runs_as_worked()
     ensures two_hops { HasRecords two_hops_run (tick 10) six_records }
-    ensures two_hops_leave_0 { EndsWith two_hops_run 0 66049 3 }
-    ensures two_hops_leave_1 { EndsWith two_hops_run 1 131330 3 }
+    ensures two_hops_leave_0 { ProcessEndsWith two_hops_run 0 66049 3 }
+    ensures two_hops_leave_1 { ProcessEndsWith two_hops_run 1 131330 3 }
     ensures sends_past_the_end { HasRecords two_hops_run_to_4 (tick 4) three_records }
-    ensures past_the_end_0 { EndsWith two_hops_run_to_4 0 1 2 }
-    ensures past_the_end_1 { EndsWith two_hops_run_to_4 1 513 3 }
+    ensures past_the_end_0 { ProcessEndsWith two_hops_run_to_4 0 1 2 }
+    ensures past_the_end_1 { ProcessEndsWith two_hops_run_to_4 1 513 3 }
     ensures one_hop { HasRecords replayed (tick 10) four_records }
     ensures one_hop_before_3 { HasRecords replayed (tick 3) below_3 }
     ensures keys_decide { HasRecords three_processes_run (tick 3) three_processes_records }
     ensures hops_within_a_tick { HasRecords two_rises_run (tick 10) risen_records }
     ensures hops_past_the_last_priority { HasRecords three_rises_run (tick 10) records_to_10 }
-    ensures past_the_last_priority { EndsWith three_rises_run 0 16843009 4 }
+    ensures past_the_last_priority { ProcessEndsWith three_rises_run 0 16843009 4 }
     ensures hops_to_the_end { HasRecords three_rises_run_to_2 (tick 2) records_to_2 }
-    ensures past_the_end_within_a_tick { EndsWith three_rises_run_to_2 0 65793 4 }
+    ensures past_the_end_within_a_tick { ProcessEndsWith three_rises_run_to_2 0 65793 4 }
 {}

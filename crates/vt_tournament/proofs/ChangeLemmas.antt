@@ -3,7 +3,7 @@ use Rattle.std.proofs.Common.{◌≡◌, ℕ, ◌+◌, ◌*◌, ◌-◌, ◌/◌
 use Rattle.std.proofs.lemmas.List.{get_or-set_other, length-set}
 use Rattle.std.proofs.lemmas.Bool.{cases_order, cases_lt}
 use Rattle.vt_key.specs.declared.order.Rank.{Rank}
-use Rattle.vt_tournament.specs.Contest.{Node, is_ahead, is_ahead_by, winner_of, contestant, node_of, Fits, inner_places, last_place, place, node, IsBelow, IsAbove, IsWinner, IsBest, AreWinners, WasTournamentOf, place_at, IsChanged, IsDecided, IsCarried}
+use Rattle.vt_tournament.specs.Contest.{Node, is_ahead, is_ahead_by, winner_of, contestant, node_of, Fits, inner_places, last_place, leaf_of, node, IsBelow, IsAbove, IsWinner, IsBest, AreWinners, WasTournamentOf, place_of_offset, IsChanged, IsDecided, IsCarried}
 use Rattle.vt_tournament.proofs.AheadLemmas.{NotBehind, not_behind-transitive, not_behind-same, behind-none}
 use Rattle.vt_tournament.proofs.NodeLemmas.{somebody, ranked-known}
 use Rattle.vt_tournament.proofs.PathLemmas.{above-self, above-low, above-next, above-transitive, between, upward}
@@ -19,14 +19,14 @@ taking_part None i rank j h = absurd (behind-none rank i j h)
 -- who won at a place above another isn't behind who won there, if that one takes part
 over : (ranks : List (Option Rank)) (k p : ℕ) (v w : Node) (rank : Rank) → IsAbove k p → IsWinner ranks k v → IsWinner ranks p w → slice_index_or ranks w.number None ≡ Some rank → NotBehind (contestant ranks v.number) (contestant ranks w.number)
 over ranks k p v w rank above won_above won is =
-    won_above.least w.number rank is (above-transitive k p (place ranks w.number) above (won.placed (ranked-known ranks w.number rank is)))
+    won_above.least w.number rank is (above-transitive k p (leaf_of ranks w.number) above (won.placed (ranked-known ranks w.number rank is)))
 
 module _ (ranks : List (Option Rank)) (number : ℕ) (entry : Option Rank) (known : number < length ranks) where
   many : length (slice_set ranks number entry) ≡ length ranks
   many = length-set ranks number entry
 
-  place-set : (i : ℕ) → place (slice_set ranks number entry) i ≡ place ranks i
-  place-set i = ap (λ (n : ℕ). inner_places n + i) many
+  leaf_of-set : (i : ℕ) → leaf_of (slice_set ranks number entry) i ≡ leaf_of ranks i
+  leaf_of-set i = ap (λ (n : ℕ). inner_places n + i) many
 
   -- another contestant has the entry that it had
   same_entry : (i : ℕ) → (i ≡ number → ⊥) → slice_index_or (slice_set ranks number entry) i None ≡ slice_index_or ranks i None
@@ -45,54 +45,54 @@ module _ (ranks : List (Option Rank)) (number : ℕ) (entry : Option Rank) (know
   fits-set w other fits = fits ∙ ap node_of (same w.number other)
 
   -- where the changed contestant won, it stands there or below
-  stands : (k : ℕ) (w : Node) → IsWinner (slice_set ranks number entry) k w → w.number ≡ number → IsAbove k (place ranks number)
-  stands k w won e = subst (IsAbove k) (place-set w.number ∙ ap (place ranks) e) (won.placed (omega (arith, many, known, e)))
+  stands : (k : ℕ) (w : Node) → IsWinner (slice_set ranks number entry) k w → w.number ≡ number → IsAbove k (leaf_of ranks number)
+  stands k w won e = subst (IsAbove k) (leaf_of-set w.number ∙ ap (leaf_of ranks) e) (won.placed (omega (arith, many, known, e)))
 
   -- who won at a place, and isn't the changed contestant nor behind it, wins still
-  kept : (k : ℕ) (w : Node) → (w.number ≡ number → ⊥) → ((rank : Rank) → slice_index_or ranks number None ≡ Some rank → IsAbove k (place ranks number) → NotBehind (contestant ranks w.number) (contestant ranks number)) → IsWinner (slice_set ranks number entry) k w → IsWinner ranks k w
+  kept : (k : ℕ) (w : Node) → (w.number ≡ number → ⊥) → ((rank : Rank) → slice_index_or ranks number None ≡ Some rank → IsAbove k (leaf_of ranks number) → NotBehind (contestant ranks w.number) (contestant ranks number)) → IsWinner (slice_set ranks number entry) k w → IsWinner ranks k w
   kept k w another ahead won = record {
     fits = fits-set w another won.fits;
-    placed = λ l. subst (IsAbove k) (place-set w.number) (won.placed (omega (arith, many, l)));
+    placed = λ l. subst (IsAbove k) (leaf_of-set w.number) (won.placed (omega (arith, many, l)));
     least = λ i rank is path. elim (cases_order i number) [
       | inl e ↦
           subst (λ (n : ℕ). NotBehind (contestant ranks w.number) (contestant ranks n)) (sym e)
-          (ahead rank (subst (λ (n : ℕ). slice_index_or ranks n None ≡ Some rank) e is) (subst (λ (n : ℕ). IsAbove k (place ranks n)) e path))
+          (ahead rank (subst (λ (n : ℕ). slice_index_or ranks n None ≡ Some rank) e is) (subst (λ (n : ℕ). IsAbove k (leaf_of ranks n)) e path))
       | inr h ↦
           let differs : i ≡ number → ⊥ = λ e. elim h [ inl x ↦ omega (arith, x, e) | inr x ↦ omega (arith, x, e) ] in
-          not_behind-set w.number i another differs (won.least i rank (same_entry i differs ∙ is) (subst (IsAbove k) (sym (place-set i)) path))
+          not_behind-set w.number i another differs (won.least i rank (same_entry i differs ∙ is) (subst (IsAbove k) (sym (leaf_of-set i)) path))
     ];
   }
 
   -- off the way of the changed contestant who won wins still
-  pub elsewhere : (k : ℕ) (w : Node) → (IsAbove k (place ranks number) → ⊥) → IsWinner (slice_set ranks number entry) k w → IsWinner ranks k w
+  pub elsewhere : (k : ℕ) (w : Node) → (IsAbove k (leaf_of ranks number) → ⊥) → IsWinner (slice_set ranks number entry) k w → IsWinner ranks k w
   elsewhere k w off won = kept k w (λ e. off (stands k w won e)) (λ rank is path. absurd (off path)) won
 
   -- ---- where another one than the changed contestant wins at a place of its way as before
 
-  module _ (few : length ranks ≤ 2 ^ 23) (p : ℕ) (w : Node) (path : IsAbove p (place ranks number)) (had_won : IsWinner (slice_set ranks number entry) p w) (another : w.number ≡ number → ⊥) where
+  module _ (few : length ranks ≤ 2 ^ 23) (p : ℕ) (w : Node) (path : IsAbove p (leaf_of ranks number)) (had_won : IsWinner (slice_set ranks number entry) p w) (another : w.number ≡ number → ⊥) where
     -- the changed contestant won at no place above
     pub not_above : (k : ℕ) (v : Node) → k ≤ p → IsWinner (slice_set ranks number entry) k v → v.number ≡ number → ⊥
     not_above k v low had e =
         let found = somebody (slice_set ranks number entry) v had.fits (λ n. omega (arith, few, known, e, n)) in
-        let at : IsAbove p (place (slice_set ranks number entry) v.number) = subst (IsAbove p) (sym (place-set v.number ∙ ap (place ranks) e)) path in
+        let at : IsAbove p (leaf_of (slice_set ranks number entry) v.number) = subst (IsAbove p) (sym (leaf_of-set v.number ∙ ap (leaf_of ranks) e)) path in
         let behind : NotBehind (contestant (slice_set ranks number entry) w.number) (contestant (slice_set ranks number entry) v.number) = had_won.least v.number found.0 found.1 at in
         let part = taking_part (slice_index_or (slice_set ranks number entry) w.number None) w.number found.0 v.number
         (subst (λ (r : Option Rank). is_ahead_by r v.number (slice_index_or (slice_set ranks number entry) w.number None) w.number ≡ false) found.1 behind) in
         let ahead : NotBehind (contestant (slice_set ranks number entry) v.number) (contestant (slice_set ranks number entry) w.number) =
-        over (slice_set ranks number entry) k p v w part.0 (upward k p (place ranks number) (stands k v had e) path low) had had_won part.1 in
+        over (slice_set ranks number entry) k p v w part.0 (upward k p (leaf_of ranks number) (stands k v had e) path low) had had_won part.1 in
         another (not_behind-same (contestant (slice_set ranks number entry) w.number) (contestant (slice_set ranks number entry) v.number) behind ahead ∙ e)
 
     -- so who won there wins still
     pub above_it : IsWinner ranks p w → (k : ℕ) (v : Node) → k ≤ p → IsWinner (slice_set ranks number entry) k v → IsWinner ranks k v
     above_it won k v low had = kept k v (not_above k v low had) ahead had where
-      ahead : (rank : Rank) → slice_index_or ranks number None ≡ Some rank → IsAbove k (place ranks number) → NotBehind (contestant ranks v.number) (contestant ranks number)
+      ahead : (rank : Rank) → slice_index_or ranks number None ≡ Some rank → IsAbove k (leaf_of ranks number) → NotBehind (contestant ranks v.number) (contestant ranks number)
       ahead rank is there =
           let behind : NotBehind (contestant ranks w.number) (contestant ranks number) = won.least number rank is path in
           let part = taking_part (slice_index_or ranks w.number None) w.number rank number
           (subst (λ (r : Option Rank). is_ahead_by r number (slice_index_or ranks w.number None) w.number ≡ false) is behind) in
           let first : NotBehind (contestant ranks v.number) (contestant ranks w.number) =
           not_behind-set v.number w.number (not_above k v low had) another
-          (over (slice_set ranks number entry) k p v w part.0 (upward k p (place ranks number) there path low) had had_won (same_entry w.number another ∙ part.1)) in
+          (over (slice_set ranks number entry) k p v w part.0 (upward k p (leaf_of ranks number) there path low) had had_won (same_entry w.number another ∙ part.1)) in
           not_behind-transitive (contestant ranks v.number) (contestant ranks w.number) (contestant ranks number) first behind
 
 -- ---- from one place on
@@ -103,7 +103,7 @@ ended ranks number nodes c = record { full = c.full; won = λ k h. c.won k (omeg
 
 module _ (ranks : List (Option Rank)) (number : ℕ) (nodes : List Node) (few : length ranks ≤ 2 ^ 23) (known : number < length ranks) where
   -- the place that is written has its winner, and all others stay
-  written : (p : ℕ) (w : Node) (entry : Option Rank) → IsAbove p (place ranks number) → length nodes ≡ last_place (length ranks) + 1 → p ≤ last_place (length ranks) → IsWinner ranks p w → ((k : ℕ) → k < p → IsWinner (slice_set ranks number entry) k (node nodes k)) → ((k : ℕ) → p < k → k ≤ last_place (length ranks) → IsWinner ranks k (node nodes k)) → IsChanged ranks number p (slice_set nodes p w)
+  written : (p : ℕ) (w : Node) (entry : Option Rank) → IsAbove p (leaf_of ranks number) → length nodes ≡ last_place (length ranks) + 1 → p ≤ last_place (length ranks) → IsWinner ranks p w → ((k : ℕ) → k < p → IsWinner (slice_set ranks number entry) k (node nodes k)) → ((k : ℕ) → p < k → k ≤ last_place (length ranks) → IsWinner ranks k (node nodes k)) → IsChanged ranks number p (slice_set nodes p w)
   written p w entry path full high here before after = record {
     entry = entry;
     path = path;
@@ -120,25 +120,25 @@ module _ (ranks : List (Option Rank)) (number : ℕ) (nodes : List Node) (few : 
   }
 
   -- the contestant's own place
-  pub begun : WasTournamentOf number ranks nodes → IsChanged ranks number (place ranks number) (slice_set nodes (place ranks number) (node_of (contestant ranks number)))
+  pub begun : WasTournamentOf number ranks nodes → IsChanged ranks number (leaf_of ranks number) (slice_set nodes (leaf_of ranks number) (node_of (contestant ranks number)))
   begun was =
       let kept_count : length (slice_set ranks number was.entry) ≡ length ranks = length-set ranks number was.entry in
       let had : (k : ℕ) → k ≤ last_place (length ranks) → IsWinner (slice_set ranks number was.entry) k (node nodes k) = λ k h. was.was.tree.won k (omega (arith, kept_count, h)) in
-      written (place ranks number) (node_of (contestant ranks number)) was.entry (above-self (place ranks number)) (was.was.tree.full ∙ ap (λ (n : ℕ). last_place n + 1) kept_count) (omega (arith, known)) (winner-own_place ranks number few known)
+      written (leaf_of ranks number) (node_of (contestant ranks number)) was.entry (above-self (leaf_of ranks number)) (was.was.tree.full ∙ ap (λ (n : ℕ). last_place n + 1) kept_count) (omega (arith, known)) (winner-own_place ranks number few known)
       (λ k l. had k (omega (arith, known, l)))
-      (λ k l h. elsewhere ranks number was.entry known k (node nodes k) (λ path. omega (arith, l, above-low k (place ranks number) path)) (had k h))
+      (λ k l h. elsewhere ranks number was.entry known k (node nodes k) (λ path. omega (arith, l, above-low k (leaf_of ranks number) path)) (had k h))
 
   module _ (at : ℕ) (c : IsChanged ranks number at nodes) (more : 1 ≤ at) where
-    next_path : IsAbove ((at - 1) / 2) (place ranks number)
-    next_path = above-next at (place ranks number) c.path
+    next_path : IsAbove ((at - 1) / 2) (leaf_of ranks number)
+    next_path = above-next at (leaf_of ranks number) c.path
 
     next_inner : (at - 1) / 2 < inner_places (length ranks)
-    next_inner = let l : at ≤ place ranks number = above-low at (place ranks number) c.path in omega (arith, l, known)
+    next_inner = let l : at ≤ leaf_of ranks number = above-low at (leaf_of ranks number) c.path in omega (arith, l, known)
 
     -- all places after the next one have their winners
     pub after_next : (k : ℕ) → (at - 1) / 2 < k → k ≤ last_place (length ranks) → IsWinner ranks k (node nodes k)
     after_next k low high = elim (cases_lt k at) [
-      | inl l ↦ elsewhere ranks number c.entry known k (node nodes k) (λ path. between k at (place ranks number) path c.path low l) (c.before k l)
+      | inl l ↦ elsewhere ranks number c.entry known k (node nodes k) (λ path. between k at (leaf_of ranks number) path c.path low l) (c.before k l)
       | inr l ↦ c.won k l high
     ]
 
@@ -167,14 +167,14 @@ module _ (ranks : List (Option Rank)) (number : ℕ) (nodes : List Node) (few : 
         wins : NotBehind (contestant ranks w.number) (contestant ranks (node nodes ((at - 1) / 2)).number) → IsWinner ranks ((at - 1) / 2) w
         wins ahead = record {
           fits = here.fits;
-          placed = λ l. above-next at (place ranks w.number) (here.placed l);
+          placed = λ l. above-next at (leaf_of ranks w.number) (here.placed l);
           least = λ i rank is path. elim (cases_order i number) [
-            | inl e ↦ here.least i rank is (subst (λ (n : ℕ). IsAbove at (place ranks n)) (sym e) c.path)
+            | inl e ↦ here.least i rank is (subst (λ (n : ℕ). IsAbove at (leaf_of ranks n)) (sym e) c.path)
             | inr m ↦
                 let differs : i ≡ number → ⊥ = λ e. elim m [ inl x ↦ omega (arith, x, e) | inr x ↦ omega (arith, x, e) ] in
                 not_behind-transitive (contestant ranks w.number) (contestant ranks (node nodes ((at - 1) / 2)).number) (contestant ranks i) ahead
                 (not_behind-set ranks number c.entry known (node nodes ((at - 1) / 2)).number i another differs
-                (had.least i rank (same_entry ranks number c.entry known i differs ∙ is) (subst (IsAbove ((at - 1) / 2)) (sym (place-set ranks number c.entry known i)) path)))
+                (had.least i rank (same_entry ranks number c.entry known i differs ∙ is) (subst (IsAbove ((at - 1) / 2)) (sym (leaf_of-set ranks number c.entry known i)) path)))
           ];
         }
 
@@ -225,12 +225,12 @@ module _ (ranks : List (Option Rank)) (number : ℕ) (nodes : List Node) (few : 
 -- ---- nodes by their offsets
 
 -- a changed contestant's leaf
-pub leaf_decided : (ranks : List (Option Rank)) (number : ℕ) (nodes : List Node) → length ranks ≤ 2 ^ 23 → number < length ranks → WasTournamentOf number ranks nodes → (leaf : Node) → leaf ≡ node_of (contestant ranks number) → (offset : ℕ) → offset ≡ (length ranks + number) * 16 → (at : ℕ) → at ≡ place_at offset → IsDecided ranks number offset (slice_set nodes at leaf) leaf
+pub leaf_decided : (ranks : List (Option Rank)) (number : ℕ) (nodes : List Node) → length ranks ≤ 2 ^ 23 → number < length ranks → WasTournamentOf number ranks nodes → (leaf : Node) → leaf ≡ node_of (contestant ranks number) → (offset : ℕ) → offset ≡ (length ranks + number) * 16 → (at : ℕ) → at ≡ place_of_offset offset → IsDecided ranks number offset (slice_set nodes at leaf) leaf
 leaf_decided ranks number nodes few known was leaf own offset is at there =
-    let here : place ranks number ≡ at = omega (arith, is, there, known) in
+    let here : leaf_of ranks number ≡ at = omega (arith, is, there, known) in
     let changed : IsChanged ranks number at (slice_set nodes at leaf) =
     subst (λ (n : ℕ). IsChanged ranks number n (slice_set nodes n leaf)) here
-    (subst (λ (w : Node). IsChanged ranks number (place ranks number) (slice_set nodes (place ranks number) w)) (sym own) (begun ranks number nodes few known was)) in
+    (subst (λ (w : Node). IsChanged ranks number (leaf_of ranks number) (slice_set nodes (leaf_of ranks number) w)) (sym own) (begun ranks number nodes few known was)) in
     record {
       some = omega (arith, is, known);
       whole = omega (arith, is);
@@ -242,15 +242,15 @@ module _ (ranks : List (Option Rank)) (number : ℕ) (nodes : List Node) (few : 
   far : 32 ≤ offset
   far = omega (arith, more, of.whole)
 
-  pub decided-fit : (k : ℕ) → IsBelow k ((place_at offset - 1) / 2) → Fits ranks (node nodes k)
-  decided-fit k h = (below_next ranks number nodes few known (place_at offset) of.changed (omega (arith, far)) k h).fits
+  pub decided-fit : (k : ℕ) → IsBelow k ((place_of_offset offset - 1) / 2) → Fits ranks (node nodes k)
+  decided-fit k h = (below_next ranks number nodes few known (place_of_offset offset) of.changed (omega (arith, far)) k h).fits
 
   -- the best of the two below the next node
-  pub decided-next : (best : Node) → IsBest ranks nodes ((place_at offset - 1) / 2) best → (at : ℕ) → at ≡ place_at (offset / 32 * 16) → IsDecided ranks number (offset / 32 * 16) (slice_set nodes at best) best
+  pub decided-next : (best : Node) → IsBest ranks nodes ((place_of_offset offset - 1) / 2) best → (at : ℕ) → at ≡ place_of_offset (offset / 32 * 16) → IsDecided ranks number (offset / 32 * 16) (slice_set nodes at best) best
   decided-next best is at there =
-      let here : (place_at offset - 1) / 2 ≡ at = omega (arith, far, there) in
+      let here : (place_of_offset offset - 1) / 2 ≡ at = omega (arith, far, there) in
       let changed : IsChanged ranks number at (slice_set nodes at best) =
-      subst (λ (n : ℕ). IsChanged ranks number n (slice_set nodes n best)) here (gone_on ranks number nodes few known (place_at offset) of.changed (omega (arith, far)) best is) in
+      subst (λ (n : ℕ). IsChanged ranks number n (slice_set nodes n best)) here (gone_on ranks number nodes few known (place_of_offset offset) of.changed (omega (arith, far)) best is) in
       record {
         some = omega (arith, far);
         whole = omega arith;

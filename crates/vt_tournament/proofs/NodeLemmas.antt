@@ -6,7 +6,7 @@ use Rattle.vt_key.specs.declared.order.Rank.{Rank}
 use Rattle.vt_key.specs.Order.{rank_before}
 use Rattle.vt_key.specs.Times.{at, priority_of}
 use Rattle.vt_key.proofs.OrderLemmas.{before-rank_before}
-use Rattle.vt_tournament.specs.Contest.{Node, Contestant, contestant, is_ahead, is_ahead_by, first_time, first_source, nobodys_number, number_of, node_of, winner_of, Fits, packed, unpacked, IsSmall}
+use Rattle.vt_tournament.specs.Contest.{Node, Contestant, contestant, is_ahead, is_ahead_by, first_time, first_source, nobodys_number, node_number, node_of, winner_of, Fits, packed, unpacked, IsSmall}
 use Rattle.vt_tournament.specs.Fields.{node_in}
 use Rattle.vt_tournament.specs.declared.node.Node.TheInside.{Inside}
 use Rattle.vt_tournament.proofs.AheadLemmas.{not_behind-ahead, winner-first, winner-second}
@@ -118,18 +118,18 @@ nobodys_rank ranks few = get_or_past ranks nobodys_number None (omega (arith, fe
 pub number-one : (c : Contestant) → ((node_of c).number ≡ c.number) ⊎ ((node_of c).number ≡ nobodys_number)
 number-one c = cases c.rank refl where
   cases : (r : Option Rank) → c.rank ≡ r → ((node_of c).number ≡ c.number) ⊎ ((node_of c).number ≡ nobodys_number)
-  cases (Some r) e = inl (ap (λ (x : Option Rank). number_of x c.number) e)
-  cases None e = inr (ap (λ (x : Option Rank). number_of x c.number) e)
+  cases (Some r) e = inl (ap (λ (x : Option Rank). node_number x c.number) e)
+  cases None e = inr (ap (λ (x : Option Rank). node_number x c.number) e)
 
 -- a contestant's node says what the rank of the contestant in it begins with
 pub node-own : (ranks : List (Option Rank)) → length ranks ≤ 2 ^ 23 → (i : ℕ) → node_of (contestant ranks i) ≡ node_of (contestant ranks (node_of (contestant ranks i)).number)
 node-own ranks few i = cases (slice_index_or ranks i None) refl where
   cases : (r : Option Rank) → slice_index_or ranks i None ≡ r → node_of (contestant ranks i) ≡ node_of (contestant ranks (node_of (contestant ranks i)).number)
   cases (Some r) e =
-      let same : (node_of (contestant ranks i)).number ≡ i = ap (λ (x : Option Rank). number_of x i) e in
+      let same : (node_of (contestant ranks i)).number ≡ i = ap (λ (x : Option Rank). node_number x i) e in
       ap (λ (n : ℕ). node_of (contestant ranks n)) (sym same)
   cases None e =
-      let same : (node_of (contestant ranks i)).number ≡ nobodys_number = ap (λ (x : Option Rank). number_of x i) e in
+      let same : (node_of (contestant ranks i)).number ≡ nobodys_number = ap (λ (x : Option Rank). node_number x i) e in
       ap (λ (x : Option Rank). node_of (record { rank = x; number = i })) e
       ∙ ap (λ (x : Option Rank). node_of (record { rank = x; number = nobodys_number })) (sym (nobodys_rank ranks few))
       ∙ ap (λ (n : ℕ). node_of (contestant ranks n)) (sym same)
@@ -139,7 +139,7 @@ pub somebody : (ranks : List (Option Rank)) (n : Node) → n ≡ node_of (contes
 somebody ranks n fits other = cases (slice_index_or ranks n.number None) refl where
   cases : (r : Option Rank) → slice_index_or ranks n.number None ≡ r → (r : Rank) × (slice_index_or ranks n.number None ≡ Some r)
   cases (Some r) e = (r, e)
-  cases None e = absurd (other (ap (λ (m : Node). m.number) fits ∙ ap (λ (x : Option Rank). number_of x n.number) e))
+  cases None e = absurd (other (ap (λ (m : Node). m.number) fits ∙ ap (λ (x : Option Rank). node_number x n.number) e))
 
 -- who has a rank is one of the contestants
 pub ranked-known : (ranks : List (Option Rank)) (i : ℕ) (r : Rank) → slice_index_or ranks i None ≡ Some r → i < length ranks

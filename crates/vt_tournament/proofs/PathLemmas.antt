@@ -1,37 +1,37 @@
 -- The way from a place of the tree to the first.
 use Rattle.std.proofs.Common.{◌≡◌, ℕ, zero, suc, ◌+◌, ◌-◌, ◌*◌, ◌/◌, ◌<◌, ◌≤◌, ◌⊎◌, inl, inr, refl, sym, subst, ap, ◌∙◌, arith}
 use Rattle.std.proofs.lemmas.Bool.{cases_order}
-use Rattle.vt_tournament.specs.Contest.{raised, IsAbove, IsBelow}
+use Rattle.vt_tournament.specs.Contest.{node_above, IsAbove, IsBelow}
 
-raised-low : (i m : ℕ) → raised i m ≤ m - i
-raised-low zero m = omega arith
-raised-low (suc i) m = omega (arith, raised-low i ((m - 1) / 2))
+node_above-low : (i m : ℕ) → node_above i m ≤ m - i
+node_above-low zero m = omega arith
+node_above-low (suc i) m = omega (arith, node_above-low i ((m - 1) / 2))
 
-raised-next : (i m : ℕ) → raised (suc i) m ≡ (raised i m - 1) / 2
-raised-next zero m = refl
-raised-next (suc i) m = raised-next i ((m - 1) / 2)
+node_above-next : (i m : ℕ) → node_above (suc i) m ≡ (node_above i m - 1) / 2
+node_above-next zero m = refl
+node_above-next (suc i) m = node_above-next i ((m - 1) / 2)
 
 pub above-self : (m : ℕ) → IsAbove m m
 above-self m = (0, refl)
 
 -- the first place is above all
 pub above-first : (m : ℕ) → IsAbove 0 m
-above-first m = (m, let l : raised m m ≤ m - m = raised-low m m in omega (arith, l))
+above-first m = (m, let l : node_above m m ≤ m - m = node_above-low m m in omega (arith, l))
 
 -- what is above a place is no later
 pub above-low : (k m : ℕ) → IsAbove k m → k ≤ m
-above-low k m a = let l : raised a.0 m ≤ m - a.0 = raised-low a.0 m in omega (arith, l, a.1)
+above-low k m a = let l : node_above a.0 m ≤ m - a.0 = node_above-low a.0 m in omega (arith, l, a.1)
 
 -- what is above a place has the one that is right above itself above it too
 pub above-next : (k m : ℕ) → IsAbove k m → IsAbove ((k - 1) / 2) m
-above-next k m a = (suc a.0, raised-next a.0 m ∙ ap (λ (x : ℕ). (x - 1) / 2) a.1)
+above-next k m a = (suc a.0, node_above-next a.0 m ∙ ap (λ (x : ℕ). (x - 1) / 2) a.1)
 
 further : (k m : ℕ) → IsAbove k ((m - 1) / 2) → IsAbove k m
 further k m a = (suc a.0, a.1)
 
 pub above-transitive : (k l m : ℕ) → IsAbove k l → IsAbove l m → IsAbove k m
 above-transitive k l m a b = join b.0 m (subst (IsAbove k) (sym b.1) a) where
-  join : (i n : ℕ) → IsAbove k (raised i n) → IsAbove k n
+  join : (i n : ℕ) → IsAbove k (node_above i n) → IsAbove k n
   join zero n h = h
   join (suc i) n h = further k n (join i ((n - 1) / 2) h)
 
@@ -44,7 +44,7 @@ through k m a = steps a.0 m a.1 where
     | inr h ↦ let some : 1 ≤ n = elim h [ inl x ↦ absurd (omega (arith, x)) | inr x ↦ let w : 1 ≤ n = omega (arith, x) in w ] in inr (omega (arith, e, some), omega (arith, e, some))
   ]
 
-  steps : (i n : ℕ) → raised i n ≡ k → (k ≡ n) ⊎ ((c : ℕ) × (IsBelow c k × IsAbove c n))
+  steps : (i n : ℕ) → node_above i n ≡ k → (k ≡ n) ⊎ ((c : ℕ) × (IsBelow c k × IsAbove c n))
   steps zero n e = inl (sym e)
   steps (suc i) n e = elim (steps i ((n - 1) / 2) e) [
     | inl same ↦ elim (right_below n same) [ inl x ↦ inl x | inr x ↦ inr (n, (x, above-self n)) ]
@@ -52,23 +52,23 @@ through k m a = steps a.0 m a.1 where
   ]
 
 -- of two places on one way one is above the other
-chain : (i j m : ℕ) → IsAbove (raised i m) (raised j m) ⊎ IsAbove (raised j m) (raised i m)
+chain : (i j m : ℕ) → IsAbove (node_above i m) (node_above j m) ⊎ IsAbove (node_above j m) (node_above i m)
 chain zero j m = inr (j, refl)
 chain (suc i) zero m = inl (suc i, refl)
 chain (suc i) (suc j) m = chain i j ((m - 1) / 2)
 
 chained : (k l m : ℕ) → IsAbove k m → IsAbove l m → IsAbove k l ⊎ IsAbove l k
 chained k l m a b = elim (chain a.0 b.0 m) [
-  | inl x ↦ inl (subst (λ (n : ℕ). IsAbove n l) a.1 (subst (IsAbove (raised a.0 m)) b.1 x))
-  | inr x ↦ inr (subst (λ (n : ℕ). IsAbove n k) b.1 (subst (IsAbove (raised b.0 m)) a.1 x))
+  | inl x ↦ inl (subst (λ (n : ℕ). IsAbove n l) a.1 (subst (IsAbove (node_above a.0 m)) b.1 x))
+  | inr x ↦ inr (subst (λ (n : ℕ). IsAbove n k) b.1 (subst (IsAbove (node_above b.0 m)) a.1 x))
 ]
 
 -- a place is at most the one right above what it is above
 strict : (k m : ℕ) → IsAbove k m → (k ≡ m) ⊎ (k ≤ (m - 1) / 2)
 strict k m a = steps a.0 a.1 where
-  steps : (i : ℕ) → raised i m ≡ k → (k ≡ m) ⊎ (k ≤ (m - 1) / 2)
+  steps : (i : ℕ) → node_above i m ≡ k → (k ≡ m) ⊎ (k ≤ (m - 1) / 2)
   steps zero e = inl (sym e)
-  steps (suc i) e = inr (let b : raised i ((m - 1) / 2) ≤ (m - 1) / 2 - i = raised-low i ((m - 1) / 2) in omega (arith, b, e))
+  steps (suc i) e = inr (let b : node_above i ((m - 1) / 2) ≤ (m - 1) / 2 - i = node_above-low i ((m - 1) / 2) in omega (arith, b, e))
 
 -- nothing on a way stands between one place of it and the next
 pub between : (k l m : ℕ) → IsAbove k m → IsAbove l m → (l - 1) / 2 < k → k < l → ⊥

@@ -6,7 +6,7 @@ use Rattle.std.proofs.lemmas.Bool.{cases_order, cases_Bool}
 use Rattle.std.proofs.lemmas.Option.{slice_get-get_or, slice_get_past, same_Some}
 use Rattle.vt_key.specs.declared.order.Rank.{Rank}
 use Rattle.vt_key.specs.Order.{RankBefore}
-use Rattle.vt_tournament.specs.Contest.{Node, is_ahead, is_ahead_by, winner_of, contestant, nobodys_number, number_of, node_of, Fits, inner_places, last_place, place, node, IsBelow, beside, IsAbove, IsWinner, IsBest, AreWinners, IsTournamentOf}
+use Rattle.vt_tournament.specs.Contest.{Node, is_ahead, is_ahead_by, winner_of, contestant, nobodys_number, node_number, node_of, Fits, inner_places, last_place, leaf_of, node, IsBelow, beside, IsAbove, IsWinner, IsBest, AreWinners, IsTournamentOf}
 use Rattle.vt_tournament.specs.Least.{IsLeast}
 use Rattle.vt_tournament.proofs.AheadLemmas.{NotBehind, winner-first, winner-second, not_behind-self, not_behind-ahead, not_behind-transitive, not_behind-rank, behind-none}
 use Rattle.vt_tournament.proofs.NodeLemmas.{nobodys_rank, node-own, number-one, somebody, ranked-known}
@@ -62,21 +62,21 @@ pub node-set_other : (nodes : List Node) (p k : ℕ) (w : Node) → (k ≡ p →
 node-set_other nodes p k w other = get_or-set_other nodes p k w (record { time = 0; source = 0; number = 0 }) other
 
 -- a contestant's own node is the winner's at its place
-pub winner-own_place : (ranks : List (Option Rank)) (number : ℕ) → length ranks ≤ 2 ^ 23 → number < length ranks → IsWinner ranks (place ranks number) (node_of (contestant ranks number))
+pub winner-own_place : (ranks : List (Option Rank)) (number : ℕ) → length ranks ≤ 2 ^ 23 → number < length ranks → IsWinner ranks (leaf_of ranks number) (node_of (contestant ranks number))
 winner-own_place ranks number few known =
     let w : Node = node_of (contestant ranks number) in
     record {
       fits = node-own ranks few number;
       placed = λ l. elim (number-one (contestant ranks number)) [
-        | inl e ↦ subst (λ (n : ℕ). IsAbove (place ranks number) (place ranks n)) (sym e) (above-self (place ranks number))
+        | inl e ↦ subst (λ (n : ℕ). IsAbove (leaf_of ranks number) (leaf_of ranks n)) (sym e) (above-self (leaf_of ranks number))
         | inr e ↦ absurd (omega (arith, few, l, e))
       ];
       least = λ i rank is path.
           let there : i < length ranks = ranked-known ranks i rank is in
-          let same : place ranks number ≡ place ranks i = lowest (place ranks number) (place ranks i) (omega (arith, there)) path in
+          let same : leaf_of ranks number ≡ leaf_of ranks i = lowest (leaf_of ranks number) (leaf_of ranks i) (omega (arith, there)) path in
           let e : i ≡ number = omega (arith, same) in
           let had : slice_index_or ranks number None ≡ Some rank = subst (λ (n : ℕ). slice_index_or ranks n None ≡ Some rank) e is in
-          let its : w.number ≡ i = ap (λ (r : Option Rank). number_of r number) had ∙ sym e in
+          let its : w.number ≡ i = ap (λ (r : Option Rank). node_number r number) had ∙ sym e in
           subst (λ (n : ℕ). is_ahead (contestant ranks i) (contestant ranks n) ≡ false) (sym its) (not_behind-self (contestant ranks i));
     }
 
@@ -129,8 +129,8 @@ winner-best ranks nodes at w high below best =
     let its : IsWinner ranks from w = subst (IsWinner ranks from) (sym best.one.1.1) (below from best.one.1.0) in
     record {
       fits = its.fits;
-      placed = λ l. above-transitive at from (place ranks w.number) (right_above from best.one.1.0) (its.placed l);
-      least = λ i rank is path. elim (through at (place ranks i) path) [
+      placed = λ l. above-transitive at from (leaf_of ranks w.number) (right_above from best.one.1.0) (its.placed l);
+      least = λ i rank is path. elim (through at (leaf_of ranks i) path) [
         | inl e ↦ absurd (omega (arith, e, high))
         | inr c ↦
             not_behind-transitive (contestant ranks w.number) (contestant ranks (node nodes c.0).number) (contestant ranks i) (best.least c.0 c.1.0)
@@ -163,7 +163,7 @@ module _ (ranks : List (Option Rank)) (nodes : List Node) (of : IsTournamentOf r
   not_behind-entry : (i : ℕ) (r : Rank) → slice_get ranks i ≡ Some (Some r) → is_ahead_by (Some r) i (slice_index_or ranks w.number None) w.number ≡ false
   not_behind-entry i r h =
       let e : slice_index_or ranks i None ≡ Some r = entered i (Some r) h in
-      subst (λ (x : Option Rank). is_ahead_by x i (slice_index_or ranks w.number None) w.number ≡ false) e (won.least i r e (above-first (place ranks i)))
+      subst (λ (x : Option Rank). is_ahead_by x i (slice_index_or ranks w.number None) w.number ≡ false) e (won.least i r e (above-first (leaf_of ranks i)))
 
   -- where somebody won at the first place, it has the least entry
   pub first-least : (w.number ≡ nobodys_number → ⊥) → IsLeast ranks w.number

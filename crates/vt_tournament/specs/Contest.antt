@@ -47,13 +47,13 @@ abbrev pub nobodys_number : ℕ
 nobodys_number = 2 ^ 24 - 1
 
 -- the number in a contestant's node: that of nobody if the contestant takes no part
-abbrev pub number_of : Option Rank → ℕ → ℕ
-number_of (Some r) n = n
-number_of None n = nobodys_number
+abbrev pub node_number : Option Rank → ℕ → ℕ
+node_number (Some r) n = n
+node_number None n = nobodys_number
 
 -- the node where a contestant won; all that take no part have the same
 abbrev pub node_of : Contestant → Node
-node_of c = record { time = first_time c.rank; source = first_source c.rank; number = number_of c.rank c.number }
+node_of c = record { time = first_time c.rank; source = first_source c.rank; number = node_number c.rank c.number }
 
 -- the fields of a node in one number, and the node with the fields in a number
 abbrev pub packed : Node → ℕ
@@ -79,8 +79,8 @@ abbrev pub last_place : ℕ → ℕ
 last_place count = 2 * inner_places count
 
 -- the leaf of a contestant: leaves come after the inner nodes, in the order of their numbers
-abbrev pub place : List (Option Rank) → ℕ → ℕ
-place ranks number = inner_places (length ranks) + number
+abbrev pub leaf_of : List (Option Rank) → ℕ → ℕ
+leaf_of ranks number = inner_places (length ranks) + number
 
 -- the content of a node
 abbrev pub node : List Node → ℕ → Node
@@ -95,24 +95,24 @@ abbrev pub beside : ℕ → ℕ
 beside k = k - 1 + 2 * (k % 2)
 
 -- the place of the node with this offset: offsets count from 1, in steps of 16
-abbrev pub place_at : ℕ → ℕ
-place_at offset = offset / 16 - 1
+abbrev pub place_of_offset : ℕ → ℕ
+place_of_offset offset = offset / 16 - 1
 
 -- the node so many levels above another; above the root it is the root
-abbrev pub raised : ℕ → ℕ → ℕ
-raised zero k = k
-raised (suc levels) k = raised levels ((k - 1) / 2)
+abbrev pub node_above : ℕ → ℕ → ℕ
+node_above zero k = k
+node_above (suc levels) k = node_above levels ((k - 1) / 2)
 
 -- one node is another, or above it
 abbrev pub IsAbove : ℕ → ℕ → Type 0
-IsAbove k low = (levels : ℕ) × (raised levels low ≡ k)
+IsAbove k low = (levels : ℕ) × (node_above levels low ≡ k)
 
 -- this content is that of the winner at a node: it fits, its contestant's leaf is the node or below it, and of the
 -- contestants that take part and whose leaves are there none is ahead
 pub record IsWinner (ranks : List (Option Rank)) (k : ℕ) (w : Node) : Type 0 where
   pub fits : Fits ranks w
-  pub placed : w.number < length ranks → IsAbove k (place ranks w.number)
-  pub least : (i : ℕ) (rank : Rank) → slice_index_or ranks i None ≡ Some rank → IsAbove k (place ranks i) → is_ahead (contestant ranks i) (contestant ranks w.number) ≡ false
+  pub placed : w.number < length ranks → IsAbove k (leaf_of ranks w.number)
+  pub least : (i : ℕ) (rank : Rank) → slice_index_or ranks i None ≡ Some rank → IsAbove k (leaf_of ranks i) → is_ahead (contestant ranks i) (contestant ranks w.number) ≡ false
 
 -- this content is that of one of the two nodes below, and the other isn't ahead of it
 pub record IsBest (ranks : List (Option Rank)) (nodes : List Node) (at : ℕ) (w : Node) : Type 0 where
@@ -139,7 +139,7 @@ pub record WasTournamentOf (number : ℕ) (ranks : List (Option Rank)) (nodes : 
 -- have their winners anew
 pub record IsChanged (ranks : List (Option Rank)) (number at : ℕ) (nodes : List Node) : Type 0 where
   pub entry : Option Rank
-  pub path : IsAbove at (place ranks number)
+  pub path : IsAbove at (leaf_of ranks number)
   pub high : at ≤ last_place (length ranks)
   pub full : length nodes ≡ last_place (length ranks) + 1
   pub before : (k : ℕ) → k < at → IsWinner (slice_set ranks number entry) k (node nodes k)
@@ -149,8 +149,8 @@ pub record IsChanged (ranks : List (Option Rank)) (number at : ℕ) (nodes : Lis
 pub record IsDecided (ranks : List (Option Rank)) (number offset : ℕ) (nodes : List Node) (w : Node) : Type 0 where
   pub some : 16 ≤ offset
   pub whole : offset % 16 ≡ 0
-  pub changed : IsChanged ranks number (place_at offset) nodes
-  pub own : w ≡ node nodes (place_at offset)
+  pub changed : IsChanged ranks number (place_of_offset offset) nodes
+  pub own : w ≡ node nodes (place_of_offset offset)
 
 -- this content is that of a node from which on all have their winners, after a change of a contestant that didn't win above
 pub record IsCarried (ranks : List (Option Rank)) (at : ℕ) (nodes : List Node) (w : Node) : Type 0 where

@@ -3,7 +3,7 @@
 ghost use Rattle.std.specs.Prelude.{◌≡◌, true, ℕ, ◌+◌, ◌*◌, ◌/◌, ◌-◌, ◌<◌, ◌≤◌, ◌^◌, List, length, replicate, slice_get, slice_index_or, Option, Some, None, IfOk, IfErr, IfSome, IfNone};
 ghost use Rattle.vt_key.specs.declared.fault.Fault.TheVariants.{Memory};
 ghost use Rattle.vt_key.specs.declared.order.Rank.{Rank};
-ghost use Rattle.vt_tournament.specs.Contest.{contestant, node_of, inner_places, node, IsBelow, beside, place_at, Fits, IsBest, AreWinners, IsTournamentOf, WasTournamentOf, IsDecided, IsCarried};
+ghost use Rattle.vt_tournament.specs.Contest.{contestant, node_of, inner_places, node, IsBelow, beside, place_of_offset, Fits, IsBest, AreWinners, IsTournamentOf, WasTournamentOf, IsDecided, IsCarried};
 ghost use Rattle.vt_tournament.specs.Least.{IsLeast};
 
 use crate::contestants::Contestants;
@@ -116,9 +116,9 @@ fn nodes_of_nobody(alloc: Global, count: u32) -> Result<Vec<Node>, Fault>
 
 /// The place of the node at an offset. An offset is 16 times the number of a node, counted from 1: nodes have 16 bytes, so
 /// the way from a leaf to the root is computed on addresses. In 32 bits no mask is too long for an instruction.
-fn place_at(offset: u32) -> usize
+fn place_of_offset(offset: u32) -> usize
     requires some { 16 ≤ offset }
-    ensures { result ≡ place_at offset }
+    ensures { result ≡ place_of_offset offset }
 {
     offset as usize / 16 - 1
 }
@@ -127,19 +127,19 @@ fn place_at(offset: u32) -> usize
 /// mispredicted.
 fn beside(offset: u32) -> usize
     requires below { 32 ≤ offset }
-    ensures { result ≡ beside (place_at offset) }
+    ensures { result ≡ beside (place_of_offset offset) }
 {
-    place_at(offset / 32 * 32 + (31 - offset % 32))
+    place_of_offset(offset / 32 * 32 + (31 - offset % 32))
 }
 
 /// The better of the node at an offset and its sibling; `winner` is the node's content.
 fn best_below<C: Contestants>(nodes: &[Node], contestants: &C, offset: u32, winner: Node) -> Node
     requires few { length (C.entries contestants.now) ≤ 2 ^ 23 }
     requires below { 32 ≤ offset }
-    requires there { beside (place_at offset) < length nodes.now }
-    requires known { winner ≡ node nodes.now (place_at offset) }
-    requires fit { (k : ℕ) → IsBelow k ((place_at offset - 1) / 2) → Fits (C.entries contestants.now) (node nodes.now k) }
-    ensures { IsBest (C.entries contestants.now) nodes.now ((place_at offset - 1) / 2) result }
+    requires there { beside (place_of_offset offset) < length nodes.now }
+    requires known { winner ≡ node nodes.now (place_of_offset offset) }
+    requires fit { (k : ℕ) → IsBelow k ((place_of_offset offset - 1) / 2) → Fits (C.entries contestants.now) (node nodes.now k) }
+    ensures { IsBest (C.entries contestants.now) nodes.now ((place_of_offset offset - 1) / 2) result }
 {
     winner.winner(nodes[beside(offset)], contestants)
 }
@@ -156,7 +156,7 @@ fn decide_above<C: Contestants>(contestants: &C, nodes: &mut [Node], number: u32
     let led = nodes[0].number() == number;
     // The inner nodes are one fewer than the contestants, and the leaves come after them.
     let offset = (contestants.count() as u32 + number) * 16;
-    nodes[place_at(offset)] = node;
+    nodes[place_of_offset(offset)] = node;
     // Who won at the root won at each node above its leaf.
     if led {
         decide_all(contestants, nodes, number, offset, node);
@@ -184,7 +184,7 @@ fn decide_all<C: Contestants>(
     while offset > 16 {
         winner = best_below(nodes, contestants, offset, winner);
         offset = offset / 32 * 16;
-        nodes[place_at(offset)] = winner;
+        nodes[place_of_offset(offset)] = winner;
     }
 }
 
@@ -205,13 +205,13 @@ fn decide_won<C: Contestants>(
     let mut winner = leaf;
     while offset > 16 {
         let above = offset / 32 * 16;
-        if nodes[place_at(above)].number() != number {
-            carry_up(contestants, nodes, place_at(offset), winner);
+        if nodes[place_of_offset(above)].number() != number {
+            carry_up(contestants, nodes, place_of_offset(offset), winner);
             return;
         }
         winner = best_below(nodes, contestants, offset, winner);
         offset = above;
-        nodes[place_at(offset)] = winner;
+        nodes[place_of_offset(offset)] = winner;
     }
 }
 

@@ -1,5 +1,5 @@
 use Rattle.std.proofs.Common.{ℕ, ◌≡◌, ◌<◌, ◌≤◌, length, sym, subst, arith}
-use Rattle.vt_tournament.specs.Contest.{Node, contestant, winner_of, node_of, node, beside, place_at}
+use Rattle.vt_tournament.specs.Contest.{Node, contestant, winner_of, node_of, node, beside, place_of_offset}
 use Rattle.vt_tournament.proofs.TreeLemmas.{read, below-own, below-beside, of_both}
 use Rattle.vt_tournament.proofs.tree.best_below.Goals as goal
 
@@ -7,7 +7,7 @@ pub returns : goal.returns
 returns g c =
     let ranks = g.C.Contestants.entries c.args.contestants.now in
     let nodes = c.args.nodes.now in
-    let at : ℕ = place_at c.args.offset in
+    let at : ℕ = place_of_offset c.args.offset in
     let more : 1 ≤ at = omega (arith, c.requires.below) in
     let w : Node = c.winner.result in
     let there : c.beside.result < length nodes = subst (λ (k : ℕ). k < length nodes) (sym c.beside.ensures) c.requires.there in

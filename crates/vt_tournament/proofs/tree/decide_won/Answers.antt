@@ -8,4 +8,4 @@ best_below-winner-requires-clause-fit g c = decided-fit (g.C.Contestants.entries
 pub loop-offset-preserved : goal.loop-offset-preserved
 loop-offset-preserved g c =
     decided-next (g.C.Contestants.entries c.args.contestants.now) c.args.number c.loop-offset.nodes c.requires.few c.requires.known c.loop-offset.offset c.loop-offset.winner c.loop-offset.invariant (omega (arith, c.loop-offset-test.true))
-    c.best_below-winner.result c.best_below-winner.ensures c.place_at-in-loop-offset.result c.place_at-in-loop-offset.ensures
+    c.best_below-winner.result c.best_below-winner.ensures c.place_of_offset-in-loop-offset.result c.place_of_offset-in-loop-offset.ensures

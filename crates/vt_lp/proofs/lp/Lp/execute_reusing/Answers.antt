@@ -20,7 +20,7 @@ use Rattle.vt_lp.specs.Held.{HeldProcess, StandsFor, AllWithinRun, IsWithinRun, 
 use Rattle.vt_lp.specs.Guards.{IsDone, IsExecuteRefusal}
 use Rattle.vt_past.specs.Events.{past_event}
 use Rattle.vt_past.specs.Kept.{KeptNodes, GaveEvent}
-use Rattle.vt_lp.specs.Used.{sends_of, after_letters, IsLeft}
+use Rattle.vt_lp.specs.Used.{count_sends, after_letters, IsLeft}
 use Rattle.vt_model.proofs.Sizes.{out_fits}
 use Rattle.vt_lp.proofs.Advancing.{place-back}
 use Rattle.vt_lp.proofs.Stamping.{length-letters}
@@ -320,7 +320,7 @@ returns-clause-used g c =
     let kept = c.args.spare.now in
     let own = ready-own l.lp (end_of l.config) l.pending l.past c.in-Some.event c.self.invariant.own_pending c.in-Some.ensures.event in
     let left = c.in-Ok.ensures.used ∙ ap (λ (n : ℕ). after_letters n kept) (sends-told handlers held c.in-Some.event own.0 c.in-Some.ensures.event) in
-    subst (λ (v : HeldProcess _ _ _). GaveEvent (after_letters (sends_of (simulation_of handlers v.config) v) kept) c.keep.new.spare) c.self.view_is
+    subst (λ (v : HeldProcess _ _ _). GaveEvent (after_letters (count_sends (simulation_of handlers v.config) v) kept) c.keep.new.spare) c.self.view_is
     (subst (λ (k : KeptNodes). GaveEvent k c.keep.new.spare) left c.in_default-keep.ensures.used)
 
 pub returns-in-Err-clause-left : goal.returns-in-Err-clause-left
@@ -329,7 +329,7 @@ returns-in-Err-clause-left g c =
     let l = c.self.inside in
     let held = process_view l.lp l.config l.process.state l.process.number l.process.stream l.past l.pending l.waiting in
     let own = ready-own l.lp (end_of l.config) l.pending l.past c.in-Some.event c.self.invariant.own_pending c.in-Some.ensures.event in
-    subst (λ (v : HeldProcess _ _ _). IsLeft (sends_of (simulation_of handlers v.config) v) c.args.spare.now c.advance.new.spare c.in-Err.fault) c.self.view_is
+    subst (λ (v : HeldProcess _ _ _). IsLeft (count_sends (simulation_of handlers v.config) v) c.args.spare.now c.advance.new.spare c.in-Err.fault) c.self.view_is
     (subst (λ (n : ℕ). IsLeft n c.args.spare.now c.advance.new.spare c.in-Err.fault) (sends-told handlers held c.in-Some.event own.0 c.in-Some.ensures.event) c.in-Err.ensures.left)
 
 pub returns-in-Err-keep-clause-left : goal.returns-in-Err-keep-clause-left
@@ -341,7 +341,7 @@ returns-in-Err-keep-clause-left g c =
     let own = ready-own l.lp (end_of l.config) l.pending l.past c.in-Some.event c.self.invariant.own_pending c.in-Some.ensures.event in
     let same = c.in-Err-keep.ensures.none_left.0 in
     let left = same ∙ c.in-Ok.ensures.used ∙ ap (λ (n : ℕ). after_letters n kept) (sends-told handlers held c.in-Some.event own.0 c.in-Some.ensures.event) in
-    subst (λ (v : HeldProcess _ _ _). IsLeft (sends_of (simulation_of handlers v.config) v) kept c.keep.new.spare c.in-Err-keep.fault) c.self.view_is
+    subst (λ (v : HeldProcess _ _ _). IsLeft (count_sends (simulation_of handlers v.config) v) kept c.keep.new.spare c.in-Err-keep.fault) c.self.view_is
     (record {
       memory = λ _. record { left = left; none = inr (ap (λ (k : KeptNodes). k.events) same ∙ c.in-Err-keep.ensures.none_left.1) };
       others = λ other. absurd (other c.in-Err-keep.ensures.refused);
